@@ -1,0 +1,4 @@
+pub mod Exact
+pub mod Gets
+pub mod Places
+pub mod Texts

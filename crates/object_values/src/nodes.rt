@@ -1,0 +1,55 @@
+// Nodes: a source, parameters, and the steps that lead from the source to the object.
+use crate::copied::Copied;
+use crate::memory::Memory;
+use crate::seq::{Bytes, Seq};
+use std::alloc::Global;
+
+/// A parameter with one of its values.
+#[derive(Debug, PartialEq, Eq, PartialOrd, Ord, Hash, Drop)]
+pub struct ParamValue {
+    pub param: Bytes,
+    pub value: Bytes,
+}
+
+/// One maker, by its number in the graph, or the pick of an element or a part.
+#[derive(Debug, PartialEq, Eq, PartialOrd, Ord, Hash, Drop)]
+pub enum Step {
+    Maker(u32),
+    Pick(Bytes),
+}
+
+/// An object by the way to it. Without steps it is the source itself.
+#[derive(Debug, PartialEq, Eq, PartialOrd, Ord, Hash, Drop)]
+pub struct Node {
+    pub source: Bytes,
+    pub params: Seq<ParamValue>,
+    pub steps: Seq<Step>,
+}
+
+impl Copied for ParamValue {
+    fn copy(&self, alloc: Global) -> Result<Self, Memory> {
+        Ok(ParamValue {
+            param: self.param.copy(alloc)?,
+            value: self.value.copy(alloc)?,
+        })
+    }
+}
+
+impl Copied for Step {
+    fn copy(&self, alloc: Global) -> Result<Self, Memory> {
+        match self {
+            Step::Maker(number) => Ok(Step::Maker(*number)),
+            Step::Pick(bytes) => Ok(Step::Pick(bytes.copy(alloc)?)),
+        }
+    }
+}
+
+impl Copied for Node {
+    fn copy(&self, alloc: Global) -> Result<Self, Memory> {
+        Ok(Node {
+            source: self.source.copy(alloc)?,
+            params: self.params.copy(alloc)?,
+            steps: self.steps.copy(alloc)?,
+        })
+    }
+}

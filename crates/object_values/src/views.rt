@@ -1,0 +1,59 @@
+// Objects: their values, and what is seen of them.
+use crate::copied::Copied;
+use crate::memory::Memory;
+use crate::messages::{Message, Status};
+use crate::nodes::Node;
+use crate::seq::{Bytes, Seq};
+use std::alloc::Global;
+
+/// A named part of a compound.
+#[derive(Debug, PartialEq, Eq, PartialOrd, Ord, Hash, Drop)]
+pub struct Part {
+    pub name: Bytes,
+    pub body: Bytes,
+}
+
+/// What an object is: bytes, references to nodes in order, or named parts in order.
+#[derive(Debug, PartialEq, Eq, PartialOrd, Ord, Hash, Drop)]
+pub enum Value {
+    Simple(Bytes),
+    List(Seq<Node>),
+    Compound(Seq<Part>),
+}
+
+/// An object as it is shown. It has a value exactly where its status is not `Abort`.
+#[derive(Debug, PartialEq, Eq, PartialOrd, Ord, Hash, Drop)]
+pub struct View {
+    pub value: Option<Value>,
+    pub status: Status,
+    pub messages: Seq<Message>,
+}
+
+impl Copied for Part {
+    fn copy(&self, alloc: Global) -> Result<Self, Memory> {
+        Ok(Part {
+            name: self.name.copy(alloc)?,
+            body: self.body.copy(alloc)?,
+        })
+    }
+}
+
+impl Copied for Value {
+    fn copy(&self, alloc: Global) -> Result<Self, Memory> {
+        match self {
+            Value::Simple(bytes) => Ok(Value::Simple(bytes.copy(alloc)?)),
+            Value::List(items) => Ok(Value::List(items.copy(alloc)?)),
+            Value::Compound(items) => Ok(Value::Compound(items.copy(alloc)?)),
+        }
+    }
+}
+
+impl Copied for View {
+    fn copy(&self, alloc: Global) -> Result<Self, Memory> {
+        Ok(View {
+            value: self.value.copy(alloc)?,
+            status: self.status,
+            messages: self.messages.copy(alloc)?,
+        })
+    }
+}
