@@ -1,0 +1,65 @@
+// What starts child programs.
+ghost use Rattle.std.specs.Prelude.{◌≡◌, ◌<◌, ◌≤◌, ℕ};
+ghost use Rattle.odin_outside.specs.Causes.{Rose};
+
+use object_values::{Job, Memory, Raw};
+use std::alloc::Global;
+
+/// Why a child program was not started.
+#[derive(Clone, Copy, Debug, PartialEq, Eq, PartialOrd, Ord, Hash)]
+pub enum StartFault {
+    Failed,
+    Memory,
+}
+
+/// Why the end of a child program was not given. `Failed` names the slot whose result is lost.
+#[derive(Clone, Copy, Debug, PartialEq, Eq, PartialOrd, Ord, Hash)]
+pub enum FinishFault {
+    Failed(u32),
+    Memory,
+}
+
+impl From<Memory> for StartFault {
+    ghost use Rattle.odin_outside.specs.declared.spawner.StartFault.{StartFault};
+    ghost use Rattle.std.specs.Prelude.{◌≡◌};
+
+    ghost from_gives = { λ _ fault. fault ≡ StartFault.Memory };
+
+    fn from(_: Memory) -> Self {
+        StartFault::Memory
+    }
+}
+
+impl From<Memory> for FinishFault {
+    ghost use Rattle.odin_outside.specs.declared.spawner.FinishFault.{FinishFault};
+    ghost use Rattle.std.specs.Prelude.{◌≡◌};
+
+    ghost from_gives = { λ _ fault. fault ≡ FinishFault.Memory };
+
+    fn from(_: Memory) -> Self {
+        FinishFault::Memory
+    }
+}
+
+/// What starts child programs, each in a slot.
+pub trait Spawner {
+    /// How many run.
+    ghost run_count: { Self → ℕ };
+
+    /// How often it has failed.
+    ghost faults: { Self → ℕ };
+
+    /// Starts a child program, and gives its slot.
+    fn start(&mut self, alloc: Global, job: &Job) -> Result<u32, StartFault>
+        ensures later { faults self.old ≤ faults self.new }
+        ensures failed { result ≡ Err StartFault.Failed → Rose (faults self.old) (faults self.new) };
+
+    /// Waits for the end of a child program, and gives its slot and what it left.
+    fn finish(&mut self, alloc: Global) -> Result<(u32, Raw), FinishFault>
+        requires { 0 < run_count self.old }
+        ensures later { faults self.old ≤ faults self.new }
+        ensures failed { (slot : ℕ) → result ≡ Err (FinishFault.Failed slot) → Rose (faults self.old) (faults self.new) };
+
+    fn running(&self) -> usize
+        ensures { result ≡ run_count self.now };
+}
