@@ -1,0 +1,12 @@
+pub mod Words
+pub mod Params
+pub mod Pieces
+pub mod Readings
+pub mod Spellings
+pub mod Places
+pub mod Cuts
+pub mod Canonical
+pub mod Fronts
+pub mod GoOn
+pub mod GoneOn
+pub mod Found

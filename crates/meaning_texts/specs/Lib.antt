@@ -1,0 +1,10 @@
+pub mod Classes
+pub mod Limits
+pub mod Escapes
+pub mod Expressions
+pub mod Tests
+pub mod Reading
+pub mod Fronts
+pub mod Lines
+pub mod Laws
+pub mod Examples

@@ -1,0 +1,38 @@
+-- The limits of the object manager, each in this one place. That of names, words and strings stands with their classes.
+use Rattle.std.specs.Prelude.{ℕ}
+
+-- the most bytes of a source text, of an output and of a body
+abbrev pub body_limit : ℕ
+body_limit = 16777216
+
+-- the most bytes of an expression
+abbrev pub expression_limit : ℕ
+expression_limit = 1000
+
+-- the most bytes of a graph file
+abbrev pub graph_limit : ℕ
+graph_limit = 1048576
+
+-- the most declarations of a graph file
+abbrev pub declaration_limit : ℕ
+declaration_limit = 2000
+
+-- a tool has fewer extras than this
+abbrev pub extra_bound : ℕ
+extra_bound = 4294967295
+
+-- the most lines of a reference list that aren't passed over
+abbrev pub reference_limit : ℕ
+reference_limit = 10000
+
+-- the most messages of an object, and the most lines of `warnings` that count
+abbrev pub message_limit : ℕ
+message_limit = 1000
+
+-- the most bytes that count of a line of `warnings`
+abbrev pub message_length : ℕ
+message_length = 1000
+
+-- the greatest height of a founded node
+abbrev pub height_limit : ℕ
+height_limit = 64
