@@ -1,0 +1,5 @@
+pub mod FieldLemmas
+pub mod Fields
+pub mod Names
+pub mod Spellings
+pub mod Laws
