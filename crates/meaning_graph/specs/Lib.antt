@@ -1,0 +1,8 @@
+pub mod Members
+pub mod Graphs
+pub mod Suffixes
+pub mod Types
+pub mod Routes
+pub mod Paths
+pub mod Samples
+pub mod Laws
