@@ -1,0 +1,16 @@
+pub mod Tokens
+pub mod Stops
+pub mod Decls
+pub mod Faults
+pub mod Spelled
+pub mod Firsts
+pub mod Spellables
+pub mod CheckedGraphs
+pub mod Lexed
+pub mod Samples
+pub mod NoName
+pub mod Named
+pub mod Runs
+pub mod Accepted
+pub mod Fronts
+pub mod Answered

@@ -1,0 +1,69 @@
+-- What the laws of graph files say.
+use Rattle.std.specs.Prelude.{◌≡◌, ◌↔◌, ◌⊎◌, ◌≤◌, ℕ, List, Some, length, IsTrue, MatchOption}
+use Rattle.object_values.specs.declared.graph.Decl.{Decl}
+use Rattle.object_values.specs.declared.graph.GraphFault.{GraphFault}
+use Rattle.meaning_texts.specs.Limits.{graph_limit}
+use Rattle.meaning_graph.specs.Graphs.{Text, Graph}
+use Rattle.meaning_graph_text.specs.Tokens.{Token}
+use Rattle.meaning_graph_text.specs.Grammar.{graph_tokens, IsSpellable, HasSpelling, GraphText}
+use Rattle.meaning_graph_text.specs.Going.{start, run, can_go_on}
+use Rattle.meaning_graph_text.specs.Spellables.{is_spellable}
+use Rattle.meaning_graph_text.specs.Places.{IsFrontOfGraph, IsSyntaxFault, BeginsOnLine}
+use Rattle.meaning_graph_text.specs.Spelling.{graph_spelling}
+use Rattle.meaning_graph_text.specs.Checks.{IsANamed, is_a_named, Checked, FirstFault, first_fault, FaultAt}
+
+-- The canonical spelling of a list is a text of it.
+abbrev pub SpellingIsText : Type 0
+SpellingIsText = (decls : List Decl) → HasSpelling decls → GraphText (graph_spelling decls) decls
+
+-- A text is of one list at most.
+abbrev pub GraphIsOne : Type 0
+GraphIsOne = (text : List ℕ) (decls other : List Decl) → GraphText text decls → GraphText text other → other ≡ decls
+
+-- A text has one place of a syntax fault at most.
+pub record SamePlace (line column m d : ℕ) : Type 0 where
+  pub line_is : m ≡ line
+  pub column_is : d ≡ column
+
+abbrev pub SyntaxFaultIsOne : Type 0
+SyntaxFaultIsOne = (text : List ℕ) (line column m d : ℕ) → IsSyntaxFault text line column → IsSyntaxFault text m d → SamePlace line column m d
+
+-- A declaration begins on one line.
+abbrev pub LineIsOne : Type 0
+LineIsOne = (text : List ℕ) (decls : List Decl) (number line other : ℕ) → BeginsOnLine text decls number line → BeginsOnLine text decls number other → other ≡ line
+
+-- The computed first fault is the first one, and there is none exactly where the list is checked.
+abbrev pub FirstFaultIsComputed : Type 0
+FirstFaultIsComputed = (g : Graph) → MatchOption (first_fault g) (Checked g) (λ (at : FaultAt). FirstFault g at.number at.fault)
+
+-- The computed test holds of the spellable lists alone.
+abbrev pub SpellableIsTested : Type 0
+SpellableIsTested = (decls : List Decl) → IsTrue (is_spellable decls) ↔ IsSpellable decls
+
+-- A spellable list that is checked has a spelling.
+abbrev pub CheckedHasSpelling : Type 0
+CheckedHasSpelling = (g : Graph) → IsSpellable g → Checked g → HasSpelling g
+
+-- A list has one first fault at most.
+pub record SameFault (number other : ℕ) (fault second : GraphFault) : Type 0 where
+  pub number_is : other ≡ number
+  pub fault_is : second ≡ fault
+
+abbrev pub FirstFaultIsOne : Type 0
+FirstFaultIsOne = (g : Graph) (number other : ℕ) (fault second : GraphFault) → FirstFault g number fault → FirstFault g other second → SameFault number other fault second
+
+-- The test on two names holds exactly where supertypes lead from the type of the one to the type of the other.
+abbrev pub NamedIsReachability : Type 0
+NamedIsReachability = (g : Graph) (a b : Text) → IsTrue (is_a_named g a b) ↔ IsANamed g a b
+
+-- The computed test holds of the tokens that can go on to a graph, of as many as a graph file may have.
+abbrev pub GoingIsTested : Type 0
+GoingIsTested = (tokens : List Token) → length tokens ≤ graph_limit → IsTrue (can_go_on tokens) ↔ IsFrontOfGraph tokens
+
+-- Such tokens lead back to the start exactly where they are those of a graph.
+abbrev pub WholeIsTested : Type 0
+WholeIsTested = (tokens : List Token) → length tokens ≤ graph_limit → (run start tokens ≡ Some start) ↔ ((decls : List Decl) × HasSpelling decls × (tokens ≡ graph_tokens decls))
+
+-- A text that isn't too long is one of a graph, or has a syntax fault.
+abbrev pub EachTextIsAnswered : Type 0
+EachTextIsAnswered = (text : List ℕ) → length text ≤ graph_limit → ((decls : List Decl) × GraphText text decls) ⊎ ((line : ℕ) × (column : ℕ) × IsSyntaxFault text line column)

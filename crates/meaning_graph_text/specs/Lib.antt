@@ -1,0 +1,10 @@
+pub mod Tokens
+pub mod Lexing
+pub mod Grammar
+pub mod Going
+pub mod Spellables
+pub mod Places
+pub mod Spelling
+pub mod Checks
+pub mod Laws
+pub mod Examples
