@@ -1,0 +1,9 @@
+use Rattle.std.proofs.Common.{refl}
+use Rattle.std.specs.Fmt.{digits}
+use Rattle.meaning_texts.specs.Lines.{warning_lines}
+use Rattle.meaning_calls.specs.Outcomes.{message_lines, outcome_of}
+use Rattle.meaning_calls.proofs.examples.ends_of_a_tool.Goals as goal
+
+pub returns : goal.returns
+unfolding outcome_of message_lines warning_lines digits
+returns c = record { signal = refl; error = refl; missing = refl; ok = refl; warning = refl; status = refl }

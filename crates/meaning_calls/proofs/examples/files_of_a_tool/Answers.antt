@@ -1,0 +1,8 @@
+use Rattle.std.proofs.Common.{refl}
+use Rattle.meaning_texts.specs.Lines.{warning_lines}
+use Rattle.meaning_calls.specs.Outcomes.{message_lines, outcome_of}
+use Rattle.meaning_calls.proofs.examples.files_of_a_tool.Goals as goal
+
+pub returns : goal.returns
+unfolding outcome_of message_lines warning_lines
+returns c = record { levels = refl; first = refl; cr = refl; crlf = refl }
