@@ -1,0 +1,148 @@
+-- The needs of a node, in order, as far as the results so far show them.
+use Rattle.std.specs.Prelude.{◌≡◌, Bool, true, false, cond, List, [], ◌∷◌, ◌++◌, map, flat_map, Option, Some, None, bytes_eq, option_map, option_to_list}
+use Rattle.object_values.specs.declared.nodes.Node.{Node}
+use Rattle.object_values.specs.declared.views.Value.{Value}
+use Rattle.object_values.specs.declared.views.Value.TheVariants.{Simple, List as Listed, Compound}
+use Rattle.object_values.specs.declared.views.View.{View}
+use Rattle.meaning_texts.specs.Lines.{scanned_names}
+use Rattle.meaning_graph.specs.Graphs.{Text, Graph}
+use Rattle.meaning_graph.specs.Members.{IsIn}
+use Rattle.meaning_nodes.specs.Nodes.{source_node}
+use Rattle.meaning_nodes.specs.Values.{Picked, element, body, pick}
+use Rattle.meaning_tasks.specs.Reached.{AreReached}
+use Rattle.meaning_tasks.specs.Tasks.{Task, given, picked, mapped, packed, tooled, unfit, ToolTask, PackPart, ExtraNode, task_of}
+
+-- The results so far: of a node nothing, or its view.
+abbrev pub Results : Type 0
+Results = Node → Option View
+
+-- What is known of each node: nothing, or that it has no value, or its value. Needs and calls go by this alone.
+abbrev pub Known : Type 0
+Known = Node → Option (Option Value)
+
+abbrev pub values_of : Results → Known
+values_of seen n = option_map (λ v. v.value) (seen n)
+
+-- Both know the same of each of the nodes.
+abbrev pub AgreeOn : Known → Known → List Node → Type 0
+AgreeOn known other nodes = (n : Node) → IsIn n nodes → known n ≡ other n
+
+-- The second has each result of the first.
+abbrev pub Grows : {A : Type 0} → (Node → Option A) → (Node → Option A) → Type 0
+Grows {A} seen more = (n : Node) (v : A) → seen n ≡ Some v → more n ≡ Some v
+
+-- ---- by what is known of a node
+
+abbrev pub has_value : Option (Option Value) → Bool
+has_value None = false
+has_value (Some None) = false
+has_value (Some (Some v)) = true
+
+-- the list, where there is a value
+abbrev pub where_valued : {A : Type 0} → Option (Option Value) → List A → List A
+where_valued None xs = []
+where_valued (Some None) xs = []
+where_valued (Some (Some v)) xs = xs
+
+-- the elements of a list
+abbrev pub elements_of : Option (Option Value) → List Node
+elements_of None = []
+elements_of (Some None) = []
+elements_of (Some (Some (Simple text))) = []
+elements_of (Some (Some (Listed elements))) = elements
+elements_of (Some (Some (Compound parts))) = []
+
+abbrev pub element_in : Option Picked → List Node
+element_in None = []
+element_in (Some (element e)) = e ∷ []
+element_in (Some (body text)) = []
+
+-- the element that the key picks
+abbrev pub picked_element : Text → Option (Option Value) → List Node
+picked_element key None = []
+picked_element key (Some None) = []
+picked_element key (Some (Some v)) = element_in (pick v key)
+
+-- ---- needs
+
+-- the node, and its elements where it has a result that is a list
+abbrev pub with_elements : Known → Node → List Node
+with_elements known n = n ∷ elements_of (known n)
+
+abbrev pub extra_needs : Known → ExtraNode → List Node
+extra_needs known e = flat_map (with_elements known) (option_to_list e.node)
+
+-- the scan node of a reached name that is present; that of the own source isn't repeated
+abbrev pub scan_needs : ToolTask → Known → Text → List Node
+scan_needs t known x = cond (bytes_eq x t.root) [] (where_valued (known (source_node x)) (option_to_list (t.scan x)))
+
+-- what a tool needs behind a base that has a value: its elements, the extras, the scan nodes
+abbrev pub tool_needs : ToolTask → Known → List Text → List Node
+tool_needs t known names = elements_of (known t.base) ++ (flat_map (extra_needs known) t.extras ++ (option_to_list (t.scan t.root) ++ flat_map (scan_needs t known) names))
+
+abbrev pub part_nodes : List PackPart → List Node
+part_nodes parts = flat_map (λ p. option_to_list p.node) parts
+
+-- the needs that give status and messages, given the reached names
+abbrev pub ranked_needs : Task → Known → List Text → List Node
+ranked_needs (given name) known names = []
+ranked_needs (picked base key) known names = base ∷ picked_element key (known base)
+ranked_needs (mapped base f) known names = base ∷ []
+ranked_needs (packed parts missing) known names = part_nodes parts
+ranked_needs (tooled t) known names = t.base ∷ where_valued (known t.base) (tool_needs t known names)
+ranked_needs unfit known names = []
+
+-- the reached sources, which add neither
+abbrev pub reached_needs : Task → Known → List Text → List Node
+reached_needs (given name) known names = []
+reached_needs (picked base key) known names = []
+reached_needs (mapped base f) known names = []
+reached_needs (packed parts missing) known names = []
+reached_needs (tooled t) known names = where_valued (known t.base) (map source_node names)
+reached_needs unfit known names = []
+
+-- all needs, in order
+abbrev pub needs_of : Task → Known → List Text → List Node
+needs_of t known names = ranked_needs t known names ++ reached_needs t known names
+
+-- ---- the lines that lead to names
+
+-- the names in the object of a scan node
+abbrev pub lines_in : Option (Option Value) → List Text
+lines_in None = []
+lines_in (Some None) = []
+lines_in (Some (Some (Simple text))) = scanned_names text
+lines_in (Some (Some (Listed elements))) = []
+lines_in (Some (Some (Compound parts))) = []
+
+abbrev pub lines_by : Known → Option Node → List Text
+lines_by known None = []
+lines_by known (Some scan) = lines_in (known scan)
+
+-- the lines of the own source, whatever is known of its source node
+abbrev pub own_lines : Task → Known → List Text
+own_lines (given name) known = []
+own_lines (picked base key) known = []
+own_lines (mapped base f) known = []
+own_lines (packed parts missing) known = []
+own_lines (tooled t) known = where_valued (known t.base) (lines_by known (t.scan t.root))
+own_lines unfit known = []
+
+-- the lines of another name, where its source node has a value
+abbrev pub other_lines : Task → Known → Text → List Text
+other_lines (given name) known x = []
+other_lines (picked base key) known x = []
+other_lines (mapped base f) known x = []
+other_lines (packed parts missing) known x = []
+other_lines (tooled t) known x = where_valued (known t.base) (where_valued (known (source_node x)) (lines_by known (t.scan x)))
+other_lines unfit known x = []
+
+-- The reached names of a node.
+abbrev pub ReachedNames : Graph → Node → Results → List Text → Type 0
+ReachedNames g n seen names = AreReached (own_lines (task_of g n) (values_of seen)) (other_lines (task_of g n) (values_of seen)) names
+
+-- The list of the needs of a node.
+pub record Needs (g : Graph) (n : Node) (seen : Results) (needs : List Node) : Type 0 where
+  pub names : List Text
+  pub reached : ReachedNames g n seen names
+  pub listed : needs ≡ needs_of (task_of g n) (values_of seen) names

@@ -1,0 +1,128 @@
+-- What a node itself gives from its needs, and the view that it is settled to.
+use Rattle.std.specs.Prelude.{◌≡◌, Bool, true, false, cond, List, [], ◌∷◌, map, flat_map, Option, Some, None, option_to_list}
+use Rattle.object_values.specs.declared.messages.Status.{Status}
+use Rattle.object_values.specs.declared.messages.Status.TheVariants.{Ok, Warning, Error, Abort}
+use Rattle.object_values.specs.declared.messages.Message.{Message}
+use Rattle.object_values.specs.declared.nodes.Node.{Node}
+use Rattle.object_values.specs.declared.views.Part.{Part}
+use Rattle.object_values.specs.declared.views.Value.{Value}
+use Rattle.object_values.specs.declared.views.Value.TheVariants.{Simple, Compound}
+use Rattle.object_values.specs.declared.views.View.{View}
+use Rattle.object_values.specs.declared.calls.OwnLine.{OwnLine}
+use Rattle.object_values.specs.declared.calls.Outcome.{Outcome}
+use Rattle.meaning_graph.specs.Graphs.{Text, Graph}
+use Rattle.meaning_nodes.specs.Labels.{label_of, abort_message, no_source, no_element}
+use Rattle.meaning_nodes.specs.Values.{Picked, element, body, pick, worst, inherit}
+use Rattle.meaning_tasks.specs.Tasks.{Own, fine, aborted, Task, given, picked, mapped, packed, tooled, unfit, PackPart, task_of}
+use Rattle.meaning_tasks.specs.Needs.{Results, Known, values_of, where_valued, ranked_needs, ReachedNames}
+use Rattle.meaning_tasks.specs.Calls.{text_in, missing_extras, all_valued}
+
+-- the texts of the sources
+abbrev pub Texts : Type 0
+Texts = Text → Option Text
+
+-- ---- what a node itself gives
+
+abbrev pub given_own : Text → Text → Option Text → Own
+given_own label name None = aborted (abort_message label (no_source name) ∷ [])
+given_own label name (Some text) = fine (Simple text)
+
+-- the value of an element, which gives its own status and messages by being a need
+abbrev pub element_own : Option (Option Value) → Own
+element_own None = aborted []
+element_own (Some v) = record { value = v; status = Ok; messages = [] }
+
+-- Only a list can lack what is picked, where the node fits.
+abbrev pub pick_own : Text → Known → Text → Option Picked → Own
+pick_own label known key None = aborted (abort_message label (no_element key) ∷ [])
+pick_own label known key (Some (element e)) = element_own (known e)
+pick_own label known key (Some (body text)) = fine (Simple text)
+
+abbrev pub picked_own : Text → Known → Text → Option (Option Value) → Own
+picked_own label known key None = aborted []
+picked_own label known key (Some None) = aborted []
+picked_own label known key (Some (Some v)) = pick_own label known key (pick v key)
+
+abbrev pub mapped_own : (Value → Own) → Option (Option Value) → Own
+mapped_own f None = aborted []
+mapped_own f (Some None) = aborted []
+mapped_own f (Some (Some v)) = f v
+
+abbrev pub named_body : Text → Option Text → List Part
+named_body name None = []
+named_body name (Some text) = record { name = name; body = text } ∷ []
+
+abbrev pub part_body : Known → PackPart → List Part
+part_body known p = flat_map (λ n. named_body p.name (text_in (known n))) (option_to_list p.node)
+
+abbrev pub packed_own : Known → List PackPart → List Message → Own
+packed_own known parts [] = fine (Compound (flat_map (part_body known) parts))
+packed_own known parts (m ∷ missing) = aborted (m ∷ missing)
+
+abbrev pub labelled : Text → OwnLine → Message
+labelled label line = record { label = label; level = line.level; text = line.text }
+
+abbrev pub first_body : List Part → Text
+first_body [] = []
+first_body (p ∷ parts) = p.body
+
+-- the value that the outputs make
+abbrev pub made_value : Bool → List Part → Value
+made_value true outputs = Compound outputs
+made_value false outputs = Simple (first_body outputs)
+
+abbrev pub at_status : Status → Value → List Message → Own
+at_status Ok v messages = record { value = Some v; status = Ok; messages = messages }
+at_status Warning v messages = record { value = Some v; status = Warning; messages = messages }
+at_status Error v messages = record { value = Some v; status = Error; messages = messages }
+at_status Abort v messages = aborted messages
+
+-- without an outcome the tool isn't run
+abbrev pub outcome_own : Text → Bool → List Message → Option Outcome → Own
+outcome_own label makes_compound missing None = aborted missing
+outcome_own label makes_compound missing (Some o) = at_status o.status (made_value makes_compound o.outputs) (map (labelled label) o.lines)
+
+-- What the node itself gives: by the sources, by what is known of its needs, and by the outcome of its call.
+abbrev pub own_of : Text → Texts → Task → Known → Option Outcome → Own
+own_of label texts (given name) known outcome = given_own label name (texts name)
+own_of label texts (picked base key) known outcome = picked_own label known key (known base)
+own_of label texts (mapped base f) known outcome = mapped_own f (known base)
+own_of label texts (packed parts missing) known outcome = packed_own known parts missing
+own_of label texts (tooled t) known outcome = outcome_own label t.makes_compound (where_valued (known t.base) (missing_extras t.extras)) outcome
+own_of label texts unfit known outcome = aborted []
+
+-- ---- the view
+
+abbrev pub status_in : Option View → Status
+status_in None = Abort
+status_in (Some v) = v.status
+
+abbrev pub messages_in : Option View → List Message
+messages_in None = []
+messages_in (Some v) = v.messages
+
+-- the worst of the own status and those of the needs
+abbrev pub worst_of : Results → Status → List Node → Status
+worst_of seen own [] = own
+worst_of seen own (n ∷ needs) = worst (status_in (seen n)) (worst_of seen own needs)
+
+abbrev pub messages_of : Results → List Node → List Message
+messages_of seen needs = flat_map (λ n. messages_in (seen n)) needs
+
+-- The view from what the node itself gives and from its needs but the reached sources. It has a value where all these have.
+abbrev pub settled : Results → Own → List Node → View
+settled seen own ranked = record {
+  value = cond (all_valued (values_of seen) ranked) own.value None;
+  status = worst_of seen own.status ranked;
+  messages = inherit (messages_of seen ranked) own.messages;
+}
+
+-- the view of a node, given the reached names
+abbrev pub settle : Graph → Texts → Node → Results → Option Outcome → List Text → View
+settle g texts n seen outcome names = settled seen (own_of (label_of g n) texts (task_of g n) (values_of seen) outcome) (ranked_needs (task_of g n) (values_of seen) names)
+
+-- A node settles to the view under the results, with the outcome of its call.
+pub record Settles (g : Graph) (texts : Texts) (n : Node) (seen : Results) (outcome : Option Outcome) (view : View) : Type 0 where
+  pub names : List Text
+  pub reached : ReachedNames g n seen names
+  pub is : view ≡ settle g texts n seen outcome names
