@@ -1,0 +1,6 @@
+pub mod Derive
+pub mod Given
+pub mod Chains
+pub mod Calls
+pub mod Samples
+pub mod Laws
