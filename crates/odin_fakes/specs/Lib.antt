@@ -1,0 +1,11 @@
+pub mod Calls
+pub mod DiskLaws
+pub mod Entries
+pub mod Entry
+pub mod File
+pub mod Input
+pub mod Output
+pub mod Plan
+pub mod Slots
+pub mod Table
+pub mod Trees

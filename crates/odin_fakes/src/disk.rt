@@ -1,0 +1,245 @@
+// A file that is kept in memory, with each call.
+ghost use Rattle.std.specs.Prelude.{◌≡◌, ◌↔◌, ◌⊎◌, ◌<◌, ◌+◌, ◌^◌, ◌≤◌, length, take, drop, IfOk, IsOk, IsErr, OnOk, OnErr, vec_capacity};
+ghost use Rattle.odin_outside.specs.Causes.{HasCause};
+ghost use Rattle.odin_fakes.specs.Calls.{written};
+
+use crate::replay::stopped;
+use object_values::{Bytes, Memory};
+use odin_outside::{Disk, Failed};
+use std::alloc::{AllocError, Global};
+use std::marker::Model;
+
+/// A call: a write at an offset of so many bytes, a cut to a size, a sync, or one that changes nothing.
+#[derive(Clone, Copy, Debug, PartialEq, Eq, PartialOrd, Ord, Hash)]
+pub enum Entry {
+    Write(u64, usize),
+    Cut(u64),
+    Sync,
+    Look,
+}
+
+/// A file that is kept in memory, with each call. It has room for so many written bytes and so many calls, and a call fails exactly
+/// where it passes that room.
+#[derive(Drop)]
+pub struct MemDisk {
+    first: Bytes,
+    image: Vec<u8>,
+    entries: Vec<Entry>,
+    written: Vec<u8>,
+    bytes: usize,
+    room: usize,
+    faults: u64,
+}
+
+impl Model for MemDisk {
+    ghost use Rattle.std.specs.Prelude.{◌≡◌, ◌≤◌, ◌+◌, length, reverse, vec_capacity};
+    ghost use Rattle.odin_fakes.specs.File.{File};
+    ghost use Rattle.odin_fakes.specs.Calls.{image_after, AreWithin};
+    ghost use Rattle.odin_fakes.specs.Entries.{calls_of};
+
+    ghost Value = { File };
+
+    ghost view = { λ d. record { first = d.first; calls = calls_of (reverse d.entries.items) d.written.items; bytes = d.bytes; room = d.room; faults = d.faults } };
+
+    ghost invariant = { λ d. (d.image.items ≡ image_after d.first (calls_of (reverse d.entries.items) d.written.items))
+        × (length d.image.items + d.bytes ≤ vec_capacity d.image)
+        × (length d.written.items + d.bytes ≤ vec_capacity d.written)
+        × (length d.entries.items + d.room ≤ vec_capacity d.entries)
+        × AreWithin d.first (calls_of (reverse d.entries.items) d.written.items) };
+}
+
+/// Writes bytes over an image and behind it. It takes no memory where the image has room for them.
+pub fn overwrite(image: &mut Vec<u8>, start: usize, bytes: &[u8]) -> Result<(), AllocError>
+    requires { start ≤ length image.old.items }
+    ensures ok { OnOk result (image.new.items ≡ written image.old.items start bytes.now) }
+    ensures room { length image.old.items + length bytes.now ≤ vec_capacity image.old → IsOk result }
+    ensures capacity { vec_capacity image.old ≤ vec_capacity image.new }
+{
+    let over = bytes.len().min(image.len() - start);
+    image[start..start + over].copy_from_slice(&bytes[..over]);
+    image.extend_from_slice(&bytes[over..])
+}
+
+impl MemDisk {
+    ghost use Rattle.odin_fakes.specs.File.{new_file, image_of, after_call, refused};
+    ghost use Rattle.odin_fakes.specs.Calls.{image_after, calls_until, LeftWithin};
+    ghost use Rattle.odin_fakes.specs.Entries.{IsPlain, plain_call};
+
+    /// A file with these bytes, and room for so many bytes to be written in all and for so many calls.
+    pub fn new(alloc: Global, image: Bytes, bytes: usize, calls: usize) -> Result<Self, Memory>
+        ensures { IfOk result (λ disk. disk ≡ new_file image bytes calls) }
+    {
+        let mut now = image.as_slice().to_vec(alloc)?;
+        now.reserve_exact(bytes)?;
+        let mut written = Vec::new(alloc);
+        written.reserve_exact(bytes)?;
+        let mut entries = Vec::new(alloc);
+        entries.reserve_exact(calls)?;
+        Ok(MemDisk {
+            first: image,
+            image: now,
+            entries,
+            written,
+            bytes,
+            room: calls,
+            faults: 0,
+        })
+    }
+
+    /// What a read gives.
+    pub fn image(&self) -> &[u8]
+        ensures { result.now ≡ image_of self.now }
+    {
+        &self.image
+    }
+
+    /// How many calls there were.
+    pub(crate) fn calls(&self) -> usize
+        ensures { result ≡ length self.now.calls }
+    {
+        self.entries.len()
+    }
+
+    /// What a stop within a call may leave, by its number. `choice` picks it; 0 picks what a read gives after the call.
+    pub(crate) fn stopped(&self, alloc: Global, moment: usize, choice: u64) -> Result<Bytes, Memory>
+        requires { moment ≤ length self.now.calls }
+        ensures left { IfOk result (LeftWithin self.now.first (calls_until moment self.now.calls)) }
+        ensures whole { choice ≡ 0 → IfOk result (λ image. image ≡ image_after self.now.first (calls_until moment self.now.calls)) }
+    {
+        let image = stopped(
+            alloc,
+            self.first.as_slice(),
+            &self.entries,
+            &self.written,
+            moment,
+            choice,
+        )?;
+        Ok(Bytes::from_vec(image))
+    }
+
+    // Counts a fault.
+    fn refuse(&mut self) -> Failed
+        ensures counted { self.new ≡ refused self.old }
+        ensures later { self.old.faults ≤ self.new.faults }
+    {
+        self.faults = self.faults.saturating_add(1);
+        Failed
+    }
+
+    // Keeps a call that changes no byte.
+    fn keep(&mut self, entry: Entry) -> Result<(), Failed>
+        requires { IsPlain entry }
+        ensures fails { IsErr result ↔ (self.old.room ≡ 0) }
+        ensures ok { OnOk result (self.new ≡ after_call (plain_call entry) 0 self.old) }
+        ensures err { OnErr result (self.new ≡ refused self.old) }
+        ensures cause { HasCause self.old.faults self.new.faults result }
+    {
+        if self.room == 0 {
+            return Err(self.refuse());
+        }
+        if self.entries.push(entry).is_err() {
+            return Err(self.refuse());
+        }
+        self.room -= 1;
+        Ok(())
+    }
+}
+
+impl Disk for MemDisk {
+    ghost use Rattle.std.specs.Prelude.{◌≡◌, refl, length};
+    ghost use Rattle.odin_fakes.specs.File.{image_of, after_call, refused, told_of};
+    ghost use Rattle.odin_fakes.specs.Calls.{Wrote, WasCut, Synced, Looked};
+    ghost use Rattle.odin_fakes.specs.DiskLaws.{image_is_left, left_now, left_only};
+
+    ghost told = { told_of };
+
+    ghost size_of = { λ d. length (image_of d) };
+
+    ghost faults = { λ d. d.faults };
+
+    ghost sized = { λ d follows. refl };
+
+    ghost reads_image = { λ d follows. image_is_left d.first d.calls };
+
+    ghost counts_now = { λ d t c follows le left. left_now d.first d.calls t c le left };
+
+    ghost only_now = { λ d c follows left. left_only d.first d.calls c left };
+
+    fn size(&mut self) -> Result<u64, Failed>
+        ensures fails { IsErr result ↔ (self.old.room ≡ 0) }
+        ensures size { IfOk result (λ n. n ≡ length (image_of self.old)) }
+        ensures ok { OnOk result (self.new ≡ after_call Looked 0 self.old) }
+        ensures err { OnErr result (self.new ≡ refused self.old) }
+        ensures cause { HasCause self.old.faults self.new.faults result }
+    {
+        self.keep(Entry::Look)?;
+        Ok(self.image.len() as u64)
+    }
+
+    fn read(&mut self, at: u64, into: &mut [u8]) -> Result<(), Failed>
+        requires { at + length into.old ≤ length (image_of self.old) }
+        ensures fails { IsErr result ↔ (self.old.room ≡ 0) }
+        ensures bytes { OnOk result (into.new ≡ take (length into.old) (drop at (image_of self.old))) }
+        ensures ok { OnOk result (self.new ≡ after_call Looked 0 self.old) }
+        ensures err { OnErr result (self.new ≡ refused self.old) }
+        ensures cause { HasCause self.old.faults self.new.faults result }
+    {
+        self.keep(Entry::Look)?;
+        let start = at as usize;
+        let count = into.len();
+        into.copy_from_slice(&self.image[start..start + count]);
+        Ok(())
+    }
+
+    fn write_at(&mut self, at: u64, bytes: &[u8]) -> Result<(), Failed>
+        requires inside { at ≤ length (image_of self.old) }
+        requires end { at + length bytes.now ≤ 2 ^ 30 }
+        ensures fails { IsErr result ↔ ((self.old.room ≡ 0) ⊎ (self.old.bytes < length bytes.now)) }
+        ensures ok { OnOk result (self.new ≡ after_call (Wrote at bytes.now) (length bytes.now) self.old) }
+        ensures err { OnErr result (self.new ≡ refused self.old) }
+        ensures cause { HasCause self.old.faults self.new.faults result }
+    {
+        if self.room == 0 || self.bytes < bytes.len() {
+            return Err(self.refuse());
+        }
+        if self.entries.push(Entry::Write(at, bytes.len())).is_err() {
+            return Err(self.refuse());
+        }
+        if self.written.extend_from_slice(bytes).is_err() {
+            return Err(self.refuse());
+        }
+        if overwrite(&mut self.image, at as usize, bytes).is_err() {
+            return Err(self.refuse());
+        }
+        self.room -= 1;
+        self.bytes -= bytes.len();
+        Ok(())
+    }
+
+    fn cut(&mut self, size: u64) -> Result<(), Failed>
+        requires { size ≤ length (image_of self.old) }
+        ensures fails { IsErr result ↔ (self.old.room ≡ 0) }
+        ensures ok { OnOk result (self.new ≡ after_call (WasCut size) 0 self.old) }
+        ensures err { OnErr result (self.new ≡ refused self.old) }
+        ensures cause { HasCause self.old.faults self.new.faults result }
+    {
+        if self.room == 0 {
+            return Err(self.refuse());
+        }
+        if self.entries.push(Entry::Cut(size)).is_err() {
+            return Err(self.refuse());
+        }
+        self.image.truncate(size as usize);
+        self.room -= 1;
+        Ok(())
+    }
+
+    fn sync(&mut self) -> Result<(), Failed>
+        ensures fails { IsErr result ↔ (self.old.room ≡ 0) }
+        ensures ok { OnOk result (self.new ≡ after_call Synced 0 self.old) }
+        ensures err { OnErr result (self.new ≡ refused self.old) }
+        ensures cause { HasCause self.old.faults self.new.faults result }
+    {
+        self.keep(Entry::Sync)
+    }
+}

@@ -1,0 +1,29 @@
+//! Objects of the outside in memory, for tests: what they give and take is stated exactly.
+#![tactic(auto)]
+
+mod crash_disk;
+mod disk;
+mod fail_disk;
+mod fail_sink;
+mod fail_source;
+mod fail_tree;
+mod plan;
+mod replay;
+mod sink;
+mod source;
+mod tear;
+#[cfg(test)]
+mod tests;
+mod tools;
+mod tree;
+
+pub use crash_disk::CrashDisk;
+pub use disk::MemDisk;
+pub use fail_disk::FailDisk;
+pub use fail_sink::FailSink;
+pub use fail_source::FailSource;
+pub use fail_tree::FailTree;
+pub use sink::MemSink;
+pub use source::MemSource;
+pub use tools::{JobRaw, Running, TableTools, ToolEvent};
+pub use tree::MemTree;
