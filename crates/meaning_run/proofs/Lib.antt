@@ -1,0 +1,4 @@
+pub mod ItemLemmas
+pub mod ToldLemmas
+pub mod StreamLemmas
+pub mod EndLemmas

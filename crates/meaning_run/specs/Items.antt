@@ -1,0 +1,97 @@
+-- What an input is made of: items, each a line and the bytes behind it that belong to its command.
+--
+-- The bytes behind a `put` belong to it whatever they are, so an input is not cut into lines first: where an item ends depends on the
+-- command that its line spells.
+use Rattle.std.specs.Prelude.{◌≡◌, ◌≢◌, ◌⊎◌, ℕ, ◌<◌, ◌-◌, ◌==◌, Bool, false, if◌then◌else◌, List, [], ◌∷◌, ◌++◌, length, take, slice_index}
+
+-- the byte stands nowhere in the text
+abbrev pub HasNo : ℕ → List ℕ → Type 0
+HasNo byte [] = Unit {0}
+HasNo byte (b ∷ rest) = (b ≢ byte) × HasNo byte rest
+
+abbrev pub HasNoLf : List ℕ → Type 0
+HasNoLf = HasNo 10
+
+-- the line without one CR at its end
+abbrev pub cr_dropped : List ℕ → List ℕ
+cr_dropped line = if slice_index line (length line - 1) == 13 then take (length line - 1) line else line
+
+-- the commands of a program
+pub record Language (Command : Type 0) : Type 1 where
+  -- the line, without its end, is this command
+  pub Spells : Command → List ℕ → Type 0
+  -- how many bytes behind its line belong to the command
+  pub takes : Command → ℕ
+  -- whether the session ends behind the command
+  pub ends : Command → Bool
+
+-- a command's line without its LF, and the bytes behind it that belong to the command
+pub record Item : Type 0 where
+  pub line : List ℕ
+  pub body : List ℕ
+
+abbrev pub item_bytes : Item → List ℕ
+item_bytes item = item.line ++ 10 ∷ item.body
+
+abbrev pub all_bytes : List Item → List ℕ
+all_bytes [] = []
+all_bytes (item ∷ items) = item_bytes item ++ all_bytes items
+
+-- a last line without LF, which may be empty
+abbrev pub last_item : List ℕ → Item
+last_item line = record { line = line; body = [] }
+
+module _ {Command : Type 0} (lang : Language Command) where
+  -- the item is this command
+  pub record IsItem (item : Item) (command : Command) : Type 0 where
+    pub no_lf : HasNoLf item.line
+    pub spelled : lang.Spells command (cr_dropped item.line)
+    pub size : length item.body ≡ lang.takes command
+
+  -- the item is some command behind which the session goes on
+  pub record GoesOnAt (item : Item) : Type 0 where
+    pub command : Command
+    pub item_is : IsItem item command
+    pub on : lang.ends command ≡ false
+
+  -- the session goes on behind each of them
+  abbrev pub AllGoOn : List Item → Type 0
+  AllGoOn [] = Unit {0}
+  AllGoOn (item ∷ items) = GoesOnAt item × AllGoOn items
+
+  -- a command's whole line, and less than the bytes that belong to it
+  pub record IsBegun (part : List ℕ) (command : Command) : Type 0 where
+    pub line : List ℕ
+    pub body : List ℕ
+    pub no_lf : HasNoLf line
+    pub spelled : lang.Spells command (cr_dropped line)
+    pub missing : length body < lang.takes command
+    pub is : part ≡ line ++ 10 ∷ body
+
+  -- less than an item: a part of a line, or a command that lacks bytes
+  abbrev pub IsPart : List ℕ → Type 0
+  IsPart part = HasNoLf part ⊎ ((command : Command) × IsBegun part command)
+
+  -- a last line whose command takes bytes
+  pub record IsUnended (part : List ℕ) (command : Command) : Type 0 where
+    pub no_lf : HasNoLf part
+    pub spelled : lang.Spells command (cr_dropped part)
+    pub takes_some : 0 < lang.takes command
+
+  -- the end of an input inside a command: its bytes are not all there
+  pub record IsCutShort (part : List ℕ) : Type 0 where
+    pub command : Command
+    pub where_it_ends : IsBegun part command ⊎ IsUnended part command
+
+  -- the input ends inside a command
+  pub record EndsInside (input : List ℕ) : Type 0 where
+    pub items : List Item
+    pub on : AllGoOn items
+    pub part : List ℕ
+    pub cuts : input ≡ all_bytes items ++ part
+    pub short : IsCutShort part
+
+  -- an input is cut in one way only into items and less than an item
+  abbrev pub OneCut : Type 0
+  OneCut = (items items' : List Item) (part part' : List ℕ) → AllGoOn items → AllGoOn items' → IsPart part → IsPart part'
+      → all_bytes items ++ part ≡ all_bytes items' ++ part' → (items ≡ items') × (part ≡ part')

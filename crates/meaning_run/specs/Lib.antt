@@ -1,0 +1,4 @@
+pub mod Items
+pub mod Machines
+pub mod Endings
+pub mod Streams
