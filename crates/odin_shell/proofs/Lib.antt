@@ -1,0 +1,5 @@
+mod CommandLemmas
+mod HeldLemmas
+mod ServeLemmas
+mod SessionLemmas
+mod WordLemmas

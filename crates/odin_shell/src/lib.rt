@@ -1,0 +1,16 @@
+//! A session of the object manager: from the words, the input and the outside to the replies and the status.
+#![tactic(auto)]
+
+mod command;
+mod entry;
+mod input;
+pub mod laws;
+mod line;
+mod object;
+mod pending;
+mod reply;
+mod serve;
+mod session;
+mod write;
+
+pub use entry::run;
