@@ -1,0 +1,4 @@
+pub mod Front
+pub mod ImageLemmas
+pub mod Images
+pub mod Laws

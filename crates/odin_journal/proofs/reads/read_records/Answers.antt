@@ -1,0 +1,30 @@
+use Rattle.std.proofs.Common.{◌≡◌, ◌++◌, ◌∷◌, ◌+◌, [], length, ap, sym, subst, ◌∙◌, arith}
+use Rattle.meaning_store.specs.Images.{behind, IsRecord, AreRecords}
+use Rattle.odin_journal.proofs.MomentLemmas.{untouched_on}
+use Rattle.odin_journal.proofs.AppendLemmas.{one_more}
+use Rattle.odin_journal.proofs.reads.read_records.Goals as goal
+
+pub gates-preserved : goal.gates-preserved
+gates-preserved g c =
+    let old = g.D.Disk.told c.args.disk.now in
+    let mid = g.D.Disk.told c.gates.disk in
+    let payload = c.in-Some.payload in
+    let room = rw c.in-Some.is at c.in_ok-payload.ensures.room in
+    let some = rw c.in-Some.is at c.in_ok-payload.ensures.some in
+    let gate_is : behind c.gates.gate payload ≡ c.gates.gate + (5 + c.len.result) = omega (arith, c.len.ensures) in
+    let records_are : c.push.new.self ≡ c.gates.records ++ payload ∷ [] = c.in_ok-push.ensures.ok in
+    let size_is = c.in_ok-payload.ensures.size in
+    record {
+      inside = omega (arith, room);
+      size = c.gates.invariant.size ∙ sym size_is;
+      same = size_is ∙ c.gates.invariant.same;
+      untouched = λ quiet.
+          let first = c.gates.invariant.untouched quiet in
+          untouched_on old mid (g.D.Disk.told c.read_record.new.disk) first (c.read_record.ensures.untouched first.quiet);
+      whole = λ quiet.
+          let first = c.gates.invariant.untouched quiet.quiet in
+          let there = some (record { quiet = first.quiet; long = ap length first.same ∙ quiet.long }) in
+          let here = subst (λ image. IsRecord image c.gates.gate payload) first.same there in
+          rw records_are (subst (λ gate. AreRecords old.seen c.args.start (c.gates.records ++ payload ∷ []) gate) gate_is (one_more old.seen c.args.start c.gates.gate c.gates.records payload (c.gates.invariant.whole quiet) here));
+      later = omega (arith, c.in_ok-payload.ensures.later);
+    }

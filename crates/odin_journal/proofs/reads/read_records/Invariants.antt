@@ -1,0 +1,19 @@
+use Rattle.std.proofs.Common.{◌≡◌, ◌<◌, ◌≤◌, ◌-◌}
+use Rattle.odin_outside.specs.Disk.{IsQuiet}
+use Rattle.meaning_store.specs.Images.{AreRecords}
+use Rattle.odin_journal.specs.Moments.{IsQuietAt, Untouched}
+use Rattle.odin_journal.proofs.reads.read_records.Given as goal
+
+-- the records so far follow each other up to the gate, and the disk is as it was
+abbrev pub invariant-gates : goal.invariant-gates
+invariant-gates g l = record {
+  inside : l.gate < l.size;
+  size : l.size ≡ g.D.Disk.size_of l.disk;
+  same : g.D.Disk.size_of l.disk ≡ g.D.Disk.size_of l.initial.disk;
+  untouched : IsQuiet (g.D.Disk.told l.initial.disk) → Untouched (g.D.Disk.told l.initial.disk) (g.D.Disk.told l.disk);
+  whole : IsQuietAt (g.D.Disk.told l.initial.disk) l.size → AreRecords (g.D.Disk.told l.initial.disk).seen l.initial.gate l.records l.gate;
+  later : g.D.Disk.faults l.initial.disk ≤ g.D.Disk.faults l.disk;
+}
+
+abbrev pub decreases-gates : goal.decreases-gates
+decreases-gates g l = l.size - l.gate

@@ -1,0 +1,160 @@
+// The reading of an existing store file.
+ghost use Rattle.std.specs.Prelude.{◌≡◌, ◌+◌, ◌<◌, ◌≤◌, ◌^◌, ℕ, List, length, slice_range, OnOk, IfOk, IfErr, IfSome, IfNone};
+ghost use Rattle.odin_outside.specs.Disk.{IsQuiet};
+ghost use Rattle.meaning_store.specs.Images.{behind, IsWritten, IsOpen, IsClosed, IsRecord, AreRecords, IsStore, NotOurs};
+ghost use Rattle.odin_journal.specs.Faults.{HasNoRecord, BreaksBehind, IsReadFault, nowhere};
+ghost use Rattle.meaning_store.specs.Front.{start_of, HasFront};
+ghost use Rattle.odin_journal.specs.Marks.{HasMarks};
+ghost use Rattle.odin_journal.specs.Moments.{IsQuietAt, Untouched};
+
+use crate::fault::JournalFault;
+use byteorder::{BigEndian, ByteOrder};
+use object_values::{Bytes, Seq};
+use odin_bytes::take_u32;
+use odin_outside::Disk;
+use std::alloc::Global;
+
+/// So many bytes from `at` on.
+pub fn read_bytes<D: Disk>(
+    alloc: Global,
+    disk: &mut D,
+    at: u64,
+    count: u64,
+) -> Result<Bytes, JournalFault>
+    requires { at + count ≤ D.size_of disk.old }
+    ensures bytes { IfOk result (λ bytes. IsQuiet (D.told disk.old) → bytes ≡ slice_range (D.told disk.old).seen at (at + count)) }
+    ensures length { IfOk result (λ bytes. length bytes ≡ count) }
+    ensures untouched { IsQuiet (D.told disk.old) → Untouched (D.told disk.old) (D.told disk.new) }
+    ensures size { OnOk result (D.size_of disk.new ≡ D.size_of disk.old) }
+    ensures err { IfErr result (IsReadFault nowhere (D.faults disk.old) (D.faults disk.new)) }
+    ensures later { D.faults disk.old ≤ D.faults disk.new }
+{
+    let mut bytes = vec![in alloc; 0; count as usize]?;
+    disk.read(at, bytes.as_mut_slice())?;
+    Ok(Bytes::from_vec(bytes))
+}
+
+/// The payload of the record at a gate, where the gate is open.
+pub fn read_record<D: Disk>(
+    alloc: Global,
+    disk: &mut D,
+    gate: u64,
+    size: u64,
+) -> Result<Option<Bytes>, JournalFault>
+    requires size { size ≡ D.size_of disk.old }
+    requires inside { gate < size }
+    ensures some { IfOk result (λ read. IfSome read (λ payload. IsQuietAt (D.told disk.old) size → IsRecord (D.told disk.old).seen gate payload)) }
+    ensures room { IfOk result (λ read. IfSome read (λ payload. behind gate payload < size)) }
+    ensures none { IfOk result (λ read. IfNone read (IsQuietAt (D.told disk.old) size → IsClosed (D.told disk.old).seen gate)) }
+    ensures untouched { IsQuiet (D.told disk.old) → Untouched (D.told disk.old) (D.told disk.new) }
+    ensures size { OnOk result (D.size_of disk.new ≡ D.size_of disk.old) }
+    ensures err { IfErr result (IsReadFault (λ at. (at ≡ gate) × (IsQuietAt (D.told disk.old) size → IsOpen (D.told disk.old).seen gate × HasNoRecord (D.told disk.old).seen gate)) (D.faults disk.old) (D.faults disk.new)) }
+    ensures later { D.faults disk.old ≤ D.faults disk.new }
+{
+    let head = read_bytes(alloc, disk, gate, (size - gate).min(5))?;
+    let bytes = head.as_slice();
+    if bytes[0] != 1 {
+        return Ok(None);
+    }
+    let Some((length, _)) = take_u32(bytes, 1) else {
+        return Err(JournalFault::NotOurs(gate));
+    };
+    if size - gate < 6 + length as u64 {
+        return Err(JournalFault::NotOurs(gate));
+    }
+    Ok(Some(read_bytes(alloc, disk, gate + 5, length as u64)?))
+}
+
+/// The payloads of the whole records from a start on, and the closed gate that ends them.
+pub fn read_records<D: Disk>(
+    alloc: Global,
+    disk: &mut D,
+    start: u64,
+    size: u64,
+) -> Result<(u64, Seq<Bytes>), JournalFault>
+    requires size { size ≡ D.size_of disk.old }
+    requires inside { start < size }
+    ensures whole { IfOk result (λ read. IsQuietAt (D.told disk.old) size → AreRecords (D.told disk.old).seen start read.1 read.0) }
+    ensures closed { IfOk result (λ read. IsQuietAt (D.told disk.old) size → IsClosed (D.told disk.old).seen read.0) }
+    ensures inside { IfOk result (λ read. read.0 < size) }
+    ensures untouched { IsQuiet (D.told disk.old) → Untouched (D.told disk.old) (D.told disk.new) }
+    ensures size { OnOk result (D.size_of disk.new ≡ D.size_of disk.old) }
+    ensures err { IfErr result (IsReadFault (λ at. IsQuietAt (D.told disk.old) size → BreaksBehind (D.told disk.old).seen start at) (D.faults disk.old) (D.faults disk.new)) }
+    ensures later { D.faults disk.old ≤ D.faults disk.new }
+{
+    let mut records = Seq::new(alloc);
+    let mut gate = start;
+    'gates: while let Some(payload) = read_record(alloc, disk, gate, size)? {
+        gate += 5 + payload.len() as u64;
+        records.push(payload)?;
+    }
+    Ok((gate, records))
+}
+
+/// Where the records of a file start that has a front.
+pub fn read_start<D: Disk>(
+    alloc: Global,
+    disk: &mut D,
+    size: u64,
+) -> Result<Option<u64>, JournalFault>
+    requires { size ≡ D.size_of disk.old }
+    ensures some { IfOk result (λ read. IfSome read (λ start. IsQuietAt (D.told disk.old) size → HasFront (D.told disk.old).seen)) }
+    ensures start { IfOk result (λ read. IfSome read (λ start. IsQuietAt (D.told disk.old) size → start ≡ start_of (D.told disk.old).seen)) }
+    ensures inside { IfOk result (λ read. IfSome read (λ start. start < size)) }
+    ensures none { IfOk result (λ read. IfNone read (IsQuietAt (D.told disk.old) size → HasFront (D.told disk.old).seen → ⊥)) }
+    ensures untouched { IsQuiet (D.told disk.old) → Untouched (D.told disk.old) (D.told disk.new) }
+    ensures size { OnOk result (D.size_of disk.new ≡ D.size_of disk.old) }
+    ensures err { IfErr result (IsReadFault nowhere (D.faults disk.old) (D.faults disk.new)) }
+    ensures later { D.faults disk.old ≤ D.faults disk.new }
+{
+    if size < 65 {
+        return Ok(None);
+    }
+    let front = read_bytes(alloc, disk, 0, 64)?;
+    let Some(start) = start_in(front.as_slice()) else {
+        return Ok(None);
+    };
+    if start < 64 || start >= size {
+        return Ok(None);
+    }
+    Ok(Some(start))
+}
+
+// The start in use that a front tells, where its marks are those of a store.
+fn start_in(front: &[u8]) -> Option<u64>
+    requires { length front.now ≡ 64 }
+    ensures some { IfSome result (λ start. HasMarks front.now) }
+    ensures start { IfSome result (λ start. start ≡ start_of front.now) }
+    ensures none { IfNone result (HasMarks front.now → ⊥) }
+{
+    let named = &front[1..8] == b"DINSTO1".as_slice();
+    let blank = &front[9..16] == [0; 7].as_slice() && &front[32..64] == [0; 32].as_slice();
+    if !named || !blank {
+        return None;
+    }
+    if front[8] % 2 == 0 {
+        Some(BigEndian::read_u64(&front[16..24]))
+    } else {
+        Some(BigEndian::read_u64(&front[24..32]))
+    }
+}
+
+/// The payloads of the whole records of a file that doesn't count as new, and the closed gate that ends them.
+pub fn read_store<D: Disk>(
+    alloc: Global,
+    disk: &mut D,
+    size: u64,
+) -> Result<(u64, Seq<Bytes>), JournalFault>
+    requires { size ≡ D.size_of disk.old }
+    ensures store { IfOk result (λ read. IsQuietAt (D.told disk.old) size → IsWritten (D.told disk.old).seen → IsStore (D.told disk.old).seen read.1 read.0) }
+    ensures inside { IfOk result (λ read. read.0 < size) }
+    ensures untouched { IsQuiet (D.told disk.old) → Untouched (D.told disk.old) (D.told disk.new) }
+    ensures size { OnOk result (D.size_of disk.new ≡ D.size_of disk.old) }
+    ensures err { IfErr result (IsReadFault (λ at. IsQuietAt (D.told disk.old) size → IsWritten (D.told disk.old).seen → NotOurs (D.told disk.old).seen at) (D.faults disk.old) (D.faults disk.new)) }
+    ensures later { D.faults disk.old ≤ D.faults disk.new }
+{
+    let Some(start) = read_start(alloc, disk, size)? else {
+        return Err(JournalFault::NotOurs(0));
+    };
+    read_records(alloc, disk, start, size)
+}
