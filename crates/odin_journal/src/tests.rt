@@ -76,8 +76,21 @@ fn image(alloc: Global, place: u8, byte: u8, behind: &[u8]) -> Result<Bytes, Mem
     Ok(image)
 }
 
+// Where the journal in such a file ends, or why there is none.
+fn told(
+    alloc: Global,
+    place: u8,
+    byte: u8,
+    behind: &[u8],
+) -> Result<Result<u64, JournalFault>, Memory> {
+    match opened(alloc, image(alloc, place, byte, behind)?) {
+        Ok((end, _)) => Ok(Ok(end)),
+        Err(fault) => Ok(Err(fault)),
+    }
+}
+
 #[test]
-fn hostile_files_are_told_at_their_offset(rt: HostRuntime) -> Result<(), Fail> {
+fn a_front_has_its_marks_zeros_and_start(rt: HostRuntime) -> Result<(), Fail> {
     let alloc = rt.alloc();
     for (place, byte, behind, want) in [
         (0, b'O', b"".as_slice(), Err(JournalFault::NotOurs(0))),
@@ -95,36 +108,36 @@ fn hostile_files_are_told_at_their_offset(rt: HostRuntime) -> Result<(), Fail> {
         (8, 1, b"\0", Err(JournalFault::NotOurs(0))),
         (8, 1, b"\x01\0", Ok(65)),
         (8, 3, b"\0\x01\0\0\0\x02hi\x02", Ok(72)),
+    ] {
+        assert_eq!(rt; told(alloc, place, byte, behind)?, want);
+    }
+    Ok(())
+}
+
+#[test]
+fn a_record_lies_within_its_file(rt: HostRuntime) -> Result<(), Fail> {
+    let alloc = rt.alloc();
+    for (behind, want) in [
         // an open gate with no length, with one past the file, and with no gate behind its payload
-        (0, b'O', b"\x01", Err(JournalFault::NotOurs(64))),
+        (b"\x01".as_slice(), Err(JournalFault::NotOurs(64))),
+        (b"\x01\0\0\0\x03hi\0", Err(JournalFault::NotOurs(64))),
+        (b"\x01\xff\xff\xff\xffhi\0", Err(JournalFault::NotOurs(64))),
+        (b"\x01\0\0\0\x02hi", Err(JournalFault::NotOurs(64))),
         (
-            0,
-            b'O',
-            b"\x01\0\0\0\x03hi\0",
-            Err(JournalFault::NotOurs(64)),
-        ),
-        (
-            0,
-            b'O',
-            b"\x01\xff\xff\xff\xffhi\0",
-            Err(JournalFault::NotOurs(64)),
-        ),
-        (0, b'O', b"\x01\0\0\0\x02hi", Err(JournalFault::NotOurs(64))),
-        (
-            0,
-            b'O',
             b"\x01\0\0\0\x02hi\x01\0\0\0\x02yo",
             Err(JournalFault::NotOurs(71)),
         ),
         // what lies behind a closed gate has no meaning
-        (0, b'O', b"\0\0\0\0\x02hi\x01\x01", Ok(64)),
+        (b"\0\0\0\0\x02hi\x01\x01", Ok(64)),
     ] {
-        let end = match opened(alloc, image(alloc, place, byte, behind)?) {
-            Ok((end, _)) => Ok(end),
-            Err(fault) => Err(fault),
-        };
-        assert_eq!(rt; end, want);
+        assert_eq!(rt; told(alloc, 0, b'O', behind)?, want);
     }
+    Ok(())
+}
+
+#[test]
+fn a_small_file_is_made_anew(rt: HostRuntime) -> Result<(), Fail> {
+    let alloc = rt.alloc();
     for small in [b"".as_slice(), b"\0", b"x"] {
         let (end, records) = opened(alloc, Bytes::from_slice(alloc, small)?)?;
         assert_eq!(rt; end, 64);
