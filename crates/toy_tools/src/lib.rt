@@ -1,0 +1,15 @@
+//! Tools whose answers are a function of their jobs: `scan`, `cc` and `ld`.
+#![tactic(auto)]
+
+mod compile;
+mod directives;
+mod inputs;
+mod link;
+mod raws;
+mod scan;
+#[cfg(test)]
+mod tests;
+mod text;
+mod toys;
+
+pub use toys::toy;
