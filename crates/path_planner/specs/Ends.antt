@@ -1,0 +1,21 @@
+-- The types of makers by their numbers.
+use Rattle.std.specs.Prelude.{◌≡◌, ◌<◌, ℕ, List, Some, length, map}
+use Rattle.object_values.specs.declared.graph.MakerDecl.{MakerDecl}
+use Rattle.meaning_graph.specs.Graphs.{Graph, types, makers, type_named}
+use Rattle.path_planner.specs.declared.route.Ends.{Ends}
+
+-- the ends of a maker that takes the one type and makes the other
+abbrev pub from_to : ℕ → ℕ → Ends
+from_to from to = record { from = Some from; to = Some to }
+
+-- the numbers of the types that a maker takes and makes
+abbrev pub ends_of : Graph → MakerDecl → Ends
+ends_of g m = record { from = type_named g m.from; to = type_named g m.to }
+
+abbrev pub ends_in : Graph → List Ends
+ends_in g = map (ends_of g) (makers g)
+
+-- The numbers of a maker are those of types.
+pub record AreTypes (g : Graph) (e : Ends) : Type 0 where
+  pub from_is : (from : ℕ) → e.from ≡ Some from → from < length (types g)
+  pub to_is : (to : ℕ) → e.to ≡ Some to → to < length (types g)

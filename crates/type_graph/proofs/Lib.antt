@@ -1,0 +1,12 @@
+pub mod ContextLemmas
+pub mod DoubleLemmas
+pub mod FaultLemmas
+pub mod KindLemmas
+pub mod LoopLemmas
+pub mod PlaceLemmas
+pub mod RowLemmas
+pub mod SpaceLemmas
+pub mod SuffixLemmas
+pub mod TableLemmas
+pub mod TwiceLemmas
+pub mod WalkLemmas

@@ -1,0 +1,5 @@
+pub mod Places
+pub mod Spaces
+pub mod Shapes
+pub mod Tables
+pub mod Walks

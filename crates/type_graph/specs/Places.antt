@@ -1,0 +1,19 @@
+-- Names with the places where they first stand.
+use Rattle.std.specs.Prelude.{◌≡◌, ℕ, List, [], ◌∷◌, ◌++◌, Option, Some, None, cond, bytes_eq, position, is_some}
+use Rattle.meaning_graph.specs.Graphs.{Text}
+
+abbrev pub Places : Type 0
+Places = List (Text × ℕ)
+
+-- the place of a name, where it has one
+abbrev pub place_of : Places → Text → Option ℕ
+place_of [] name = None
+place_of (pair ∷ pairs) name = cond (bytes_eq name pair.0) (Some pair.1) (place_of pairs name)
+
+-- a name that has no place yet is given this one
+abbrev pub with_place : Places → Text → ℕ → Places
+with_place pairs name place = cond (is_some (place_of pairs name)) pairs (pairs ++ (name, place) ∷ [])
+
+-- each name has the place where it first stands in the list
+abbrev pub AreOf : Places → List Text → Type 0
+AreOf pairs names = (name : Text) → place_of pairs name ≡ position (λ n. bytes_eq n name) names

@@ -1,0 +1,49 @@
+-- The four spaces of names.
+use Rattle.std.specs.Prelude.{◌+◌, List, [], ◌∷◌, ◌++◌, Option, Some, None, length, filter_map, codes}
+use Rattle.object_values.specs.declared.graph.Decl.{Decl}
+use Rattle.object_values.specs.declared.graph.Decl.TheVariants.{ObjectType, Suffix, Param, Maker}
+use Rattle.meaning_graph.specs.Graphs.{Text, Graph, types, suffixes, params, makers}
+use Rattle.type_graph.specs.declared.spaces.Space.{Space}
+use Rattle.type_graph.specs.declared.spaces.Space.TheVariants.{Types, Suffixes, Params, Makers}
+use Rattle.type_graph.specs.declared.spaces.Counts.{Counts}
+
+-- the name of a declaration, where it is one of the space
+abbrev pub name_in : Space → Decl → Option Text
+name_in Types (ObjectType t) = Some t.name
+name_in Types (Suffix s) = None
+name_in Types (Param p) = None
+name_in Types (Maker m) = None
+name_in Suffixes (ObjectType t) = None
+name_in Suffixes (Suffix s) = Some s.suffix
+name_in Suffixes (Param p) = None
+name_in Suffixes (Maker m) = None
+name_in Params (ObjectType t) = None
+name_in Params (Suffix s) = None
+name_in Params (Param p) = Some p
+name_in Params (Maker m) = None
+name_in Makers (ObjectType t) = None
+name_in Makers (Suffix s) = None
+name_in Makers (Param p) = None
+name_in Makers (Maker m) = Some m.name
+
+-- the names that are there before the first declaration
+abbrev pub built_in : Space → List Text
+built_in Types = codes "text" ∷ []
+built_in Suffixes = []
+built_in Params = []
+built_in Makers = []
+
+-- the names of a space, by their numbers there
+abbrev pub names_in : Space → Graph → List Text
+names_in space g = built_in space ++ filter_map (name_in space) g
+
+-- how many names stand in each space
+abbrev pub counts_of : Graph → Counts
+counts_of g = record { types = length (types g); suffixes = length (suffixes g); params = length (params g); makers = length (makers g) }
+
+-- the counts with one more declaration
+abbrev pub counted : Counts → Decl → Counts
+counted counts (ObjectType t) = record counts { types = counts.types + 1 }
+counted counts (Suffix s) = record counts { suffixes = counts.suffixes + 1 }
+counted counts (Param p) = record counts { params = counts.params + 1 }
+counted counts (Maker m) = record counts { makers = counts.makers + 1 }

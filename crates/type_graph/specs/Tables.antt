@@ -1,0 +1,52 @@
+-- The tables that belong to the declarations of a graph.
+use Rattle.std.specs.Prelude.{◌≡◌, ℕ, ◌<◌, ◌≤◌, Bool, false, List, [], Option, Some, map, length, slice_get, slice_index_or, unwrap_or, option_and_then}
+use Rattle.object_values.specs.declared.graph.TypeDecl.{TypeDecl}
+use Rattle.object_values.specs.declared.graph.SuffixDecl.{SuffixDecl}
+use Rattle.object_values.specs.declared.graph.MakerDecl.{MakerDecl}
+use Rattle.meaning_texts.specs.Limits.{declaration_limit}
+use Rattle.meaning_graph.specs.Graphs.{Text, Graph, types, suffixes, params, makers, type_named, as_maker}
+use Rattle.meaning_graph.specs.Types.{is_a}
+use Rattle.meaning_graph_text.specs.Checks.{Checked}
+use Rattle.type_graph.specs.Places.{Places, AreOf}
+
+abbrev pub type_names : Graph → List Text
+type_names g = map (λ (t : TypeDecl). t.name) (types g)
+
+abbrev pub suffix_names : Graph → List Text
+suffix_names g = map (λ (s : SuffixDecl). s.suffix) (suffixes g)
+
+-- the number of the type of a suffix: that of `text` where it names no declared type
+abbrev pub suffix_number : Graph → SuffixDecl → ℕ
+suffix_number g s = unwrap_or (type_named g s.of) 0
+
+abbrev pub suffix_types : Graph → List ℕ
+suffix_types g = map (suffix_number g) (suffixes g)
+
+-- the maker that is declared at a place
+abbrev pub maker_at : Graph → ℕ → Option MakerDecl
+maker_at g place = option_and_then as_maker (slice_get g place)
+
+-- The places of the makers, in order.
+abbrev pub ArePlaces : Graph → List ℕ → Type 0
+ArePlaces g places = map (maker_at g) places ≡ map Some (makers g)
+
+-- the answer that a table of rows holds for two types
+abbrev pub answer : List (List Bool) → ℕ → ℕ → Bool
+answer rows a b = slice_index_or (slice_index_or rows a []) b false
+
+-- A row for each type, which says what types it is.
+pub record AreRows (g : Graph) (rows : List (List Bool)) : Type 0 where
+  pub each_type : length rows ≡ length (types g)
+  pub each_other : (a : ℕ) → a < length (types g) → length (slice_index_or rows a []) ≡ length (types g)
+  pub right : (a b : ℕ) → a < length (types g) → b < length (types g) → answer rows a b ≡ is_a g a b
+
+-- The declarations are checked, and the tables belong to them.
+pub record AreTables (g : Graph) (named found endings : Places) (ends makers_at : List ℕ) (rows : List (List Bool)) : Type 0 where
+  pub checked : Checked g
+  pub few : length g ≤ declaration_limit
+  pub types_are : AreOf named (type_names g)
+  pub params_are : AreOf found (params g)
+  pub suffixes_are : AreOf endings (suffix_names g)
+  pub ends_are : ends ≡ suffix_types g
+  pub makers_are : ArePlaces g makers_at
+  pub rows_are : AreRows g rows

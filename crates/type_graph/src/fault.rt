@@ -1,0 +1,20 @@
+// Why declarations make no graph.
+use object_values::{GraphFault, Memory};
+
+/// Why declarations make no graph. `Graph` names the declaration by its number, from 1, and its fault.
+#[derive(Clone, Copy, Debug, PartialEq, Eq, PartialOrd, Ord, Hash)]
+pub enum CheckFault {
+    Graph(u32, GraphFault),
+    Memory,
+}
+
+impl From<Memory> for CheckFault {
+    ghost use Rattle.type_graph.specs.declared.fault.CheckFault.{CheckFault};
+    ghost use Rattle.std.specs.Prelude.{◌≡◌};
+
+    ghost from_gives = { λ _ fault. fault ≡ CheckFault.Memory };
+
+    fn from(_: Memory) -> Self {
+        CheckFault::Memory
+    }
+}

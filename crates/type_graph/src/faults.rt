@@ -1,0 +1,76 @@
+// The first fault of declarations.
+ghost use Rattle.std.specs.Prelude.{◌≡◌, ◌-◌, ◌≤◌, ◌<◌, IfOk, MatchOption, find, take, length, None};
+ghost use Rattle.meaning_texts.specs.Limits.{declaration_limit};
+ghost use Rattle.meaning_graph_text.specs.Checks.{has_fault, all_faults, Checked, FirstFault};
+ghost use Rattle.type_graph.specs.Spaces.{counts_of};
+
+use crate::context::Context;
+use crate::spaces::Counts;
+use object_values::{Decl, GraphFault, Memory};
+use std::alloc::Global;
+
+/// The most declarations of a graph.
+const DECLARATION_LIMIT: u32 = 2000;
+
+impl<'a> Context<'a> {
+    /// The least fault of the declaration of a number, from 1.
+    #[tactic(auto, unfolding(meaning_graph_text::specs::Checks::has_fault))]
+    fn fault_of(
+        &self,
+        alloc: Global,
+        number: u32,
+        before: &Counts,
+        decl: &Decl,
+    ) -> Result<Option<GraphFault>, Memory>
+        requires { before.now ≡ counts_of (take (number - 1) self.now) }
+        ensures fault { IfOk result (λ fault. fault ≡ find (has_fault self.now number decl.now) all_faults) }
+        ensures few { IfOk result (λ fault. fault ≡ None → number ≤ declaration_limit) }
+    {
+        if !self.all_types_known(decl) {
+            return Ok(Some(GraphFault::UnknownType));
+        }
+        if self.doubles_name(alloc, before, decl)? {
+            return Ok(Some(GraphFault::DoubleName));
+        }
+        if self.is_in_loop(alloc, decl)? {
+            return Ok(Some(GraphFault::SupertypeLoop));
+        }
+        if !self.keeps_rules(alloc, decl)? {
+            return Ok(Some(GraphFault::WrongKind));
+        }
+        if number > DECLARATION_LIMIT {
+            return Ok(Some(GraphFault::TooMany));
+        }
+        if self.uses_unknown_param(decl) {
+            return Ok(Some(GraphFault::UnknownParam));
+        }
+        Ok(None)
+    }
+}
+
+/// The least number of a declaration with a fault, and there the least fault.
+pub(crate) fn first_fault(
+    alloc: Global,
+    context: &Context,
+    decls: &[Decl],
+) -> Result<Option<(u32, GraphFault)>, Memory>
+    requires { context.now ≡ decls.now }
+    ensures fault { IfOk result (λ found. MatchOption found (Checked decls.now) (λ at. FirstFault decls.now at.0 at.1)) }
+    ensures few { IfOk result (λ found. found ≡ None → length decls.now ≤ declaration_limit) }
+{
+    let mut before = Counts {
+        types: 1,
+        suffixes: 0,
+        params: 0,
+        makers: 0,
+    };
+    let mut number = 0;
+    for decl in decls {
+        number += 1;
+        if let Some(fault) = context.fault_of(alloc, number, &before, decl)? {
+            return Ok(Some((number, fault)));
+        }
+        before.add(decl);
+    }
+    Ok(None)
+}

@@ -1,0 +1,42 @@
+// The test for supertype loops.
+ghost use Rattle.std.specs.Prelude.{◌≡◌, IfOk, slice_index_or, false};
+ghost use Rattle.meaning_graph_text.specs.Checks.{is_in_loop};
+
+use crate::context::Context;
+use object_values::{Decl, Memory, TypeDecl};
+use std::alloc::Global;
+
+impl<'a> Context<'a> {
+    /// Whether the declaration is a type that is reached from itself by one or more supertypes.
+    pub(crate) fn is_in_loop(&self, alloc: Global, decl: &Decl) -> Result<bool, Memory>
+        ensures { IfOk result (λ loops. loops ≡ is_in_loop self.now decl.now) }
+    {
+        match decl {
+            Decl::ObjectType(declared) => self.type_loops(alloc, declared),
+            _ => Ok(false),
+        }
+    }
+
+    fn type_loops(&self, alloc: Global, declared: &TypeDecl) -> Result<bool, Memory>
+        ensures { IfOk result (λ loops. loops ≡ is_in_loop self.now (Decl.ObjectType declared.now)) }
+    {
+        if declared.supers.is_empty() {
+            return Ok(false);
+        }
+        let starts = self.numbers(alloc, declared.supers.as_slice())?;
+        let above = self.above(alloc, starts.as_slice())?;
+        match self.number(&declared.name) {
+            Some(number) => Ok(is_marked(above.as_slice(), number)),
+            None => Ok(false),
+        }
+    }
+}
+
+fn is_marked(row: &[bool], number: usize) -> bool
+    ensures { result ≡ slice_index_or row.now number false }
+{
+    match row.get(number) {
+        Some(marked) => *marked,
+        None => false,
+    }
+}

@@ -1,0 +1,77 @@
+// The four spaces of names, apart from each other.
+ghost use Rattle.std.specs.Prelude.{◌≡◌, ◌<◌, ◌^◌, IfOk, option_map};
+ghost use Rattle.type_graph.specs.Places.{AreOf};
+ghost use Rattle.type_graph.specs.Spaces.{name_in, names_in, counted};
+
+use crate::names::Names;
+use object_values::{Bytes, Decl, Memory};
+use std::alloc::Global;
+
+/// A space of names.
+#[derive(Clone, Copy, Debug, PartialEq, Eq)]
+pub(crate) enum Space {
+    Types,
+    Suffixes,
+    Params,
+    Makers,
+}
+
+/// The name of a declaration, where it is one of the space.
+pub(crate) fn name_in<'a>(space: Space, decl: &'a Decl) -> Option<&'a Bytes>
+    ensures { option_map (λ name. name.now) result ≡ name_in space decl.now }
+{
+    match decl {
+        Decl::ObjectType(declared) if space == Space::Types => Some(&declared.name),
+        Decl::Suffix(declared) if space == Space::Suffixes => Some(&declared.suffix),
+        Decl::Param(name) if space == Space::Params => Some(name),
+        Decl::Maker(declared) if space == Space::Makers => Some(&declared.name),
+        _ => None,
+    }
+}
+
+/// The names of a space, each with its number there.
+pub(crate) fn names_in(alloc: Global, space: Space, decls: &[Decl]) -> Result<Names, Memory>
+    ensures { IfOk result (λ names. AreOf names (names_in space decls.now)) }
+{
+    let mut names = Names::new(alloc);
+    let mut built_in = 0;
+    if space == Space::Types {
+        names.add(alloc, b"text", 0)?;
+        built_in = 1;
+    }
+    let mut declared = 0;
+    for decl in decls {
+        if let Some(name) = name_in(space, decl) {
+            names.add(alloc, name.as_slice(), built_in + declared)?;
+            declared += 1;
+        }
+    }
+    Ok(names)
+}
+
+/// How many names stand in each space.
+#[derive(Clone, Copy, Debug)]
+pub(crate) struct Counts {
+    pub(crate) types: usize,
+    pub(crate) suffixes: usize,
+    pub(crate) params: usize,
+    pub(crate) makers: usize,
+}
+
+impl Counts {
+    /// Counts a declaration.
+    pub(crate) fn add(&mut self, decl: &Decl)
+        requires types { self.old.types < 2 ^ 63 }
+        requires suffixes { self.old.suffixes < 2 ^ 63 }
+        requires params { self.old.params < 2 ^ 63 }
+        requires makers { self.old.makers < 2 ^ 63 }
+        ensures { self.new ≡ counted self.old decl.now }
+    {
+        match decl {
+            Decl::ObjectType(_) => self.types += 1,
+            Decl::Suffix(_) => self.suffixes += 1,
+            Decl::Param(_) => self.params += 1,
+            Decl::Maker(_) => self.makers += 1,
+        }
+    }
+}
