@@ -1,0 +1,24 @@
+#!/bin/bash
+# Measures the reading of a graph file of about 1 MiB beside sha256sum of 16 MiB, in one run: the medians of five.
+set -eu
+cd "$(dirname "$0")/.."
+program=$PWD/crates/graph_bench/out/graph_bench
+work=$(mktemp -d)
+trap 'rm -rf "$work"' EXIT
+
+seconds() { /usr/bin/time -f %e -o "$work/time" "$@" > /dev/null; cat "$work/time"; }
+median() { sort -n | sed -n 3p; }
+
+head -c 16777216 /dev/urandom > "$work/text"
+for round in 1 2 3 4 5; do
+    seconds "$program" 1000 >> "$work/reads"
+    seconds sha256sum "$work/text" >> "$work/sums"
+done
+/usr/bin/time -f %M -o "$work/memory" "$program" 1000 > "$work/answer"
+
+cat "$work/answer"
+reads=$(median < "$work/reads")
+sums=$(median < "$work/sums")
+bytes=$(sed 's/.* of \([0-9]*\) bytes/\1/' "$work/answer")
+echo "making and reading the file $reads s, sha256sum $sums s"
+awk -v a="$(cat "$work/memory")" -v b="$bytes" 'BEGIN { printf "memory %d KiB, %.1f times the file\n", a, a * 1024 / b }'

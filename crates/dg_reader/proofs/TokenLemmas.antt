@@ -1,0 +1,112 @@
+-- One token of a text, and readings put together.
+use Rattle.std.proofs.Common.{◌≡◌, ℕ, ◌+◌, ◌<◌, ◌≤◌, Bool, true, false, ◌||◌, List, [], ◌∷◌, ◌++◌, length, Option, Some, None, refl, sym, ap, ◌∙◌, subst, inl, inr, arith, length-append}
+use Rattle.std.specs.Prelude.{nat_eq}
+use Rattle.std.proofs.lemmas.Bool.{cases_Bool, or_from, not_from_false}
+use Rattle.meaning_graph_text.specs.Tokens.{Token, is_blank, BeginsWith, a_word, a_string, a_semicolon, a_comma, an_opening, a_closing, Tokens, no_more, blank, comment, one, is_past_gap}
+use Rattle.meaning_graph_text.specs.Lexing.{past_gap, Taken, taken, token_at}
+use Rattle.meaning_graph_text.specs.Going.{Class, accepts}
+use Rattle.meaning_graph_text.proofs.Tokens.{begins_told}
+use Rattle.meaning_graph_text.proofs.Lexed.{begins_from, gap_read}
+use Rattle.dg_reader.specs.declared.cursor.Wanted.{Wanted}
+use Rattle.dg_reader.specs.Walks.{Takes, IsNotAt, HasNone, class_of, token_of, Finds}
+
+-- ---- the computed token
+
+same_taken : (t u : Token) (left other : List ℕ) → ◌≡◌ {A = Option Taken} (Some (taken t left)) (Some (taken u other)) → t ≡ u
+same_taken t u left other e = let f : taken t left ≡ taken u other = cc in ap (λ (k : Taken). k.token) f
+
+pub takes_from : (text behind : List ℕ) (t u : Token) → token_at text ≡ Some (taken t behind) → t ≡ u → Takes text u (past_gap false behind)
+takes_from text behind t u e same = record { left = behind; begins = subst (λ x. BeginsWith text x behind) same (begins_from text (taken t behind) e); is = refl }
+
+pub not_at_none : (text : List ℕ) (t : Token) → token_at text ≡ None → IsNotAt t text
+not_at_none text t e = λ left b. let k = begins_told text t left b in let n : ⊥ = cc in n
+
+pub not_at_other : (text behind : List ℕ) (t u : Token) → token_at text ≡ Some (taken u behind) → (u ≡ t → ⊥) → IsNotAt t text
+not_at_other text behind t u e other = λ left b. other (same_taken u t behind left (sym e ∙ begins_told text t left b))
+
+pub has_none_at : (text : List ℕ) (class : Class) → token_at text ≡ None → HasNone class text
+has_none_at text class e = λ t left b. absurd (not_at_none text t e left b)
+
+pub has_none_other : (text behind : List ℕ) (class : Class) (u : Token) → token_at text ≡ Some (taken u behind) → accepts class u ≡ false → HasNone class text
+has_none_other text behind class u e none = λ t left b. subst (λ x. accepts class x ≡ false) (same_taken u t behind left (sym e ∙ begins_told text t left b)) none
+
+-- ---- readings
+
+pub tokens_append : (text : List ℕ) (ts : List Token) (mid : List ℕ) (us : List Token) (rest : List ℕ) → Tokens text ts mid → Tokens mid us rest → Tokens text (ts ++ us) rest
+tokens_append text ts mid us rest (no_more end) d = d
+tokens_append text ts mid us rest (blank b more tokens end i c) d = blank b more (tokens ++ us) rest i (tokens_append more tokens end us rest c d)
+tokens_append text ts mid us rest (comment words more tokens end n l c) d = comment words more (tokens ++ us) rest n l (tokens_append more tokens end us rest c d)
+tokens_append text ts mid us rest (one whole t more tokens end b c) d = one whole t more (tokens ++ us) rest b (tokens_append more tokens end us rest c d)
+
+-- a token, and then these
+pub takes_cons : (text : List ℕ) (t : Token) (mid : List ℕ) (ts : List Token) (rest : List ℕ) → Takes text t mid → Tokens mid ts rest → Tokens text (t ∷ ts) rest
+takes_cons text t mid ts rest k d = one text t k.left ts rest k.begins (gap_read false k.left ts rest (subst (λ x. Tokens x ts rest) k.is d))
+
+pub takes_one : (text : List ℕ) (t : Token) (rest : List ℕ) → Takes text t rest → Tokens text (t ∷ []) rest
+takes_one text t rest k = takes_cons text t rest [] rest k (no_more rest)
+
+-- these, and then a token
+pub tokens_snoc : (text : List ℕ) (ts : List Token) (mid : List ℕ) (t : Token) (rest : List ℕ) → Tokens text ts mid → Takes mid t rest → Tokens text (ts ++ t ∷ []) rest
+tokens_snoc text ts mid t rest d k = tokens_append text ts mid (t ∷ []) rest d (takes_one mid t rest k)
+
+-- ---- gaps and lengths
+
+pub past_is_past : (inside : Bool) (text : List ℕ) → is_past_gap (past_gap inside text) ≡ true
+past_is_past false [] = refl
+past_is_past true [] = refl
+past_is_past false (b ∷ text) = elim (cases_Bool (is_blank b)) [
+  | inl e ↦ rw e (past_is_past false text)
+  | inr e ↦ elim (cases_Bool (nat_eq b 35)) [
+    | inl h ↦ rw (e, h) (past_is_past true text)
+    | inr h ↦ rw (e, h) (not_from_false (is_blank b || nat_eq b 35) (or_from (is_blank b) (nat_eq b 35) e h))
+  ]
+]
+past_is_past true (b ∷ text) = elim (cases_Bool (nat_eq b 10)) [
+  | inl e ↦ rw e (past_is_past false text)
+  | inr e ↦ rw e (past_is_past true text)
+]
+
+pub takes_past : (text : List ℕ) (t : Token) (rest : List ℕ) → Takes text t rest → is_past_gap rest ≡ true
+takes_past text t rest k = subst (λ x. is_past_gap x ≡ true) (sym k.is) (past_is_past false k.left)
+
+gap_shorter : (inside : Bool) (text : List ℕ) → length (past_gap inside text) ≤ length text
+gap_shorter false [] = omega arith
+gap_shorter true [] = omega arith
+gap_shorter false (b ∷ text) = elim (cases_Bool (is_blank b)) [
+  | inl e ↦ rw e (let h = gap_shorter false text in omega arith)
+  | inr e ↦ elim (cases_Bool (nat_eq b 35)) [
+    | inl h ↦ rw (e, h) (let h = gap_shorter true text in omega arith)
+    | inr h ↦ rw (e, h) (omega arith)
+  ]
+]
+gap_shorter true (b ∷ text) = elim (cases_Bool (nat_eq b 10)) [
+  | inl e ↦ rw e (let h = gap_shorter false text in omega arith)
+  | inr e ↦ rw e (let h = gap_shorter true text in omega arith)
+]
+
+begins_shorter : (text : List ℕ) (t : Token) (left : List ℕ) → BeginsWith text t left → length left < length text
+begins_shorter text t left (a_word w more i n) = let s : 0 < length w = i.some in let l = length-append w more in omega arith
+begins_shorter text t left (a_string s more i) = let l = length-append s (34 ∷ more) in omega arith
+begins_shorter text t left (a_semicolon more) = omega arith
+begins_shorter text t left (a_comma more) = omega arith
+begins_shorter text t left (an_opening more) = omega arith
+begins_shorter text t left (a_closing more) = omega arith
+
+pub takes_shorter : (text : List ℕ) (t : Token) (rest : List ℕ) → Takes text t rest → length rest < length text
+takes_shorter text t rest k =
+    let a : length k.left < length text = begins_shorter text t k.left k.begins in
+    let b : length (past_gap false k.left) ≤ length k.left = gap_shorter false k.left in
+    let c = ap length k.is in
+    omega arith
+
+-- there are no more tokens than bytes
+pub tokens_short : (text : List ℕ) (ts : List Token) (rest : List ℕ) → Tokens text ts rest → length ts + length rest ≤ length text
+tokens_short text ts rest (no_more end) = omega arith
+tokens_short text ts rest (blank b more tokens end i d) = let h = tokens_short more tokens end d in omega arith
+tokens_short text ts rest (comment words more tokens end n l d) = let h = tokens_short more tokens end d in let a = length-append words more in omega arith
+tokens_short text ts rest (one whole t more tokens end b d) = let h = tokens_short more tokens end d in let a = begins_shorter whole t more b in omega arith
+
+-- ---- tokens that are wanted
+
+pub found_from : (wanted : Wanted) (bytes text behind : List ℕ) (t : Token) → token_at text ≡ Some (taken t behind) → t ≡ token_of wanted bytes → accepts (class_of wanted) t ≡ true → Finds wanted bytes text (past_gap false behind)
+found_from wanted bytes text behind t e same a = record { accepted = subst (λ x. accepts (class_of wanted) x ≡ true) same a; taken = takes_from text behind t (token_of wanted bytes) e same }

@@ -1,0 +1,4 @@
+pub mod Walks
+pub mod Reads
+pub mod Files
+pub mod Written

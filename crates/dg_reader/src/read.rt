@@ -1,0 +1,112 @@
+// A graph file, read and checked.
+ghost use Rattle.std.specs.Prelude.{◌≡◌, ◌≤◌, ◌<◌, ◌-◌, [], ℕ, length, take, slice_index, IfOk, IfErr};
+ghost use Rattle.meaning_texts.specs.Limits.{graph_limit};
+ghost use Rattle.meaning_graph_text.specs.Grammar.{GraphText};
+ghost use Rattle.meaning_graph_text.specs.Places.{line_behind, column_behind, BeginsOnLine};
+ghost use Rattle.dg_reader.specs.Files.{AreRead, IsFile, Refuses};
+
+use crate::cursor::{Cursor, Stop};
+use crate::fault::ReadFault;
+use dg_tokens::{column_behind, line_behind};
+use object_values::{Decl, GraphFault, Seq};
+use std::alloc::Global;
+use type_graph::{CheckFault, Graph};
+
+// The most bytes of a graph file.
+const GRAPH_LIMIT: usize = 1_048_576;
+
+/// The graph of a graph file, with the places where its declarations begin.
+#[derive(Debug, Drop)]
+pub struct GraphFile {
+    pub graph: Graph,
+    starts: Seq<usize>,
+}
+
+impl GraphFile {
+    /// The line, from 1, where the declaration of a number, from 1, begins in the text that was read.
+    pub fn line_of(&self, text: &[u8], number: usize) -> u32
+        requires read { IsFile text.now self.now }
+        requires counted { 0 < number }
+        requires within { number ≤ length self.now.graph }
+        ensures { BeginsOnLine text.now self.now.graph number result }
+    {
+        let start = self.starts.as_slice()[number - 1];
+        line_behind(&text[..start]) as u32
+    }
+}
+
+/// The graph of a graph file, with the places where its declarations begin.
+pub fn read_graph_file(alloc: Global, text: &[u8]) -> Result<GraphFile, ReadFault>
+    ensures ok { IfOk result (IsFile text.now) }
+    ensures err { IfErr result (Refuses text.now) }
+{
+    if text.len() > GRAPH_LIMIT {
+        return Err(ReadFault::TooLong);
+    }
+    let Declared { decls, starts } = read_decls(alloc, text)?;
+    let graph = match Graph::check(alloc, decls) {
+        Ok(graph) => graph,
+        Err(CheckFault::Graph(number, fault)) => {
+            let start = starts.as_slice()[number as usize - 1];
+            return Err(check_fault(text, start, fault));
+        }
+        Err(CheckFault::Memory) => return Err(ReadFault::Memory),
+    };
+    Ok(GraphFile { graph, starts })
+}
+
+/// The graph of a graph file.
+pub fn read_graph(alloc: Global, text: &[u8]) -> Result<Graph, ReadFault>
+    ensures ok { IfOk result (λ graph. (length text.now ≤ graph_limit) × GraphText text.now graph) }
+    ensures err { IfErr result (Refuses text.now) }
+{
+    Ok(read_graph_file(alloc, text)?.graph)
+}
+
+// Declarations, and the places from 0 where they begin.
+#[derive(Drop)]
+struct Declared {
+    decls: Seq<Decl>,
+    starts: Seq<usize>,
+}
+
+// The declarations of a text that isn't too long.
+fn read_decls(alloc: Global, text: &[u8]) -> Result<Declared, ReadFault>
+    requires { length text.now ≤ graph_limit }
+    ensures ok { IfOk result (λ read. AreRead read.decls read.starts text.now []) }
+    ensures err { IfErr result (Refuses text.now) }
+{
+    let mut cursor = Cursor::new(alloc, text);
+    let mut decls = Seq::new(alloc);
+    let mut starts = Seq::new(alloc);
+    'decls: while !cursor.is_at_end() {
+        let start = text.len() - cursor.left();
+        let decl = match cursor.decl() {
+            Ok(decl) => decl,
+            Err(Stop::Unexpected) => return Err(syntax_fault(text, text.len() - cursor.left())),
+            Err(Stop::Memory) => return Err(ReadFault::Memory),
+        };
+        starts.push(start)?;
+        decls.push(decl)?;
+    }
+    Ok(Declared { decls, starts })
+}
+
+// A syntax fault at a place, from 0.
+fn syntax_fault(text: &[u8], place: usize) -> ReadFault
+    requires within { place ≤ length text.now }
+    requires short { length text.now ≤ graph_limit }
+    ensures { result ≡ ReadFault.Syntax (line_behind (take place text.now)) (column_behind (take place text.now)) }
+{
+    let front = &text[..place];
+    ReadFault::Syntax(line_behind(front) as u32, column_behind(front) as u32)
+}
+
+// The fault of a declaration that begins at a place, from 0.
+fn check_fault(text: &[u8], place: usize, fault: GraphFault) -> ReadFault
+    requires within { place ≤ length text.now }
+    requires short { length text.now ≤ graph_limit }
+    ensures { result ≡ ReadFault.Check (line_behind (take place text.now)) fault }
+{
+    ReadFault::Check(line_behind(&text[..place]) as u32, fault)
+}

@@ -1,0 +1,2 @@
+pub mod LexLemmas
+pub mod PlaceLemmas
