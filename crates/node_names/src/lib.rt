@@ -1,0 +1,8 @@
+//! How nodes are written: their labels, which name them in messages and in calls, and their whole texts.
+#![tactic(auto)]
+
+mod names;
+#[cfg(test)]
+mod tests;
+
+pub use names::{label_of, node_text};
