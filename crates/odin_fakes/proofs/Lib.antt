@@ -1,4 +1,2 @@
-mod Answering
-mod Ending
 mod Replaying
 mod Scan

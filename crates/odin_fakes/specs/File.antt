@@ -2,7 +2,7 @@
 use Rattle.std.specs.Prelude.{ℕ, List, [], ◌∷◌, ◌+◌, ◌-◌, min, length, true, Some}
 use Rattle.odin_outside.specs.Causes.{last_count}
 use Rattle.odin_outside.specs.Disk.{Telling}
-use Rattle.odin_fakes.specs.Plan.{Plan, called, failed}
+use Rattle.fail_plan.specs.Plan.{Plan, called, failed}
 use Rattle.odin_fakes.specs.Calls.{Call, image_after, pending_after, LeftSince, bytes_written}
 
 -- the image that it was at first, its calls since, the newest first, for how many written bytes and for how many calls there is still

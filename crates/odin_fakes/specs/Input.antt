@@ -1,6 +1,6 @@
 -- What is known of an input in memory.
 use Rattle.std.specs.Prelude.{ℕ, List, length, drop, min}
-use Rattle.odin_fakes.specs.Plan.{Plan}
+use Rattle.fail_plan.specs.Plan.{Plan}
 
 -- the bytes that are left, and how many are given at most at once
 pub record Input : Type 0 where

@@ -5,7 +5,4 @@ pub mod Entry
 pub mod File
 pub mod Input
 pub mod Output
-pub mod Plan
-pub mod Slots
-pub mod Table
 pub mod Trees

@@ -1,7 +1,7 @@
 -- What is known of an output in memory.
 use Rattle.std.specs.Prelude.{ℕ, ◌+◌, ◌-◌, List, ◌++◌, length, min}
 use Rattle.odin_outside.specs.Causes.{last_count}
-use Rattle.odin_fakes.specs.Plan.{Plan}
+use Rattle.fail_plan.specs.Plan.{Plan}
 
 -- the bytes that were taken, how many are taken at most at once, for how many there is still room, and how many writes have failed
 pub record Output : Type 0 where

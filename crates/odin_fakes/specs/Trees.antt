@@ -3,7 +3,7 @@ use Rattle.std.specs.Prelude.{ℕ, List, refl}
 use Rattle.std.specs.Coded.{Coded, code_by, coded×, coded_ℕ, coded_list}
 use Rattle.std.specs.FinMap.{code}
 use Rattle.odin_outside.specs.Files.{Files}
-use Rattle.odin_fakes.specs.Plan.{Plan}
+use Rattle.fail_plan.specs.Plan.{Plan}
 
 pub record FailingTree : Type 0 where
   pub inner : Files

@@ -1,10 +1,10 @@
 // A file in memory that fails at chosen calls.
 ghost use Rattle.std.specs.Prelude.{◌≡◌, ◌↔◌, ◌⊎◌, ◌<◌, ◌+◌, ◌^◌, ◌≤◌, length, take, drop, IfOk, IsErr, OnOk, OnErr};
 ghost use Rattle.odin_outside.specs.Causes.{HasCause};
-ghost use Rattle.odin_fakes.specs.Plan.{FailsNext};
+ghost use Rattle.fail_plan.specs.Plan.{FailsNext};
 
 use crate::disk::MemDisk;
-use crate::plan::FailPlan;
+use fail_plan::FailPlan;
 use object_values::Seq;
 use odin_outside::{Disk, Failed};
 use std::marker::Model;

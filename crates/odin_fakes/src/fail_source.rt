@@ -2,10 +2,10 @@
 ghost use Rattle.std.specs.Prelude.{◌≡◌, ◌↔◌, ◌<◌, [], length, take, Some, IfOk, IsErr, OnErr};
 ghost use Rattle.odin_outside.specs.Causes.{HasCause};
 ghost use Rattle.odin_fakes.specs.Input.{given, given_count};
-ghost use Rattle.odin_fakes.specs.Plan.{FailsNext, called, failed};
+ghost use Rattle.fail_plan.specs.Plan.{FailsNext, called, failed};
 
-use crate::plan::FailPlan;
 use crate::source::MemSource;
+use fail_plan::FailPlan;
 use object_values::Seq;
 use odin_outside::{Failed, Source};
 use std::marker::Model;

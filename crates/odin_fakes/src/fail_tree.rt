@@ -2,10 +2,10 @@
 ghost use Rattle.std.specs.Prelude.{◌≡◌, ◌↔◌, ◌≤◌, Some, IfOk};
 ghost use Rattle.odin_outside.specs.Causes.{Rose};
 ghost use Rattle.odin_outside.specs.Files.{given_of};
-ghost use Rattle.odin_fakes.specs.Plan.{FailsNext, called, failed};
+ghost use Rattle.fail_plan.specs.Plan.{FailsNext, called, failed};
 
-use crate::plan::FailPlan;
 use crate::tree::MemTree;
+use fail_plan::FailPlan;
 use object_values::{Bytes, Seq};
 use odin_outside::{Tree, TreeFault};
 use std::alloc::Global;

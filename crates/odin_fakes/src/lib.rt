@@ -7,14 +7,12 @@ mod fail_disk;
 mod fail_sink;
 mod fail_source;
 mod fail_tree;
-mod plan;
 mod replay;
 mod sink;
 mod source;
 mod tear;
 #[cfg(test)]
 mod tests;
-mod tools;
 mod tree;
 
 pub use crash_disk::CrashDisk;
@@ -23,7 +21,8 @@ pub use fail_disk::FailDisk;
 pub use fail_sink::FailSink;
 pub use fail_source::FailSource;
 pub use fail_tree::FailTree;
+pub use fake_tools::{FailTools, JobRaw, TableTools};
+pub use odin_outside::{Running, ToolEvent};
 pub use sink::MemSink;
 pub use source::MemSource;
-pub use tools::{JobRaw, Running, TableTools, ToolEvent};
 pub use tree::MemTree;

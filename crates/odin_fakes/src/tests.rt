@@ -1,10 +1,9 @@
 // Each object once, on small tables.
 use crate::{
-    CrashDisk, FailDisk, FailSink, FailSource, FailTree, JobRaw, MemDisk, MemSink, MemSource,
-    MemTree, TableTools, ToolEvent,
+    CrashDisk, FailDisk, FailSink, FailSource, FailTree, MemDisk, MemSink, MemSource, MemTree,
 };
 use object_values::{Bytes, Memory, Seq};
-use odin_outside::{Disk, End, Failed, FileBody, Job, Raw, Sink, Source, Spawner, Tree, TreeFault};
+use odin_outside::{Disk, Failed, FileBody, Sink, Source, Tree, TreeFault};
 use std::alloc::Global;
 use std::test::Fail;
 
@@ -101,58 +100,6 @@ fn cuts_a_file_at_the_limit(rt: HostRuntime) -> Result<(), Fail> {
     let mut tree = MemTree::new(files);
     let answer = tree.read(alloc, b"a");
     assert!(rt; matches!(&answer, Ok(Some(body)) if body.len() == 16_777_217));
-    Ok(())
-}
-
-fn job(alloc: Global, word: &[u8]) -> Result<Job, Fail> {
-    let mut words = Seq::new(alloc);
-    words.push(bytes(alloc, word)?)?;
-    Ok(Job {
-        words,
-        files: Seq::new(alloc),
-        outs: Seq::new(alloc),
-    })
-}
-
-fn raw(alloc: Global, code: u8) -> Raw {
-    Raw {
-        end: End::Exit(code),
-        files: Seq::new(alloc),
-    }
-}
-
-// The slot and the exit status of the next end.
-fn end(alloc: Global, tools: &mut TableTools) -> Option<(u32, End)> {
-    if tools.running() == 0 {
-        return None;
-    }
-    let (slot, raw) = tools.finish(alloc).ok()?;
-    Some((slot, raw.end))
-}
-
-#[test]
-fn ends_tools_in_the_stated_order(rt: HostRuntime) -> Result<(), Fail> {
-    let alloc = rt.alloc();
-    let mut pairs = Seq::new(alloc);
-    for (word, code) in [(b"cc", 1), (b"ld", 2), (b"cc", 3)] {
-        pairs.push(JobRaw {
-            job: job(alloc, word)?,
-            raw: raw(alloc, code),
-        })?;
-    }
-    let mut tools = TableTools::table(alloc, pairs, raw(alloc, 9), numbers(alloc, &[4])?);
-    for (slot, word) in [b"ld", b"cc", b"ar"].iter().enumerate() {
-        let started = tools.start(alloc, &job(alloc, *word)?);
-        assert!(rt; started.is_ok_and(|began| began as usize == slot));
-    }
-    assert_eq!(rt; end(alloc, &mut tools), Some((1, End::Exit(1))));
-    assert_eq!(rt; tools.start(alloc, &job(alloc, b"ld")?), Ok(1));
-    for (slot, code) in [(0, 2), (2, 9), (1, 2)] {
-        assert_eq!(rt; end(alloc, &mut tools), Some((slot, End::Exit(code))));
-    }
-    assert_eq!(rt; end(alloc, &mut tools), None);
-    assert_eq!(rt; tools.log().len(), 8);
-    assert!(rt; tools.log().get(3) == Some(&ToolEvent::Ended(1)));
     Ok(())
 }
 

@@ -3,6 +3,7 @@
 #![tactic(auto)]
 
 mod disk;
+mod events;
 mod failed;
 mod laws;
 mod sink;
@@ -12,6 +13,7 @@ mod steps;
 mod tree;
 
 pub use disk::Disk;
+pub use events::{Running, ToolEvent};
 pub use failed::Failed;
 pub use laws::{cuts_by_step, syncs_leave_one, writes_by_step};
 pub use object_values::{End, FileBody, Job, Raw};

@@ -1,7 +1,7 @@
 // Which calls of an object fail by plan.
 ghost use Rattle.std.specs.Prelude.{◌≡◌, ◌↔◌, [], min, ◌+◌, ◌≤◌, IsTrue};
 ghost use Rattle.odin_outside.specs.Causes.{last_count};
-ghost use Rattle.odin_fakes.specs.Plan.{FailsNext, called};
+ghost use Rattle.fail_plan.specs.Plan.{FailsNext, called};
 
 use object_values::Seq;
 use std::marker::Model;
@@ -15,7 +15,7 @@ pub struct FailPlan {
 }
 
 impl Model for FailPlan {
-    ghost use Rattle.odin_fakes.specs.Plan.{Plan};
+    ghost use Rattle.fail_plan.specs.Plan.{Plan};
 
     ghost Value = { Plan };
 

@@ -5,8 +5,8 @@ use Rattle.std.proofs.lemmas.List.{at_drop_more, at_drop_all}
 use Rattle.object_values.specs.declared.jobs.Job.{Job}
 use Rattle.object_values.specs.declared.jobs.Raw.{Raw}
 use Rattle.object_values.specs.contracts.jobs.JobPartialEq.TheImpl.{ghosts as job_eq}
-use Rattle.odin_fakes.specs.declared.tools.JobRaw.{JobRaw}
-use Rattle.odin_fakes.specs.Table.{answer_among}
+use Rattle.fake_tools.specs.declared.answers.JobRaw.{JobRaw}
+use Rattle.fake_tools.specs.Tools.{answer_among}
 
 at_place : (pairs : List JobRaw) (other : Raw) (job : Job) (at : ℕ) (pair : JobRaw) → at < length pairs → pair ≡ get_or pairs at pair → answer_among (drop at pairs) other job ≡ answer_among (pair ∷ drop (at + 1) pairs) other job
 at_place pairs other job at pair inside is =
