@@ -1,0 +1,10 @@
+pub mod CallLemmas
+pub mod DeepLemmas
+pub mod FoundLemmas
+pub mod LineNeeds
+pub mod LineViews
+pub mod RunLemmas
+pub mod SourceLemmas
+pub mod StepLemmas
+pub mod ToolNodes
+pub mod ViewLemmas

@@ -1,0 +1,149 @@
+-- One child program that runs alone.
+use Rattle.std.proofs.Common.{◌≡◌, ◌≢◌, ◌⊎◌, ℕ, zero, suc, List, [], ◌∷◌, ◌++◌, inl, inr, sym, ap, ◌∙◌, subst, refl, arith, append_assoc}
+use Rattle.std.specs.Prelude.{Option, Some, None, Result, Ok, Err, OnErr}
+use Rattle.object_values.specs.declared.calls.Call.{Call}
+use Rattle.object_values.specs.declared.calls.Outcome.{Outcome}
+use Rattle.object_values.specs.declared.jobs.Job.{Job}
+use Rattle.object_values.specs.declared.jobs.Raw.{Raw}
+use Rattle.odin_outside.specs.declared.events.Running.{Running}
+use Rattle.odin_outside.specs.declared.events.ToolEvent.{ToolEvent}
+use Rattle.odin_outside.specs.declared.events.ToolEvent.TheVariants.{Began, Ended, Lost}
+use Rattle.odin_outside.specs.declared.spawner.FinishFault.{FinishFault}
+use Rattle.odin_outside.specs.declared.spawner.FinishFault.TheVariants.{Failed, Memory}
+use Rattle.meaning_calls.specs.Jobs.{job_of}
+use Rattle.meaning_calls.specs.Outcomes.{outcome_of}
+use Rattle.meaning_derive.specs.Given.{table_outcomes}
+use Rattle.plain_derive.specs.declared.fault.PlainFault.TheVariants.{Memory as PlainMemory}
+use Rattle.plain_derive.specs.Faults.{of_finish}
+use Rattle.plain_derive.specs.Logs.{Log, grown, call_events, IsCutAt}
+use Rattle.plain_derive.proofs.CallLemmas.{grown_none}
+use Rattle.odin_outside.specs.Spawned.{Table, Spawned, IsRunning, IsLeastFree, begun, noted, Stops, Ends, Loses, Leaves}
+
+record IsAlone {A : Type 0} (x y : A) (before after : List A) : Type 0 where
+  same : x ≡ y
+  first : before ≡ []
+  last : after ≡ []
+
+alone : {A : Type 0} (x y : A) (before after : List A) → x ∷ [] ≡ before ++ y ∷ after → IsAlone x y before after
+alone x y [] after e = record { same = cc; first = refl; last = cc }
+alone x y (z ∷ []) after e = cc
+alone x y (z ∷ w ∷ before) after e = cc
+
+-- What one that was started alone leaves when it stops.
+pub record IsStopped (old : Spawned) (slot ended : ℕ) (job ran : Job) (event : ToolEvent) (new : Spawned) : Type 0 where
+  pub same : job ≡ ran
+  pub here : slot ≡ ended
+  pub idle : new.running ≡ []
+  pub answer : new.answer ≡ old.answer
+  pub log : new.log ≡ noted (noted old.log (Began slot job)) event
+
+pub stopped : (old started new : Spawned) (slot ended : ℕ) (job ran : Job) (event : ToolEvent) → old.running ≡ [] → started ≡ begun old slot job → Stops started ended ran event new → IsStopped old slot ended job ran event new
+stopped old started new slot ended job ran event idle start stops =
+    let tool : Running = record { slot = slot; job = job } in
+    let other : Running = record { slot = ended; job = ran } in
+    let one : tool ∷ [] ≡ stops.before ++ other ∷ stops.after = ap (λ l. l ++ tool ∷ []) (sym idle) ∙ sym (ap (λ (z : Spawned). z.running) start) ∙ stops.ran in
+    let a = alone tool other stops.before stops.after one in
+    record {
+      same = ap (λ (z : Running). z.job) a.same;
+      here = ap (λ (z : Running). z.slot) a.same;
+      idle = ap (λ (z : Spawned). z.running) stops.is ∙ ap (λ l. l ++ stops.after) a.first ∙ a.last;
+      answer = ap (λ (z : Spawned). z.answer) stops.is ∙ ap (λ (z : Spawned). z.answer) start;
+      log = ap (λ (z : Spawned). z.log) stops.is ∙ ap (λ (z : Spawned). noted z.log event) start;
+    }
+
+-- what it left is the answer to its job
+pub left : (old started new : Spawned) (slot ended : ℕ) (job : Job) (raw : Raw) → old.running ≡ [] → started ≡ begun old slot job → Ends started ended raw new → (table : Table) → old.answer ≡ Some table → raw ≡ table job
+left old started new slot ended job raw idle start ends table told =
+    let s = stopped old started new slot ended job ends.job (Ended ended) idle start ends.stops in
+    let answer : started.answer ≡ Some table = ap (λ (z : Spawned). z.answer) start ∙ told in
+    subst (λ o. Leaves o ends.job raw) answer ends.leaves ∙ ap table (sym s.same)
+
+-- one that was started alone runs
+pub one_runs : (old started : Spawned) (slot : ℕ) (job : Job) → old.running ≡ [] → started ≡ begun old slot job → started.running ≡ (record { slot = slot; job = job }) ∷ []
+one_runs old started slot job idle start = ap (λ (z : Spawned). z.running) start ∙ ap (λ l. l ++ (record { slot = slot; job = job }) ∷ []) idle
+
+-- ---- where the end was not given
+
+-- the fault is this one, as the answer of `finish` says it
+abbrev pub IsEnd : FinishFault → FinishFault → Type 0
+IsEnd fault other = ◌≡◌ {A = Result (ℕ × Raw) FinishFault} (Err fault) (Err other)
+
+module _ (old started new : Spawned) (slot : ℕ) (job : Job) (fault : FinishFault) (idle : old.running ≡ []) (start : started ≡ begun old slot job)
+    (lost : (s : ℕ) → IsEnd fault (Failed s) → Loses started s new) (same : IsEnd fault Memory → new ≡ started) where
+  is_end : {other : FinishFault} → fault ≡ other → IsEnd fault other
+  is_end e = ap (λ f. Err f) e
+
+  pub fault_answer : new.answer ≡ old.answer
+  fault_answer = by_fault fault refl
+    where
+      by_fault : (f : FinishFault) → fault ≡ f → new.answer ≡ old.answer
+      by_fault (Failed s) e = let l = lost s (is_end e) in (stopped old started new slot s job l.job (Lost s) idle start l.stops).answer
+      by_fault Memory e = ap (λ (z : Spawned). z.answer) (same (is_end e) ∙ start)
+
+  -- nothing runs, unless memory was wanting
+  pub fault_idle : (of_finish fault ≡ PlainMemory → ⊥) → new.running ≡ []
+  fault_idle differs = by_fault fault refl
+    where
+      by_fault : (f : FinishFault) → fault ≡ f → new.running ≡ []
+      by_fault (Failed s) e = let l = lost s (is_end e) in (stopped old started new slot s job l.job (Lost s) idle start l.stops).idle
+      by_fault Memory e = absurd (differs (ap of_finish e))
+
+-- the outcome is that of the table
+pub outcome_told : (old started new : Spawned) (slot ended : ℕ) (call : Call) (job : Job) (raw : Raw) (outcome : Outcome) → old.running ≡ [] → started ≡ begun old slot job → Ends started ended raw new → job ≡ job_of call → outcome ≡ outcome_of call raw
+    → (table : Table) → old.answer ≡ Some table → table_outcomes table call ≡ Some outcome
+outcome_told old started new slot ended call job raw outcome idle start ends job_is is table told =
+    ap Some (sym (is ∙ ap (outcome_of call) (left old started new slot ended job raw idle start ends table told ∙ ap table job_is)))
+
+-- ---- what is told of it
+
+no_running : (slot : ℕ) → IsRunning [] slot → ⊥
+no_running slot h = omega (arith, h.2)
+
+-- the first slot is taken
+pub first_slot : (running : List Running) (slot : ℕ) → running ≡ [] → IsLeastFree running slot → slot ≡ 0
+first_slot running zero idle free = refl
+first_slot running (suc slot) idle free = let none : IsRunning [] 0 = subst (λ l. IsRunning l 0) idle (free.least 0 (omega arith)) in absurd (no_running 0 none)
+
+noted_is : (log : Log) (event : ToolEvent) → noted log event ≡ grown log (event ∷ [])
+noted_is None event = refl
+noted_is (Some before) event = refl
+
+noted_twice : (log : Log) (first last : ToolEvent) → noted (noted log first) last ≡ grown log (first ∷ last ∷ [])
+noted_twice None first last = refl
+noted_twice (Some before) first last = ap Some (append_assoc before (first ∷ []) (last ∷ []))
+
+pub cut_none : (log now : Log) (call : Call) → now ≡ log → IsCutAt log call now
+cut_none log now call same = record { events = []; cut = inl refl; log = same ∙ sym (grown_none log) }
+
+pub cut_whole : (log now : Log) (call : Call) → now ≡ grown log (call_events call) → IsCutAt log call now
+cut_whole log now call made = record { events = call_events call; cut = inr (inr (inr refl)); log = made }
+
+module _ (old started new : Spawned) (slot : ℕ) (job : Job) (call : Call) (idle : old.running ≡ []) (free : IsLeastFree old.running slot) (start : started ≡ begun old slot job) (job_is : job ≡ job_of call) where
+  began_is : Began slot job ≡ Began 0 (job_of call)
+  began_is = let first = first_slot old.running slot idle free in λ i. Began (first i) (job_is i)
+
+  pub made_told : (ended : ℕ) (raw : Raw) → Ends started ended raw new → new.log ≡ grown old.log (call_events call)
+  made_told ended raw ends =
+      let s = stopped old started new slot ended job ends.job (Ended ended) idle start ends.stops in
+      let last : Ended ended ≡ Ended 0 = ap Ended (sym s.here ∙ first_slot old.running slot idle free) in
+      s.log ∙ noted_twice old.log (Began slot job) (Ended ended) ∙ (λ i. grown old.log (began_is i ∷ last i ∷ []))
+
+  pub cut_told : (fault : FinishFault) → ((s : ℕ) → IsEnd fault (Failed s) → Loses started s new) → (IsEnd fault Memory → new ≡ started) → IsCutAt old.log call new.log
+  cut_told (Failed ended) lost same =
+      let l = lost ended refl in
+      let s = stopped old started new slot ended job l.job (Lost ended) idle start l.stops in
+      let last : Lost ended ≡ Lost 0 = ap Lost (sym s.here ∙ first_slot old.running slot idle free) in
+      record {
+        events = Began 0 (job_of call) ∷ Lost 0 ∷ [];
+        cut = inr (inr (inl refl));
+        log = s.log ∙ noted_twice old.log (Began slot job) (Lost ended) ∙ (λ i. grown old.log (began_is i ∷ last i ∷ []));
+      }
+  cut_told Memory lost same = record {
+    events = Began 0 (job_of call) ∷ [];
+    cut = inr (inl refl);
+    log = ap (λ (z : Spawned). z.log) (same refl ∙ start) ∙ noted_is old.log (Began slot job) ∙ (λ i. grown old.log (began_is i ∷ []));
+  }
+
+pub on_err : {T E P : Type 0} (r : Result T E) → P → OnErr r P
+on_err (Ok x) p = tt
+on_err (Err e) p = p

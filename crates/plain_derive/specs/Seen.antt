@@ -1,0 +1,41 @@
+-- What is asked of the results so far, and of the outcome, before a node is settled.
+use Rattle.std.specs.Prelude.{◌≡◌, ⊤, length, List, Option, Some, None, IsSome, cond}
+use Rattle.object_values.specs.declared.messages.Status.TheVariants.{Abort}
+use Rattle.object_values.specs.declared.nodes.Node.{Node}
+use Rattle.object_values.specs.contracts.nodes.NodePartialEq.TheImpl.{ghosts as node_eq}
+use Rattle.object_values.specs.declared.views.View.{View}
+use Rattle.object_values.specs.declared.calls.Call.{Call}
+use Rattle.object_values.specs.declared.calls.Outcome.{Outcome}
+use Rattle.meaning_graph.specs.Graphs.{Graph}
+use Rattle.meaning_graph.specs.Members.{IsIn}
+use Rattle.meaning_calls.specs.Outcomes.{Fits}
+use Rattle.meaning_tasks.specs.Needs.{Results, Needs}
+use Rattle.meaning_tasks.specs.Calls.{CallOf}
+
+-- All needs of the node have results.
+pub record AreSeen (g : Graph) (n : Node) (seen : Results) : Type 0 where
+  pub needs : List Node
+  pub listed : Needs g n seen needs
+  pub known : (m : Node) → IsIn m needs → IsSome (seen m)
+
+-- an outcome is there exactly where a call is, and fits it
+abbrev pub FitsCall : Option Call → Option Outcome → Type 0
+FitsCall None None = ⊤
+FitsCall None (Some outcome) = ⊥
+FitsCall (Some call) None = ⊥
+FitsCall (Some call) (Some outcome) = Fits call outcome
+
+-- The outcome is one of the node's call, and there is none where no tool is run.
+pub record IsOutcomeFor (g : Graph) (n : Node) (seen : Results) (outcome : Option Outcome) : Type 0 where
+  pub call : Option Call
+  pub called : CallOf g n seen call
+  pub fits : FitsCall call outcome
+
+-- an outcome that isn't `Abort` has one output
+abbrev pub HasOneOutput : Option Outcome → Type 0
+HasOneOutput None = ⊤
+HasOneOutput (Some outcome) = (outcome.status ≡ Abort → ⊥) → length outcome.outputs ≡ 1
+
+-- the view of this node, and no other result
+abbrev pub only : Node → View → Results
+only n view m = cond (node_eq.eq m n) (Some view) None

@@ -1,0 +1,59 @@
+// One call, run while nothing else runs.
+ghost use Rattle.std.specs.Prelude.{◌≡◌, ◌≢◌, ◌≤◌, [], Some, IfOk, OnErr};
+ghost use Rattle.meaning_calls.specs.Outcomes.{Fits};
+ghost use Rattle.meaning_derive.specs.Derive.{outcome_for};
+ghost use Rattle.meaning_derive.specs.Given.{table_outcomes};
+ghost use Rattle.odin_outside.specs.Causes.{Rose};
+ghost use Rattle.odin_outside.specs.Spawned.{Table};
+ghost use Rattle.plain_derive.specs.Logs.{grown, call_events, events_of, IsCutAt, CutOff};
+ghost use Rattle.plain_derive.specs.Seen.{FitsCall};
+
+use crate::fault::PlainFault;
+use object_values::{Call, Outcome};
+use odin_outside::Spawner;
+use std::alloc::Global;
+use tool_calls::{job_of, outcome_of};
+
+// Runs the tool of a call to its end.
+fn run_call<S: Spawner>(alloc: Global, call: &Call, tools: &mut S) -> Result<Outcome, PlainFault>
+    requires { (S.told tools.old).running ≡ [] }
+    ensures fits { IfOk result (Fits call.now) }
+    ensures outcome { IfOk result (λ outcome. (table : Table) → (S.told tools.old).answer ≡ Some table → table_outcomes table call.now ≡ Some outcome) }
+    ensures idle { result ≢ Err PlainFault.Memory → (S.told tools.new).running ≡ [] }
+    ensures answer { (S.told tools.new).answer ≡ (S.told tools.old).answer }
+    ensures later { S.faults tools.old ≤ S.faults tools.new }
+    ensures cause { result ≡ Err PlainFault.Spawn → Rose (S.faults tools.old) (S.faults tools.new) }
+    ensures made { IfOk result (λ outcome. (S.told tools.new).log ≡ grown (S.told tools.old).log (call_events call.now)) }
+    ensures cut { OnErr result (IsCutAt (S.told tools.old).log call.now (S.told tools.new).log) }
+{
+    let job = job_of(alloc, call)?;
+    tools.start(alloc, &job)?;
+    let (_, raw) = tools.finish(alloc)?;
+    let outcome = outcome_of(alloc, call, &raw)?;
+    Ok(outcome)
+}
+
+/// The outcome of the call, where there is one.
+pub(crate) fn run_if_called<S: Spawner>(
+    alloc: Global,
+    call: &Option<Call>,
+    tools: &mut S,
+) -> Result<Option<Outcome>, PlainFault>
+    requires { (S.told tools.old).running ≡ [] }
+    ensures fits { IfOk result (FitsCall call.now) }
+    ensures outcome { IfOk result (λ outcome. (table : Table) → (S.told tools.old).answer ≡ Some table → outcome_for (table_outcomes table) call.now ≡ Some outcome) }
+    ensures idle { result ≢ Err PlainFault.Memory → (S.told tools.new).running ≡ [] }
+    ensures answer { (S.told tools.new).answer ≡ (S.told tools.old).answer }
+    ensures later { S.faults tools.old ≤ S.faults tools.new }
+    ensures cause { result ≡ Err PlainFault.Spawn → Rose (S.faults tools.old) (S.faults tools.new) }
+    ensures made { IfOk result (λ outcome. (S.told tools.new).log ≡ grown (S.told tools.old).log (events_of call.now)) }
+    ensures cut { OnErr result (CutOff (S.told tools.old).log call.now (S.told tools.new).log) }
+{
+    match call {
+        None => Ok(None),
+        Some(call) => {
+            let outcome = run_call(alloc, call, tools)?;
+            Ok(Some(outcome))
+        }
+    }
+}
