@@ -1,0 +1,4 @@
+mod AnswerLemmas
+mod Joins
+mod NodeLemmas
+mod RequestLemmas

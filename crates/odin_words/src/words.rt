@@ -1,0 +1,32 @@
+// Words, cut from a line.
+ghost use Rattle.std.specs.Prelude.{◌≡◌, ◌∷◌, ◌++◌, IfOk, MatchOption};
+ghost use Rattle.meaning_run.specs.Items.{HasNo};
+ghost use Rattle.meaning_texts.specs.Classes.{IsName};
+
+use memchr::memchr;
+use object_values::Memory;
+use odin_bytes::{Name, NameFault};
+use std::alloc::Global;
+
+/// What stands before the first such byte, and what stands behind it.
+pub fn cut_at(byte: u8, text: &[u8]) -> Option<(&[u8], &[u8])>
+    ensures { MatchOption result (HasNo byte text.now) (λ parts. (text.now ≡ parts.0.now ++ byte ∷ parts.1.now) × HasNo byte parts.0.now) }
+{
+    match memchr(byte, text) {
+        Some(at) => Some((&text[..at], &text[at + 1..])),
+        None => None,
+    }
+}
+
+/// The name that a word is, if it is one.
+pub fn read_name(alloc: Global, word: &[u8]) -> Result<Option<Name>, Memory>
+    ensures { IfOk result (λ name. MatchOption name (¬ IsName word.now) (λ name. (name ≡ word.now) × IsName name)) }
+{
+    match Name::read(alloc, word) {
+        Ok(name) => Ok(Some(name)),
+        Err(NameFault::Memory) => Err(Memory),
+        Err(NameFault::Empty) => Ok(None),
+        Err(NameFault::TooLong) => Ok(None),
+        Err(NameFault::BadByte(_)) => Ok(None),
+    }
+}
