@@ -1,13 +1,13 @@
 //! The program: it makes the objects of the outside and runs a session over them.
 #![tactic(auto)]
 
-ghost use Rattle.std.specs.Prelude.{◌≡◌, []};
-
+#[cfg(test)]
+mod rows;
 mod streams;
 #[cfg(test)]
 mod tests;
 
-use object_values::{Bytes, End, FileBody, Memory, Raw, Seq};
+use object_values::{Bytes, FileBody, Memory, Seq};
 use odin_fakes::{MemDisk, MemTree, TableTools};
 use odin_shell::run;
 use std::alloc::Global;
@@ -18,25 +18,18 @@ use streams::{InputSource, OutputSink};
 // The exit status for want of memory.
 const MEMORY: u8 = 4;
 
-/// A tree that holds one empty file, the graph.
+// The graph: a tool `cc` makes an object `o` of a source `c`.
+const GRAPH: &[u8] =
+    b"type c simple;\ntype o simple;\nsuffix .c c;\ntool cc 1 from c to o run \"cc\";\n";
+
+/// A tree that holds one file, the graph.
 fn graph_tree(alloc: Global) -> Result<MemTree, Memory> {
     let mut files = Seq::new(alloc);
     files.push(FileBody {
         name: Bytes::from_slice(alloc, b"g0")?,
-        body: Bytes::new(alloc),
+        body: Bytes::from_slice(alloc, GRAPH)?,
     })?;
     Ok(MemTree::new(files))
-}
-
-/// Tools that leave nothing.
-fn no_tools(alloc: Global) -> TableTools
-    ensures idle { result.running ≡ [] }
-{
-    let other = Raw {
-        end: End::Signal,
-        files: Seq::new(alloc),
-    };
-    TableTools::table(alloc, Seq::new(alloc), other, Seq::new(alloc))
 }
 
 fn serve<R: Input + Print>(rt: &R, alloc: Global, words: &[String]) -> Result<u8, Memory>
@@ -47,7 +40,7 @@ where
     let mut output = OutputSink::new(io::writer(rt));
     let mut tree = graph_tree(alloc)?;
     let mut disk = MemDisk::new(alloc, Bytes::new(alloc), 0, 0)?;
-    let mut tools = no_tools(alloc);
+    let mut tools = TableTools::toy(alloc, Seq::new(alloc));
     Ok(run(
         alloc,
         words,

@@ -1,9 +1,9 @@
 // The worked rows, over a source and a sink in memory.
 ghost use Rattle.std.specs.Prelude.{◌<◌};
 
-use super::{graph_tree, no_tools};
+use super::graph_tree;
 use object_values::{Bytes, Memory, Seq};
-use odin_fakes::{FailSink, FailSource, MemDisk, MemSink, MemSource};
+use odin_fakes::{FailSink, FailSource, MemDisk, MemSink, MemSource, TableTools};
 use odin_outside::{Sink, Source};
 use odin_shell::run;
 use std::alloc::Global;
@@ -22,7 +22,7 @@ fn status_of<I: Source, O: Sink>(
     }
     let mut tree = graph_tree(alloc)?;
     let mut disk = MemDisk::new(alloc, Bytes::new(alloc), 0, 0)?;
-    let mut tools = no_tools(alloc);
+    let mut tools = TableTools::toy(alloc, Seq::new(alloc));
     Ok(run(
         alloc,
         owned.as_slice(),
@@ -145,13 +145,7 @@ fn holds_the_limits_of_lines(rt: HostRuntime) -> Result<(), Fail> {
 fn refuses_other_words(rt: HostRuntime) -> Result<(), Fail> {
     let alloc = rt.alloc();
     let usage: &[u8] = b"usage: odin [--jobs N] GRAPH, or odin [--jobs N] --load N\n";
-    let rows: [&[&str]; 5] = [
-        &[],
-        &["odin"],
-        &["odin", "g1"],
-        &["odin", "g0", "g0"],
-        &["odin", "g0\n"],
-    ];
+    let rows: [&[&str]; 3] = [&[], &["odin"], &["odin", "g0", "g0"]];
     for words in rows {
         for room in [usage.len(), 20, 0] {
             let mut input = MemSource::new(Bytes::from_slice(alloc, b"ask a.c\n")?, 7);

@@ -7,7 +7,7 @@ use Rattle.meaning_run.specs.Items as items
 use Rattle.meaning_run.specs.Items.{Item, HasNo, HasNoLf, item_bytes, last_item, cr_dropped}
 use Rattle.meaning_run.proofs.ItemLemmas.{HasNo-append}
 use Rattle.odin_shell.specs.declared.command.Command.{Command}
-use Rattle.odin_shell.specs.declared.command.Command.TheVariants.{Put, Ask, Nothing, Bad}
+use Rattle.odin_shell.specs.declared.command.Command.TheVariants.{Put, Ask, Plan, Nothing, Bad}
 use Rattle.odin_shell.specs.declared.pending.Pending.{Pending}
 use Rattle.odin_shell.specs.Commands.{commands, Spells, takes}
 use Rattle.odin_shell.specs.Held.{Held, held_length, KeepsPart, Keeps, IsNew, IsPendingOf}
@@ -67,7 +67,8 @@ pub Keeps-begun : (line part : List ℕ) (command : Command) (put : Option Pendi
     → KeepsPart [] put (part ++ 10 ∷ [])
 Keeps-begun line part (Put name count) (Some put) s some is k = begin line part name count put s some is k
 Keeps-begun line part (Put name count) None s some is k = absurd is
-Keeps-begun line part (Ask name) put s some is k = absurd (omega arith)
+Keeps-begun line part (Ask request) put s some is k = absurd (omega arith)
+Keeps-begun line part (Plan request) put s some is k = absurd (omega arith)
 Keeps-begun line part Nothing put s some is k = absurd (omega arith)
 Keeps-begun line part Bad put s some is k = absurd (omega arith)
 

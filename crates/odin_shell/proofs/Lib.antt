@@ -1,5 +1,7 @@
 mod CommandLemmas
+mod CountLemmas
+mod GraphLemmas
 mod HeldLemmas
+mod OpenLemmas
 mod ServeLemmas
 mod SessionLemmas
-mod WordLemmas

@@ -2,7 +2,7 @@
 use Rattle.std.specs.Prelude.{◌≡◌, ℕ, ◌+◌, List, [], length, take, Option, Some, None, IsSomeAnd}
 use Rattle.meaning_run.specs.Items.{HasNoLf, IsBegun}
 use Rattle.odin_shell.specs.declared.command.Command.{Command}
-use Rattle.odin_shell.specs.declared.command.Command.TheVariants.{Put, Ask, Nothing, Bad}
+use Rattle.odin_shell.specs.declared.command.Command.TheVariants.{Put, Ask, Plan, Nothing, Bad}
 use Rattle.odin_shell.specs.declared.pending.Pending.{Pending}
 use Rattle.odin_shell.specs.Commands.{commands}
 
@@ -37,6 +37,7 @@ pub record IsNew (name : List ℕ) (count : ℕ) (put : Pending) : Type 0 where
 -- a command that takes bytes, before the first of them
 abbrev pub IsPendingOf : Command → Option Pending → Type 0
 IsPendingOf (Put name count) put = IsSomeAnd put (IsNew name count)
-IsPendingOf (Ask name) put = put ≡ None
+IsPendingOf (Ask request) put = put ≡ None
+IsPendingOf (Plan request) put = put ≡ None
 IsPendingOf Nothing put = put ≡ None
 IsPendingOf Bad put = put ≡ None

@@ -1,11 +1,16 @@
 -- What holds of every input and of every session.
-use Rattle.std.specs.Prelude.{ℕ, List}
-use Rattle.object_values.specs.Texts.{Texts}
+use Rattle.std.specs.Prelude.{◌≡◌, ℕ, ◌+◌, ◌≤◌, min, List, [], ◌∷◌, bytes_eq, if◌then◌else◌, Option}
+use Rattle.odin_outside.specs.Causes.{last_count}
+use Rattle.odin_outside.specs.Spawned.{Table}
+use Rattle.meaning_graph.specs.Graphs.{Text, Graph}
+use Rattle.meaning_derive.specs.Given.{AreSources}
 use Rattle.meaning_run.specs.Items.{Item, IsItem, OneCut}
+use Rattle.meaning_run.specs.Machines.{Transcript}
+use Rattle.odin_answers.specs.Answers.{refused_tool_start}
 use Rattle.odin_shell.specs.declared.command.Command.{Command}
 use Rattle.odin_shell.specs.Commands.{commands}
-use Rattle.odin_shell.specs.Machine.{Step}
-use Rattle.odin_shell.specs.Objects.{AreSources}
+use Rattle.odin_shell.specs.Machine.{State, Step, machine}
+use Rattle.odin_shell.specs.Opened.{ReadsAs, IsRefused}
 
 -- an input is cut in one way only into commands and less than a command
 abbrev pub InputIsCutOnce : Type 0
@@ -13,4 +18,17 @@ InputIsCutOnce = OneCut commands
 
 -- behind each command the sources are names with texts that are not too long
 abbrev pub SourcesStay : Type 0
-SourcesStay = (old new : Texts) (item : Item) (command : Command) (reply : List ℕ) → AreSources old → IsItem commands item command → Step old command item.body reply new → AreSources new
+SourcesStay = (g : Graph) (table : Option Table) (old new : State) (item : Item) (command : Command) (reply : List ℕ) → AreSources old.texts → IsItem commands item command → Step g table old command item.body reply new → AreSources new.texts
+
+-- a file that is read as a graph is refused by no line
+abbrev pub ReadOrRefused : Type 0
+ReadOrRefused = (given : Option Text) (g : Graph) (line : Text) → ReadsAs given g → IsRefused given line → ⊥
+
+-- how many replies say that a tool was not started
+abbrev pub refused_starts : List (List ℕ) → ℕ
+refused_starts [] = 0
+refused_starts (reply ∷ replies) = (if bytes_eq reply refused_tool_start then 1 else 0) + refused_starts replies
+
+-- There are at most as many of them as the count of the tools' faults rose, a count that stands still at the end of its type.
+abbrev pub RefusalsAreCounted : Type 0
+RefusalsAreCounted = (g : Graph) (table : Option Table) (first state : State) (items : List Item) (replies : List (List ℕ)) → Transcript commands (machine g table) first items replies state → min (first.faults + refused_starts replies) last_count ≤ state.faults

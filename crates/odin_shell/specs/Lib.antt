@@ -1,8 +1,8 @@
 pub mod Commands
 pub mod Replies
-pub mod Objects
 pub mod Held
 pub mod Machine
 pub mod Sessions
 pub mod Words
+pub mod Opened
 pub mod Laws

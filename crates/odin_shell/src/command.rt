@@ -1,19 +1,19 @@
 // The commands, each read from its line.
-ghost use Rattle.std.specs.Prelude.{◌≡◌, ◌↔◌, ◌<◌, ◌∷◌, ◌++◌, IsTrue, ℕ, List, IfOk, MatchOption};
-ghost use Rattle.meaning_run.specs.Items.{HasNo};
-ghost use Rattle.meaning_texts.specs.Classes.{IsName};
-ghost use Rattle.odin_shell.specs.Commands.{IsPut, IsAsk, Spells, takes};
+ghost use Rattle.std.specs.Prelude.{◌≡◌, ◌↔◌, ◌<◌, IsTrue, ℕ, List, IfOk, MatchOption};
+ghost use Rattle.odin_shell.specs.Commands.{IsPut, IsRequestBehind, Spells, takes};
 
-use memchr::memchr;
 use object_values::Memory;
-use odin_bytes::{Name, NameFault, read_number};
+use odin_answers::{Request, read_request};
+use odin_bytes::{Name, read_number};
+use odin_words::{cut_at, read_name};
 use std::alloc::Global;
 
 /// A command of a session.
 #[derive(Drop)]
 pub(crate) enum Command {
     Put(Name, u64),
-    Ask(Name),
+    Ask(Request),
+    Plan(Request),
     Nothing,
     Bad,
 }
@@ -33,29 +33,6 @@ impl Command {
 // The longest text of a source.
 const TEXT_LIMIT: u64 = 16_777_216;
 
-/// The name that a word is.
-fn read_name(alloc: Global, word: &[u8]) -> Result<Option<Name>, Memory>
-    ensures { IfOk result (λ name. MatchOption name (¬ IsName word.now) (λ name. (name ≡ word.now) × IsName name)) }
-{
-    match Name::read(alloc, word) {
-        Ok(name) => Ok(Some(name)),
-        Err(NameFault::Memory) => Err(Memory),
-        Err(NameFault::Empty) => Ok(None),
-        Err(NameFault::TooLong) => Ok(None),
-        Err(NameFault::BadByte(_)) => Ok(None),
-    }
-}
-
-/// What stands before the first space, and what stands behind it.
-fn first_word(text: &[u8]) -> Option<(&[u8], &[u8])>
-    ensures { MatchOption result (HasNo 32 text.now) (λ parts. (text.now ≡ parts.0.now ++ 32 ∷ parts.1.now) × HasNo 32 parts.0.now) }
-{
-    match memchr(b' ', text) {
-        Some(at) => Some((&text[..at], &text[at + 1..])),
-        None => None,
-    }
-}
-
 /// The name and the number in `put NAME LEN`.
 fn put_parts(alloc: Global, line: &[u8]) -> Result<Option<(Name, u64)>, Memory>
     ensures { IfOk result (λ parts. MatchOption parts ((name : List ℕ) (count : ℕ) → ¬ IsPut line.now name count) (λ parts. IsPut line.now parts.0 parts.1)) }
@@ -63,7 +40,7 @@ fn put_parts(alloc: Global, line: &[u8]) -> Result<Option<(Name, u64)>, Memory>
     let Some(rest) = line.strip_prefix(b"put ") else {
         return Ok(None);
     };
-    let Some((word, length)) = first_word(rest) else {
+    let Some((word, length)) = cut_at(b' ', rest) else {
         return Ok(None);
     };
     let Some(count) = read_number(length) else {
@@ -78,14 +55,14 @@ fn put_parts(alloc: Global, line: &[u8]) -> Result<Option<(Name, u64)>, Memory>
     Ok(Some((name, count)))
 }
 
-/// The name in `ask NAME`.
-fn ask_name(alloc: Global, line: &[u8]) -> Result<Option<Name>, Memory>
-    ensures { IfOk result (λ name. MatchOption name ((name : List ℕ) → ¬ IsAsk line.now name) (IsAsk line.now)) }
+/// The request behind a word and its space.
+fn request_behind(alloc: Global, word: &[u8], line: &[u8]) -> Result<Option<Request>, Memory>
+    ensures { IfOk result (λ request. MatchOption request ((request : Request) → ¬ IsRequestBehind word.now line.now request) (IsRequestBehind word.now line.now)) }
 {
-    let Some(word) = line.strip_prefix(b"ask ") else {
+    let Some(text) = line.strip_prefix(word) else {
         return Ok(None);
     };
-    read_name(alloc, word)
+    read_request(alloc, text)
 }
 
 /// The command that a line without its end is.
@@ -98,8 +75,11 @@ pub(crate) fn read_command(alloc: Global, line: &[u8]) -> Result<Command, Memory
     if let Some((name, count)) = put_parts(alloc, line)? {
         return Ok(Command::Put(name, count));
     }
-    if let Some(name) = ask_name(alloc, line)? {
-        return Ok(Command::Ask(name));
+    if let Some(request) = request_behind(alloc, b"ask ", line)? {
+        return Ok(Command::Ask(request));
+    }
+    if let Some(request) = request_behind(alloc, b"plan ", line)? {
+        return Ok(Command::Plan(request));
     }
     Ok(Command::Bad)
 }

@@ -1,48 +1,92 @@
-// The entry of the program: its words, its session and its status.
-ghost use Rattle.std.specs.Prelude.{◌≡◌, ◌≢◌, ◌⊎◌, ◌<◌, ◌≤◌, ℕ, true, false, length, take, map, string_bytes, IfSome};
+// The entry of the program: its words, its graph, its session and its status.
+ghost use Rattle.std.specs.Prelude.{◌≡◌, ◌≢◌, ◌⊎◌, ◌<◌, ◌≤◌, [], ℕ, length, take, map, string_bytes, option_map, IfSome};
 ghost use Rattle.odin_outside.specs.Causes.{Rose};
 ghost use Rattle.odin_outside.specs.Told.{appended};
-ghost use Rattle.object_values.specs.Texts.{no_texts};
 ghost use Rattle.meaning_run.specs.Items.{EndsInside};
 ghost use Rattle.meaning_run.specs.Endings.{input_limit, Leaves, IsWhole, IsShort, IsUpTo, IsUpToLimit, IsBroken, IsCutOff};
 ghost use Rattle.odin_shell.specs.Commands.{commands};
-ghost use Rattle.odin_shell.specs.Machine.{machine};
-ghost use Rattle.odin_shell.specs.Words.{IsAccepted, usage_line};
+ghost use Rattle.odin_shell.specs.Machine.{machine, at_first, telling, ToolsStay};
+ghost use Rattle.odin_shell.specs.Words.{graph_word, IsAccepted, usage_line};
+ghost use Rattle.plain_derive.specs.Built.{IsBuiltGraph};
+ghost use Rattle.odin_shell.specs.Opened.{IsPartOf, Over, OverRefused};
 
+use crate::deriver::Deriver;
+use crate::graph::{OpenFault, Opened, open_graph};
 use crate::input::{Ending, serve_input};
 use crate::write::write_whole;
 use odin_outside::{Disk, Sink, Source, Spawner, Tree};
 use std::alloc::Global;
+use type_graph::Graph;
 
 const USAGE: &[u8] = b"usage: odin [--jobs N] GRAPH, or odin [--jobs N] --load N\n";
 
-/// Whether the words are the program's name and that of the graph.
-fn are_accepted(words: &[String]) -> bool
-    ensures accepted { result ≡ true → IsAccepted (map string_bytes words.now) }
-    ensures refused { result ≡ false → ¬ IsAccepted (map string_bytes words.now) }
+/// The name of the graph's file, where the words are the program's name and it.
+fn graph_named(words: &[String]) -> Option<&str>
+    ensures { option_map (λ name. name.now) result ≡ graph_word (map string_bytes words.now) }
 {
     match words {
-        [_, graph] => graph.as_str() == "g0",
-        _ => false,
+        [_, graph] => Some(graph.as_str()),
+        _ => None,
     }
 }
 
-/// Writes the usage line in place of a session.
-fn refuse_words<O: Sink>(output: &mut O) -> u8
-    ensures statuses { (result ≡ 9) ⊎ (result ≡ 5) }
-    ensures usage { result ≡ 9 → O.taken output.new ≡ appended (O.taken output.old) usage_line }
-    ensures cut { result ≡ 5 → (count : ℕ) × (count < length usage_line) × (O.taken output.new ≡ appended (O.taken output.old) (take count usage_line)) }
+/// Writes a last line in place of a session, and gives its status, or 5.
+fn end_with<O: Sink>(output: &mut O, line: &[u8], status: u8) -> u8
+    requires { status ≢ 5 }
+    ensures status { result ≢ 5 → result ≡ status }
+    ensures whole { result ≢ 5 → O.taken output.new ≡ appended (O.taken output.old) line.now }
+    ensures cut { result ≡ 5 → IsPartOf line.now (O.taken output.old) (O.taken output.new) }
     ensures later { O.faults output.old ≤ O.faults output.new }
     ensures cause { result ≡ 5 → Rose (O.faults output.old) (O.faults output.new) }
 {
-    match write_whole(output, USAGE) {
-        Ok(()) => 9,
+    match write_whole(output, line) {
+        Ok(()) => status,
         Err(_) => 5,
     }
 }
 
-/// Runs the program: reads the words, then serves the commands of the input, and gives the exit status. docs/SESSIONS.md tells the
-/// commands, the replies and the statuses.
+/// Serves the commands of the input over a graph, and gives the status.
+fn serve_graph<I: Source, O: Sink, S: Spawner>(
+    alloc: Global,
+    graph: Graph,
+    tools: &mut S,
+    input: &mut I,
+    output: &mut O,
+) -> u8
+    requires built { IsBuiltGraph graph }
+    requires idle { (S.told tools.old).running ≡ [] }
+    ensures statuses { (result ≡ 0) ⊎ (result ≡ 1) ⊎ (result ≡ 4) ⊎ (result ≡ 5) ⊎ (result ≡ 6) ⊎ (result ≡ 10) }
+    ensures whole { result ≡ 0 → Leaves (IsWhole commands (machine graph (S.told tools.old).answer) (at_first (S.faults tools.old)) (telling (O.taken output.old) (S.told tools.old) (S.faults tools.old)) (telling (O.taken output.new) (S.told tools.new) (S.faults tools.new))) (I.left input.old) (I.left input.new) (O.taken output.old) (O.taken output.new) }
+    ensures short { result ≡ 1 → Leaves (IsShort commands (machine graph (S.told tools.old).answer) (at_first (S.faults tools.old)) (telling (O.taken output.old) (S.told tools.old) (S.faults tools.old)) (telling (O.taken output.new) (S.told tools.new) (S.faults tools.new))) (I.left input.old) (I.left input.new) (O.taken output.old) (O.taken output.new) }
+    ensures memory { result ≡ 4 → Leaves (IsBroken commands (machine graph (S.told tools.old).answer) (at_first (S.faults tools.old)) (telling (O.taken output.old) (S.told tools.old) (S.faults tools.old)) (telling (O.taken output.new) (S.told tools.new) (S.faults tools.new))) (I.left input.old) (I.left input.new) (O.taken output.old) (O.taken output.new) }
+    ensures output { result ≡ 5 → Leaves (IsCutOff commands (machine graph (S.told tools.old).answer) (at_first (S.faults tools.old)) (telling (O.taken output.old) (S.told tools.old) (S.faults tools.old)) (telling (O.taken output.new) (S.told tools.new) (S.faults tools.new))) (I.left input.old) (I.left input.new) (O.taken output.old) (O.taken output.new) }
+    ensures input { result ≡ 6 → Leaves (IsUpTo commands (machine graph (S.told tools.old).answer) (at_first (S.faults tools.old)) (telling (O.taken output.old) (S.told tools.old) (S.faults tools.old)) (telling (O.taken output.new) (S.told tools.new) (S.faults tools.new))) (I.left input.old) (I.left input.new) (O.taken output.old) (O.taken output.new) }
+    ensures long { result ≡ 10 → Leaves (IsUpToLimit commands (machine graph (S.told tools.old).answer) (at_first (S.faults tools.old)) (telling (O.taken output.old) (S.told tools.old) (S.faults tools.old)) (telling (O.taken output.new) (S.told tools.new) (S.faults tools.new))) (I.left input.old) (I.left input.new) (O.taken output.old) (O.taken output.new) }
+    ensures not_short { result ≡ 0 → IfSome (I.left input.old) (λ text. (length text < input_limit) × (¬ EndsInside commands text)) }
+    ensures is_short { result ≡ 1 → IfSome (I.left input.old) (λ text. (length text < input_limit) × EndsInside commands text) }
+    ensures is_long { result ≡ 10 → IfSome (I.left input.old) (λ text. input_limit ≤ length text) }
+    ensures idle { result ≢ 4 → (S.told tools.new).running ≡ [] }
+    ensures tools { ToolsStay (S.told tools.old) (S.faults tools.old) (S.told tools.new) (S.faults tools.new) }
+    ensures later_in { I.faults input.old ≤ I.faults input.new }
+    ensures later_out { O.faults output.old ≤ O.faults output.new }
+    ensures output_failed { result ≡ 5 → Rose (O.faults output.old) (O.faults output.new) }
+    ensures input_failed { result ≡ 6 → Rose (I.faults input.old) (I.faults input.new) }
+{
+    let Ok(deriver) = Deriver::new(alloc, graph) else {
+        return 4;
+    };
+    match serve_input(alloc, &deriver, tools, input, output) {
+        Ending::Whole => 0,
+        Ending::CutShort => 1,
+        Ending::Memory => 4,
+        Ending::Output => 5,
+        Ending::Input => 6,
+        Ending::TooLong => 10,
+    }
+}
+
+/// Runs the program: reads the words and the graph, then serves the commands of the input, and gives the exit status.
+/// docs/SESSIONS.md tells the commands, the replies and the statuses.
 pub fn run<I: Source, O: Sink, T: Tree, D: Disk, S: Spawner>(
     alloc: Global,
     words: &[String],
@@ -52,22 +96,27 @@ pub fn run<I: Source, O: Sink, T: Tree, D: Disk, S: Spawner>(
     disk: &mut D,
     tools: &mut S,
 ) -> u8
-    requires idle { S.run_count tools.old ≡ 0 }
+    requires idle { (S.told tools.old).running ≡ [] }
 
     // Other words are refused, by the usage line or by a part of it where it can't be written, before anything is read.
-    ensures statuses { (result ≡ 0) ⊎ (result ≡ 1) ⊎ (result ≡ 4) ⊎ (result ≡ 5) ⊎ (result ≡ 6) ⊎ (result ≡ 9) ⊎ (result ≡ 10) }
+    ensures statuses { (result ≡ 0) ⊎ (result ≡ 1) ⊎ (result ≡ 2) ⊎ (result ≡ 4) ⊎ (result ≡ 5) ⊎ (result ≡ 6) ⊎ (result ≡ 9) ⊎ (result ≡ 10) }
     ensures accepted { IsAccepted (map string_bytes words.now) → result ≢ 9 }
-    ensures refused { ¬ IsAccepted (map string_bytes words.now) → ((result ≡ 9) ⊎ (result ≡ 5)) × (input.new ≡ input.old) }
+    ensures refused { ¬ IsAccepted (map string_bytes words.now) → ((result ≡ 9) ⊎ (result ≡ 5)) × (input.new ≡ input.old) × (tree.new ≡ tree.old) × (tools.new ≡ tools.old) }
     ensures usage { result ≡ 9 → O.taken output.new ≡ appended (O.taken output.old) usage_line }
-    ensures usage_cut { result ≡ 5 → ¬ IsAccepted (map string_bytes words.now) → (count : ℕ) × (count < length usage_line) × (O.taken output.new ≡ appended (O.taken output.old) (take count usage_line)) }
+    ensures usage_cut { result ≡ 5 → ¬ IsAccepted (map string_bytes words.now) → IsPartOf usage_line (O.taken output.old) (O.taken output.new) }
 
-    // The output has exactly the replies to the commands that were read, by the way the session ended.
-    ensures whole { result ≡ 0 → Leaves (IsWhole commands machine no_texts (O.taken output.old) (O.taken output.new)) (I.left input.old) (I.left input.new) (O.taken output.old) (O.taken output.new) }
-    ensures short { result ≡ 1 → Leaves (IsShort commands machine no_texts (O.taken output.old) (O.taken output.new)) (I.left input.old) (I.left input.new) (O.taken output.old) (O.taken output.new) }
-    ensures memory { result ≡ 4 → Leaves (IsBroken commands machine no_texts (O.taken output.old) (O.taken output.new)) (I.left input.old) (I.left input.new) (O.taken output.old) (O.taken output.new) }
-    ensures output { result ≡ 5 → IsAccepted (map string_bytes words.now) → Leaves (IsCutOff commands machine no_texts (O.taken output.old) (O.taken output.new)) (I.left input.old) (I.left input.new) (O.taken output.old) (O.taken output.new) }
-    ensures input { result ≡ 6 → Leaves (IsUpTo commands machine no_texts (O.taken output.old) (O.taken output.new)) (I.left input.old) (I.left input.new) (O.taken output.old) (O.taken output.new) }
-    ensures long { result ≡ 10 → Leaves (IsUpToLimit commands machine no_texts (O.taken output.old) (O.taken output.new)) (I.left input.old) (I.left input.new) (O.taken output.old) (O.taken output.new) }
+    // At 2 the tree gives no graph file, or its text is refused by this line.
+    ensures graph_refused { result ≡ 2 → OverRefused (T.files tree.old) (map string_bytes words.now) (λ line. O.taken output.new ≡ appended (O.taken output.old) line) }
+    ensures nothing_served { result ≡ 2 → (input.new ≡ input.old) × (tools.new ≡ tools.old) }
+
+    // The output has exactly the replies to the commands that were read, by the way the session ended. Before the graph is read a run
+    // may end with 4 or 6 and nothing done, and with 5 where the line of 2 could not be written.
+    ensures whole { result ≡ 0 → Over (T.files tree.old) (map string_bytes words.now) (λ g. Leaves (IsWhole commands (machine g (S.told tools.old).answer) (at_first (S.faults tools.old)) (telling (O.taken output.old) (S.told tools.old) (S.faults tools.old)) (telling (O.taken output.new) (S.told tools.new) (S.faults tools.new))) (I.left input.old) (I.left input.new) (O.taken output.old) (O.taken output.new)) }
+    ensures short { result ≡ 1 → Over (T.files tree.old) (map string_bytes words.now) (λ g. Leaves (IsShort commands (machine g (S.told tools.old).answer) (at_first (S.faults tools.old)) (telling (O.taken output.old) (S.told tools.old) (S.faults tools.old)) (telling (O.taken output.new) (S.told tools.new) (S.faults tools.new))) (I.left input.old) (I.left input.new) (O.taken output.old) (O.taken output.new)) }
+    ensures memory { result ≡ 4 → ((input.new ≡ input.old) × (O.taken output.new ≡ O.taken output.old)) ⊎ Over (T.files tree.old) (map string_bytes words.now) (λ g. Leaves (IsBroken commands (machine g (S.told tools.old).answer) (at_first (S.faults tools.old)) (telling (O.taken output.old) (S.told tools.old) (S.faults tools.old)) (telling (O.taken output.new) (S.told tools.new) (S.faults tools.new))) (I.left input.old) (I.left input.new) (O.taken output.old) (O.taken output.new)) }
+    ensures output { result ≡ 5 → IsAccepted (map string_bytes words.now) → OverRefused (T.files tree.old) (map string_bytes words.now) (λ line. IsPartOf line (O.taken output.old) (O.taken output.new)) ⊎ Over (T.files tree.old) (map string_bytes words.now) (λ g. Leaves (IsCutOff commands (machine g (S.told tools.old).answer) (at_first (S.faults tools.old)) (telling (O.taken output.old) (S.told tools.old) (S.faults tools.old)) (telling (O.taken output.new) (S.told tools.new) (S.faults tools.new))) (I.left input.old) (I.left input.new) (O.taken output.old) (O.taken output.new)) }
+    ensures input { result ≡ 6 → (((input.new ≡ input.old) × (O.taken output.new ≡ O.taken output.old)) × Rose (T.faults tree.old) (T.faults tree.new)) ⊎ (Over (T.files tree.old) (map string_bytes words.now) (λ g. Leaves (IsUpTo commands (machine g (S.told tools.old).answer) (at_first (S.faults tools.old)) (telling (O.taken output.old) (S.told tools.old) (S.faults tools.old)) (telling (O.taken output.new) (S.told tools.new) (S.faults tools.new))) (I.left input.old) (I.left input.new) (O.taken output.old) (O.taken output.new)) × Rose (I.faults input.old) (I.faults input.new)) }
+    ensures long { result ≡ 10 → Over (T.files tree.old) (map string_bytes words.now) (λ g. Leaves (IsUpToLimit commands (machine g (S.told tools.old).answer) (at_first (S.faults tools.old)) (telling (O.taken output.old) (S.told tools.old) (S.faults tools.old)) (telling (O.taken output.new) (S.told tools.new) (S.faults tools.new))) (I.left input.old) (I.left input.new) (O.taken output.old) (O.taken output.new)) }
 
     // 0, 1 and 10 are exact against each other.
     ensures not_short { result ≡ 0 → IfSome (I.left input.old) (λ text. (length text < input_limit) × (¬ EndsInside commands text)) }
@@ -77,23 +126,22 @@ pub fn run<I: Source, O: Sink, T: Tree, D: Disk, S: Spawner>(
     // Each fault has its cause.
     ensures later_in { I.faults input.old ≤ I.faults input.new }
     ensures later_out { O.faults output.old ≤ O.faults output.new }
+    ensures later_tree { T.faults tree.old ≤ T.faults tree.new }
     ensures output_failed { result ≡ 5 → Rose (O.faults output.old) (O.faults output.new) }
-    ensures input_failed { result ≡ 6 → Rose (I.faults input.old) (I.faults input.new) }
 
-    // Nothing is read from the tree, kept on the disk or started yet.
-    ensures tree { tree.new ≡ tree.old }
+    // The tree keeps its files, the tools their answers, no tool runs on, and nothing is kept on the disk yet.
+    ensures tree { T.files tree.new ≡ T.files tree.old }
     ensures disk { disk.new ≡ disk.old }
-    ensures tools { tools.new ≡ tools.old }
+    ensures idle { result ≢ 4 → (S.told tools.new).running ≡ [] }
+    ensures tools { ToolsStay (S.told tools.old) (S.faults tools.old) (S.told tools.new) (S.faults tools.new) }
 {
-    if !are_accepted(words) {
-        return refuse_words(output);
-    }
-    match serve_input(alloc, input, output) {
-        Ending::Whole => 0,
-        Ending::CutShort => 1,
-        Ending::Memory => 4,
-        Ending::Output => 5,
-        Ending::Input => 6,
-        Ending::TooLong => 10,
+    let Some(name) = graph_named(words) else {
+        return end_with(output, USAGE, 9);
+    };
+    match open_graph(alloc, tree, name.as_bytes()) {
+        Ok(Opened::Ready(graph)) => serve_graph(alloc, graph, tools, input, output),
+        Ok(Opened::Refused(line)) => end_with(output, line.as_slice(), 2),
+        Err(OpenFault::Tree) => 6,
+        Err(OpenFault::Memory) => 4,
     }
 }

@@ -1,14 +1,16 @@
 // The whole input of a session.
-ghost use Rattle.std.specs.Prelude.{◌≡◌, ◌<◌, ◌≤◌, length, vec_len, take, IfOk, OnErr};
+ghost use Rattle.std.specs.Prelude.{◌≡◌, ◌≢◌, ◌<◌, ◌≤◌, [], length, vec_len, take, IfOk, OnErr};
 ghost use Rattle.odin_outside.specs.Causes.{Rose, HasCause};
 ghost use Rattle.odin_outside.specs.Told.{prepended};
 ghost use Rattle.meaning_run.specs.Endings.{IsSpent};
+ghost use Rattle.odin_shell.specs.Machine.{telling, ToolsStay};
 ghost use Rattle.odin_shell.specs.Sessions.{Left};
 
+use crate::deriver::Deriver;
 use crate::serve::Stop;
 use crate::session::{Finish, Session};
 use object_values::Memory;
-use odin_outside::{Failed, Sink, Source};
+use odin_outside::{Failed, Sink, Source, Spawner};
 use std::alloc::Global;
 
 // How many bytes of an input are read at most.
@@ -51,14 +53,19 @@ fn make_buffer(alloc: Global) -> Result<Vec<u8>, Memory>
 }
 
 // Answers the input piece by piece.
-fn serve_pieces<I: Source, O: Sink>(
+fn serve_pieces<I: Source, O: Sink, S: Spawner>(
     alloc: Global,
+    deriver: &Deriver,
+    tools: &mut S,
     input: &mut I,
     output: &mut O,
     buffer: &mut [u8],
 ) -> Ending
-    requires { 0 < length buffer.old }
-    ensures ends { Left result (I.left input.old) (I.left input.new) (O.taken output.old) (O.taken output.new) }
+    requires some { 0 < length buffer.old }
+    requires idle { (S.told tools.old).running ≡ [] }
+    ensures ends { Left deriver.now result (I.left input.old) (I.left input.new) (telling (O.taken output.old) (S.told tools.old) (S.faults tools.old)) (telling (O.taken output.new) (S.told tools.new) (S.faults tools.new)) }
+    ensures idle { result ≢ Ending.Memory → (S.told tools.new).running ≡ [] }
+    ensures tools { ToolsStay (S.told tools.old) (S.faults tools.old) (S.told tools.new) (S.faults tools.new) }
     ensures later_in { I.faults input.old ≤ I.faults input.new }
     ensures later_out { O.faults output.old ≤ O.faults output.new }
     ensures input { result ≡ Ending.Input → Rose (I.faults input.old) (I.faults input.new) }
@@ -71,14 +78,14 @@ fn serve_pieces<I: Source, O: Sink>(
             return Ending::Input;
         };
         if size == 0 {
-            return match session.finish(alloc, output) {
+            return match session.finish(alloc, deriver, tools, output) {
                 Ok(Finish::Whole) => Ending::Whole,
                 Ok(Finish::CutShort) => Ending::CutShort,
                 Err(Stop::Memory) => Ending::Memory,
                 Err(Stop::Output) => Ending::Output,
             };
         }
-        match session.take_piece(alloc, output, &buffer[..size]) {
+        match session.take_piece(alloc, deriver, tools, output, &buffer[..size]) {
             Ok(()) => count += size,
             Err(Stop::Memory) => return Ending::Memory,
             Err(Stop::Output) => return Ending::Output,
@@ -88,19 +95,24 @@ fn serve_pieces<I: Source, O: Sink>(
 }
 
 /// Answers the input, as far as it may be read.
-pub(crate) fn serve_input<I: Source, O: Sink>(
+pub(crate) fn serve_input<I: Source, O: Sink, S: Spawner>(
     alloc: Global,
+    deriver: &Deriver,
+    tools: &mut S,
     input: &mut I,
     output: &mut O,
 ) -> Ending
-    ensures ends { Left result (I.left input.old) (I.left input.new) (O.taken output.old) (O.taken output.new) }
+    requires idle { (S.told tools.old).running ≡ [] }
+    ensures ends { Left deriver.now result (I.left input.old) (I.left input.new) (telling (O.taken output.old) (S.told tools.old) (S.faults tools.old)) (telling (O.taken output.new) (S.told tools.new) (S.faults tools.new)) }
+    ensures idle { result ≢ Ending.Memory → (S.told tools.new).running ≡ [] }
+    ensures tools { ToolsStay (S.told tools.old) (S.faults tools.old) (S.told tools.new) (S.faults tools.new) }
     ensures later_in { I.faults input.old ≤ I.faults input.new }
     ensures later_out { O.faults output.old ≤ O.faults output.new }
     ensures input { result ≡ Ending.Input → Rose (I.faults input.old) (I.faults input.new) }
     ensures output { result ≡ Ending.Output → Rose (O.faults output.old) (O.faults output.new) }
 {
     match make_buffer(alloc) {
-        Ok(mut buffer) => serve_pieces(alloc, input, output, &mut buffer),
+        Ok(mut buffer) => serve_pieces(alloc, deriver, tools, input, output, &mut buffer),
         Err(_) => Ending::Memory,
     }
 }

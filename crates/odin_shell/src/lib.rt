@@ -2,13 +2,13 @@
 #![tactic(auto)]
 
 mod command;
+mod deriver;
 mod entry;
+mod graph;
 mod input;
 pub mod laws;
 mod line;
-mod object;
 mod pending;
-mod reply;
 mod serve;
 mod session;
 mod write;

@@ -4,15 +4,18 @@ ghost use Rattle.odin_outside.specs.Causes.{Rose};
 ghost use Rattle.object_values.specs.Texts.{no_texts};
 ghost use Rattle.meaning_run.specs.Items.{HasNoLf};
 ghost use Rattle.odin_shell.specs.Commands.{takes};
+ghost use Rattle.meaning_graph.specs.Graphs.{Graph};
 ghost use Rattle.odin_shell.specs.Held.{IsPendingOf};
+ghost use Rattle.odin_shell.specs.Machine.{Told, telling, ToolsStay};
 
 use crate::command::{Command, read_command};
+use crate::deriver::Deriver;
 use crate::line::drop_cr;
 use crate::pending::Pending;
 use crate::serve::{Stop, serve_command};
 use memchr::memchr;
 use object_values::{Bytes, Memory, Sources};
-use odin_outside::Sink;
+use odin_outside::{Sink, Spawner};
 use std::alloc::Global;
 
 // How many bytes of a line are held: more than the longest command and its CR have.
@@ -66,17 +69,22 @@ impl Session {
     }
 
     // Bytes of a text that is put, up to its last one, and how many.
-    fn take_text<O: Sink>(
+    fn take_text<O: Sink, S: Spawner>(
         &mut self,
         alloc: Global,
+        deriver: &Deriver,
+        tools: &mut S,
         output: &mut O,
         mut put: Pending,
         piece: &[u8],
     ) -> Result<usize, Stop>
-        requires { 0 < length piece.now }
-        ensures ok { IfOk result (λ n. Goes (take n piece.now) (O.taken output.old) (record self.old { put = Some put }) (O.taken output.new) self.new) }
+        requires some { 0 < length piece.now }
+        requires idle { (S.told tools.old).running ≡ [] }
+        ensures ok { IfOk result (λ n. Goes deriver.now (take n piece.now) (telling (O.taken output.old) (S.told tools.old) (S.faults tools.old)) (record self.old { put = Some put }) (telling (O.taken output.new) (S.told tools.new) (S.faults tools.new)) self.new) }
         ensures front { IfOk result (λ n. (0 < n) × (n ≤ length piece.now)) }
-        ensures err { IfErr result (λ stop. StopsIn stop piece.now (O.taken output.old) (record self.old { put = Some put }) (O.taken output.new)) }
+        ensures err { IfErr result (λ stop. StopsIn deriver.now stop piece.now (telling (O.taken output.old) (S.told tools.old) (S.faults tools.old)) (record self.old { put = Some put }) (telling (O.taken output.new) (S.told tools.new) (S.faults tools.new))) }
+        ensures idle { ¬ IsErrOf result Stop.Memory → (S.told tools.new).running ≡ [] }
+        ensures tools { ToolsStay (S.told tools.old) (S.faults tools.old) (S.told tools.new) (S.faults tools.new) }
         ensures later { O.faults output.old ≤ O.faults output.new }
         ensures cause { IsErrOf result Stop.Output → Rose (O.faults output.old) (O.faults output.new) }
     {
@@ -91,7 +99,9 @@ impl Session {
         let size = put.text.len();
         serve_command(
             alloc,
+            deriver,
             &mut self.sources,
+            tools,
             output,
             Command::Put(put.name, size as u64),
             put.text,
@@ -103,7 +113,7 @@ impl Session {
     fn hold(&mut self, bytes: &[u8]) -> Result<(), Memory>
         requires no_put { self.old.put ≡ None }
         requires no_lf { HasNoLf bytes.now }
-        ensures ok { OnOk result ((sink : Option (List ℕ)) → Goes bytes.now sink self.old sink self.new) }
+        ensures ok { OnOk result ((g : Graph) (told : Told) → Goes g bytes.now told self.old told self.new) }
         ensures put { self.new.put ≡ self.old.put }
         ensures sources { self.new.sources ≡ self.old.sources }
     {
@@ -112,10 +122,19 @@ impl Session {
     }
 
     // The LF of a line.
-    fn end_line<O: Sink>(&mut self, alloc: Global, output: &mut O) -> Result<(), Stop>
-        requires { self.old.put ≡ None }
-        ensures ok { OnOk result (Goes (10 ∷ []) (O.taken output.old) self.old (O.taken output.new) self.new) }
-        ensures err { IfErr result (λ stop. StopsIn stop (10 ∷ []) (O.taken output.old) self.old (O.taken output.new)) }
+    fn end_line<O: Sink, S: Spawner>(
+        &mut self,
+        alloc: Global,
+        deriver: &Deriver,
+        tools: &mut S,
+        output: &mut O,
+    ) -> Result<(), Stop>
+        requires no_put { self.old.put ≡ None }
+        requires idle { (S.told tools.old).running ≡ [] }
+        ensures ok { OnOk result (Goes deriver.now (10 ∷ []) (telling (O.taken output.old) (S.told tools.old) (S.faults tools.old)) self.old (telling (O.taken output.new) (S.told tools.new) (S.faults tools.new)) self.new) }
+        ensures err { IfErr result (λ stop. StopsIn deriver.now stop (10 ∷ []) (telling (O.taken output.old) (S.told tools.old) (S.faults tools.old)) self.old (telling (O.taken output.new) (S.told tools.new) (S.faults tools.new))) }
+        ensures idle { ¬ IsErrOf result Stop.Memory → (S.told tools.new).running ≡ [] }
+        ensures tools { ToolsStay (S.told tools.old) (S.faults tools.old) (S.told tools.new) (S.faults tools.new) }
         ensures later { O.faults output.old ≤ O.faults output.new }
         ensures cause { IsErrOf result Stop.Output → Rose (O.faults output.old) (O.faults output.new) }
     {
@@ -125,21 +144,34 @@ impl Session {
             self.put = pending_of(alloc, command)?;
             return Ok(());
         }
-        serve_command(alloc, &mut self.sources, output, command, Bytes::new(alloc))
+        serve_command(
+            alloc,
+            deriver,
+            &mut self.sources,
+            tools,
+            output,
+            command,
+            Bytes::new(alloc),
+        )
     }
 
     // Bytes up to the end of a line, or all where no line ends, and how many.
-    fn take_line<O: Sink>(
+    fn take_line<O: Sink, S: Spawner>(
         &mut self,
         alloc: Global,
+        deriver: &Deriver,
+        tools: &mut S,
         output: &mut O,
         piece: &[u8],
     ) -> Result<usize, Stop>
         requires some { 0 < length piece.now }
         requires no_put { self.old.put ≡ None }
-        ensures ok { IfOk result (λ n. Goes (take n piece.now) (O.taken output.old) self.old (O.taken output.new) self.new) }
+        requires idle { (S.told tools.old).running ≡ [] }
+        ensures ok { IfOk result (λ n. Goes deriver.now (take n piece.now) (telling (O.taken output.old) (S.told tools.old) (S.faults tools.old)) self.old (telling (O.taken output.new) (S.told tools.new) (S.faults tools.new)) self.new) }
         ensures front { IfOk result (λ n. (0 < n) × (n ≤ length piece.now)) }
-        ensures err { IfErr result (λ stop. StopsIn stop piece.now (O.taken output.old) self.old (O.taken output.new)) }
+        ensures err { IfErr result (λ stop. StopsIn deriver.now stop piece.now (telling (O.taken output.old) (S.told tools.old) (S.faults tools.old)) self.old (telling (O.taken output.new) (S.told tools.new) (S.faults tools.new))) }
+        ensures idle { ¬ IsErrOf result Stop.Memory → (S.told tools.new).running ≡ [] }
+        ensures tools { ToolsStay (S.told tools.old) (S.faults tools.old) (S.told tools.new) (S.faults tools.new) }
         ensures later { O.faults output.old ≤ O.faults output.new }
         ensures cause { IsErrOf result Stop.Output → Rose (O.faults output.old) (O.faults output.new) }
     {
@@ -148,53 +180,72 @@ impl Session {
             return Ok(piece.len());
         };
         self.hold(&piece[..at])?;
-        self.end_line(alloc, output)?;
+        self.end_line(alloc, deriver, tools, output)?;
         Ok(at + 1)
     }
 
     // The first bytes of a piece, and how many.
-    fn take_front<O: Sink>(
+    fn take_front<O: Sink, S: Spawner>(
         &mut self,
         alloc: Global,
+        deriver: &Deriver,
+        tools: &mut S,
         output: &mut O,
         piece: &[u8],
     ) -> Result<usize, Stop>
-        requires { 0 < length piece.now }
-        ensures ok { IfOk result (λ n. Goes (take n piece.now) (O.taken output.old) self.old (O.taken output.new) self.new) }
+        requires some { 0 < length piece.now }
+        requires idle { (S.told tools.old).running ≡ [] }
+        ensures ok { IfOk result (λ n. Goes deriver.now (take n piece.now) (telling (O.taken output.old) (S.told tools.old) (S.faults tools.old)) self.old (telling (O.taken output.new) (S.told tools.new) (S.faults tools.new)) self.new) }
         ensures front { IfOk result (λ n. (0 < n) × (n ≤ length piece.now)) }
-        ensures err { IfErr result (λ stop. StopsIn stop piece.now (O.taken output.old) self.old (O.taken output.new)) }
+        ensures err { IfErr result (λ stop. StopsIn deriver.now stop piece.now (telling (O.taken output.old) (S.told tools.old) (S.faults tools.old)) self.old (telling (O.taken output.new) (S.told tools.new) (S.faults tools.new))) }
+        ensures idle { ¬ IsErrOf result Stop.Memory → (S.told tools.new).running ≡ [] }
+        ensures tools { ToolsStay (S.told tools.old) (S.faults tools.old) (S.told tools.new) (S.faults tools.new) }
         ensures later { O.faults output.old ≤ O.faults output.new }
         ensures cause { IsErrOf result Stop.Output → Rose (O.faults output.old) (O.faults output.new) }
     {
         match self.put.take() {
-            Some(put) => self.take_text(alloc, output, put, piece),
-            None => self.take_line(alloc, output, piece),
+            Some(put) => self.take_text(alloc, deriver, tools, output, put, piece),
+            None => self.take_line(alloc, deriver, tools, output, piece),
         }
     }
 
     /// Takes the next piece of the input, and answers each command that is whole now.
-    pub(crate) fn take_piece<O: Sink>(
+    pub(crate) fn take_piece<O: Sink, S: Spawner>(
         &mut self,
         alloc: Global,
+        deriver: &Deriver,
+        tools: &mut S,
         output: &mut O,
         piece: &[u8],
     ) -> Result<(), Stop>
-        ensures ok { OnOk result (Goes piece.now (O.taken output.old) self.old (O.taken output.new) self.new) }
-        ensures err { IfErr result (λ stop. StopsIn stop piece.now (O.taken output.old) self.old (O.taken output.new)) }
+        requires idle { (S.told tools.old).running ≡ [] }
+        ensures ok { OnOk result (Goes deriver.now piece.now (telling (O.taken output.old) (S.told tools.old) (S.faults tools.old)) self.old (telling (O.taken output.new) (S.told tools.new) (S.faults tools.new)) self.new) }
+        ensures err { IfErr result (λ stop. StopsIn deriver.now stop piece.now (telling (O.taken output.old) (S.told tools.old) (S.faults tools.old)) self.old (telling (O.taken output.new) (S.told tools.new) (S.faults tools.new))) }
+        ensures idle { ¬ IsErrOf result Stop.Memory → (S.told tools.new).running ≡ [] }
+        ensures tools { ToolsStay (S.told tools.old) (S.faults tools.old) (S.told tools.new) (S.faults tools.new) }
         ensures later { O.faults output.old ≤ O.faults output.new }
         ensures cause { IsErrOf result Stop.Output → Rose (O.faults output.old) (O.faults output.new) }
     {
         let mut at = 0;
         while at < piece.len() {
-            at += self.take_front(alloc, output, &piece[at..])?;
+            at += self.take_front(alloc, deriver, tools, output, &piece[at..])?;
         }
         Ok(())
     }
 
     /// Answers what is held at the end of the input.
-    pub(crate) fn finish<O: Sink>(mut self, alloc: Global, output: &mut O) -> Result<Finish, Stop>
-        ensures ok { IfOk result (λ finish. Ends finish (O.taken output.old) self (O.taken output.new)) }
-        ensures err { IfErr result (λ stop. EndStops stop (O.taken output.old) self (O.taken output.new)) }
+    pub(crate) fn finish<O: Sink, S: Spawner>(
+        mut self,
+        alloc: Global,
+        deriver: &Deriver,
+        tools: &mut S,
+        output: &mut O,
+    ) -> Result<Finish, Stop>
+        requires idle { (S.told tools.old).running ≡ [] }
+        ensures ok { IfOk result (λ finish. Ends deriver.now finish (telling (O.taken output.old) (S.told tools.old) (S.faults tools.old)) self (telling (O.taken output.new) (S.told tools.new) (S.faults tools.new))) }
+        ensures err { IfErr result (λ stop. EndStops deriver.now stop (telling (O.taken output.old) (S.told tools.old) (S.faults tools.old)) self (telling (O.taken output.new) (S.told tools.new) (S.faults tools.new))) }
+        ensures idle { ¬ IsErrOf result Stop.Memory → (S.told tools.new).running ≡ [] }
+        ensures tools { ToolsStay (S.told tools.old) (S.faults tools.old) (S.told tools.new) (S.faults tools.new) }
         ensures later { O.faults output.old ≤ O.faults output.new }
         ensures cause { IsErrOf result Stop.Output → Rose (O.faults output.old) (O.faults output.new) }
     {
@@ -205,7 +256,15 @@ impl Session {
         if command.takes_bytes() {
             return Ok(Finish::CutShort);
         }
-        serve_command(alloc, &mut self.sources, output, command, Bytes::new(alloc))?;
+        serve_command(
+            alloc,
+            deriver,
+            &mut self.sources,
+            tools,
+            output,
+            command,
+            Bytes::new(alloc),
+        )?;
         Ok(Finish::Whole)
     }
 }

@@ -1,4 +1,4 @@
-use Rattle.std.proofs.Common.{refl}
+use Rattle.std.proofs.Common.{refl, arith}
 use Rattle.meaning_run.proofs.EndLemmas.{Leaves-none}
 use Rattle.odin_shell.specs.Commands.{commands}
 use Rattle.odin_shell.specs.Held.{Keeps}
@@ -6,4 +6,4 @@ use Rattle.odin_shell.specs.Machine.{machine}
 use Rattle.odin_shell.proofs.input.serve_input.Goals as goal
 
 pub returns-in-Err-clause-ends : goal.returns-in-Err-clause-ends
-returns-in-Err-clause-ends g c = Leaves-none commands Keeps machine _ _ _ _ refl tt
+returns-in-Err-clause-ends g c = Leaves-none commands Keeps (machine c.args.deriver.now (g.S.Spawner.told c.args.tools.now).answer) _ _ _ _ refl (record { acknowledged = omega arith; furthest = omega arith })

@@ -1,0 +1,100 @@
+-- The graph that a run works by, from what the tree gives of its file, and the last line where there is none.
+use Rattle.std.specs.Prelude.{◌≡◌, ◌≢◌, ℕ, ◌-◌, ◌<◌, ◌≤◌, List, [], ◌++◌, length, take, Option, Some, None, All, slice_get, codes}
+use Rattle.std.specs.Fmt.{decimal}
+use Rattle.object_values.specs.declared.graph.Decl.{Decl}
+use Rattle.object_values.specs.declared.graph.GraphFault.{GraphFault}
+use Rattle.object_values.specs.declared.graph.GraphFault.TheVariants.{UnknownType, DoubleName, SupertypeLoop, WrongKind, TooMany, UnknownParam}
+use Rattle.odin_outside.specs.Files.{Files, IsGiven}
+use Rattle.odin_outside.specs.Told.{appended}
+use Rattle.meaning_texts.specs.Limits.{graph_limit}
+use Rattle.meaning_texts.specs.Lines.{with_lf}
+use Rattle.meaning_graph.specs.Graphs.{Text, Graph}
+use Rattle.meaning_graph_text.specs.Grammar.{GraphText}
+use Rattle.meaning_graph_text.specs.Places.{BeginsOnLine}
+use Rattle.meaning_graph_text.specs.Checks.{Checked}
+use Rattle.dg_reader.specs.declared.fault.ReadFault.{ReadFault}
+use Rattle.dg_reader.specs.declared.fault.ReadFault.TheVariants.{TooLong, Syntax, Check, Memory}
+use Rattle.dg_reader.specs.Files.{Refuses}
+use Rattle.plain_derive.specs.Built.{IsBuilt, IsBuiltGraph}
+use Rattle.odin_shell.specs.declared.graph.Opened.{Opened}
+use Rattle.odin_shell.specs.declared.graph.Opened.TheVariants as opened
+use Rattle.odin_shell.specs.Words.{graph_word}
+
+-- ---- last lines
+
+abbrev pub fault_words : GraphFault → Text
+fault_words UnknownType = codes "unknown type"
+fault_words DoubleName = codes "double name"
+fault_words SupertypeLoop = codes "supertype loop"
+fault_words WrongKind = codes "wrong kind"
+fault_words TooMany = codes "too many"
+fault_words UnknownParam = codes "unknown param"
+
+abbrev pub no_file_line : Text
+no_file_line = with_lf (codes "graph: no file")
+
+abbrev pub at_line : ℕ → Text → Text
+at_line line words = with_lf (codes "graph: line " ++ decimal line ++ codes ": " ++ words)
+
+abbrev pub fault_line : ReadFault → Text
+fault_line TooLong = with_lf (codes "graph: too long")
+fault_line (Syntax line column) = with_lf (codes "graph: line " ++ decimal line ++ codes " column " ++ decimal column ++ codes ": syntax")
+fault_line (Check line fault) = at_line line (fault_words fault)
+fault_line Memory = []
+
+-- less than all of a line stands behind what was written before
+pub record IsPartOf (line : Text) (before after : Option Text) : Type 0 where
+  pub count : ℕ
+  pub proper : count < length line
+  pub is : after ≡ appended before (take count line)
+
+-- ---- graphs
+
+-- This declaration, numbered from 1, is the first one that isn't built yet.
+pub record IsFirstNotBuilt (g : Graph) (number : ℕ) : Type 0 where
+  pub counted : 0 < number
+  pub declaration : Decl
+  pub there : slice_get g (number - 1) ≡ Some declaration
+  pub not_built : ¬ IsBuilt declaration
+  pub before : All IsBuilt (take (number - 1) g)
+
+-- The file is one of a checked graph that derivation is built for.
+pub record ReadsAs (given : Option Text) (g : Graph) : Type 0 where
+  pub text : Text
+  pub there : given ≡ Some text
+  pub short : length text ≤ graph_limit
+  pub spelled : GraphText text g
+  pub checked : Checked g
+  pub built : IsBuiltGraph g
+
+-- The file is refused by this last line.
+pub data IsRefused : Option Text → Text → Type 0 where
+  no_file : IsRefused None no_file_line
+  not_read : (text : Text) (fault : ReadFault) → fault ≢ Memory → Refuses text fault → IsRefused (Some text) (fault_line fault)
+  not_yet : (text : Text) (g : Graph) (number line : ℕ) → length text ≤ graph_limit → GraphText text g → Checked g → IsFirstNotBuilt g number → BeginsOnLine text g number line → IsRefused (Some text) (at_line line (codes "not yet"))
+
+abbrev pub IsOpened : Option Text → Opened → Type 0
+IsOpened given (opened.Ready g) = ReadsAs given g
+IsOpened given (opened.Refused line) = IsRefused given line
+
+-- ---- what the tree gives
+
+-- It holds of the graph that the file of the words is one of, where the tree tells its files, or of some graph.
+pub record Over (files : Option Files) (words : List Text) (P : Graph → Type 0) : Type 0 where
+  pub name : Text
+  pub named : graph_word words ≡ Some name
+  pub given : Option Text
+  pub is_given : IsGiven files name given
+  pub graph : Graph
+  pub reads : ReadsAs given graph
+  pub holds : P graph
+
+-- It holds of the last line by which the file of the words is refused.
+pub record OverRefused (files : Option Files) (words : List Text) (P : Text → Type 0) : Type 0 where
+  pub name : Text
+  pub named : graph_word words ≡ Some name
+  pub given : Option Text
+  pub is_given : IsGiven files name given
+  pub line : Text
+  pub refused : IsRefused given line
+  pub holds : P line

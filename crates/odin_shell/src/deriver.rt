@@ -1,0 +1,81 @@
+// A graph that objects can be derived by, with its paths.
+ghost use Rattle.std.specs.Prelude.{◌≡◌, ◌≤◌, [], IfOk, OnOk};
+ghost use Rattle.plain_derive.specs.Built.{IsBuiltGraph};
+ghost use Rattle.meaning_answers.specs.Answers.{Plan};
+ghost use Rattle.odin_answers.specs.Requests.{request_text};
+ghost use Rattle.odin_answers.specs.Answers.{Replies, IsReply};
+
+use object_values::{Bytes, Memory, Sources};
+use odin_answers::{Request, answer_ask, answer_plan};
+use odin_outside::Spawner;
+use path_planner::Plans;
+use std::alloc::Global;
+use std::marker::Model;
+use type_graph::Graph;
+
+/// A graph that objects can be derived by, with its paths.
+#[derive(Drop)]
+pub(crate) struct Deriver {
+    graph: Graph,
+    plans: Plans,
+}
+
+impl Model for Deriver {
+    ghost use Rattle.std.specs.Prelude.{◌≡◌, List};
+    ghost use Rattle.plain_derive.specs.Built.{IsBuiltGraph};
+    ghost use Rattle.object_values.specs.declared.graph.Decl.{Decl};
+
+    ghost Value = { List Decl };
+
+    ghost view = { λ d. d.graph };
+
+    ghost invariant = { λ d. (d.plans ≡ d.graph) × IsBuiltGraph d.graph };
+}
+
+impl Deriver {
+    pub(crate) fn new(alloc: Global, graph: Graph) -> Result<Self, Memory>
+        requires { IsBuiltGraph graph }
+        ensures { IfOk result (λ deriver. deriver ≡ graph) }
+    {
+        let plans = Plans::new(alloc, &graph)?;
+        Ok(Deriver { graph, plans })
+    }
+
+    /// The reply to a request for an object.
+    pub(crate) fn ask<S: Spawner>(
+        &self,
+        alloc: Global,
+        sources: &Sources,
+        request: &Request,
+        tools: &mut S,
+        out: &mut Bytes,
+    ) -> Result<(), Memory>
+        requires idle { (S.told tools.old).running ≡ [] }
+        ensures ok { OnOk result (Replies (λ reply. IsReply self.now (S.told tools.old).answer sources.now.texts (request_text request.now) reply (S.faults tools.old) (S.faults tools.new)) out.old out.new) }
+        ensures idle { OnOk result ((S.told tools.new).running ≡ []) }
+        ensures answer { (S.told tools.new).answer ≡ (S.told tools.old).answer }
+        ensures later { S.faults tools.old ≤ S.faults tools.new }
+    {
+        answer_ask(
+            alloc,
+            &self.graph,
+            &self.plans,
+            sources,
+            request,
+            tools,
+            out,
+        )
+    }
+
+    /// The reply to a request for the steps to an object.
+    pub(crate) fn plan(
+        &self,
+        alloc: Global,
+        request: &Request,
+        out: &mut Bytes,
+    ) -> Result<(), Memory>
+        ensures { OnOk result (Replies (Plan self.now (request_text request.now)) out.old out.new) }
+    {
+        answer_plan(alloc, &self.graph, &self.plans, request, out)
+    }
+}
