@@ -14,6 +14,15 @@ pub struct JobRaw {
     pub raw: Raw,
 }
 
+impl Copied for JobRaw {
+    fn copy(&self, alloc: Global) -> Result<Self, Memory> {
+        Ok(JobRaw {
+            job: self.job.copy(alloc)?,
+            raw: self.raw.copy(alloc)?,
+        })
+    }
+}
+
 /// What jobs leave: that of the first pair with the job, or the other one where there is none; or what the toy tools make of them.
 #[derive(Debug, PartialEq, Eq, PartialOrd, Ord, Hash, Drop)]
 pub enum Answers {

@@ -50,6 +50,12 @@ impl From<Memory> for NameFault {
     }
 }
 
+impl Copied for NameFault {
+    fn copy(&self, _alloc: Global) -> Result<Self, Memory> {
+        Ok(*self)
+    }
+}
+
 impl Name {
     #[tactic(auto, using(crate::proofs::NameLemmas::named))]
     pub fn read(alloc: Global, text: &[u8]) -> Result<Self, NameFault>

@@ -1,7 +1,7 @@
 // Why a journal refuses.
-use object_values::Memory;
+use object_values::{Copied, Memory};
 use odin_outside::Failed;
-use std::alloc::AllocError;
+use std::alloc::{AllocError, Global};
 
 /// Why a journal refuses: the disk failed; the file isn't a store, and breaks at this offset; a record of this length doesn't fit
 /// behind this end; or want of memory.
@@ -43,5 +43,11 @@ impl From<AllocError> for JournalFault {
 
     fn from(_: AllocError) -> Self {
         JournalFault::Memory
+    }
+}
+
+impl Copied for JournalFault {
+    fn copy(&self, _alloc: Global) -> Result<Self, Memory> {
+        Ok(*self)
     }
 }

@@ -3,7 +3,7 @@ ghost use Rattle.std.specs.Prelude.{◌≡◌, ◌<◌, ◌≤◌, ℕ, length, 
 ghost use Rattle.odin_outside.specs.Causes.{Rose};
 ghost use Rattle.odin_outside.specs.Spawned.{Spawned, IsLeastFree, begun, Ends, Loses};
 
-use object_values::{Job, Memory, Raw};
+use object_values::{Copied, Job, Memory, Raw};
 use std::alloc::Global;
 
 /// Why a child program was not started.
@@ -39,6 +39,18 @@ impl From<Memory> for FinishFault {
 
     fn from(_: Memory) -> Self {
         FinishFault::Memory
+    }
+}
+
+impl Copied for StartFault {
+    fn copy(&self, _alloc: Global) -> Result<Self, Memory> {
+        Ok(*self)
+    }
+}
+
+impl Copied for FinishFault {
+    fn copy(&self, _alloc: Global) -> Result<Self, Memory> {
+        Ok(*self)
     }
 }
 

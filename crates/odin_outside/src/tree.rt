@@ -3,7 +3,7 @@ ghost use Rattle.std.specs.Prelude.{◌≡◌, ◌≤◌, ℕ, Option, IfOk};
 ghost use Rattle.odin_outside.specs.Causes.{Rose};
 ghost use Rattle.odin_outside.specs.Files.{Files, IsGiven};
 
-use object_values::{Bytes, Memory};
+use object_values::{Bytes, Copied, Memory};
 use std::alloc::Global;
 
 /// Why a file was not given.
@@ -21,6 +21,12 @@ impl From<Memory> for TreeFault {
 
     fn from(_: Memory) -> Self {
         TreeFault::Memory
+    }
+}
+
+impl Copied for TreeFault {
+    fn copy(&self, _alloc: Global) -> Result<Self, Memory> {
+        Ok(*self)
     }
 }
 
