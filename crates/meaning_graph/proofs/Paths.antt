@@ -8,11 +8,11 @@ use Rattle.object_values.specs.declared.graph.MakerDecl.{MakerDecl}
 use Rattle.meaning_graph.specs.Members.{IsIn, numbered}
 use Rattle.meaning_graph.specs.Graphs.{Text, Graph, types, makers, type_named}
 use Rattle.meaning_graph.specs.Types.{IsA, itself, by_super, is_a}
-use Rattle.meaning_graph.specs.Routes.{Route, least_route}
+use Rattle.meaning_graph.specs.Routes.{least_route}
 use Rattle.meaning_graph.specs.Paths.{Makes, Path, Chosen, HasNoPath, made_of, maker_edges, chosen_path}
 use Rattle.meaning_graph.proofs.Members.{in_chosen, from_chosen, numbered_in, in_numbered, same_some, cond_true}
 use Rattle.meaning_graph.proofs.Order.{IsLeast, before_chain, not_before_itself}
-use Rattle.meaning_graph.proofs.Routes.{least_of_all}
+use Rattle.meaning_graph.proofs.Routes.{Route, least_of_all}
 use Rattle.meaning_graph.proofs.Types.{numbers, in_below, length-below, super_numbered, is_a_so, so_is_a}
 
 module _ (g : Graph) where

@@ -2,9 +2,14 @@
 use Rattle.std.proofs.Common.{◌≡◌, ℕ, zero, suc, ◌≤◌, ◌<◌, Bool, true, false, List, [], ◌∷◌, ◌++◌, ◌⊎◌, inl, inr, sym, ap, subst, refl, length, arith, length-append}
 use Rattle.std.specs.Prelude.{Option, Some, None, option_map, IsTrue}
 use Rattle.meaning_graph.specs.Members.{IsIn}
-use Rattle.meaning_graph.specs.Routes.{Edges, Route, least_over, least_route}
+use Rattle.meaning_graph.specs.Routes.{Edges, least_over, least_route}
 use Rattle.meaning_graph.proofs.Members.{split_at, in_without, never_both}
 use Rattle.meaning_graph.proofs.Order.{AtMost, IsLeast, least_same, lesser_least, at_most_behind}
+
+-- the labels lead from a to a place that passes the test
+abbrev pub Route : {A : Type 0} → Edges A → (A → Bool) → A → List ℕ → Type 0
+Route out ends a [] = IsTrue (ends a)
+Route {A} out ends a (k ∷ ks) = (c : A) × IsIn (k, c) (out a) × Route out ends c ks
 
 module _ {A : Type 0} (out : Edges A) (ends : A → Bool) where
   -- a route that leaves none but these places

@@ -8,9 +8,9 @@ use Rattle.object_values.specs.declared.graph.TypeDecl.{TypeDecl}
 use Rattle.meaning_graph.specs.Members.{IsIn}
 use Rattle.meaning_graph.specs.Graphs.{Graph, types}
 use Rattle.meaning_graph.specs.Types.{supers, supers_of, IsA, itself, by_super, is_a_within, is_a}
-use Rattle.meaning_graph.specs.Routes.{Edges, Route}
+use Rattle.meaning_graph.specs.Routes.{Edges}
 use Rattle.meaning_graph.proofs.Members.{either_true, left_true, right_true, in_map, from_map, one_passes, passes_one}
-use Rattle.meaning_graph.proofs.Routes.{short_route}
+use Rattle.meaning_graph.proofs.Routes.{Route, short_route}
 
 -- the numbers below n
 abbrev pub below : ℕ → List ℕ

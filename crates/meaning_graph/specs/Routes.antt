@@ -1,19 +1,13 @@
 -- Routes along labelled edges from place to place, and the least one.
-use Rattle.std.specs.Prelude.{◌≡◌, ℕ, zero, suc, Bool, true, false, ◌<◌, ◌⊎◌, List, [], ◌∷◌, length, Option, Some, None, option_map, IsTrue}
+use Rattle.std.specs.Prelude.{◌≡◌, ℕ, zero, suc, Bool, true, false, ◌<◌, ◌⊎◌, List, [], ◌∷◌, length, Option, Some, None, option_map}
 use Rattle.std.specs.declared.cmp.Ordering.{Ordering}
 use Rattle.std.specs.declared.cmp.Ordering.TheVariants.{Less}
 use Rattle.std.specs.Ordering.{nat_cmp, on, then_cmp, match_ordering}
 use Rattle.std.specs.Cmp.Lexicographic.{slice_cmp}
-use Rattle.meaning_graph.specs.Members.{IsIn}
 
 -- the edges out of each place: a label, and the place that it leads to
 abbrev pub Edges : Type 0 → Type 0
 Edges A = A → List (ℕ × A)
-
--- the labels lead from a to a place that passes the test
-abbrev pub Route : {A : Type 0} → Edges A → (A → Bool) → A → List ℕ → Type 0
-Route out ends a [] = IsTrue (ends a)
-Route {A} out ends a (k ∷ ks) = (c : A) × IsIn (k, c) (out a) × Route out ends c ks
 
 -- p has fewer labels than q, or as many and the smaller one at the first difference
 abbrev pub ComesBefore : List ℕ → List ℕ → Type 0
