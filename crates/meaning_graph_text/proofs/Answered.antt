@@ -1,74 +1,20 @@
 -- A text that isn't too long is one of a graph, or has a syntax fault.
-use Rattle.std.proofs.Common.{◌≡◌, ℕ, zero, suc, ◌+◌, ◌<◌, ◌≤◌, Bool, true, false, ◌||◌, List, [], ◌∷◌, ◌++◌, length, Option, Some, None, refl, sym, ap, ◌∙◌, subst, inl, inr, ◌⊎◌, append_assoc, arith, length-append}
-use Rattle.std.specs.Prelude.{nat_eq}
+use Rattle.std.proofs.Common.{◌≡◌, ℕ, zero, suc, ◌+◌, ◌<◌, ◌≤◌, Bool, true, false, ◌||◌, List, [], ◌∷◌, ◌++◌, length, Option, Some, None, refl, sym, ap, ◌∙◌, subst, inl, inr, ◌⊎◌, append_assoc, arith}
 use Rattle.std.specs.Option.{option_and_then}
-use Rattle.std.proofs.lemmas.Bool.{cases_Bool, both_ways, or_from, not_from_false}
+use Rattle.std.proofs.lemmas.Bool.{both_ways}
 use Rattle.object_values.specs.declared.graph.Decl.{Decl}
 use Rattle.meaning_texts.specs.Limits.{graph_limit}
-use Rattle.meaning_graph_text.specs.Tokens.{Token, is_blank, BeginsWith, a_word, a_string, a_semicolon, a_comma, an_opening, a_closing, Tokens, no_more, blank, comment, one, is_past_gap}
+use Rattle.meaning_graph_text.specs.Tokens.{Token, BeginsWith, Tokens, no_more, one, is_past_gap}
 use Rattle.meaning_graph_text.specs.Lexing.{past_gap, Taken, token_at}
 use Rattle.meaning_graph_text.specs.Grammar.{graph_tokens, HasSpelling, GraphText}
 use Rattle.meaning_graph_text.specs.Places.{line_behind, column_behind, IsFrontOfGraph, IsSyntaxFault}
 use Rattle.meaning_graph_text.specs.Going.{Class, Stage, between, kind, supers, super_ids, parts, ending, strings, used_ids, extras, Expected, expect, start, step, run, can_go_on}
-use Rattle.meaning_graph_text.proofs.Lexed.{begins_from, gap_read}
+use Rattle.meaning_graph_text.proofs.Lexed.{begins_from}
+use Rattle.meaning_graph_text.proofs.Readings.{Before, tokens_append, read_before, past_is_past, past_read, gap_shorter, begins_shorter, tokens_short}
 use Rattle.meaning_graph_text.proofs.Runs.{graph_run, run_append}
 use Rattle.meaning_graph_text.proofs.Accepted.{GraphOf}
 use Rattle.meaning_graph_text.proofs.Fronts.{front_from_going, going_from_front, whole_from_run}
 use Rattle.meaning_graph_text.proofs.Samples.{stops_at, no_graph_at, stops_without, no_graph_without}
-
--- ---- readings
-
-tokens_append : (text : List ℕ) (ts : List Token) (mid : List ℕ) (us : List Token) (rest : List ℕ) → Tokens text ts mid → Tokens mid us rest → Tokens text (ts ++ us) rest
-tokens_append text ts mid us rest (no_more end) d = d
-tokens_append text ts mid us rest (blank b more tokens end i c) d = blank b more (tokens ++ us) rest i (tokens_append more tokens end us rest c d)
-tokens_append text ts mid us rest (comment words more tokens end n l c) d = comment words more (tokens ++ us) rest n l (tokens_append more tokens end us rest c d)
-tokens_append text ts mid us rest (one whole t more tokens end b c) d = one whole t more (tokens ++ us) rest b (tokens_append more tokens end us rest c d)
-
--- what stands before the rest of a reading, and how long the parts are
-record Before (text : List ℕ) (count : ℕ) (rest : List ℕ) : Type 0 where
-  front : List ℕ
-  is : text ≡ front ++ rest
-  long : count ≤ length front
-
-begins_before : (text : List ℕ) (t : Token) (rest : List ℕ) → BeginsWith text t rest → Before text 1 rest
-begins_before text t rest (a_word w more i n) = let s : 0 < length w = i.some in record { front = w; is = refl; long = omega arith }
-begins_before text t rest (a_string s more i) = record { front = 34 ∷ (s ++ 34 ∷ []); is = ap (λ x. 34 ∷ x) (sym (append_assoc s (34 ∷ []) more)); long = omega arith }
-begins_before text t rest (a_semicolon more) = record { front = 59 ∷ []; is = refl; long = omega arith }
-begins_before text t rest (a_comma more) = record { front = 44 ∷ []; is = refl; long = omega arith }
-begins_before text t rest (an_opening more) = record { front = 40 ∷ []; is = refl; long = omega arith }
-begins_before text t rest (a_closing more) = record { front = 41 ∷ []; is = refl; long = omega arith }
-
-further : (text mid rest head : List ℕ) (m n k : ℕ) → text ≡ head ++ mid → m ≤ length head → k ≤ m + n → Before mid n rest → Before text k rest
-further text mid rest head m n k e low sum b =
-    let a : length (head ++ b.front) ≡ length head + length b.front = length-append head b.front in
-    let c : n ≤ length b.front = b.long in
-    record { front = head ++ b.front; is = e ∙ ap (λ x. head ++ x) b.is ∙ sym (append_assoc head b.front rest); long = omega arith }
-
-read_before : (text : List ℕ) (ts : List Token) (rest : List ℕ) → Tokens text ts rest → Before text (length ts) rest
-read_before text ts rest (no_more end) = record { front = []; is = refl; long = omega arith }
-read_before text ts rest (blank b more tokens end i d) = further (b ∷ more) more end (b ∷ []) 0 (length tokens) (length tokens) refl (omega arith) (omega arith) (read_before more tokens end d)
-read_before text ts rest (comment words more tokens end n l d) = further (35 ∷ (words ++ more)) more end (35 ∷ words) 0 (length tokens) (length tokens) refl (omega arith) (omega arith) (read_before more tokens end d)
-read_before text ts rest (one whole t more tokens end b d) =
-    let h : Before whole 1 more = begins_before whole t more b in
-    further whole more end h.front 1 (length tokens) (suc (length tokens)) h.is h.long (omega arith) (read_before more tokens end d)
-
-past_is_past : (inside : Bool) (text : List ℕ) → is_past_gap (past_gap inside text) ≡ true
-past_is_past false [] = refl
-past_is_past true [] = refl
-past_is_past false (b ∷ text) = elim (cases_Bool (is_blank b)) [
-  | inl e ↦ rw e (past_is_past false text)
-  | inr e ↦ elim (cases_Bool (nat_eq b 35)) [
-    | inl h ↦ rw (e, h) (past_is_past true text)
-    | inr h ↦ rw (e, h) (not_from_false (is_blank b || nat_eq b 35) (or_from (is_blank b) (nat_eq b 35) e h))
-  ]
-]
-past_is_past true (b ∷ text) = elim (cases_Bool (nat_eq b 10)) [
-  | inl e ↦ rw e (past_is_past false text)
-  | inr e ↦ rw e (past_is_past true text)
-]
-
-past_read : (text : List ℕ) → Tokens text [] (past_gap false text)
-past_read text = gap_read false text [] (past_gap false text) (no_more (past_gap false text))
 
 -- ---- answers
 
@@ -85,16 +31,13 @@ record Reading (text : List ℕ) (ts : List Token) (rest : List ℕ) (e : Expect
 reading_front : (text : List ℕ) (ts : List Token) (rest : List ℕ) (e : Expected) → Reading text ts rest e → IsFrontOfGraph ts
 unfolding can_go_on
 reading_front text ts rest e r =
-    let b : Before text (length ts) rest = read_before text ts rest r.tokens in
-    let a : length (b.front ++ rest) ≡ length b.front + length rest = length-append b.front rest in
-    let l : length text ≡ length (b.front ++ rest) = ap (λ (x : List ℕ). length x) b.is in
-    let c : length ts ≤ length b.front = b.long in
+    let c : length ts + length rest ≤ length text = tokens_short text ts rest r.tokens in
     let low : length text ≤ graph_limit = r.low in
     front_from_going ts (omega arith) (rw r.runs refl)
 
 fault : (text : List ℕ) (ts : List Token) (rest : List ℕ) (e : Expected) → Reading text ts rest e → ((t : Token) (left : List ℕ) → BeginsWith rest t left → IsFrontOfGraph (ts ++ t ∷ []) → ⊥) → ((decls : List Decl) → GraphText text decls → ⊥) → Answer text
 fault text ts rest e r stops none =
-    let b : Before text (length ts) rest = read_before text ts rest r.tokens in
+    let b : Before text rest = read_before text ts rest r.tokens in
     inr (line_behind b.front, column_behind b.front, record { front = b.front; rest = rest; tokens = ts; is = b.is; before = r.tokens; begins = r.past; goes_on = reading_front text ts rest e r; stops = stops; none = none; line_is = refl; column_is = refl })
 
 -- a token that isn't expected goes on to no graph
@@ -133,10 +76,7 @@ inside e f h = cc
 at_end : (text : List ℕ) (ts : List Token) (e : Expected) → Reading text ts [] e → Answer text
 at_end text ts e r = elim (start_or_not e.must e.stage) [
   | inl s ↦
-      let b : Before text (length ts) [] = read_before text ts [] r.tokens in
-      let l : length text ≡ length (b.front ++ []) = ap (λ (x : List ℕ). length x) b.is in
-      let a : length (b.front ++ []) ≡ length b.front + 0 = length-append b.front [] in
-      let c : length ts ≤ length b.front = b.long in
+      let c : length ts + 0 ≤ length text = tokens_short text ts [] r.tokens in
       let low : length text ≤ graph_limit = r.low in
       let g : GraphOf ts = whole_from_run ts (omega arith) (r.runs ∙ ap (λ (x : Expected). Some x) s) in
       inl (g.decls, record { spelled = g.good; tokens = subst (λ x. Tokens text x []) g.is r.tokens })
@@ -158,13 +98,8 @@ onward text ts rest e k f r b s = record {
 -- what is behind a token is shorter
 shorter : (rest : List ℕ) (k : Taken) (n : ℕ) → BeginsWith rest k.token k.rest → length rest ≤ suc n → length (past_gap false k.rest) ≤ n
 shorter rest k n b low =
-    let x : Before rest 1 k.rest = begins_before rest k.token k.rest b in
-    let y : Before k.rest 0 (past_gap false k.rest) = read_before k.rest [] (past_gap false k.rest) (past_read k.rest) in
-    let a : length rest ≡ length (x.front ++ k.rest) = ap (λ (t : List ℕ). length t) x.is in
-    let c : length (x.front ++ k.rest) ≡ length x.front + length k.rest = length-append x.front k.rest in
-    let d : length k.rest ≡ length (y.front ++ past_gap false k.rest) = ap (λ (t : List ℕ). length t) y.is in
-    let e : length (y.front ++ past_gap false k.rest) ≡ length y.front + length (past_gap false k.rest) = length-append y.front (past_gap false k.rest) in
-    let l : 1 ≤ length x.front = x.long in
+    let a : length k.rest < length rest = begins_shorter rest k.token k.rest b in
+    let c : length (past_gap false k.rest) ≤ length k.rest = gap_shorter false k.rest in
     omega arith
 
 by_step : (text : List ℕ) (ts : List Token) (b : ℕ) (rest : List ℕ) (e : Expected) (k : Taken) → Reading text ts (b ∷ rest) e → token_at (b ∷ rest) ≡ Some k → ((f : Expected) → Reading text (ts ++ k.token ∷ []) (past_gap false k.rest) f → Answer text) → (o : Option Expected) → step e.must e.stage k.token ≡ o → Answer text

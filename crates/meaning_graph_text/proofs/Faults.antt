@@ -1,12 +1,15 @@
--- A text is of one list, and has one syntax fault, at most.
-use Rattle.std.proofs.Common.{◌≡◌, ℕ, ◌-◌, List, [], ◌∷◌, ◌++◌, take, refl, sym, ap, ◌∙◌, inl, inr, append_assoc}
-use Rattle.std.proofs.lemmas.List.{append_cancel_right}
+-- A text is of one list, and has one syntax fault, at most; and each declaration begins on one line.
+use Rattle.std.proofs.Common.{◌≡◌, ℕ, ◌-◌, ◌<◌, ◌≤◌, false, List, [], ◌∷◌, ◌++◌, length, take, drop, refl, sym, ap, subst, ◌∙◌, inl, inr, append_assoc}
+use Rattle.std.proofs.lemmas.List.{append_cancel_right, append-nil, take-append-drop}
+use Rattle.std.proofs.lemmas.Grind.{flat_map-append}
 use Rattle.object_values.specs.declared.graph.Decl.{Decl}
-use Rattle.meaning_graph_text.specs.Tokens.{Token}
-use Rattle.meaning_graph_text.specs.Grammar.{graph_tokens, GraphText}
+use Rattle.meaning_graph_text.specs.Tokens.{Token, semicolon, Tokens}
+use Rattle.meaning_graph_text.specs.Lexing.{past_gap}
+use Rattle.meaning_graph_text.specs.Grammar.{decl_tokens, graph_tokens, GraphText}
 use Rattle.meaning_graph_text.specs.Places.{line_behind, column_behind, IsSyntaxFault, BeginsOnLine}
 use Rattle.meaning_graph_text.proofs.Stops.{GoesOn, compared, none_at_end}
 use Rattle.meaning_graph_text.proofs.Decls.{same_decls}
+use Rattle.meaning_graph_text.proofs.Readings.{Cut, tokens_append, tokens_cut, Before, read_before, past_is_past, past_read}
 
 -- ---- one list
 
@@ -44,7 +47,7 @@ one_fault text l c m d f g = elim (compared text f.tokens g.tokens f.rest g.rest
   ]
 ]
 
--- ---- one line of a declaration
+-- ---- the line of a declaration
 
 longer : (ts more : List Token) (t : Token) → ts ≡ ts ++ t ∷ more → ⊥
 longer [] more t e = cc
@@ -61,3 +64,15 @@ one_line text decls number line other f g =
         | inr k ↦ absurd (longer (graph_tokens (take (number - 1) decls)) k.more k.token k.tokens)
       ]
     ]
+
+pub each_begins : (text : List ℕ) (decls : List Decl) (number : ℕ) → GraphText text decls → 0 < number → number ≤ length decls → (line : ℕ) × BeginsOnLine text decls number line
+each_begins text decls number g low high =
+    let front : List Token = graph_tokens (take (number - 1) decls) in
+    let behind : List Token = graph_tokens (drop (number - 1) decls) in
+    let all : graph_tokens decls ≡ front ++ behind =
+    ap graph_tokens (sym (take-append-drop (number - 1) decls)) ∙ flat_map-append (λ d. decl_tokens d ++ semicolon ∷ []) (take (number - 1) decls) (drop (number - 1) decls) in
+    let c : Cut text front behind [] = tokens_cut text front behind [] (subst (λ ts. Tokens text ts []) all g.tokens) in
+    let rest : List ℕ = past_gap false c.mid in
+    let before : Tokens text front rest = subst (λ ts. Tokens text ts rest) (append-nil front) (tokens_append text front c.mid [] rest c.before (past_read c.mid)) in
+    let b : Before text rest = read_before text front rest before in
+    (line_behind b.front, record { front = b.front; rest = rest; counted = (low, high); is = b.is; before = before; begins = past_is_past false c.mid; line_is = refl })

@@ -7,6 +7,7 @@ pub mod Firsts
 pub mod Spellables
 pub mod CheckedGraphs
 pub mod Lexed
+pub mod Readings
 pub mod Samples
 pub mod NoName
 pub mod Named

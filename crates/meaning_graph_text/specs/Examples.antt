@@ -1,6 +1,7 @@
 -- Worked examples of the definitions of graph files.
 use Rattle.std.specs.Prelude.{◌≡◌, ℕ, ◌++◌, List, [], ◌∷◌, Option, Some, None, codes, IsTrue, false}
 use Rattle.object_values.specs.declared.graph.Kind.TheVariants.{Simple, List as ListOf, Compound}
+use Rattle.object_values.specs.declared.graph.Extra.TheVariants.{Also}
 use Rattle.object_values.specs.declared.graph.Make.TheVariants.{Read, Each, Pack}
 use Rattle.object_values.specs.declared.graph.PartDecl.{PartDecl}
 use Rattle.object_values.specs.declared.graph.Decl.{Decl}
@@ -76,6 +77,16 @@ makes to = tool (codes "t") (codes "text") to (codes "ld")
 -- a part with this name
 abbrev pub part_of_text : List ℕ → PartDecl
 part_of_text name = record { name = name; of = codes "text" }
+
+-- each place where a declaration names a type, behind a declaration without a fault
+pub record UnknownTypes : Type 0 where
+  pub supertype : first_fault (simple (codes "a") ∷ declared (codes "b") Simple (codes "zz" ∷ []) ∷ []) ≡ fault_at 2 UnknownType
+  pub element : first_fault (simple (codes "a") ∷ list_of (codes "l") (codes "zz") ∷ []) ≡ fault_at 2 UnknownType
+  pub part : first_fault (simple (codes "a") ∷ declared (codes "k") (Compound (part_of_text (codes "p") ∷ record { name = codes "q"; of = codes "zz" } ∷ [])) [] ∷ []) ≡ fault_at 2 UnknownType
+  pub from : first_fault (simple (codes "a") ∷ tool (codes "t") (codes "zz") (codes "text") (codes "ld") ∷ []) ≡ fault_at 2 UnknownType
+  pub to : first_fault (simple (codes "a") ∷ makes (codes "zz") ∷ []) ≡ fault_at 2 UnknownType
+  pub also : first_fault (simple (codes "a") ∷ tool_with (codes "t") (codes "text") (codes "text") (codes "ld") [] (Also (codes "a") ∷ Also (codes "zz") ∷ []) None ∷ []) ≡ fault_at 2 UnknownType
+  pub closure : first_fault (simple (codes "a") ∷ tool_with (codes "t") (codes "text") (codes "text") (codes "ld") [] [] (Some (codes "zz")) ∷ []) ≡ fault_at 2 UnknownType
 
 -- names that stand twice, in each space and inside a declaration
 pub record DoubleNames : Type 0 where

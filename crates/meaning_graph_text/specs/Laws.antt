@@ -1,5 +1,5 @@
 -- What the laws of graph files say.
-use Rattle.std.specs.Prelude.{◌≡◌, ◌↔◌, ◌⊎◌, ◌≤◌, ℕ, List, Some, length, IsTrue, MatchOption}
+use Rattle.std.specs.Prelude.{◌≡◌, ◌↔◌, ◌⊎◌, ◌<◌, ◌≤◌, ℕ, List, Some, length, IsTrue, MatchOption}
 use Rattle.object_values.specs.declared.graph.Decl.{Decl}
 use Rattle.object_values.specs.declared.graph.GraphFault.{GraphFault}
 use Rattle.meaning_texts.specs.Limits.{graph_limit}
@@ -31,6 +31,10 @@ SyntaxFaultIsOne = (text : List ℕ) (line column m d : ℕ) → IsSyntaxFault t
 -- A declaration begins on one line.
 abbrev pub LineIsOne : Type 0
 LineIsOne = (text : List ℕ) (decls : List Decl) (number line other : ℕ) → BeginsOnLine text decls number line → BeginsOnLine text decls number other → other ≡ line
+
+-- Each declaration of a text begins on a line.
+abbrev pub EachDeclarationBegins : Type 0
+EachDeclarationBegins = (text : List ℕ) (decls : List Decl) (number : ℕ) → GraphText text decls → 0 < number → number ≤ length decls → (line : ℕ) × BeginsOnLine text decls number line
 
 -- The computed first fault is the first one, and there is none exactly where the list is checked.
 abbrev pub FirstFaultIsComputed : Type 0

@@ -1,5 +1,5 @@
 //! Worked examples of the definitions. Each is the contract of a function with an empty body.
-ghost use Rattle.meaning_graph_text.specs.Examples.{CanonicalGraphs, OtherSpellings, SyntaxFaults, CheckedGraphs, FaultsOfGraphs, DoubleNames, WrongKinds, OrderOfFaults};
+ghost use Rattle.meaning_graph_text.specs.Examples.{CanonicalGraphs, OtherSpellings, SyntaxFaults, CheckedGraphs, FaultsOfGraphs, UnknownTypes, DoubleNames, WrongKinds, OrderOfFaults};
 
 /// Graphs and their canonical spellings.
 pub fn canonical_graphs()
@@ -24,6 +24,11 @@ pub fn checked_graphs()
 /// The faults of declarations.
 pub fn faults_of_graphs()
     ensures { FaultsOfGraphs }
+{}
+
+/// Types that are nowhere declared, at each place that names a type.
+pub fn unknown_types()
+    ensures { UnknownTypes }
 {}
 
 /// Names that stand twice.

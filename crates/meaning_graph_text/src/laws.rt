@@ -1,5 +1,5 @@
 //! Laws of graph files. Each is the contract of a function with an empty body.
-ghost use Rattle.meaning_graph_text.specs.Laws.{SpellingIsText, GraphIsOne, SyntaxFaultIsOne, LineIsOne, FirstFaultIsComputed, FirstFaultIsOne, SpellableIsTested, CheckedHasSpelling, NamedIsReachability, GoingIsTested, WholeIsTested, EachTextIsAnswered};
+ghost use Rattle.meaning_graph_text.specs.Laws.{SpellingIsText, GraphIsOne, SyntaxFaultIsOne, LineIsOne, EachDeclarationBegins, FirstFaultIsComputed, FirstFaultIsOne, SpellableIsTested, CheckedHasSpelling, NamedIsReachability, GoingIsTested, WholeIsTested, EachTextIsAnswered};
 
 /// The canonical spelling of a list is a text of it.
 pub fn spelling_is_text()
@@ -19,6 +19,11 @@ pub fn syntax_fault_is_one()
 /// A declaration begins on one line.
 pub fn line_is_one()
     ensures { LineIsOne }
+{}
+
+/// Each declaration of a text begins on a line.
+pub fn each_declaration_begins()
+    ensures { EachDeclarationBegins }
 {}
 
 /// The computed first fault is the first one, and there is none exactly where the list is checked.
