@@ -14,7 +14,8 @@ use Rattle.meaning_graph_text.proofs.Runs.{graph_run, run_append}
 use Rattle.meaning_graph_text.proofs.Fronts.{front_from_going, going_from_front}
 use Rattle.meaning_graph_text.proofs.Samples.{no_graph_at, no_graph_without}
 use Rattle.dg_reader.specs.Walks.{StopsAt, here, behind}
-use Rattle.dg_reader.proofs.TokenLemmas.{tokens_append, takes_cons, tokens_short, past_is_past}
+use Rattle.meaning_graph_text.proofs.Readings.{tokens_append, tokens_short, past_is_past}
+use Rattle.dg_reader.proofs.TokenLemmas.{takes_cons}
 
 -- ---- what stands before the rest of a reading
 

@@ -18,7 +18,7 @@ use Rattle.meaning_graph_text.specs.Checks.{FirstFault}
 use Rattle.meaning_graph_text.proofs.Lexed.{gap_read}
 use Rattle.dg_reader.specs.Reads.{ReadsDecl}
 use Rattle.dg_reader.specs.Files.{BeginsAt, AreRead, IsCheckFault}
-use Rattle.dg_reader.proofs.TokenLemmas.{tokens_append, tokens_short, past_is_past}
+use Rattle.meaning_graph_text.proofs.Readings.{tokens_append, tokens_short, past_is_past}
 use Rattle.dg_reader.proofs.FaultLemmas.{rest_at}
 
 -- ---- one by one

@@ -6,3 +6,4 @@ pub mod DeclLemmas
 pub mod FaultLemmas
 pub mod FileLemmas
 pub mod WriteLemmas
+pub mod RefusalLemmas

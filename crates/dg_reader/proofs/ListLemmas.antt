@@ -13,7 +13,8 @@ use Rattle.meaning_graph_text.specs.Going.{identifier, name_string, Stage, super
 use Rattle.dg_reader.specs.declared.cursor.Wanted.TheVariants.{Id, Word, String, NameString}
 use Rattle.dg_reader.specs.Walks.{Takes, IsNotAt, Finds, Leads}
 use Rattle.dg_reader.specs.Reads.{ReadsIds, ReadsParts, ReadsStrings, ReadsExtras, ReadsSupers, ReadsUses, ReadsClosure}
-use Rattle.dg_reader.proofs.TokenLemmas.{tokens_append, takes_cons, takes_one, tokens_snoc}
+use Rattle.meaning_graph_text.proofs.Readings.{tokens_append}
+use Rattle.dg_reader.proofs.TokenLemmas.{takes_cons, takes_one, tokens_snoc}
 use Rattle.dg_reader.proofs.WalkLemmas.{leads_step, leads_found}
 use Rattle.dg_reader.proofs.StageLemmas.{supers_ending, super_ids_ending, strings_extras, used_ids_extras, extras_ending}
 

@@ -7,6 +7,7 @@ use Rattle.meaning_graph_text.specs.Lexing.{past_gap, Taken, taken, token_at}
 use Rattle.meaning_graph_text.specs.Going.{Class, accepts}
 use Rattle.meaning_graph_text.proofs.Tokens.{begins_told}
 use Rattle.meaning_graph_text.proofs.Lexed.{begins_from, gap_read}
+use Rattle.meaning_graph_text.proofs.Readings.{tokens_append, past_is_past, gap_shorter, begins_shorter}
 use Rattle.dg_reader.specs.declared.cursor.Wanted.{Wanted}
 use Rattle.dg_reader.specs.Walks.{Takes, IsNotAt, HasNone, class_of, token_of, Finds}
 
@@ -32,12 +33,6 @@ has_none_other text behind class u e none = λ t left b. subst (λ x. accepts cl
 
 -- ---- readings
 
-pub tokens_append : (text : List ℕ) (ts : List Token) (mid : List ℕ) (us : List Token) (rest : List ℕ) → Tokens text ts mid → Tokens mid us rest → Tokens text (ts ++ us) rest
-tokens_append text ts mid us rest (no_more end) d = d
-tokens_append text ts mid us rest (blank b more tokens end i c) d = blank b more (tokens ++ us) rest i (tokens_append more tokens end us rest c d)
-tokens_append text ts mid us rest (comment words more tokens end n l c) d = comment words more (tokens ++ us) rest n l (tokens_append more tokens end us rest c d)
-tokens_append text ts mid us rest (one whole t more tokens end b c) d = one whole t more (tokens ++ us) rest b (tokens_append more tokens end us rest c d)
-
 -- a token, and then these
 pub takes_cons : (text : List ℕ) (t : Token) (mid : List ℕ) (ts : List Token) (rest : List ℕ) → Takes text t mid → Tokens mid ts rest → Tokens text (t ∷ ts) rest
 takes_cons text t mid ts rest k d = one text t k.left ts rest k.begins (gap_read false k.left ts rest (subst (λ x. Tokens x ts rest) k.is d))
@@ -51,46 +46,8 @@ tokens_snoc text ts mid t rest d k = tokens_append text ts mid (t ∷ []) rest d
 
 -- ---- gaps and lengths
 
-pub past_is_past : (inside : Bool) (text : List ℕ) → is_past_gap (past_gap inside text) ≡ true
-past_is_past false [] = refl
-past_is_past true [] = refl
-past_is_past false (b ∷ text) = elim (cases_Bool (is_blank b)) [
-  | inl e ↦ rw e (past_is_past false text)
-  | inr e ↦ elim (cases_Bool (nat_eq b 35)) [
-    | inl h ↦ rw (e, h) (past_is_past true text)
-    | inr h ↦ rw (e, h) (not_from_false (is_blank b || nat_eq b 35) (or_from (is_blank b) (nat_eq b 35) e h))
-  ]
-]
-past_is_past true (b ∷ text) = elim (cases_Bool (nat_eq b 10)) [
-  | inl e ↦ rw e (past_is_past false text)
-  | inr e ↦ rw e (past_is_past true text)
-]
-
 pub takes_past : (text : List ℕ) (t : Token) (rest : List ℕ) → Takes text t rest → is_past_gap rest ≡ true
 takes_past text t rest k = subst (λ x. is_past_gap x ≡ true) (sym k.is) (past_is_past false k.left)
-
-gap_shorter : (inside : Bool) (text : List ℕ) → length (past_gap inside text) ≤ length text
-gap_shorter false [] = omega arith
-gap_shorter true [] = omega arith
-gap_shorter false (b ∷ text) = elim (cases_Bool (is_blank b)) [
-  | inl e ↦ rw e (let h = gap_shorter false text in omega arith)
-  | inr e ↦ elim (cases_Bool (nat_eq b 35)) [
-    | inl h ↦ rw (e, h) (let h = gap_shorter true text in omega arith)
-    | inr h ↦ rw (e, h) (omega arith)
-  ]
-]
-gap_shorter true (b ∷ text) = elim (cases_Bool (nat_eq b 10)) [
-  | inl e ↦ rw e (let h = gap_shorter false text in omega arith)
-  | inr e ↦ rw e (let h = gap_shorter true text in omega arith)
-]
-
-begins_shorter : (text : List ℕ) (t : Token) (left : List ℕ) → BeginsWith text t left → length left < length text
-begins_shorter text t left (a_word w more i n) = let s : 0 < length w = i.some in let l = length-append w more in omega arith
-begins_shorter text t left (a_string s more i) = let l = length-append s (34 ∷ more) in omega arith
-begins_shorter text t left (a_semicolon more) = omega arith
-begins_shorter text t left (a_comma more) = omega arith
-begins_shorter text t left (an_opening more) = omega arith
-begins_shorter text t left (a_closing more) = omega arith
 
 pub takes_shorter : (text : List ℕ) (t : Token) (rest : List ℕ) → Takes text t rest → length rest < length text
 takes_shorter text t rest k =
@@ -98,13 +55,6 @@ takes_shorter text t rest k =
     let b : length (past_gap false k.left) ≤ length k.left = gap_shorter false k.left in
     let c = ap length k.is in
     omega arith
-
--- there are no more tokens than bytes
-pub tokens_short : (text : List ℕ) (ts : List Token) (rest : List ℕ) → Tokens text ts rest → length ts + length rest ≤ length text
-tokens_short text ts rest (no_more end) = omega arith
-tokens_short text ts rest (blank b more tokens end i d) = let h = tokens_short more tokens end d in omega arith
-tokens_short text ts rest (comment words more tokens end n l d) = let h = tokens_short more tokens end d in let a = length-append words more in omega arith
-tokens_short text ts rest (one whole t more tokens end b d) = let h = tokens_short more tokens end d in let a = begins_shorter whole t more b in omega arith
 
 -- ---- tokens that are wanted
 

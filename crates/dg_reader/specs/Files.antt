@@ -6,7 +6,7 @@ use Rattle.meaning_texts.specs.Limits.{graph_limit}
 use Rattle.meaning_graph_text.specs.Tokens.{Tokens, is_past_gap}
 use Rattle.meaning_graph_text.specs.Grammar.{graph_tokens, HasSpelling, GraphText}
 use Rattle.meaning_graph_text.specs.Places.{IsSyntaxFault, BeginsOnLine}
-use Rattle.meaning_graph_text.specs.Checks.{FirstFault}
+use Rattle.meaning_graph_text.specs.Checks.{Checked, FirstFault}
 use Rattle.dg_reader.specs.declared.read.GraphFile.{GraphFile}
 use Rattle.dg_reader.specs.declared.fault.ReadFault.{ReadFault}
 use Rattle.dg_reader.specs.declared.fault.ReadFault.TheVariants.{TooLong, Syntax, Check, Memory}
@@ -30,6 +30,12 @@ pub record IsFile (text : List ℕ) (file : GraphFile) : Type 0 where
   pub short : length text ≤ graph_limit
   pub read : AreRead file.graph file.starts text []
   pub spelled : GraphText text file.graph
+
+-- The text is not too long and one of these declarations, which are checked.
+pub record IsRead (text : List ℕ) (decls : List Decl) : Type 0 where
+  pub short : length text ≤ graph_limit
+  pub spelled : GraphText text decls
+  pub checked : Checked decls
 
 -- The text is one of declarations that have this first fault, at a declaration that begins on this line.
 pub record IsCheckFault (text : List ℕ) (line : ℕ) (fault : GraphFault) : Type 0 where

@@ -2,3 +2,4 @@ pub mod Walks
 pub mod Reads
 pub mod Files
 pub mod Written
+pub mod Laws

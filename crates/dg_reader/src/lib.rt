@@ -5,6 +5,7 @@ mod cursor;
 mod decls;
 mod fault;
 mod kinds;
+pub mod laws;
 mod lists;
 mod makers;
 mod read;

@@ -1,9 +1,8 @@
 // A graph file, read and checked.
 ghost use Rattle.std.specs.Prelude.{◌≡◌, ◌≤◌, ◌<◌, ◌-◌, [], ℕ, length, take, slice_index, IfOk, IfErr};
 ghost use Rattle.meaning_texts.specs.Limits.{graph_limit};
-ghost use Rattle.meaning_graph_text.specs.Grammar.{GraphText};
 ghost use Rattle.meaning_graph_text.specs.Places.{line_behind, column_behind, BeginsOnLine};
-ghost use Rattle.dg_reader.specs.Files.{AreRead, IsFile, Refuses};
+ghost use Rattle.dg_reader.specs.Files.{AreRead, IsFile, IsRead, Refuses};
 
 use crate::cursor::{Cursor, Stop};
 use crate::fault::ReadFault;
@@ -57,10 +56,12 @@ pub fn read_graph_file(alloc: Global, text: &[u8]) -> Result<GraphFile, ReadFaul
 
 /// The graph of a graph file.
 pub fn read_graph(alloc: Global, text: &[u8]) -> Result<Graph, ReadFault>
-    ensures ok { IfOk result (λ graph. (length text.now ≤ graph_limit) × GraphText text.now graph) }
+    ensures ok { IfOk result (IsRead text.now) }
     ensures err { IfErr result (Refuses text.now) }
 {
-    Ok(read_graph_file(alloc, text)?.graph)
+    let graph = read_graph_file(alloc, text)?.graph;
+    graph.checked();
+    Ok(graph)
 }
 
 // Declarations, and the places from 0 where they begin.

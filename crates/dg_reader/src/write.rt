@@ -11,11 +11,11 @@ use object_values::{Bytes, Decl, Kind, Make, MakerDecl, Memory, SuffixDecl, Tool
 use std::alloc::Global;
 use type_graph::Graph;
 
-/// The canonical spelling of a graph, which reads back as the same declarations.
+/// The canonical spelling of a graph. It reads back as the same declarations where these are spellable, as those of a read graph
+/// are, and where it has at most 1,048,576 bytes.
 pub fn write_graph(alloc: Global, graph: &Graph) -> Result<Bytes, Memory>
-    requires { IsSpellable graph.now }
     ensures value { IfOk result (λ text. text ≡ graph_spelling graph.now) }
-    ensures reads_back { IfOk result (λ text. GraphText text graph.now) }
+    ensures reads_back { IsSpellable graph.now → IfOk result (λ text. GraphText text graph.now) }
 {
     graph.checked();
     let mut writer = Writer {

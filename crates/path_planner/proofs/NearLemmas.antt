@@ -10,10 +10,9 @@ use Rattle.std.proofs.lemmas.List.{length-replicate, take_at, get_or-set_same, g
 use Rattle.meaning_graph.specs.Members.{IsIn}
 use Rattle.meaning_graph.specs.Graphs.{Graph, types}
 use Rattle.meaning_graph.specs.Types.{IsA, itself, by_super, is_a}
-use Rattle.meaning_graph.specs.Routes.{Route}
 use Rattle.meaning_graph.specs.Paths.{Makes, Path, maker_edges}
 use Rattle.meaning_graph.proofs.Members.{same_some, some_is_none}
-use Rattle.meaning_graph.proofs.Routes.{short_route}
+use Rattle.meaning_graph.proofs.Routes.{Route, short_route}
 use Rattle.meaning_graph.proofs.Types.{numbers, in_below, length-below, super_numbered, is_a_so, so_is_a}
 use Rattle.meaning_graph.proofs.Paths.{named_below, edge_makes, makes_edge}
 use Rattle.path_planner.specs.declared.route.Ends.{Ends}

@@ -1,5 +1,6 @@
 // Why declarations make no graph.
-use object_values::{GraphFault, Memory};
+use object_values::{Copied, GraphFault, Memory};
+use std::alloc::Global;
 
 /// Why declarations make no graph. `Graph` names the declaration by its number, from 1, and its fault.
 #[derive(Clone, Copy, Debug, PartialEq, Eq, PartialOrd, Ord, Hash)]
@@ -16,5 +17,11 @@ impl From<Memory> for CheckFault {
 
     fn from(_: Memory) -> Self {
         CheckFault::Memory
+    }
+}
+
+impl Copied for CheckFault {
+    fn copy(&self, _alloc: Global) -> Result<Self, Memory> {
+        Ok(*self)
     }
 }

@@ -17,6 +17,6 @@ decls-preserved c =
     (c.in_ok-line.ensures.out ∙ ap (λ x. x ++ tokens_spelling (decl_tokens c.decl-item.result ++ semicolon ∷ [])) c.decls.invariant.0 ∙ step, c.in_ok-line.ensures.glued)
 
 pub returns-clause-reads_back : goal.returns-clause-reads_back
-returns-clause-reads_back c =
+returns-clause-reads_back c spellable =
     let all : graph_spelling (take c.decls.decl-index c.decls-decl-items.result.now) ≡ graph_spelling c.args.graph.now = ap graph_spelling (take_all c.decls.decl-index c.decls-decl-items.result.now c.decls-test.false ∙ c.decls-decl-items.ensures) in
-    rw (c.decls.invariant.0, all) (spelled c.args.graph.now (checked_has_spelling c.args.graph.now c.requires c.checked.ensures))
+    rw (c.decls.invariant.0, all) (spelled c.args.graph.now (checked_has_spelling c.args.graph.now spellable c.checked.ensures))
