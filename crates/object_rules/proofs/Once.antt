@@ -126,6 +126,11 @@ behind_none (k ∷ messages) = ap (unlike k) (behind_none messages)
 
 -- ---- up to the limit
 
+-- behind no message all are inherited
+pub inherit_all : (needs own : List Message) → inherit [] (needs ++ own) ≡ inherit needs own
+unfolding inherit
+inherit_all needs own = refl
+
 pub inherits_none : (messages : List Message) → AreFew messages → inherit messages [] ≡ messages
 unfolding inherit
 inherits_none messages few =

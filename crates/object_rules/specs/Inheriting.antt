@@ -1,7 +1,6 @@
 -- Messages that are inherited bit by bit.
-use Rattle.std.specs.Prelude.{◌≡◌, ◌≤◌, List, [], ◌++◌, length}
+use Rattle.std.specs.Prelude.{◌≡◌, ◌≤◌, List, ◌++◌, length}
 use Rattle.std.specs.List.{IsDistinct}
-use Rattle.std.proofs.Common.{refl}
 use Rattle.object_values.specs.declared.messages.Message.{Message}
 use Rattle.object_values.specs.contracts.messages.MessagePartialEq.TheImpl.{ghosts as message_eq}
 use Rattle.meaning_texts.specs.Limits.{message_limit}
@@ -10,11 +9,6 @@ use Rattle.meaning_nodes.specs.Values.{inherit}
 -- what is inherited behind the new messages is what is inherited behind the old ones with these
 abbrev pub Inherits : List Message → List Message → List Message → Type 0
 Inherits old messages new = (more : List Message) → inherit new more ≡ inherit old (messages ++ more)
-
--- behind no message all are inherited
-pub inherit_all : (needs own : List Message) → inherit [] (needs ++ own) ≡ inherit needs own
-unfolding inherit
-inherit_all needs own = refl
 
 -- no more than the limit, and all different
 pub record AreFew (messages : List Message) : Type 0 where

@@ -1,13 +1,13 @@
 -- The calls along a line are those of the derivation of its node.
-use Rattle.std.proofs.Common.{◌≡◌, ◌≢◌, ◌⊎◌, ◌+◌, ◌-◌, ◌<◌, ◌≤◌, ℕ, zero, suc, List, [], ◌∷◌, ◌++◌, inl, inr, sym, ap, ◌∙◌, subst, refl, is_some, length, take, arith, append_assoc, append-nil, flat_map}
+use Rattle.std.proofs.Common.{◌≡◌, ◌≢◌, ◌+◌, ◌-◌, ◌<◌, ◌≤◌, ℕ, zero, suc, List, [], ◌∷◌, ◌++◌, inl, inr, sym, ap, ◌∙◌, subst, refl, is_some, length, take, min, arith}
 use Rattle.std.specs.Prelude.{Option, Some, None, IfSome}
 use Rattle.std.proofs.lemmas.List.{take_all, length-take-le}
-use Rattle.std.proofs.lemmas.Grind.{flat_map-append}
 use Rattle.object_values.specs.declared.nodes.Node.{Node}
 use Rattle.object_values.specs.declared.views.View.{View}
 use Rattle.object_values.specs.declared.calls.Call.{Call}
-use Rattle.odin_outside.specs.declared.events.ToolEvent.{ToolEvent}
-use Rattle.odin_outside.specs.Spawned.{Table}
+use Rattle.odin_outside.specs.declared.events.ToolEvent.TheVariants.{Ended}
+use Rattle.odin_outside.specs.Causes.{last_count}
+use Rattle.odin_outside.specs.Spawned.{Table, Spawned}
 use Rattle.meaning_texts.specs.Limits.{height_limit}
 use Rattle.meaning_graph.specs.Graphs.{Graph}
 use Rattle.meaning_graph.specs.Members.{IsIn}
@@ -23,20 +23,18 @@ use Rattle.meaning_derive.proofs.Steps.{grows_to}
 use Rattle.plain_derive.specs.Built.{IsBuiltGraph}
 use Rattle.plain_derive.specs.Seen.{only}
 use Rattle.plain_derive.specs.Deriving.{HasNoElements}
-use Rattle.plain_derive.specs.Logs.{Log, grown, call_events, events_of, log_of, IsCutAt, HasCalled, HasCut, HasMade, HasBegun}
+use Rattle.plain_derive.specs.Logs.{closed, IsCut, after_call, HasCalled, GivesUp, line_of, AreCalls, no_node, after_calls, HasMade, HasBegun}
 use Rattle.plain_derive.proofs.StepLemmas.{before_front}
 use Rattle.plain_derive.proofs.LineViews.{front, front_fits, only_here, one_need, call_moves}
+use Rattle.plain_derive.proofs.LineNodes.{line_deep, line_got, line_more, line_whole, calls_next, are_without, are_with}
 use Rattle.plain_derive.proofs.DeepLemmas.{base_need}
 
--- ---- logs
-
-pub grown_none : (log : Log) → grown log [] ≡ log
-grown_none None = refl
-grown_none (Some before) = ap Some (append-nil before)
-
-grown_twice : (log : Log) (a b : List ToolEvent) → grown (grown log a) b ≡ grown log (a ++ b)
-grown_twice None a b = refl
-grown_twice (Some before) a b = ap Some (append_assoc before a b)
+-- The calls of the first nodes of the line were made.
+pub record HasMadeFirst (g : Graph) (s : Sources) (table : Table) (n : Node) (count : ℕ) (before now : Spawned) : Type 0 where
+  pub calls : List Call
+  pub are : AreCalls g (derived g s (table_outcomes table)) (take count (line_of n)) calls
+  pub from : (call : Call) → IsIn call calls → IsCallFrom g (derived g s (table_outcomes table)) n call
+  pub now_is : now ≡ after_calls before calls
 
 -- ---- the chain to a front of the node
 
@@ -77,61 +75,114 @@ module _ (g : Graph) (n : Node) (built : IsBuiltGraph g) (fits : Fits g n) where
       let whole : front n (k + i) ≡ n = ap (λ l. record n { steps = l }) (take_all (k + i) n.steps (omega arith)) in
       record { front = r.above; leads = subst (λ m. Chain g seen m (r.above ++ front n i ∷ [])) whole r.chain; short = subst (λ j. j ≤ height_limit) (sym r.many) few }
 
-  -- The call of a front of the node is one of its derivation.
-  pub call_from : (s : Sources) (outcomes : Outcomes) (i : ℕ) (below : View) (call : Call) → i < length n.steps → length n.steps < 64 → derive g s outcomes (suc i) (front n i) ≡ Some below → HasNoElements below
-      → CallOf g (front n (suc i)) (only (front n i) below) (Some call) → IsCallFrom g (derived g s outcomes) n call
-  call_from s outcomes i below call inside few is simple called =
-      let le : suc i ≤ height_limit = omega arith in
-      let base = front_base i inside in
-      let top : derived g s outcomes (base_of (front n (suc i))) ≡ Some below = ap (derived g s outcomes) base ∙ grows_to g s outcomes (suc i) height_limit le (front n i) below is in
-      let here : only (front n i) below (base_of (front n (suc i))) ≡ Some below = ap (only (front n i) below) base ∙ only_here (front n i) below in
-      let f = front_fits g n (suc i) fits in
-      record {
-        node = front n (suc i);
-        met = met (derived g s outcomes) (suc i) (length n.steps - suc i) (omega arith) (omega arith);
-        runs = record {
-          needs = base_of (front n (suc i)) ∷ [];
-          listed = one_need g (front n (suc i)) built f (front_some i inside) (derived g s outcomes) below top simple;
-          known = λ m h. elim h [ inl q ↦ ap is_some (ap (derived g s outcomes) q ∙ top) | inr k ↦ absurd k ];
-          called = call_moves g (front n (suc i)) built f (front_some i inside) (only (front n i) below) (derived g s outcomes) below (Some call) here top simple called;
-        };
-      }
+  -- ---- the call of a front of the node
+
+  module _ (s : Sources) (outcomes : Outcomes) (i : ℕ) (below : View) (inside : i < length n.steps) (few : length n.steps < 64) (is : derive g s outcomes (suc i) (front n i) ≡ Some below) (simple : HasNoElements below) where
+    top : derived g s outcomes (base_of (front n (suc i))) ≡ Some below
+    top = let le : suc i ≤ height_limit = omega (arith, inside, few) in ap (derived g s outcomes) (front_base i inside) ∙ grows_to g s outcomes (suc i) height_limit le (front n i) below is
+
+    -- It is the same under all results of the derivation.
+    pub call_above : (call : Option Call) → CallOf g (front n (suc i)) (only (front n i) below) call → CallOf g (front n (suc i)) (derived g s outcomes) call
+    call_above call called =
+        let here : only (front n i) below (base_of (front n (suc i))) ≡ Some below = ap (only (front n i) below) (front_base i inside) ∙ only_here (front n i) below in
+        call_moves g (front n (suc i)) built (front_fits g n (suc i) fits) (front_some i inside) (only (front n i) below) (derived g s outcomes) below call here top simple called
+
+    -- It is one of the derivation of the node.
+    pub call_from : (call : Call) → CallOf g (front n (suc i)) (only (front n i) below) (Some call) → IsCallFrom g (derived g s outcomes) n call
+    call_from call called = record {
+      node = front n (suc i);
+      met = met (derived g s outcomes) (suc i) (length n.steps - suc i) (omega (arith, inside)) (omega (arith, few));
+      runs = record {
+        needs = base_of (front n (suc i)) ∷ [];
+        listed = one_need g (front n (suc i)) built (front_fits g n (suc i) fits) (front_some i inside) (derived g s outcomes) below top simple;
+        known = λ m h. elim h [ inl q ↦ ap is_some (ap (derived g s outcomes) q ∙ top) | inr k ↦ absurd k ];
+        called = call_above (Some call) called;
+      };
+    }
 
   -- ---- calls that were made
 
   module _ (s : Sources) (table : Table) (i : ℕ) (base node : Node) (below : View) (inside : i < length n.steps) (few : length n.steps < 64) (base_is : base ≡ front n i) (node_is : node ≡ front n (i + 1))
       (simple : HasNoElements below) (is : derive g s (table_outcomes table) (suc i) base ≡ Some below) where
-    here : (call : Call) → CallOf g node (only base below) (Some call) → IsCallFrom g (derived g s (table_outcomes table)) n call
-    here call called =
+    moved : (call : Option Call) → CallOf g node (only base below) call → CallOf g (front n (suc i)) (only (front n i) below) call
+    moved call called =
         let more : i + 1 ≡ suc i = omega arith in
-        let moved : CallOf g (front n (suc i)) (only (front n i) below) (Some call) =
-        subst (λ b. CallOf g (front n (suc i)) (only b below) (Some call)) base_is (subst (λ m. CallOf g m (only base below) (Some call)) (node_is ∙ ap (front n) more) called) in
-        call_from s (table_outcomes table) i below call inside few (ap (derive g s (table_outcomes table) (suc i)) (sym base_is) ∙ is) simple moved
+        subst (λ b. CallOf g (front n (suc i)) (only b below) call) base_is (subst (λ m. CallOf g m (only base below) call) (node_is ∙ ap (front n) more) called)
 
-    pub made_next : (before mid now : Log) → HasMade g s table n before mid → HasCalled g node (only base below) mid now → HasMade g s table n before now
-    made_next before mid now made step = by_call step.call step.called step.log
+    above : (call : Option Call) → CallOf g node (only base below) call → CallOf g (front n (suc i)) (derived g s (table_outcomes table)) call
+    above call called = call_above s (table_outcomes table) i below inside few (ap (derive g s (table_outcomes table) (suc i)) (sym base_is) ∙ is) simple call (moved call called)
+
+    is_from : (call : Call) → CallOf g node (only base below) (Some call) → IsCallFrom g (derived g s (table_outcomes table)) n call
+    is_from call called = call_from s (table_outcomes table) i below inside few (ap (derive g s (table_outcomes table) (suc i)) (sym base_is) ∙ is) simple call (moved (Some call) called)
+
+    pub made_next : (before mid now : Spawned) → HasMadeFirst g s table n i before mid → HasCalled g node (only base below) mid now → HasMadeFirst g s table n (i + 1) before now
+    made_next before mid now made step = by_call step.call step.called step.now_is
       where
-        by_call : (o : Option Call) → CallOf g node (only base below) o → now ≡ grown mid (events_of o) → HasMade g s table n before now
-        by_call None called log = record { calls = made.calls; from = made.from; log = log ∙ grown_none mid ∙ made.log }
-        by_call (Some call) called log = record {
+        by_call : (o : Option Call) → CallOf g node (only base below) o → now ≡ after_call mid o → HasMadeFirst g s table n (i + 1) before now
+        by_call None called now_is = record {
+          calls = made.calls;
+          are = subst (λ nodes. AreCalls g (derived g s (table_outcomes table)) nodes made.calls) (sym (line_more n i few inside)) (are_without g (derived g s (table_outcomes table)) (front n (suc i)) (take i (line_of n)) made.calls (above None called) made.are);
+          from = made.from;
+          now_is = now_is ∙ made.now_is;
+        }
+        by_call (Some call) called now_is = record {
           calls = made.calls ++ call ∷ [];
+          are = subst (λ nodes. AreCalls g (derived g s (table_outcomes table)) nodes (made.calls ++ call ∷ [])) (sym (line_more n i few inside))
+              (are_with g (derived g s (table_outcomes table)) (front n (suc i)) (take i (line_of n)) made.calls call (above (Some call) called) made.are);
           from = λ other h. elim (in_either other made.calls (call ∷ []) h) [
             | inl k ↦ made.from other k
-            | inr k ↦ elim k [ inl q ↦ subst (λ c. IsCallFrom g (derived g s (table_outcomes table)) n c) (sym q) (here call called) | inr none ↦ absurd none ]
+            | inr k ↦ elim k [ inl q ↦ subst (λ c. IsCallFrom g (derived g s (table_outcomes table)) n c) (sym q) (is_from call called) | inr none ↦ absurd none ]
           ];
-          log = log ∙ ap (λ l. grown l (call_events call)) made.log ∙ grown_twice before (log_of made.calls) (call_events call)
-              ∙ ap (grown before) (ap (λ l. log_of made.calls ++ l) (sym (append-nil (call_events call))) ∙ sym (flat_map-append call_events made.calls (call ∷ [])));
+          now_is = now_is ∙ ap (λ b. closed b call (Ended 0)) made.now_is ∙ sym (calls_next before made.calls call);
         }
 
-    pub cut_next : (before mid now : Log) → HasMade g s table n before mid → (now ≡ mid) ⊎ HasCut g node (only base below) mid now → HasBegun g s table n before now
-    cut_next before mid now made (inl same) = record { mid = mid; made = made; cut = inl same }
-    cut_next before mid now made (inr c) = record { mid = mid; made = made; cut = inr (c.call, here c.call c.called, c.cut) }
+    pub cut_next : (before mid now : Spawned) → HasMadeFirst g s table n i before mid → GivesUp g node (only base below) mid now → HasBegun g s table n before now
+    cut_next before mid now made (inl same) = record { count = i; calls = made.calls; are = made.are; from = made.from; cut = inl (same ∙ made.now_is) }
+    cut_next before mid now made (inr c) = record {
+      count = i;
+      calls = made.calls;
+      are = made.are;
+      from = made.from;
+      cut = inr (record {
+        next = front n (suc i);
+        call = c.call;
+        place = line_got n i few inside;
+        called = above (Some c.call) c.called;
+        from = is_from c.call c.called;
+        cut = subst (λ b. IsCut c.call b now) made.now_is c.cut;
+      });
+    }
 
-  pub made_none : (s : Sources) (table : Table) (log : Log) → HasMade g s table n log log
-  made_none s table log = record { calls = []; from = λ call h. absurd h; log = sym (grown_none log) }
+-- ---- before the first step, and behind the last one
 
-  pub begun_none : (s : Sources) (table : Table) (log : Log) → HasBegun g s table n log log
-  begun_none s table log = record { mid = log; made = made_none s table log; cut = inl refl }
+pub made_none : (g : Graph) (s : Sources) (table : Table) (n : Node) (told : Spawned) → HasMadeFirst g s table n 0 told told
+made_none g s table n told = record { calls = []; are = no_node; from = λ call h. absurd h; now_is = refl }
+
+pub begun_none : (g : Graph) (s : Sources) (table : Table) (n : Node) (told : Spawned) → HasBegun g s table n told told
+begun_none g s table n told = record { count = 0; calls = []; are = no_node; from = λ call h. absurd h; cut = inl refl }
+
+pub made_deep : (g : Graph) (s : Sources) (table : Table) (n : Node) (told : Spawned) → 64 ≤ length n.steps → HasMade g s table n told told
+made_deep g s table n told deep = record { calls = []; are = subst (λ nodes. AreCalls g (derived g s (table_outcomes table)) nodes []) (sym (line_deep n deep)) no_node; from = λ call h. absurd h; now_is = refl }
+
+pub made_all : (g : Graph) (s : Sources) (table : Table) (n : Node) (i : ℕ) (before now : Spawned) → length n.steps < 64 → length n.steps ≤ i → HasMadeFirst g s table n i before now → HasMade g s table n before now
+made_all g s table n i before now few all made = record {
+  calls = made.calls;
+  are = subst (λ nodes. AreCalls g (derived g s (table_outcomes table)) nodes made.calls) (line_whole n i few all) made.are;
+  from = made.from;
+  now_is = made.now_is;
+}
+
+-- ---- what is told of the tools, whatever the graph
+
+pub called_few : (g : Graph) (n : Node) (seen : Results) (before now : Spawned) → HasCalled g n seen before now → now.starts ≤ before.starts + 1
+called_few g n seen before now made = by_call made.call made.now_is
+  where
+    closed_few : now.starts ≡ min (before.starts + 1) last_count → now.starts ≤ before.starts + 1
+    closed_few e = omega (arith, e)
+
+    by_call : (o : Option Call) → now ≡ after_call before o → now.starts ≤ before.starts + 1
+    by_call None e = let same : now.starts ≡ before.starts = ap (λ (z : Spawned). z.starts) e in omega (arith, same)
+    by_call (Some call) e = closed_few (ap (λ (z : Spawned). z.starts) e)
 
 pub told_all : {P : Table → Type 0} (answer : Option Table) → ((table : Table) → answer ≡ Some table → P table) → IfSome answer P
 told_all None each = tt

@@ -13,7 +13,7 @@ use Rattle.meaning_graph.specs.Graphs.{Graph}
 use Rattle.meaning_nodes.specs.Nodes.{Fits, base_of, stepped}
 use Rattle.meaning_tasks.specs.Calls.{CallOf}
 use Rattle.meaning_tasks.specs.Settle.{Texts, Settles}
-use Rattle.meaning_derive.specs.Derive.{Sources, text_of, outcome_for, derive}
+use Rattle.meaning_derive.specs.Derive.{Sources, text_of, Outcomes, outcome_for, derive}
 use Rattle.meaning_derive.specs.Given.{table_outcomes}
 use Rattle.meaning_derive.specs.Chains.{IsDeep}
 use Rattle.meaning_derive.specs.Derive.{derived}
@@ -23,7 +23,7 @@ use Rattle.plain_derive.specs.Built.{IsBuiltGraph}
 use Rattle.plain_derive.specs.Seen.{AreSeen, only}
 use Rattle.plain_derive.specs.Deriving.{HasNoElements, IsViewAbove}
 use Rattle.plain_derive.specs.Deep.{bases}
-use Rattle.plain_derive.specs.Founds.{IsFound}
+use Rattle.plain_derive.specs.Founds.{IsFound, IsTooDeep}
 use Rattle.plain_derive.proofs.LineViews.{front, front_next, front_fits, base_stepped, stepped_some, only_here, are_seen, derived_above, settled_none}
 use Rattle.plain_derive.proofs.DeepLemmas.{bases_deep}
 
@@ -68,6 +68,17 @@ next_fits g n base items i s f same below is base_is = subst (Fits g) (sym (next
 pub deep_found : (g : Graph) (s : Sources) (n : Node) (chain : List Node) → IsBuiltGraph g → Fits g n → chain ≡ bases n 64 → 64 ≤ length n.steps → (answer : Option Table) → IfSome answer (λ table. IsFound g s (table_outcomes table) n (Deep chain))
 deep_found g s n chain built f is deep None = tt
 deep_found g s n chain built f is deep (Some table) = subst (IsDeep g (derived g s (table_outcomes table)) n) (sym is) (bases_deep g built (derived g s (table_outcomes table)) n f deep)
+
+-- It is too deep whatever comes of the calls.
+pub deep_always : (g : Graph) (s : Sources) (n : Node) (chain : List Node) → IsBuiltGraph g → Fits g n → chain ≡ bases n 64 → 64 ≤ length n.steps → IsTooDeep g s n (Deep chain)
+deep_always g s n chain built f is deep outcomes = subst (IsDeep g (derived g s outcomes) n) (sym is) (bases_deep g built (derived g s outcomes) n f deep)
+
+-- A source is found whatever comes of the calls.
+pub source_found : (g : Graph) (s : Sources) (n base : Node) (view : View) → base ≡ front n 0 → n.steps ≡ [] → ((outcomes : Outcomes) → derive g s outcomes 1 base ≡ Some view) → (outcomes : Outcomes) → IsFound g s outcomes n (Answer view)
+source_found g s n base view is none each outcomes =
+    let le : 1 ≤ height_limit = omega arith in
+    let whole : base ≡ n = is ∙ ap (λ l. record n { steps = l }) (sym none) in
+    ap (derived g s outcomes) (sym whole) ∙ grows_to g s outcomes 1 height_limit le base view (each outcomes)
 
 pub answer_found : (g : Graph) (s : Sources) (n base : Node) (view : View) (i : ℕ) → base ≡ front n i → length n.steps ≤ i → i < 64 → (answer : Option Table)
     → ((table : Table) → answer ≡ Some table → derive g s (table_outcomes table) (suc i) base ≡ Some view) → IfSome answer (λ table. IsFound g s (table_outcomes table) n (Answer view))

@@ -1,7 +1,9 @@
+pub mod BegunLemmas
 pub mod CallLemmas
 pub mod DeepLemmas
 pub mod FoundLemmas
 pub mod LineNeeds
+pub mod LineNodes
 pub mod LineViews
 pub mod RunLemmas
 pub mod SourceLemmas

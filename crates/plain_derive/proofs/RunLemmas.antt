@@ -1,13 +1,13 @@
 -- One child program that runs alone.
-use Rattle.std.proofs.Common.{◌≡◌, ◌≢◌, ◌⊎◌, ℕ, zero, suc, List, [], ◌∷◌, ◌++◌, inl, inr, sym, ap, ◌∙◌, subst, refl, arith, append_assoc}
-use Rattle.std.specs.Prelude.{Option, Some, None, Result, Ok, Err, OnErr}
+use Rattle.std.proofs.Common.{◌≡◌, ℕ, zero, suc, List, [], ◌∷◌, ◌++◌, inl, inr, sym, ap, ◌∙◌, subst, refl, arith}
+use Rattle.std.specs.Prelude.{Some, Result, Ok, Err, OnErr}
 use Rattle.object_values.specs.declared.calls.Call.{Call}
 use Rattle.object_values.specs.declared.calls.Outcome.{Outcome}
 use Rattle.object_values.specs.declared.jobs.Job.{Job}
 use Rattle.object_values.specs.declared.jobs.Raw.{Raw}
 use Rattle.odin_outside.specs.declared.events.Running.{Running}
 use Rattle.odin_outside.specs.declared.events.ToolEvent.{ToolEvent}
-use Rattle.odin_outside.specs.declared.events.ToolEvent.TheVariants.{Began, Ended, Lost}
+use Rattle.odin_outside.specs.declared.events.ToolEvent.TheVariants.{Ended, Lost}
 use Rattle.odin_outside.specs.declared.spawner.FinishFault.{FinishFault}
 use Rattle.odin_outside.specs.declared.spawner.FinishFault.TheVariants.{Failed, Memory}
 use Rattle.meaning_calls.specs.Jobs.{job_of}
@@ -15,8 +15,7 @@ use Rattle.meaning_calls.specs.Outcomes.{outcome_of}
 use Rattle.meaning_derive.specs.Given.{table_outcomes}
 use Rattle.plain_derive.specs.declared.fault.PlainFault.TheVariants.{Memory as PlainMemory}
 use Rattle.plain_derive.specs.Faults.{of_finish}
-use Rattle.plain_derive.specs.Logs.{Log, grown, call_events, IsCutAt}
-use Rattle.plain_derive.proofs.CallLemmas.{grown_none}
+use Rattle.plain_derive.specs.Logs.{started, closed, IsCut}
 use Rattle.odin_outside.specs.Spawned.{Table, Spawned, IsRunning, IsLeastFree, begun, noted, Stops, Ends, Loses, Leaves}
 
 record IsAlone {A : Type 0} (x y : A) (before after : List A) : Type 0 where
@@ -35,10 +34,9 @@ pub record IsStopped (old : Spawned) (slot ended : ℕ) (job ran : Job) (event :
   pub here : slot ≡ ended
   pub idle : new.running ≡ []
   pub answer : new.answer ≡ old.answer
-  pub log : new.log ≡ noted (noted old.log (Began slot job)) event
 
-pub stopped : (old started new : Spawned) (slot ended : ℕ) (job ran : Job) (event : ToolEvent) → old.running ≡ [] → started ≡ begun old slot job → Stops started ended ran event new → IsStopped old slot ended job ran event new
-stopped old started new slot ended job ran event idle start stops =
+pub stopped : (old mid new : Spawned) (slot ended : ℕ) (job ran : Job) (event : ToolEvent) → old.running ≡ [] → mid ≡ begun old slot job → Stops mid ended ran event new → IsStopped old slot ended job ran event new
+stopped old mid new slot ended job ran event idle start stops =
     let tool : Running = record { slot = slot; job = job } in
     let other : Running = record { slot = ended; job = ran } in
     let one : tool ∷ [] ≡ stops.before ++ other ∷ stops.after = ap (λ l. l ++ tool ∷ []) (sym idle) ∙ sym (ap (λ (z : Spawned). z.running) start) ∙ stops.ran in
@@ -48,19 +46,18 @@ stopped old started new slot ended job ran event idle start stops =
       here = ap (λ (z : Running). z.slot) a.same;
       idle = ap (λ (z : Spawned). z.running) stops.is ∙ ap (λ l. l ++ stops.after) a.first ∙ a.last;
       answer = ap (λ (z : Spawned). z.answer) stops.is ∙ ap (λ (z : Spawned). z.answer) start;
-      log = ap (λ (z : Spawned). z.log) stops.is ∙ ap (λ (z : Spawned). noted z.log event) start;
     }
 
 -- what it left is the answer to its job
-pub left : (old started new : Spawned) (slot ended : ℕ) (job : Job) (raw : Raw) → old.running ≡ [] → started ≡ begun old slot job → Ends started ended raw new → (table : Table) → old.answer ≡ Some table → raw ≡ table job
-left old started new slot ended job raw idle start ends table told =
-    let s = stopped old started new slot ended job ends.job (Ended ended) idle start ends.stops in
-    let answer : started.answer ≡ Some table = ap (λ (z : Spawned). z.answer) start ∙ told in
+pub left : (old mid new : Spawned) (slot ended : ℕ) (job : Job) (raw : Raw) → old.running ≡ [] → mid ≡ begun old slot job → Ends mid ended raw new → (table : Table) → old.answer ≡ Some table → raw ≡ table job
+left old mid new slot ended job raw idle start ends table told =
+    let s = stopped old mid new slot ended job ends.job (Ended ended) idle start ends.stops in
+    let answer : mid.answer ≡ Some table = ap (λ (z : Spawned). z.answer) start ∙ told in
     subst (λ o. Leaves o ends.job raw) answer ends.leaves ∙ ap table (sym s.same)
 
 -- one that was started alone runs
-pub one_runs : (old started : Spawned) (slot : ℕ) (job : Job) → old.running ≡ [] → started ≡ begun old slot job → started.running ≡ (record { slot = slot; job = job }) ∷ []
-one_runs old started slot job idle start = ap (λ (z : Spawned). z.running) start ∙ ap (λ l. l ++ (record { slot = slot; job = job }) ∷ []) idle
+pub one_runs : (old mid : Spawned) (slot : ℕ) (job : Job) → old.running ≡ [] → mid ≡ begun old slot job → mid.running ≡ (record { slot = slot; job = job }) ∷ []
+one_runs old mid slot job idle start = ap (λ (z : Spawned). z.running) start ∙ ap (λ l. l ++ (record { slot = slot; job = job }) ∷ []) idle
 
 -- ---- where the end was not given
 
@@ -68,8 +65,8 @@ one_runs old started slot job idle start = ap (λ (z : Spawned). z.running) star
 abbrev pub IsEnd : FinishFault → FinishFault → Type 0
 IsEnd fault other = ◌≡◌ {A = Result (ℕ × Raw) FinishFault} (Err fault) (Err other)
 
-module _ (old started new : Spawned) (slot : ℕ) (job : Job) (fault : FinishFault) (idle : old.running ≡ []) (start : started ≡ begun old slot job)
-    (lost : (s : ℕ) → IsEnd fault (Failed s) → Loses started s new) (same : IsEnd fault Memory → new ≡ started) where
+module _ (old mid new : Spawned) (slot : ℕ) (job : Job) (fault : FinishFault) (idle : old.running ≡ []) (start : mid ≡ begun old slot job)
+    (lost : (s : ℕ) → IsEnd fault (Failed s) → Loses mid s new) (same : IsEnd fault Memory → new ≡ mid) where
   is_end : {other : FinishFault} → fault ≡ other → IsEnd fault other
   is_end e = ap (λ f. Err f) e
 
@@ -77,7 +74,7 @@ module _ (old started new : Spawned) (slot : ℕ) (job : Job) (fault : FinishFau
   fault_answer = by_fault fault refl
     where
       by_fault : (f : FinishFault) → fault ≡ f → new.answer ≡ old.answer
-      by_fault (Failed s) e = let l = lost s (is_end e) in (stopped old started new slot s job l.job (Lost s) idle start l.stops).answer
+      by_fault (Failed s) e = let l = lost s (is_end e) in (stopped old mid new slot s job l.job (Lost s) idle start l.stops).answer
       by_fault Memory e = ap (λ (z : Spawned). z.answer) (same (is_end e) ∙ start)
 
   -- nothing runs, unless memory was wanting
@@ -85,14 +82,14 @@ module _ (old started new : Spawned) (slot : ℕ) (job : Job) (fault : FinishFau
   fault_idle differs = by_fault fault refl
     where
       by_fault : (f : FinishFault) → fault ≡ f → new.running ≡ []
-      by_fault (Failed s) e = let l = lost s (is_end e) in (stopped old started new slot s job l.job (Lost s) idle start l.stops).idle
+      by_fault (Failed s) e = let l = lost s (is_end e) in (stopped old mid new slot s job l.job (Lost s) idle start l.stops).idle
       by_fault Memory e = absurd (differs (ap of_finish e))
 
 -- the outcome is that of the table
-pub outcome_told : (old started new : Spawned) (slot ended : ℕ) (call : Call) (job : Job) (raw : Raw) (outcome : Outcome) → old.running ≡ [] → started ≡ begun old slot job → Ends started ended raw new → job ≡ job_of call → outcome ≡ outcome_of call raw
+pub outcome_told : (old mid new : Spawned) (slot ended : ℕ) (call : Call) (job : Job) (raw : Raw) (outcome : Outcome) → old.running ≡ [] → mid ≡ begun old slot job → Ends mid ended raw new → job ≡ job_of call → outcome ≡ outcome_of call raw
     → (table : Table) → old.answer ≡ Some table → table_outcomes table call ≡ Some outcome
-outcome_told old started new slot ended call job raw outcome idle start ends job_is is table told =
-    ap Some (sym (is ∙ ap (outcome_of call) (left old started new slot ended job raw idle start ends table told ∙ ap table job_is)))
+outcome_told old mid new slot ended call job raw outcome idle start ends job_is is table told =
+    ap Some (sym (is ∙ ap (outcome_of call) (left old mid new slot ended job raw idle start ends table told ∙ ap table job_is)))
 
 -- ---- what is told of it
 
@@ -104,45 +101,28 @@ pub first_slot : (running : List Running) (slot : ℕ) → running ≡ [] → Is
 first_slot running zero idle free = refl
 first_slot running (suc slot) idle free = let none : IsRunning [] 0 = subst (λ l. IsRunning l 0) idle (free.least 0 (omega arith)) in absurd (no_running 0 none)
 
-noted_is : (log : Log) (event : ToolEvent) → noted log event ≡ grown log (event ∷ [])
-noted_is None event = refl
-noted_is (Some before) event = refl
+module _ (old mid new : Spawned) (slot : ℕ) (job : Job) (call : Call) (idle : old.running ≡ []) (free : IsLeastFree old.running slot) (start : mid ≡ begun old slot job) (job_is : job ≡ job_of call) where
+  started_is : mid ≡ started old call
+  started_is = let first = first_slot old.running slot idle free in start ∙ (λ i. begun old (first i) (job_is i))
 
-noted_twice : (log : Log) (first last : ToolEvent) → noted (noted log first) last ≡ grown log (first ∷ last ∷ [])
-noted_twice None first last = refl
-noted_twice (Some before) first last = ap Some (append_assoc before (first ∷ []) (last ∷ []))
+  -- When it stops, nothing else happens.
+  closed_is : (ended : ℕ) (ran : Job) (event : ToolEvent) → Stops mid ended ran event new → new ≡ closed old call event
+  closed_is ended ran event stops =
+      let s = stopped old mid new slot ended job ran event idle start stops in
+      let none : stops.before ++ stops.after ≡ [] = sym (ap (λ (z : Spawned). z.running) stops.is) ∙ s.idle in
+      stops.is ∙ ap (λ l. record mid { running = l; log = noted mid.log event }) none ∙ ap (λ (z : Spawned). record z { running = []; log = noted z.log event }) started_is
 
-pub cut_none : (log now : Log) (call : Call) → now ≡ log → IsCutAt log call now
-cut_none log now call same = record { events = []; cut = inl refl; log = same ∙ sym (grown_none log) }
+  ended_first : (ended : ℕ) (ran : Job) (event : ToolEvent) → Stops mid ended ran event new → ended ≡ 0
+  ended_first ended ran event stops = let s = stopped old mid new slot ended job ran event idle start stops in sym s.here ∙ first_slot old.running slot idle free
 
-pub cut_whole : (log now : Log) (call : Call) → now ≡ grown log (call_events call) → IsCutAt log call now
-cut_whole log now call made = record { events = call_events call; cut = inr (inr (inr refl)); log = made }
+  pub made_told : (ended : ℕ) (raw : Raw) → Ends mid ended raw new → new ≡ closed old call (Ended 0)
+  made_told ended raw ends = closed_is ended ends.job (Ended ended) ends.stops ∙ ap (λ k. closed old call (Ended k)) (ended_first ended ends.job (Ended ended) ends.stops)
 
-module _ (old started new : Spawned) (slot : ℕ) (job : Job) (call : Call) (idle : old.running ≡ []) (free : IsLeastFree old.running slot) (start : started ≡ begun old slot job) (job_is : job ≡ job_of call) where
-  began_is : Began slot job ≡ Began 0 (job_of call)
-  began_is = let first = first_slot old.running slot idle free in λ i. Began (first i) (job_is i)
-
-  pub made_told : (ended : ℕ) (raw : Raw) → Ends started ended raw new → new.log ≡ grown old.log (call_events call)
-  made_told ended raw ends =
-      let s = stopped old started new slot ended job ends.job (Ended ended) idle start ends.stops in
-      let last : Ended ended ≡ Ended 0 = ap Ended (sym s.here ∙ first_slot old.running slot idle free) in
-      s.log ∙ noted_twice old.log (Began slot job) (Ended ended) ∙ (λ i. grown old.log (began_is i ∷ last i ∷ []))
-
-  pub cut_told : (fault : FinishFault) → ((s : ℕ) → IsEnd fault (Failed s) → Loses started s new) → (IsEnd fault Memory → new ≡ started) → IsCutAt old.log call new.log
+  pub cut_told : (fault : FinishFault) → ((s : ℕ) → IsEnd fault (Failed s) → Loses mid s new) → (IsEnd fault Memory → new ≡ mid) → IsCut call old new
   cut_told (Failed ended) lost same =
       let l = lost ended refl in
-      let s = stopped old started new slot ended job l.job (Lost ended) idle start l.stops in
-      let last : Lost ended ≡ Lost 0 = ap Lost (sym s.here ∙ first_slot old.running slot idle free) in
-      record {
-        events = Began 0 (job_of call) ∷ Lost 0 ∷ [];
-        cut = inr (inr (inl refl));
-        log = s.log ∙ noted_twice old.log (Began slot job) (Lost ended) ∙ (λ i. grown old.log (began_is i ∷ last i ∷ []));
-      }
-  cut_told Memory lost same = record {
-    events = Began 0 (job_of call) ∷ [];
-    cut = inr (inl refl);
-    log = ap (λ (z : Spawned). z.log) (same refl ∙ start) ∙ noted_is old.log (Began slot job) ∙ (λ i. grown old.log (began_is i ∷ []));
-  }
+      inr (inr (inl (closed_is ended l.job (Lost ended) l.stops ∙ ap (λ k. closed old call (Lost k)) (ended_first ended l.job (Lost ended) l.stops))))
+  cut_told Memory lost same = inr (inl (same refl ∙ started_is))
 
 pub on_err : {T E P : Type 0} (r : Result T E) → P → OnErr r P
 on_err (Ok x) p = tt

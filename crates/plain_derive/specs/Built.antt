@@ -23,7 +23,7 @@ IsBuiltMake Pack = ⊥
 abbrev pub IsBuilt : Decl → Type 0
 IsBuilt (ObjectType t) = t.kind ≡ Simple
 IsBuilt (Suffix s) = ⊤
-IsBuilt (Param id) = ⊥
+IsBuilt (Param id) = ⊤
 IsBuilt (Maker m) = IsBuiltMake m.make
 
 abbrev pub IsBuiltGraph : Graph → Type 0

@@ -1,83 +1,106 @@
 -- What is told of the calls that a derivation makes, one after another.
-use Rattle.std.specs.Prelude.{◌≡◌, ◌⊎◌, List, [], ◌∷◌, ◌++◌, Option, Some, None, flat_map}
+use Rattle.std.specs.Prelude.{◌≡◌, ◌⊎◌, ℕ, nat_le, cond, List, [], ◌∷◌, length, take, slice_get, Option, Some, None}
+use Rattle.object_values.specs.declared.nodes.Step.{Step}
 use Rattle.object_values.specs.declared.nodes.Node.{Node}
 use Rattle.object_values.specs.declared.calls.Call.{Call}
 use Rattle.odin_outside.specs.declared.events.ToolEvent.{ToolEvent}
 use Rattle.odin_outside.specs.declared.events.ToolEvent.TheVariants.{Began, Ended, Lost}
-use Rattle.odin_outside.specs.Spawned.{Table}
+use Rattle.odin_outside.specs.Spawned.{Table, Spawned, begun, noted}
+use Rattle.meaning_texts.specs.Limits.{height_limit}
 use Rattle.meaning_calls.specs.Jobs.{job_of}
 use Rattle.meaning_graph.specs.Graphs.{Graph}
 use Rattle.meaning_graph.specs.Members.{IsIn}
+use Rattle.meaning_nodes.specs.Nodes.{stepped}
 use Rattle.meaning_tasks.specs.Needs.{Results}
 use Rattle.meaning_tasks.specs.Calls.{CallOf}
 use Rattle.meaning_derive.specs.Derive.{Sources, derived}
 use Rattle.meaning_derive.specs.Given.{table_outcomes}
 use Rattle.meaning_derive.specs.Calls.{IsCallFrom}
 
--- what happened, where it is told
-abbrev pub Log : Type 0
-Log = Option (List ToolEvent)
+-- ---- one call, made while nothing else runs
 
--- these events behind what happened before
-abbrev pub grown : Log → List ToolEvent → Log
-grown None events = None
-grown (Some before) events = Some (before ++ events)
+-- its job has started in slot 0
+abbrev pub started : Spawned → Call → Spawned
+started before call = begun before 0 (job_of call)
 
--- A call that is made while nothing else runs: its job starts in slot 0, and ends there.
-abbrev pub call_events : Call → List ToolEvent
-call_events call = Began 0 (job_of call) ∷ Ended 0 ∷ []
+-- it has ended there, or its end was lost
+abbrev pub closed : Spawned → Call → ToolEvent → Spawned
+closed before call event = record (started before call) { running = []; log = noted (noted before.log (Began 0 (job_of call))) event }
 
-abbrev pub events_of : Option Call → List ToolEvent
-events_of None = []
-events_of (Some call) = call_events call
+-- The call was given up: before its start, before its end, with a lost end, or after it.
+abbrev pub IsCut : Call → Spawned → Spawned → Type 0
+IsCut call before now = (now ≡ before) ⊎ ((now ≡ started before call) ⊎ ((now ≡ closed before call (Lost 0)) ⊎ (now ≡ closed before call (Ended 0))))
 
--- The events of a call that was given up: before its start, before its end, with a lost end, or after it.
-abbrev pub IsCut : Call → List ToolEvent → Type 0
-IsCut call events = (events ≡ []) ⊎ ((events ≡ Began 0 (job_of call) ∷ []) ⊎ ((events ≡ Began 0 (job_of call) ∷ Lost 0 ∷ []) ⊎ (events ≡ call_events call)))
+-- The call was made, where there is one, and nothing else happened.
+abbrev pub after_call : Spawned → Option Call → Spawned
+after_call before None = before
+after_call before (Some call) = closed before call (Ended 0)
 
--- Of this call such events happened.
-pub record IsCutAt (before : Log) (call : Call) (now : Log) : Type 0 where
-  pub events : List ToolEvent
-  pub cut : IsCut call events
-  pub log : now ≡ grown before events
-
--- What happened of a call, or of none, that gave no outcome.
-abbrev pub CutOff : Log → Option Call → Log → Type 0
-CutOff before None now = ⊥
-CutOff before (Some call) now = IsCutAt before call now
+-- There is a call, and it was given up.
+abbrev pub CutOff : Option Call → Spawned → Spawned → Type 0
+CutOff None before now = ⊥
+CutOff (Some call) before now = IsCut call before now
 
 -- ---- one node
 
 -- The call of the node was made, if it has one.
-pub record HasCalled (g : Graph) (n : Node) (seen : Results) (before now : Log) : Type 0 where
+pub record HasCalled (g : Graph) (n : Node) (seen : Results) (before now : Spawned) : Type 0 where
   pub call : Option Call
   pub called : CallOf g n seen call
-  pub log : now ≡ grown before (events_of call)
+  pub now_is : now ≡ after_call before call
 
 -- The call of the node was given up.
-pub record HasCut (g : Graph) (n : Node) (seen : Results) (before now : Log) : Type 0 where
+pub record HasCut (g : Graph) (n : Node) (seen : Results) (before now : Spawned) : Type 0 where
   pub call : Call
   pub called : CallOf g n seen (Some call)
-  pub cut : IsCutAt before call now
+  pub cut : IsCut call before now
 
 -- Nothing happened, or the call of the node was given up.
-abbrev pub GivesUp : Graph → Node → Results → Log → Log → Type 0
+abbrev pub GivesUp : Graph → Node → Results → Spawned → Spawned → Type 0
 GivesUp g n seen before now = (now ≡ before) ⊎ HasCut g n seen before now
 
 -- ---- a derivation
 
--- the events of calls that are made one after another
-abbrev pub log_of : List Call → List ToolEvent
-log_of calls = flat_map call_events calls
+-- the nodes from here on, one more step each
+abbrev pub nodes_on : Node → List Step → List Node
+nodes_on n [] = []
+nodes_on n (step ∷ steps) = stepped n step ∷ nodes_on (stepped n step) steps
 
--- Calls of the derivation were made, and nothing else happened.
-pub record HasMade (g : Graph) (s : Sources) (table : Table) (n : Node) (before now : Log) : Type 0 where
+-- The nodes that a derivation settles above the source, from the first step on to the node itself; none where the node is too deep.
+abbrev pub line_of : Node → List Node
+line_of n = cond (nat_le height_limit (length n.steps)) [] (nodes_on (record n { steps = [] }) n.steps)
+
+-- The calls of these nodes, in their order, of each that has one.
+pub data AreCalls (g : Graph) (seen : Results) : List Node → List Call → Type 0 where
+  no_node : AreCalls g seen [] []
+  without : (n : Node) (nodes : List Node) (calls : List Call) → CallOf g n seen None → AreCalls g seen nodes calls → AreCalls g seen (n ∷ nodes) calls
+  with_call : (n : Node) (nodes : List Node) (call : Call) (calls : List Call) → CallOf g n seen (Some call) → AreCalls g seen nodes calls → AreCalls g seen (n ∷ nodes) (call ∷ calls)
+
+-- These calls were made, one after another, and nothing else happened.
+abbrev pub after_calls : Spawned → List Call → Spawned
+after_calls before [] = before
+after_calls before (call ∷ calls) = after_calls (closed before call (Ended 0)) calls
+
+-- All calls of the derivation were made, each once, in the order of the steps, and nothing else happened.
+pub record HasMade (g : Graph) (s : Sources) (table : Table) (n : Node) (before now : Spawned) : Type 0 where
   pub calls : List Call
+  pub are : AreCalls g (derived g s (table_outcomes table)) (line_of n) calls
   pub from : (call : Call) → IsIn call calls → IsCallFrom g (derived g s (table_outcomes table)) n call
-  pub log : now ≡ grown before (log_of calls)
+  pub now_is : now ≡ after_calls before calls
 
--- Calls of the derivation were made, and one more may have been given up.
-pub record HasBegun (g : Graph) (s : Sources) (table : Table) (n : Node) (before now : Log) : Type 0 where
-  pub mid : Log
-  pub made : HasMade g s table n before mid
-  pub cut : (now ≡ mid) ⊎ ((call : Call) × IsCallFrom g (derived g s (table_outcomes table)) n call × IsCutAt mid call now)
+-- The call of the next node of the derivation was given up.
+pub record IsNextCut (g : Graph) (seen : Results) (n : Node) (count : ℕ) (before now : Spawned) : Type 0 where
+  pub next : Node
+  pub call : Call
+  pub place : slice_get (line_of n) count ≡ Some next
+  pub called : CallOf g next seen (Some call)
+  pub from : IsCallFrom g seen n call
+  pub cut : IsCut call before now
+
+-- The calls of the first nodes were made, and that of the next one may have been given up.
+pub record HasBegun (g : Graph) (s : Sources) (table : Table) (n : Node) (before now : Spawned) : Type 0 where
+  pub count : ℕ
+  pub calls : List Call
+  pub are : AreCalls g (derived g s (table_outcomes table)) (take count (line_of n)) calls
+  pub from : (call : Call) → IsIn call calls → IsCallFrom g (derived g s (table_outcomes table)) n call
+  pub cut : (now ≡ after_calls before calls) ⊎ IsNextCut g (derived g s (table_outcomes table)) n count (after_calls before calls) now

@@ -1,12 +1,12 @@
 // Derivation of a node from the sources, with nothing kept.
-ghost use Rattle.std.specs.Prelude.{◌≡◌, ◌≢◌, ◌≤◌, [], Some, IfOk, IfSome, OnErr};
+ghost use Rattle.std.specs.Prelude.{◌≡◌, ◌≢◌, ◌<◌, ◌≤◌, ◌+◌, ◌⊎◌, [], length, Some, IfOk, IfSome, OnErr};
 ghost use Rattle.meaning_derive.specs.Derive.{Outcomes, derive};
 ghost use Rattle.meaning_derive.specs.Given.{table_outcomes};
 ghost use Rattle.meaning_nodes.specs.Nodes.{Fits, stepped};
 ghost use Rattle.odin_outside.specs.Causes.{Rose};
 ghost use Rattle.plain_derive.specs.Built.{IsBuiltGraph};
 ghost use Rattle.plain_derive.specs.Deriving.{HasNoElements, IsViewAbove};
-ghost use Rattle.plain_derive.specs.Founds.{IsFound};
+ghost use Rattle.plain_derive.specs.Founds.{IsFound, IsAnswer, IsTooDeep};
 ghost use Rattle.plain_derive.specs.Logs.{HasCalled, GivesUp, HasMade, HasBegun};
 ghost use Rattle.plain_derive.specs.Seen.{only};
 
@@ -39,12 +39,18 @@ pub fn derive_plain<S: Spawner>(
     requires fits { Fits graph.now node.now }
     requires idle { (S.told tools.old).running ≡ [] }
     ensures ok { IfOk result (λ found. IfSome (S.told tools.old).answer (λ table. IsFound graph.now sources.now.texts (table_outcomes table) node.now found)) }
+    ensures source { node.now.steps ≡ [] → IfOk result (λ found. (outcomes : Outcomes) → IsFound graph.now sources.now.texts outcomes node.now found) }
+    ensures deep { 64 ≤ length node.now.steps → IfOk result (IsTooDeep graph.now sources.now.texts node.now) }
+    ensures shallow { length node.now.steps < 64 → IfOk result IsAnswer }
+    ensures untouched { (64 ≤ length node.now.steps) ⊎ (node.now.steps ≡ []) → S.told tools.new ≡ S.told tools.old }
+    ensures few { (S.told tools.new).starts ≤ (S.told tools.old).starts + length node.now.steps }
     ensures idle { result ≢ Err PlainFault.Memory → (S.told tools.new).running ≡ [] }
+    ensures one { length (S.told tools.new).running ≤ 1 }
     ensures answer { (S.told tools.new).answer ≡ (S.told tools.old).answer }
     ensures later { S.faults tools.old ≤ S.faults tools.new }
     ensures cause { result ≡ Err PlainFault.Spawn → Rose (S.faults tools.old) (S.faults tools.new) }
-    ensures made { IfOk result (λ found. IfSome (S.told tools.old).answer (λ table. HasMade graph.now sources.now.texts table node.now (S.told tools.old).log (S.told tools.new).log)) }
-    ensures begun { OnErr result (IfSome (S.told tools.old).answer (λ table. HasBegun graph.now sources.now.texts table node.now (S.told tools.old).log (S.told tools.new).log)) }
+    ensures made { IfOk result (λ found. IfSome (S.told tools.old).answer (λ table. HasMade graph.now sources.now.texts table node.now (S.told tools.old) (S.told tools.new))) }
+    ensures begun { OnErr result (IfSome (S.told tools.old).answer (λ table. HasBegun graph.now sources.now.texts table node.now (S.told tools.old) (S.told tools.new))) }
 {
     if node.steps.len() >= HEIGHT_LIMIT {
         let chain = deep_chain(alloc, node)?;
@@ -100,8 +106,8 @@ fn derive_step<S: Spawner>(
     ensures answer { (S.told tools.new).answer ≡ (S.told tools.old).answer }
     ensures later { S.faults tools.old ≤ S.faults tools.new }
     ensures cause { result ≡ Err PlainFault.Spawn → Rose (S.faults tools.old) (S.faults tools.new) }
-    ensures made { IfOk result (λ derived. HasCalled graph.now derived.node (only base.now.node base.now.view) (S.told tools.old).log (S.told tools.new).log) }
-    ensures cut { OnErr result (GivesUp graph.now (stepped base.now.node step.now) (only base.now.node base.now.view) (S.told tools.old).log (S.told tools.new).log) }
+    ensures made { IfOk result (λ derived. HasCalled graph.now derived.node (only base.now.node base.now.view) (S.told tools.old) (S.told tools.new)) }
+    ensures cut { OnErr result (GivesUp graph.now (stepped base.now.node step.now) (only base.now.node base.now.view) (S.told tools.old) (S.told tools.new)) }
 {
     let node = stepped(alloc, &base.node, step)?;
     let call = call_for(alloc, graph, plans, &node, base)?;

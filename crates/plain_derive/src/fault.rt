@@ -1,6 +1,7 @@
 // Why a node was not derived.
-use object_values::Memory;
+use object_values::{Copied, Memory};
 use odin_outside::{FinishFault, StartFault};
+use std::alloc::Global;
 
 /// Why a node was not derived. `Spawn`: a child program was not started, or its end was lost.
 #[derive(Clone, Copy, Debug, PartialEq, Eq, PartialOrd, Ord, Hash)]
@@ -45,5 +46,11 @@ impl From<FinishFault> for PlainFault {
             FinishFault::Failed(_) => PlainFault::Spawn,
             FinishFault::Memory => PlainFault::Memory,
         }
+    }
+}
+
+impl Copied for PlainFault {
+    fn copy(&self, _alloc: Global) -> Result<Self, Memory> {
+        Ok(*self)
     }
 }

@@ -18,5 +18,6 @@ pub use derivation::derive_plain;
 pub use fault::PlainFault;
 pub use found::Found;
 pub use needing::needs;
+pub use node_names::{label_of, node_text};
 pub use results::Results;
 pub use settling::settle;

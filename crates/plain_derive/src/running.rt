@@ -3,9 +3,10 @@ ghost use Rattle.std.specs.Prelude.{◌≡◌, ◌≢◌, ◌≤◌, [], Some, I
 ghost use Rattle.meaning_calls.specs.Outcomes.{Fits};
 ghost use Rattle.meaning_derive.specs.Derive.{outcome_for};
 ghost use Rattle.meaning_derive.specs.Given.{table_outcomes};
+ghost use Rattle.odin_outside.specs.declared.events.ToolEvent.TheVariants.{Ended};
 ghost use Rattle.odin_outside.specs.Causes.{Rose};
 ghost use Rattle.odin_outside.specs.Spawned.{Table};
-ghost use Rattle.plain_derive.specs.Logs.{grown, call_events, events_of, IsCutAt, CutOff};
+ghost use Rattle.plain_derive.specs.Logs.{closed, after_call, IsCut, CutOff};
 ghost use Rattle.plain_derive.specs.Seen.{FitsCall};
 
 use crate::fault::PlainFault;
@@ -23,8 +24,8 @@ fn run_call<S: Spawner>(alloc: Global, call: &Call, tools: &mut S) -> Result<Out
     ensures answer { (S.told tools.new).answer ≡ (S.told tools.old).answer }
     ensures later { S.faults tools.old ≤ S.faults tools.new }
     ensures cause { result ≡ Err PlainFault.Spawn → Rose (S.faults tools.old) (S.faults tools.new) }
-    ensures made { IfOk result (λ outcome. (S.told tools.new).log ≡ grown (S.told tools.old).log (call_events call.now)) }
-    ensures cut { OnErr result (IsCutAt (S.told tools.old).log call.now (S.told tools.new).log) }
+    ensures made { IfOk result (λ outcome. S.told tools.new ≡ closed (S.told tools.old) call.now (Ended 0)) }
+    ensures cut { OnErr result (IsCut call.now (S.told tools.old) (S.told tools.new)) }
 {
     let job = job_of(alloc, call)?;
     tools.start(alloc, &job)?;
@@ -46,8 +47,8 @@ pub(crate) fn run_if_called<S: Spawner>(
     ensures answer { (S.told tools.new).answer ≡ (S.told tools.old).answer }
     ensures later { S.faults tools.old ≤ S.faults tools.new }
     ensures cause { result ≡ Err PlainFault.Spawn → Rose (S.faults tools.old) (S.faults tools.new) }
-    ensures made { IfOk result (λ outcome. (S.told tools.new).log ≡ grown (S.told tools.old).log (events_of call.now)) }
-    ensures cut { OnErr result (CutOff (S.told tools.old).log call.now (S.told tools.new).log) }
+    ensures made { IfOk result (λ outcome. S.told tools.new ≡ after_call (S.told tools.old) call.now) }
+    ensures cut { OnErr result (CutOff call.now (S.told tools.old) (S.told tools.new)) }
 {
     match call {
         None => Ok(None),

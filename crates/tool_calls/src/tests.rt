@@ -282,6 +282,7 @@ fn outputs_have_a_longest_length(rt: HostRuntime) -> Result<(), Fail> {
     let call = call_of(alloc, b"cc", b"o")?;
     let outcome = outcome_of(alloc, &call, &long_output(alloc, 16_777_216)?)?;
     assert_eq!(rt; outcome.status, Status::Ok);
+    assert_eq!(rt; outcome.outputs.len(), 1);
     if let [output] = outcome.outputs.as_slice() {
         assert_eq!(rt; output.body.len(), 16_777_216);
     }

@@ -1,8 +1,7 @@
-use Rattle.std.proofs.Common.{◌∙◌, refl, ap}
+use Rattle.std.proofs.Common.{◌∙◌, inl, inr, refl, ap}
 use Rattle.std.specs.Prelude.{Err}
 use Rattle.std.proofs.lemmas.Result.{err_from_is_err_and}
-use Rattle.plain_derive.proofs.RunLemmas.{fault_answer, fault_idle, outcome_told, cut_none, cut_whole, cut_told, made_told, on_err}
-use Rattle.odin_outside.specs.Spawned.{Spawned}
+use Rattle.plain_derive.proofs.RunLemmas.{fault_answer, fault_idle, outcome_told, cut_told, made_told, on_err}
 use Rattle.plain_derive.proofs.running.run_call.Goals as goal
 
 pub returns-in_err-raw-clause-idle : goal.returns-in_err-raw-clause-idle
@@ -17,10 +16,10 @@ pub returns-clause-outcome : goal.returns-clause-outcome
 returns-clause-outcome g c = outcome_told _ _ _ _ _ _ _ _ _ c.requires c.in_ok-start.ensures.ok c.in_ok-raw.ensures.ok c.in_ok-job.ensures c.in_ok-outcome.ensures.is
 
 pub returns-in_err-job-clause-cut : goal.returns-in_err-job-clause-cut
-returns-in_err-job-clause-cut g c = on_err _ (cut_none _ _ _ refl)
+returns-in_err-job-clause-cut g c = on_err _ (inl refl)
 
 pub returns-in_err-start-clause-cut : goal.returns-in_err-start-clause-cut
-returns-in_err-start-clause-cut g c = on_err _ (cut_none _ _ _ (ap (λ (z : Spawned). z.log) c.in_err-start.ensures.err))
+returns-in_err-start-clause-cut g c = on_err _ (inl c.in_err-start.ensures.err)
 
 pub returns-in_err-raw-clause-cut : goal.returns-in_err-raw-clause-cut
 returns-in_err-raw-clause-cut g c =
@@ -28,7 +27,7 @@ returns-in_err-raw-clause-cut g c =
 
 pub returns-in_err-outcome-clause-cut : goal.returns-in_err-outcome-clause-cut
 returns-in_err-outcome-clause-cut g c =
-    on_err _ (cut_whole _ _ _ (made_told _ _ _ _ _ _ c.requires c.in_ok-start.ensures.slot c.in_ok-start.ensures.ok c.in_ok-job.ensures _ _ c.in_ok-raw.ensures.ok))
+    on_err _ (inr (inr (inr (made_told _ _ _ _ _ _ c.requires c.in_ok-start.ensures.slot c.in_ok-start.ensures.ok c.in_ok-job.ensures _ _ c.in_ok-raw.ensures.ok))))
 
 pub returns-clause-made : goal.returns-clause-made
 returns-clause-made g c = made_told _ _ _ _ _ _ c.requires c.in_ok-start.ensures.slot c.in_ok-start.ensures.ok c.in_ok-job.ensures _ _ c.in_ok-raw.ensures.ok
