@@ -56,11 +56,13 @@ module _ {Command Held Code State Told : Type 0} (lang : Language Command) (Keep
       record { read = r.text; bytes = read_end input left left' r.text buffer n r.bytes is none; output = w.0; wrote = w.1; is = w.2 }
 
   -- it stopped on a piece
-  pub Leaves-piece : (halt : Halt) (first : State) (start told after : Told) (input left left' : Option (List ℕ)) (count : ℕ) (code : Code) (held : Held) (piece : List ℕ)
-      → streams.Reading lang Keeps m first start input left count told code held → left ≡ prepended piece left' → streams.StopsOn lang Keeps m halt piece told code held after
+  pub Leaves-piece : (halt : Halt) (first : State) (start told after : Told) (input left left' : Option (List ℕ)) (count n : ℕ) (code : Code) (held : Held) (piece : List ℕ)
+      → streams.Reading lang Keeps m first start input left count told code held → left ≡ prepended piece left' → length piece ≡ n → count + n ≤ input_limit → streams.StopsOn lang Keeps m halt piece told code held after
       → Leaves (endings.IsStopped lang m halt first start after) input left' (m.taken start) (m.taken after)
-  Leaves-piece halt first start told after input left left' count code held piece r is stops =
-      let w = stops first start r.text [] left' r.so_far in
+  Leaves-piece halt first start told after input left left' count n code held piece r is few within stops =
+      let size = r.size in
+      let all : length (r.text ++ (piece ++ [])) ≤ input_limit = subst (λ t. length (r.text ++ t) ≤ input_limit) (sym (nil_right piece)) (omega (arith, length-append r.text piece)) in
+      let w = stops first start r.text [] left' all r.so_far in
       record {
         read = r.text ++ piece;
         bytes = r.bytes ∙ ap (prepended r.text) is ∙ prepended-prepended r.text piece left';
@@ -77,36 +79,45 @@ module _ {Command Held Code State Told : Type 0} (lang : Language Command) (Keep
     bytes = prepended_none left;
     output = [];
     wrote = same ∙ appended_none (m.taken start);
-    is = record { served = []; rest = []; cuts = refl; on = tt; replies = []; state = first; run = refl; furthest = first; may = inl refl; is = refl; kept = kept };
+    is = record { served = []; rest = []; cuts = refl; on = tt; replies = []; state = first; run = refl; furthest = first; may = inl refl; is = refl; kept = kept; within = omega arith };
   }
 
   -- what is promised between two commands is promised at an exit, and what the session holds is less than an item
   module _ (rests : (first : State) (start : Told) (code : Code) (state : State) (told : Told) → m.Fits first start code state told → m.Kept first start state state told)
       (less : (held : Held) (part : List ℕ) → Keeps held part → items.IsPart lang part) where
-    up_to : (first : State) (start now : Told) (text : List ℕ) (left : Option (List ℕ)) (code : Code) (held : Held) (s : streams.SoFar lang Keeps m first start text now code held)
+    up_to : (first : State) (start now : Told) (text : List ℕ) (left : Option (List ℕ)) (code : Code) (held : Held) → length text ≤ input_limit → (s : streams.SoFar lang Keeps m first start text now code held)
         → endings.IsUpTo lang m first start now text left (concat s.replies)
-    up_to first start now text left code held s = record {
+    up_to first start now text left code held within s = record {
       served = s.served;
       part = s.part;
       cuts = s.cuts;
       on = s.on;
       less = less held s.part s.keeps;
       replied = stream.replied lang Keeps m rests first start now text code held s;
+      within = within;
     }
 
     -- the next read failed, and left the input as it was
     pub Leaves-failed : (first : State) (start now : Told) (input left left' : Option (List ℕ)) (count : ℕ) (code : Code) (held : Held)
-        → streams.Reading lang Keeps m first start input left count now code held → left' ≡ left → Leaves (endings.IsUpTo lang m first start now) input left' (m.taken start) (m.taken now)
-    Leaves-failed first start now input left left' count code held r same =
+        → streams.Reading lang Keeps m first start input left count now code held → count < input_limit → left' ≡ left → Leaves (endings.IsFailed lang m first start now) input left' (m.taken start) (m.taken now)
+    Leaves-failed first start now input left left' count code held r small same =
         let s = r.so_far in
-        record { read = r.text; bytes = r.bytes ∙ ap (prepended r.text) (sym same); output = concat s.replies; wrote = s.wrote; is = up_to first start now r.text left' code held s }
+        let size = r.size in
+        record {
+          read = r.text;
+          bytes = r.bytes ∙ ap (prepended r.text) (sym same);
+          output = concat s.replies;
+          wrote = s.wrote;
+          is = record { up_to = up_to first start now r.text left' code held (omega arith) s; short = omega arith };
+        }
 
     -- as many bytes were read as may be
     pub Leaves-limit : (first : State) (start now : Told) (input left : Option (List ℕ)) (code : Code) (held : Held)
         → streams.Reading lang Keeps m first start input left input_limit now code held → Leaves (endings.IsUpToLimit lang m first start now) input left (m.taken start) (m.taken now)
     Leaves-limit first start now input left code held r =
         let s = r.so_far in
-        record { read = r.text; bytes = r.bytes; output = concat s.replies; wrote = s.wrote; is = record { up_to = up_to first start now r.text left code held s; all = r.size } }
+        let size = r.size in
+        record { read = r.text; bytes = r.bytes; output = concat s.replies; wrote = s.wrote; is = record { up_to = up_to first start now r.text left code held (omega arith) s; all = r.size } }
 
   -- where a line settles how many bytes its command takes, an input that was answered whole doesn't end inside a command
   module _ (once : (a b : Command) (line : List ℕ) → lang.Spells a line → lang.Spells b line → lang.takes a ≡ lang.takes b) where

@@ -1,5 +1,5 @@
 -- The session of any machine: how it goes on, where it stops, and how its input ends.
-use Rattle.std.proofs.Common.{◌≡◌, ℕ, false, List, [], ◌∷◌, ◌++◌, take, Option, ap, sym, refl, ◌∙◌, subst, inl, inr}
+use Rattle.std.proofs.Common.{◌≡◌, ℕ, ◌≤◌, false, List, [], ◌∷◌, ◌++◌, length, take, Option, ap, sym, refl, ◌∙◌, subst, arith, inl, inr}
 use Rattle.std.proofs.lemmas.List.{append_assoc}
 use Rattle.std.specs.List.{concat}
 use Rattle.odin_outside.specs.Told.{appended}
@@ -89,10 +89,10 @@ module _ {Command Held Code State Told : Type 0} (lang : Language Command) (Keep
       }
 
   broken : (first : State) (start told told' : Told) (read : List ℕ) (left : Option (List ℕ)) (code : Code) (held : Held) (s : SoFar first start read told code held) → (text rest : List ℕ)
-      → text ≡ all_bytes s.served ++ rest → (item : Item) (command : Command) (body : List ℕ) → StandsAt text left (all_bytes s.served) item
+      → length text ≤ input_limit → text ≡ all_bytes s.served ++ rest → (item : Item) (command : Command) (body : List ℕ) → StandsAt text left (all_bytes s.served) item
       → items.IsItem lang item command → item.body ≡ body → machines.StopsBefore lang m first start s.state command body told told'
       → streams.Wrote lang Keeps m (endings.IsBroken lang m first start told') text left start told'
-  broken first start told told' read left code held s text rest cuts item command body stands item_is body_is b = (
+  broken first start told told' read left code held s text rest within cuts item command body stands item_is body_is b = (
     concat s.replies,
     b.wrote ∙ s.wrote,
     record {
@@ -107,14 +107,15 @@ module _ {Command Held Code State Told : Type 0} (lang : Language Command) (Keep
       may = inr (item, stands, record { command = command; item_is = item_is; breaks = subst (λ x. m.Breaks s.state command x b.furthest) (sym body_is) b.may });
       is = refl;
       kept = b.kept;
+      within = within;
     },
   )
 
   cut_off : (first : State) (start told told' : Told) (read : List ℕ) (left : Option (List ℕ)) (code : Code) (held : Held) (s : SoFar first start read told code held) → (text rest : List ℕ)
-      → text ≡ all_bytes s.served ++ rest → (item : Item) (command : Command) (body : List ℕ) → StandsAt text left (all_bytes s.served) item
+      → length text ≤ input_limit → text ≡ all_bytes s.served ++ rest → (item : Item) (command : Command) (body : List ℕ) → StandsAt text left (all_bytes s.served) item
       → items.IsItem lang item command → item.body ≡ body → machines.StopsWithin lang m first start s.state command body told told'
       → streams.Wrote lang Keeps m (endings.IsCutOff lang m first start told') text left start told'
-  cut_off first start told told' read left code held s text rest cuts item command body stands item_is body_is cut = (
+  cut_off first start told told' read left code held s text rest within cuts item command body stands item_is body_is cut = (
     concat s.replies ++ take cut.count cut.reply,
     cut.wrote ∙ ap (λ t. appended t (take cut.count cut.reply)) s.wrote ∙ appended-appended (m.taken start) (concat s.replies) (take cut.count cut.reply),
     record {
@@ -132,11 +133,12 @@ module _ {Command Held Code State Told : Type 0} (lang : Language Command) (Keep
       proper = cut.proper;
       is = refl;
       kept = cut.kept;
+      within = within;
     },
   )
 
   stopped : (halt : Halt) (first : State) (start told told' : Told) (read : List ℕ) (left : Option (List ℕ)) (code : Code) (held : Held) (s : SoFar first start read told code held) → (text rest : List ℕ)
-      → text ≡ all_bytes s.served ++ rest → (item : Item) (command : Command) (body : List ℕ) → StandsAt text left (all_bytes s.served) item
+      → length text ≤ input_limit → text ≡ all_bytes s.served ++ rest → (item : Item) (command : Command) (body : List ℕ) → StandsAt text left (all_bytes s.served) item
       → items.IsItem lang item command → item.body ≡ body → machines.StoppedBy lang m halt first start s.state command body told told'
       → streams.Wrote lang Keeps m (endings.IsStopped lang m halt first start told') text left start told'
   stopped before_reply = broken
@@ -146,33 +148,35 @@ module _ {Command Held Code State Told : Type 0} (lang : Language Command) (Keep
   pub StopsOn-item : (halt : Halt) (bytes : List ℕ) (told told' : Told) (code : Code) (held : Held) (command : Command) (body : List ℕ)
       → Completes bytes held command body → machines.StopsServing lang m halt code command body told told'
       → streams.StopsOn lang Keeps m halt bytes told code held told'
-  StopsOn-item halt bytes told told' code held command body whole stops first start text more left s =
+  StopsOn-item halt bytes told told' code held command body whole stops first start text more left within s =
       let w = whole s.part s.keeps in
       let cuts : text ++ (bytes ++ more) ≡ all_bytes s.served ++ (s.part ++ (bytes ++ more)) = ap (λ t. t ++ (bytes ++ more)) s.cuts ∙ append_assoc (all_bytes s.served) s.part (bytes ++ more) in
-      stopped halt first start told told' text left code held s (text ++ (bytes ++ more)) (s.part ++ (bytes ++ more)) cuts w.0 command body
+      stopped halt first start told told' text left code held s (text ++ (bytes ++ more)) (s.part ++ (bytes ++ more)) within cuts w.0 command body
       (inl (more, cuts ∙ ap (λ r. all_bytes s.served ++ r) (sym (append_assoc s.part bytes more) ∙ ap (λ r. r ++ more) w.1)))
       w.2 w.3 (stops first start s.state s.fits)
 
   -- it stops before the end of the bytes
   pub StopsOn-more : (halt : Halt) (a b : List ℕ) (told told' : Told) (code : Code) (held : Held) → streams.StopsOn lang Keeps m halt a told code held told'
       → streams.StopsOn lang Keeps m halt (a ++ b) told code held told'
-  StopsOn-more halt a b told told' code held f first start text more left s =
-      subst (λ t. streams.Wrote lang Keeps m (endings.IsStopped lang m halt first start told') (text ++ t) left start told') (sym (append_assoc a b more)) (f first start text (b ++ more) left s)
+  StopsOn-more halt a b told told' code held f first start text more left within s =
+      subst (λ t. streams.Wrote lang Keeps m (endings.IsStopped lang m halt first start told') (text ++ t) left start told') (sym (append_assoc a b more))
+      (f first start text (b ++ more) left (subst (λ t. length (text ++ t) ≤ input_limit) (append_assoc a b more) within) s)
 
   -- it goes on through some bytes and stops on the next
   pub StopsOn-after : (halt : Halt) (a b : List ℕ) (told told' told'' : Told) (code code' : Code) (held held' : Held)
       → streams.GoesOn lang Keeps m a told code held told' code' held' → streams.StopsOn lang Keeps m halt b told' code' held' told''
       → streams.StopsOn lang Keeps m halt (a ++ b) told code held told''
-  StopsOn-after halt a b told told' told'' code code' held held' f g first start text more left s =
-      subst (λ t. streams.Wrote lang Keeps m (endings.IsStopped lang m halt first start told'') t left start told'') (append_assoc text a (b ++ more) ∙ ap (λ r. text ++ r) (sym (append_assoc a b more)))
-      (g first start (text ++ a) more left (f first start text s))
+  StopsOn-after halt a b told told' told'' code code' held held' f g first start text more left within s =
+      let same : (text ++ a) ++ (b ++ more) ≡ text ++ ((a ++ b) ++ more) = append_assoc text a (b ++ more) ∙ ap (λ r. text ++ r) (sym (append_assoc a b more)) in
+      subst (λ t. streams.Wrote lang Keeps m (endings.IsStopped lang m halt first start told'') t left start told'') same
+      (g first start (text ++ a) more left (subst (λ t. length t ≤ input_limit) (sym same) within) (f first start text s))
 
   -- the end of the input behind a last line
   pub StopsAtEnd-line : (halt : Halt) (told told' : Told) (code : Code) (held : Held) (command : Command) (body : List ℕ)
       → ((part : List ℕ) → Keeps held part → items.IsItem lang (last_item part) command) → body ≡ [] → machines.StopsServing lang m halt code command body told told'
       → streams.StopsAtEnd lang Keeps m halt told code held told'
   StopsAtEnd-line halt told told' code held command body whole empty stops first start text left short spent s =
-      stopped halt first start told told' text left code held s text s.part s.cuts (last_item s.part) command body (inr (s.cuts, refl, spent)) (whole s.part s.keeps) (sym empty) (stops first start s.state s.fits)
+      stopped halt first start told told' text left code held s text s.part (omega arith) s.cuts (last_item s.part) command body (inr (s.cuts, refl, spent)) (whole s.part s.keeps) (sym empty) (stops first start s.state s.fits)
 
   -- what is promised between two commands is promised at an exit
   module _ (rests : (first : State) (start : Told) (code : Code) (state : State) (told : Told) → m.Fits first start code state told → m.Kept first start state state told) where
@@ -180,9 +184,9 @@ module _ {Command Held Code State Told : Type 0} (lang : Language Command) (Keep
     replied first start told text code held s = record { replies = s.replies; state = s.state; run = s.run; is = refl; kept = rests first start code s.state told s.fits }
 
     -- it stops within a part of an item
-    unbroken : (first : State) (start told : Told) (code : Code) (text more : List ℕ) (left : Option (List ℕ)) (held : Held) → SoFar first start text told code held
+    unbroken : (first : State) (start told : Told) (code : Code) (text more : List ℕ) (left : Option (List ℕ)) (held : Held) → length (text ++ more) ≤ input_limit → SoFar first start text told code held
         → streams.Wrote lang Keeps m (endings.IsBroken lang m first start told) (text ++ more) left start told
-    unbroken first start told code text more left held s = (
+    unbroken first start told code text more left held within s = (
       concat s.replies,
       s.wrote,
       record {
@@ -197,15 +201,17 @@ module _ {Command Held Code State Told : Type 0} (lang : Language Command) (Keep
         may = inl refl;
         is = refl;
         kept = rests first start code s.state told s.fits;
+        within = within;
       },
     )
 
     pub StopsOn-part : (bytes : List ℕ) (told : Told) (code : Code) (held : Held) → streams.StopsOn lang Keeps m before_reply bytes told code held told
-    StopsOn-part bytes told code held first start text more left s = unbroken first start told code text (bytes ++ more) left held s
+    StopsOn-part bytes told code held first start text more left within s = unbroken first start told code text (bytes ++ more) left held within s
 
     pub StopsAtEnd-part : (told : Told) (code : Code) (held : Held) → streams.StopsAtEnd lang Keeps m before_reply told code held told
     StopsAtEnd-part told code held first start text left short spent s =
-        subst (λ t. streams.Wrote lang Keeps m (endings.IsBroken lang m first start told) t left start told) (nil_right text) (unbroken first start told code text [] left held s)
+        subst (λ t. streams.Wrote lang Keeps m (endings.IsBroken lang m first start told) t left start told) (nil_right text)
+        (unbroken first start told code text [] left held (subst (λ t. length t ≤ input_limit) (sym (nil_right text)) (omega arith)) s)
 
     -- the input ends inside a command
     pub Finishes-short : (told : Told) (code : Code) (held : Held) → ((part : List ℕ) → Keeps held part → items.IsCutShort lang part)

@@ -2,7 +2,7 @@
 --
 -- Each ending is said of the bytes that were read, of what is left of the input, and of the output. A source that does not tell what is
 -- left, and a sink that does not tell what it took, leave the bytes open that were read or written; the rest is said of them all the same.
-use Rattle.std.specs.Prelude.{◌≡◌, ◌⊎◌, ℕ, ◌<◌, List, [], ◌∷◌, ◌++◌, length, take, Option, IfSome}
+use Rattle.std.specs.Prelude.{◌≡◌, ◌⊎◌, ℕ, ◌<◌, ◌≤◌, List, [], ◌∷◌, ◌++◌, length, take, Option, IfSome}
 use Rattle.std.specs.List.{concat}
 use Rattle.odin_outside.specs.Told.{prepended, appended}
 use Rattle.meaning_run.specs.Items.{Language, Item, item_bytes, all_bytes, last_item, AllGoOn, IsPart, IsCutShort}
@@ -66,6 +66,12 @@ module _ {Command Code State Told : Type 0} (lang : Language Command) (m : Machi
     pub on : AllGoOn lang served
     pub less : IsPart lang part
     pub replied : RepliesTo first start told served output
+    pub within : length read ≤ input_limit
+
+  -- the next read failed, of bytes that might still be read
+  pub record IsFailed (first : State) (start told : Told) (read : List ℕ) (left : Option (List ℕ)) (output : List ℕ) : Type 0 where
+    pub up_to : IsUpTo first start told read left output
+    pub short : length read < input_limit
 
   -- as many bytes were read as may be
   pub record IsUpToLimit (first : State) (start told : Told) (read : List ℕ) (left : Option (List ℕ)) (output : List ℕ) : Type 0 where
@@ -85,6 +91,7 @@ module _ {Command Code State Told : Type 0} (lang : Language Command) (m : Machi
     pub may : (furthest ≡ state) ⊎ ((item : Item) × StandsAt read left (all_bytes served) item × BreaksAt lang m state item furthest)
     pub is : output ≡ concat replies
     pub kept : m.Kept first start state furthest told
+    pub within : length read ≤ input_limit
 
   -- the first items were answered, and the next reply was cut off
   pub record IsCutOff (first : State) (start told : Told) (read : List ℕ) (left : Option (List ℕ)) (output : List ℕ) : Type 0 where
@@ -102,6 +109,7 @@ module _ {Command Code State Told : Type 0} (lang : Language Command) (m : Machi
     pub proper : count < length reply
     pub is : output ≡ concat replies ++ take count reply
     pub kept : m.Kept first start state new told
+    pub within : length read ≤ input_limit
 
   abbrev pub IsStopped : Halt → State → Told → Told → List ℕ → Option (List ℕ) → List ℕ → Type 0
   IsStopped before_reply = IsBroken

@@ -1,6 +1,6 @@
 -- A session between two bytes of its input, for any machine. What is promised of a step holds for every history that fits before it,
 -- so that steps compose.
-use Rattle.std.specs.Prelude.{◌≡◌, ℕ, ◌<◌, List, ◌++◌, length, Option}
+use Rattle.std.specs.Prelude.{◌≡◌, ℕ, ◌<◌, ◌≤◌, List, ◌++◌, length, Option}
 use Rattle.std.specs.List.{concat}
 use Rattle.odin_outside.specs.Told.{appended, prepended}
 use Rattle.meaning_run.specs.Items.{Language, Item, all_bytes, AllGoOn}
@@ -31,10 +31,10 @@ module _ {Command Held Code State Told : Type 0} (lang : Language Command) (Keep
   abbrev pub Wrote : (List ℕ → Option (List ℕ) → List ℕ → Type 0) → List ℕ → Option (List ℕ) → Told → Told → Type 0
   Wrote P read left start told = (output : List ℕ) × (m.taken told ≡ appended (m.taken start) output) × P read left output
 
-  -- on its way through the bytes it stops, whatever came before and whatever was read behind them
+  -- on its way through the bytes it stops, whatever came before and whatever was read behind them, as far as may be read
   abbrev pub StopsOn : Halt → List ℕ → Told → Code → Held → Told → Type 0
   StopsOn halt bytes told code held told' =
-      (first : State) (start : Told) (text more : List ℕ) (left : Option (List ℕ)) → SoFar first start text told code held
+      (first : State) (start : Told) (text more : List ℕ) (left : Option (List ℕ)) → length (text ++ (bytes ++ more)) ≤ input_limit → SoFar first start text told code held
       → Wrote (IsStopped lang m halt first start told') (text ++ (bytes ++ more)) left start told'
 
   -- the input ends, and all of it is answered, or it ends inside a command

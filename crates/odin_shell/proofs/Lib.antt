@@ -3,5 +3,6 @@ mod CountLemmas
 mod GraphLemmas
 mod HeldLemmas
 mod OpenLemmas
+mod OpenedLemmas
 mod ServeLemmas
 mod SessionLemmas

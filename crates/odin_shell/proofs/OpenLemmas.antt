@@ -1,6 +1,6 @@
 -- A run over the graph of its words.
-use Rattle.std.proofs.Common.{◌≡◌, List, sym, ap, ◌∙◌}
-use Rattle.std.specs.Prelude.{Option, Some, option_map}
+use Rattle.std.proofs.Common.{◌≡◌, List}
+use Rattle.std.specs.Prelude.{Option, Some}
 use Rattle.odin_outside.specs.Files.{Files, IsGiven}
 use Rattle.meaning_graph.specs.Graphs.{Text, Graph}
 use Rattle.odin_shell.specs.declared.graph.Opened.{Opened}

@@ -1,5 +1,5 @@
 -- A session of these commands: it goes on through bytes of a line and of a text, and stops, by what it holds.
-use Rattle.std.proofs.Common.{◌≡◌, ℕ, ◌+◌, ◌-◌, ◌<◌, ◌≤◌, min, arith, List, [], ◌∷◌, ◌++◌, take, drop, length, get_or, true, Option, Some, None, ap, sym, refl, ◌∙◌, subst}
+use Rattle.std.proofs.Common.{◌≡◌, ℕ, ◌+◌, ◌-◌, ◌<◌, min, arith, List, [], ◌∷◌, ◌++◌, take, drop, length, get_or, true, Option, Some, None, ap, sym, refl, ◌∙◌, subst}
 use Rattle.std.proofs.lemmas.List.{take-append-drop, take_more}
 use Rattle.std.proofs.Math.Seq.{take-add}
 use Rattle.std.specs.Option.{is_some}
@@ -19,26 +19,22 @@ use Rattle.odin_shell.specs.Held.{Held, held_length, KeepsPart, Keeps, IsPending
 use Rattle.odin_outside.specs.Spawned.{Table, Spawned}
 use Rattle.meaning_graph.specs.Graphs.{Graph}
 use Rattle.meaning_run.specs.Machines.{Machine}
-use Rattle.odin_shell.specs.Machine.{State, at_first, Told, Belongs, ToolsStay, machine as machine_of}
+use Rattle.odin_shell.specs.Machine.{State, at_first, Told, ToolsStay, machine as machine_of}
 use Rattle.odin_shell.specs.declared.session.Session.{Session}
 use Rattle.odin_shell.specs.Sessions.{held_of, Reads}
 use Rattle.odin_shell.proofs.HeldLemmas.{Keeps-line, Keeps-ended, Keeps-begun, Keeps-text, Keeps-last, Keeps-last_line, Keeps-unended, Keeps-pending}
 
--- no fault is counted in the state that the object has not counted
-counted : (table : Option Table) (code : Texts) (state : State) (told : Told) → Belongs table code state told → state.faults ≤ told.faults
-counted table code state told belongs = let same = belongs.faults in omega arith
-
 -- what stays in two calls stays in both
 pub stay_on : {a b c : Spawned} {i j k : ℕ} → ToolsStay a i b j → ToolsStay b j c k → ToolsStay a i c k
-stay_on first second = let l = first.later in let m = second.later in record { answers = second.answers ∙ first.answers; later = omega arith }
+stay_on first second = let l = first.later in let m = second.later in record { answers = second.answers ∙ first.answers; one = second.one; later = omega arith }
 
 module _ (g : Graph) (table : Option Table) where
   abbrev pub machine : Machine Command Texts State Told
   machine = machine_of g table
 
-  -- what fits between two commands is kept at an exit: nothing is
+  -- what fits between two commands is kept at an exit
   pub rests : (first : State) (start : Told) (code : Texts) (state : State) (told : Told) → machine.Fits first start code state told → machine.Kept first start state state told
-  rests first start code state told fits = record { acknowledged = counted table code state told fits; furthest = counted table code state told fits }
+  rests first start code state told fits = let faults = fits.faults in record { tools = fits.tools; faults = faults; acknowledged = omega arith }
 
   abbrev pub GoesOn : List ℕ → Told → Texts → Held → Told → Texts → Held → Type 0
   GoesOn = streams.GoesOn commands Keeps machine
@@ -169,5 +165,5 @@ fresh session line put = λ i. record { line = line i; put = put i }
 pub reads_none : (g : Graph) (start : Told) (left : Option (List ℕ)) (session : Session) → start.tools.running ≡ [] → session.sources.texts ≡ no_texts → session.line ≡ [] → session.put ≡ None
     → Reads g start left left 0 start session
 reads_none g start left session idle sources line put =
-    subst (λ h. streams.Reading commands Keeps (machine_of g start.tools.answer) (at_first start.faults) start left left 0 start session.sources.texts h) (sym (fresh session line put))
-    (Reading-none commands Keeps (machine_of g start.tools.answer) (at_first start.faults) start start session.sources.texts (record { line = []; put = None }) left refl (record { sources = sources; faults = refl; answers = refl; idle = idle }) (tt, refl))
+    subst (λ h. streams.Reading commands Keeps (machine_of g start.tools.answer) (at_first start.tools start.faults) start left left 0 start session.sources.texts h) (sym (fresh session line put))
+    (Reading-none commands Keeps (machine_of g start.tools.answer) (at_first start.tools start.faults) start start session.sources.texts (record { line = []; put = None }) left refl (record { sources = sources; tools = refl; faults = refl; answers = refl; idle = idle }) (tt, refl))

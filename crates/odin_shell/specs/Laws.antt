@@ -10,7 +10,8 @@ use Rattle.odin_answers.specs.Answers.{refused_tool_start}
 use Rattle.odin_shell.specs.declared.command.Command.{Command}
 use Rattle.odin_shell.specs.Commands.{commands}
 use Rattle.odin_shell.specs.Machine.{State, Step, machine}
-use Rattle.odin_shell.specs.Opened.{ReadsAs, IsRefused}
+use Rattle.odin_shell.specs.declared.graph.Opened.{Opened}
+use Rattle.odin_shell.specs.Opened.{IsOpened}
 
 -- an input is cut in one way only into commands and less than a command
 abbrev pub InputIsCutOnce : Type 0
@@ -20,9 +21,13 @@ InputIsCutOnce = OneCut commands
 abbrev pub SourcesStay : Type 0
 SourcesStay = (g : Graph) (table : Option Table) (old new : State) (item : Item) (command : Command) (reply : List ℕ) → AreSources old.texts → IsItem commands item command → Step g table old command item.body reply new → AreSources new.texts
 
--- a file that is read as a graph is refused by no line
-abbrev pub ReadOrRefused : Type 0
-ReadOrRefused = (given : Option Text) (g : Graph) (line : Text) → ReadsAs given g → IsRefused given line → ⊥
+-- each file is opened: it is one of a checked graph that a run is built for, or is refused by a last line
+abbrev pub EachIsOpened : Type 0
+EachIsOpened = (given : Option Text) → (o : Opened) × IsOpened given o
+
+-- and in one way only: by one graph, or by one line
+abbrev pub OpenedIsOne : Type 0
+OpenedIsOne = (given : Option Text) (o p : Opened) → IsOpened given o → IsOpened given p → p ≡ o
 
 -- how many replies say that a tool was not started
 abbrev pub refused_starts : List (List ℕ) → ℕ

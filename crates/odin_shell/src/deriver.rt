@@ -1,9 +1,9 @@
 // A graph that objects can be derived by, with its paths.
-ghost use Rattle.std.specs.Prelude.{◌≡◌, ◌≤◌, [], IfOk, OnOk};
+ghost use Rattle.std.specs.Prelude.{◌≡◌, ◌≤◌, [], length, IfOk, OnOk, OnErr};
 ghost use Rattle.plain_derive.specs.Built.{IsBuiltGraph};
 ghost use Rattle.meaning_answers.specs.Answers.{Plan};
 ghost use Rattle.odin_answers.specs.Requests.{request_text};
-ghost use Rattle.odin_answers.specs.Answers.{Replies, IsReply};
+ghost use Rattle.odin_answers.specs.Answers.{Replies, IsReply, MayHaveBegun};
 
 use object_values::{Bytes, Memory, Sources};
 use odin_answers::{Request, answer_ask, answer_plan};
@@ -51,8 +51,10 @@ impl Deriver {
         out: &mut Bytes,
     ) -> Result<(), Memory>
         requires idle { (S.told tools.old).running ≡ [] }
-        ensures ok { OnOk result (Replies (λ reply. IsReply self.now (S.told tools.old).answer sources.now.texts (request_text request.now) reply (S.faults tools.old) (S.faults tools.new)) out.old out.new) }
+        ensures ok { OnOk result (Replies (λ reply. IsReply self.now (S.told tools.old).answer sources.now.texts (request_text request.now) reply (S.told tools.old) (S.faults tools.old) (S.told tools.new) (S.faults tools.new)) out.old out.new) }
+        ensures begun { OnErr result (MayHaveBegun self.now (S.told tools.old).answer sources.now.texts (request_text request.now) (S.told tools.old) (S.told tools.new)) }
         ensures idle { OnOk result ((S.told tools.new).running ≡ []) }
+        ensures one { length (S.told tools.new).running ≤ 1 }
         ensures answer { (S.told tools.new).answer ≡ (S.told tools.old).answer }
         ensures later { S.faults tools.old ≤ S.faults tools.new }
     {

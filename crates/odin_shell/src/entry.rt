@@ -3,12 +3,13 @@ ghost use Rattle.std.specs.Prelude.{◌≡◌, ◌≢◌, ◌⊎◌, ◌<◌, �
 ghost use Rattle.odin_outside.specs.Causes.{Rose};
 ghost use Rattle.odin_outside.specs.Told.{appended};
 ghost use Rattle.meaning_run.specs.Items.{EndsInside};
-ghost use Rattle.meaning_run.specs.Endings.{input_limit, Leaves, IsWhole, IsShort, IsUpTo, IsUpToLimit, IsBroken, IsCutOff};
+ghost use Rattle.meaning_run.specs.Endings.{input_limit};
 ghost use Rattle.odin_shell.specs.Commands.{commands};
-ghost use Rattle.odin_shell.specs.Machine.{machine, at_first, telling, ToolsStay};
+ghost use Rattle.odin_shell.specs.Machine.{telling, ToolsStay};
+ghost use Rattle.odin_shell.specs.Sessions.{Left, Ended};
 ghost use Rattle.odin_shell.specs.Words.{graph_word, IsAccepted, usage_line};
 ghost use Rattle.plain_derive.specs.Built.{IsBuiltGraph};
-ghost use Rattle.odin_shell.specs.Opened.{IsPartOf, Over, OverRefused};
+ghost use Rattle.odin_shell.specs.Opened.{IsPartOf, OverRefused};
 
 use crate::deriver::Deriver;
 use crate::graph::{OpenFault, Opened, open_graph};
@@ -46,6 +47,7 @@ fn end_with<O: Sink>(output: &mut O, line: &[u8], status: u8) -> u8
 }
 
 /// Serves the commands of the input over a graph, and gives the status.
+#[tactic(auto, using(crate::proofs::ServeLemmas::idle_one))]
 fn serve_graph<I: Source, O: Sink, S: Spawner>(
     alloc: Global,
     graph: Graph,
@@ -56,12 +58,12 @@ fn serve_graph<I: Source, O: Sink, S: Spawner>(
     requires built { IsBuiltGraph graph }
     requires idle { (S.told tools.old).running ≡ [] }
     ensures statuses { (result ≡ 0) ⊎ (result ≡ 1) ⊎ (result ≡ 4) ⊎ (result ≡ 5) ⊎ (result ≡ 6) ⊎ (result ≡ 10) }
-    ensures whole { result ≡ 0 → Leaves (IsWhole commands (machine graph (S.told tools.old).answer) (at_first (S.faults tools.old)) (telling (O.taken output.old) (S.told tools.old) (S.faults tools.old)) (telling (O.taken output.new) (S.told tools.new) (S.faults tools.new))) (I.left input.old) (I.left input.new) (O.taken output.old) (O.taken output.new) }
-    ensures short { result ≡ 1 → Leaves (IsShort commands (machine graph (S.told tools.old).answer) (at_first (S.faults tools.old)) (telling (O.taken output.old) (S.told tools.old) (S.faults tools.old)) (telling (O.taken output.new) (S.told tools.new) (S.faults tools.new))) (I.left input.old) (I.left input.new) (O.taken output.old) (O.taken output.new) }
-    ensures memory { result ≡ 4 → Leaves (IsBroken commands (machine graph (S.told tools.old).answer) (at_first (S.faults tools.old)) (telling (O.taken output.old) (S.told tools.old) (S.faults tools.old)) (telling (O.taken output.new) (S.told tools.new) (S.faults tools.new))) (I.left input.old) (I.left input.new) (O.taken output.old) (O.taken output.new) }
-    ensures output { result ≡ 5 → Leaves (IsCutOff commands (machine graph (S.told tools.old).answer) (at_first (S.faults tools.old)) (telling (O.taken output.old) (S.told tools.old) (S.faults tools.old)) (telling (O.taken output.new) (S.told tools.new) (S.faults tools.new))) (I.left input.old) (I.left input.new) (O.taken output.old) (O.taken output.new) }
-    ensures input { result ≡ 6 → Leaves (IsUpTo commands (machine graph (S.told tools.old).answer) (at_first (S.faults tools.old)) (telling (O.taken output.old) (S.told tools.old) (S.faults tools.old)) (telling (O.taken output.new) (S.told tools.new) (S.faults tools.new))) (I.left input.old) (I.left input.new) (O.taken output.old) (O.taken output.new) }
-    ensures long { result ≡ 10 → Leaves (IsUpToLimit commands (machine graph (S.told tools.old).answer) (at_first (S.faults tools.old)) (telling (O.taken output.old) (S.told tools.old) (S.faults tools.old)) (telling (O.taken output.new) (S.told tools.new) (S.faults tools.new))) (I.left input.old) (I.left input.new) (O.taken output.old) (O.taken output.new) }
+    ensures whole { result ≡ 0 → Left graph Ending.Whole (I.left input.old) (I.left input.new) (telling (O.taken output.old) (S.told tools.old) (S.faults tools.old)) (telling (O.taken output.new) (S.told tools.new) (S.faults tools.new)) }
+    ensures short { result ≡ 1 → Left graph Ending.CutShort (I.left input.old) (I.left input.new) (telling (O.taken output.old) (S.told tools.old) (S.faults tools.old)) (telling (O.taken output.new) (S.told tools.new) (S.faults tools.new)) }
+    ensures memory { result ≡ 4 → Left graph Ending.Memory (I.left input.old) (I.left input.new) (telling (O.taken output.old) (S.told tools.old) (S.faults tools.old)) (telling (O.taken output.new) (S.told tools.new) (S.faults tools.new)) }
+    ensures output { result ≡ 5 → Left graph Ending.Output (I.left input.old) (I.left input.new) (telling (O.taken output.old) (S.told tools.old) (S.faults tools.old)) (telling (O.taken output.new) (S.told tools.new) (S.faults tools.new)) }
+    ensures input { result ≡ 6 → Left graph Ending.Input (I.left input.old) (I.left input.new) (telling (O.taken output.old) (S.told tools.old) (S.faults tools.old)) (telling (O.taken output.new) (S.told tools.new) (S.faults tools.new)) }
+    ensures long { result ≡ 10 → Left graph Ending.TooLong (I.left input.old) (I.left input.new) (telling (O.taken output.old) (S.told tools.old) (S.faults tools.old)) (telling (O.taken output.new) (S.told tools.new) (S.faults tools.new)) }
     ensures not_short { result ≡ 0 → IfSome (I.left input.old) (λ text. (length text < input_limit) × (¬ EndsInside commands text)) }
     ensures is_short { result ≡ 1 → IfSome (I.left input.old) (λ text. (length text < input_limit) × EndsInside commands text) }
     ensures is_long { result ≡ 10 → IfSome (I.left input.old) (λ text. input_limit ≤ length text) }
@@ -87,6 +89,7 @@ fn serve_graph<I: Source, O: Sink, S: Spawner>(
 
 /// Runs the program: reads the words and the graph, then serves the commands of the input, and gives the exit status.
 /// docs/SESSIONS.md tells the commands, the replies and the statuses.
+#[tactic(auto, using(crate::proofs::ServeLemmas::idle_one))]
 pub fn run<I: Source, O: Sink, T: Tree, D: Disk, S: Spawner>(
     alloc: Global,
     words: &[String],
@@ -111,12 +114,12 @@ pub fn run<I: Source, O: Sink, T: Tree, D: Disk, S: Spawner>(
 
     // The output has exactly the replies to the commands that were read, by the way the session ended. Before the graph is read a run
     // may end with 4 or 6 and nothing done, and with 5 where the line of 2 could not be written.
-    ensures whole { result ≡ 0 → Over (T.files tree.old) (map string_bytes words.now) (λ g. Leaves (IsWhole commands (machine g (S.told tools.old).answer) (at_first (S.faults tools.old)) (telling (O.taken output.old) (S.told tools.old) (S.faults tools.old)) (telling (O.taken output.new) (S.told tools.new) (S.faults tools.new))) (I.left input.old) (I.left input.new) (O.taken output.old) (O.taken output.new)) }
-    ensures short { result ≡ 1 → Over (T.files tree.old) (map string_bytes words.now) (λ g. Leaves (IsShort commands (machine g (S.told tools.old).answer) (at_first (S.faults tools.old)) (telling (O.taken output.old) (S.told tools.old) (S.faults tools.old)) (telling (O.taken output.new) (S.told tools.new) (S.faults tools.new))) (I.left input.old) (I.left input.new) (O.taken output.old) (O.taken output.new)) }
-    ensures memory { result ≡ 4 → ((input.new ≡ input.old) × (O.taken output.new ≡ O.taken output.old)) ⊎ Over (T.files tree.old) (map string_bytes words.now) (λ g. Leaves (IsBroken commands (machine g (S.told tools.old).answer) (at_first (S.faults tools.old)) (telling (O.taken output.old) (S.told tools.old) (S.faults tools.old)) (telling (O.taken output.new) (S.told tools.new) (S.faults tools.new))) (I.left input.old) (I.left input.new) (O.taken output.old) (O.taken output.new)) }
-    ensures output { result ≡ 5 → IsAccepted (map string_bytes words.now) → OverRefused (T.files tree.old) (map string_bytes words.now) (λ line. IsPartOf line (O.taken output.old) (O.taken output.new)) ⊎ Over (T.files tree.old) (map string_bytes words.now) (λ g. Leaves (IsCutOff commands (machine g (S.told tools.old).answer) (at_first (S.faults tools.old)) (telling (O.taken output.old) (S.told tools.old) (S.faults tools.old)) (telling (O.taken output.new) (S.told tools.new) (S.faults tools.new))) (I.left input.old) (I.left input.new) (O.taken output.old) (O.taken output.new)) }
-    ensures input { result ≡ 6 → (((input.new ≡ input.old) × (O.taken output.new ≡ O.taken output.old)) × Rose (T.faults tree.old) (T.faults tree.new)) ⊎ (Over (T.files tree.old) (map string_bytes words.now) (λ g. Leaves (IsUpTo commands (machine g (S.told tools.old).answer) (at_first (S.faults tools.old)) (telling (O.taken output.old) (S.told tools.old) (S.faults tools.old)) (telling (O.taken output.new) (S.told tools.new) (S.faults tools.new))) (I.left input.old) (I.left input.new) (O.taken output.old) (O.taken output.new)) × Rose (I.faults input.old) (I.faults input.new)) }
-    ensures long { result ≡ 10 → Over (T.files tree.old) (map string_bytes words.now) (λ g. Leaves (IsUpToLimit commands (machine g (S.told tools.old).answer) (at_first (S.faults tools.old)) (telling (O.taken output.old) (S.told tools.old) (S.faults tools.old)) (telling (O.taken output.new) (S.told tools.new) (S.faults tools.new))) (I.left input.old) (I.left input.new) (O.taken output.old) (O.taken output.new)) }
+    ensures whole { result ≡ 0 → Ended Ending.Whole (T.files tree.old) (map string_bytes words.now) (I.left input.old) (I.left input.new) (telling (O.taken output.old) (S.told tools.old) (S.faults tools.old)) (telling (O.taken output.new) (S.told tools.new) (S.faults tools.new)) }
+    ensures short { result ≡ 1 → Ended Ending.CutShort (T.files tree.old) (map string_bytes words.now) (I.left input.old) (I.left input.new) (telling (O.taken output.old) (S.told tools.old) (S.faults tools.old)) (telling (O.taken output.new) (S.told tools.new) (S.faults tools.new)) }
+    ensures memory { result ≡ 4 → ((input.new ≡ input.old) × (tools.new ≡ tools.old) × (O.taken output.new ≡ O.taken output.old)) ⊎ Ended Ending.Memory (T.files tree.old) (map string_bytes words.now) (I.left input.old) (I.left input.new) (telling (O.taken output.old) (S.told tools.old) (S.faults tools.old)) (telling (O.taken output.new) (S.told tools.new) (S.faults tools.new)) }
+    ensures output { result ≡ 5 → IsAccepted (map string_bytes words.now) → ((input.new ≡ input.old) × (tools.new ≡ tools.old) × OverRefused (T.files tree.old) (map string_bytes words.now) (λ line. IsPartOf line (O.taken output.old) (O.taken output.new))) ⊎ Ended Ending.Output (T.files tree.old) (map string_bytes words.now) (I.left input.old) (I.left input.new) (telling (O.taken output.old) (S.told tools.old) (S.faults tools.old)) (telling (O.taken output.new) (S.told tools.new) (S.faults tools.new)) }
+    ensures input { result ≡ 6 → (((input.new ≡ input.old) × (tools.new ≡ tools.old) × (O.taken output.new ≡ O.taken output.old)) × Rose (T.faults tree.old) (T.faults tree.new)) ⊎ (Ended Ending.Input (T.files tree.old) (map string_bytes words.now) (I.left input.old) (I.left input.new) (telling (O.taken output.old) (S.told tools.old) (S.faults tools.old)) (telling (O.taken output.new) (S.told tools.new) (S.faults tools.new)) × Rose (I.faults input.old) (I.faults input.new)) }
+    ensures long { result ≡ 10 → Ended Ending.TooLong (T.files tree.old) (map string_bytes words.now) (I.left input.old) (I.left input.new) (telling (O.taken output.old) (S.told tools.old) (S.faults tools.old)) (telling (O.taken output.new) (S.told tools.new) (S.faults tools.new)) }
 
     // 0, 1 and 10 are exact against each other.
     ensures not_short { result ≡ 0 → IfSome (I.left input.old) (λ text. (length text < input_limit) × (¬ EndsInside commands text)) }

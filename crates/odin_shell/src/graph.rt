@@ -3,8 +3,7 @@ ghost use Rattle.std.specs.Prelude.{◌≡◌, ◌≢◌, ◌≤◌, ◌++◌, �
 ghost use Rattle.odin_outside.specs.Causes.{Rose};
 ghost use Rattle.odin_outside.specs.Files.{IsGiven};
 ghost use Rattle.meaning_graph.specs.Graphs.{Text};
-ghost use Rattle.plain_derive.specs.Built.{IsBuilt, IsBuiltGraph};
-ghost use Rattle.odin_shell.specs.Opened.{fault_words, no_file_line, at_line, fault_line, IsFirstNotBuilt, IsOpened};
+ghost use Rattle.odin_shell.specs.Opened.{fault_words, no_file_line, at_line, fault_line, IsServed, IsServedGraph, IsFirstNotBuilt, IsOpened};
 
 use dg_reader::{ReadFault, read_graph_file};
 use object_values::{Bytes, Decl, GraphFault, Kind, Make, Memory};
@@ -13,7 +12,7 @@ use odin_outside::{Tree, TreeFault};
 use std::alloc::Global;
 use type_graph::Graph;
 
-/// A graph that derivation is built for, or the last line of the run.
+/// A graph that a run is built for, or the last line of the run.
 #[derive(Drop)]
 pub(crate) enum Opened {
     Ready(Graph),
@@ -90,9 +89,9 @@ fn line_of_fault(alloc: Global, fault: ReadFault) -> Result<Bytes, Memory>
 
 // ---- graphs
 
-// Whether derivation is built for a declaration.
+// Whether a run is built for a declaration.
 fn is_built(declared: &Decl) -> bool
-    ensures { IsTrue result ↔ IsBuilt declared.now }
+    ensures { IsTrue result ↔ IsServed declared.now }
 {
     match declared {
         Decl::ObjectType(object) => matches!(object.kind, Kind::Simple),
@@ -109,9 +108,9 @@ fn is_built(declared: &Decl) -> bool
     }
 }
 
-// The number, from 1, of the first declaration that isn't built yet.
+// The number, from 1, of the first declaration that a run isn't built for yet.
 fn first_not_built(declared: &[Decl]) -> Option<usize>
-    ensures { MatchOption result (IsBuiltGraph declared.now) (IsFirstNotBuilt declared.now) }
+    ensures { MatchOption result (IsServedGraph declared.now) (IsFirstNotBuilt declared.now) }
 {
     for (place, one) in declared.iter().enumerate() {
         if !is_built(one) {

@@ -95,6 +95,7 @@ fn serve_pieces<I: Source, O: Sink, S: Spawner>(
 }
 
 /// Answers the input, as far as it may be read.
+#[tactic(auto, using(crate::proofs::ServeLemmas::idle_one))]
 pub(crate) fn serve_input<I: Source, O: Sink, S: Spawner>(
     alloc: Global,
     deriver: &Deriver,

@@ -1,5 +1,5 @@
 // Laws over inputs and sessions.
-ghost use Rattle.odin_shell.specs.Laws.{InputIsCutOnce, SourcesStay, ReadOrRefused, RefusalsAreCounted};
+ghost use Rattle.odin_shell.specs.Laws.{InputIsCutOnce, SourcesStay, EachIsOpened, OpenedIsOne, RefusalsAreCounted};
 
 /// An input is cut into commands in one way only.
 pub fn input_is_cut_once()
@@ -16,7 +16,12 @@ pub fn refusals_are_counted()
     ensures { RefusalsAreCounted }
 {}
 
-/// A graph file that is read is refused by no line: so 2 excludes every session over it.
-pub fn read_or_refused()
-    ensures { ReadOrRefused }
+/// Each graph file is one of a graph that a run is built for, or is refused by a last line.
+pub fn each_file_is_opened()
+    ensures { EachIsOpened }
+{}
+
+/// A graph file is opened in one way only: by one graph, or by one last line. So 2 excludes every session over it.
+pub fn opened_is_one()
+    ensures { OpenedIsOne }
 {}

@@ -5,7 +5,7 @@ ghost use Rattle.odin_outside.specs.Spawned.{Table};
 ghost use Rattle.meaning_run.specs.Machines.{Serves, StopsServing};
 ghost use Rattle.odin_shell.specs.Commands.{commands};
 ghost use Rattle.odin_shell.specs.Replies.{put_reply};
-ghost use Rattle.odin_shell.specs.Machine.{machine, telling, halt_of, IsAnswered, ToolsStay};
+ghost use Rattle.odin_shell.specs.Machine.{machine, holding, telling, halt_of, IsAnswered, Breaks, ToolsStay};
 
 use crate::command::Command;
 use crate::deriver::Deriver;
@@ -54,6 +54,7 @@ fn write_put(name: &[u8], count: u64, out: &mut Bytes) -> Result<(), Memory>
 }
 
 /// Makes the reply to a command, and its change.
+#[tactic(auto, using(crate::proofs::ServeLemmas::idle_one))]
 fn answer<S: Spawner>(
     alloc: Global,
     deriver: &Deriver,
@@ -64,8 +65,8 @@ fn answer<S: Spawner>(
     out: &mut Bytes,
 ) -> Result<(), Memory>
     requires idle { (S.told tools.old).running ≡ [] }
-    ensures ok { OnOk result (IsAnswered deriver.now (S.told tools.old).answer sources.old.texts (S.faults tools.old) command body out.old out.new sources.new.texts (S.faults tools.new)) }
-    ensures err { OnErr result (sources.new.texts ≡ sources.old.texts) }
+    ensures ok { OnOk result (IsAnswered deriver.now (S.told tools.old).answer (holding sources.old.texts (S.told tools.old) (S.faults tools.old)) command body out.old out.new (holding sources.new.texts (S.told tools.new) (S.faults tools.new))) }
+    ensures err { OnErr result (Breaks deriver.now (S.told tools.old).answer (holding sources.old.texts (S.told tools.old) (S.faults tools.old)) command body (holding sources.new.texts (S.told tools.new) (S.faults tools.new))) }
     ensures idle { OnOk result ((S.told tools.new).running ≡ []) }
     ensures tools { ToolsStay (S.told tools.old) (S.faults tools.old) (S.told tools.new) (S.faults tools.new) }
 {

@@ -69,6 +69,7 @@ impl Session {
     }
 
     // Bytes of a text that is put, up to its last one, and how many.
+    #[tactic(auto, using(crate::proofs::ServeLemmas::idle_one))]
     fn take_text<O: Sink, S: Spawner>(
         &mut self,
         alloc: Global,
@@ -122,6 +123,7 @@ impl Session {
     }
 
     // The LF of a line.
+    #[tactic(auto, using(crate::proofs::ServeLemmas::idle_one))]
     fn end_line<O: Sink, S: Spawner>(
         &mut self,
         alloc: Global,
@@ -156,6 +158,7 @@ impl Session {
     }
 
     // Bytes up to the end of a line, or all where no line ends, and how many.
+    #[tactic(auto, using(crate::proofs::ServeLemmas::idle_one))]
     fn take_line<O: Sink, S: Spawner>(
         &mut self,
         alloc: Global,
@@ -210,6 +213,7 @@ impl Session {
     }
 
     /// Takes the next piece of the input, and answers each command that is whole now.
+    #[tactic(auto, using(crate::proofs::ServeLemmas::idle_one))]
     pub(crate) fn take_piece<O: Sink, S: Spawner>(
         &mut self,
         alloc: Global,
@@ -234,6 +238,7 @@ impl Session {
     }
 
     /// Answers what is held at the end of the input.
+    #[tactic(auto, using(crate::proofs::ServeLemmas::idle_one))]
     pub(crate) fn finish<O: Sink, S: Spawner>(
         mut self,
         alloc: Global,

@@ -7,7 +7,7 @@ use Rattle.odin_shell.proofs.CommandLemmas.{Spells-once}
 use Rattle.odin_shell.proofs.entry.serve_graph.Goals as goal
 
 pub returns-in_default-clause-memory : goal.returns-in_default-clause-memory
-returns-in_default-clause-memory g c = λ is. Leaves-none commands Keeps (machine c.args.graph (g.S.Spawner.told c.args.tools.now).answer) _ _ _ _ refl (record { acknowledged = omega arith; furthest = omega arith })
+returns-in_default-clause-memory g c = λ is. Leaves-none commands Keeps (machine c.args.graph (g.S.Spawner.told c.args.tools.now).answer) _ _ _ _ refl (record { tools = refl; faults = refl; acknowledged = omega arith })
 
 pub returns-in-Whole-clause-not_short : goal.returns-in-Whole-clause-not_short
 returns-in-Whole-clause-not_short g c = λ is. not_inside commands Keeps (machine c.in-Ok.deriver (g.S.Spawner.told c.args.tools.now).answer) Spells-once _ _ _ _ _ _ _ c.in-Whole.ensures.ends

@@ -1,4 +1,4 @@
-use Rattle.std.proofs.Common.{◌≡◌, ◌<◌, ◌≤◌, length, rules, arith}
+use Rattle.std.proofs.Common.{arith}
 use Rattle.odin_shell.proofs.GraphLemmas.{one_more, first_here, all_built}
 use Rattle.odin_shell.proofs.graph.first_not_built.Goals as goal
 

@@ -1,7 +1,7 @@
-use Rattle.std.proofs.Common.{◌≡◌, ◌≢◌, sym, ap, subst, ◌∙◌, List, ℕ}
-use Rattle.std.specs.Prelude.{Some, codes}
+use Rattle.std.proofs.Common.{sym, subst}
+use Rattle.std.specs.Prelude.{Some}
 use Rattle.meaning_graph.specs.Graphs.{Text, Graph}
-use Rattle.odin_shell.specs.Opened.{IsRefused, not_read, not_yet, IsFirstNotBuilt, fault_line, at_line}
+use Rattle.odin_shell.specs.Opened.{IsRefused, not_read, not_yet, IsFirstNotBuilt}
 use Rattle.odin_shell.proofs.GraphLemmas.{first_within}
 use Rattle.odin_shell.proofs.graph.read_text.Goals as goal
 
@@ -16,4 +16,4 @@ line_of-line-requires-clause-within c = first_within c.in-Ok.file.graph c.in-Som
 pub returns : goal.returns
 returns c =
     subst (λ (line : Text). IsRefused (Some c.args.text.now) line) (sym c.in_ok-line_at.ensures)
-    (not_yet c.args.text.now c.in-Ok.file.graph c.in-Some.number c.line_of-line.result c.in-Ok.ensures.ok.short c.in-Ok.ensures.ok.spelled c.checked.ensures (subst (λ (g : Graph). IsFirstNotBuilt g c.in-Some.number) c.decls.ensures c.in-Some.ensures) c.line_of-line.ensures)
+    (not_yet c.args.text.now c.in-Ok.file.graph c.in-Some.number c.line_of-line.result (record { short = c.in-Ok.ensures.ok.short; spelled = c.in-Ok.ensures.ok.spelled; checked = c.checked.ensures }) (subst (λ (g : Graph). IsFirstNotBuilt g c.in-Some.number) c.decls.ensures c.in-Some.ensures) c.line_of-line.ensures)

@@ -6,4 +6,4 @@ use Rattle.odin_shell.specs.Machine.{machine}
 use Rattle.odin_shell.proofs.input.serve_input.Goals as goal
 
 pub returns-in-Err-clause-ends : goal.returns-in-Err-clause-ends
-returns-in-Err-clause-ends g c = Leaves-none commands Keeps (machine c.args.deriver.now (g.S.Spawner.told c.args.tools.now).answer) _ _ _ _ refl (record { acknowledged = omega arith; furthest = omega arith })
+returns-in-Err-clause-ends g c = Leaves-none commands Keeps (machine c.args.deriver.now (g.S.Spawner.told c.args.tools.now).answer) _ _ _ _ refl (record { tools = refl; faults = refl; acknowledged = omega arith })

@@ -7,6 +7,7 @@ use Rattle.odin_shell.specs.Commands.{commands}
 use Rattle.odin_shell.specs.Held.{Keeps}
 use Rattle.odin_shell.specs.Machine.{machine}
 use Rattle.odin_shell.proofs.HeldLemmas.{Keeps-less}
+use Rattle.odin_shell.proofs.ServeLemmas.{idle_one}
 use Rattle.odin_shell.proofs.SessionLemmas.{stay_on, rests, reads_none}
 use Rattle.odin_shell.proofs.input.serve_pieces.Goals as goal
 
@@ -16,7 +17,7 @@ loop-count-init g c = record {
   within = omega arith;
   later_in = omega arith;
   later_out = omega arith;
-  tools = record { answers = refl; later = omega arith };
+  tools = record { answers = refl; one = idle_one (g.S.Spawner.told c.args.tools.now) c.requires.idle; later = omega arith };
   idle = c.requires.idle;
 }
 
@@ -31,7 +32,7 @@ loop-count-preserved g c = record {
 }
 
 pub returns-in_default-clause-ends : goal.returns-in_default-clause-ends
-returns-in_default-clause-ends g c = Leaves-failed commands Keeps (machine c.args.deriver.now (g.S.Spawner.told c.args.tools.now).answer) (rests c.args.deriver.now (g.S.Spawner.told c.args.tools.now).answer) Keeps-less _ _ _ _ _ _ _ _ _ c.loop-count.invariant.reading c.in_default.ensures.err
+returns-in_default-clause-ends g c = Leaves-failed commands Keeps (machine c.args.deriver.now (g.S.Spawner.told c.args.tools.now).answer) (rests c.args.deriver.now (g.S.Spawner.told c.args.tools.now).answer) Keeps-less _ _ _ _ _ _ _ _ _ c.loop-count.invariant.reading c.loop-count-test.true c.in_default.ensures.err
 
 pub returns-clause-ends : goal.returns-clause-ends
 returns-clause-ends g c =
@@ -61,8 +62,8 @@ returns-in-Err-Output-clause-ends g c =
 
 pub returns-in-Err-Memory-take_piece-clause-ends : goal.returns-in-Err-Memory-take_piece-clause-ends
 returns-in-Err-Memory-take_piece-clause-ends g c =
-    Leaves-piece commands Keeps (machine c.args.deriver.now (g.S.Spawner.told c.args.tools.now).answer) before_reply _ _ _ _ _ _ _ _ _ _ _ c.loop-count.invariant.reading c.in-Ok.ensures.bytes ((rw c.in-Err-Memory-take_piece.field-0-is at c.in-Err-Memory-take_piece.ensures.err) _)
+    Leaves-piece commands Keeps (machine c.args.deriver.now (g.S.Spawner.told c.args.tools.now).answer) before_reply _ _ _ _ _ _ _ _ c.in-Ok.size _ _ _ c.loop-count.invariant.reading c.in-Ok.ensures.bytes (length-take-le c.in-Ok.size _ c.in-Ok.ensures.bound) (search rules) ((rw c.in-Err-Memory-take_piece.field-0-is at c.in-Err-Memory-take_piece.ensures.err) _)
 
 pub returns-in-Err-Output-take_piece-clause-ends : goal.returns-in-Err-Output-take_piece-clause-ends
 returns-in-Err-Output-take_piece-clause-ends g c =
-    Leaves-piece commands Keeps (machine c.args.deriver.now (g.S.Spawner.told c.args.tools.now).answer) within_reply _ _ _ _ _ _ _ _ _ _ _ c.loop-count.invariant.reading c.in-Ok.ensures.bytes ((rw c.in-Err-Output-take_piece.field-0-is at c.in-Err-Output-take_piece.ensures.err) _)
+    Leaves-piece commands Keeps (machine c.args.deriver.now (g.S.Spawner.told c.args.tools.now).answer) within_reply _ _ _ _ _ _ _ _ c.in-Ok.size _ _ _ c.loop-count.invariant.reading c.in-Ok.ensures.bytes (length-take-le c.in-Ok.size _ c.in-Ok.ensures.bound) (search rules) ((rw c.in-Err-Output-take_piece.field-0-is at c.in-Err-Output-take_piece.ensures.err) _)

@@ -4,7 +4,7 @@ use Rattle.odin_shell.proofs.ServeLemmas.{at_stop, Serves-whole, Stops-reply, St
 use Rattle.odin_shell.proofs.serve.serve_command.Goals as goal
 
 pub returns-in_err-answer-clause-err : goal.returns-in_err-answer-clause-err
-returns-in_err-answer-clause-err g c = at_stop _ Memory _ c.from_residual.ensures.1 (λ table. Stops-answer _ table _ _ _ _ _ refl c.in_err-answer.ensures.tools.later)
+returns-in_err-answer-clause-err g c = at_stop _ Memory _ c.from_residual.ensures.1 (λ table. Stops-answer _ table _ _ _ _ _ _ c.in_err-answer.ensures.err refl c.in_err-answer.ensures.tools.later)
 
 pub returns-in_err-write_whole-clause-err : goal.returns-in_err-write_whole-clause-err
 returns-in_err-write_whole-clause-err g c =
