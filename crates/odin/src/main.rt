@@ -1,33 +1,35 @@
 //! The program: it makes the objects of the outside and runs a session over them.
 #![tactic(auto)]
 
+mod faults;
 #[cfg(test)]
 mod rows;
+#[cfg(test)]
+mod runs;
 mod streams;
 #[cfg(test)]
 mod tests;
 
+use faults::{MEMORY, fault_of};
 use object_values::{Bytes, FileBody, Memory, Seq};
 use odin_fakes::{MemDisk, MemTree, TableTools};
 use odin_shell::run;
 use std::alloc::Global;
+use std::env::Env;
 use std::process::ExitCode;
 use std::{env, io};
 use streams::{InputSource, OutputSink};
-
-// The exit status for want of memory.
-const MEMORY: u8 = 4;
 
 // The graph: a tool `cc` makes an object `o` of a source `c`.
 const GRAPH: &[u8] =
     b"type c simple;\ntype o simple;\nsuffix .c c;\ntool cc 1 from c to o run \"cc\";\n";
 
-/// A tree that holds one file, the graph.
-fn graph_tree(alloc: Global) -> Result<MemTree, Memory> {
+/// A tree that holds one file, this graph.
+fn tree_of(alloc: Global, graph: &[u8]) -> Result<MemTree, Memory> {
     let mut files = Seq::new(alloc);
     files.push(FileBody {
         name: Bytes::from_slice(alloc, b"g0")?,
-        body: Bytes::from_slice(alloc, GRAPH)?,
+        body: Bytes::from_slice(alloc, graph)?,
     })?;
     Ok(MemTree::new(files))
 }
@@ -38,7 +40,7 @@ where
 {
     let mut input = InputSource::new(rt.reader());
     let mut output = OutputSink::new(io::writer(rt));
-    let mut tree = graph_tree(alloc)?;
+    let mut tree = tree_of(alloc, GRAPH)?;
     let mut disk = MemDisk::new(alloc, Bytes::new(alloc), 0, 0)?;
     let mut tools = TableTools::toy(alloc, Seq::new(alloc));
     Ok(run(
@@ -52,22 +54,9 @@ where
     ))
 }
 
-/// What is said of an exit status on standard error.
-fn last_words(status: u8) -> Option<&'static str> {
-    match status {
-        1 => Some("odin: input ended inside a put"),
-        4 => Some("odin: out of memory"),
-        5 => Some("odin: output fault"),
-        6 => Some("odin: read fault"),
-        10 => Some("odin: input too long"),
-        _ => None,
-    }
-}
-
-/// The exit status of a run with the words of the program. Words that are no text are refused as if there were none.
-fn run_words(rt: &HostRuntime) -> Result<u8, Memory> {
-    let alloc = rt.alloc();
-    let mut words = Vec::new(alloc);
+/// The words of the program. Words that are no text count as if there were none.
+fn words_of<R: Env + AllocGlobal>(rt: &R) -> Result<Vec<String>, Memory> {
+    let mut words = Vec::new(rt.alloc());
     match env::args(rt) {
         Ok(args) => {
             for word in args {
@@ -80,7 +69,13 @@ fn run_words(rt: &HostRuntime) -> Result<u8, Memory> {
             }
         }
     }
-    serve(rt, alloc, words.as_slice())
+    Ok(words)
+}
+
+/// The exit status of a run with the words of the program.
+fn run_words(rt: &HostRuntime) -> Result<u8, Memory> {
+    let words = words_of(rt)?;
+    serve(rt, rt.alloc(), words.as_slice())
 }
 
 fn main(rt: HostRuntime) -> ExitCode {
@@ -88,8 +83,8 @@ fn main(rt: HostRuntime) -> ExitCode {
         Ok(status) => status,
         Err(Memory) => MEMORY,
     };
-    if let Some(text) = last_words(status) {
-        let _ = rt.eprintln(text);
+    if let Some(fault) = fault_of(status) {
+        let _ = rt.eprintln(fault);
     }
     ExitCode::from(status)
 }

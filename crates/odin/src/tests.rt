@@ -1,48 +1,23 @@
-// The worked rows, over a source and a sink in memory.
+// The worked rows of inputs and words, over a source and a sink in memory.
 ghost use Rattle.std.specs.Prelude.{◌<◌};
 
-use super::graph_tree;
-use object_values::{Bytes, Memory, Seq};
-use odin_fakes::{FailSink, FailSource, MemDisk, MemSink, MemSource, TableTools};
-use odin_outside::{Sink, Source};
-use odin_shell::run;
+use super::faults::fault_of;
+use super::runs::{only, sink, source, status_of, status_with, with_taken};
+use super::words_of;
+use object_values::Memory;
+use odin_fakes::{FailSink, FailSource};
 use std::alloc::Global;
+use std::env::{Env, FillError};
 use std::test::Fail;
-
-// The status of a run with these words.
-fn status_of<I: Source, O: Sink>(
-    alloc: Global,
-    words: &[&str],
-    input: &mut I,
-    output: &mut O,
-) -> Result<u8, Memory> {
-    let mut owned = Vec::new(alloc);
-    for word in words {
-        owned.push(String::from_str(alloc, word)?)?;
-    }
-    let mut tree = graph_tree(alloc)?;
-    let mut disk = MemDisk::new(alloc, Bytes::new(alloc), 0, 0)?;
-    let mut tools = TableTools::toy(alloc, Seq::new(alloc));
-    Ok(run(
-        alloc,
-        owned.as_slice(),
-        input,
-        output,
-        &mut tree,
-        &mut disk,
-        &mut tools,
-    ))
-}
 
 // The status and the output of a run over this input, read and written in such pieces.
 fn outcome(alloc: Global, text: &[u8], piece: usize) -> Result<(u8, Vec<u8>), Memory>
     requires { 0 < piece }
 {
-    let mut input = MemSource::new(Bytes::from_slice(alloc, text)?, piece);
-    let mut output = MemSink::new(alloc, piece);
-    output.reserve(10_000)?;
-    let status = status_of(alloc, &["odin", "g0"], &mut input, &mut output)?;
-    Ok((status, output.taken().to_vec(alloc)?))
+    let mut input = source(alloc, text, piece)?;
+    let mut output = sink(alloc, 10_000, piece)?;
+    let status = status_with(alloc, &["odin", "g0"], &mut input, &mut output)?;
+    with_taken(alloc, status, output.taken())
 }
 
 // An input, the status, and the output.
@@ -95,96 +70,169 @@ const ROWS: [(&[u8], u8, &[u8]); 12] = [
 
 #[test]
 fn answers_the_worked_rows(rt: HostRuntime) -> Result<(), Fail> {
-    let alloc = rt.alloc();
-    for (input, end, want) in ROWS {
+    for (input, end, want) in &ROWS {
         for piece in [1, 2, 7, 5000] {
-            let (status, output) = outcome(alloc, input, piece)?;
-            assert_eq!(rt; status, end);
-            assert_eq!(rt; output.as_slice(), want);
+            let (status, output) = outcome(rt.alloc(), input, piece)?;
+            assert_eq!(rt; status, *end);
+            assert!(rt; output.as_slice() == *want);
         }
     }
     Ok(())
 }
 
-// A text of so many bytes behind another.
-fn padded(alloc: Global, front: &[u8], count: usize) -> Result<Vec<u8>, Memory> {
-    let mut text = front.to_vec(alloc)?;
+// So many letters behind a text.
+fn put_padded(text: &mut Vec<u8>, front: &[u8], count: usize) -> Result<(), Memory> {
+    text.extend_from_slice(front)?;
     for _ in 0..count {
         text.push(b'a')?;
     }
-    Ok(text)
+    Ok(())
 }
+
+// The status and the output where so many letters stand behind a text.
+fn padded_outcome(alloc: Global, front: &[u8], count: usize) -> Result<(u8, Vec<u8>), Memory> {
+    let mut text = Vec::new(alloc);
+    put_padded(&mut text, front, count)?;
+    outcome(alloc, text.as_slice(), 5000)
+}
+
+// What stands in front of so many letters, and the start of the output.
+const LENGTHS: [(&[u8], usize, &[u8]); 7] = [
+    (b"ask ", 255, b"object abort none 0\nmessages 1\nabort aaa"),
+    (b"ask ", 256, b"refused command\n"),
+    (b"ask ", 1020, b"refused command\n"),
+    (b"ask ", 1021, b"refused command\n"),
+    (b"ask ", 5000, b"refused command\n"),
+    (
+        b"put a.c 0\nask a.c\nask ",
+        70_000,
+        b"put a.c 0\nobject ok simple 0\n\nmessages 0\nrefused command\n",
+    ),
+    (b"put a.c 70000\n", 70_000, b"put a.c 70000\n"),
+];
 
 #[test]
 fn holds_the_limits_of_lines(rt: HostRuntime) -> Result<(), Fail> {
-    let alloc = rt.alloc();
-    // What stands in front of so many letters, and the start of the output.
-    let rows: [(&[u8], usize, &[u8]); 7] = [
-        (b"ask ", 255, b"object abort none 0\nmessages 1\nabort aaa"),
-        (b"ask ", 256, b"refused command\n"),
-        (b"ask ", 1020, b"refused command\n"),
-        (b"ask ", 1021, b"refused command\n"),
-        (b"ask ", 5000, b"refused command\n"),
-        (
-            b"put a.c 0\nask a.c\nask ",
-            70_000,
-            b"put a.c 0\nobject ok simple 0\n\nmessages 0\nrefused command\n",
-        ),
-        (b"put a.c 70000\n", 70_000, b"put a.c 70000\n"),
-    ];
-    for (front, count, want) in rows {
-        let input = padded(alloc, front, count)?;
-        let (status, output) = outcome(alloc, input.as_slice(), 5000)?;
+    for (front, count, want) in &LENGTHS {
+        let (status, output) = padded_outcome(rt.alloc(), front, *count)?;
         assert_eq!(rt; status, 0);
         assert!(rt; output.as_slice().starts_with(want));
     }
     Ok(())
 }
 
+const USAGE: &[u8] = b"usage: odin [--jobs N] GRAPH, or odin [--jobs N] --load N\n";
+
+// The status and the output of a run with these words and so much room.
+fn refused(alloc: Global, words: &[&str], room: usize) -> Result<(u8, Vec<u8>), Memory> {
+    let mut input = source(alloc, b"ask a.c\n", 7)?;
+    let mut output = sink(alloc, room, 7)?;
+    let status = status_with(alloc, words, &mut input, &mut output)?;
+    with_taken(alloc, status, output.taken())
+}
+
 #[test]
 fn refuses_other_words(rt: HostRuntime) -> Result<(), Fail> {
-    let alloc = rt.alloc();
-    let usage: &[u8] = b"usage: odin [--jobs N] GRAPH, or odin [--jobs N] --load N\n";
     let rows: [&[&str]; 3] = [&[], &["odin"], &["odin", "g0", "g0"]];
     for words in rows {
-        for room in [usage.len(), 20, 0] {
-            let mut input = MemSource::new(Bytes::from_slice(alloc, b"ask a.c\n")?, 7);
-            let mut output = MemSink::new(alloc, 7);
-            output.reserve(room)?;
-            let status = status_of(alloc, words, &mut input, &mut output)?;
-            assert_eq!(rt; status, if room == usage.len() { 9 } else { 5 });
-            assert_eq!(rt; output.taken().len(), room);
-            assert!(rt; usage.starts_with(output.taken()));
+        for (room, end) in [(USAGE.len(), 9), (20, 5), (0, 5)] {
+            let (status, output) = refused(rt.alloc(), words, room)?;
+            assert_eq!(rt; status, end);
+            assert!(rt; output.as_slice() == &USAGE[..room]);
         }
     }
     Ok(())
 }
 
-// A list of one number.
-fn only(alloc: Global, number: u32) -> Result<Seq<u32>, Memory> {
-    let mut numbers = Seq::new(alloc);
-    numbers.push(number)?;
-    Ok(numbers)
+// Words of a program, by their bytes.
+#[derive(Drop)]
+struct Words {
+    words: &'static [&'static [u8]],
+}
+
+impl Env for Words {
+    fn arg(&self, i: usize, buf: &mut [u8]) -> Result<usize, FillError> {
+        let Some(word) = self.words.get(i) else {
+            return Err(FillError::NotPresent);
+        };
+        if word.len() > buf.len() {
+            return Err(FillError::TooLong);
+        }
+        buf[..word.len()].copy_from_slice(word);
+        Ok(word.len())
+    }
+
+    fn var(&self, _name: &str, _buf: &mut [u8]) -> Result<usize, FillError> {
+        Err(FillError::NotPresent)
+    }
+
+    fn var_at(&self, _i: usize, _buf: &mut [u8]) -> Result<usize, FillError> {
+        Err(FillError::NotPresent)
+    }
+}
+
+// The status of a run with no input and the words that have these bytes.
+fn status_of_bytes(alloc: Global, words: &'static [&'static [u8]]) -> Result<u8, Memory> {
+    let words = words_of(&(Words { words }, alloc))?;
+    let mut input = source(alloc, b"", 7)?;
+    let mut output = sink(alloc, 100, 7)?;
+    status_of(alloc, words.as_slice(), &mut input, &mut output)
+}
+
+#[test]
+fn refuses_words_that_are_no_text(rt: HostRuntime) -> Result<(), Fail> {
+    let rows: [(&'static [&'static [u8]], u8); 4] = [
+        (&[b"odin", b"g0"], 0),
+        (&[b"odin", b"g\xff"], 9),
+        (&[b"\xc3", b"g0"], 9),
+        (&[b"odin", b"\xc3\xa4"], 2),
+    ];
+    for (words, end) in rows {
+        assert_eq!(rt; status_of_bytes(rt.alloc(), words)?, end);
+    }
+    Ok(())
+}
+
+#[test]
+fn tells_the_faults_of_statuses(rt: HostRuntime) -> Result<(), Fail> {
+    for (status, text) in [
+        (1, "odin: input ended inside a put"),
+        (4, "odin: out of memory"),
+        (5, "odin: output fault"),
+        (6, "odin: read fault"),
+        (10, "odin: input too long"),
+    ] {
+        let Some(fault) = fault_of(status) else {
+            assert!(rt; false, "no fault at {status}");
+            continue;
+        };
+        assert!(rt;
+            fault.to_string(rt.alloc())?.as_str() == text,
+            "at {status}"
+        );
+    }
+    for status in [0, 2, 9] {
+        assert!(rt; fault_of(status).is_none(), "at {status}");
+    }
+    Ok(())
 }
 
 // The status and the output where a read fails, in pieces of 7.
 fn failing_read(alloc: Global, text: &[u8], number: u32) -> Result<(u8, Vec<u8>), Memory> {
-    let inner = MemSource::new(Bytes::from_slice(alloc, text)?, 7);
-    let mut input = FailSource::new(inner, only(alloc, number)?);
-    let mut output = MemSink::new(alloc, 7);
-    output.reserve(10_000)?;
-    let status = status_of(alloc, &["odin", "g0"], &mut input, &mut output)?;
-    Ok((status, output.taken().to_vec(alloc)?))
+    let fails = only(alloc, number)?;
+    let mut input = FailSource::new(source(alloc, text, 7)?, fails);
+    let mut output = sink(alloc, 10_000, 7)?;
+    let status = status_with(alloc, &["odin", "g0"], &mut input, &mut output)?;
+    with_taken(alloc, status, output.taken())
 }
 
 // The status and the output where a write fails, in pieces of 7.
 fn failing_write(alloc: Global, text: &[u8], number: u32) -> Result<(u8, Vec<u8>), Memory> {
-    let mut input = MemSource::new(Bytes::from_slice(alloc, text)?, 7);
-    let mut inner = MemSink::new(alloc, 7);
-    inner.reserve(10_000)?;
-    let mut output = FailSink::new(inner, only(alloc, number)?);
-    let status = status_of(alloc, &["odin", "g0"], &mut input, &mut output)?;
-    Ok((status, output.inner().taken().to_vec(alloc)?))
+    let fails = only(alloc, number)?;
+    let mut output = FailSink::new(sink(alloc, 10_000, 7)?, fails);
+    let mut input = source(alloc, text, 7)?;
+    let status = status_with(alloc, &["odin", "g0"], &mut input, &mut output)?;
+    with_taken(alloc, status, output.inner().taken())
 }
 
 const FIRST_RUN: &[u8] = b"put a.c 0\nask a.c\n";
@@ -192,15 +240,18 @@ const FIRST_RUN: &[u8] = b"put a.c 0\nask a.c\n";
 const FIRST_REPLIES: &[u8] = b"put a.c 0\nobject ok simple 0\n\nmessages 0\n";
 
 #[test]
-fn stops_at_each_failing_call(rt: HostRuntime) -> Result<(), Fail> {
-    let alloc = rt.alloc();
+fn stops_at_each_failing_read(rt: HostRuntime) -> Result<(), Fail> {
     // The number of the read that fails, the status, and how many bytes of the replies are written.
     for (number, end, count) in [(1, 6, 0), (2, 6, 0), (3, 6, 10), (4, 6, 41), (5, 0, 41)] {
-        let (status, output) = failing_read(alloc, FIRST_RUN, number)?;
+        let (status, output) = failing_read(rt.alloc(), FIRST_RUN, number)?;
         assert_eq!(rt; status, end);
-        assert_eq!(rt; output.len(), count);
-        assert!(rt; FIRST_REPLIES.starts_with(output.as_slice()));
+        assert!(rt; output.as_slice() == &FIRST_REPLIES[..count]);
     }
+    Ok(())
+}
+
+#[test]
+fn stops_at_each_failing_write(rt: HostRuntime) -> Result<(), Fail> {
     // The same of the write that fails.
     for (number, end, count) in [
         (1, 5, 0),
@@ -212,36 +263,41 @@ fn stops_at_each_failing_call(rt: HostRuntime) -> Result<(), Fail> {
         (7, 5, 38),
         (8, 0, 41),
     ] {
-        let (status, output) = failing_write(alloc, FIRST_RUN, number)?;
+        let (status, output) = failing_write(rt.alloc(), FIRST_RUN, number)?;
         assert_eq!(rt; status, end);
-        assert_eq!(rt; output.len(), count);
-        assert!(rt; FIRST_REPLIES.starts_with(output.as_slice()));
+        assert!(rt; output.as_slice() == &FIRST_REPLIES[..count]);
     }
     Ok(())
 }
 
+const PUT_REPLIES: &[u8] = b"put a.c 5000\nput a.c 5000\nput a.c 5000\n";
+
 // Three puts of 5,000 bytes.
-fn three_puts(alloc: Global) -> Result<Vec<u8>, Memory> {
-    let mut text = Vec::new(alloc);
+fn put_three(text: &mut Vec<u8>) -> Result<(), Memory> {
     for _ in 0..3 {
-        text.extend_from_slice(padded(alloc, b"put a.c 5000\n", 5000)?.as_slice())?;
+        put_padded(text, b"put a.c 5000\n", 5000)?;
     }
-    Ok(text)
+    Ok(())
 }
 
 #[test]
-fn stops_at_each_failing_call_of_long_puts(rt: HostRuntime) -> Result<(), Fail> {
-    let alloc = rt.alloc();
-    let text = three_puts(alloc)?;
-    let replies: &[u8] = b"put a.c 5000\nput a.c 5000\nput a.c 5000\n";
+fn stops_at_each_failing_read_of_long_puts(rt: HostRuntime) -> Result<(), Fail> {
+    let mut text = Vec::new(rt.alloc());
+    put_three(&mut text)?;
     // The 2,150th read gives the end of the input, so each one before it has given 7 bytes of the 15,039.
     for number in 1..2152u32 {
         let read = (7 * (number - 1)).min(15_039);
-        let (status, output) = failing_read(alloc, text.as_slice(), number)?;
+        let (status, output) = failing_read(rt.alloc(), text.as_slice(), number)?;
         assert_eq!(rt; status, if number == 2151 { 0 } else { 6 });
-        assert_eq!(rt; output.len(), 13 * (read / 5013) as usize);
-        assert!(rt; replies.starts_with(output.as_slice()));
+        assert!(rt; output.as_slice() == &PUT_REPLIES[..13 * (read / 5013) as usize]);
     }
+    Ok(())
+}
+
+#[test]
+fn stops_at_each_failing_write_of_long_puts(rt: HostRuntime) -> Result<(), Fail> {
+    let mut text = Vec::new(rt.alloc());
+    put_three(&mut text)?;
     for (number, end, count) in [
         (1, 5, 0),
         (2, 5, 7),
@@ -251,10 +307,9 @@ fn stops_at_each_failing_call_of_long_puts(rt: HostRuntime) -> Result<(), Fail> 
         (6, 5, 33),
         (7, 0, 39),
     ] {
-        let (status, output) = failing_write(alloc, text.as_slice(), number)?;
+        let (status, output) = failing_write(rt.alloc(), text.as_slice(), number)?;
         assert_eq!(rt; status, end);
-        assert_eq!(rt; output.len(), count);
-        assert!(rt; replies.starts_with(output.as_slice()));
+        assert!(rt; output.as_slice() == &PUT_REPLIES[..count]);
     }
     Ok(())
 }

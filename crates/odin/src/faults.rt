@@ -1,0 +1,41 @@
+// What the program says of its exit status.
+ghost use Rattle.std.specs.Prelude.{◌≡◌, ◌≢◌, Some, None};
+
+use thiserror::Error;
+
+/// The exit status for want of memory.
+pub const MEMORY: u8 = 4;
+
+/// Why a run ended early, where standard error tells it.
+#[derive(Debug, Drop, Error)]
+pub enum Fault {
+    #[error("odin: input ended inside a put")]
+    CutShort,
+    #[error("odin: out of memory")]
+    Memory,
+    #[error("odin: output fault")]
+    Output,
+    #[error("odin: read fault")]
+    Input,
+    #[error("odin: input too long")]
+    TooLong,
+}
+
+/// The fault that an exit status stands for, where standard error tells one: 2 and 9 have written a line of their own.
+pub fn fault_of(status: u8) -> Option<Fault>
+    ensures cut_short { status ≡ 1 → result ≡ Some Fault.CutShort }
+    ensures memory { status ≡ 4 → result ≡ Some Fault.Memory }
+    ensures output { status ≡ 5 → result ≡ Some Fault.Output }
+    ensures input { status ≡ 6 → result ≡ Some Fault.Input }
+    ensures too_long { status ≡ 10 → result ≡ Some Fault.TooLong }
+    ensures none { status ≢ 1 → status ≢ 4 → status ≢ 5 → status ≢ 6 → status ≢ 10 → result ≡ None }
+{
+    match status {
+        1 => Some(Fault::CutShort),
+        MEMORY => Some(Fault::Memory),
+        5 => Some(Fault::Output),
+        6 => Some(Fault::Input),
+        10 => Some(Fault::TooLong),
+        _ => None,
+    }
+}
