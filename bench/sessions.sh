@@ -1,13 +1,19 @@
 #!/bin/bash
-# Measures a session beside sha256sum and dd, in one run: the medians of five.
+# Measures a session beside sha256sum and dd, in one run: the medians of five rounds. The memory is measured once.
 set -eu
+export LC_ALL=C
 cd "$(dirname "$0")/.."
 odin=$PWD/crates/odin/out/odin
 work=$(mktemp -d)
 trap 'rm -rf "$work"' EXIT
 
 # The seconds that a command takes, with its input and without its output.
-seconds() { local input=$1; shift; /usr/bin/time -f %e -o "$work/time" "$@" < "$input" > /dev/null 2> /dev/null; cat "$work/time"; }
+seconds() {
+    local input=$1 start=$EPOCHREALTIME
+    shift
+    "$@" < "$input" > /dev/null 2> /dev/null
+    awk -v a="$start" -v b="$EPOCHREALTIME" 'BEGIN { printf "%.3f\n", b - a }'
+}
 median() { sort -n | sed -n 3p; }
 ratio() { awk -v a="$1" -v b="$2" 'BEGIN { printf "%.2f\n", a / b }'; }
 
