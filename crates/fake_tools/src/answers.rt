@@ -8,7 +8,7 @@ use std::alloc::Global;
 use toy_tools::toy;
 
 /// A job with what it leaves.
-#[derive(Debug, PartialEq, Eq, PartialOrd, Ord, Hash, Drop)]
+#[derive(Debug, PartialEq, Eq, Hash, Drop)]
 pub struct JobRaw {
     pub job: Job,
     pub raw: Raw,
@@ -24,7 +24,7 @@ impl Copied for JobRaw {
 }
 
 /// What jobs leave: that of the first pair with the job, or the other one where there is none; or what the toy tools make of them.
-#[derive(Debug, PartialEq, Eq, PartialOrd, Ord, Hash, Drop)]
+#[derive(Debug, PartialEq, Eq, Hash, Drop)]
 pub enum Answers {
     Pairs(Seq<JobRaw>, Raw),
     Toys,

@@ -5,14 +5,14 @@ use crate::seq::{Bytes, Seq};
 use std::alloc::Global;
 
 /// A part of a compound type: its name and the name of its type.
-#[derive(Debug, PartialEq, Eq, PartialOrd, Ord, Hash, Drop)]
+#[derive(Debug, PartialEq, Eq, Hash, Drop)]
 pub struct PartDecl {
     pub name: Bytes,
     pub of: Bytes,
 }
 
 /// What the objects of a type are: bytes, a list of a type, or named parts.
-#[derive(Debug, PartialEq, Eq, PartialOrd, Ord, Hash, Drop)]
+#[derive(Debug, PartialEq, Eq, Hash, Drop)]
 pub enum Kind {
     Simple,
     List(Bytes),
@@ -20,7 +20,7 @@ pub enum Kind {
 }
 
 /// A type, its kind and the names of its supertypes.
-#[derive(Debug, PartialEq, Eq, PartialOrd, Ord, Hash, Drop)]
+#[derive(Debug, PartialEq, Eq, Hash, Drop)]
 pub struct TypeDecl {
     pub name: Bytes,
     pub kind: Kind,
@@ -28,21 +28,21 @@ pub struct TypeDecl {
 }
 
 /// The type of the sources whose names end with a suffix.
-#[derive(Debug, PartialEq, Eq, PartialOrd, Ord, Hash, Drop)]
+#[derive(Debug, PartialEq, Eq, Hash, Drop)]
 pub struct SuffixDecl {
     pub suffix: Bytes,
     pub of: Bytes,
 }
 
 /// A further input of a tool: the object of a type that the base leads to, or a source by its name.
-#[derive(Debug, PartialEq, Eq, PartialOrd, Ord, Hash, Drop)]
+#[derive(Debug, PartialEq, Eq, Hash, Drop)]
 pub enum Extra {
     Also(Bytes),
     With(Bytes),
 }
 
 /// A tool: its version, the words that start it, the parameters that it uses, its further inputs and its scan type.
-#[derive(Debug, PartialEq, Eq, PartialOrd, Ord, Hash, Drop)]
+#[derive(Debug, PartialEq, Eq, Hash, Drop)]
 pub struct ToolDecl {
     pub version: Bytes,
     pub words: Seq<Bytes>,
@@ -52,7 +52,7 @@ pub struct ToolDecl {
 }
 
 /// How a maker makes its object.
-#[derive(Debug, PartialEq, Eq, PartialOrd, Ord, Hash, Drop)]
+#[derive(Debug, PartialEq, Eq, Hash, Drop)]
 pub enum Make {
     Tool(ToolDecl),
     Read,
@@ -61,7 +61,7 @@ pub enum Make {
 }
 
 /// A maker, with the type that it takes and the type that it makes.
-#[derive(Debug, PartialEq, Eq, PartialOrd, Ord, Hash, Drop)]
+#[derive(Debug, PartialEq, Eq, Hash, Drop)]
 pub struct MakerDecl {
     pub name: Bytes,
     pub make: Make,
@@ -70,7 +70,7 @@ pub struct MakerDecl {
 }
 
 /// One declaration of a graph.
-#[derive(Debug, PartialEq, Eq, PartialOrd, Ord, Hash, Drop)]
+#[derive(Debug, PartialEq, Eq, Hash, Drop)]
 pub enum Decl {
     ObjectType(TypeDecl),
     Suffix(SuffixDecl),

@@ -12,14 +12,14 @@ pub enum End {
 }
 
 /// A file with its bytes.
-#[derive(Debug, PartialEq, Eq, PartialOrd, Ord, Hash, Drop)]
+#[derive(Debug, PartialEq, Eq, Hash, Drop)]
 pub struct FileBody {
     pub name: Bytes,
     pub body: Bytes,
 }
 
 /// The words that start a child program, the files that it finds, and the names of the files that are read when it ended.
-#[derive(Debug, PartialEq, Eq, PartialOrd, Ord, Hash, Drop)]
+#[derive(Debug, PartialEq, Eq, Hash, Drop)]
 pub struct Job {
     pub words: Seq<Bytes>,
     pub files: Seq<FileBody>,
@@ -27,7 +27,7 @@ pub struct Job {
 }
 
 /// The end of a child program, and the files that it left.
-#[derive(Debug, PartialEq, Eq, PartialOrd, Ord, Hash, Drop)]
+#[derive(Debug, PartialEq, Eq, Hash, Drop)]
 pub struct Raw {
     pub end: End,
     pub files: Seq<FileBody>,

@@ -14,7 +14,7 @@ pub enum Status {
 }
 
 /// A message of an object: the label of the node that it comes from, its level and its text.
-#[derive(Debug, PartialEq, Eq, PartialOrd, Ord, Hash, Drop)]
+#[derive(Debug, PartialEq, Eq, Hash, Drop)]
 pub struct Message {
     pub label: Bytes,
     pub level: Status,

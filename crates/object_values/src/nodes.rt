@@ -12,14 +12,14 @@ pub struct ParamValue {
 }
 
 /// One maker, by its number in the graph, or the pick of an element or a part.
-#[derive(Debug, PartialEq, Eq, PartialOrd, Ord, Hash, Drop)]
+#[derive(Debug, PartialEq, Eq, Hash, Drop)]
 pub enum Step {
     Maker(u32),
     Pick(Bytes),
 }
 
 /// An object by the way to it. Without steps it is the source itself.
-#[derive(Debug, PartialEq, Eq, PartialOrd, Ord, Hash, Drop)]
+#[derive(Debug, PartialEq, Eq, Hash, Drop)]
 pub struct Node {
     pub source: Bytes,
     pub params: Seq<ParamValue>,

@@ -16,14 +16,14 @@ pub enum Seen {
 }
 
 /// A need of a node, with what was seen of it.
-#[derive(Debug, PartialEq, Eq, PartialOrd, Ord, Hash, Drop)]
+#[derive(Debug, PartialEq, Eq, Hash, Drop)]
 pub struct Dep {
     pub node: Node,
     pub seen: Seen,
 }
 
 /// What is settled again at each check of a record.
-#[derive(Debug, PartialEq, Eq, PartialOrd, Ord, Hash, Drop)]
+#[derive(Debug, PartialEq, Eq, Hash, Drop)]
 pub struct Renewed {
     pub status: Status,
     pub messages: Seq<Message>,
@@ -31,7 +31,7 @@ pub struct Renewed {
 }
 
 /// The kept record of a node. The last `reached` deps are the reached sources; `checked` is the epoch at which it was last found to hold.
-#[derive(Debug, PartialEq, Eq, PartialOrd, Ord, Hash, Drop)]
+#[derive(Debug, PartialEq, Eq, Hash, Drop)]
 pub struct NodeRecord {
     pub node: Node,
     pub deps: Seq<Dep>,
@@ -44,14 +44,14 @@ pub struct NodeRecord {
 }
 
 /// A need of a node that was just settled, with its value.
-#[derive(Debug, PartialEq, Eq, PartialOrd, Ord, Hash, Drop)]
+#[derive(Debug, PartialEq, Eq, Hash, Drop)]
 pub struct FreshDep {
     pub node: Node,
     pub value: Option<Value>,
 }
 
 /// What was just settled of a node, before it is kept.
-#[derive(Debug, PartialEq, Eq, PartialOrd, Ord, Hash, Drop)]
+#[derive(Debug, PartialEq, Eq, Hash, Drop)]
 pub struct Fresh {
     pub node: Node,
     pub deps: Seq<FreshDep>,

@@ -7,14 +7,14 @@ use crate::seq::{Bytes, Seq};
 use std::alloc::Global;
 
 /// A named part of a compound.
-#[derive(Debug, PartialEq, Eq, PartialOrd, Ord, Hash, Drop)]
+#[derive(Debug, PartialEq, Eq, Hash, Drop)]
 pub struct Part {
     pub name: Bytes,
     pub body: Bytes,
 }
 
 /// What an object is: bytes, references to nodes in order, or named parts in order.
-#[derive(Debug, PartialEq, Eq, PartialOrd, Ord, Hash, Drop)]
+#[derive(Debug, PartialEq, Eq, Hash, Drop)]
 pub enum Value {
     Simple(Bytes),
     List(Seq<Node>),
@@ -22,7 +22,7 @@ pub enum Value {
 }
 
 /// An object as it is shown. It has a value exactly where its status is not `Abort`.
-#[derive(Debug, PartialEq, Eq, PartialOrd, Ord, Hash, Drop)]
+#[derive(Debug, PartialEq, Eq, Hash, Drop)]
 pub struct View {
     pub value: Option<Value>,
     pub status: Status,

@@ -53,7 +53,7 @@ impl TypeName {
 }
 
 /// A source, and the type to go on to if one is named.
-#[derive(Debug, PartialEq, Eq, PartialOrd, Ord, Hash, Drop)]
+#[derive(Debug, PartialEq, Eq, Hash, Drop)]
 pub struct Request {
     pub(crate) source: Name,
     pub(crate) to: Option<TypeName>,
