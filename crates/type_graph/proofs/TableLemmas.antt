@@ -1,7 +1,12 @@
 -- What the tables of a graph give of its declarations.
 use Rattle.std.proofs.Common.{◌≡◌, ℕ, suc, ◌^◌, ◌||◌, ◌<◌, ◌≤◌, Bool, true, false, List, [], ◌∷◌, refl, sym, ap, ◌∙◌, length, arith, cond, map, slice_get, position, filter_map, get_or}
 use Rattle.std.specs.Prelude.{Option, Some, None, bytes_eq, is_some, find, option_map, option_and_then}
+use Rattle.std.specs.Prelude.{Result, Ok, Err}
+use Rattle.std.specs.Result.{IsErrAnd}
 use Rattle.std.specs.List.{list_any, cons_option}
+use Rattle.std.proofs.lemmas.Result.{err_from_is_err_and}
+use Rattle.type_graph.specs.declared.fault.CheckFault.{CheckFault}
+use Rattle.type_graph.specs.declared.fault.CheckFault.TheVariants as CheckFault
 use Rattle.std.proofs.lemmas.List.{length-map}
 use Rattle.std.proofs.lemmas.Option.{slice_get-map, slice_get-get_or, slice_get_past}
 use Rattle.meaning_texts.specs.Limits.{declaration_limit}
@@ -118,3 +123,16 @@ read_at xs ys n x same below is = ap (λ l. slice_get l n) (sym same) ∙ slice_
 
 pub past_at : {A : Type 0} (xs ys : List A) (n : ℕ) → xs ≡ ys → length xs ≤ n → slice_get ys n ≡ None
 past_at xs ys n same past = ap (λ l. slice_get l n) (sym same) ∙ slice_get_past xs n past
+
+-- ---- errors that are handed on
+
+-- the same error of a call that would give something else
+abbrev pub handed_on : {T U : Type 0} → Result T CheckFault → Result U CheckFault
+handed_on (Ok x) = Err CheckFault.Memory
+handed_on (Err e) = Err e
+
+abbrev pub err_of : (U : Type 0) → CheckFault → Result U CheckFault
+err_of U e = Err e
+
+pub handed_back : {T U : Type 0} (r : Result T CheckFault) (e why : CheckFault) → IsErrAnd r (λ v. v ≡ e) → r ≡ Err why → err_of U e ≡ err_of U why
+handed_back r e why is h = let same = err_from_is_err_and r is in ap handed_on (ap Err (sym same.2) ∙ sym same.1 ∙ h)

@@ -11,7 +11,7 @@ ghost use Rattle.type_graph.specs.Spaces.{names_in};
 ghost use Rattle.type_graph.specs.Tables.{type_names, suffix_names};
 
 use crate::names::Names;
-use crate::spaces::{Space, names_in};
+use crate::spaces::{Space, Spaces};
 use crate::walk::reached;
 use object_values::{Bytes, Decl, Kind, Memory, Seq};
 use std::alloc::Global;
@@ -29,10 +29,7 @@ pub(crate) enum Shape {
 #[derive(Debug, Drop)]
 pub(crate) struct Context<'a> {
     decls: &'a [Decl],
-    types: Names,
-    suffixes: Names,
-    params: Names,
-    makers: Names,
+    spaces: Spaces,
     shapes: Seq<Shape>,
     supers: Seq<Seq<usize>>,
 }
@@ -46,21 +43,18 @@ impl<'a> Model for Context<'a> {
 
     ghost view = { λ c. c.decls.now };
 
-    ghost invariant = { λ c. IsContext c.decls.now c.types c.suffixes c.params c.makers c.shapes c.supers };
+    ghost invariant = { λ c. IsContext c.decls.now c.spaces.types c.spaces.suffixes c.spaces.params c.spaces.makers c.shapes c.supers };
 }
 
 impl<'a> Context<'a> {
     pub(crate) fn new(alloc: Global, decls: &'a [Decl]) -> Result<Self, Memory>
         ensures { IfOk result (λ made. made ≡ decls.now) }
     {
-        let types = names_in(alloc, Space::Types, decls)?;
-        let (shapes, supers) = types_by_number(alloc, &types, decls)?;
+        let spaces = Spaces::new(alloc, decls)?;
+        let (shapes, supers) = types_by_number(alloc, &spaces.types, decls)?;
         Ok(Context {
             decls,
-            suffixes: names_in(alloc, Space::Suffixes, decls)?,
-            params: names_in(alloc, Space::Params, decls)?,
-            makers: names_in(alloc, Space::Makers, decls)?,
-            types,
+            spaces,
             shapes,
             supers,
         })
@@ -70,7 +64,7 @@ impl<'a> Context<'a> {
     pub(crate) fn number(&self, name: &Bytes) -> Option<usize>
         ensures { result ≡ type_named self.now name.now }
     {
-        self.types.place(name.as_slice())
+        self.spaces.types.place(name.as_slice())
     }
 
     pub(crate) fn knows(&self, name: &Bytes) -> bool
@@ -82,7 +76,7 @@ impl<'a> Context<'a> {
     pub(crate) fn has_param(&self, name: &Bytes) -> bool
         ensures { result ≡ has_param self.now name.now }
     {
-        self.params.place(name.as_slice()).is_some()
+        self.spaces.params.place(name.as_slice()).is_some()
     }
 
     /// Whether the name stands among the first names of a space.
@@ -90,10 +84,10 @@ impl<'a> Context<'a> {
         ensures { result ≡ list_any (λ n. bytes_eq n name.now) (take count (names_in space self.now)) }
     {
         let names = match space {
-            Space::Types => &self.types,
-            Space::Suffixes => &self.suffixes,
-            Space::Params => &self.params,
-            Space::Makers => &self.makers,
+            Space::Types => &self.spaces.types,
+            Space::Suffixes => &self.spaces.suffixes,
+            Space::Params => &self.spaces.params,
+            Space::Makers => &self.spaces.makers,
         };
         names.stands_before(name.as_slice(), count)
     }
@@ -116,7 +110,7 @@ impl<'a> Context<'a> {
     pub(crate) fn numbers(&self, alloc: Global, names: &[Bytes]) -> Result<Seq<usize>, Memory>
         ensures { IfOk result (λ numbers. numbers ≡ filter_map (type_named self.now) names.now) }
     {
-        numbers_of(alloc, &self.types, names)
+        numbers_of(alloc, &self.spaces.types, names)
     }
 
     /// Which types are above one of the starts.
@@ -128,19 +122,14 @@ impl<'a> Context<'a> {
         reached(alloc, self.supers.as_slice(), starts)
     }
 
-    /// The names of types, suffixes and parameters.
-    pub(crate) fn into_names(self) -> (Names, Names, Names)
-        ensures types { AreOf result.0 (type_names self.entry) }
-        ensures suffixes { AreOf result.1 (suffix_names self.entry) }
-        ensures params { AreOf result.2 (params self.entry) }
+    /// The names of each space.
+    pub(crate) fn into_spaces(self) -> Spaces
+        ensures types { AreOf result.types (type_names self.entry) }
+        ensures suffixes { AreOf result.suffixes (suffix_names self.entry) }
+        ensures params { AreOf result.params (params self.entry) }
     {
-        let Context {
-            types,
-            suffixes,
-            params,
-            ..
-        } = self;
-        (types, suffixes, params)
+        let Context { spaces, .. } = self;
+        spaces
     }
 }
 

@@ -5,11 +5,8 @@ ghost use Rattle.meaning_graph.specs.Suffixes.{source_type};
 ghost use Rattle.meaning_graph.specs.Types.{is_a};
 ghost use Rattle.meaning_graph_text.specs.Checks.{Checked, FirstFault};
 
-use crate::context::Context;
 use crate::fault::CheckFault;
-use crate::faults::first_fault;
-use crate::names::Names;
-use crate::tables::{maker_places, rows, suffix_types};
+use crate::tables::Tables;
 use object_values::{Decl, GraphFault, MakerDecl, Seq};
 use std::alloc::Global;
 use std::marker::Model;
@@ -18,12 +15,7 @@ use std::marker::Model;
 #[derive(Debug, Drop)]
 pub struct Graph {
     decls: Seq<Decl>,
-    types: Names,
-    params: Names,
-    suffixes: Names,
-    suffix_types: Seq<u32>,
-    maker_places: Seq<u32>,
-    rows: Seq<Seq<bool>>,
+    tables: Tables,
 }
 
 impl Model for Graph {
@@ -35,7 +27,7 @@ impl Model for Graph {
 
     ghost view = { λ g. g.decls };
 
-    ghost invariant = { λ g. AreTables g.decls g.types g.params g.suffixes g.suffix_types g.maker_places g.rows };
+    ghost invariant = { λ g. AreTables g.decls g.tables.spaces.types g.tables.spaces.params g.tables.spaces.suffixes g.tables.numbers.suffix_types g.tables.numbers.maker_places g.tables.numbers.rows };
 }
 
 impl Graph {
@@ -45,23 +37,8 @@ impl Graph {
         ensures checked { IfOk result (λ graph. Checked decls) }
         ensures err { (number : ℕ) (fault : GraphFault) → result ≡ Err (CheckFault.Graph number fault) → FirstFault decls number fault }
     {
-        let context = Context::new(alloc, decls.as_slice())?;
-        if let Some((number, fault)) = first_fault(alloc, &context, decls.as_slice())? {
-            return Err(CheckFault::Graph(number, fault));
-        }
-        let suffix_types = suffix_types(alloc, &context, decls.as_slice())?;
-        let maker_places = maker_places(alloc, decls.as_slice())?;
-        let rows = rows(alloc, &context)?;
-        let (types, suffixes, params) = context.into_names();
-        Ok(Graph {
-            decls,
-            types,
-            params,
-            suffixes,
-            suffix_types,
-            maker_places,
-            rows,
-        })
+        let tables = Tables::new(alloc, decls.as_slice())?;
+        Ok(Graph { decls, tables })
     }
 
     pub fn decls(&self) -> &[Decl]
@@ -74,7 +51,12 @@ impl Graph {
     pub fn maker(&self, number: u32) -> Option<&MakerDecl>
         ensures { option_map (λ maker. maker.now) result ≡ slice_get (makers self.now) number }
     {
-        let place = *self.maker_places.as_slice().get(number as usize)?;
+        let place = *self
+            .tables
+            .numbers
+            .maker_places
+            .as_slice()
+            .get(number as usize)?;
         match self.decls.as_slice().get(place as usize)? {
             Decl::Maker(maker) => Some(maker),
             _ => None,
@@ -85,14 +67,14 @@ impl Graph {
     pub fn type_named(&self, name: &[u8]) -> Option<u32>
         ensures { result ≡ type_named self.now name.now }
     {
-        let place = self.types.place(name)?;
+        let place = self.tables.spaces.types.place(name)?;
         Some(place as u32)
     }
 
     pub fn has_param(&self, name: &[u8]) -> bool
         ensures { result ≡ has_param self.now name.now }
     {
-        self.params.place(name).is_some()
+        self.tables.spaces.params.place(name).is_some()
     }
 
     /// Whether an object of the first type serves as one of the second.
@@ -101,7 +83,7 @@ impl Graph {
         requires upper { b < length (types self.now) }
         ensures { result ≡ is_a self.now a b }
     {
-        self.rows.as_slice()[a as usize].as_slice()[b as usize]
+        self.tables.numbers.rows.as_slice()[a as usize].as_slice()[b as usize]
     }
 
     /// The type of a source: that of the longest declared suffix of its name, or `text`.
@@ -110,8 +92,8 @@ impl Graph {
     {
         let mut rest = name;
         loop {
-            if let Some(place) = self.suffixes.place(rest) {
-                return self.suffix_types.as_slice()[place];
+            if let Some(place) = self.tables.spaces.suffixes.place(rest) {
+                return self.tables.numbers.suffix_types.as_slice()[place];
             }
             match rest.split_first() {
                 Some((_, shorter)) => rest = shorter,
@@ -123,13 +105,13 @@ impl Graph {
     pub fn type_count(&self) -> u32
         ensures { result ≡ length (types self.now) }
     {
-        self.rows.len() as u32
+        self.tables.numbers.rows.len() as u32
     }
 
     pub fn maker_count(&self) -> u32
         ensures { result ≡ length (makers self.now) }
     {
-        self.maker_places.len() as u32
+        self.tables.numbers.maker_places.len() as u32
     }
 
     /// Each graph is checked.

@@ -16,8 +16,8 @@ pub(crate) enum Space {
     Makers,
 }
 
-/// The name of a declaration, where it is one of the space.
-pub(crate) fn name_in<'a>(space: Space, decl: &'a Decl) -> Option<&'a Bytes>
+// The name of a declaration, where it is one of the space.
+fn name_in<'a>(space: Space, decl: &'a Decl) -> Option<&'a Bytes>
     ensures { option_map (λ name. name.now) result ≡ name_in space decl.now }
 {
     match decl {
@@ -29,8 +29,8 @@ pub(crate) fn name_in<'a>(space: Space, decl: &'a Decl) -> Option<&'a Bytes>
     }
 }
 
-/// The names of a space, each with its number there.
-pub(crate) fn names_in(alloc: Global, space: Space, decls: &[Decl]) -> Result<Names, Memory>
+// The names of a space, each with its number there.
+fn names_in(alloc: Global, space: Space, decls: &[Decl]) -> Result<Names, Memory>
     ensures { IfOk result (λ names. AreOf names (names_in space decls.now)) }
 {
     let mut names = Names::new(alloc);
@@ -47,6 +47,31 @@ pub(crate) fn names_in(alloc: Global, space: Space, decls: &[Decl]) -> Result<Na
         }
     }
     Ok(names)
+}
+
+/// The names of each space, each with its number there.
+#[derive(Debug, Drop)]
+pub(crate) struct Spaces {
+    pub(crate) types: Names,
+    pub(crate) suffixes: Names,
+    pub(crate) params: Names,
+    pub(crate) makers: Names,
+}
+
+impl Spaces {
+    pub(crate) fn new(alloc: Global, decls: &[Decl]) -> Result<Self, Memory>
+        ensures types { IfOk result (λ spaces. AreOf spaces.types (names_in Space.Types decls.now)) }
+        ensures suffixes { IfOk result (λ spaces. AreOf spaces.suffixes (names_in Space.Suffixes decls.now)) }
+        ensures params { IfOk result (λ spaces. AreOf spaces.params (names_in Space.Params decls.now)) }
+        ensures makers { IfOk result (λ spaces. AreOf spaces.makers (names_in Space.Makers decls.now)) }
+    {
+        Ok(Spaces {
+            types: names_in(alloc, Space::Types, decls)?,
+            suffixes: names_in(alloc, Space::Suffixes, decls)?,
+            params: names_in(alloc, Space::Params, decls)?,
+            makers: names_in(alloc, Space::Makers, decls)?,
+        })
+    }
 }
 
 /// How many names stand in each space.

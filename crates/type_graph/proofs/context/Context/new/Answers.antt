@@ -3,5 +3,6 @@ use Rattle.type_graph.proofs.ContextLemmas.{context_of}
 use Rattle.type_graph.proofs.context.Context.new.Goals as goal
 
 pub invariant_of-result : goal.invariant_of-result
-invariant_of-result c = context_of c.args.decls.now c.in_ok-types.types c.in_ok-names_in.field-0 c.in_ok-names_in-2.field-0 c.in_ok-names_in-3.field-0 c.in_ok-shapes.shapes c.in_ok-shapes.supers
-    c.in_ok-types.ensures c.in_ok-names_in.ensures c.in_ok-names_in-2.ensures c.in_ok-names_in-3.ensures c.in_ok-shapes.ensures.shapes c.in_ok-shapes.ensures.supers
+invariant_of-result c = let spaces = c.in_ok-spaces.spaces in
+    context_of c.args.decls.now spaces.types spaces.suffixes spaces.params spaces.makers c.in_ok-shapes.shapes c.in_ok-shapes.supers
+    c.in_ok-spaces.ensures.types c.in_ok-spaces.ensures.suffixes c.in_ok-spaces.ensures.params c.in_ok-spaces.ensures.makers c.in_ok-shapes.ensures.shapes c.in_ok-shapes.ensures.supers
