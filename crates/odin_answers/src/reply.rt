@@ -108,6 +108,9 @@ fn write_messages(messages: &[Message], out: &mut Bytes) -> Result<(), Memory>
     Ok(())
 }
 
+// The room that most replies to an `ask` fit in.
+const USUAL_ROOM: usize = 96;
+
 /// The reply that shows an object.
 pub(crate) fn write_object(
     alloc: Global,
@@ -117,6 +120,7 @@ pub(crate) fn write_object(
 ) -> Result<(), Memory>
     ensures { OnOk result (out.new ≡ out.old ++ object_reply graph.now view.now) }
 {
+    out.reserve_exact(USUAL_ROOM)?;
     out.extend_from_slice(b"object ")?;
     out.extend_from_slice(word_of(view.status))?;
     out.push(b' ')?;

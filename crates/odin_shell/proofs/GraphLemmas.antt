@@ -1,14 +1,17 @@
 -- The first declaration that isn't built yet.
 use Rattle.std.proofs.Common.{◌≡◌, ℕ, zero, suc, ◌+◌, ◌-◌, ◌<◌, ◌≤◌, List, [], ◌∷◌, length, take, get_or, ap, sym, subst, refl, ◌∙◌, arith}
-use Rattle.std.specs.Prelude.{All, slice_get}
+use Rattle.std.specs.Prelude.{Option, Some, None, MatchOption, All, slice_get}
 use Rattle.std.proofs.lemmas.List.{take_all, take_more}
 use Rattle.std.proofs.lemmas.List.Elements.{All-append}
 use Rattle.std.proofs.lemmas.Option.{slice_get_read, slice_get_within}
 use Rattle.object_values.specs.declared.graph.Decl.{Decl}
 use Rattle.object_values.specs.declared.graph.Decl.TheVariants.{ObjectType, Suffix, Param, Maker}
-use Rattle.meaning_graph.specs.Graphs.{Graph}
+use Rattle.meaning_graph.specs.Graphs.{Text, Graph}
+use Rattle.dg_reader.specs.Files.{IsRead}
 use Rattle.plain_derive.specs.Built as derivation
-use Rattle.odin_shell.specs.Opened.{IsServed, IsServedGraph, IsFirstNotBuilt}
+use Rattle.odin_shell.specs.declared.graph.Opened.{Opened}
+use Rattle.odin_shell.specs.declared.graph.Opened.TheVariants as opened
+use Rattle.odin_shell.specs.Opened.{IsServed, IsServedGraph, IsFirstNotBuilt, IsRefused, IsOpened}
 
 -- one more that is built
 pub one_more : (g : Graph) (place : ℕ) (d : Decl) → place < length g → d ≡ get_or g place d → All IsServed (take place g) → IsServed d → All IsServed (take (place + 1) g)
@@ -47,3 +50,8 @@ derivable (Maker m) served = served
 -- derivation is built for a graph that a run is built for
 pub all_derivable : (g : Graph) → IsServedGraph g → derivation.IsBuiltGraph g
 all_derivable g served place d inside = derivable (get_or g place d) (served place d inside)
+
+-- what is opened where a text is read: its graph, or the line that refuses it
+pub opened_one : (text : Text) (g : Graph) (line : Option Text) (found : Opened) → IsRead text g → MatchOption line (IsServedGraph g) (IsRefused (Some text)) → MatchOption line (found ≡ opened.Ready g) (λ l. found ≡ opened.Refused l) → IsOpened (Some text) found
+opened_one text g None found read served is = subst (IsOpened (Some text)) (sym is) (record { text = text; there = refl; read = read; built = served })
+opened_one text g (Some l) found read refused is = subst (IsOpened (Some text)) (sym is) refused

@@ -77,7 +77,9 @@ fn serve_graph<I: Source, O: Sink, S: Spawner>(
     let Ok(deriver) = Deriver::new(alloc, graph) else {
         return 4;
     };
-    match serve_input(alloc, &deriver, tools, input, output) {
+    let ending = serve_input(alloc, &deriver, tools, input, output);
+    drop(deriver);
+    match ending {
         Ending::Whole => 0,
         Ending::CutShort => 1,
         Ending::Memory => 4,

@@ -3,9 +3,10 @@ ghost use Rattle.std.specs.Prelude.{◌≡◌, ◌≢◌, ◌≤◌, ◌++◌, �
 ghost use Rattle.odin_outside.specs.Causes.{Rose};
 ghost use Rattle.odin_outside.specs.Files.{IsGiven};
 ghost use Rattle.meaning_graph.specs.Graphs.{Text};
-ghost use Rattle.odin_shell.specs.Opened.{fault_words, no_file_line, at_line, fault_line, IsServed, IsServedGraph, IsFirstNotBuilt, IsOpened};
+ghost use Rattle.odin_shell.specs.Opened.{fault_words, no_file_line, at_line, fault_line, IsServed, IsServedGraph, IsFirstNotBuilt, IsRefused, IsOpened};
+ghost use Rattle.dg_reader.specs.Files.{IsFile};
 
-use dg_reader::{ReadFault, read_graph_file};
+use dg_reader::{GraphFile, ReadFault, read_graph_file};
 use object_values::{Bytes, Decl, GraphFault, Kind, Make, Memory};
 use odin_bytes::write_number;
 use odin_outside::{Tree, TreeFault};
@@ -120,20 +121,41 @@ fn first_not_built(declared: &[Decl]) -> Option<usize>
     None
 }
 
+// The last line on the first declaration that a run isn't built for yet.
+fn not_yet_line(alloc: Global, file: &GraphFile, text: &[u8]) -> Result<Option<Bytes>, Memory>
+    requires { IsFile text.now file.now }
+    ensures { IfOk result (λ line. MatchOption line (IsServedGraph file.now.graph) (IsRefused (Some text.now))) }
+{
+    file.graph.checked();
+    let Some(number) = first_not_built(file.graph.decls()) else {
+        return Ok(None);
+    };
+    let line = line_at(alloc, file.line_of(text, number), b"not yet")?;
+    Ok(Some(line))
+}
+
+// The graph, where no line refuses it.
+fn opened_by(graph: Graph, line: Option<Bytes>) -> Opened
+    ensures { MatchOption line (result ≡ Opened.Ready graph) (λ line. result ≡ Opened.Refused line) }
+{
+    match line {
+        Some(line) => Opened::Refused(line),
+        None => Opened::Ready(graph),
+    }
+}
+
 // The graph in a text.
 fn read_text(alloc: Global, text: &[u8]) -> Result<Opened, Memory>
     ensures { IfOk result (IsOpened (Some text.now)) }
 {
-    let file = match read_graph_file(alloc, text) {
-        Ok(file) => file,
-        Err(fault) => return Ok(Opened::Refused(line_of_fault(alloc, fault)?)),
-    };
-    file.graph.checked();
-    let Some(number) = first_not_built(file.graph.decls()) else {
-        return Ok(Opened::Ready(file.graph));
-    };
-    let line = file.line_of(text, number);
-    Ok(Opened::Refused(line_at(alloc, line, b"not yet")?))
+    match read_graph_file(alloc, text) {
+        Ok(file) => {
+            file.graph.checked();
+            let line = not_yet_line(alloc, &file, text)?;
+            Ok(opened_by(file.graph, line))
+        }
+        Err(fault) => Ok(Opened::Refused(line_of_fault(alloc, fault)?)),
+    }
 }
 
 // The graph in what a tree gives.

@@ -1,5 +1,5 @@
 use Rattle.std.proofs.Common.{refl, arith}
-use Rattle.meaning_run.proofs.EndLemmas.{Leaves-none, not_inside, is_long}
+use Rattle.meaning_run.proofs.EndLemmas.{Leaves-none, not_inside, is_inside, is_long}
 use Rattle.odin_shell.specs.Commands.{commands}
 use Rattle.odin_shell.specs.Held.{Keeps}
 use Rattle.odin_shell.specs.Machine.{machine}
@@ -12,5 +12,8 @@ returns-in_default-clause-memory g c = λ is. Leaves-none commands Keeps (machin
 pub returns-in-Whole-clause-not_short : goal.returns-in-Whole-clause-not_short
 returns-in-Whole-clause-not_short g c = λ is. not_inside commands Keeps (machine c.in-Ok.deriver (g.S.Spawner.told c.args.tools.now).answer) Spells-once _ _ _ _ _ _ _ c.in-Whole.ensures.ends
 
-pub returns-clause-is_long : goal.returns-clause-is_long
-returns-clause-is_long g c = λ is. is_long commands Keeps (machine c.in-Ok.deriver (g.S.Spawner.told c.args.tools.now).answer) _ _ _ _ _ _ _ c.in-TooLong.ensures.ends
+pub returns-in-TooLong-clause-is_long : goal.returns-in-TooLong-clause-is_long
+returns-in-TooLong-clause-is_long g c = λ is. is_long commands Keeps (machine c.in-Ok.deriver (g.S.Spawner.told c.args.tools.now).answer) _ _ _ _ _ _ _ c.in-TooLong.ensures.ends
+
+pub returns-in-CutShort-clause-is_short : goal.returns-in-CutShort-clause-is_short
+returns-in-CutShort-clause-is_short g c = λ is. is_inside commands Keeps (machine c.in-Ok.deriver (g.S.Spawner.told c.args.tools.now).answer) _ _ _ _ _ _ _ c.in-CutShort.ensures.ends
