@@ -9,8 +9,6 @@ pub mod laws;
 mod lists;
 mod makers;
 mod read;
-#[cfg(test)]
-mod tests;
 mod write;
 mod writer;
 

@@ -4,8 +4,6 @@
 mod classes;
 mod lexer;
 mod places;
-#[cfg(test)]
-mod tests;
 
 pub use classes::{is_id, is_name, is_string_text};
 pub use lexer::{Token, past_gap, token_at};

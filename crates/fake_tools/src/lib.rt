@@ -3,8 +3,6 @@
 
 mod answers;
 mod fail_tools;
-#[cfg(test)]
-mod tests;
 mod tools;
 
 pub use answers::{Answers, JobRaw};

@@ -3,8 +3,6 @@
 
 mod inherited;
 mod statuses;
-#[cfg(test)]
-mod tests;
 
 pub use inherited::{Inherited, inherit};
 pub use statuses::worst;

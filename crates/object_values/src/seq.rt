@@ -184,29 +184,3 @@ impl<T: Hash> Hash for Seq<T> {
         self.as_slice().hash(state);
     }
 }
-
-#[cfg(test)]
-mod tests {
-    use super::*;
-    use crate::exact::same;
-    use std::test::Fail;
-
-    #[test]
-    fn bytes_grow_at_their_end(rt: HostRuntime) -> Result<(), Fail> {
-        let alloc = rt.alloc();
-        let mut bytes = Bytes::from_slice(alloc, b"ab")?;
-        bytes.reserve_exact(3)?;
-        bytes.push(b'c')?;
-        bytes.extend_from_slice(b"de")?;
-        assert_eq!(rt; bytes.as_slice(), b"abcde".as_slice());
-        let again = Seq::from_vec(bytes.copy(alloc)?.into_vec());
-        assert!(rt; same(&again, &bytes));
-        bytes.truncate(2);
-        assert_eq!(rt; bytes.as_slice(), b"ab".as_slice());
-        bytes.clear();
-        assert!(rt; bytes.is_empty());
-        assert_eq!(rt; bytes.len(), 0);
-        assert!(rt; !same(&again, &Seq::new(alloc)));
-        Ok(())
-    }
-}

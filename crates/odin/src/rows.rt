@@ -1,8 +1,11 @@
 // The worked rows of graphs and tools, over objects in memory.
+ghost use Rattle.std.specs.Prelude.{◌≡◌, []};
+
 use super::runs::{only, outcome_over, sink, source, status_with, with_taken};
 use super::{GRAPH, tree_of};
 use object_values::{Memory, Seq};
 use odin_fakes::{FailSink, FailTools, FailTree, TableTools};
+use odin_outside::Spawner;
 use std::alloc::Global;
 use std::test::Fail;
 
@@ -102,11 +105,23 @@ const ROWS: [Row; 15] = [
     ),
 ];
 
-// The status and the output of a run over a graph and the toy tools, and how many starts and ends there were.
+// The status and the output of a run over a graph and these tools.
+fn outcome_in<S: Spawner>(
+    alloc: Global,
+    graph: &[u8],
+    tools: &mut S,
+    text: &[u8],
+) -> Result<(u8, Vec<u8>), Memory>
+    requires { (S.told tools.old).running ≡ [] }
+{
+    let mut tree = tree_of(alloc, graph)?;
+    outcome_over(alloc, &mut tree, tools, text)
+}
+
+// The same over the toy tools, and how many starts and ends there were.
 fn outcome(alloc: Global, graph: &[u8], text: &[u8]) -> Result<(u8, Vec<u8>, usize), Memory> {
     let mut tools = TableTools::toy(alloc, Seq::new(alloc));
-    let mut tree = tree_of(alloc, graph)?;
-    let (status, output) = outcome_over(alloc, &mut tree, &mut tools, text)?;
+    let (status, output) = outcome_in(alloc, graph, &mut tools, text)?;
     Ok((status, output, tools.log().len()))
 }
 
@@ -196,9 +211,8 @@ fn put_replies(text: &mut Vec<u8>, refused: u32) -> Result<(), Memory> {
 fn failing_tools(alloc: Global, number: u32) -> Result<(u8, Vec<u8>, usize), Memory> {
     let fails = only(alloc, number)?;
     let mut tools = FailTools::new(TableTools::toy(alloc, Seq::new(alloc)), fails);
-    let mut tree = tree_of(alloc, GRAPH)?;
     let text = b"put a.c 4\nx=1\nask a.c:o\nask a.c:o\nask a.c:o\n";
-    let (status, output) = outcome_over(alloc, &mut tree, &mut tools, text)?;
+    let (status, output) = outcome_in(alloc, GRAPH, &mut tools, text)?;
     Ok((status, output, tools.inner().log().len()))
 }
 

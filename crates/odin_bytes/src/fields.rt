@@ -88,30 +88,3 @@ pub fn take_bytes(from: &[u8], at: usize) -> Option<(usize, usize)>
     }
     Some((start, end))
 }
-
-#[cfg(test)]
-mod tests {
-    use super::*;
-    use std::test::Fail;
-
-    #[test]
-    fn fields_stand_highest_byte_first(rt: HostRuntime) -> Result<(), Fail> {
-        let mut out = Bytes::new(rt.alloc());
-        put_u8(&mut out, 5)?;
-        put_u32(&mut out, 0x0102_0304)?;
-        put_u64(&mut out, 0x0102_0304_0506_0708)?;
-        put_bytes(&mut out, b"ab")?;
-        let wanted = b"\x05\x01\x02\x03\x04\x01\x02\x03\x04\x05\x06\x07\x08\x00\x00\x00\x02ab";
-        let fields = out.as_slice();
-        assert_eq!(rt; fields, wanted.as_slice());
-        assert_eq!(rt; take_u8(fields, 0), Some((5, 1)));
-        assert_eq!(rt; take_u32(fields, 1), Some((0x0102_0304, 5)));
-        assert_eq!(rt; take_u64(fields, 5), Some((0x0102_0304_0506_0708, 13)));
-        assert_eq!(rt; take_bytes(fields, 13), Some((17, 19)));
-        assert_eq!(rt; take_bytes(&fields[..18], 13), None);
-        assert_eq!(rt; take_u32(fields, 16), None);
-        assert_eq!(rt; take_u64(fields, usize::MAX), None);
-        assert_eq!(rt; take_u8(fields, 19), None);
-        Ok(())
-    }
-}

@@ -120,34 +120,3 @@ fn may_name(byte: u8) -> bool
 {
     byte.is_ascii_alphanumeric() || matches!(byte, b'.' | b'_' | b'-' | b'/')
 }
-
-#[cfg(test)]
-mod tests {
-    use super::*;
-    use object_values::same;
-    use std::test::Fail;
-
-    #[test]
-    fn reads_names_and_tells_faults(rt: HostRuntime) -> Result<(), Fail> {
-        let alloc = rt.alloc();
-        let longest = [b'a'; 255];
-        for text in [b"a.c".as_slice(), b"lib/B-2_x", b"0", &longest] {
-            let name = Name::read(alloc, text)?;
-            assert_eq!(rt; name.as_slice(), text);
-            assert!(rt; same(&name.copy(alloc)?, &name));
-            assert_eq!(rt; name.into_bytes().as_slice(), text);
-        }
-        let too_long = [b'?'; 256];
-        let faults = [
-            (b"".as_slice(), NameFault::Empty),
-            (&too_long, NameFault::TooLong),
-            (b"a?c", NameFault::BadByte(1)),
-            (b"a b\n", NameFault::BadByte(1)),
-            (b"\xc3\xa4", NameFault::BadByte(0)),
-        ];
-        for (text, fault) in faults {
-            assert_eq!(rt; Name::read(alloc, text).err(), Some(fault));
-        }
-        Ok(())
-    }
-}

@@ -11,8 +11,6 @@ mod replay;
 mod sink;
 mod source;
 mod tear;
-#[cfg(test)]
-mod tests;
 mod tree;
 
 pub use crash_disk::CrashDisk;

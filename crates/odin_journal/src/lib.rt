@@ -5,8 +5,6 @@ mod fault;
 mod front;
 mod journal;
 mod reads;
-#[cfg(test)]
-mod tests;
 mod writes;
 
 pub use fault::JournalFault;

@@ -13,25 +13,3 @@ pub fn first_line(text: &[u8]) -> Option<(&[u8], &[u8])>
     let at = memchr(b'\n', text)?;
     Some((&text[..at], &text[at + 1..]))
 }
-
-#[cfg(test)]
-mod tests {
-    use super::*;
-    use std::test::Fail;
-
-    #[test]
-    fn a_text_is_cut_at_its_first_lf(rt: HostRuntime) -> Result<(), Fail> {
-        let rows = [
-            (b"\n".as_slice(), b"".as_slice(), b"".as_slice()),
-            (b"a\r\nb\nc", b"a\r", b"b\nc"),
-            (b"\n\na", b"", b"\na"),
-        ];
-        for (text, line, behind) in rows {
-            assert_eq!(rt; first_line(text), Some((line, behind)));
-        }
-        for text in [b"".as_slice(), b"a\r"] {
-            assert_eq!(rt; first_line(text), None);
-        }
-        Ok(())
-    }
-}

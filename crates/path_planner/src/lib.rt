@@ -4,7 +4,5 @@
 mod distances;
 mod plans;
 mod route;
-#[cfg(test)]
-mod tests;
 
 pub use plans::Plans;

@@ -8,8 +8,6 @@ mod jobs;
 mod left;
 mod outcomes;
 mod outputs;
-#[cfg(test)]
-mod tests;
 mod warnings;
 
 pub use jobs::job_of;

@@ -7,8 +7,6 @@ mod inputs;
 mod link;
 mod raws;
 mod scan;
-#[cfg(test)]
-mod tests;
 mod text;
 mod toys;
 

@@ -12,8 +12,6 @@ mod loops;
 mod names;
 mod spaces;
 mod tables;
-#[cfg(test)]
-mod tests;
 mod walk;
 
 pub use fault::CheckFault;

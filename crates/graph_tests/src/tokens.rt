@@ -1,5 +1,5 @@
 // Tokens, gaps, places and classes, as tables.
-use crate::{
+use dg_tokens::{
     Token, column_behind, is_id, is_name, is_string_text, line_behind, past_gap, token_at,
 };
 

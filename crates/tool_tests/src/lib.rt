@@ -1,0 +1,15 @@
+//! Worked rows of jobs and outcomes, of the toy tools, of tools in memory, and of inherited messages. It holds tests alone.
+#![tactic(auto)]
+
+#[cfg(test)]
+mod calls;
+#[cfg(test)]
+mod messages;
+#[cfg(test)]
+mod outcomes;
+#[cfg(test)]
+mod spawners;
+#[cfg(test)]
+mod texts;
+#[cfg(test)]
+mod toys;
