@@ -1,7 +1,5 @@
 // Statuses and messages.
-use crate::copied::Copied;
-use crate::memory::Memory;
-use crate::seq::Bytes;
+use sequences::{Bytes, Copied, Memory};
 use std::alloc::Global;
 
 /// How an object is, from the best to the worst. An object at `Abort` has no value.

@@ -1,25 +1,23 @@
 // Nodes: a source, parameters, and the steps that lead from the source to the object.
-use crate::copied::Copied;
-use crate::memory::Memory;
-use crate::seq::{Bytes, Seq};
+use sequences::{Bytes, Copied, Memory, Seq};
 use std::alloc::Global;
 
 /// A parameter with one of its values.
-#[derive(Debug, PartialEq, Eq, PartialOrd, Ord, Hash, Drop)]
+#[derive(Debug, PartialEq, Eq, PartialOrd, Ord, Drop)]
 pub struct ParamValue {
     pub param: Bytes,
     pub value: Bytes,
 }
 
 /// One maker, by its number in the graph, or the pick of an element or a part.
-#[derive(Debug, PartialEq, Eq, Hash, Drop)]
+#[derive(Debug, PartialEq, Eq, Drop)]
 pub enum Step {
     Maker(u32),
     Pick(Bytes),
 }
 
 /// An object by the way to it. Without steps it is the source itself.
-#[derive(Debug, PartialEq, Eq, Hash, Drop)]
+#[derive(Debug, PartialEq, Eq, Drop)]
 pub struct Node {
     pub source: Bytes,
     pub params: Seq<ParamValue>,

@@ -1,20 +1,18 @@
 // Objects: their values, and what is seen of them.
-use crate::copied::Copied;
-use crate::memory::Memory;
 use crate::messages::{Message, Status};
 use crate::nodes::Node;
-use crate::seq::{Bytes, Seq};
+use sequences::{Bytes, Copied, Memory, Seq};
 use std::alloc::Global;
 
 /// A named part of a compound.
-#[derive(Debug, PartialEq, Eq, Hash, Drop)]
+#[derive(Debug, PartialEq, Eq, Drop)]
 pub struct Part {
     pub name: Bytes,
     pub body: Bytes,
 }
 
 /// What an object is: bytes, references to nodes in order, or named parts in order.
-#[derive(Debug, PartialEq, Eq, Hash, Drop)]
+#[derive(Debug, PartialEq, Eq, Drop)]
 pub enum Value {
     Simple(Bytes),
     List(Seq<Node>),
@@ -22,7 +20,7 @@ pub enum Value {
 }
 
 /// An object as it is shown. It has a value exactly where its status is not `Abort`.
-#[derive(Debug, PartialEq, Eq, Hash, Drop)]
+#[derive(Debug, PartialEq, Eq, Drop)]
 pub struct View {
     pub value: Option<Value>,
     pub status: Status,

@@ -13,7 +13,8 @@ use crate::reply::{
     write_unknown_type,
 };
 use crate::request::Request;
-use object_values::{Bytes, Memory, Node, Sources};
+use object_sources::Sources;
+use object_values::{Bytes, Memory, Node};
 use odin_outside::Spawner;
 use path_planner::Plans;
 use plain_derive::{Found, PlainFault, derive_plain};

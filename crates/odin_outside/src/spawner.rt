@@ -1,20 +1,19 @@
 // What starts child programs.
-ghost use Rattle.std.specs.Prelude.{◌≡◌, ◌<◌, ◌≤◌, ℕ, length, IfOk, OnErr};
-ghost use Rattle.odin_outside.specs.Causes.{Rose};
-ghost use Rattle.odin_outside.specs.Spawned.{Spawned, IsLeastFree, begun, Ends, Loses};
+ghost use Rattle.std.specs.Prelude.{◌≡◌, ◌<◌, ℕ, length, IfOk};
+ghost use Rattle.odin_outside.specs.Spawned.{Spawned, IsLeastFree, begun, Fails, Ends, Loses};
 
 use object_values::{Copied, Job, Memory, Raw};
 use std::alloc::Global;
 
 /// Why a child program was not started.
-#[derive(Clone, Copy, Debug, PartialEq, Eq, PartialOrd, Ord, Hash)]
+#[derive(Clone, Copy, Debug, PartialEq, Eq, PartialOrd, Ord)]
 pub enum StartFault {
     Failed,
     Memory,
 }
 
 /// Why the end of a child program was not given. `Failed` names the slot whose result is lost.
-#[derive(Clone, Copy, Debug, PartialEq, Eq, PartialOrd, Ord, Hash)]
+#[derive(Clone, Copy, Debug, PartialEq, Eq, PartialOrd, Ord)]
 pub enum FinishFault {
     Failed(u32),
     Memory,
@@ -56,28 +55,22 @@ impl Copied for FinishFault {
 
 /// What starts child programs, each in a slot. An end is waited for; which child program ends first is open.
 pub trait Spawner {
-    /// What it tells of the answers to jobs, of what runs and of what happened.
+    /// What it tells of the answers to jobs, of what runs and of what happened, with the count of its faults.
     ghost told: { Self → Spawned };
 
-    /// How often it has failed.
-    ghost faults: { Self → ℕ };
-
-    /// Starts a child program, and gives its slot.
+    /// Starts a child program, and gives its slot. Where it fails nothing was started.
     fn start(&mut self, alloc: Global, job: &Job) -> Result<u32, StartFault>
         ensures slot { IfOk result (IsLeastFree (told self.old).running) }
         ensures ok { IfOk result (λ slot. told self.new ≡ begun (told self.old) slot job.now) }
-        ensures err { OnErr result (told self.new ≡ told self.old) }
-        ensures later { faults self.old ≤ faults self.new }
-        ensures failed { result ≡ Err StartFault.Failed → Rose (faults self.old) (faults self.new) };
+        ensures failed { result ≡ Err StartFault.Failed → Fails (told self.old) (told self.new) }
+        ensures memory { result ≡ Err StartFault.Memory → told self.new ≡ told self.old };
 
     /// Waits for the end of a child program, and gives its slot and what it left. No clause says which files these are.
     fn finish(&mut self, alloc: Global) -> Result<(u32, Raw), FinishFault>
         requires { 0 < length (told self.old).running }
         ensures ok { IfOk result (λ end. Ends (told self.old) end.0 end.1 (told self.new)) }
         ensures lost { (slot : ℕ) → result ≡ Err (FinishFault.Failed slot) → Loses (told self.old) slot (told self.new) }
-        ensures memory { result ≡ Err FinishFault.Memory → told self.new ≡ told self.old }
-        ensures later { faults self.old ≤ faults self.new }
-        ensures failed { (slot : ℕ) → result ≡ Err (FinishFault.Failed slot) → Rose (faults self.old) (faults self.new) };
+        ensures memory { result ≡ Err FinishFault.Memory → told self.new ≡ told self.old };
 
     fn running(&self) -> usize
         ensures { result ≡ length (told self.now).running };

@@ -5,8 +5,8 @@ use Rattle.std.specs.Str.{bytes_eq}
 use Rattle.std.proofs.lemmas.Slice.Eq.{bytes_eq-Decides}
 use Rattle.std.proofs.lemmas.Result.{err_from_is_err_and}
 use Rattle.odin_outside.specs.Told.{appended}
-use Rattle.object_values.specs.Texts.{Text, Texts}
-use Rattle.object_values.specs.Gets.{put_here, put_other}
+use Rattle.object_sources.specs.Texts.{Text, Texts}
+use Rattle.object_sources.specs.Gets.{put_here, put_other}
 use Rattle.meaning_texts.specs.Classes.{IsName}
 use Rattle.meaning_texts.specs.Limits.{body_limit}
 use Rattle.meaning_run.specs.Items.{Item, IsItem}

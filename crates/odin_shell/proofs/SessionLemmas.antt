@@ -3,7 +3,7 @@ use Rattle.std.proofs.Common.{◌≡◌, ℕ, ◌+◌, ◌-◌, ◌<◌, min, ar
 use Rattle.std.proofs.lemmas.List.{take-append-drop, take_more}
 use Rattle.std.proofs.Math.Seq.{take-add}
 use Rattle.std.specs.Option.{is_some}
-use Rattle.object_values.specs.Texts.{Texts, no_texts}
+use Rattle.object_sources.specs.Texts.{Texts, no_texts}
 use Rattle.meaning_run.specs.Items.{HasNoLf, cr_dropped}
 use Rattle.meaning_run.specs.Machines as machines
 use Rattle.meaning_run.specs.Machines.{Halt, before_reply}

@@ -1,7 +1,7 @@
 -- The machine of a session: what each command replies, what the tools do for it, and which sources come after it.
 use Rattle.std.specs.Prelude.{◌≡◌, ℕ, ◌≤◌, List, [], ◌++◌, length, Option}
 use Rattle.std.specs.FinMap.{insert}
-use Rattle.object_values.specs.Texts.{Texts, no_texts}
+use Rattle.object_sources.specs.Texts.{Texts, no_texts}
 use Rattle.odin_outside.specs.Spawned.{Table, Spawned}
 use Rattle.meaning_graph.specs.Graphs.{Graph}
 use Rattle.meaning_run.specs.Machines.{Machine, Halt, before_reply, within_reply}

@@ -5,7 +5,8 @@ ghost use Rattle.meaning_answers.specs.Answers.{Plan};
 ghost use Rattle.odin_answers.specs.Requests.{request_text};
 ghost use Rattle.odin_answers.specs.Answers.{Replies, IsReply, MayHaveBegun};
 
-use object_values::{Bytes, Memory, Sources};
+use object_sources::Sources;
+use object_values::{Bytes, Memory};
 use odin_answers::{Request, answer_ask, answer_plan};
 use odin_outside::Spawner;
 use path_planner::Plans;

@@ -10,7 +10,8 @@ ghost use Rattle.odin_shell.specs.Machine.{machine, holding, telling, halt_of, I
 use crate::command::Command;
 use crate::deriver::Deriver;
 use crate::write::write_whole;
-use object_values::{Bytes, Memory, Sources};
+use object_sources::Sources;
+use object_values::{Bytes, Memory};
 use odin_bytes::write_number;
 use odin_outside::{Failed, Sink, Spawner};
 use std::alloc::Global;

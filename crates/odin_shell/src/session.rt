@@ -1,7 +1,7 @@
 // A session between two bytes of its input.
 ghost use Rattle.std.specs.Prelude.{◌≡◌, ◌≤◌, ◌<◌, ◌∷◌, [], ℕ, List, Option, None, length, take, OnOk, IfOk, IfErr, IsErrOf};
 ghost use Rattle.odin_outside.specs.Causes.{Rose};
-ghost use Rattle.object_values.specs.Texts.{no_texts};
+ghost use Rattle.object_sources.specs.Texts.{no_texts};
 ghost use Rattle.meaning_run.specs.Items.{HasNoLf};
 ghost use Rattle.odin_shell.specs.Commands.{takes};
 ghost use Rattle.meaning_graph.specs.Graphs.{Graph};
@@ -14,7 +14,8 @@ use crate::line::drop_cr;
 use crate::pending::Pending;
 use crate::serve::{Stop, serve_command};
 use memchr::memchr;
-use object_values::{Bytes, Memory, Sources};
+use object_sources::Sources;
+use object_values::{Bytes, Memory};
 use odin_outside::{Sink, Spawner};
 use std::alloc::Global;
 
@@ -22,11 +23,19 @@ use std::alloc::Global;
 const HELD: usize = 1026;
 
 /// The state between two bytes of the input.
-#[derive(Drop)]
 pub(crate) struct Session {
     sources: Sources,
     line: Bytes,
     put: Option<Pending>,
+}
+
+impl Drop for Session {
+    fn drop(self) {
+        let Session { sources, line, put } = self;
+        drop(sources);
+        drop(line);
+        drop(put);
+    }
 }
 
 /// How the input ended.

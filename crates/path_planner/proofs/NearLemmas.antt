@@ -5,7 +5,7 @@ use Rattle.std.specs.List.{list_any}
 use Rattle.std.specs.Option.{option_or, option_eq}
 use Rattle.std.proofs.lemmas.Bool.Decides.{Decides-eqb}
 use Rattle.std.proofs.lemmas.List.Folds.{list_any_at}
-use Rattle.object_values.specs.Exact.{option_exact}
+use Rattle.sequences.specs.Exact.{option_exact}
 use Rattle.std.proofs.lemmas.List.{length-replicate, take_at, get_or-set_same, get_or-set_other}
 use Rattle.meaning_graph.specs.Members.{IsIn}
 use Rattle.meaning_graph.specs.Graphs.{Graph, types}

@@ -12,10 +12,18 @@ use std::marker::Model;
 use type_graph::Graph;
 
 /// What paths of a graph are found by. Contracts see the declarations of the graph, of which it keeps a copy.
-#[derive(Debug, Drop)]
+#[derive(Debug)]
 pub struct Plans {
     decls: Seq<Decl>,
     makers: Seq<Ends>,
+}
+
+impl Drop for Plans {
+    fn drop(self) {
+        let Plans { decls, makers } = self;
+        drop(decls);
+        drop(makers);
+    }
 }
 
 impl Model for Plans {

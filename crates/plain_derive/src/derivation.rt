@@ -18,7 +18,8 @@ use crate::found::Found;
 use crate::nodes::stepped;
 use crate::running::run_if_called;
 use crate::settling::settle;
-use object_values::{Copied, Memory, Node, Seq, Sources, Step};
+use object_sources::Sources;
+use object_values::{Copied, Memory, Node, Seq, Step};
 use odin_outside::Spawner;
 use path_planner::Plans;
 use std::alloc::Global;
@@ -60,7 +61,7 @@ pub fn derive_plain<S: Spawner>(
     for step in node.steps.as_slice() {
         base = derive_step(alloc, graph, plans, &base, step, tools)?;
     }
-    Ok(Found::Answer(base.view))
+    Ok(Found::Answer(base.into_view()))
 }
 
 // The node without its steps, and its view.

@@ -7,15 +7,34 @@ ghost use Rattle.meaning_tasks.specs.Settle.{given_own};
 
 use crate::results::Results;
 use node_names::label_of;
-use object_values::{Bytes, Copied, Memory, Message, Node, Seq, Sources, Status, Value, View};
+use object_sources::Sources;
+use object_values::{Bytes, Copied, Memory, Message, Node, Seq, Status, Value, View};
 use std::alloc::Global;
 use type_graph::Graph;
 
 /// A node and its view.
-#[derive(Drop)]
 pub(crate) struct Derived {
     pub(crate) node: Node,
     pub(crate) view: View,
+}
+
+impl Drop for Derived {
+    fn drop(self) {
+        let Derived { node, view } = self;
+        drop(node);
+        drop(view);
+    }
+}
+
+impl Derived {
+    /// The view alone.
+    pub(crate) fn into_view(self) -> View
+        ensures { result ≡ self.view }
+    {
+        let Derived { node, view } = self;
+        drop(node);
+        view
+    }
 }
 
 impl Results for Derived {

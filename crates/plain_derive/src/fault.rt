@@ -4,7 +4,7 @@ use odin_outside::{FinishFault, StartFault};
 use std::alloc::Global;
 
 /// Why a node was not derived. `Spawn`: a child program was not started, or its end was lost.
-#[derive(Clone, Copy, Debug, PartialEq, Eq, PartialOrd, Ord, Hash)]
+#[derive(Clone, Copy, Debug, PartialEq, Eq, PartialOrd, Ord)]
 pub enum PlainFault {
     Spawn,
     Memory,

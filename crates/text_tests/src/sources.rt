@@ -1,5 +1,6 @@
 // Sources, by the order of their names and by their newest texts.
-use object_values::{Bytes, Memory, Sources};
+use object_sources::Sources;
+use object_values::{Bytes, Memory};
 use std::alloc::Global;
 use std::test::Fail;
 

@@ -26,12 +26,21 @@ pub(crate) enum Shape {
 }
 
 /// Declarations with their tables. Contracts see the declarations.
-#[derive(Debug, Drop)]
+#[derive(Debug)]
 pub(crate) struct Context<'a> {
     decls: &'a [Decl],
     spaces: Spaces,
     shapes: Seq<Shape>,
     supers: Seq<Seq<usize>>,
+}
+
+impl Drop for Context<'_> {
+    fn drop(self) {
+        let Context { decls: _, spaces, shapes, supers } = self;
+        drop(spaces);
+        drop(shapes);
+        drop(supers);
+    }
 }
 
 impl<'a> Model for Context<'a> {
@@ -128,7 +137,12 @@ impl<'a> Context<'a> {
         ensures suffixes { AreOf result.suffixes (suffix_names self.entry) }
         ensures params { AreOf result.params (params self.entry) }
     {
-        let Context { spaces, .. } = self;
+        let Context {
+            decls: _,
+            spaces,
+            shapes: _,
+            supers: _,
+        } = self;
         spaces
     }
 }

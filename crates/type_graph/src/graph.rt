@@ -12,10 +12,18 @@ use std::alloc::Global;
 use std::marker::Model;
 
 /// A checked graph. Contracts see its declarations.
-#[derive(Debug, Drop)]
+#[derive(Debug)]
 pub struct Graph {
     decls: Seq<Decl>,
     tables: Tables,
+}
+
+impl Drop for Graph {
+    fn drop(self) {
+        let Graph { decls, tables } = self;
+        drop(decls);
+        drop(tables);
+    }
 }
 
 impl Model for Graph {

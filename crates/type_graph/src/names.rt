@@ -10,9 +10,16 @@ use std::alloc::Global;
 use std::marker::Model;
 
 /// The place of each name. Contracts see the names with their places, in the order in which they came.
-#[derive(Debug, Drop)]
+#[derive(Debug)]
 pub(crate) struct Names {
     places: IndexMap<Vec<u8>, usize>,
+}
+
+impl Drop for Names {
+    fn drop(self) {
+        let Names { places } = self;
+        drop(places);
+    }
 }
 
 impl Model for Names {

@@ -50,12 +50,22 @@ fn names_in(alloc: Global, space: Space, decls: &[Decl]) -> Result<Names, Memory
 }
 
 /// The names of each space, each with its number there.
-#[derive(Debug, Drop)]
+#[derive(Debug)]
 pub(crate) struct Spaces {
     pub(crate) types: Names,
     pub(crate) suffixes: Names,
     pub(crate) params: Names,
     pub(crate) makers: Names,
+}
+
+impl Drop for Spaces {
+    fn drop(self) {
+        let Spaces { types, suffixes, params, makers } = self;
+        drop(types);
+        drop(suffixes);
+        drop(params);
+        drop(makers);
+    }
 }
 
 impl Spaces {

@@ -12,18 +12,35 @@ use object_values::{Decl, GraphFault, Memory, Seq};
 use std::alloc::Global;
 
 /// The tables that belong to checked declarations.
-#[derive(Debug, Drop)]
+#[derive(Debug)]
 pub(crate) struct Tables {
     pub(crate) spaces: Spaces,
     pub(crate) numbers: Numbers,
 }
 
+impl Drop for Tables {
+    fn drop(self) {
+        let Tables { spaces, numbers } = self;
+        drop(spaces);
+        drop(numbers);
+    }
+}
+
 /// The tables by number: the type of each suffix, the place of each maker, and what types each type is.
-#[derive(Debug, Drop)]
+#[derive(Debug)]
 pub(crate) struct Numbers {
     pub(crate) suffix_types: Seq<u32>,
     pub(crate) maker_places: Seq<u32>,
     pub(crate) rows: Seq<Seq<bool>>,
+}
+
+impl Drop for Numbers {
+    fn drop(self) {
+        let Numbers { suffix_types, maker_places, rows } = self;
+        drop(suffix_types);
+        drop(maker_places);
+        drop(rows);
+    }
 }
 
 impl Tables {

@@ -1,4 +1,4 @@
-use Rattle.std.proofs.Common.{refl, arith}
+use Rattle.std.proofs.Common.{refl, arith, rules}
 use Rattle.meaning_run.proofs.EndLemmas.{Leaves-none, not_inside, is_inside, is_long}
 use Rattle.odin_shell.specs.Commands.{commands}
 use Rattle.odin_shell.specs.Held.{Keeps}
@@ -17,3 +17,9 @@ returns-in-TooLong-clause-is_long g c = λ is. is_long commands Keeps (machine c
 
 pub returns-in-CutShort-clause-is_short : goal.returns-in-CutShort-clause-is_short
 returns-in-CutShort-clause-is_short g c = λ is. is_inside commands Keeps (machine c.in-Ok.deriver (g.S.Spawner.told c.args.tools.now).answer) _ _ _ _ _ _ _ c.in-CutShort.ensures.ends
+
+pub returns-in-CutShort-clause-whole : goal.returns-in-CutShort-clause-whole
+returns-in-CutShort-clause-whole g c = search rules
+
+pub returns-in-CutShort-clause-not_short : goal.returns-in-CutShort-clause-not_short
+returns-in-CutShort-clause-not_short g c = search rules

@@ -51,14 +51,15 @@ loop-step-preserved g c = record {
 }
 
 pub returns-clause-ok : goal.returns-clause-ok
-returns-clause-ok g c =
-    answer_found _ _ _ _ _ c.loop-step.step-index c.loop-step.invariant.node
-    (omega (arith, ap length c.as_slice-step-items.ensures)) (omega (arith, ap length c.as_slice-step-items.ensures)) _ c.loop-step.invariant.view
+returns-clause-ok g c = rw c.into_view.ensures
+    (answer_found _ _ _ _ _ c.loop-step.step-index c.loop-step.invariant.node
+    (omega (arith, ap length c.as_slice-step-items.ensures)) (omega (arith, ap length c.as_slice-step-items.ensures)) _ c.loop-step.invariant.view)
 
 pub returns-clause-source : goal.returns-clause-source
 returns-clause-source g c none =
     let first : c.loop-step.step-index ≡ 0 = omega (arith, ap length c.as_slice-step-items.ensures, ap length none) in
-    source_found _ _ c.args.node.now _ _ (c.loop-step.invariant.node ∙ ap (front c.args.node.now) first) none (c.loop-step.invariant.source first)
+    rw c.into_view.ensures
+    (source_found _ _ c.args.node.now _ _ (c.loop-step.invariant.node ∙ ap (front c.args.node.now) first) none (c.loop-step.invariant.source first))
 
 pub returns-clause-untouched : goal.returns-clause-untouched
 returns-clause-untouched g c some = elim some [

@@ -1,0 +1,6 @@
+//! The sources: texts by name.
+#![tactic(auto)]
+
+mod sources;
+
+pub use sources::Sources;
