@@ -19,10 +19,10 @@ use Rattle.meaning_graph.specs.Types as order
 use Rattle.meaning_graph.proofs.Members.{from_chosen, one_passes, passes_one}
 use Rattle.meaning_graph.proofs.Types.{is_a_so, so_is_a}
 use Rattle.type_graph.specs.declared.spaces.Space.TheVariants.{Types, Suffixes, Params, Makers}
-use Rattle.type_graph.specs.declared.context.Shape.{Shape}
+use Rattle.type_graph.specs.declared.context.Kinds.{Kinds}
 use Rattle.type_graph.specs.Places.{Places, place_of, AreOf}
 use Rattle.type_graph.specs.Spaces.{name_in, names_in}
-use Rattle.type_graph.specs.Shapes.{shapes_of, supers_of, IsContext}
+use Rattle.type_graph.specs.Shapes.{shapes_of, supers_of, AreKindsBy, AreKinds}
 use Rattle.type_graph.specs.Tables.{type_names, suffix_names}
 use Rattle.type_graph.specs.Walks.{Leads, here, over, IsReached}
 use Rattle.type_graph.proofs.TableLemmas.{type_there, few_types}
@@ -126,15 +126,10 @@ module _ (g : Graph) (supers : List (List ℕ)) (are : supers ≡ supers_of (typ
 
 -- ---- a new context
 
-pub context_of : (g : Graph) (typed ended used made : Places) (shapes : List Shape) (supers : List (List ℕ)) → AreOf typed (names_in Types g) → AreOf ended (names_in Suffixes g) → AreOf used (names_in Params g) → AreOf made (names_in Makers g)
-    → shapes ≡ shapes_of (place_of typed) (types g) → supers ≡ supers_of (place_of typed) (types g) → IsContext g typed ended used made shapes supers
-context_of g typed ended used made shapes supers t s p m shaped up = record {
-  types_are = t;
-  suffixes_are = s;
-  params_are = p;
-  makers_are = m;
-  shapes_are = shaped ∙ ap (λ f. shapes_of f (types g)) (numbering g typed t);
-  supers_are = up ∙ ap (λ f. supers_of f (types g)) (numbering g typed t);
+pub kinds_of : (g : Graph) (typed : Places) (kinds : Kinds) → AreOf typed (names_in Types g) → AreKindsBy (place_of typed) (types g) kinds → AreKinds g kinds
+kinds_of g typed kinds named k = record {
+  shapes_are = k.shapes_are ∙ ap (λ f. shapes_of f (types g)) (numbering g typed named);
+  supers_are = k.supers_are ∙ ap (λ f. supers_of f (types g)) (numbering g typed named);
 }
 
 -- ---- the tables of types, declaration by declaration

@@ -84,6 +84,10 @@ module _ (g : Graph) (i number : ℕ) (counts : Counts) (clean : IsClean g i num
   pub few_makers_yet : counts.makers < 2 ^ 63
   few_makers_yet = let e : counts.makers ≡ length (makers (take i g)) = ap (λ k. k.makers) clean.counts_are in omega (arith, e, short, few_found as_maker (take i g))
 
+  -- and so they are not too many
+  pub few_at_end : length g ≤ i → length g ≤ declaration_limit
+  few_at_end past = omega (arith, past, clean.few)
+
   pub all_clean : length g ≤ i → Checked g
   all_clean past = subst (λ o. MatchOption o (Checked g) (λ at. FirstFault g at.number at.fault)) (clean.rest ∙ ap (first_from g (i + 1)) (drop_all g i past)) (first_or_checked g)
     where

@@ -6,7 +6,6 @@ use Rattle.std.specs.Result.{IsErrAnd}
 use Rattle.std.specs.List.{list_any, cons_option}
 use Rattle.std.proofs.lemmas.Result.{err_from_is_err_and}
 use Rattle.type_graph.specs.declared.fault.CheckFault.{CheckFault}
-use Rattle.type_graph.specs.declared.fault.CheckFault.TheVariants as CheckFault
 use Rattle.std.proofs.lemmas.List.{length-map}
 use Rattle.std.proofs.lemmas.Option.{slice_get-map, slice_get-get_or, slice_get_past}
 use Rattle.meaning_texts.specs.Limits.{declaration_limit}

@@ -35,7 +35,11 @@ unmarked-set (false ∷ ms) zero h e = omega arith
 unmarked-set (true ∷ ms) (suc n) h e = unmarked-set ms n (omega (arith, h)) e
 unmarked-set (false ∷ ms) (suc n) h e = omega (arith, unmarked-set ms n (omega (arith, h)) e)
 
-pub none_marked : (marked : List Bool) (todo : List ℕ) → Marks marked todo [] marked todo
+-- the same of the parts of what a walk has seen
+abbrev pub MarksTo : List Bool → List ℕ → List ℕ → List Bool → List ℕ → Type 0
+MarksTo marked todo numbers m t = Marks (record { marked = marked; todo = todo }) numbers (record { marked = m; todo = t })
+
+pub none_marked : (marked : List Bool) (todo : List ℕ) → MarksTo marked todo [] marked todo
 none_marked marked todo = record {
   sized = refl;
   kept = λ n h. h;
@@ -47,9 +51,9 @@ none_marked marked todo = record {
   work = refl;
 }
 
-module _ (marked : List Bool) (todo numbers : List ℕ) (m : List Bool) (t : List ℕ) (so_far : Marks marked todo numbers m t) (n : ℕ) where
+module _ (marked : List Bool) (todo numbers : List ℕ) (m : List Bool) (t : List ℕ) (so_far : MarksTo marked todo numbers m t) (n : ℕ) where
   -- a number that is marked already
-  pub marked_before : IsMarked m n → Marks marked todo (numbers ++ n ∷ []) m t
+  pub marked_before : IsMarked m n → MarksTo marked todo (numbers ++ n ∷ []) m t
   marked_before h = record {
     sized = so_far.sized;
     kept = so_far.kept;
@@ -71,7 +75,7 @@ module _ (marked : List Bool) (todo numbers : List ℕ) (m : List Bool) (t : Lis
   comes k h = elim (same_or_not k n) [ inl e ↦ inl e | inr d ↦ inr (sym (get_or-set_other m n k true false d) ∙ h) ]
 
   -- a number that is new
-  pub marked_now : n < length m → get_or m n false ≡ false → Marks marked todo (numbers ++ n ∷ []) (set m n true) (t ++ n ∷ [])
+  pub marked_now : n < length m → get_or m n false ≡ false → MarksTo marked todo (numbers ++ n ∷ []) (set m n true) (t ++ n ∷ [])
   marked_now below new = record {
     sized = length-set m n true ∙ so_far.sized;
     kept = λ k h. stays k below (so_far.kept k h);
@@ -116,7 +120,7 @@ none_true (suc n) (suc k) h = none_true n k h
 
 module _ (lists : List (List ℕ)) (starts : List ℕ) where
   -- after the starts are marked
-  pub walk_begins : (marked : List Bool) (todo : List ℕ) → Marks (replicate (length lists) false) [] starts marked todo → IsWalk lists starts marked todo
+  pub walk_begins : (marked : List Bool) (todo : List ℕ) → MarksTo (replicate (length lists) false) [] starts marked todo → IsWalk lists starts marked todo
   walk_begins marked todo m = record {
     sized = m.sized ∙ length-replicate (length lists) false;
     started = m.added;
@@ -126,7 +130,7 @@ module _ (lists : List (List ℕ)) (starts : List ℕ) where
   }
 
   -- after the last of what is to do is looked at
-  pub walk_goes : (m : List Bool) (t : List ℕ) (b : ℕ) (marked : List Bool) (todo : List ℕ) → IsWalk lists starts m (t ++ b ∷ []) → Marks m t (get_or lists b []) marked todo → IsWalk lists starts marked todo
+  pub walk_goes : (m : List Bool) (t : List ℕ) (b : ℕ) (marked : List Bool) (todo : List ℕ) → IsWalk lists starts m (t ++ b ∷ []) → MarksTo m t (get_or lists b []) marked todo → IsWalk lists starts marked todo
   walk_goes m t b marked todo w k = record {
     sized = k.sized ∙ w.sized;
     started = λ n i. k.kept n (w.started n i);

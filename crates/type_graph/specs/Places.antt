@@ -1,5 +1,6 @@
 -- Names with the places where they first stand.
-use Rattle.std.specs.Prelude.{◌≡◌, ℕ, List, [], ◌∷◌, ◌++◌, Option, Some, None, cond, bytes_eq, position, is_some}
+use Rattle.std.specs.Prelude.{◌≡◌, ℕ, Bool, List, [], ◌∷◌, ◌++◌, Option, Some, None, cond, bytes_eq, position, is_some}
+use Rattle.std.specs.List.{list_any}
 use Rattle.meaning_graph.specs.Graphs.{Text}
 
 abbrev pub Places : Type 0
@@ -17,3 +18,7 @@ with_place pairs name place = cond (is_some (place_of pairs name)) pairs (pairs 
 -- each name has the place where it first stands in the list
 abbrev pub AreOf : Places → List Text → Type 0
 AreOf pairs names = (name : Text) → place_of pairs name ≡ position (λ n. bytes_eq n name) names
+
+-- the name is one of these
+abbrev pub stands_in : Text → List Text → Bool
+stands_in name names = list_any (λ n. bytes_eq n name) names

@@ -5,37 +5,33 @@ use Rattle.object_values.specs.declared.graph.Decl.TheVariants.{ObjectType, Suff
 use Rattle.meaning_graph.specs.Graphs.{Text, Graph, types, suffixes, params, makers}
 use Rattle.type_graph.specs.declared.spaces.Space.{Space}
 use Rattle.type_graph.specs.declared.spaces.Space.TheVariants.{Types, Suffixes, Params, Makers}
+use Rattle.type_graph.specs.declared.spaces.Spaces.{Spaces}
 use Rattle.type_graph.specs.declared.spaces.Counts.{Counts}
+use Rattle.type_graph.specs.Places.{AreOf}
 
 -- the name of a declaration, where it is one of the space
 abbrev pub name_in : Space → Decl → Option Text
 name_in Types (ObjectType t) = Some t.name
-name_in Types (Suffix s) = None
-name_in Types (Param p) = None
-name_in Types (Maker m) = None
-name_in Suffixes (ObjectType t) = None
 name_in Suffixes (Suffix s) = Some s.suffix
-name_in Suffixes (Param p) = None
-name_in Suffixes (Maker m) = None
-name_in Params (ObjectType t) = None
-name_in Params (Suffix s) = None
 name_in Params (Param p) = Some p
-name_in Params (Maker m) = None
-name_in Makers (ObjectType t) = None
-name_in Makers (Suffix s) = None
-name_in Makers (Param p) = None
 name_in Makers (Maker m) = Some m.name
+name_in space declaration = None
 
 -- the names that are there before the first declaration
 abbrev pub built_in : Space → List Text
 built_in Types = codes "text" ∷ []
-built_in Suffixes = []
-built_in Params = []
-built_in Makers = []
+built_in space = []
 
 -- the names of a space, by their numbers there
 abbrev pub names_in : Space → Graph → List Text
 names_in space g = built_in space ++ filter_map (name_in space) g
+
+-- Each space has its names with their numbers.
+pub record AreSpaces (g : Graph) (spaces : Spaces) : Type 0 where
+  pub types_are : AreOf spaces.types (names_in Types g)
+  pub suffixes_are : AreOf spaces.suffixes (names_in Suffixes g)
+  pub params_are : AreOf spaces.params (names_in Params g)
+  pub makers_are : AreOf spaces.makers (names_in Makers g)
 
 -- how many names stand in each space
 abbrev pub counts_of : Graph → Counts

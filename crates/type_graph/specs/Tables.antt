@@ -7,7 +7,10 @@ use Rattle.meaning_texts.specs.Limits.{declaration_limit}
 use Rattle.meaning_graph.specs.Graphs.{Text, Graph, types, suffixes, params, makers, type_named, as_maker}
 use Rattle.meaning_graph.specs.Types.{is_a}
 use Rattle.meaning_graph_text.specs.Checks.{Checked}
-use Rattle.type_graph.specs.Places.{Places, AreOf}
+use Rattle.type_graph.specs.declared.spaces.Spaces.{Spaces}
+use Rattle.type_graph.specs.declared.tables.Numbers.{Numbers}
+use Rattle.type_graph.specs.declared.tables.Tables.{Tables}
+use Rattle.type_graph.specs.Places.{AreOf}
 
 abbrev pub type_names : Graph → List Text
 type_names g = map (λ (t : TypeDecl). t.name) (types g)
@@ -40,13 +43,25 @@ pub record AreRows (g : Graph) (rows : List (List Bool)) : Type 0 where
   pub each_other : (a : ℕ) → a < length (types g) → length (slice_index_or rows a []) ≡ length (types g)
   pub right : (a b : ℕ) → a < length (types g) → b < length (types g) → answer rows a b ≡ is_a g a b
 
--- The declarations are checked, and the tables belong to them.
-pub record AreTables (g : Graph) (named found endings : Places) (ends makers_at : List ℕ) (rows : List (List Bool)) : Type 0 where
+-- The tables by number.
+pub record AreNumbers (g : Graph) (numbers : Numbers) : Type 0 where
+  pub ends_are : numbers.suffix_types ≡ suffix_types g
+  pub makers_are : ArePlaces g numbers.maker_places
+  pub rows_are : AreRows g numbers.rows
+
+-- The names that a graph is asked for have their numbers.
+pub record AreNamed (g : Graph) (spaces : Spaces) : Type 0 where
+  pub types_are : AreOf spaces.types (type_names g)
+  pub params_are : AreOf spaces.params (params g)
+  pub suffixes_are : AreOf spaces.suffixes (suffix_names g)
+
+-- The declarations are checked, and so not too many.
+pub record AreChecked (g : Graph) : Type 0 where
   pub checked : Checked g
   pub few : length g ≤ declaration_limit
-  pub types_are : AreOf named (type_names g)
-  pub params_are : AreOf found (params g)
-  pub suffixes_are : AreOf endings (suffix_names g)
-  pub ends_are : ends ≡ suffix_types g
-  pub makers_are : ArePlaces g makers_at
-  pub rows_are : AreRows g rows
+
+-- The declarations are checked, and the tables belong to them.
+pub record AreTables (g : Graph) (tables : Tables) : Type 0 where
+  pub sound : AreChecked g
+  pub named : AreNamed g tables.spaces
+  pub numbered : AreNumbers g tables.numbers

@@ -1,6 +1,7 @@
 -- Walks along lists of numbers: from each number the list at its place leads on.
-use Rattle.std.specs.Prelude.{◌≡◌, ℕ, ◌+◌, ◌⊎◌, Bool, true, false, List, [], ◌∷◌, length, slice_index_or}
+use Rattle.std.specs.Prelude.{◌≡◌, ◌↔◌, ◌<◌, ℕ, ◌+◌, ◌⊎◌, IsTrue, Bool, true, false, List, [], ◌∷◌, length, slice_index_or}
 use Rattle.meaning_graph.specs.Members.{IsIn}
+use Rattle.type_graph.specs.declared.walk.Walk.{Walk}
 
 -- the number is marked
 abbrev pub IsMarked : List Bool → ℕ → Type 0
@@ -12,16 +13,28 @@ unmarked [] = 0
 unmarked (true ∷ marked) = unmarked marked
 unmarked (false ∷ marked) = 1 + unmarked marked
 
+-- all of these numbers are below a limit
+abbrev pub AreBelow : ℕ → List ℕ → Type 0
+AreBelow limit numbers = (number : ℕ) → IsIn number numbers → number < limit
+
+-- What a walk has marked, and what it has yet to look at.
+pub record Seen : Type 0 where
+  pub marked : List Bool
+  pub todo : List ℕ
+
+abbrev pub seen : Walk → Seen
+seen walk = record { marked = walk.marked.items; todo = walk.todo.items }
+
 -- The numbers are marked, and those that were not stand in the list of what is to do.
-pub record Marks (marked : List Bool) (todo numbers : List ℕ) (marked_then : List Bool) (todo_then : List ℕ) : Type 0 where
-  pub sized : length marked_then ≡ length marked
-  pub kept : (n : ℕ) → IsMarked marked n → IsMarked marked_then n
-  pub added : (n : ℕ) → IsIn n numbers → IsMarked marked_then n
-  pub only : (n : ℕ) → IsMarked marked_then n → IsMarked marked n ⊎ IsIn n numbers
-  pub still : (n : ℕ) → IsIn n todo → IsIn n todo_then
-  pub listed : (n : ℕ) → IsMarked marked_then n → IsMarked marked n ⊎ IsIn n todo_then
-  pub within : (n : ℕ) → IsIn n todo_then → IsIn n todo ⊎ IsMarked marked_then n
-  pub work : unmarked marked_then + length todo_then ≡ unmarked marked + length todo
+pub record Marks (old : Seen) (numbers : List ℕ) (new : Seen) : Type 0 where
+  pub sized : length new.marked ≡ length old.marked
+  pub kept : (n : ℕ) → IsMarked old.marked n → IsMarked new.marked n
+  pub added : (n : ℕ) → IsIn n numbers → IsMarked new.marked n
+  pub only : (n : ℕ) → IsMarked new.marked n → IsMarked old.marked n ⊎ IsIn n numbers
+  pub still : (n : ℕ) → IsIn n old.todo → IsIn n new.todo
+  pub listed : (n : ℕ) → IsMarked new.marked n → IsMarked old.marked n ⊎ IsIn n new.todo
+  pub within : (n : ℕ) → IsIn n new.todo → IsIn n old.todo ⊎ IsMarked new.marked n
+  pub work : unmarked new.marked + length new.todo ≡ unmarked old.marked + length old.todo
 
 -- one number leads to another by the lists: none, one or more
 pub data Leads (lists : List (List ℕ)) : ℕ → ℕ → Type 0 where
@@ -31,3 +44,8 @@ pub data Leads (lists : List (List ℕ)) : ℕ → ℕ → Type 0 where
 -- one of the starts leads to the number
 abbrev pub IsReached : List (List ℕ) → List ℕ → ℕ → Type 0
 IsReached lists starts number = (start : ℕ) × IsIn start starts × Leads lists start number
+
+-- The row marks just the numbers that are reached.
+pub record IsRowReached (lists : List (List ℕ)) (starts : List ℕ) (row : List Bool) : Type 0 where
+  pub sized : length row ≡ length lists
+  pub right : (number : ℕ) → IsTrue (slice_index_or row number false) ↔ IsReached lists starts number

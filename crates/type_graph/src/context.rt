@@ -1,45 +1,58 @@
 // What the tests of declarations look up: names, and the types by their numbers.
-ghost use Rattle.std.specs.Prelude.{◌≡◌, ◌<◌, ℕ, IfOk, length, filter_map, option_map, slice_index_or, false, bytes_eq, take};
-ghost use Rattle.std.specs.List.{list_any};
-ghost use Rattle.meaning_graph.specs.Members.{IsIn};
-ghost use Rattle.meaning_graph.specs.Graphs.{types, params, type_named, has_param, kind_named};
-ghost use Rattle.meaning_graph.specs.Types.{is_a};
+ghost use Rattle.std.specs.Prelude.{◌≡◌, [], IfOk, OnOk, length, filter_map, take};
+ghost use Rattle.meaning_graph.specs.Graphs.{types, type_named, has_param};
 ghost use Rattle.meaning_graph_text.specs.Checks.{is_known};
-ghost use Rattle.type_graph.specs.Places.{place_of, AreOf};
-ghost use Rattle.type_graph.specs.Shapes.{shape_of, shapes_of, supers_of};
+ghost use Rattle.type_graph.specs.Places.{place_of, stands_in};
+ghost use Rattle.type_graph.specs.Shapes.{shape_of, shapes_of, supers_of, shape_named, IsRowAbove, AreKindsBy};
 ghost use Rattle.type_graph.specs.Spaces.{names_in};
-ghost use Rattle.type_graph.specs.Tables.{type_names, suffix_names};
+ghost use Rattle.type_graph.specs.Tables.{AreNamed};
+ghost use Rattle.type_graph.specs.Walks.{AreBelow};
 
 use crate::names::Names;
 use crate::spaces::{Space, Spaces};
 use crate::walk::reached;
-use object_values::{Bytes, Decl, Kind, Memory, Seq};
+use object_values::{Bytes, Decl, Kind, Memory, Seq, when_done};
 use std::alloc::Global;
 use std::marker::Model;
 
-/// What the objects of a type are. A list has the number of the type of its elements, where that is declared.
-#[derive(Clone, Copy, Debug, PartialEq, Eq)]
+/// What the objects of a type are. A list has the number of its elements' type, where that is declared.
+#[derive(Clone, Copy)]
 pub(crate) enum Shape {
     Simple,
     List(Option<usize>),
     Compound,
 }
 
+/// What the objects of each type are, and the numbers of its supertypes.
+pub(crate) struct Kinds {
+    pub(crate) shapes: Seq<Shape>,
+    pub(crate) supers: Seq<Seq<usize>>,
+}
+
+impl Drop for Kinds {
+    fn drop(self) {
+        let Kinds { shapes, supers } = self;
+        drop(shapes);
+        drop(supers);
+    }
+}
+
 /// Declarations with their tables. Contracts see the declarations.
-#[derive(Debug)]
 pub(crate) struct Context<'a> {
     decls: &'a [Decl],
     spaces: Spaces,
-    shapes: Seq<Shape>,
-    supers: Seq<Seq<usize>>,
+    kinds: Kinds,
 }
 
 impl Drop for Context<'_> {
     fn drop(self) {
-        let Context { decls: _, spaces, shapes, supers } = self;
+        let Context {
+            decls: _,
+            spaces,
+            kinds,
+        } = self;
         drop(spaces);
-        drop(shapes);
-        drop(supers);
+        drop(kinds);
     }
 }
 
@@ -52,7 +65,7 @@ impl<'a> Model for Context<'a> {
 
     ghost view = { λ c. c.decls.now };
 
-    ghost invariant = { λ c. IsContext c.decls.now c.spaces.types c.spaces.suffixes c.spaces.params c.spaces.makers c.shapes c.supers };
+    ghost invariant = { λ c. IsContext c.decls.now c.spaces c.kinds };
 }
 
 impl<'a> Context<'a> {
@@ -60,12 +73,11 @@ impl<'a> Context<'a> {
         ensures { IfOk result (λ made. made ≡ decls.now) }
     {
         let spaces = Spaces::new(alloc, decls)?;
-        let (shapes, supers) = types_by_number(alloc, &spaces.types, decls)?;
+        let kinds = Kinds::new(alloc, &spaces.types, decls)?;
         Ok(Context {
             decls,
             spaces,
-            shapes,
-            supers,
+            kinds,
         })
     }
 
@@ -90,7 +102,7 @@ impl<'a> Context<'a> {
 
     /// Whether the name stands among the first names of a space.
     pub(crate) fn stands_before(&self, space: Space, name: &Bytes, count: usize) -> bool
-        ensures { result ≡ list_any (λ n. bytes_eq n name.now) (take count (names_in space self.now)) }
+        ensures { result ≡ stands_in name.now (take count (names_in space self.now)) }
     {
         let names = match space {
             Space::Types => &self.spaces.types,
@@ -103,16 +115,16 @@ impl<'a> Context<'a> {
 
     /// What the objects of the type are that a name means.
     pub(crate) fn shape(&self, name: &Bytes) -> Option<Shape>
-        ensures { result ≡ option_map (shape_of (type_named self.now)) (kind_named self.now name.now) }
+        ensures { result ≡ shape_named self.now name.now }
     {
         let number = self.number(name)?;
-        self.shapes.as_slice().get(number).copied()
+        self.kinds.shapes.as_slice().get(number).copied()
     }
 
     pub(crate) fn type_count(&self) -> usize
         ensures { result ≡ length (types self.now) }
     {
-        self.shapes.len()
+        self.kinds.shapes.len()
     }
 
     /// The numbers of the types that are declared among names.
@@ -124,24 +136,20 @@ impl<'a> Context<'a> {
 
     /// Which types are above one of the starts.
     pub(crate) fn above(&self, alloc: Global, starts: &[usize]) -> Result<Seq<bool>, Memory>
-        requires { (number : ℕ) → IsIn number starts.now → number < length (types self.now) }
-        ensures sized { IfOk result (λ row. length row ≡ length (types self.now)) }
-        ensures right { IfOk result (λ row. (number : ℕ) → slice_index_or row number false ≡ list_any (λ start. is_a self.now start number) starts.now) }
+        requires { AreBelow (length (types self.now)) starts.now }
+        ensures { IfOk result (IsRowAbove self.now starts.now) }
     {
-        reached(alloc, self.supers.as_slice(), starts)
+        reached(alloc, self.kinds.supers.as_slice(), starts)
     }
 
     /// The names of each space.
     pub(crate) fn into_spaces(self) -> Spaces
-        ensures types { AreOf result.types (type_names self.entry) }
-        ensures suffixes { AreOf result.suffixes (suffix_names self.entry) }
-        ensures params { AreOf result.params (params self.entry) }
+        ensures { AreNamed self.entry result }
     {
         let Context {
             decls: _,
             spaces,
-            shapes: _,
-            supers: _,
+            kinds: _,
         } = self;
         spaces
     }
@@ -170,24 +178,57 @@ fn shape_of(types: &Names, kind: &Kind) -> Shape
     }
 }
 
-// The shape of each type, and the numbers of its supertypes.
-fn types_by_number(
-    alloc: Global,
-    names: &Names,
-    decls: &[Decl],
-) -> Result<(Seq<Shape>, Seq<Seq<usize>>), Memory>
-    ensures shapes { IfOk result (λ made. made.0 ≡ shapes_of (place_of names.now) (types decls.now)) }
-    ensures supers { IfOk result (λ made. made.1 ≡ supers_of (place_of names.now) (types decls.now)) }
+impl Kinds {
+    fn new(alloc: Global, names: &Names, decls: &[Decl]) -> Result<Self, Memory>
+        ensures { IfOk result (AreKindsBy (place_of names.now) (types decls.now)) }
+    {
+        let mut kinds = Kinds {
+            shapes: Seq::new(alloc),
+            supers: Seq::new(alloc),
+        };
+        let done = kinds.fill(alloc, names, decls);
+        when_done(done, kinds)
+    }
+
+    // Adds each type, where none is before.
+    fn fill(&mut self, alloc: Global, names: &Names, decls: &[Decl]) -> Result<(), Memory>
+        requires { self.old ≡ record { shapes = []; supers = [] } }
+        ensures { OnOk result (AreKindsBy (place_of names.now) (types decls.now) self.new) }
+    {
+        fill_shapes(&mut self.shapes, names, decls)?;
+        fill_supers(alloc, &mut self.supers, names, decls)
+    }
+}
+
+// What the objects of each type are.
+fn fill_shapes(shapes: &mut Seq<Shape>, names: &Names, decls: &[Decl]) -> Result<(), Memory>
+    requires { shapes.old ≡ [] }
+    ensures { OnOk result (shapes.new ≡ shapes_of (place_of names.now) (types decls.now)) }
 {
-    let mut shapes = Seq::new(alloc);
-    let mut supers = Seq::new(alloc);
     shapes.push(Shape::Simple)?;
-    supers.push(Seq::new(alloc))?;
     for decl in decls {
         if let Decl::ObjectType(declared) = decl {
             shapes.push(shape_of(names, &declared.kind))?;
+        }
+    }
+    Ok(())
+}
+
+// The numbers of the supertypes of each type.
+fn fill_supers(
+    alloc: Global,
+    supers: &mut Seq<Seq<usize>>,
+    names: &Names,
+    decls: &[Decl],
+) -> Result<(), Memory>
+    requires { supers.old ≡ [] }
+    ensures { OnOk result (supers.new ≡ supers_of (place_of names.now) (types decls.now)) }
+{
+    supers.push(Seq::new(alloc))?;
+    for decl in decls {
+        if let Decl::ObjectType(declared) = decl {
             supers.push(numbers_of(alloc, names, declared.supers.as_slice())?)?;
         }
     }
-    Ok((shapes, supers))
+    Ok(())
 }

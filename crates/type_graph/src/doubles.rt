@@ -1,6 +1,5 @@
 // The test for double names.
-ghost use Rattle.std.specs.Prelude.{◌≡◌, ℕ, IfOk, map, take};
-ghost use Rattle.object_values.specs.declared.graph.PartDecl.{PartDecl};
+ghost use Rattle.std.specs.Prelude.{◌≡◌, ℕ, IfOk, take};
 ghost use Rattle.meaning_graph_text.specs.Checks.{doubles_name, has_twice, part_names, used_params};
 ghost use Rattle.type_graph.specs.Spaces.{counts_of};
 
@@ -11,14 +10,15 @@ use object_values::{Bytes, Decl, Kind, Make, Memory, PartDecl};
 use std::alloc::Global;
 
 impl<'a> Context<'a> {
-    /// Whether the name of the declaration stands before it in its space, or a part or a used parameter stands twice in it.
+    /// Whether the declaration's name stands before it in its space, or a part or used parameter twice in it.
     pub(crate) fn doubles_name(
         &self,
         alloc: Global,
         before: &Counts,
         decl: &Decl,
     ) -> Result<bool, Memory>
-        ensures { (place : ℕ) → before.now ≡ counts_of (take place self.now) → IfOk result (λ doubles. doubles ≡ doubles_name (take place self.now) decl.now) }
+        ensures { (place : ℕ) → before.now ≡ counts_of (take place self.now)
+            → IfOk result (λ doubles. doubles ≡ doubles_name (take place self.now) decl.now) }
     {
         match decl {
             Decl::ObjectType(declared) => {
@@ -53,7 +53,7 @@ fn parts_twice(alloc: Global, kind: &Kind) -> Result<bool, Memory>
 }
 
 fn a_part_twice(alloc: Global, parts: &[PartDecl]) -> Result<bool, Memory>
-    ensures { IfOk result (λ twice. twice ≡ has_twice (map (λ (part : PartDecl). part.name) parts.now)) }
+    ensures { IfOk result (λ twice. twice ≡ has_twice (part_names (Kind.Compound parts.now))) }
 {
     let mut names = Names::new(alloc);
     for (place, part) in parts.iter().enumerate() {

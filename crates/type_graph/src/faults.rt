@@ -1,10 +1,12 @@
 // The first fault of declarations.
-ghost use Rattle.std.specs.Prelude.{◌≡◌, ◌-◌, ◌≤◌, ◌<◌, IfOk, MatchOption, find, take, length, None};
+ghost use Rattle.std.specs.Prelude.{◌≡◌, ◌-◌, ◌≤◌, IfOk, IfErr, OnOk, take, None};
 ghost use Rattle.meaning_texts.specs.Limits.{declaration_limit};
-ghost use Rattle.meaning_graph_text.specs.Checks.{has_fault, all_faults, Checked, FirstFault};
+ghost use Rattle.type_graph.specs.Faults.{IsCause, least_fault};
 ghost use Rattle.type_graph.specs.Spaces.{counts_of};
+ghost use Rattle.type_graph.specs.Tables.{AreChecked};
 
 use crate::context::Context;
+use crate::fault::CheckFault;
 use crate::spaces::Counts;
 use object_values::{Decl, GraphFault, Memory};
 use std::alloc::Global;
@@ -23,7 +25,7 @@ impl<'a> Context<'a> {
         decl: &Decl,
     ) -> Result<Option<GraphFault>, Memory>
         requires { before.now ≡ counts_of (take (number - 1) self.now) }
-        ensures fault { IfOk result (λ fault. fault ≡ find (has_fault self.now number decl.now) all_faults) }
+        ensures fault { IfOk result (λ fault. fault ≡ least_fault self.now number decl.now) }
         ensures few { IfOk result (λ fault. fault ≡ None → number ≤ declaration_limit) }
     {
         if !self.all_types_known(decl) {
@@ -48,15 +50,11 @@ impl<'a> Context<'a> {
     }
 }
 
-/// The least number of a declaration with a fault, and there the least fault.
-pub(crate) fn first_fault(
-    alloc: Global,
-    context: &Context,
-    decls: &[Decl],
-) -> Result<Option<(u32, GraphFault)>, Memory>
+/// Checks declarations: the fault that is answered has the least declaration number, and there the least fault number.
+pub(crate) fn check(alloc: Global, context: &Context, decls: &[Decl]) -> Result<(), CheckFault>
     requires { context.now ≡ decls.now }
-    ensures fault { IfOk result (λ found. MatchOption found (Checked decls.now) (λ at. FirstFault decls.now at.0 at.1)) }
-    ensures few { IfOk result (λ found. found ≡ None → length decls.now ≤ declaration_limit) }
+    ensures ok { OnOk result (AreChecked decls.now) }
+    ensures err { IfErr result (IsCause decls.now) }
 {
     let mut before = Counts {
         types: 1,
@@ -68,9 +66,9 @@ pub(crate) fn first_fault(
     for decl in decls {
         number += 1;
         if let Some(fault) = context.fault_of(alloc, number, &before, decl)? {
-            return Ok(Some((number, fault)));
+            return Err(CheckFault::Graph(number, fault));
         }
         before.add(decl);
     }
-    Ok(None)
+    Ok(())
 }

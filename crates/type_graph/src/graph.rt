@@ -1,18 +1,18 @@
 // A graph that is checked, with the tables that answer from it.
-ghost use Rattle.std.specs.Prelude.{◌≡◌, ◌<◌, ℕ, Err, IfOk, IfErr, length, option_map, slice_get};
+ghost use Rattle.std.specs.Prelude.{◌≡◌, ◌<◌, IfOk, IfErr, length, option_map, slice_get};
 ghost use Rattle.meaning_graph.specs.Graphs.{types, makers, type_named, has_param};
 ghost use Rattle.meaning_graph.specs.Suffixes.{source_type};
 ghost use Rattle.meaning_graph.specs.Types.{is_a};
-ghost use Rattle.meaning_graph_text.specs.Checks.{Checked, FirstFault};
+ghost use Rattle.meaning_graph_text.specs.Checks.{Checked};
+ghost use Rattle.type_graph.specs.Faults.{IsCause};
 
 use crate::fault::CheckFault;
 use crate::tables::Tables;
-use object_values::{Decl, GraphFault, MakerDecl, Seq};
+use object_values::{Decl, MakerDecl, Seq};
 use std::alloc::Global;
 use std::marker::Model;
 
 /// A checked graph. Contracts see its declarations.
-#[derive(Debug)]
 pub struct Graph {
     decls: Seq<Decl>,
     tables: Tables,
@@ -35,7 +35,7 @@ impl Model for Graph {
 
     ghost view = { λ g. g.decls };
 
-    ghost invariant = { λ g. AreTables g.decls g.tables.spaces.types g.tables.spaces.params g.tables.spaces.suffixes g.tables.numbers.suffix_types g.tables.numbers.maker_places g.tables.numbers.rows };
+    ghost invariant = { λ g. AreTables g.decls g.tables };
 }
 
 impl Graph {
@@ -43,7 +43,7 @@ impl Graph {
     pub fn check(alloc: Global, decls: Seq<Decl>) -> Result<Self, CheckFault>
         ensures ok { IfOk result (λ graph. graph ≡ decls) }
         ensures checked { IfOk result (λ graph. Checked decls) }
-        ensures err { (number : ℕ) (fault : GraphFault) → result ≡ Err (CheckFault.Graph number fault) → FirstFault decls number fault }
+        ensures err { IfErr result (IsCause decls) }
     {
         let tables = Tables::new(alloc, decls.as_slice())?;
         Ok(Graph { decls, tables })

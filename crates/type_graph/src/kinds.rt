@@ -1,11 +1,10 @@
 // The rules of kinds.
-ghost use Rattle.std.specs.Prelude.{◌≡◌, ℕ, IfOk, option_map, slice_index_or, false};
-ghost use Rattle.std.specs.List.{list_any, list_all};
+ghost use Rattle.std.specs.Prelude.{◌≡◌, IfOk};
+ghost use Rattle.std.specs.List.{list_all};
 ghost use Rattle.std.specs.Option.{option_to_list};
-ghost use Rattle.meaning_graph.specs.Graphs.{type_named, kind_named};
-ghost use Rattle.meaning_graph.specs.Types.{is_a};
-ghost use Rattle.meaning_graph_text.specs.Checks.{is_simple, is_list, is_compound, keeps_kind, super_fits, fits_list, keeps_make, keeps_rules};
-ghost use Rattle.type_graph.specs.Shapes.{shape_of, fits_by};
+ghost use Rattle.meaning_graph.specs.Graphs.{type_named};
+ghost use Rattle.meaning_graph_text.specs.Checks.{is_simple, is_list, is_compound, keeps_kind, keeps_rules};
+ghost use Rattle.type_graph.specs.Shapes.{shape_named, fits_by, supers_fit, keeps_type, maker_keeps, IsRowAbove};
 
 use crate::context::{Context, Shape};
 use object_values::{Bytes, Decl, Kind, Make, MakerDecl, Memory, PartDecl, Seq, TypeDecl};
@@ -43,7 +42,7 @@ impl<'a> Context<'a> {
     }
 
     fn type_fits(&self, alloc: Global, declared: &TypeDecl) -> Result<bool, Memory>
-        ensures { IfOk result (λ keeps. keeps ≡ keeps_rules self.now (Decl.ObjectType declared.now)) }
+        ensures { IfOk result (λ keeps. keeps ≡ keeps_type self.now declared.now) }
     {
         if !self.kind_fits(&declared.kind) {
             return Ok(false);
@@ -70,7 +69,7 @@ impl<'a> Context<'a> {
 
     // A supertype is of the same kind, and a compound has none.
     fn supers_fit(&self, alloc: Global, kind: &Kind, supers: &[Bytes]) -> Result<bool, Memory>
-        ensures { IfOk result (λ fit. fit ≡ list_all (super_fits self.now kind.now) supers.now) }
+        ensures { IfOk result (λ fit. fit ≡ supers_fit self.now kind.now supers.now) }
     {
         match kind {
             Kind::Simple => Ok(supers.iter().all(|name| self.is_simple(name))),
@@ -81,7 +80,7 @@ impl<'a> Context<'a> {
 
     // The elements of a list are those of each list that it is.
     fn lists_fit(&self, alloc: Global, of: &Bytes, supers: &[Bytes]) -> Result<bool, Memory>
-        ensures { IfOk result (λ fit. fit ≡ list_all (super_fits self.now (Kind.List of.now)) supers.now) }
+        ensures { IfOk result (λ fit. fit ≡ supers_fit self.now (Kind.List of.now) supers.now) }
     {
         if supers.is_empty() {
             return Ok(true);
@@ -92,7 +91,7 @@ impl<'a> Context<'a> {
 
     // Which types the type of the name is.
     fn above_name(&self, alloc: Global, of: &Bytes) -> Result<Seq<bool>, Memory>
-        ensures { IfOk result (λ row. (number : ℕ) → slice_index_or row number false ≡ list_any (λ start. is_a self.now start number) (option_to_list (type_named self.now of.now))) }
+        ensures { IfOk result (IsRowAbove self.now (option_to_list (type_named self.now of.now))) }
     {
         match self.number(of) {
             Some(number) => self.above(alloc, &[number]),
@@ -101,13 +100,13 @@ impl<'a> Context<'a> {
     }
 
     fn all_fit(&self, above: &[bool], supers: &[Bytes]) -> bool
-        ensures { result ≡ list_all (λ name. fits_by above.now (option_map (shape_of (type_named self.now)) (kind_named self.now name))) supers.now }
+        ensures { result ≡ list_all (λ name. fits_by above.now (shape_named self.now name)) supers.now }
     {
         supers.iter().all(|name| self.list_fits(above, name))
     }
 
     fn list_fits(&self, above: &[bool], name: &Bytes) -> bool
-        ensures { result ≡ fits_by above.now (option_map (shape_of (type_named self.now)) (kind_named self.now name.now)) }
+        ensures { result ≡ fits_by above.now (shape_named self.now name.now) }
     {
         match self.shape(name) {
             Some(Shape::List(Some(elements))) => match above.get(elements) {
@@ -120,7 +119,7 @@ impl<'a> Context<'a> {
     }
 
     fn maker_fits(&self, declared: &MakerDecl) -> bool
-        ensures { result ≡ keeps_make self.now declared.now.from declared.now.to declared.now.make }
+        ensures { result ≡ maker_keeps self.now declared.now }
     {
         let (from, to) = (&declared.from, &declared.to);
         match &declared.make {

@@ -3,7 +3,8 @@ ghost use Rattle.std.specs.Prelude.{◌≡◌, not};
 ghost use Rattle.std.specs.List.{list_any, list_all};
 ghost use Rattle.std.specs.Option.{option_to_list};
 ghost use Rattle.meaning_graph.specs.Graphs.{has_param};
-ghost use Rattle.meaning_graph_text.specs.Checks.{is_known, kind_types, make_types, also_type, all_types_known, uses_unknown_param};
+ghost use Rattle.type_graph.specs.Shapes.{knows_extra};
+ghost use Rattle.meaning_graph_text.specs.Checks.{is_known, kind_types, make_types, all_types_known, uses_unknown_param};
 
 use crate::context::Context;
 use object_values::{Bytes, Decl, Extra, Kind, Make, PartDecl};
@@ -74,13 +75,13 @@ impl<'a> Context<'a> {
     }
 
     fn knows_extras(&self, extras: &[Extra]) -> bool
-        ensures { result ≡ list_all (λ extra. list_all (is_known self.now) (option_to_list (also_type extra))) extras.now }
+        ensures { result ≡ list_all (knows_extra self.now) extras.now }
     {
         extras.iter().all(|extra| self.knows_extra(extra))
     }
 
     fn knows_extra(&self, extra: &Extra) -> bool
-        ensures { result ≡ list_all (is_known self.now) (option_to_list (also_type extra.now)) }
+        ensures { result ≡ knows_extra self.now extra.now }
     {
         match extra {
             Extra::Also(of) => self.knows(of),

@@ -1,5 +1,6 @@
 // The test for supertype loops.
 ghost use Rattle.std.specs.Prelude.{◌≡◌, IfOk, slice_index_or, false};
+ghost use Rattle.object_values.specs.declared.graph.Decl.TheVariants.{ObjectType};
 ghost use Rattle.meaning_graph_text.specs.Checks.{is_in_loop};
 
 use crate::context::Context;
@@ -18,7 +19,7 @@ impl<'a> Context<'a> {
     }
 
     fn type_loops(&self, alloc: Global, declared: &TypeDecl) -> Result<bool, Memory>
-        ensures { IfOk result (λ loops. loops ≡ is_in_loop self.now (Decl.ObjectType declared.now)) }
+        ensures { IfOk result (λ loops. loops ≡ is_in_loop self.now (ObjectType declared.now)) }
     {
         if declared.supers.is_empty() {
             return Ok(false);

@@ -1,16 +1,14 @@
 // Names and the places where they first stand.
-ghost use Rattle.std.specs.Prelude.{◌≡◌, [], List, OnOk, bytes_eq, take};
-ghost use Rattle.std.specs.List.{list_any};
+ghost use Rattle.std.specs.Prelude.{◌≡◌, [], List, OnOk, take};
 ghost use Rattle.meaning_graph.specs.Graphs.{Text};
-ghost use Rattle.type_graph.specs.Places.{place_of, with_place, AreOf};
+ghost use Rattle.type_graph.specs.Places.{place_of, with_place, stands_in, AreOf};
 
 use indexmap::IndexMap;
 use object_values::{Bytes, Memory};
 use std::alloc::Global;
 use std::marker::Model;
 
-/// The place of each name. Contracts see the names with their places, in the order in which they came.
-#[derive(Debug)]
+/// The place of each name. Contracts see the names with their places, in the order of their coming.
 pub(crate) struct Names {
     places: IndexMap<Vec<u8>, usize>,
 }
@@ -60,7 +58,7 @@ impl Names {
 
     /// Whether the name stands before a place in the list that the names are of.
     pub(crate) fn stands_before(&self, name: &[u8], place: usize) -> bool
-        ensures { (names : List Text) → AreOf self.now names → result ≡ list_any (λ n. bytes_eq n name.now) (take place names) }
+        ensures { (names : List Text) → AreOf self.now names → result ≡ stands_in name.now (take place names) }
     {
         match self.place(name) {
             Some(first) => first < place,

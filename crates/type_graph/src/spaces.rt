@@ -1,14 +1,14 @@
 // The four spaces of names, apart from each other.
-ghost use Rattle.std.specs.Prelude.{◌≡◌, ◌<◌, ◌^◌, IfOk, option_map};
+ghost use Rattle.std.specs.Prelude.{◌≡◌, ◌<◌, ◌^◌, [], IfOk, OnOk, option_map};
 ghost use Rattle.type_graph.specs.Places.{AreOf};
-ghost use Rattle.type_graph.specs.Spaces.{name_in, names_in, counted};
+ghost use Rattle.type_graph.specs.Spaces.{name_in, names_in, AreSpaces, counted};
 
 use crate::names::Names;
-use object_values::{Bytes, Decl, Memory};
+use object_values::{Bytes, Decl, Memory, when_done};
 use std::alloc::Global;
 
 /// A space of names.
-#[derive(Clone, Copy, Debug, PartialEq, Eq)]
+#[derive(Clone, Copy, PartialEq, Eq)]
 pub(crate) enum Space {
     Types,
     Suffixes,
@@ -29,11 +29,11 @@ fn name_in<'a>(space: Space, decl: &'a Decl) -> Option<&'a Bytes>
     }
 }
 
-// The names of a space, each with its number there.
-fn names_in(alloc: Global, space: Space, decls: &[Decl]) -> Result<Names, Memory>
-    ensures { IfOk result (λ names. AreOf names (names_in space decls.now)) }
+// Adds the names of a space, each with its number there.
+fn add_names(names: &mut Names, alloc: Global, space: Space, decls: &[Decl]) -> Result<(), Memory>
+    requires { names.old ≡ [] }
+    ensures { OnOk result (AreOf names.new (names_in space decls.now)) }
 {
-    let mut names = Names::new(alloc);
     let mut built_in = 0;
     if space == Space::Types {
         names.add(alloc, b"text", 0)?;
@@ -46,11 +46,10 @@ fn names_in(alloc: Global, space: Space, decls: &[Decl]) -> Result<Names, Memory
             declared += 1;
         }
     }
-    Ok(names)
+    Ok(())
 }
 
 /// The names of each space, each with its number there.
-#[derive(Debug)]
 pub(crate) struct Spaces {
     pub(crate) types: Names,
     pub(crate) suffixes: Names,
@@ -60,7 +59,12 @@ pub(crate) struct Spaces {
 
 impl Drop for Spaces {
     fn drop(self) {
-        let Spaces { types, suffixes, params, makers } = self;
+        let Spaces {
+            types,
+            suffixes,
+            params,
+            makers,
+        } = self;
         drop(types);
         drop(suffixes);
         drop(params);
@@ -70,22 +74,32 @@ impl Drop for Spaces {
 
 impl Spaces {
     pub(crate) fn new(alloc: Global, decls: &[Decl]) -> Result<Self, Memory>
-        ensures types { IfOk result (λ spaces. AreOf spaces.types (names_in Space.Types decls.now)) }
-        ensures suffixes { IfOk result (λ spaces. AreOf spaces.suffixes (names_in Space.Suffixes decls.now)) }
-        ensures params { IfOk result (λ spaces. AreOf spaces.params (names_in Space.Params decls.now)) }
-        ensures makers { IfOk result (λ spaces. AreOf spaces.makers (names_in Space.Makers decls.now)) }
+        ensures { IfOk result (AreSpaces decls.now) }
     {
-        Ok(Spaces {
-            types: names_in(alloc, Space::Types, decls)?,
-            suffixes: names_in(alloc, Space::Suffixes, decls)?,
-            params: names_in(alloc, Space::Params, decls)?,
-            makers: names_in(alloc, Space::Makers, decls)?,
-        })
+        let mut spaces = Spaces {
+            types: Names::new(alloc),
+            suffixes: Names::new(alloc),
+            params: Names::new(alloc),
+            makers: Names::new(alloc),
+        };
+        let done = spaces.fill(alloc, decls);
+        when_done(done, spaces)
+    }
+
+    // Adds the names of each space, where none are before.
+    fn fill(&mut self, alloc: Global, decls: &[Decl]) -> Result<(), Memory>
+        requires { self.old ≡ record { types = []; suffixes = []; params = []; makers = [] } }
+        ensures { OnOk result (AreSpaces decls.now self.new) }
+    {
+        add_names(&mut self.types, alloc, Space::Types, decls)?;
+        add_names(&mut self.suffixes, alloc, Space::Suffixes, decls)?;
+        add_names(&mut self.params, alloc, Space::Params, decls)?;
+        add_names(&mut self.makers, alloc, Space::Makers, decls)
     }
 }
 
 /// How many names stand in each space.
-#[derive(Clone, Copy, Debug)]
+#[derive(Clone, Copy)]
 pub(crate) struct Counts {
     pub(crate) types: usize,
     pub(crate) suffixes: usize,

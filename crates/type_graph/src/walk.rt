@@ -1,23 +1,29 @@
 // Walks from types to their supertypes.
-ghost use Rattle.std.specs.Prelude.{◌≡◌, ◌<◌, ◌↔◌, ℕ, [], IsTrue, OnOk, IfOk, false, length, slice_index_or};
-ghost use Rattle.meaning_graph.specs.Members.{IsIn};
-ghost use Rattle.type_graph.specs.Walks.{Marks, IsReached};
+ghost use Rattle.std.specs.Prelude.{◌≡◌, ℕ, [], OnOk, IfOk, length, slice_index_or};
+ghost use Rattle.type_graph.specs.Walks.{AreBelow, Marks, IsRowReached, seen};
 
 use object_values::{Memory, Seq};
 use std::alloc::Global;
 
 /// The types that a walk has come to, and those among them whose supertypes it has yet to look at.
-#[derive(Debug, Drop)]
 struct Walk {
     marked: Vec<bool>,
     todo: Vec<usize>,
 }
 
+impl Drop for Walk {
+    fn drop(self) {
+        let Walk { marked, todo } = self;
+        drop(marked);
+        drop(todo);
+    }
+}
+
 impl Walk {
     /// Comes to these types.
     fn mark_all(&mut self, numbers: &[usize]) -> Result<(), Memory>
-        requires { (number : ℕ) → IsIn number numbers.now → number < length self.old.marked.items }
-        ensures { OnOk result (Marks self.old.marked.items self.old.todo.items numbers.now self.new.marked.items self.new.todo.items) }
+        requires { AreBelow (length self.old.marked.items) numbers.now }
+        ensures { OnOk result (Marks (seen self.old) numbers.now (seen self.new)) }
     {
         for number in numbers {
             if !self.marked[*number] {
@@ -27,18 +33,26 @@ impl Walk {
         }
         Ok(())
     }
+
+    // Which types it has come to.
+    fn into_row(self) -> Seq<bool>
+        ensures { result ≡ self.marked.items }
+    {
+        let Walk { marked, todo } = self;
+        drop(todo);
+        Seq::from_vec(marked)
+    }
 }
 
-/// Which types are reached from one of the starts by supertypes, none, one or more. Each is looked at once.
+/// Which types are reached from a start by supertypes, none, one or more. Each is looked at once.
 pub(crate) fn reached(
     alloc: Global,
     supers: &[Seq<usize>],
     starts: &[usize],
 ) -> Result<Seq<bool>, Memory>
-    requires starts { (number : ℕ) → IsIn number starts.now → number < length supers.now }
-    requires supers { (number other : ℕ) → IsIn other (slice_index_or supers.now number []) → other < length supers.now }
-    ensures sized { IfOk result (λ row. length row ≡ length supers.now) }
-    ensures right { IfOk result (λ row. (number : ℕ) → IsTrue (slice_index_or row number false) ↔ IsReached supers.now starts.now number) }
+    requires starts { AreBelow (length supers.now) starts.now }
+    requires supers { (number : ℕ) → AreBelow (length supers.now) (slice_index_or supers.now number []) }
+    ensures { IfOk result (IsRowReached supers.now starts.now) }
 {
     let mut walk = Walk {
         marked: vec![in alloc; false; supers.len()]?,
@@ -48,6 +62,5 @@ pub(crate) fn reached(
     while let Some(number) = walk.todo.pop() {
         walk.mark_all(supers[number].as_slice())?;
     }
-    let Walk { marked, .. } = walk;
-    Ok(Seq::from_vec(marked))
+    Ok(walk.into_row())
 }

@@ -10,4 +10,4 @@ use Rattle.type_graph.proofs.context.Context.has_param.Goals as goal
 pub returns : goal.returns
 returns c =
     c.is_some.ensures ∙ ap is_some c.place.ensures ∙ ap (λ n. is_some (place_of c.self.inside.spaces.params n)) c.as_slice.ensures
-    ∙ param_there c.self.inside.decls.now c.self.inside.spaces.params (subst (AreOf c.self.inside.spaces.params) (names_of_params c.self.inside.decls.now) c.self.invariant.params_are) c.args.name.now ∙ ap (λ g. has_param g c.args.name.now) c.self.view_is
+    ∙ param_there c.self.inside.decls.now c.self.inside.spaces.params (subst (AreOf c.self.inside.spaces.params) (names_of_params c.self.inside.decls.now) c.self.invariant.spaces_are.params_are) c.args.name.now ∙ ap (λ g. has_param g c.args.name.now) c.self.view_is

@@ -4,4 +4,4 @@ use Rattle.meaning_graph_text.specs.Checks.{Checked}
 use Rattle.type_graph.proofs.graph.Graph.checked.Goals as goal
 
 pub returns : goal.returns
-returns c = subst Checked c.self.view_is c.self.invariant.checked
+returns c = subst Checked c.self.view_is c.self.invariant.sound.checked

@@ -6,4 +6,4 @@ use Rattle.type_graph.proofs.TableLemmas.{param_there}
 use Rattle.type_graph.proofs.graph.Graph.has_param.Goals as goal
 
 pub returns : goal.returns
-returns c = c.is_some.ensures ∙ ap is_some c.place.ensures ∙ param_there c.self.inside.decls c.self.inside.tables.spaces.params c.self.invariant.params_are c.args.name.now ∙ ap (λ g. has_param g c.args.name.now) c.self.view_is
+returns c = c.is_some.ensures ∙ ap is_some c.place.ensures ∙ param_there c.self.inside.decls c.self.inside.tables.spaces.params c.self.invariant.named.params_are c.args.name.now ∙ ap (λ g. has_param g c.args.name.now) c.self.view_is

@@ -1,8 +1,7 @@
 -- Number by number.
 use Rattle.std.proofs.Common.{◌∙◌, ◌<◌, ◌+◌, ◌++◌, ◌∷◌, [], length, get_or, take, set, sym, subst, arith, true, false}
 use Rattle.std.proofs.lemmas.List.{take_more}
-use Rattle.type_graph.specs.Walks.{Marks}
-use Rattle.type_graph.proofs.WalkLemmas.{in_at, marked_before, marked_now, read_default}
+use Rattle.type_graph.proofs.WalkLemmas.{MarksTo, in_at, marked_before, marked_now, read_default}
 use Rattle.type_graph.proofs.walk.Walk.mark_all.Goals as goal
 use Rattle.type_graph.proofs.walk.Walk.mark_all.Goals.{then-not-index+in_ok-push, else-not-index}
 
@@ -24,11 +23,11 @@ loop-number-preserved c =
     elim c.if-not-index.branch [
       | then-not-index+in_ok-push w ↦
           let next = marked_now c.args.self.now.marked.items c.args.self.now.todo.items numbers m t so_far n below (read_default m n c.index.result.now false below c.index.ensures ∙ w.if-not-index.true) in
-          subst (λ self. Marks c.args.self.now.marked.items c.args.self.now.todo.items (take (c.loop-number.number-index + 1) c.args.numbers.now) self.marked.items self.todo.items) (sym w.self-is)
-          (subst (λ l. Marks c.args.self.now.marked.items c.args.self.now.todo.items l (set m n true) w.push.new.self.items) (sym more)
-          (subst (λ l. Marks c.args.self.now.marked.items c.args.self.now.todo.items (numbers ++ n ∷ []) (set m n true) l) (sym w.in_ok-push.ensures.items) next))
+          subst (λ self. MarksTo c.args.self.now.marked.items c.args.self.now.todo.items (take (c.loop-number.number-index + 1) c.args.numbers.now) self.marked.items self.todo.items) (sym w.self-is)
+          (subst (λ l. MarksTo c.args.self.now.marked.items c.args.self.now.todo.items l (set m n true) w.push.new.self.items) (sym more)
+          (subst (λ l. MarksTo c.args.self.now.marked.items c.args.self.now.todo.items (numbers ++ n ∷ []) (set m n true) l) (sym w.in_ok-push.ensures.items) next))
       | else-not-index w ↦
           let next = marked_before c.args.self.now.marked.items c.args.self.now.todo.items numbers m t so_far n (read_default m n c.index.result.now false below c.index.ensures ∙ w.if-not-index.false) in
-          subst (λ self. Marks c.args.self.now.marked.items c.args.self.now.todo.items (take (c.loop-number.number-index + 1) c.args.numbers.now) self.marked.items self.todo.items) (sym w.self-is)
-          (subst (λ l. Marks c.args.self.now.marked.items c.args.self.now.todo.items l m t) (sym more) next)
+          subst (λ self. MarksTo c.args.self.now.marked.items c.args.self.now.todo.items (take (c.loop-number.number-index + 1) c.args.numbers.now) self.marked.items self.todo.items) (sym w.self-is)
+          (subst (λ l. MarksTo c.args.self.now.marked.items c.args.self.now.todo.items l m t) (sym more) next)
     ]

@@ -2,8 +2,8 @@
 use Rattle.std.proofs.Common.{◌∙◌, ◌+◌, sym, ap, subst}
 use Rattle.type_graph.specs.Places.{with_place}
 use Rattle.type_graph.proofs.SpaceLemmas.{IsSoFar, named_next, other_next}
-use Rattle.type_graph.proofs.spaces.names_in.Goals as goal
-use Rattle.type_graph.proofs.spaces.names_in.Goals.{in-Some+in_ok-add-2, in_default}
+use Rattle.type_graph.proofs.spaces.add_names.Goals as goal
+use Rattle.type_graph.proofs.spaces.add_names.Goals.{in-Some+in_ok-add-2, in_default}
 
 pub loop-decl-preserved : goal.loop-decl-preserved
 loop-decl-preserved c = elim c.match-name_in.branch [

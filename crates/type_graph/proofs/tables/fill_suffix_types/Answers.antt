@@ -4,8 +4,8 @@ use Rattle.std.specs.Prelude.{unwrap_or}
 use Rattle.meaning_graph.specs.Graphs.{type_named, as_suffix}
 use Rattle.type_graph.specs.Tables.{suffix_number}
 use Rattle.type_graph.proofs.ContextLemmas.{mapped_push, mapped_stays, number_fits, no_suffix_there}
-use Rattle.type_graph.proofs.tables.suffix_types.Goals as goal
-use Rattle.type_graph.proofs.tables.suffix_types.Goals.{in-Suffix+in_ok-push, in_default}
+use Rattle.type_graph.proofs.tables.fill_suffix_types.Goals as goal
+use Rattle.type_graph.proofs.tables.fill_suffix_types.Goals.{in-Suffix+in_ok-push, in_default}
 
 pub overflow_cast-unwrap_or : goal.overflow_cast-unwrap_or
 overflow_cast-unwrap_or c = omega (arith, c.unwrap_or.ensures, number_fits c.args.decls.now c.in-Suffix.declared.of c.requires.few c.number.result (c.number.ensures ∙ ap (λ g. type_named g c.in-Suffix.declared.of) c.requires.same))

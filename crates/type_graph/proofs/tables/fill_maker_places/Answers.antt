@@ -7,8 +7,8 @@ use Rattle.meaning_graph.specs.Graphs.{makers, as_maker}
 use Rattle.type_graph.specs.Tables.{maker_at}
 use Rattle.type_graph.proofs.TableLemmas.{maker_here, no_other}
 use Rattle.type_graph.proofs.ContextLemmas.{mapped_push, mapped_stays}
-use Rattle.type_graph.proofs.tables.maker_places.Goals as goal
-use Rattle.type_graph.proofs.tables.maker_places.Goals.{in-Maker+in_ok-push, in_default}
+use Rattle.type_graph.proofs.tables.fill_maker_places.Goals as goal
+use Rattle.type_graph.proofs.tables.fill_maker_places.Goals.{in-Maker+in_ok-push, in_default}
 
 pub loop-place-preserved : goal.loop-place-preserved
 loop-place-preserved c = elim c.match-decl.branch [

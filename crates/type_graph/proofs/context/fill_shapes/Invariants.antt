@@ -1,0 +1,9 @@
+-- The table of the types so far.
+use Rattle.std.proofs.Common.{◌≡◌, take}
+use Rattle.meaning_graph.specs.Graphs.{types}
+use Rattle.type_graph.specs.Places.{place_of}
+use Rattle.type_graph.specs.Shapes.{shapes_of}
+use Rattle.type_graph.proofs.context.fill_shapes.Given as goal
+
+abbrev pub invariant-loop-decl : goal.invariant-loop-decl
+invariant-loop-decl l = l.shapes ≡ shapes_of (place_of l.names) (types (take l.decl-index l.decls))
