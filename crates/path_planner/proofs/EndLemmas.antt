@@ -1,16 +1,16 @@
 -- Makers and their types by the table of ends.
 use Rattle.std.proofs.Common.{◌≡◌, ℕ, ◌<◌, true, List, sym, ap, ◌∙◌, refl, length, get_or, slice_get}
-use Rattle.std.specs.Prelude.{Option, Some, None, option_map}
+use Rattle.std.specs.Prelude.{Option, Some, None, MatchOption, option_map}
 use Rattle.std.proofs.lemmas.Option.{slice_get-map, slice_get-get_or, slice_get_within}
 use Rattle.object_values.specs.declared.graph.MakerDecl.{MakerDecl}
 use Rattle.meaning_graph.specs.Graphs.{Graph, types, makers}
 use Rattle.meaning_graph.specs.Types.{is_a}
-use Rattle.meaning_graph.specs.Paths.{Makes}
+use Rattle.meaning_graph.specs.Paths.{Makes, Chosen, HasNoPath}
 use Rattle.meaning_graph.proofs.Members.{same_some, some_is_none}
 use Rattle.meaning_graph.proofs.Types.{is_a_so, so_is_a}
 use Rattle.meaning_graph.proofs.Paths.{named_below}
 use Rattle.path_planner.specs.declared.route.Ends.{Ends}
-use Rattle.path_planner.specs.Ends.{ends_of, ends_in, from_to, AreTypes}
+use Rattle.path_planner.specs.Ends.{ends_of, ends_in, from_to, AreTypes, IsChosen}
 
 -- a maker's ends stand at its number
 record EndsOf (g : Graph) (k : ℕ) (e : Ends) : Type 0 where
@@ -62,3 +62,8 @@ both_known e from to p q = λ i. record { from = p i; to = q i }
 -- what is read at a place of the table, by whatever default
 pub place_ends : (g : Graph) (ends : List Ends) (k : ℕ) (d : Ends) → ends ≡ ends_in g → k < length ends → slice_get (ends_in g) k ≡ Some (get_or ends k d)
 place_ends g ends k d made below = ap (λ l. slice_get l k) (sym made) ∙ slice_get-get_or ends k d below
+
+-- a path that is told by cases
+pub is_chosen : (g : Graph) (from to : ℕ) (path : Option (List ℕ)) → MatchOption path (HasNoPath g from to) (Chosen g from to) → IsChosen g from to path
+is_chosen g from to None h = h
+is_chosen g from to (Some path) h = h

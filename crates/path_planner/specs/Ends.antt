@@ -1,7 +1,8 @@
 -- The types of makers by their numbers.
-use Rattle.std.specs.Prelude.{◌≡◌, ◌<◌, ℕ, List, Some, length, map}
+use Rattle.std.specs.Prelude.{◌≡◌, ◌<◌, ℕ, List, Option, Some, None, length, map}
 use Rattle.object_values.specs.declared.graph.MakerDecl.{MakerDecl}
 use Rattle.meaning_graph.specs.Graphs.{Graph, types, makers, type_named}
+use Rattle.meaning_graph.specs.Paths.{Chosen, HasNoPath}
 use Rattle.path_planner.specs.declared.route.Ends.{Ends}
 
 -- the ends of a maker that takes the one type and makes the other
@@ -14,6 +15,15 @@ ends_of g m = record { from = type_named g m.from; to = type_named g m.to }
 
 abbrev pub ends_in : Graph → List Ends
 ends_in g = map (ends_of g) (makers g)
+
+-- what plans that are made of the graph hold
+abbrev pub plans_of : Graph → List Ends
+plans_of g = ends_in g
+
+-- the chosen path from the one type to the other, or that there is none
+abbrev pub IsChosen : Graph → ℕ → ℕ → Option (List ℕ) → Type 0
+IsChosen g from to None = HasNoPath g from to
+IsChosen g from to (Some path) = Chosen g from to path
 
 -- The numbers of a maker are those of types.
 pub record AreTypes (g : Graph) (e : Ends) : Type 0 where

@@ -1,5 +1,5 @@
 -- The lengths of the shortest paths to a type.
-use Rattle.std.specs.Prelude.{◌≡◌, ◌+◌, ◌<◌, ◌≤◌, ℕ, true, List, Option, Some, None, length, slice_get, slice_index_or}
+use Rattle.std.specs.Prelude.{◌≡◌, ◌+◌, ◌<◌, ◌≤◌, ℕ, true, cond, List, Option, Some, None, length, slice_get, slice_index_or}
 use Rattle.meaning_graph.specs.Graphs.{Graph, types}
 use Rattle.meaning_graph.specs.Types.{is_a}
 use Rattle.meaning_graph.specs.Paths.{Makes, Path}
@@ -9,6 +9,10 @@ use Rattle.path_planner.specs.Ends.{ends_in, from_to}
 -- the distance of a type
 abbrev pub near_at : List (Option ℕ) → ℕ → Option ℕ
 near_at near a = slice_index_or near a None
+
+-- the distance, where the one type is the other
+abbrev pub distance_if : Graph → ℕ → ℕ → ℕ → Option ℕ
+distance_if g a of distance = cond (is_a g a of) (Some distance) None
 
 -- The distances are those of the shortest paths, where there are any of the length at most.
 pub record IsNear (g : Graph) (to level : ℕ) (near : List (Option ℕ)) : Type 0 where

@@ -1,18 +1,18 @@
 // How many makers a path from each type has, at least.
-ghost use Rattle.std.specs.Prelude.{◌≡◌, ◌<◌, ◌+◌, ℕ, None, Some, IfOk, length, nat_eq, cond, slice_get, slice_index_or};
+ghost use Rattle.std.specs.Prelude.{◌≡◌, ◌<◌, ◌+◌, ℕ, Some, IfOk, length, nat_eq, slice_get};
 ghost use Rattle.std.specs.List.{list_any};
 ghost use Rattle.std.specs.Option.{option_eq, option_or};
 ghost use Rattle.meaning_graph.specs.Graphs.{types};
-ghost use Rattle.meaning_graph.specs.Types.{is_a};
 ghost use Rattle.path_planner.specs.Ends.{ends_in, AreTypes};
-ghost use Rattle.path_planner.specs.Near.{IsNear, IsBetween, IsAllNear};
+ghost use Rattle.path_planner.specs.Near.{near_at, distance_if, IsNear, IsBetween, IsAllNear};
 
 use crate::route::Ends;
 use object_values::{Memory, Seq};
 use std::alloc::Global;
 use type_graph::Graph;
 
-/// The length of the shortest paths from each type to this one, where there are paths. Each maker marks the types that it takes once, so this takes about types times makers steps.
+/// The length of the shortest paths from each type to this one, where there are paths. Each maker marks the
+/// types that it takes once, so this takes about types times makers steps.
 pub(crate) fn distances(
     alloc: Global,
     graph: &Graph,
@@ -58,7 +58,9 @@ fn widen_by(near: &mut [Option<usize>], graph: &Graph, maker: Ends, level: usize
     requires ends { AreTypes graph.now maker }
     requires sized { length near.old ≡ length (types graph.now) }
     requires level { level < length (types graph.now) }
-    ensures { (to number : ℕ) → slice_get (ends_in graph.now) number ≡ Some maker → IsBetween graph.now to level number near.old → IsBetween graph.now to level (number + 1) near.new }
+    ensures { (to number : ℕ) → slice_get (ends_in graph.now) number ≡ Some maker
+        → IsBetween graph.now to level number near.old
+        → IsBetween graph.now to level (number + 1) near.new }
 {
     let Some(from) = maker.from else {
         return;
@@ -75,7 +77,8 @@ fn widen_by(near: &mut [Option<usize>], graph: &Graph, maker: Ends, level: usize
 fn mark(near: &mut [Option<usize>], graph: &Graph, of: u32, distance: usize)
     requires sized { length near.old ≡ length (types graph.now) }
     requires of { of < length (types graph.now) }
-    ensures { (a : ℕ) → a < length near.old → slice_index_or near.new a None ≡ option_or (slice_index_or near.old a None) (cond (is_a graph.now a of) (Some distance) None) }
+    ensures { (a : ℕ) → a < length near.old
+        → near_at near.new a ≡ option_or (near_at near.old a) (distance_if graph.now a of distance) }
 {
     for a in 0..graph.type_count() {
         let place = a as usize;

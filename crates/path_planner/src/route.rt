@@ -10,7 +10,7 @@ use std::alloc::Global;
 use type_graph::Graph;
 
 /// The numbers of the types that a maker takes and makes, where they are declared.
-#[derive(Clone, Copy, Debug, PartialEq, Eq)]
+#[derive(Clone, Copy)]
 pub(crate) struct Ends {
     pub(crate) from: Option<u32>,
     pub(crate) to: Option<u32>,
@@ -27,7 +27,8 @@ pub(crate) fn route(
     requires made { makers.now ≡ ends_in graph.now }
     requires sized { length near.now ≡ length (types graph.now) }
     requires from { from < length (types graph.now) }
-    ensures { (to : ℕ) → IsAllNear graph.now to near.now → IfOk result (λ path. path ≡ chosen_path graph.now from to) }
+    ensures { (to : ℕ) → IsAllNear graph.now to near.now
+        → IfOk result (λ path. path ≡ chosen_path graph.now from to) }
 {
     let Some(mut left) = near[from as usize] else {
         return Ok(None);
