@@ -7,10 +7,11 @@ use Rattle.object_values.specs.declared.graph.Decl.{Decl}
 use Rattle.object_values.specs.declared.graph.GraphFault.{GraphFault}
 use Rattle.meaning_texts.specs.Limits.{graph_limit}
 use Rattle.meaning_graph_text.specs.Grammar.{GraphText}
-use Rattle.meaning_graph_text.specs.Places.{BeginsOnLine, IsSyntaxFault}
+use Rattle.meaning_graph_text.specs.Places.{line_behind, column_behind, BeginsOnLine, IsSyntaxFault}
 use Rattle.meaning_graph_text.specs.Checks.{HasFault, Checked, FirstFault, FaultAt, first_fault}
 use Rattle.meaning_graph_text.proofs.Faults.{one_graph, one_fault, one_line, each_begins}
 use Rattle.meaning_graph_text.proofs.Firsts.{OneFault, first_or_checked, one_first}
+use Rattle.meaning_graph_text.specs.Stopping.{syntax_stop, front_of}
 use Rattle.meaning_graph_text.proofs.Answered.{answered}
 use Rattle.dg_reader.specs.declared.fault.ReadFault.{ReadFault}
 use Rattle.dg_reader.specs.declared.fault.ReadFault.TheVariants.{TooLong, Syntax, Check, Memory}
@@ -72,11 +73,12 @@ by_check : (text : List ℕ) (decls : List Decl) (found : Option FaultAt) → le
 by_check text decls None few g checked = inl (decls, record { short = few; spelled = g; checked = checked })
 by_check text decls (Some at) few g first = check_refuses text decls at few g first
 
+by_stop : (text : List ℕ) (stop : Option (List ℕ)) → length text ≤ graph_limit → MatchOption stop ((decls : List Decl) × GraphText text decls) (λ (rest : List ℕ). IsSyntaxFault text (line_behind (front_of text rest)) (column_behind (front_of text rest))) → Answer text
+by_stop text None few g = by_check text g.0 (first_fault g.0) few g.1 (first_or_checked g.0)
+by_stop text (Some rest) few f = inr (Syntax (line_behind (front_of text rest)) (column_behind (front_of text rest)), (λ e. cc), (few, f))
+
 pub read_or_refused : (text : List ℕ) → Answer text
 read_or_refused text = elim (cases_lt graph_limit (length text)) [
   | inl long ↦ inr (TooLong, (λ e. cc), long)
-  | inr few ↦ elim (answered text few) [
-    | inl g ↦ by_check text g.0 (first_fault g.0) few g.1 (first_or_checked g.0)
-    | inr f ↦ inr (Syntax f.0 f.1, (λ e. cc), (few, f.2))
-  ]
+  | inr few ↦ by_stop text (syntax_stop text) few (answered text few)
 ]

@@ -41,5 +41,9 @@ all_from_places : {X : Type 0} (P : X → Type 0) (xs : List X) → ((k : ℕ) (
 all_from_places P [] at = All-nil P
 all_from_places P (x ∷ xs) at = All-cons P x xs (at 0 x refl) (all_from_places P xs (λ k. at (suc k)))
 
+-- a checked list is one of the grammar
+pub checked_in_grammar : (g : Graph) → Checked g → All IsInGrammar g
+checked_in_grammar g c = all_from_places IsInGrammar g (λ k d at. in_grammar g d (keeps g c k d at))
+
 pub checked_has_spelling : (g : Graph) → IsSpellable g → Checked g → HasSpelling g
-checked_has_spelling g s c = record { spellable = s; grammar = all_from_places IsInGrammar g (λ k d at. in_grammar g d (keeps g c k d at)) }
+checked_has_spelling g s c = record { spellable = s; grammar = checked_in_grammar g c }

@@ -4,12 +4,10 @@ pub mod Decls
 pub mod Faults
 pub mod Spelled
 pub mod Firsts
-pub mod Spellables
 pub mod CheckedGraphs
 pub mod Lexed
 pub mod Readings
 pub mod Samples
-pub mod NoName
 pub mod Named
 pub mod Runs
 pub mod Accepted

@@ -1,5 +1,5 @@
 -- Worked examples of the definitions of graph files.
-use Rattle.std.specs.Prelude.{◌≡◌, ℕ, ◌++◌, List, [], ◌∷◌, Option, Some, None, codes, IsTrue, false}
+use Rattle.std.specs.Prelude.{◌≡◌, ℕ, ◌++◌, List, [], ◌∷◌, Option, Some, None, codes, IsTrue, false, replicate}
 use Rattle.object_values.specs.declared.graph.Kind.TheVariants.{Simple, List as ListOf, Compound}
 use Rattle.object_values.specs.declared.graph.Extra.TheVariants.{Also}
 use Rattle.object_values.specs.declared.graph.Make.TheVariants.{Read, Each, Pack}
@@ -45,6 +45,14 @@ pub record SyntaxFaults : Type 0 where
   pub ends_early : IsSyntaxFault (codes "type c simple ") 1 15
   pub unclosed : IsSyntaxFault (codes "param d;\n  \"abc") 2 3
   pub no_name : IsSyntaxFault (codes "tool t 1 from a to b run \"x\" with \"a b\";") 1 35
+  -- trial
+  pub new_line : IsSyntaxFault (codes "type c simple\n") 2 1
+  pub crlf : IsSyntaxFault (codes "param a;" ++ 13 ∷ 10 ∷ 13 ∷ codes "?") 2 2
+  pub comment : IsSyntaxFault (codes "# \" ;\n x;") 2 2
+  pub long_word : IsSyntaxFault (codes "param " ++ replicate 256 97 ++ codes ";") 1 7
+  pub long_string : IsSyntaxFault (codes "tool t 1 from a to b run \"\" \"" ++ replicate 256 97 ++ codes "\";") 1 29
+  pub forbidden : IsSyntaxFault (codes "tool t 1 from a to b run \"a\nb\";") 1 26
+  pub glued : IsSyntaxFault (codes "param a;;") 1 9
 
 abbrev pub fault_at : ℕ → GraphFault → Option FaultAt
 fault_at number fault = Some (record { number = number; fault = fault })

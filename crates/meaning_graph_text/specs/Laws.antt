@@ -1,5 +1,5 @@
 -- What the laws of graph files say.
-use Rattle.std.specs.Prelude.{◌≡◌, ◌↔◌, ◌⊎◌, ◌<◌, ◌≤◌, ℕ, List, Some, length, IsTrue, MatchOption}
+use Rattle.std.specs.Prelude.{◌≡◌, ◌↔◌, ◌<◌, ◌≤◌, ℕ, List, Some, length, IsTrue, MatchOption}
 use Rattle.object_values.specs.declared.graph.Decl.{Decl}
 use Rattle.object_values.specs.declared.graph.GraphFault.{GraphFault}
 use Rattle.meaning_texts.specs.Limits.{graph_limit}
@@ -7,8 +7,8 @@ use Rattle.meaning_graph.specs.Graphs.{Text, Graph}
 use Rattle.meaning_graph_text.specs.Tokens.{Token}
 use Rattle.meaning_graph_text.specs.Grammar.{graph_tokens, IsSpellable, HasSpelling, GraphText}
 use Rattle.meaning_graph_text.specs.Going.{start, run, can_go_on}
-use Rattle.meaning_graph_text.specs.Spellables.{is_spellable}
-use Rattle.meaning_graph_text.specs.Places.{IsFrontOfGraph, IsSyntaxFault, BeginsOnLine}
+use Rattle.meaning_graph_text.specs.Places.{line_behind, column_behind, IsFrontOfGraph, IsSyntaxFault, BeginsOnLine}
+use Rattle.meaning_graph_text.specs.Stopping.{syntax_stop, front_of}
 use Rattle.meaning_graph_text.specs.Spelling.{graph_spelling}
 use Rattle.meaning_graph_text.specs.Checks.{IsANamed, is_a_named, Checked, FirstFault, first_fault, FaultAt}
 
@@ -40,10 +40,6 @@ EachDeclarationBegins = (text : List ℕ) (decls : List Decl) (number : ℕ) →
 abbrev pub FirstFaultIsComputed : Type 0
 FirstFaultIsComputed = (g : Graph) → MatchOption (first_fault g) (Checked g) (λ (at : FaultAt). FirstFault g at.number at.fault)
 
--- The computed test holds of the spellable lists alone.
-abbrev pub SpellableIsTested : Type 0
-SpellableIsTested = (decls : List Decl) → IsTrue (is_spellable decls) ↔ IsSpellable decls
-
 -- A spellable list that is checked has a spelling.
 abbrev pub CheckedHasSpelling : Type 0
 CheckedHasSpelling = (g : Graph) → IsSpellable g → Checked g → HasSpelling g
@@ -68,6 +64,6 @@ GoingIsTested = (tokens : List Token) → length tokens ≤ graph_limit → IsTr
 abbrev pub WholeIsTested : Type 0
 WholeIsTested = (tokens : List Token) → length tokens ≤ graph_limit → (run start tokens ≡ Some start) ↔ ((decls : List Decl) × HasSpelling decls × (tokens ≡ graph_tokens decls))
 
--- A text that isn't too long is one of a graph, or has a syntax fault.
+-- A text that isn't too long is one of a graph, or has a syntax fault where it is computed to stop.
 abbrev pub EachTextIsAnswered : Type 0
-EachTextIsAnswered = (text : List ℕ) → length text ≤ graph_limit → ((decls : List Decl) × GraphText text decls) ⊎ ((line : ℕ) × (column : ℕ) × IsSyntaxFault text line column)
+EachTextIsAnswered = (text : List ℕ) → length text ≤ graph_limit → MatchOption (syntax_stop text) ((decls : List Decl) × GraphText text decls) (λ (rest : List ℕ). IsSyntaxFault text (line_behind (front_of text rest)) (column_behind (front_of text rest)))

@@ -2,8 +2,8 @@ pub mod Tokens
 pub mod Lexing
 pub mod Grammar
 pub mod Going
-pub mod Spellables
 pub mod Places
+pub mod Stopping
 pub mod Spelling
 pub mod Checks
 pub mod Laws

@@ -1,5 +1,5 @@
 //! Laws of graph files. Each is the contract of a function with an empty body.
-ghost use Rattle.meaning_graph_text.specs.Laws.{SpellingIsText, GraphIsOne, SyntaxFaultIsOne, LineIsOne, EachDeclarationBegins, FirstFaultIsComputed, FirstFaultIsOne, SpellableIsTested, CheckedHasSpelling, NamedIsReachability, GoingIsTested, WholeIsTested, EachTextIsAnswered};
+ghost use Rattle.meaning_graph_text.specs.Laws.{SpellingIsText, GraphIsOne, SyntaxFaultIsOne, LineIsOne, EachDeclarationBegins, FirstFaultIsComputed, FirstFaultIsOne, CheckedHasSpelling, NamedIsReachability, GoingIsTested, WholeIsTested, EachTextIsAnswered};
 
 /// The canonical spelling of a list is a text of it.
 pub fn spelling_is_text()
@@ -34,11 +34,6 @@ pub fn first_fault_is_computed()
 /// A list has one first fault at most.
 pub fn first_fault_is_one()
     ensures { FirstFaultIsOne }
-{}
-
-/// The computed test holds of the spellable lists alone.
-pub fn spellable_is_tested()
-    ensures { SpellableIsTested }
 {}
 
 /// A spellable list that is checked has a spelling.

@@ -1,5 +1,5 @@
 -- The expression of a text is canonical.
-use Rattle.std.proofs.Common.{◌≡◌, ℕ, Bool, false, not, ◌&&◌, List, [], ◌∷◌, refl, sym, ap, ◌∙◌, inl, inr, arith}
+use Rattle.std.proofs.Common.{◌≡◌, ℕ, Bool, false, not, List, [], ◌∷◌, refl, sym, ap, ◌∙◌, inl, inr, arith}
 use Rattle.std.specs.Prelude.{filter, bytes_eq}
 use Rattle.std.specs.List.{All}
 use Rattle.std.proofs.lemmas.Bool.{cases_Bool}
@@ -9,8 +9,9 @@ use Rattle.object_values.specs.declared.nodes.ParamValue.{ParamValue}
 use Rattle.object_values.specs.declared.expressions.ExprStep.{ExprStep}
 use Rattle.object_values.specs.declared.expressions.ExprStep.TheVariants.{To, Pick}
 use Rattle.object_values.specs.declared.expressions.Expression.{Expression}
-use Rattle.meaning_texts.specs.Expressions.{Items, no_more, space, param_value, param_alone, type_step, pick_step, ExpressionText, AreKeptAs, values_of, firsts, IsStepOfClass, IsParamOfClass, IsCanonical}
-use Rattle.meaning_texts.specs.Reading.{single, sorted, put_sorted, kept_params}
+use Rattle.meaning_texts.specs.Lists.{once}
+use Rattle.meaning_texts.specs.Expressions.{Items, no_more, space, param_value, param_alone, type_step, pick_step, ExpressionText, AreKeptAs, values_of, IsStepOfClass, IsParamOfClass, IsCanonical}
+use Rattle.meaning_texts.specs.Reading.{same_param, sorted, put_sorted, kept_params}
 use Rattle.meaning_texts.proofs.Params.{one_kept, before}
 
 -- ---- filters and first places
@@ -52,19 +53,19 @@ drops_equal p v (x ∷ xs) none = elim (cases_Bool (bytes_eq x v)) [
   ]
 ]
 
-firsts_filter : (p : List ℕ → Bool) (xs : Texts) → firsts (filter p xs) ≡ filter p (firsts xs)
-firsts_filter p [] = refl
-firsts_filter p (x ∷ xs) = elim (cases_Bool (p x)) [
-  | inl a ↦ rw a (ap (λ t. x ∷ t) (ap (filter (is_other x)) (firsts_filter p xs) ∙ filters_commute (is_other x) p (firsts xs)))
-  | inr a ↦ rw a (firsts_filter p xs ∙ sym (drops_equal p x (firsts xs) a))
+once_filter : (p : List ℕ → Bool) (xs : Texts) → once bytes_eq (filter p xs) ≡ filter p (once bytes_eq xs)
+once_filter p [] = refl
+once_filter p (x ∷ xs) = elim (cases_Bool (p x)) [
+  | inl a ↦ rw a (ap (λ t. x ∷ t) (ap (filter (is_other x)) (once_filter p xs) ∙ filters_commute (is_other x) p (once bytes_eq xs)))
+  | inr a ↦ rw a (once_filter p xs ∙ sym (drops_equal p x (once bytes_eq xs) a))
 ]
 
-firsts_twice : (xs : Texts) → firsts (firsts xs) ≡ firsts xs
-firsts_twice [] = refl
-firsts_twice (x ∷ xs) = ap (λ t. x ∷ t) (ap (filter (is_other x)) (firsts_filter (is_other x) (firsts xs)) ∙ filter_twice (is_other x) (firsts (firsts xs)) ∙ ap (filter (is_other x)) (firsts_twice xs))
+once_twice : (xs : Texts) → once bytes_eq (once bytes_eq xs) ≡ once bytes_eq xs
+once_twice [] = refl
+once_twice (x ∷ xs) = ap (λ t. x ∷ t) (ap (filter (is_other x)) (once_filter (is_other x) (once bytes_eq xs)) ∙ filter_twice (is_other x) (once bytes_eq (once bytes_eq xs)) ∙ ap (filter (is_other x)) (once_twice xs))
 
 kept_again : (written kept : List ParamValue) → AreKeptAs written kept → AreKeptAs kept kept
-kept_again written kept k = record { sorted = k.sorted; values = λ name. k.values name ∙ sym (firsts_twice (values_of name written)) ∙ ap firsts (sym (k.values name)) }
+kept_again written kept k = record { sorted = k.sorted; values = λ name. k.values name ∙ sym (once_twice (values_of name written)) ∙ ap (once bytes_eq) (sym (k.values name)) }
 
 -- ---- classes
 
@@ -79,14 +80,14 @@ sorted_class : (ps : List ParamValue) → All IsParamOfClass ps → All IsParamO
 sorted_class [] all = all
 sorted_class (p ∷ ps) all = put_class p (sorted ps) (All-head IsParamOfClass p ps all) (sorted_class ps (All-tail IsParamOfClass p ps all))
 
-single_class : (ps : List ParamValue) → All IsParamOfClass ps → All IsParamOfClass (single ps)
+single_class : (ps : List ParamValue) → All IsParamOfClass ps → All IsParamOfClass (once same_param ps)
 single_class [] all = all
 single_class (p ∷ ps) all = All-cons IsParamOfClass p _ (All-head IsParamOfClass p ps all)
-    (All-filter (λ (q : ParamValue). not (bytes_eq q.param p.param && bytes_eq q.value p.value)) IsParamOfClass (single ps) (single_class ps (All-tail IsParamOfClass p ps all)))
+    (All-filter (λ (q : ParamValue). not (same_param q p)) IsParamOfClass (once same_param ps) (single_class ps (All-tail IsParamOfClass p ps all)))
 
 kept_class : (ps : List ParamValue) → All IsParamOfClass ps → All IsParamOfClass (kept_params ps)
 unfolding kept_params
-kept_class ps all = sorted_class (single ps) (single_class ps all)
+kept_class ps all = sorted_class (once same_param ps) (single_class ps all)
 
 pub record OfClass (ps : List ParamValue) (ss : List ExprStep) : Type 0 where
   pub params : All IsParamOfClass ps

@@ -1,13 +1,10 @@
 -- The computed lines of a text are its lines, and there are no others.
-use Rattle.std.proofs.Common.{◌≡◌, ◌≢◌, ℕ, List, [], ◌∷◌, ◌++◌, refl, sym, ap, ◌∙◌, subst, inl, inr, append_assoc}
-use Rattle.std.specs.Prelude.{nat_eq}
+use Rattle.std.proofs.Common.{◌≡◌, ◌≢◌, ℕ, suc, ◌-◌, Bool, true, false, List, [], ◌∷◌, ◌++◌, length, take, cond, refl, sym, ap, ◌∙◌, subst, inl, inr, append_assoc, arith}
+use Rattle.std.specs.Prelude.{nat_eq, slice_index}
 use Rattle.std.specs.List.{flat_map, All}
 use Rattle.std.proofs.lemmas.Bool.{cases_Bool, eqb-true, eqb-false, ne_eqb}
 use Rattle.std.proofs.lemmas.List.Elements.{All-head, All-tail, All-nil, All-cons}
-use Rattle.meaning_texts.specs.Lines.{HasNoLf, with_lf, AreLines, LineCut, put_byte, cut_lines}
-
-abbrev no_lf : ℕ → Type 0
-no_lf b = b ≢ 10
+use Rattle.meaning_texts.specs.Lines.{HasNoLf, with_lf, AreLines, LineCut, put_byte, cut_lines, without_cr}
 
 -- ---- they are its lines
 
@@ -24,21 +21,21 @@ cut_text (b ∷ rest) = elim (cases_Bool (nat_eq b 10)) [
 
 put_full : (b : ℕ) (full : List (List ℕ)) (last : List ℕ) → b ≢ 10 → All HasNoLf full → All HasNoLf (put_byte b full last).full
 put_full b [] last n c = c
-put_full b (line ∷ full) last n c = All-cons HasNoLf (b ∷ line) full (All-cons no_lf b line n (All-head HasNoLf line full c)) (All-tail HasNoLf line full c)
+put_full b (line ∷ full) last n c = All-cons HasNoLf (b ∷ line) full (n, All-head HasNoLf line full c) (All-tail HasNoLf line full c)
 
 put_last : (b : ℕ) (full : List (List ℕ)) (last : List ℕ) → b ≢ 10 → HasNoLf last → HasNoLf (put_byte b full last).last
-put_last b [] last n c = All-cons no_lf b last n c
+put_last b [] last n c = (n, c)
 put_last b (line ∷ full) last n c = c
 
 pub full_no_lf : (text : List ℕ) → All HasNoLf (cut_lines text).full
 full_no_lf [] = All-nil HasNoLf
 full_no_lf (b ∷ rest) = elim (cases_Bool (nat_eq b 10)) [
-  | inl e ↦ rw e (All-cons HasNoLf [] (cut_lines rest).full (All-nil no_lf) (full_no_lf rest))
+  | inl e ↦ rw e (All-cons HasNoLf [] (cut_lines rest).full tt (full_no_lf rest))
   | inr e ↦ rw e (put_full b (cut_lines rest).full (cut_lines rest).last (eqb-false b 10 e) (full_no_lf rest))
 ]
 
 pub last_no_lf : (text : List ℕ) → HasNoLf (cut_lines text).last
-last_no_lf [] = All-nil no_lf
+last_no_lf [] = tt
 last_no_lf (b ∷ rest) = elim (cases_Bool (nat_eq b 10)) [
   | inl e ↦ rw e (last_no_lf rest)
   | inr e ↦ rw e (put_last b (cut_lines rest).full (cut_lines rest).last (eqb-false b 10 e) (last_no_lf rest))
@@ -51,11 +48,11 @@ are_lines text = record { is = cut_text text; full_lines = full_no_lf text; last
 
 pub cut_last : (last : List ℕ) → HasNoLf last → cut_lines last ≡ record { full = []; last = last }
 cut_last [] n = refl
-cut_last (b ∷ rest) n = rw (ne_eqb b 10 (All-head no_lf b rest n), cut_last rest (All-tail no_lf b rest n)) refl
+cut_last (b ∷ rest) n = rw (ne_eqb b 10 n.0, cut_last rest n.1) refl
 
 pub cut_line : (line rest : List ℕ) → HasNoLf line → cut_lines (line ++ 10 ∷ rest) ≡ record { full = line ∷ (cut_lines rest).full; last = (cut_lines rest).last }
 cut_line [] rest n = refl
-cut_line (b ∷ line) rest n = rw (ne_eqb b 10 (All-head no_lf b line n), cut_line line rest (All-tail no_lf b line n)) refl
+cut_line (b ∷ line) rest n = rw (ne_eqb b 10 n.0, cut_line line rest n.1) refl
 
 pub cut_full : (full : List (List ℕ)) (last : List ℕ) → All HasNoLf full → HasNoLf last → cut_lines (flat_map with_lf full ++ last) ≡ record { full = full; last = last }
 cut_full [] last c n = cut_last last n
@@ -68,3 +65,21 @@ one_cut text full last l = ap cut_lines l.is ∙ cut_full full last l.full_lines
 
 pub lines_from_cut : (text : List ℕ) (full : List (List ℕ)) (last : List ℕ) → cut_lines text ≡ record { full = full; last = last } → AreLines text full last
 lines_from_cut text full last e = subst (λ (c : LineCut). AreLines text c.full c.last) e (are_lines text)
+
+-- ---- a CR at the end of a line
+
+-- the line without it, by the place of its last byte
+pub without_cr_is : (line : List ℕ) → without_cr line ≡ cond (nat_eq (slice_index line (length line - 1)) 13) (take (length line - 1) line) line
+without_cr_is [] = refl
+without_cr_is (b ∷ []) = elim (cases_Bool (nat_eq b 13)) [
+  | inl e ↦ rw e refl
+  | inr e ↦ rw e refl
+]
+without_cr_is (b ∷ c ∷ line) =
+    let behind : without_cr (c ∷ line) ≡ cond (nat_eq (slice_index (c ∷ line) (length (c ∷ line) - 1)) 13) (take (length (c ∷ line) - 1) (c ∷ line)) (c ∷ line) = without_cr_is (c ∷ line) in
+    let n : length (b ∷ c ∷ line) - 1 ≡ suc (length (c ∷ line) - 1) = omega arith in
+    rw n (ap (λ rest. b ∷ rest) behind ∙ cond_cons (nat_eq (slice_index (c ∷ line) (length (c ∷ line) - 1)) 13) (take (length (c ∷ line) - 1) (c ∷ line)) (c ∷ line))
+  where
+    cond_cons : (t : Bool) (xs ys : List ℕ) → b ∷ cond t xs ys ≡ cond t (b ∷ xs) (b ∷ ys)
+    cond_cons true xs ys = refl
+    cond_cons false xs ys = refl

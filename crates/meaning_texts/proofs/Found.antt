@@ -4,7 +4,7 @@ use Rattle.std.specs.Prelude.{MatchOption}
 use Rattle.std.proofs.lemmas.Bool.{cases_Bool, both_ways, cases_lt}
 use Rattle.object_values.specs.declared.expressions.Expression.{Expression}
 use Rattle.meaning_texts.specs.Limits.{expression_limit}
-use Rattle.meaning_texts.specs.Expressions.{IsFront, IsFaultPlace, ExpressionText}
+use Rattle.meaning_texts.specs.Expressions.{IsFront, no_front, past_limit, too_short, IsFaultPlace, ExpressionText}
 use Rattle.meaning_texts.specs.Reading.{expression_of}
 use Rattle.meaning_texts.specs.Fronts.{is_front, first_stop, fault_place}
 use Rattle.meaning_texts.proofs.Readings.{reads, is_read, none_not_some}
@@ -60,12 +60,12 @@ placed text stop s never =
       within = omega arith;
       there = elim (cases_lt stop (1 + length text)) [
         | inl a ↦ elim (cases_lt stop (expression_limit + 2)) [
-          | inl b ↦ let m : min stop (expression_limit + 1) ≡ stop = omega arith in rw m (inl (omega arith, not_front text stop (s.there a)))
-          | inr b ↦ inr (inl (omega arith, omega arith))
+          | inl b ↦ let m : min stop (expression_limit + 1) ≡ stop = omega arith in rw m (no_front (omega arith) (not_front text stop (s.there a)))
+          | inr b ↦ past_limit (omega arith) (omega arith)
         ]
         | inr a ↦ elim (cases_lt stop (expression_limit + 2)) [
-          | inl b ↦ inr (inr (omega arith, never))
-          | inr b ↦ inr (inl (omega arith, omega arith))
+          | inl b ↦ too_short (omega arith) never
+          | inr b ↦ past_limit (omega arith) (omega arith)
         ]
       ];
     }

@@ -3,10 +3,12 @@ use Rattle.std.proofs.Common.{◌≡◌, ℕ, Bool, true, false, not, ◌&&◌, 
 use Rattle.std.specs.Prelude.{nat_eq, nat_le, nat_lt, is_some}
 use Rattle.std.specs.List.{list_all}
 use Rattle.std.proofs.lemmas.Bool.{cases_Bool, both_ways, and_parts, and_from, not-true, or_parts, or_from, lt-ltb}
-use Rattle.meaning_texts.specs.Classes.{word_limit, is_name_byte, is_key_byte, begins_with_letter}
+use Rattle.meaning_texts.specs.Classes.{is_name_byte, is_key_byte, begins_with_letter}
+use Rattle.meaning_texts.specs.Limits.{word_limit}
 use Rattle.meaning_texts.specs.Tests.{is_word_of, is_name, is_id, is_key, is_param_value}
 use Rattle.meaning_texts.specs.Expressions.{IsFront}
-use Rattle.meaning_texts.specs.Reading.{is_mark, Piece, Cut, cut, cut_byte, ItemList, name_part, value_part, is_empty, read_piece, read_pieces, past_spaces}
+use Rattle.meaning_texts.specs.Reading.{is_mark, Piece, PieceCut, cut_at_marks, cut_before, ItemList, name_part, value_part, read_piece, read_pieces, past_spaces}
+use Rattle.meaning_texts.specs.Lists.{is_empty}
 use Rattle.meaning_texts.specs.Fronts.{begins_word, begins_id, has_equals, begins_param, begins_piece, no_items, reads_piece, begins_pieces, begins_cut, is_front}
 use Rattle.meaning_texts.proofs.Pieces.{no_marks, no_equals_step, cut_word}
 use Rattle.meaning_texts.proofs.Readings.{written_from_cut}
@@ -136,17 +138,17 @@ extend_last [] more = []
 extend_last (p ∷ []) more = longer p more ∷ []
 extend_last (p ∷ q ∷ rest) more = p ∷ extend_last (q ∷ rest) more
 
-abbrev pub extend : List ℕ → List Piece → List ℕ → Cut
+abbrev pub extend : List ℕ → List Piece → List ℕ → PieceCut
 extend head [] more = record { head = head ++ more; pieces = [] }
 extend head (p ∷ rest) more = record { head = head; pieces = extend_last (p ∷ rest) more }
 
-extend_byte : (b : ℕ) (head : List ℕ) (pieces : List Piece) (more : List ℕ) → cut_byte b (extend head pieces more) ≡ extend (cut_byte b (record { head = head; pieces = pieces })).head (cut_byte b (record { head = head; pieces = pieces })).pieces more
+extend_byte : (b : ℕ) (head : List ℕ) (pieces : List Piece) (more : List ℕ) → cut_before b (extend head pieces more) ≡ extend (cut_before b (record { head = head; pieces = pieces })).head (cut_before b (record { head = head; pieces = pieces })).pieces more
 extend_byte b head [] more = elim (cases_Bool (is_mark b)) [ inl e ↦ rw e refl | inr e ↦ rw e refl ]
 extend_byte b head (p ∷ rest) more = elim (cases_Bool (is_mark b)) [ inl e ↦ rw e refl | inr e ↦ rw e refl ]
 
-cut_more : (text more : List ℕ) → no_marks more → cut (text ++ more) ≡ extend (cut text).head (cut text).pieces more
-cut_more [] more n = ap cut (sym (append-nil more)) ∙ cut_word more [] n ∙ rw (append-nil more) refl
-cut_more (b ∷ text) more n = ap (cut_byte b) (cut_more text more n) ∙ extend_byte b (cut text).head (cut text).pieces more
+cut_more : (text more : List ℕ) → no_marks more → cut_at_marks (text ++ more) ≡ extend (cut_at_marks text).head (cut_at_marks text).pieces more
+cut_more [] more n = ap cut_at_marks (sym (append-nil more)) ∙ cut_word more [] n ∙ rw (append-nil more) refl
+cut_more (b ∷ text) more n = ap (cut_before b) (cut_more text more n) ∙ extend_byte b (cut_at_marks text).head (cut_at_marks text).pieces more
 
 past_more : (text more : List ℕ) → no_marks more → past_spaces (text ++ more) ≡ past_spaces text ++ more
 past_more [] [] n = refl
@@ -184,17 +186,17 @@ pieces_more p (q ∷ rest) b =
 
 -- ---- texts
 
-goes_on : (bytes head : List ℕ) (pieces : List Piece) → cut (past_spaces bytes) ≡ record { head = head; pieces = pieces } → begins_cut head pieces ≡ true → IsFront bytes
+goes_on : (bytes head : List ℕ) (pieces : List Piece) → cut_at_marks (past_spaces bytes) ≡ record { head = head; pieces = pieces } → begins_cut head pieces ≡ true → IsFront bytes
 goes_on bytes head [] c b =
     let w : Completes is_name head = word_more is_name_byte refl head b in
-    let k : cut (past_spaces (bytes ++ w.more)) ≡ record { head = head ++ w.more; pieces = [] } = ap cut (past_more bytes w.more w.none) ∙ cut_more (past_spaces bytes) w.more w.none ∙ ap (λ (x : Cut). extend x.head x.pieces w.more) c in
-    (w.more, head ++ w.more, [], [], written_from_cut (bytes ++ w.more) (head ++ w.more) [] no_items k w.is refl)
+    let k : cut_at_marks (past_spaces (bytes ++ w.more)) ≡ record { head = head ++ w.more; pieces = [] } = ap cut_at_marks (past_more bytes w.more w.none) ∙ cut_more (past_spaces bytes) w.more w.none ∙ ap (λ (x : PieceCut). extend x.head x.pieces w.more) c in
+    record { more = w.more; source = head ++ w.more; params = []; steps = []; written = written_from_cut (bytes ++ w.more) (head ++ w.more) [] no_items k w.is refl }
 goes_on bytes head (p ∷ rest) c b =
     let h = and_parts (is_name head) (begins_pieces (p ∷ rest)) b in
     let w : CompletesPieces (p ∷ rest) = pieces_more p rest h.1 in
-    let k : cut (past_spaces (bytes ++ w.more)) ≡ record { head = head; pieces = extend_last (p ∷ rest) w.more } = ap cut (past_more bytes w.more w.none) ∙ cut_more (past_spaces bytes) w.more w.none ∙ ap (λ (x : Cut). extend x.head x.pieces w.more) c in
-    (w.more, head, w.items.params, w.items.steps, written_from_cut (bytes ++ w.more) head (extend_last (p ∷ rest) w.more) w.items k h.0 w.is)
+    let k : cut_at_marks (past_spaces (bytes ++ w.more)) ≡ record { head = head; pieces = extend_last (p ∷ rest) w.more } = ap cut_at_marks (past_more bytes w.more w.none) ∙ cut_more (past_spaces bytes) w.more w.none ∙ ap (λ (x : PieceCut). extend x.head x.pieces w.more) c in
+    record { more = w.more; source = head; params = w.items.params; steps = w.items.steps; written = written_from_cut (bytes ++ w.more) head (extend_last (p ∷ rest) w.more) w.items k h.0 w.is }
 
 pub front_from_test : (bytes : List ℕ) → is_front bytes ≡ true → IsFront bytes
 unfolding is_front
-front_from_test bytes e = goes_on bytes (cut (past_spaces bytes)).head (cut (past_spaces bytes)).pieces refl e
+front_from_test bytes e = goes_on bytes (cut_at_marks (past_spaces bytes)).head (cut_at_marks (past_spaces bytes)).pieces refl e

@@ -4,10 +4,12 @@ use Rattle.std.specs.Prelude.{nat_eq, nat_le, nat_lt, is_some}
 use Rattle.std.specs.List.{list_all}
 use Rattle.std.proofs.lemmas.Bool.{cases_Bool, both_ways, and_parts, and_from, or_parts, leb-true, le-leb}
 use Rattle.std.proofs.lemmas.List.Folds.{list_all-append}
-use Rattle.meaning_texts.specs.Classes.{word_limit, is_name_byte, is_key_byte, is_value_byte, begins_with_letter}
+use Rattle.meaning_texts.specs.Classes.{is_name_byte, is_key_byte, is_value_byte, begins_with_letter}
+use Rattle.meaning_texts.specs.Limits.{word_limit}
 use Rattle.meaning_texts.specs.Tests.{is_word_of, is_name, is_id, is_key, is_param_value}
 use Rattle.meaning_texts.specs.Expressions.{IsFront}
-use Rattle.meaning_texts.specs.Reading.{is_mark, Piece, Cut, cut, cut_byte, ItemList, name_part, value_part, is_empty, read_piece, read_pieces, past_spaces}
+use Rattle.meaning_texts.specs.Reading.{is_mark, Piece, PieceCut, cut_at_marks, cut_before, ItemList, name_part, value_part, read_piece, read_pieces, past_spaces}
+use Rattle.meaning_texts.specs.Lists.{is_empty}
 use Rattle.meaning_texts.specs.Fronts.{begins_word, begins_id, has_equals, begins_param, begins_piece, no_items, reads_piece, begins_pieces, begins_cut, is_front}
 use Rattle.meaning_texts.proofs.Readings.{and_then_some, CutOf, written_cut}
 use Rattle.meaning_texts.proofs.GoOn.{reads_alike}
@@ -118,7 +120,7 @@ same_piece : (p q : Piece) → p.mark ≡ q.mark → p.word ≡ q.word → p ≡
 same_piece p q m w = let e : ◌≡◌ {A = Piece} (record { mark = p.mark; word = p.word }) (record { mark = q.mark; word = q.word }) = cc in e
 
 byte_goes : (b : ℕ) (head : List ℕ) (ps : List Piece) (whole : List ℕ) (qs : List Piece) → CutGoes head ps whole qs
-    → CutGoes (cut_byte b (record { head = head; pieces = ps })).head (cut_byte b (record { head = head; pieces = ps })).pieces (cut_byte b (record { head = whole; pieces = qs })).head (cut_byte b (record { head = whole; pieces = qs })).pieces
+    → CutGoes (cut_before b (record { head = head; pieces = ps })).head (cut_before b (record { head = head; pieces = ps })).pieces (cut_before b (record { head = whole; pieces = qs })).head (cut_before b (record { head = whole; pieces = qs })).pieces
 byte_goes b head [] whole qs g = elim (cases_Bool (is_mark b)) [
   | inl e ↦ rw e (refl, (refl, g))
   | inr e ↦ rw e (g.0, ap (λ x. b ∷ x) g.1)
@@ -128,9 +130,9 @@ byte_goes b head (p ∷ ps) whole qs g = elim (cases_Bool (is_mark b)) [
   | inr e ↦ rw e (ap (λ x. b ∷ x) g.0, g.1)
 ]
 
-cut_goes : (text more : List ℕ) → CutGoes (cut text).head (cut text).pieces (cut (text ++ more)).head (cut (text ++ more)).pieces
-cut_goes [] more = ((cut more).head, refl)
-cut_goes (b ∷ text) more = byte_goes b (cut text).head (cut text).pieces (cut (text ++ more)).head (cut (text ++ more)).pieces (cut_goes text more)
+cut_goes : (text more : List ℕ) → CutGoes (cut_at_marks text).head (cut_at_marks text).pieces (cut_at_marks (text ++ more)).head (cut_at_marks (text ++ more)).pieces
+cut_goes [] more = ((cut_at_marks more).head, refl)
+cut_goes (b ∷ text) more = byte_goes b (cut_at_marks text).head (cut_at_marks text).pieces (cut_at_marks (text ++ more)).head (cut_at_marks (text ++ more)).pieces (cut_goes text more)
 
 -- ---- a cut that reads
 
@@ -165,8 +167,8 @@ unfolding is_front
 test_from_front bytes f = elim (past_front bytes) [
   | inl e ↦ rw e refl
   | inr p ↦
-      let c : CutOf (bytes ++ f.0) f.1 f.2 f.3 = written_cut (bytes ++ f.0) f.1 f.2 f.3 f.4 in
-      let k : cut (past_spaces bytes ++ f.0) ≡ record { head = f.1; pieces = c.pieces } = ap cut (sym (p f.0)) ∙ c.is in
-      let g : CutGoes (cut (past_spaces bytes)).head (cut (past_spaces bytes)).pieces f.1 c.pieces = subst (λ (x : Cut). CutGoes (cut (past_spaces bytes)).head (cut (past_spaces bytes)).pieces x.head x.pieces) k (cut_goes (past_spaces bytes) f.0) in
-      cut_begins (cut (past_spaces bytes)).head (cut (past_spaces bytes)).pieces f.1 c.pieces (record { params = f.2; steps = f.3 }) g c.name c.items
+      let c : CutOf (bytes ++ f.more) f.source f.params f.steps = written_cut (bytes ++ f.more) f.source f.params f.steps f.written in
+      let k : cut_at_marks (past_spaces bytes ++ f.more) ≡ record { head = f.source; pieces = c.pieces } = ap cut_at_marks (sym (p f.more)) ∙ c.is in
+      let g : CutGoes (cut_at_marks (past_spaces bytes)).head (cut_at_marks (past_spaces bytes)).pieces f.source c.pieces = subst (λ (x : PieceCut). CutGoes (cut_at_marks (past_spaces bytes)).head (cut_at_marks (past_spaces bytes)).pieces x.head x.pieces) k (cut_goes (past_spaces bytes) f.more) in
+      cut_begins (cut_at_marks (past_spaces bytes)).head (cut_at_marks (past_spaces bytes)).pieces f.source c.pieces (record { params = f.params; steps = f.steps }) g c.name c.items
 ]

@@ -1,12 +1,15 @@
-pub mod Words
-pub mod Params
-pub mod Pieces
-pub mod Readings
-pub mod Spellings
-pub mod Places
-pub mod Cuts
-pub mod Canonical
-pub mod Fronts
-pub mod GoOn
-pub mod GoneOn
-pub mod Found
+mod Members
+mod Words
+mod Params
+mod Pieces
+mod Readings
+mod Spellings
+mod Places
+mod Cuts
+mod Canonical
+mod Spaces
+mod GoOn
+mod GoneOn
+mod Found
+mod References
+pub mod Lemmas

@@ -9,8 +9,9 @@ use Rattle.std.proofs.lemmas.Bool.{cases_Bool, both_ways}
 use Rattle.std.proofs.lemmas.Slice.Eq.{bytes_eq-Decides}
 use Rattle.std.proofs.lemmas.List.Sorted.{sorted_far, ranks_by}
 use Rattle.object_values.specs.declared.nodes.ParamValue.{ParamValue}
-use Rattle.meaning_texts.specs.Expressions.{name_cmp, values_of, firsts, AreKeptAs}
-use Rattle.meaning_texts.specs.Reading.{single, sorted, put_sorted, kept_params}
+use Rattle.meaning_texts.specs.Lists.{once}
+use Rattle.meaning_texts.specs.Expressions.{name_cmp, values_of, AreKeptAs}
+use Rattle.meaning_texts.specs.Reading.{same_param, sorted, put_sorted, kept_params}
 
 abbrev pub before : ParamValue → ParamValue → Bool
 before x y = is_lt (name_cmp x.param y.param)
@@ -135,13 +136,13 @@ values_of_others name p (q ∷ qs) other = elim (cases_Bool (bytes_eq q.param p.
   ]
 ]
 
-values_single : (name : List ℕ) (ps : List ParamValue) → values_of name (single ps) ≡ firsts (values_of name ps)
+values_single : (name : List ℕ) (ps : List ParamValue) → values_of name (once same_param ps) ≡ once bytes_eq (values_of name ps)
 values_single name [] = refl
 values_single name (p ∷ ps) = elim (cases_Bool (bytes_eq p.param name)) [
   | inl n ↦ let s : p.param ≡ name = same_name p.param name n in
-      let inner : values_of name (others p (single ps)) ≡ other_values p.value (firsts (values_of name ps)) = rw (← s) (values_others p (single ps) ∙ ap (other_values p.value) (values_single p.param ps)) in
+      let inner : values_of name (others p (once same_param ps)) ≡ other_values p.value (once bytes_eq (values_of name ps)) = rw (← s) (values_others p (once same_param ps) ∙ ap (other_values p.value) (values_single p.param ps)) in
       rw n (ap (λ t. p.value ∷ t) inner)
-  | inr n ↦ rw n (values_of_others name p (single ps) n ∙ values_single name ps)
+  | inr n ↦ rw n (values_of_others name p (once same_param ps) n ∙ values_single name ps)
 ]
 
 -- one parameter more in front of lists with the same values
@@ -158,7 +159,7 @@ values_sorted name (p ∷ ps) = values_put name p (sorted ps) ∙ values_more na
 -- the computed parameters are those that an expression keeps
 pub kept_are_kept : (written : List ParamValue) → AreKeptAs written (kept_params written)
 unfolding kept_params
-kept_are_kept written = record { sorted = sorted_up (single written); values = λ name. values_sorted name (single written) ∙ values_single name written }
+kept_are_kept written = record { sorted = sorted_up (once same_param written); values = λ name. values_sorted name (once same_param written) ∙ values_single name written }
 
 -- ---- one list alone
 
@@ -203,8 +204,8 @@ values_behind x y xs ys n same =
       ],
     )
 
-same_param : (x y : ParamValue) → x.param ≡ y.param → x.value ≡ y.value → x ≡ y
-same_param x y n v = let e : ◌≡◌ {A = ParamValue} (record { param = x.param; value = x.value }) (record { param = y.param; value = y.value }) = cc in e
+equal_params : (x y : ParamValue) → x.param ≡ y.param → x.value ≡ y.value → x ≡ y
+equal_params x y n v = let e : ◌≡◌ {A = ParamValue} (record { param = x.param; value = x.value }) (record { param = y.param; value = y.value }) = cc in e
 
 -- two sorted lists with the same values for each name have one first parameter
 first_of_both : (x y : ParamValue) (xs ys : List ParamValue) → IsSortedBy before (x ∷ xs) → IsSortedBy before (y ∷ ys) → ((name : List ℕ) → values_of name (x ∷ xs) ≡ values_of name (y ∷ ys)) → (r : Ordering) → name_cmp x.param y.param ≡ r → x.param ≡ y.param
@@ -222,7 +223,7 @@ one_list (x ∷ xs) (y ∷ ys) up down same =
     let n : x.param ≡ y.param = first_of_both x y xs ys up down same (name_cmp x.param y.param) refl in
     let b = values_behind x y xs ys n same in
     let rest : xs ≡ ys = one_list xs ys (sorted_tail x xs up) (sorted_tail y ys down) b.1 in
-    ap₂ (λ (p : ParamValue) ps. p ∷ ps) (same_param x y n b.0) rest
+    ap₂ (λ (p : ParamValue) ps. p ∷ ps) (equal_params x y n b.0) rest
 
 -- an expression keeps no other parameters
 pub one_kept : (written kept : List ParamValue) → AreKeptAs written kept → kept ≡ kept_params written

@@ -10,7 +10,7 @@ use Rattle.object_values.specs.declared.expressions.ExprStep.{ExprStep}
 use Rattle.object_values.specs.declared.expressions.ExprStep.TheVariants.{To, Pick}
 use Rattle.meaning_texts.specs.Classes.{is_name_byte, is_key_byte, is_value_byte, IsName, IsId, IsKey, IsParamValue}
 use Rattle.meaning_texts.specs.Expressions.{Items, no_more, space, param_value, param_alone, type_step, pick_step}
-use Rattle.meaning_texts.specs.Reading.{is_mark, Piece, cut, ItemList, put_param, put_step, name_part, value_part, read_piece, read_pieces}
+use Rattle.meaning_texts.specs.Reading.{is_mark, Piece, cut_at_marks, ItemList, put_param, put_step, name_part, value_part, read_piece, read_pieces}
 use Rattle.meaning_texts.proofs.Words.{word_decides, id_decides, value_decides}
 
 -- ---- bytes that aren't marks
@@ -53,21 +53,21 @@ value_no_marks word w = class_no_marks is_value_byte refl refl refl refl word (l
 -- ---- the cut
 
 -- a word before a text stands in front of its head
-pub cut_word : (word rest : List ℕ) → no_marks word → cut (word ++ rest) ≡ record { head = word ++ (cut rest).head; pieces = (cut rest).pieces }
+pub cut_word : (word rest : List ℕ) → no_marks word → cut_at_marks (word ++ rest) ≡ record { head = word ++ (cut_at_marks rest).head; pieces = (cut_at_marks rest).pieces }
 cut_word [] rest none = refl
 cut_word (b ∷ word) rest none =
     let h = and_parts (not (is_mark b)) (list_all (λ c. not (is_mark c)) word) none in
     rw (cut_word word rest h.1, not-true (is_mark b) h.0) refl
 
 -- a mark and a word before a text whose head is empty
-pub cut_item : (mark : ℕ) (word rest : List ℕ) → is_mark mark ≡ true → no_marks word → (cut rest).head ≡ [] → cut (mark ∷ (word ++ rest)) ≡ record { head = []; pieces = record { mark = mark; word = word } ∷ (cut rest).pieces }
+pub cut_item : (mark : ℕ) (word rest : List ℕ) → is_mark mark ≡ true → no_marks word → (cut_at_marks rest).head ≡ [] → cut_at_marks (mark ∷ (word ++ rest)) ≡ record { head = []; pieces = record { mark = mark; word = word } ∷ (cut_at_marks rest).pieces }
 cut_item mark word rest m none empty = rw (cut_word word rest none, m, empty, append-nil word) refl
 
 abbrev pub piece_text : Piece → List ℕ
 piece_text p = p.mark ∷ p.word
 
 -- nothing is lost by the cut
-pub cut_text : (text : List ℕ) → (cut text).head ++ flat_map piece_text (cut text).pieces ≡ text
+pub cut_text : (text : List ℕ) → (cut_at_marks text).head ++ flat_map piece_text (cut_at_marks text).pieces ≡ text
 cut_text [] = refl
 cut_text (b ∷ rest) = elim (cases_Bool (is_mark b)) [
   | inl e ↦ rw e (ap (λ t. b ∷ t) (cut_text rest))
@@ -120,8 +120,8 @@ pick_piece key items k = rw ((word_decides is_key_byte key).1 k) refl
 
 -- The cut of these items has no head, and its pieces read as them.
 pub record ReadsAs (text : List ℕ) (ps : List ParamValue) (ss : List ExprStep) : Type 0 where
-  pub head : (cut text).head ≡ []
-  pub items : read_pieces (cut text).pieces ≡ Some (items_with ps ss)
+  pub head : (cut_at_marks text).head ≡ []
+  pub items : read_pieces (cut_at_marks text).pieces ≡ Some (items_with ps ss)
 
 one_more : (mark : ℕ) (word rest : List ℕ) (ps more_ps : List ParamValue) (ss more_ss : List ExprStep) → is_mark mark ≡ true → no_marks word → ReadsAs rest ps ss
     → read_piece (record { mark = mark; word = word }) (items_with ps ss) ≡ Some (items_with more_ps more_ss) → ReadsAs (mark ∷ (word ++ rest)) more_ps more_ss

@@ -12,7 +12,8 @@ use Rattle.meaning_texts.specs.Classes.{is_name_byte, is_key_byte}
 use Rattle.meaning_texts.specs.Limits.{expression_limit}
 use Rattle.meaning_texts.specs.Tests.{is_name, is_id, is_param_value}
 use Rattle.meaning_texts.specs.Expressions.{Items, no_more, space, param_value, param_alone, type_step, pick_step, Written, ExpressionText}
-use Rattle.meaning_texts.specs.Reading.{Piece, Cut, cut, ItemList, put_param, put_step, name_part, value_part, is_empty, read_piece, read_pieces, past_spaces, expression_with, read_cut, expression_of, kept_params}
+use Rattle.meaning_texts.specs.Reading.{Piece, PieceCut, cut_at_marks, ItemList, put_param, put_step, name_part, value_part, read_piece, read_pieces, past_spaces, expression_with, read_cut, expression_of, kept_params}
+use Rattle.meaning_texts.specs.Lists.{is_empty}
 use Rattle.meaning_texts.proofs.Words.{word_decides, id_decides, value_decides}
 use Rattle.meaning_texts.proofs.Params.{kept_are_kept, one_kept}
 use Rattle.meaning_texts.proofs.Pieces.{cut_word, cut_text, piece_text, name_no_marks, items_with, ReadsAs, items_read}
@@ -128,7 +129,7 @@ past_all (suc n) rest = past_all n rest
 pub record CutOf (text source : List ℕ) (ps : List ParamValue) (ss : List ExprStep) : Type 0 where
   pub name : is_name source ≡ true
   pub pieces : List Piece
-  pub is : cut (past_spaces text) ≡ record { head = source; pieces = pieces }
+  pub is : cut_at_marks (past_spaces text) ≡ record { head = source; pieces = pieces }
   pub items : read_pieces pieces ≡ Some (items_with ps ss)
 
 pub written_cut : (text source : List ℕ) (ps : List ParamValue) (ss : List ExprStep) → Written text source ps ss → CutOf text source ps ss
@@ -136,8 +137,8 @@ written_cut text source ps ss w =
     let n : is_name source ≡ true = (word_decides is_name_byte source).1 w.name in
     let r : ReadsAs w.behind ps ss = items_read w.behind ps ss w.items in
     let start : past_spaces text ≡ source ++ w.behind = ap past_spaces w.is ∙ past_all w.spaces (source ++ w.behind) ∙ past_none source w.behind n in
-    let c : cut (source ++ w.behind) ≡ record { head = source; pieces = (cut w.behind).pieces } = rw (cut_word source w.behind (name_no_marks source w.name), r.head, append-nil source) refl in
-    record { name = n; pieces = (cut w.behind).pieces; is = ap cut start ∙ c; items = r.items }
+    let c : cut_at_marks (source ++ w.behind) ≡ record { head = source; pieces = (cut_at_marks w.behind).pieces } = rw (cut_word source w.behind (name_no_marks source w.name), r.head, append-nil source) refl in
+    record { name = n; pieces = (cut_at_marks w.behind).pieces; is = ap cut_at_marks start ∙ c; items = r.items }
 
 same_expression : (e : Expression) (ps : List ParamValue) → e.params ≡ ps → record { source = e.source; params = ps; steps = e.steps } ≡ e
 same_expression e ps k = let q : ◌≡◌ {A = Expression} (record { source = e.source; params = ps; steps = e.steps }) (record { source = e.source; params = e.params; steps = e.steps }) = cc in q
@@ -149,9 +150,9 @@ reads text e t =
     rw (le-leb (length text) expression_limit t.short, c.is, c.name, c.items) (ap (λ x. Some x) (same_expression e (kept_params t.params) (one_kept t.params e.params t.kept)))
 
 -- a text whose pieces read is of the grammar
-pub written_from_cut : (text head : List ℕ) (pieces : List Piece) (items : ItemList) → cut (past_spaces text) ≡ record { head = head; pieces = pieces } → is_name head ≡ true → read_pieces pieces ≡ Some items → Written text head items.params items.steps
+pub written_from_cut : (text head : List ℕ) (pieces : List Piece) (items : ItemList) → cut_at_marks (past_spaces text) ≡ record { head = head; pieces = pieces } → is_name head ≡ true → read_pieces pieces ≡ Some items → Written text head items.params items.steps
 written_from_cut text head pieces items c n r =
-    let whole : past_spaces text ≡ head ++ flat_map piece_text pieces = sym (cut_text (past_spaces text)) ∙ ap (λ (x : Cut). x.head ++ flat_map piece_text x.pieces) c in
+    let whole : past_spaces text ≡ head ++ flat_map piece_text pieces = sym (cut_text (past_spaces text)) ∙ ap (λ (x : PieceCut). x.head ++ flat_map piece_text x.pieces) c in
     record {
       spaces = spaces_of text;
       behind = flat_map piece_text pieces;
@@ -163,7 +164,7 @@ written_from_cut text head pieces items c n r =
 pub is_read : (text : List ℕ) (e : Expression) → expression_of text ≡ Some e → ExpressionText text e
 unfolding expression_of
 is_read text e t =
-    let c : Cut = cut (past_spaces text) in
+    let c : PieceCut = cut_at_marks (past_spaces text) in
     let a = cond_some (nat_le (length text) expression_limit) (read_cut c) e t in
     let b = cond_some (is_name c.head) (option_map (expression_with c.head) (read_pieces c.pieces)) e a.1 in
     let m = map_some (expression_with c.head) (read_pieces c.pieces) e b.1 in

@@ -5,7 +5,8 @@ use Rattle.std.specs.List.{list_all}
 use Rattle.std.specs.Bool.{Decides}
 use Rattle.std.proofs.lemmas.Bool.{and_parts, and_from, ltb-true, lt-ltb, leb-true, le-leb}
 use Rattle.std.proofs.lemmas.List.Sums.{AllPass-from_list_all, list_all-from_AllPass}
-use Rattle.meaning_texts.specs.Classes.{IsWordOf, IsId, IsParamValue, is_value_byte, is_string_byte, IsStringText, word_limit}
+use Rattle.meaning_texts.specs.Classes.{IsWordOf, IsId, IsParamValue, is_value_byte, is_string_byte, IsStringText}
+use Rattle.meaning_texts.specs.Limits.{word_limit}
 use Rattle.meaning_texts.specs.Tests.{is_word_of, is_id, is_param_value, is_string_text}
 
 word_from_test : (class : ℕ → Bool) (text : List ℕ) → is_word_of class text ≡ true → IsWordOf class text

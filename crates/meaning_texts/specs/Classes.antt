@@ -1,9 +1,6 @@
 -- The classes of bytes and of words, of which all texts are made.
 use Rattle.std.specs.Prelude.{ℕ, ◌<◌, ◌≤◌, Bool, false, ◌&&◌, ◌||◌, not, nat_le, ◌==◌, IsTrue, All, List, [], ◌∷◌, length}
-
--- the most bytes of a name, an identifier, a key, a word or a string
-abbrev pub word_limit : ℕ
-word_limit = 255
+use Rattle.meaning_texts.specs.Limits.{word_limit}
 
 -- A to Z and a to z
 abbrev pub is_letter : ℕ → Bool

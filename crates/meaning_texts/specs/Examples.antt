@@ -9,20 +9,25 @@ use Rattle.object_values.specs.declared.expressions.Lines.TheVariants.{These, To
 use Rattle.meaning_texts.specs.Escapes.{escaped}
 use Rattle.meaning_texts.specs.Expressions.{ExpressionText, IsFaultPlace, spelling}
 use Rattle.std.specs.List.{flat_map}
-use Rattle.meaning_texts.specs.Lines.{with_lf, lines_of, warning_lines, references, scanned_names}
+use Rattle.meaning_texts.specs.Lines.{with_lf, lines_of, warning_lines}
+use Rattle.meaning_texts.specs.References.{references, scanned_names}
+
+abbrev pub expression : List ℕ → List ParamValue → List ExprStep → Expression
+expression source params steps = record { source = source; params = params; steps = steps }
 
 abbrev pub bare : List ℕ → Expression
-bare source = record { source = source; params = []; steps = [] }
-
-abbrev pub with_steps : List ℕ → List ExprStep → Expression
-with_steps source steps = record { source = source; params = []; steps = steps }
+bare source = expression source [] []
 
 abbrev pub param : List ℕ → List ℕ → ParamValue
 param name value = record { param = name; value = value }
 
+-- the text is one of the name `a` with this value of the parameter `b`
+abbrev pub HasValue : List ℕ → List ℕ → Type 0
+HasValue text value = ExpressionText text (expression (codes "a") (param (codes "b") value ∷ []) [])
+
 -- `a.c+debug:o`
 abbrev pub debugged : Expression
-debugged = record { source = codes "a.c"; params = param (codes "debug") [] ∷ []; steps = To (codes "o") ∷ [] }
+debugged = expression (codes "a.c") (param (codes "debug") [] ∷ []) (To (codes "o") ∷ [])
 
 -- ` a.c +debug :o ` is written `a.c+debug:o`, and that reads as the same
 pub record CanonicalSpelling : Type 0 where
@@ -30,23 +35,29 @@ pub record CanonicalSpelling : Type 0 where
   pub written : spelling debugged ≡ codes "a.c+debug:o"
   pub again : ExpressionText (codes "a.c+debug:o") debugged
 
+-- `a+b=2+a+b=1+b=2%1`, as it is kept
+abbrev pub sorted : Expression
+sorted = expression (codes "a") (param (codes "a") [] ∷ param (codes "b") (codes "2") ∷ param (codes "b") (codes "1") ∷ []) (Pick (codes "1") ∷ [])
+
 -- the names are sorted, the values of one name stay in their order, and a value that was there before is dropped
 pub record SortedParams : Type 0 where
-  pub read : ExpressionText (codes "a+b=2+a+b=1+b=2%1") (record { source = codes "a"; params = param (codes "a") [] ∷ param (codes "b") (codes "2") ∷ param (codes "b") (codes "1") ∷ []; steps = Pick (codes "1") ∷ [] })
+  pub read : ExpressionText (codes "a+b=2+a+b=1+b=2%1") sorted
 
 -- the texts that are refused for what they name are expressions
 pub record NamedLater : Type 0 where
-  pub kind : ExpressionText (codes "a.c:zz") (with_steps (codes "a.c") (To (codes "zz") ∷ []))
-  pub step : ExpressionText (codes "a.c%1:zz") (with_steps (codes "a.c") (Pick (codes "1") ∷ To (codes "zz") ∷ []))
+  pub kind : ExpressionText (codes "a.c:zz") (expression (codes "a.c") [] (To (codes "zz") ∷ []))
+  pub step : ExpressionText (codes "a.c%1:zz") (expression (codes "a.c") [] (Pick (codes "1") ∷ To (codes "zz") ∷ []))
 
--- a text that ends too early, one that begins wrongly, one with a space inside an item, and one that is too long
+-- a text that ends too early, one that begins wrongly, and those that are too long
 pub record FaultPlaces : Type 0 where
   pub ends_early : IsFaultPlace (codes "a.c:") 5
   pub empty : IsFaultPlace [] 1
   pub begins : IsFaultPlace (codes "?") 1
   pub too_long : IsFaultPlace (97 ∷ replicate 1000 32) 1001
+  -- what begins wrongly isn't too long
+  pub wrong_first : IsFaultPlace (63 ∷ replicate 1000 32) 1
 
--- the byte that can't go on: a digit, a space or nothing where a letter must stand, a letter behind a space, and the 256th of a name
+-- the byte that can't go on: a digit, a space or nothing where a letter must stand, and a letter behind a space
 pub record MoreFaultPlaces : Type 0 where
   pub digit : IsFaultPlace (codes "a.c:1") 5
   pub inside : IsFaultPlace (codes "a.c +=b") 6
@@ -54,20 +65,36 @@ pub record MoreFaultPlaces : Type 0 where
   pub behind : IsFaultPlace (codes "a.c x") 5
   pub after_value : IsFaultPlace (codes "a.c+b=c d") 9
   pub key : IsFaultPlace (codes "a%-") 3
-  pub long_name : IsFaultPlace (replicate 256 97) 256
 
--- a name of 255 bytes, a text of 1,000 bytes, a value with `=`, and a key that begins with a digit
+-- the 256th byte of a name, an identifier and a key
+pub record LongWords : Type 0 where
+  pub name : IsFaultPlace (replicate 256 97) 256
+  pub id : IsFaultPlace (codes "a:" ++ replicate 256 97) 258
+  pub key : IsFaultPlace (codes "a%" ++ replicate 256 49) 258
+
+-- a name, an identifier and a key of 255 bytes, a text of 1,000 bytes, and a key that begins with a digit
 pub record LongestTexts : Type 0 where
   pub name : ExpressionText (replicate 255 97) (bare (replicate 255 97))
+  pub id : ExpressionText (codes "a:" ++ replicate 255 97) (expression (codes "a") [] (To (replicate 255 97) ∷ []))
+  pub key : ExpressionText (codes "a%" ++ replicate 255 49) (expression (codes "a") [] (Pick (replicate 255 49) ∷ []))
   pub text : ExpressionText (97 ∷ replicate 999 32) (bare (codes "a"))
-  pub value : ExpressionText (codes "a+b=c=") (record { source = codes "a"; params = param (codes "b") (codes "c=") ∷ []; steps = [] })
-  pub key : ExpressionText (codes "a%1b") (with_steps (codes "a") (Pick (codes "1b") ∷ []))
+  pub digit : ExpressionText (codes "a%1b") (expression (codes "a") [] (Pick (codes "1b") ∷ []))
 
--- the lines of a reference list: the second is none; a comment and an empty line are counted and passed over, and a CR at the end of a line is dropped
+-- a value is empty or ends at `~`; it may hold `=`, and no byte past `~`
+pub record Values : Type 0 where
+  pub empty : HasValue (codes "a+b=") []
+  pub last : HasValue (codes "a+b=~") (codes "~")
+  pub equals : HasValue (codes "a+b=c=") (codes "c=")
+  pub delete : IsFaultPlace (codes "a+b=" ++ 127 ∷ []) 5
+
+-- The second line is none. A comment and an empty line are counted and passed over, and a CR at the end of a line is dropped.
 pub record ReferenceLists : Type 0 where
   pub bad : references (codes "a.c\n?\n") ≡ These (Good 1 (bare (codes "a.c")) ∷ Bad 2 ∷ [])
-  pub passed : references (codes "#a" ++ 13 ∷ 10 ∷ 13 ∷ 10 ∷ codes "b.c:o" ++ 13 ∷ []) ≡ These (Good 3 (with_steps (codes "b.c") (To (codes "o") ∷ [])) ∷ [])
+  pub passed : references (codes "#a" ++ 13 ∷ 10 ∷ 13 ∷ 10 ∷ codes "b.c:o" ++ 13 ∷ []) ≡ These (Good 3 (expression (codes "b.c") [] (To (codes "o") ∷ [])) ∷ [])
   pub two : references (codes "a b\n a ") ≡ These (Bad 1 ∷ Good 2 (bare (codes "a")) ∷ [])
+  -- behind a space `#` begins no comment
+  pub spaced : references (codes " #") ≡ These (Bad 1 ∷ [])
+  pub one_cr : references (97 ∷ 13 ∷ 13 ∷ 10 ∷ []) ≡ These (Bad 1 ∷ [])
 
 -- the lines of a scan output that are names
 pub record ScanOutputs : Type 0 where

@@ -1,5 +1,5 @@
 -- Expressions: their grammar as a relation on whole texts, the place of a fault, and the canonical spelling.
-use Rattle.std.specs.Prelude.{◌≡◌, ℕ, ◌+◌, ◌<◌, ◌≤◌, ◌⊎◌, not, List, [], ◌∷◌, ◌++◌, length, take, map, filter, replicate, bytes_eq}
+use Rattle.std.specs.Prelude.{◌≡◌, ℕ, ◌+◌, ◌<◌, ◌≤◌, List, [], ◌∷◌, ◌++◌, length, take, map, filter, replicate, bytes_eq}
 use Rattle.std.specs.List.{flat_map, All}
 use Rattle.std.specs.List.Sorted.{IsSortedByKey}
 use Rattle.std.specs.Cmp.Lexicographic.{slice_cmp}
@@ -9,6 +9,7 @@ use Rattle.object_values.specs.declared.nodes.ParamValue.{ParamValue}
 use Rattle.object_values.specs.declared.expressions.ExprStep.{ExprStep}
 use Rattle.object_values.specs.declared.expressions.ExprStep.TheVariants.{To, Pick}
 use Rattle.object_values.specs.declared.expressions.Expression.{Expression}
+use Rattle.meaning_texts.specs.Lists.{once}
 use Rattle.meaning_texts.specs.Classes.{IsName, IsId, IsKey, IsParamValue}
 use Rattle.meaning_texts.specs.Limits.{expression_limit}
 
@@ -46,15 +47,10 @@ name_cmp = slice_cmp nat_cmp
 abbrev pub values_of : List ℕ → List ParamValue → List (List ℕ)
 values_of name params = map (λ (p : ParamValue). p.value) (filter (λ (p : ParamValue). bytes_eq p.param name) params)
 
--- each item once, where it stands first
-abbrev pub firsts : List (List ℕ) → List (List ℕ)
-firsts [] = []
-firsts (x ∷ xs) = x ∷ filter (λ y. not (bytes_eq y x)) (firsts xs)
-
 -- The parameters as an expression keeps them: sorted by name, and for each name its values in order, a value that was there before dropped.
 pub record AreKeptAs (written kept : List ParamValue) : Type 0 where
   pub sorted : IsSortedByKey (λ (p : ParamValue). p.param) name_cmp kept
-  pub values : (name : List ℕ) → values_of name kept ≡ firsts (values_of name written)
+  pub values : (name : List ℕ) → values_of name kept ≡ once bytes_eq (values_of name written)
 
 -- ---- texts and expressions
 
@@ -68,15 +64,28 @@ pub record ExpressionText (text : List ℕ) (e : Expression) : Type 0 where
 -- ---- the place of a fault
 
 -- These bytes are of the grammar, or become so by further ones.
-abbrev pub IsFront : List ℕ → Type 0
-IsFront bytes = (more source : List ℕ) × (params : List ParamValue) × (steps : List ExprStep) × Written (bytes ++ more) source params steps
+pub record IsFront (bytes : List ℕ) : Type 0 where
+  pub more : List ℕ
+  pub source : List ℕ
+  pub params : List ParamValue
+  pub steps : List ExprStep
+  pub written : Written (bytes ++ more) source params steps
 
--- All bytes before this place can go on, and the one at the place can't: no text of the grammar begins so, it is the first byte past the limit, or the text ends there too early. Places are counted from 1.
+-- Why a text can't go on at a place, all before it being a front.
+pub data IsStop (text : List ℕ) (place : ℕ) : Type 0 where
+  -- no text of the grammar begins so
+  no_front : place ≤ length text → (IsFront (take place text) → ⊥) → IsStop text place
+  -- the first byte past the limit
+  past_limit : expression_limit < length text → place ≡ expression_limit + 1 → IsStop text place
+  -- the text ends there too early
+  too_short : place ≡ length text + 1 → ((e : Expression) → ExpressionText text e → ⊥) → IsStop text place
+
+-- All bytes before this place can go on, and the one at the place can't. Places are counted from 1.
 pub record IsFaultPlace (text : List ℕ) (place : ℕ) : Type 0 where
   pub counted : 0 < place
   pub before : (n : ℕ) → n < place → IsFront (take n text)
   pub within : place ≤ expression_limit + 1
-  pub there : ((place ≤ length text) × (IsFront (take place text) → ⊥)) ⊎ (((expression_limit < length text) × (place ≡ expression_limit + 1)) ⊎ ((place ≡ length text + 1) × ((e : Expression) → ExpressionText text e → ⊥)))
+  pub there : IsStop text place
 
 -- ---- canonical expressions
 

@@ -1,10 +1,11 @@
 -- Whether bytes can go on to an expression, and the place of a fault, computed.
 use Rattle.std.specs.Prelude.{ℕ, zero, suc, ◌+◌, min, Bool, true, false, ◌||◌, ◌&&◌, nat_le, ◌==◌, List, [], ◌∷◌, length, take, is_some, if◌then◌else◌}
 use Rattle.std.specs.List.{list_any, list_all}
-use Rattle.meaning_texts.specs.Classes.{word_limit, is_name_byte, is_key_byte, begins_with_letter}
-use Rattle.meaning_texts.specs.Limits.{expression_limit}
+use Rattle.meaning_texts.specs.Classes.{is_name_byte, is_key_byte, begins_with_letter}
+use Rattle.meaning_texts.specs.Lists.{is_empty}
+use Rattle.meaning_texts.specs.Limits.{word_limit, expression_limit}
 use Rattle.meaning_texts.specs.Tests.{is_name, is_id, is_param_value}
-use Rattle.meaning_texts.specs.Reading.{Piece, cut, ItemList, name_part, value_part, is_empty, read_piece, past_spaces}
+use Rattle.meaning_texts.specs.Reading.{Piece, cut_at_marks, ItemList, name_part, value_part, read_piece, past_spaces}
 
 -- further bytes, or none, make it a word of the class
 abbrev pub begins_word : (ℕ → Bool) → List ℕ → Bool
@@ -47,7 +48,7 @@ begins_cut head [] = begins_word is_name_byte head
 begins_cut head (p ∷ rest) = is_name head && begins_pieces (p ∷ rest)
 
 unfoldable pub is_front : List ℕ → Bool
-is_front bytes = begins_cut (cut (past_spaces bytes)).head (cut (past_spaces bytes)).pieces
+is_front bytes = begins_cut (cut_at_marks (past_spaces bytes)).head (cut_at_marks (past_spaces bytes)).pieces
 
 -- the first of so many places, from this one on, at which the bytes are no front, or the place behind them
 abbrev pub first_stop : List ℕ → ℕ → ℕ → ℕ

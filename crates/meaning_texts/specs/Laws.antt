@@ -9,6 +9,8 @@ use Rattle.meaning_texts.specs.Expressions.{ExpressionText, AreKeptAs, IsFront, 
 use Rattle.meaning_texts.specs.Reading.{expression_of, kept_params}
 use Rattle.meaning_texts.specs.Fronts.{is_front, fault_place}
 use Rattle.meaning_texts.specs.Lines.{AreLines, cut_lines}
+use Rattle.meaning_texts.specs.References.{ReferenceList, references}
+use Rattle.object_values.specs.declared.expressions.Lines.{Lines}
 
 -- The tests of classes hold of the words of the classes alone.
 pub record TestsAreExact (text : List ℕ) : Type 0 where
@@ -57,3 +59,7 @@ EachTextIsAnswered = (text : List ℕ) → MatchOption (expression_of text) (IsF
 -- The computed lines of a text are its lines, and there are no others.
 abbrev pub LinesAreOne : Type 0
 LinesAreOne = (text : List ℕ) (full : List (List ℕ)) (last : List ℕ) → AreLines text full last ↔ (cut_lines text ≡ record { full = full; last = last })
+
+-- The computed reference list is what the text says, line by line, and it says nothing else.
+abbrev pub ReferencesAreSaid : Type 0
+ReferencesAreSaid = (text : List ℕ) (said : Lines) → ReferenceList text said ↔ (references text ≡ said)

@@ -1,10 +1,12 @@
-pub mod Classes
+pub mod Lists
 pub mod Limits
+pub mod Classes
 pub mod Escapes
 pub mod Expressions
 pub mod Tests
 pub mod Reading
 pub mod Fronts
 pub mod Lines
+pub mod References
 pub mod Laws
 pub mod Examples

@@ -1,5 +1,9 @@
--- The limits of the object manager, each in this one place. That of names, words and strings stands with their classes.
+-- The limits of the object manager, each in this one place.
 use Rattle.std.specs.Prelude.{ℕ}
+
+-- the most bytes of a name, an identifier, a key, a word or a string
+abbrev pub word_limit : ℕ
+word_limit = 255
 
 -- the most bytes of a source text, of an output and of a body
 abbrev pub body_limit : ℕ
@@ -20,6 +24,14 @@ declaration_limit = 2000
 -- a tool has fewer extras than this
 abbrev pub extra_bound : ℕ
 extra_bound = 4294967295
+
+-- the slot of a part of a call is below this
+abbrev pub slot_bound : ℕ
+slot_bound = 4294967296
+
+-- the number of an element is below this
+abbrev pub element_bound : ℕ
+element_bound = 4294967296
 
 -- the most lines of a reference list that aren't passed over
 abbrev pub reference_limit : ℕ

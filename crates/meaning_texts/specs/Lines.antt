@@ -1,19 +1,12 @@
--- Texts by lines, with the lines of reference lists and of scan outputs.
-use Rattle.std.specs.Prelude.{◌≡◌, ◌≢◌, ℕ, ◌+◌, Bool, true, nat_lt, ◌==◌, List, [], ◌∷◌, ◌++◌, length, map, filter, Option, Some, None, if◌then◌else◌}
+-- Texts by lines.
+use Rattle.std.specs.Prelude.{◌≡◌, ℕ, ◌==◌, List, [], ◌∷◌, ◌++◌, map, if◌then◌else◌}
 use Rattle.std.specs.List.{flat_map, All}
-use Rattle.object_values.specs.declared.expressions.Expression.{Expression}
-use Rattle.object_values.specs.declared.expressions.Line.{Line}
-use Rattle.object_values.specs.declared.expressions.Line.TheVariants.{Good, Bad}
-use Rattle.object_values.specs.declared.expressions.Lines.{Lines}
-use Rattle.object_values.specs.declared.expressions.Lines.TheVariants.{These, TooMany}
-use Rattle.meaning_texts.specs.Limits.{reference_limit}
-use Rattle.meaning_texts.specs.Tests.{is_name}
-use Rattle.meaning_texts.specs.Reading.{expression_of}
+use Rattle.meaning_texts.specs.Lists.{HasNo}
 
 -- ---- the cut at LF
 
 abbrev pub HasNoLf : List ℕ → Type 0
-HasNoLf = All (λ b. b ≢ 10)
+HasNoLf = HasNo 10
 
 abbrev pub with_lf : List ℕ → List ℕ
 with_lf line = line ++ 10 ∷ []
@@ -60,32 +53,3 @@ lines_of text = map without_cr ((cut_lines text).full ++ last_line (cut_lines te
 -- the lines of `warnings`: a CR before an LF is dropped, and one at the end of the last piece stays
 unfoldable pub warning_lines : List ℕ → List (List ℕ)
 warning_lines text = map without_cr (cut_lines text).full ++ last_line (cut_lines text).last
-
--- ---- reference lists
-
--- an empty line, or one that begins with `#`
-abbrev pub is_passed_over : List ℕ → Bool
-is_passed_over [] = true
-is_passed_over (b ∷ rest) = b == 35
-
-abbrev pub read_line : ℕ → Option Expression → Line
-read_line number None = Bad number
-read_line number (Some e) = Good number e
-
--- the lines that aren't passed over, numbered from the number on
-abbrev pub read_lines : ℕ → List (List ℕ) → List Line
-read_lines number [] = []
-read_lines number (line ∷ rest) = if is_passed_over line then read_lines (number + 1) rest else read_line number (expression_of line) ∷ read_lines (number + 1) rest
-
-abbrev pub at_most_references : List Line → Lines
-at_most_references found = if nat_lt reference_limit (length found) then TooMany else These found
-
--- the lines of a reference list
-unfoldable pub references : List ℕ → Lines
-references text = at_most_references (read_lines 1 (lines_of text))
-
--- ---- scan outputs
-
--- the lines that are names, in order
-unfoldable pub scanned_names : List ℕ → List (List ℕ)
-scanned_names text = filter is_name (lines_of text)

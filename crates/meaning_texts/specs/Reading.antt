@@ -1,11 +1,12 @@
 -- The expression of a text, computed: the text is cut at its marks, and each piece is read by itself.
-use Rattle.std.specs.Prelude.{ℕ, Bool, true, false, not, ◌||◌, ◌&&◌, nat_le, ◌==◌, List, [], ◌∷◌, length, Option, Some, None, bytes_eq, filter, if◌then◌else◌}
+use Rattle.std.specs.Prelude.{ℕ, Bool, ◌||◌, ◌&&◌, nat_le, ◌==◌, List, [], ◌∷◌, length, Option, Some, None, bytes_eq, if◌then◌else◌}
 use Rattle.std.specs.Option.{option_map, option_and_then}
 use Rattle.std.specs.Ordering.{is_lt}
 use Rattle.object_values.specs.declared.nodes.ParamValue.{ParamValue}
 use Rattle.object_values.specs.declared.expressions.ExprStep.{ExprStep}
 use Rattle.object_values.specs.declared.expressions.ExprStep.TheVariants.{To, Pick}
 use Rattle.object_values.specs.declared.expressions.Expression.{Expression}
+use Rattle.meaning_texts.specs.Lists.{is_empty, once}
 use Rattle.meaning_texts.specs.Limits.{expression_limit}
 use Rattle.meaning_texts.specs.Tests.{is_name, is_id, is_key, is_param_value}
 use Rattle.meaning_texts.specs.Expressions.{name_cmp}
@@ -22,16 +23,16 @@ pub record Piece : Type 0 where
   pub word : List ℕ
 
 -- what stands before the first mark, and the pieces
-pub record Cut : Type 0 where
+pub record PieceCut : Type 0 where
   pub head : List ℕ
   pub pieces : List Piece
 
-abbrev pub cut_byte : ℕ → Cut → Cut
-cut_byte b rest = if is_mark b then record { head = []; pieces = record { mark = b; word = rest.head } ∷ rest.pieces } else record { head = b ∷ rest.head; pieces = rest.pieces }
+abbrev pub cut_before : ℕ → PieceCut → PieceCut
+cut_before b rest = if is_mark b then record { head = []; pieces = record { mark = b; word = rest.head } ∷ rest.pieces } else record { head = b ∷ rest.head; pieces = rest.pieces }
 
-abbrev pub cut : List ℕ → Cut
-cut [] = record { head = []; pieces = [] }
-cut (b ∷ rest) = cut_byte b (cut rest)
+abbrev pub cut_at_marks : List ℕ → PieceCut
+cut_at_marks [] = record { head = []; pieces = [] }
+cut_at_marks (b ∷ rest) = cut_before b (cut_at_marks rest)
 
 -- ---- items
 
@@ -55,10 +56,6 @@ abbrev pub value_part : List ℕ → List ℕ
 value_part [] = []
 value_part (b ∷ rest) = if b == 61 then rest else value_part rest
 
-abbrev pub is_empty : List ℕ → Bool
-is_empty [] = true
-is_empty (b ∷ rest) = false
-
 -- what the piece adds to the items behind it, if it is an item
 abbrev pub read_piece : Piece → ItemList → Option ItemList
 read_piece p items =
@@ -74,10 +71,9 @@ read_pieces (p ∷ rest) = option_and_then (read_piece p) (read_pieces rest)
 
 -- ---- parameters
 
--- each parameter with its value once, where it stands first
-abbrev pub single : List ParamValue → List ParamValue
-single [] = []
-single (p ∷ rest) = p ∷ filter (λ (q : ParamValue). not (bytes_eq q.param p.param && bytes_eq q.value p.value)) (single rest)
+-- the same name and the same value
+abbrev pub same_param : ParamValue → ParamValue → Bool
+same_param p q = bytes_eq p.param q.param && bytes_eq p.value q.value
 
 -- before the first parameter whose name isn't less
 abbrev pub put_sorted : ParamValue → List ParamValue → List ParamValue
@@ -91,7 +87,7 @@ sorted (p ∷ rest) = put_sorted p (sorted rest)
 
 -- the parameters as an expression keeps them
 unfoldable pub kept_params : List ParamValue → List ParamValue
-kept_params written = sorted (single written)
+kept_params written = sorted (once same_param written)
 
 -- ---- texts
 
@@ -102,9 +98,9 @@ past_spaces (b ∷ rest) = if b == 32 then past_spaces rest else b ∷ rest
 abbrev pub expression_with : List ℕ → ItemList → Expression
 expression_with source items = record { source = source; params = kept_params items.params; steps = items.steps }
 
-abbrev pub read_cut : Cut → Option Expression
+abbrev pub read_cut : PieceCut → Option Expression
 read_cut c = if is_name c.head then option_map (expression_with c.head) (read_pieces c.pieces) else None
 
 -- the expression of a text, if it has one
 unfoldable pub expression_of : List ℕ → Option Expression
-expression_of text = if nat_le (length text) expression_limit then read_cut (cut (past_spaces text)) else None
+expression_of text = if nat_le (length text) expression_limit then read_cut (cut_at_marks (past_spaces text)) else None

@@ -1,5 +1,5 @@
 //! Worked examples of the definitions. Each is the contract of a function with an empty body.
-ghost use Rattle.meaning_texts.specs.Examples.{CanonicalSpelling, SortedParams, NamedLater, FaultPlaces, MoreFaultPlaces, LongestTexts, ReferenceLists, ScanOutputs, LastLines, Escaped, TooManyLines};
+ghost use Rattle.meaning_texts.specs.Examples.{CanonicalSpelling, SortedParams, NamedLater, FaultPlaces, MoreFaultPlaces, LongWords, LongestTexts, Values, ReferenceLists, ScanOutputs, LastLines, Escaped, TooManyLines};
 
 /// An expression with spaces, and its canonical spelling.
 pub fn canonical_spelling()
@@ -26,9 +26,19 @@ pub fn more_fault_places()
     ensures { MoreFaultPlaces }
 {}
 
-/// Texts at the limits, and what a value and a key may hold.
+/// Words that are too long.
+pub fn long_words()
+    ensures { LongWords }
+{}
+
+/// Texts and words at the limits.
 pub fn longest_texts()
     ensures { LongestTexts }
+{}
+
+/// What a value may hold.
+pub fn values()
+    ensures { Values }
 {}
 
 /// The lines of reference lists.

@@ -1,6 +1,6 @@
 //! Laws of the texts. Each is the contract of a function with an empty body.
 ghost use Rattle.std.specs.Prelude.{List, ℕ};
-ghost use Rattle.meaning_texts.specs.Laws.{TestsAreExact, ReadingIsExact, KeptParamsAreOne, SpellingReadsBack, ExpressionIsOne, ExpressionIsCanonical, FaultPlaceIsOne, FaultHasNoExpression, LinesAreOne, FrontsAreTested, EachTextIsAnswered};
+ghost use Rattle.meaning_texts.specs.Laws.{TestsAreExact, ReadingIsExact, KeptParamsAreOne, SpellingReadsBack, ExpressionIsOne, ExpressionIsCanonical, FaultPlaceIsOne, FaultHasNoExpression, LinesAreOne, FrontsAreTested, EachTextIsAnswered, ReferencesAreSaid};
 
 /// The tests of classes that compute hold of the words of the classes alone.
 pub fn tests_are_exact()
@@ -55,4 +55,9 @@ pub fn each_text_is_answered()
 /// The computed lines of a text are its lines, and there are no others.
 pub fn lines_are_one()
     ensures { LinesAreOne }
+{}
+
+/// The computed reference list is the one whose lines read as expressions or are bad, one for one.
+pub fn references_are_said()
+    ensures { ReferencesAreSaid }
 {}

@@ -1,5 +1,10 @@
-use Rattle.meaning_texts.proofs.Fronts.{ends_early, empty_text, begins_wrongly, too_long}
+use Rattle.std.proofs.Common.{refl}
+use Rattle.meaning_texts.specs.Reading.{expression_of, kept_params}
+use Rattle.meaning_texts.specs.Fronts.{is_front, fault_place}
+use Rattle.meaning_texts.proofs.Found.{fault_by}
+use Rattle.meaning_texts.proofs.Spaces.{too_long}
 use Rattle.meaning_texts.proofs.examples.fault_places.Goals as goal
 
 pub returns : goal.returns
-returns c = record { ends_early = ends_early; empty = empty_text; begins = begins_wrongly; too_long = too_long }
+unfolding expression_of kept_params fault_place is_front
+returns c = record { ends_early = fault_by _ _ refl refl; empty = fault_by _ _ refl refl; begins = fault_by _ _ refl refl; too_long = too_long; wrong_first = fault_by _ _ refl refl }

@@ -13,5 +13,4 @@ returns c = record {
   behind = fault_by _ _ refl refl;
   after_value = fault_by _ _ refl refl;
   key = fault_by _ _ refl refl;
-  long_name = fault_by _ _ refl refl;
 }

@@ -1,6 +1,7 @@
 use Rattle.std.proofs.Common.{refl}
 use Rattle.meaning_texts.specs.Reading.{expression_of, kept_params}
-use Rattle.meaning_texts.specs.Lines.{lines_of, references}
+use Rattle.meaning_texts.specs.Lines.{lines_of}
+use Rattle.meaning_texts.specs.References.{references}
 use Rattle.meaning_texts.proofs.examples.too_many_lines.Goals as goal
 
 pub returns : goal.returns
