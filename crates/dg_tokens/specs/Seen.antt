@@ -1,6 +1,8 @@
 -- A token that borrows from a text, as the token that it is.
-use Rattle.std.specs.Prelude.{ℕ, List, Option, Some, None}
+use Rattle.std.specs.Prelude.{ℕ, List, Option, Some, None, if◌then◌else◌}
+use Rattle.meaning_texts.specs.Tests.{is_name}
 use Rattle.meaning_graph_text.specs.Tokens.{Token, word, string, semicolon, comma, opening, closing}
+use Rattle.meaning_graph_text.specs.Lexing.{Taken, taken, name_front, past_names}
 use Rattle.dg_tokens.specs.declared.lexer.Token.{Token as Borrowed}
 use Rattle.dg_tokens.specs.declared.lexer.Token.TheVariants.{Word, String, Semicolon, Comma, Opening, Closing}
 
@@ -15,16 +17,12 @@ seen Closing = closing
 -- the bytes of a word, and of a string
 abbrev pub word_in : Token → Option (List ℕ)
 word_in (word w) = Some w
-word_in (string s) = None
-word_in semicolon = None
-word_in comma = None
-word_in opening = None
-word_in closing = None
+word_in other = None
 
 abbrev pub string_in : Token → Option (List ℕ)
-string_in (word w) = None
 string_in (string s) = Some s
-string_in semicolon = None
-string_in comma = None
-string_in opening = None
-string_in closing = None
+string_in other = None
+
+-- the longest word with which a text begins, and what follows it
+abbrev pub word_of : List ℕ → Option Taken
+word_of text = if is_name (name_front text) then Some (taken (word (name_front text)) (past_names text)) else None

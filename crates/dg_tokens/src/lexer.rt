@@ -1,16 +1,14 @@
 // Tokens, each read from the front of a text.
-ghost use Rattle.std.specs.Prelude.{◌≡◌, ◌↔◌, ◌≤◌, ◌∷◌, length, take, drop, not, position, false, true, IsTrue, IsFalse, Some, None, MatchOption};
+ghost use Rattle.std.specs.Prelude.{◌≡◌, ◌↔◌, ◌≤◌, ◌∷◌, length, take, drop, not, position, false, true, IsTrue, option_map};
 ghost use Rattle.meaning_texts.specs.Classes.{is_name_byte};
-ghost use Rattle.meaning_texts.specs.Tests.{is_name};
-ghost use Rattle.meaning_graph_text.specs.Tokens.{word, string};
 ghost use Rattle.meaning_graph_text.specs.Lexing.{token_at, past_gap, name_front, past_names, taken};
-ghost use Rattle.dg_tokens.specs.Seen.{seen, word_in, string_in};
+ghost use Rattle.dg_tokens.specs.Seen.{seen, word_in, string_in, word_of};
 
-use crate::classes::{is_name, is_name_byte, is_string_text};
 use memchr::memchr;
+use odin_bytes::{is_name, is_name_byte, is_string_text};
 
 /// A token of a graph file, which borrows its bytes from the text.
-#[derive(Clone, Copy, Debug)]
+#[derive(Clone, Copy)]
 pub enum Token<'t> {
     Word(&'t [u8]),
     /// What stands between the quotes of a string.
@@ -24,7 +22,7 @@ pub enum Token<'t> {
 impl<'t> Token<'t> {
     /// The bytes of a word.
     pub fn word(self) -> Option<&'t [u8]>
-        ensures { MatchOption result (word_in (seen self.entry) ≡ None) (λ bytes. seen self.entry ≡ word bytes.now) }
+        ensures { option_map (λ bytes. bytes.now) result ≡ word_in (seen self.entry) }
     {
         match self {
             Token::Word(bytes) => Some(bytes),
@@ -35,7 +33,7 @@ impl<'t> Token<'t> {
 
     /// The bytes of a string, without its quotes.
     pub fn string(self) -> Option<&'t [u8]>
-        ensures { MatchOption result (string_in (seen self.entry) ≡ None) (λ bytes. seen self.entry ≡ string bytes.now) }
+        ensures { option_map (λ bytes. bytes.now) result ≡ string_in (seen self.entry) }
     {
         match self {
             Token::String(bytes) => Some(bytes),
@@ -62,7 +60,7 @@ impl<'t> Token<'t> {
 
 /// The token with which the text begins, and what stands behind it. `None` is also given at the end of a text.
 pub fn token_at(text: &[u8]) -> Option<(Token<'_>, &[u8])>
-    ensures { MatchOption result (token_at text.now ≡ None) (λ read. token_at text.now ≡ Some (taken (seen read.0) read.1.now)) }
+    ensures { option_map (λ read. taken (seen read.0) read.1.now) result ≡ token_at text.now }
 {
     let (first, rest) = text.split_first()?;
     match *first {
@@ -92,7 +90,7 @@ pub fn past_gap(text: &[u8]) -> &[u8]
 
 // The string whose first quote stands before the text.
 fn string_at(text: &[u8]) -> Option<(Token<'_>, &[u8])>
-    ensures { MatchOption result (token_at (34 ∷ text.now) ≡ None) (λ read. token_at (34 ∷ text.now) ≡ Some (taken (seen read.0) read.1.now)) }
+    ensures { option_map (λ read. taken (seen read.0) read.1.now) result ≡ token_at (34 ∷ text.now) }
 {
     let end = memchr(b'"', text)?;
     let inner = &text[..end];
@@ -104,7 +102,7 @@ fn string_at(text: &[u8]) -> Option<(Token<'_>, &[u8])>
 
 // The longest word.
 fn word_at(text: &[u8]) -> Option<(Token<'_>, &[u8])>
-    ensures { MatchOption result (IsFalse (is_name (name_front text.now))) (λ read. IsTrue (is_name (name_front text.now)) × (seen read.0 ≡ word (name_front text.now)) × (read.1.now ≡ past_names text.now)) }
+    ensures { option_map (λ read. taken (seen read.0) read.1.now) result ≡ word_of text.now }
 {
     let (word, rest) = text.split_at(name_length(text));
     if !is_name(word) {

@@ -1,10 +1,8 @@
 //! The tokens of graph files, read from slices without copies, and the places in a text.
 #![tactic(auto)]
 
-mod classes;
 mod lexer;
 mod places;
 
-pub use classes::{is_id, is_name, is_string_text};
 pub use lexer::{Token, past_gap, token_at};
 pub use places::{column_behind, line_behind};

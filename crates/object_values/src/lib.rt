@@ -6,6 +6,7 @@ mod exact;
 pub mod expressions;
 pub mod graph;
 pub mod jobs;
+mod limits;
 pub mod messages;
 pub mod nodes;
 pub mod views;
@@ -16,6 +17,10 @@ pub use graph::{
     Decl, Extra, GraphFault, Kind, Make, MakerDecl, PartDecl, SuffixDecl, ToolDecl, TypeDecl,
 };
 pub use jobs::{End, FileBody, Job, Raw};
+pub use limits::{
+    BODY_LIMIT, DECLARATION_LIMIT, GRAPH_LIMIT, HEIGHT_LIMIT, INPUT_LIMIT, MESSAGE_LENGTH, MESSAGE_LIMIT,
+    STORE_LIMIT, WORD_LIMIT,
+};
 pub use messages::{Message, Status};
 pub use nodes::{Node, ParamValue, Step};
 pub use sequences::{Bytes, Copied, Exact, Memory, Seq, copy_five, copy_two, same, when_done};

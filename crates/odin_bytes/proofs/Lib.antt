@@ -1,3 +1,7 @@
-pub mod EscapeLemmas
-pub mod NameLemmas
+mod CutLemmas
+mod EscapeLemmas
+mod LineEnds
+mod NameLemmas
 mod NumberLemmas
+mod WordLemmas
+pub mod Lemmas

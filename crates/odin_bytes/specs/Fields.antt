@@ -19,6 +19,10 @@ pub record IsFieldAt (from : List ℕ) (at end : ℕ) (field : List ℕ) : Type 
   pub in_range : (at ≤ end) × (end ≤ length from)
   pub bytes : slice_range from at end ≡ field
 
+-- at a place stands a field of bytes, whose body starts and ends there
+abbrev pub IsBodyAt : List ℕ → ℕ → ℕ → ℕ → Type 0
+IsBodyAt from at start end = IsFieldAt from at end (bytes_field (slice_range from start end))
+
 -- at a place stands no field of bytes
 abbrev pub HasNoBytesAt : List ℕ → ℕ → Type 0
 HasNoBytesAt from at = (body : List ℕ) (end : ℕ) → length body < 2 ^ 32 → ¬ (IsFieldAt from at end (bytes_field body))

@@ -3,3 +3,4 @@ pub mod Fields
 pub mod Names
 pub mod Spellings
 pub mod Laws
+pub mod Words

@@ -1,7 +1,7 @@
 // Escaped texts.
 ghost use Rattle.std.specs.Prelude.{◌≡◌, ◌≢◌, ◌++◌, ◌<◌, ◌≤◌, ℕ, List, length, take, not, position, OnOk, OnErr, IfOk, IfSome, IfNone, MatchOption, IsFalse};
 ghost use Rattle.meaning_texts.specs.Escapes.{hexadecimal, escaped_byte, escaped};
-ghost use Rattle.odin_bytes.specs.Spellings.{is_plain, SpellsNothing};
+ghost use Rattle.odin_bytes.specs.Spellings.{is_plain, BeginsWithNoEscape, SpellsNothing};
 
 use object_values::{Bytes, Memory};
 use std::alloc::Global;
@@ -96,7 +96,7 @@ fn read_escape(text: &[u8]) -> Option<(u8, usize)>
     ensures some { IfSome result (λ read. take read.1 text.now ≡ escaped_byte read.0) }
     ensures length { IfSome result (λ read. (0 < read.1) × (read.1 ≤ length text.now)) }
     ensures byte { IfSome result (λ read. read.0 < 256) }
-    ensures none { IfNone result ((byte : ℕ) (behind : List ℕ) → byte < 256 → text.now ≢ escaped_byte byte ++ behind) }
+    ensures none { IfNone result (BeginsWithNoEscape text.now) }
 {
     match text {
         [b'\\', b'\\', ..] => Some((b'\\', 2)),

@@ -1,6 +1,6 @@
 // The fields of records. A `put_` call adds a field at the end; a `take_` call reads the one at a place, and says where it ends.
-ghost use Rattle.std.specs.Prelude.{◌≡◌, ◌++◌, ◌+◌, ◌^◌, ◌<◌, length, slice_range, OnOk, OnErr, IfSome, IfNone};
-ghost use Rattle.odin_bytes.specs.Fields.{u8_field, u32_field, u64_field, bytes_field, IsFieldAt, HasNoBytesAt};
+ghost use Rattle.std.specs.Prelude.{◌≡◌, ◌++◌, ◌+◌, ◌^◌, ◌<◌, length, OnOk, OnErr, IfSome, IfNone};
+ghost use Rattle.odin_bytes.specs.Fields.{u8_field, u32_field, u64_field, bytes_field, IsFieldAt, IsBodyAt, HasNoBytesAt};
 
 use byteorder::{BigEndian, ByteOrder};
 use object_values::{Bytes, Memory};
@@ -77,7 +77,7 @@ pub fn take_u64(from: &[u8], at: usize) -> Option<(u64, usize)>
 
 /// Where the body of a field of bytes starts, and where it ends.
 pub fn take_bytes(from: &[u8], at: usize) -> Option<(usize, usize)>
-    ensures some { IfSome result (λ taken. IsFieldAt from.now at taken.1 (bytes_field (slice_range from.now taken.0 taken.1))) }
+    ensures some { IfSome result (λ taken. IsBodyAt from.now at taken.0 taken.1) }
     ensures start { IfSome result (λ taken. taken.0 ≡ at + 4) }
     ensures none { IfNone result (HasNoBytesAt from.now at) }
 {

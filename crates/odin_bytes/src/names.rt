@@ -3,16 +3,22 @@ ghost use Rattle.std.specs.Prelude.{◌≡◌, IfOk, IfErr, not, position};
 ghost use Rattle.meaning_texts.specs.Classes.{is_name_byte, IsName};
 ghost use Rattle.odin_bytes.specs.Names.{IsNameFault};
 
-use object_values::{Bytes, Copied, Exact, Memory};
+use crate::classes::is_name_byte;
+use object_values::{Bytes, Copied, Exact, Memory, WORD_LIMIT};
 use std::alloc::Global;
 use std::marker::Model;
 
-const WORD_LIMIT: usize = 255;
-
 /// The name of a source: 1 to 255 letters, digits, `.`, `_`, `-` and `/`.
-#[derive(Debug, PartialEq, Eq, PartialOrd, Ord, Hash, Drop)]
+#[derive(PartialEq, Eq, PartialOrd, Ord)]
 pub struct Name {
     text: Bytes,
+}
+
+impl Drop for Name {
+    fn drop(self) {
+        let Name { text } = self;
+        drop(text);
+    }
 }
 
 impl Model for Name {
@@ -29,7 +35,7 @@ impl Model for Name {
 }
 
 /// Why a text is no name, tested in this order.
-#[derive(Clone, Copy, Debug, PartialEq, Eq)]
+#[derive(Clone, Copy, PartialEq, Eq)]
 pub enum NameFault {
     Empty,
     /// More than 255 bytes.
@@ -89,7 +95,8 @@ impl Name {
         ensures bytes { result ≡ self }
         ensures named { IsName self }
     {
-        self.text
+        let Name { text } = self;
+        text
     }
 }
 
@@ -111,12 +118,5 @@ impl Copied for Name {
 fn bad_place(text: &[u8]) -> Option<usize>
     ensures { result ≡ position (λ b. not (is_name_byte b)) text.now }
 {
-    text.iter().position(|byte| !may_name(*byte))
-}
-
-// A letter, a digit, `.`, `_`, `-` or `/`.
-fn may_name(byte: u8) -> bool
-    ensures { result ≡ is_name_byte byte }
-{
-    byte.is_ascii_alphanumeric() || matches!(byte, b'.' | b'_' | b'-' | b'/')
+    text.iter().position(|byte| !is_name_byte(*byte))
 }

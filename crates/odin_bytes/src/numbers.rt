@@ -1,5 +1,6 @@
 // Numbers in texts: decimal digits without a leading zero.
-ghost use Rattle.std.specs.Prelude.{◌≡◌, ◌≢◌, ◌++◌, ◌^◌, ◌<◌, ℕ, decimal, OnOk, OnErr, IfSome, IfNone};
+ghost use Rattle.std.specs.Prelude.{◌≡◌, ◌++◌, ◌^◌, ◌<◌, decimal, OnOk, OnErr, IfSome, IfNone};
+ghost use Rattle.odin_bytes.specs.Spellings.{IsNoNumber};
 
 use itoa::Buffer;
 use object_values::{Bytes, Memory};
@@ -8,7 +9,7 @@ use object_values::{Bytes, Memory};
 pub fn read_number(text: &[u8]) -> Option<u64>
     ensures some { IfSome result (λ number. text.now ≡ decimal number) }
     ensures small { IfSome result (λ number. number < 2 ^ 64) }
-    ensures none { IfNone result ((number : ℕ) → number < 2 ^ 64 → text.now ≢ decimal number) }
+    ensures none { IfNone result (IsNoNumber text.now) }
 {
     let Ok(digits) = std::str::from_utf8(text) else {
         return None;

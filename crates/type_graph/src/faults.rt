@@ -8,11 +8,8 @@ ghost use Rattle.type_graph.specs.Tables.{AreChecked};
 use crate::context::Context;
 use crate::fault::CheckFault;
 use crate::spaces::Counts;
-use object_values::{Decl, GraphFault, Memory};
+use object_values::{DECLARATION_LIMIT, Decl, GraphFault, Memory};
 use std::alloc::Global;
-
-/// The most declarations of a graph.
-const DECLARATION_LIMIT: u32 = 2000;
 
 impl<'a> Context<'a> {
     /// The least fault of the declaration of a number, from 1.

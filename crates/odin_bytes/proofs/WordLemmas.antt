@@ -1,10 +1,10 @@
 -- Names: which bytes they have not, and what is wrong with a text that is none.
 use Rattle.std.proofs.Common.{◌≡◌, ◌≢◌, ℕ, List, [], ◌∷◌, length, get_or, ap, refl, subst, arith, IsTrue, Bool, true, false, not}
-use Rattle.std.specs.List.{All, AllByRecursion}
+use Rattle.std.specs.List.{AllByRecursion}
 use Rattle.std.proofs.lemmas.List.Elements.{recursion_from_All}
 use Rattle.std.proofs.lemmas.List.Quantifiers.{position-Some}
 use Rattle.meaning_texts.specs.Classes.{is_name_byte, IsName}
-use Rattle.meaning_run.specs.Items.{HasNo}
+use Rattle.meaning_texts.specs.Lists.{HasNo}
 use Rattle.odin_bytes.specs.Names.{IsNameFault}
 use Rattle.odin_bytes.specs.declared.names.NameFault.{NameFault}
 use Rattle.odin_bytes.specs.declared.names.NameFault.TheVariants as fault

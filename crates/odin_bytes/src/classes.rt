@@ -4,8 +4,7 @@ ghost use Rattle.std.specs.List.{list_all};
 ghost use Rattle.meaning_texts.specs.Classes.{is_letter, is_key_byte, is_name_byte, is_string_byte, begins_with_letter};
 ghost use Rattle.meaning_texts.specs.Tests.{is_name, is_id, is_string_text};
 
-// The most bytes of a word, and of a string between its quotes.
-const WORD_LIMIT: usize = 255;
+use object_values::WORD_LIMIT;
 
 /// Whether the text is a NAME, which is also a WORD: 1 to 255 letters, digits, `.`, `_`, `-` and `/`.
 pub fn is_name(text: &[u8]) -> bool
@@ -46,7 +45,8 @@ fn are_string_bytes(text: &[u8]) -> bool
     text.iter().all(|byte| is_string_byte(*byte))
 }
 
-pub(crate) fn is_name_byte(byte: u8) -> bool
+/// A letter, a digit, `.`, `_`, `-` or `/`.
+pub fn is_name_byte(byte: u8) -> bool
     ensures { result ≡ is_name_byte byte }
 {
     byte.is_ascii_alphanumeric() || matches!(byte, b'.' | b'_' | b'-' | b'/')

@@ -1,6 +1,6 @@
 use Rattle.odin_bytes.specs.declared.names.NameFault.TheVariants as fault
-use Rattle.odin_words.proofs.NameLemmas.{no_name}
-use Rattle.odin_words.proofs.words.read_name.Goals as goal
+use Rattle.odin_bytes.proofs.WordLemmas.{no_name}
+use Rattle.odin_bytes.proofs.words.read_name.Goals as goal
 
 pub returns-in-Err-Empty : goal.returns-in-Err-Empty
 returns-in-Err-Empty c = no_name c.args.word.now fault.Empty (λ e. cc) (rw c.in-Err-Empty.field-0-is at c.in-Err-Empty.ensures.err)

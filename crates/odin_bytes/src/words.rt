@@ -1,16 +1,17 @@
 // Words, cut from a line.
-ghost use Rattle.std.specs.Prelude.{◌≡◌, ◌∷◌, ◌++◌, IfOk, MatchOption};
-ghost use Rattle.meaning_run.specs.Items.{HasNo};
+ghost use Rattle.std.specs.Prelude.{◌≡◌, IfOk, MatchOption};
+ghost use Rattle.meaning_texts.specs.Lists.{HasNo};
 ghost use Rattle.meaning_texts.specs.Classes.{IsName};
+ghost use Rattle.odin_bytes.specs.Words.{IsCutAt};
 
+use crate::names::{Name, NameFault};
 use memchr::memchr;
 use object_values::Memory;
-use odin_bytes::{Name, NameFault};
 use std::alloc::Global;
 
 /// What stands before the first such byte, and what stands behind it.
 pub fn cut_at(byte: u8, text: &[u8]) -> Option<(&[u8], &[u8])>
-    ensures { MatchOption result (HasNo byte text.now) (λ parts. (text.now ≡ parts.0.now ++ byte ∷ parts.1.now) × HasNo byte parts.0.now) }
+    ensures { MatchOption result (HasNo byte text.now) (λ parts. IsCutAt byte text.now parts.0.now parts.1.now) }
 {
     match memchr(byte, text) {
         Some(at) => Some((&text[..at], &text[at + 1..])),

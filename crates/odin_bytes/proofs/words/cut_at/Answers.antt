@@ -1,8 +1,9 @@
 use Rattle.std.proofs.Common.{◌≡◌, ◌<◌, ◌-◌, ◌+◌, ◌++◌, ◌∷◌, length, take, drop, get_or, sym, ap, ◌∙◌, arith}
 use Rattle.std.proofs.lemmas.Bool.Decides.{Decides-eqb}
 use Rattle.std.proofs.lemmas.Grind.{common_steps}
-use Rattle.meaning_run.proofs.ItemLemmas.{HasNo-places, HasNo-take, cut_there}
-use Rattle.odin_words.proofs.words.cut_at.Goals as goal
+use Rattle.meaning_texts.proofs.Lemmas.{HasNo-places, HasNo-take}
+use Rattle.odin_bytes.proofs.CutLemmas.{cut_there}
+use Rattle.odin_bytes.proofs.words.cut_at.Goals as goal
 
 pub returns-in-Some : goal.returns-in-Some
 returns-in-Some c =

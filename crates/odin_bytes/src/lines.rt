@@ -1,15 +1,23 @@
-// The first line of a text.
+// Texts by lines: what stands before the first LF and behind it, and a line without its CR.
 ghost use Rattle.std.specs.Prelude.{◌≡◌, ◌<◌, ◌∷◌, [], length, IfSome, IfNone};
-ghost use Rattle.meaning_texts.specs.Lines.{cut_lines};
+ghost use Rattle.meaning_texts.specs.Lines.{cut_lines, without_cr};
+ghost use Rattle.odin_bytes.specs.Words.{IsFirstLine};
 
 use memchr::memchr;
 
 /// The first line without its LF, and what stands behind that. A text without an LF has none.
 pub fn first_line(text: &[u8]) -> Option<(&[u8], &[u8])>
-    ensures some { IfSome result (λ parts. let rest = cut_lines parts.1.now in cut_lines text.now ≡ record { full = parts.0.now ∷ rest.full; last = rest.last }) }
+    ensures some { IfSome result (λ parts. IsFirstLine text.now parts.0.now parts.1.now) }
     ensures shorter { IfSome result (λ parts. length parts.1.now < length text.now) }
     ensures none { IfNone result (cut_lines text.now ≡ record { full = []; last = text.now }) }
 {
     let at = memchr(b'\n', text)?;
     Some((&text[..at], &text[at + 1..]))
+}
+
+/// The line without one CR at its end.
+pub fn drop_cr(line: &[u8]) -> &[u8]
+    ensures { result.now ≡ without_cr line.now }
+{
+    line.strip_suffix(b"\r").unwrap_or(line)
 }

@@ -1,0 +1,28 @@
+// The limits of the object manager that code tests, each in this one place. docs/DEFINITIONS.md lists them with their definitions.
+
+/// The most bytes of a name, an identifier, a key, a word or a string.
+pub const WORD_LIMIT: usize = 255;
+
+/// The most bytes of a source text, of an output and of a body.
+pub const BODY_LIMIT: usize = 16_777_216;
+
+/// The most bytes of a graph file.
+pub const GRAPH_LIMIT: usize = 1_048_576;
+
+/// The most declarations of a graph file.
+pub const DECLARATION_LIMIT: u32 = 2_000;
+
+/// The most messages of an object, and the most lines of `warnings` that count.
+pub const MESSAGE_LIMIT: usize = 1_000;
+
+/// The most bytes that count of a line of `warnings`.
+pub const MESSAGE_LENGTH: usize = 1_000;
+
+/// The greatest height of a node that is derived.
+pub const HEIGHT_LIMIT: usize = 64;
+
+/// The most bytes of a store file.
+pub const STORE_LIMIT: u64 = 1_073_741_824;
+
+/// The most bytes of the input of a run.
+pub const INPUT_LIMIT: usize = 1_073_741_824;

@@ -1,0 +1,13 @@
+-- Words and lines, cut from a text.
+use Rattle.std.specs.Prelude.{◌≡◌, ℕ, List, ◌∷◌, ◌++◌}
+use Rattle.meaning_texts.specs.Lists.{HasNo}
+use Rattle.meaning_texts.specs.Lines.{cut_lines}
+
+-- The text is what stands before its first such byte, the byte, and what stands behind it.
+abbrev pub IsCutAt : ℕ → List ℕ → List ℕ → List ℕ → Type 0
+IsCutAt byte text before behind = (text ≡ before ++ byte ∷ behind) × HasNo byte before
+
+-- The text's first line is this one, and its others are those of what stands behind.
+abbrev pub IsFirstLine : List ℕ → List ℕ → List ℕ → Type 0
+IsFirstLine text line behind =
+    let rest = cut_lines behind in cut_lines text ≡ record { full = line ∷ rest.full; last = rest.last }
