@@ -5,7 +5,8 @@ ghost use Rattle.meaning_graph_text.specs.Going.{Class, Stage, accepts, expect};
 ghost use Rattle.dg_tokens.specs.Seen.{seen};
 ghost use Rattle.dg_reader.specs.Walks.{Takes, Skips, MayFind, Finds, Halts, IsNotAt, class_of, token_of};
 
-use dg_tokens::{Token, is_id, is_name, is_string_text, past_gap, token_at};
+use dg_tokens::{Token, past_gap, token_at};
+use odin_bytes::{is_id, is_name, is_string_text};
 use object_values::{Bytes, Memory};
 use std::alloc::Global;
 use std::marker::Model;

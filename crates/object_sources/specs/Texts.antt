@@ -1,5 +1,5 @@
 -- Texts by name, with the room that is reserved for more.
-use Rattle.std.specs.Prelude.{ℕ, List, refl}
+use Rattle.std.specs.Prelude.{ℕ, List, Option, slice_get, refl}
 use Rattle.std.specs.Coded.{Coded, code_by, coded×, coded_ℕ, coded_list}
 use Rattle.std.specs.Ordering.{nat_cmp}
 use Rattle.std.specs.Cmp.Lexicographic.{slice_cmp}
@@ -16,6 +16,10 @@ Texts = map.FinMap (slice_cmp nat_cmp) Text
 -- the map with no name
 abbrev pub no_texts : Texts
 no_texts = map.empty
+
+-- the name at a place, in the order of the names' bytes, with its text
+abbrev pub entry_at : Texts → ℕ → Option (Text × Text)
+entry_at texts place = slice_get (map.entries texts) place
 
 -- the texts, and how many more names have room
 pub record Stock : Type 0 where

@@ -1,9 +1,9 @@
 // Sources: texts by name, in the order of the names' bytes.
-ghost use Rattle.std.specs.Prelude.{◌≡◌, ◌≤◌, ◌⊎◌, IfOk, IfErr, OnOk, IsSome, T, option_map, slice_get};
+ghost use Rattle.std.specs.Prelude.{◌≡◌, ◌≤◌, ◌⊎◌, IfOk, IfErr, OnOk, IsSome, T, option_map};
 ghost use Rattle.std.specs.FinMap as map;
 ghost use Rattle.std.specs.Ordering.{nat_cmp};
 ghost use Rattle.std.specs.Cmp.Lexicographic.{slice_cmp};
-ghost use Rattle.object_sources.specs.Texts.{no_texts};
+ghost use Rattle.object_sources.specs.Texts.{no_texts, entry_at};
 ghost use Rattle.object_sources.specs.Places.{IsAt, IsGap};
 
 use sequences::{Bytes, Copied, Memory};
@@ -12,8 +12,8 @@ use std::cmp::Ordering;
 use std::marker::Model;
 use std::mem;
 
-/// A finite map from names to texts. Contracts see the texts, and the room that is reserved for more.
-#[derive(Debug)]
+/// A finite map from names to texts. Contracts see the texts, and the room reserved for more.
+
 pub struct Sources {
     pairs: Vec<(Bytes, Bytes)>,
 }
@@ -67,7 +67,7 @@ impl Sources {
 
     /// The name and the text at a place, from 0, in the order of the names.
     pub fn at(&self, place: usize) -> Option<(&Bytes, &Bytes)>
-        ensures { option_map (λ pair. (pair.0.now, pair.1.now)) result ≡ slice_get (map.entries self.now.texts) place }
+        ensures { option_map (λ pair. (pair.0.now, pair.1.now)) result ≡ entry_at self.now.texts place }
     {
         let (name, text) = self.pairs.get(place)?;
         Some((name, text))

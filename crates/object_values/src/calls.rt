@@ -6,7 +6,7 @@ use sequences::{Bytes, Copied, Memory, Seq};
 use std::alloc::Global;
 
 /// An input of a call: its slot, its label, and its bytes where it is not absent.
-#[derive(Debug, PartialEq, Eq, Drop)]
+#[derive(PartialEq, Eq, Drop)]
 pub struct CallPart {
     pub slot: u32,
     pub label: Bytes,
@@ -14,7 +14,7 @@ pub struct CallPart {
 }
 
 /// A call: the tool, the used parameters, the inputs and the names of the outputs.
-#[derive(Debug, PartialEq, Eq, Drop)]
+#[derive(PartialEq, Eq, Drop)]
 pub struct Call {
     pub tool: Bytes,
     pub version: Bytes,
@@ -25,14 +25,14 @@ pub struct Call {
 }
 
 /// A message of a call, which gets the label of the node that it is made for.
-#[derive(Debug, PartialEq, Eq, Drop)]
+#[derive(PartialEq, Eq, Drop)]
 pub struct OwnLine {
     pub level: Status,
     pub text: Bytes,
 }
 
 /// What came of a call. At `Abort` there are no outputs.
-#[derive(Debug, PartialEq, Eq, Drop)]
+#[derive(PartialEq, Eq, Drop)]
 pub struct Outcome {
     pub status: Status,
     pub lines: Seq<OwnLine>,

@@ -4,14 +4,14 @@ use sequences::{Bytes, Copied, Memory, Seq};
 use std::alloc::Global;
 
 /// A step of an expression: to a type, or the pick of an element or a part.
-#[derive(Debug, PartialEq, Eq, Drop)]
+#[derive(PartialEq, Eq, Drop)]
 pub enum ExprStep {
     To(Bytes),
     Pick(Bytes),
 }
 
 /// A source, parameters and the steps to an object, as they are written.
-#[derive(Debug, PartialEq, Eq, Drop)]
+#[derive(PartialEq, Eq, Drop)]
 pub struct Expression {
     pub source: Bytes,
     pub params: Seq<ParamValue>,
@@ -19,14 +19,14 @@ pub struct Expression {
 }
 
 /// A line of a reference list, with its number from 1: an expression, or a line that is none.
-#[derive(Debug, PartialEq, Eq, Drop)]
+#[derive(PartialEq, Eq, Drop)]
 pub enum Line {
     Good(u64, Expression),
     Bad(u64),
 }
 
 /// The lines of a reference list, or that there are more than 10,000.
-#[derive(Debug, PartialEq, Eq, Drop)]
+#[derive(PartialEq, Eq, Drop)]
 pub enum Lines {
     These(Seq<Line>),
     TooMany,

@@ -3,14 +3,14 @@ use sequences::{Bytes, Copied, Memory, Seq};
 use std::alloc::Global;
 
 /// A part of a compound type: its name and the name of its type.
-#[derive(Debug, PartialEq, Eq, Drop)]
+#[derive(PartialEq, Eq, Drop)]
 pub struct PartDecl {
     pub name: Bytes,
     pub of: Bytes,
 }
 
 /// What the objects of a type are: bytes, a list of a type, or named parts.
-#[derive(Debug, PartialEq, Eq, Drop)]
+#[derive(PartialEq, Eq, Drop)]
 pub enum Kind {
     Simple,
     List(Bytes),
@@ -18,7 +18,7 @@ pub enum Kind {
 }
 
 /// A type, its kind and the names of its supertypes.
-#[derive(Debug, PartialEq, Eq, Drop)]
+#[derive(PartialEq, Eq, Drop)]
 pub struct TypeDecl {
     pub name: Bytes,
     pub kind: Kind,
@@ -26,21 +26,21 @@ pub struct TypeDecl {
 }
 
 /// The type of the sources whose names end with a suffix.
-#[derive(Debug, PartialEq, Eq, Drop)]
+#[derive(PartialEq, Eq, Drop)]
 pub struct SuffixDecl {
     pub suffix: Bytes,
     pub of: Bytes,
 }
 
 /// A further input of a tool: the object of a type that the base leads to, or a source by its name.
-#[derive(Debug, PartialEq, Eq, Drop)]
+#[derive(PartialEq, Eq, Drop)]
 pub enum Extra {
     Also(Bytes),
     With(Bytes),
 }
 
 /// A tool: its version, the words that start it, the parameters that it uses, its further inputs and its scan type.
-#[derive(Debug, PartialEq, Eq, Drop)]
+#[derive(PartialEq, Eq, Drop)]
 pub struct ToolDecl {
     pub version: Bytes,
     pub words: Seq<Bytes>,
@@ -50,7 +50,7 @@ pub struct ToolDecl {
 }
 
 /// How a maker makes its object.
-#[derive(Debug, PartialEq, Eq, Drop)]
+#[derive(PartialEq, Eq, Drop)]
 pub enum Make {
     Tool(ToolDecl),
     Read,
@@ -59,7 +59,7 @@ pub enum Make {
 }
 
 /// A maker, with the type that it takes and the type that it makes.
-#[derive(Debug, PartialEq, Eq, Drop)]
+#[derive(PartialEq, Eq, Drop)]
 pub struct MakerDecl {
     pub name: Bytes,
     pub make: Make,
@@ -68,7 +68,7 @@ pub struct MakerDecl {
 }
 
 /// One declaration of a graph.
-#[derive(Debug, PartialEq, Eq, Drop)]
+#[derive(PartialEq, Eq, Drop)]
 pub enum Decl {
     ObjectType(TypeDecl),
     Suffix(SuffixDecl),
@@ -77,7 +77,7 @@ pub enum Decl {
 }
 
 /// What may be wrong with a declaration, in the order in which the faults are looked for.
-#[derive(Clone, Copy, Debug, PartialEq, Eq, PartialOrd, Ord)]
+#[derive(Clone, Copy, PartialEq, Eq)]
 pub enum GraphFault {
     UnknownType,
     DoubleName,

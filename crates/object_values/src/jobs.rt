@@ -3,21 +3,21 @@ use sequences::{Bytes, Copied, Memory, Seq};
 use std::alloc::Global;
 
 /// How a child program ended: with an exit status, or by a signal.
-#[derive(Clone, Copy, Debug, PartialEq, Eq, PartialOrd, Ord)]
+#[derive(Clone, Copy, PartialEq, Eq)]
 pub enum End {
     Exit(u8),
     Signal,
 }
 
 /// A file with its bytes.
-#[derive(Debug, PartialEq, Eq, Drop)]
+#[derive(PartialEq, Eq, Drop)]
 pub struct FileBody {
     pub name: Bytes,
     pub body: Bytes,
 }
 
 /// The words that start a child program, the files that it finds, and the names of the files that are read when it ended.
-#[derive(Debug, PartialEq, Eq, Drop)]
+#[derive(PartialEq, Eq, Drop)]
 pub struct Job {
     pub words: Seq<Bytes>,
     pub files: Seq<FileBody>,
@@ -25,7 +25,7 @@ pub struct Job {
 }
 
 /// The end of a child program, and the files that it left.
-#[derive(Debug, PartialEq, Eq, Drop)]
+#[derive(PartialEq, Eq, Drop)]
 pub struct Raw {
     pub end: End,
     pub files: Seq<FileBody>,

@@ -3,7 +3,7 @@ use sequences::{Bytes, Copied, Memory};
 use std::alloc::Global;
 
 /// How an object is, from the best to the worst. An object at `Abort` has no value.
-#[derive(Clone, Copy, Debug, PartialEq, Eq, PartialOrd, Ord, Hash)]
+#[derive(Clone, Copy, PartialEq, Eq, PartialOrd, Ord, Hash)]
 pub enum Status {
     Ok,
     Warning,
@@ -12,7 +12,7 @@ pub enum Status {
 }
 
 /// A message of an object: the label of the node that it comes from, its level and its text.
-#[derive(Debug, PartialEq, Eq, Hash, Drop)]
+#[derive(PartialEq, Eq, Hash, Drop)]
 pub struct Message {
     pub label: Bytes,
     pub level: Status,

@@ -5,14 +5,14 @@ use sequences::{Bytes, Copied, Memory, Seq};
 use std::alloc::Global;
 
 /// A named part of a compound.
-#[derive(Debug, PartialEq, Eq, Drop)]
+#[derive(PartialEq, Eq, Drop)]
 pub struct Part {
     pub name: Bytes,
     pub body: Bytes,
 }
 
 /// What an object is: bytes, references to nodes in order, or named parts in order.
-#[derive(Debug, PartialEq, Eq, Drop)]
+#[derive(PartialEq, Eq, Drop)]
 pub enum Value {
     Simple(Bytes),
     List(Seq<Node>),
@@ -20,7 +20,7 @@ pub enum Value {
 }
 
 /// An object as it is shown. It has a value exactly where its status is not `Abort`.
-#[derive(Debug, PartialEq, Eq, Drop)]
+#[derive(PartialEq, Eq, Drop)]
 pub struct View {
     pub value: Option<Value>,
     pub status: Status,

@@ -3,14 +3,14 @@ use object_values::{Copied, Job, Memory};
 use std::alloc::Global;
 
 /// A child program that runs, in its slot.
-#[derive(Debug, PartialEq, Eq, Drop)]
+#[derive(PartialEq, Eq, Drop)]
 pub struct Running {
     pub slot: u32,
     pub job: Job,
 }
 
 /// A start in a slot, an end, or an end whose result was lost.
-#[derive(Debug, PartialEq, Eq, Drop)]
+#[derive(PartialEq, Eq, Drop)]
 pub enum ToolEvent {
     Began(u32, Job),
     Ended(u32),

@@ -3,7 +3,7 @@ use object_values::{Copied, Memory};
 use std::alloc::Global;
 
 /// The object of the outside has failed, and has counted it.
-#[derive(Clone, Copy, Debug, PartialEq, Eq, PartialOrd, Ord)]
+#[derive(Clone, Copy, PartialEq, Eq)]
 pub struct Failed;
 
 impl Copied for Failed {

@@ -6,14 +6,14 @@ use object_values::{Copied, Job, Memory, Raw};
 use std::alloc::Global;
 
 /// Why a child program was not started.
-#[derive(Clone, Copy, Debug, PartialEq, Eq, PartialOrd, Ord)]
+#[derive(Clone, Copy, PartialEq, Eq)]
 pub enum StartFault {
     Failed,
     Memory,
 }
 
 /// Why the end of a child program was not given. `Failed` names the slot whose result is lost.
-#[derive(Clone, Copy, Debug, PartialEq, Eq, PartialOrd, Ord)]
+#[derive(Clone, Copy, PartialEq, Eq)]
 pub enum FinishFault {
     Failed(u32),
     Memory,

@@ -7,7 +7,7 @@ use object_values::{Bytes, Copied, Memory};
 use std::alloc::Global;
 
 /// Why a file was not given.
-#[derive(Clone, Copy, Debug, PartialEq, Eq, PartialOrd, Ord)]
+#[derive(Clone, Copy, PartialEq, Eq)]
 pub enum TreeFault {
     Failed,
     Memory,

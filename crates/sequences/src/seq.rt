@@ -9,7 +9,7 @@ use std::hash::{Hash, Hasher};
 use std::marker::Model;
 
 /// A list over a `Vec`, which contracts see as the list of its items.
-#[derive(Debug)]
+
 pub struct Seq<T> {
     items: Vec<T>,
 }
