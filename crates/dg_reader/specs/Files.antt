@@ -5,7 +5,7 @@ use Rattle.object_values.specs.declared.graph.GraphFault.{GraphFault}
 use Rattle.meaning_texts.specs.Limits.{graph_limit}
 use Rattle.meaning_graph_text.specs.Tokens.{Tokens, is_past_gap}
 use Rattle.meaning_graph_text.specs.Grammar.{graph_tokens, HasSpelling, GraphText}
-use Rattle.meaning_graph_text.specs.Places.{IsSyntaxFault, BeginsOnLine}
+use Rattle.meaning_graph_text.specs.Places.{IsSyntaxFault, BeginsOnLine, line_behind, column_behind}
 use Rattle.meaning_graph_text.specs.Checks.{Checked, FirstFault}
 use Rattle.dg_reader.specs.declared.read.GraphFile.{GraphFile}
 use Rattle.dg_reader.specs.declared.fault.ReadFault.{ReadFault}
@@ -51,3 +51,7 @@ Refuses text TooLong = graph_limit < length text
 Refuses text (Syntax line column) = (length text ≤ graph_limit) × IsSyntaxFault text line column
 Refuses text (Check line fault) = (length text ≤ graph_limit) × IsCheckFault text line fault
 Refuses text Memory = ⊤
+
+-- the syntax fault at a place, from 0
+abbrev pub syntax_at : List ℕ → ℕ → ReadFault
+syntax_at text place = let front = take place text in Syntax (line_behind front) (column_behind front)

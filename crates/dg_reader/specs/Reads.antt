@@ -12,8 +12,9 @@ use Rattle.meaning_texts.specs.Classes.{IsId, IsWord, IsStringText}
 use Rattle.meaning_texts.specs.Limits.{graph_limit}
 use Rattle.meaning_graph_text.specs.Tokens.{word, semicolon, comma, Tokens, is_past_gap}
 use Rattle.meaning_graph_text.specs.Grammar.{id_tokens, optional_tokens, part_tokens, kind_tokens, string_tokens, extra_tokens, closure_tokens, decl_tokens, IsSpellablePart, IsSpellableKind, IsSpellableExtra, IsSpellableTool, IsSpellableDecl, HasNoSupers, IsInGrammar}
-use Rattle.meaning_graph_text.specs.Going.{Class, keyword, identifier, any_string, Stage, kind, supers, parts, ending, strings, extras, expect, start, step_at}
-use Rattle.dg_reader.specs.Walks.{Takes, IsNotAt, HasNone, Leads}
+use Rattle.meaning_graph_text.specs.Going.{Class, keyword, any_word, identifier, open_mark, any_string, Stage, kind, supers, parts, ending, strings, extras, expect, start, step_at}
+use Rattle.dg_reader.specs.Walks.{Takes, IsNotAt, HasNone, Leads, Halts}
+use Rattle.dg_reader.specs.declared.cursor.Stop.{Stop}
 
 -- ---- lists
 
@@ -126,3 +127,43 @@ pub record ReadsDecl (d : Decl) (text rest : List ℕ) : Type 0 where
   pub grammar : IsInGrammar d
   pub tokens : Tokens text (decl_tokens d ++ semicolon ∷ []) rest
   pub past : IsTrue (is_past_gap rest)
+
+-- a plain maker of this sort, from its keyword on
+abbrev pub PlainBehind : Make → Decl → List ℕ → List ℕ → Type 0
+PlainBehind make d text rest = (first : List ℕ) → plain_keyword make ≡ Some first → HeadBehind first d text rest
+
+-- the words with which kinds begin
+abbrev pub simple_word : List ℕ
+simple_word = codes "simple"
+
+abbrev pub list_word : List ℕ
+list_word = codes "list"
+
+abbrev pub compound_word : List ℕ
+compound_word = codes "compound"
+
+-- ---- where readings stop
+
+-- `ID`, `WORD ID`, `of ID`, and `ID ID` without an opening mark and with one
+abbrev pub an_id : List Class
+an_id = identifier ∷ []
+
+abbrev pub word_and_id : List Class
+word_and_id = any_word ∷ an_id
+
+abbrev pub of_an_id : List Class
+of_an_id = keyword (codes "of") ∷ identifier ∷ []
+
+abbrev pub a_part : List Class
+a_part = identifier ∷ identifier ∷ []
+
+abbrev pub opened_part : List Class
+opened_part = open_mark ∷ a_part
+
+-- among identifiers, wherever these stand
+abbrev pub HaltsInIds : List ℕ → List ℕ → Stop → Type 0
+HaltsInIds text place stop = (stage : Stage) → step_at stage comma ≡ Some (expect (identifier ∷ []) stage) → Halts stop (expect (identifier ∷ []) stage) text place
+
+-- on the way of a maker, whatever is behind it
+abbrev pub HaltsInWay : List ℕ → List ℕ → Stop → Type 0
+HaltsInWay text place stop = (more : List Class) (stage : Stage) → Halts stop (expect (way_classes more) stage) text place

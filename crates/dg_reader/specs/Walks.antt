@@ -1,8 +1,8 @@
 -- How a reading goes on from token to token, and where it stops.
-use Rattle.std.specs.Prelude.{◌≡◌, ℕ, Bool, true, false, List, [], Option, Some, None, ⊤}
+use Rattle.std.specs.Prelude.{◌≡◌, ℕ, Bool, true, false, List, [], ◌∷◌, Option, Some, None, ⊤}
 use Rattle.meaning_graph_text.specs.Tokens.{Token, word, string, BeginsWith}
 use Rattle.meaning_graph_text.specs.Lexing.{past_gap}
-use Rattle.meaning_graph_text.specs.Going.{Class, identifier, any_word, any_string, name_string, accepts, Expected, start, step}
+use Rattle.meaning_graph_text.specs.Going.{Class, identifier, any_word, any_string, name_string, Stage, accepts, Expected, expect, start, step}
 use Rattle.dg_reader.specs.declared.cursor.Stop.{Stop}
 use Rattle.dg_reader.specs.declared.cursor.Stop.TheVariants.{Unexpected, Memory}
 use Rattle.dg_reader.specs.declared.cursor.Wanted.{Wanted}
@@ -43,6 +43,10 @@ token_of Word bytes = word bytes
 token_of String bytes = string bytes
 token_of NameString bytes = string bytes
 
+-- the token is of the class, and has these bytes
+abbrev pub IsOf : Wanted → List ℕ → Token → Type 0
+IsOf wanted bytes t = (t ≡ token_of wanted bytes) × (accepts (class_of wanted) t ≡ true)
+
 -- A token of the class, with these bytes, was taken.
 pub record Finds (wanted : Wanted) (bytes text rest : List ℕ) : Type 0 where
   pub accepted : accepts (class_of wanted) (token_of wanted bytes) ≡ true
@@ -68,3 +72,11 @@ Leads e text f rest = (place : List ℕ) → StopsAt f rest place → StopsAt e 
 abbrev pub Halts : Stop → Expected → List ℕ → List ℕ → Type 0
 Halts Unexpected e text place = StopsAt e text place
 Halts Memory e text place = ⊤
+
+-- the same of what stopped it
+abbrev pub HaltsAt : Expected → List ℕ → List ℕ → Stop → Type 0
+HaltsAt e text place stop = Halts stop e text place
+
+-- it stopped where a token of this class was expected, whatever was behind it
+abbrev pub HaltsBefore : Class → List ℕ → List ℕ → Stop → Type 0
+HaltsBefore class text place stop = (more : List Class) (stage : Stage) → Halts stop (expect (class ∷ more) stage) text place

@@ -1,18 +1,18 @@
 // A place in a graph file, from which tokens are taken one by one.
-ghost use Rattle.std.specs.Prelude.{◌≡◌, ◌↔◌, ◌∷◌, [], List, length, true, false, IsTrue, IfOk, IfErr, MatchOption};
+ghost use Rattle.std.specs.Prelude.{◌≡◌, ◌↔◌, [], List, length, true, false, IsTrue, IfOk, IfErr, IfSome, IfNone};
 ghost use Rattle.meaning_graph_text.specs.Lexing.{past_gap};
-ghost use Rattle.meaning_graph_text.specs.Going.{Class, Stage, accepts, expect};
+ghost use Rattle.meaning_graph_text.specs.Going.{accepts};
 ghost use Rattle.dg_tokens.specs.Seen.{seen};
-ghost use Rattle.dg_reader.specs.Walks.{Takes, Skips, MayFind, Finds, Halts, IsNotAt, class_of, token_of};
+ghost use Rattle.dg_reader.specs.Walks.{Takes, Skips, MayFind, Finds, class_of, HaltsBefore, IsOf};
 
 use dg_tokens::{Token, past_gap, token_at};
-use odin_bytes::{is_id, is_name, is_string_text};
 use object_values::{Bytes, Memory};
+use odin_bytes::{is_id, is_name, is_string_text};
 use std::alloc::Global;
 use std::marker::Model;
 
 /// Why a reading stopped. The cursor stands at the place of the unexpected token then.
-#[derive(Clone, Copy, Debug, PartialEq, Eq)]
+#[derive(Clone, Copy)]
 pub(crate) enum Stop {
     Unexpected,
     Memory,
@@ -30,7 +30,7 @@ impl From<Memory> for Stop {
 }
 
 /// What a token with bytes has to be.
-#[derive(Clone, Copy, Debug)]
+#[derive(Clone, Copy)]
 pub(crate) enum Wanted {
     Id,
     Word,
@@ -56,7 +56,8 @@ impl<'t> Model for Cursor<'t> {
 impl Wanted {
     // The bytes of a token of this class.
     fn bytes_in<'t>(self, token: Token<'t>) -> Option<&'t [u8]>
-        ensures { MatchOption result (accepts (class_of self) (seen token.entry) ≡ false) (λ bytes. (seen token.entry ≡ token_of self bytes.now) × (accepts (class_of self) (seen token.entry) ≡ true)) }
+        ensures some { IfSome result (λ bytes. IsOf self bytes.now (seen token.entry)) }
+        ensures none { IfNone result (accepts (class_of self) (seen token.entry) ≡ false) }
     {
         match self {
             Wanted::Id => token.word().filter(|bytes| is_id(bytes)),
@@ -111,7 +112,7 @@ impl<'t> Cursor<'t> {
     /// Takes this token, which has to come next.
     pub(crate) fn require(&mut self, token: Token<'_>) -> Result<(), Stop>
         ensures ok { IfOk result (λ _. Takes self.old (seen token.entry) self.new) }
-        ensures err { IfErr result (λ _. (self.new ≡ self.old) × IsNotAt (seen token.entry) self.old) }
+        ensures err { IfErr result (λ _. Skips false (seen token.entry) self.old self.new) }
     {
         if self.skip(token) {
             Ok(())
@@ -138,7 +139,7 @@ impl<'t> Cursor<'t> {
     /// The bytes of the next token, which has to be of this class, and is taken.
     pub(crate) fn take(&mut self, wanted: Wanted) -> Result<Bytes, Stop>
         ensures ok { IfOk result (λ bytes. Finds wanted bytes self.old self.new) }
-        ensures err { IfErr result (λ stop. (more : List Class) (stage : Stage) → Halts stop (expect (class_of wanted ∷ more) stage) self.old self.new) }
+        ensures err { IfErr result (HaltsBefore (class_of wanted) self.old self.new) }
     {
         match self.take_if(wanted)? {
             Some(bytes) => Ok(bytes),

@@ -2,7 +2,7 @@
 use object_values::{GraphFault, Memory};
 
 /// Why a graph file was not read, tested in this order.
-#[derive(Clone, Copy, Debug, PartialEq, Eq, PartialOrd, Ord)]
+#[derive(Clone, Copy, PartialEq, Eq)]
 pub enum ReadFault {
     /// More than 1,048,576 bytes.
     TooLong,

@@ -1,9 +1,8 @@
 // The kinds of types.
-ghost use Rattle.std.specs.Prelude.{◌∷◌, [], List, ℕ, codes, IfOk, IfErr};
-ghost use Rattle.meaning_graph_text.specs.Going.{keyword, identifier, open_mark, parts, supers, expect};
-ghost use Rattle.meaning_graph_text.specs.Going.{kind as kind_stage};
-ghost use Rattle.dg_reader.specs.Walks.{Halts};
-ghost use Rattle.dg_reader.specs.Reads.{ReadsKind, KindBehind};
+ghost use Rattle.std.specs.Prelude.{[], List, IfOk, IfErr};
+ghost use Rattle.meaning_graph_text.specs.Going.{parts, supers, expect};
+ghost use Rattle.dg_reader.specs.Walks.{HaltsAt};
+ghost use Rattle.dg_reader.specs.Reads.{ReadsKind, KindBehind, simple_word, list_word, compound_word, of_an_id, opened_part};
 
 use crate::cursor::{Cursor, Stop, Wanted};
 use dg_tokens::Token;
@@ -13,7 +12,7 @@ impl<'t> Cursor<'t> {
     /// The kind of a type, and its supertypes.
     pub(crate) fn kind(&mut self) -> Result<(Kind, Seq<Bytes>), Stop>
         ensures ok { IfOk result (λ read. ReadsKind read.0 read.1 self.old self.new) }
-        ensures err { IfErr result (λ stop. Halts stop (expect [] kind_stage) self.old self.new) }
+        ensures err { IfErr result (HaltsAt (expect [] kind_stage) self.old self.new) }
     {
         if self.skip(Token::Word(b"simple")) {
             return self.simple();
@@ -29,8 +28,8 @@ impl<'t> Cursor<'t> {
 
     // `[ "is" ID { "," ID } ]`
     fn simple(&mut self) -> Result<(Kind, Seq<Bytes>), Stop>
-        ensures ok { IfOk result (λ read. KindBehind (codes "simple") read.0 read.1 self.old self.new) }
-        ensures err { IfErr result (λ stop. Halts stop (expect [] supers) self.old self.new) }
+        ensures ok { IfOk result (λ got. KindBehind simple_word got.0 got.1 self.old self.new) }
+        ensures err { IfErr result (HaltsAt (expect [] supers) self.old self.new) }
     {
         let supers = self.supers()?;
         Ok((Kind::Simple, supers))
@@ -38,8 +37,8 @@ impl<'t> Cursor<'t> {
 
     // `"of" ID [ "is" ID { "," ID } ]`
     fn list(&mut self) -> Result<(Kind, Seq<Bytes>), Stop>
-        ensures ok { IfOk result (λ read. KindBehind (codes "list") read.0 read.1 self.old self.new) }
-        ensures err { IfErr result (λ stop. Halts stop (expect (keyword (codes "of") ∷ identifier ∷ []) supers) self.old self.new) }
+        ensures ok { IfOk result (λ got. KindBehind list_word got.0 got.1 self.old self.new) }
+        ensures err { IfErr result (HaltsAt (expect of_an_id supers) self.old self.new) }
     {
         self.require(Token::Word(b"of"))?;
         let of = self.take(Wanted::Id)?;
@@ -49,8 +48,8 @@ impl<'t> Cursor<'t> {
 
     // `"(" ID ID { "," ID ID } ")"`
     fn compound(&mut self) -> Result<(Kind, Seq<Bytes>), Stop>
-        ensures ok { IfOk result (λ read. KindBehind (codes "compound") read.0 read.1 self.old self.new) }
-        ensures err { IfErr result (λ stop. Halts stop (expect (open_mark ∷ identifier ∷ identifier ∷ []) parts) self.old self.new) }
+        ensures ok { IfOk result (λ got. KindBehind compound_word got.0 got.1 self.old self.new) }
+        ensures err { IfErr result (HaltsAt (expect opened_part parts) self.old self.new) }
     {
         self.require(Token::Opening)?;
         let parts = self.parts()?;

@@ -1,9 +1,9 @@
 // The lists in declarations.
-ghost use Rattle.std.specs.Prelude.{◌≡◌, ◌∷◌, [], List, Some, codes, IfOk, IfErr};
-ghost use Rattle.meaning_graph_text.specs.Tokens.{comma, word};
-ghost use Rattle.meaning_graph_text.specs.Going.{Stage, identifier, any_string, parts, supers, strings, extras, expect, step_at};
-ghost use Rattle.dg_reader.specs.Walks.{Halts, IsNotAt, HasNone};
-ghost use Rattle.dg_reader.specs.Reads.{ReadsIds, ReadsParts, ReadsStrings, ReadsExtras, MayReadExtra, HasNoExtra, ReadsSupers, ReadsUses, ReadsClosure};
+ghost use Rattle.std.specs.Prelude.{◌∷◌, [], Some, IfOk, IfErr};
+ghost use Rattle.meaning_graph_text.specs.Tokens.{comma};
+ghost use Rattle.meaning_graph_text.specs.Going.{any_string, parts, supers, strings, extras, expect};
+ghost use Rattle.dg_reader.specs.Walks.{IsNotAt, HasNone, HaltsAt};
+ghost use Rattle.dg_reader.specs.Reads.{ReadsIds, ReadsParts, ReadsStrings, ReadsExtras, MayReadExtra, HasNoExtra, ReadsSupers, ReadsUses, ReadsClosure, HaltsInIds, a_part};
 
 use crate::cursor::{Cursor, Stop, Wanted};
 use dg_tokens::Token;
@@ -14,7 +14,7 @@ impl<'t> Cursor<'t> {
     pub(crate) fn ids(&mut self) -> Result<Seq<Bytes>, Stop>
         ensures ok { IfOk result (λ ids. ReadsIds ids self.old self.new) }
         ensures end { IfOk result (λ _. IsNotAt comma self.new) }
-        ensures err { IfErr result (λ stop. (stage : Stage) → step_at stage comma ≡ Some (expect (identifier ∷ []) stage) → Halts stop (expect (identifier ∷ []) stage) self.old self.new) }
+        ensures err { IfErr result (HaltsInIds self.old self.new) }
     {
         let mut ids = Seq::new(self.alloc());
         let first = self.take(Wanted::Id)?;
@@ -30,7 +30,7 @@ impl<'t> Cursor<'t> {
     pub(crate) fn parts(&mut self) -> Result<Seq<PartDecl>, Stop>
         ensures ok { IfOk result (λ ps. ReadsParts ps self.old self.new) }
         ensures end { IfOk result (λ _. IsNotAt comma self.new) }
-        ensures err { IfErr result (λ stop. Halts stop (expect (identifier ∷ identifier ∷ []) parts) self.old self.new) }
+        ensures err { IfErr result (HaltsAt (expect a_part parts) self.old self.new) }
     {
         let mut parts = Seq::new(self.alloc());
         let first = self.part()?;
@@ -44,7 +44,7 @@ impl<'t> Cursor<'t> {
 
     fn part(&mut self) -> Result<PartDecl, Stop>
         ensures ok { IfOk result (λ part. ReadsParts (part ∷ []) self.old self.new) }
-        ensures err { IfErr result (λ stop. Halts stop (expect (identifier ∷ identifier ∷ []) parts) self.old self.new) }
+        ensures err { IfErr result (HaltsAt (expect a_part parts) self.old self.new) }
     {
         let name = self.take(Wanted::Id)?;
         let of = self.take(Wanted::Id)?;
@@ -55,7 +55,7 @@ impl<'t> Cursor<'t> {
     pub(crate) fn strings(&mut self) -> Result<Seq<Bytes>, Stop>
         ensures ok { IfOk result (λ words. ReadsStrings words self.old self.new) }
         ensures end { IfOk result (λ _. HasNone any_string self.new) }
-        ensures err { IfErr result (λ stop. Halts stop (expect (any_string ∷ []) strings) self.old self.new) }
+        ensures err { IfErr result (HaltsAt (expect (any_string ∷ []) strings) self.old self.new) }
     {
         let mut strings = Seq::new(self.alloc());
         let first = self.take(Wanted::String)?;
@@ -70,7 +70,7 @@ impl<'t> Cursor<'t> {
     pub(crate) fn extras(&mut self) -> Result<Seq<Extra>, Stop>
         ensures ok { IfOk result (λ es. ReadsExtras es self.old self.new) }
         ensures end { IfOk result (λ _. HasNoExtra self.new) }
-        ensures err { IfErr result (λ stop. Halts stop (expect [] extras) self.old self.new) }
+        ensures err { IfErr result (HaltsAt (expect [] extras) self.old self.new) }
     {
         let mut extras = Seq::new(self.alloc());
         'extras: while let Some(extra) = self.extra()? {
@@ -82,7 +82,7 @@ impl<'t> Cursor<'t> {
     // The next extra, where one comes next.
     fn extra(&mut self) -> Result<Option<Extra>, Stop>
         ensures ok { IfOk result (λ found. MayReadExtra found self.old self.new) }
-        ensures err { IfErr result (λ stop. Halts stop (expect [] extras) self.old self.new) }
+        ensures err { IfErr result (HaltsAt (expect [] extras) self.old self.new) }
     {
         if self.skip(Token::Word(b"also")) {
             return Ok(Some(Extra::Also(self.take(Wanted::Id)?)));
@@ -96,7 +96,7 @@ impl<'t> Cursor<'t> {
     /// `[ "is" ID { "," ID } ]`
     pub(crate) fn supers(&mut self) -> Result<Seq<Bytes>, Stop>
         ensures ok { IfOk result (λ ids. ReadsSupers ids self.old self.new) }
-        ensures err { IfErr result (λ stop. Halts stop (expect [] supers) self.old self.new) }
+        ensures err { IfErr result (HaltsAt (expect [] supers) self.old self.new) }
     {
         if self.skip(Token::Word(b"is")) {
             self.ids()
@@ -108,7 +108,7 @@ impl<'t> Cursor<'t> {
     /// `[ "uses" ID { "," ID } ]`
     pub(crate) fn uses(&mut self) -> Result<Seq<Bytes>, Stop>
         ensures ok { IfOk result (λ ids. ReadsUses ids self.old self.new) }
-        ensures err { IfErr result (λ stop. Halts stop (expect [] strings) self.old self.new) }
+        ensures err { IfErr result (HaltsAt (expect [] strings) self.old self.new) }
     {
         if self.skip(Token::Word(b"uses")) {
             self.ids()
@@ -120,7 +120,7 @@ impl<'t> Cursor<'t> {
     /// `[ "closure" ID ]`
     pub(crate) fn closure(&mut self) -> Result<Option<Bytes>, Stop>
         ensures ok { IfOk result (λ id. ReadsClosure id self.old self.new) }
-        ensures err { IfErr result (λ stop. Halts stop (expect [] extras) self.old self.new) }
+        ensures err { IfErr result (HaltsAt (expect [] extras) self.old self.new) }
     {
         if self.skip(Token::Word(b"closure")) {
             Ok(Some(self.take(Wanted::Id)?))

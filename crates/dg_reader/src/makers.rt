@@ -1,9 +1,8 @@
 // Makers.
-ghost use Rattle.std.specs.Prelude.{◌≡◌, ◌∷◌, [], List, ℕ, Some, codes, IfOk, IfErr};
-ghost use Rattle.meaning_graph_text.specs.Going.{Class, Stage, any_string, ending, strings, tool_front, expect};
-ghost use Rattle.meaning_graph_text.specs.Going.{way as way_front};
-ghost use Rattle.dg_reader.specs.Walks.{Halts};
-ghost use Rattle.dg_reader.specs.Reads.{ReadsWay, way_classes, ReadsTool, HeadBehind, plain_keyword};
+ghost use Rattle.std.specs.Prelude.{◌≡◌, ◌∷◌, [], codes, IfOk, IfErr};
+ghost use Rattle.meaning_graph_text.specs.Going.{any_string, ending, strings, tool_front, expect};
+ghost use Rattle.dg_reader.specs.Walks.{HaltsAt};
+ghost use Rattle.dg_reader.specs.Reads.{ReadsWay, ReadsTool, HeadBehind, HaltsInWay, PlainBehind};
 
 use crate::cursor::{Cursor, Stop, Wanted};
 use dg_tokens::Token;
@@ -13,7 +12,7 @@ impl<'t> Cursor<'t> {
     /// What stands behind `"tool"`.
     pub(crate) fn tool(&mut self) -> Result<Decl, Stop>
         ensures ok { IfOk result (λ decl. HeadBehind (codes "tool") decl self.old self.new) }
-        ensures err { IfErr result (λ stop. Halts stop (expect tool_front strings) self.old self.new) }
+        ensures err { IfErr result (HaltsAt (expect tool_front strings) self.old self.new) }
     {
         let name = self.take(Wanted::Id)?;
         let version = self.take(Wanted::Word)?;
@@ -32,7 +31,7 @@ impl<'t> Cursor<'t> {
     fn options(&mut self, version: Bytes) -> Result<ToolDecl, Stop>
         ensures version { IfOk result (λ tool. tool.version ≡ version) }
         ensures ok { IfOk result (λ tool. ReadsTool tool self.old self.new) }
-        ensures err { IfErr result (λ stop. Halts stop (expect (any_string ∷ []) strings) self.old self.new) }
+        ensures err { IfErr result (HaltsAt (expect (any_string ∷ []) strings) self.old self.new) }
     {
         let words = self.strings()?;
         let uses = self.uses()?;
@@ -49,8 +48,8 @@ impl<'t> Cursor<'t> {
 
     /// What stands behind `"read"`, `"each"` or `"pack"`.
     pub(crate) fn plain(&mut self, make: Make) -> Result<Decl, Stop>
-        ensures ok { IfOk result (λ decl. (first : List ℕ) → plain_keyword make ≡ Some first → HeadBehind first decl self.old self.new) }
-        ensures err { IfErr result (λ stop. Halts stop (expect way_front ending) self.old self.new) }
+        ensures ok { IfOk result (λ decl. PlainBehind make decl self.old self.new) }
+        ensures err { IfErr result (HaltsAt (expect way_front ending) self.old self.new) }
     {
         let name = self.take(Wanted::Id)?;
         let (from, to) = self.way()?;
@@ -65,7 +64,7 @@ impl<'t> Cursor<'t> {
     // `"from" ID "to" ID`
     fn way(&mut self) -> Result<(Bytes, Bytes), Stop>
         ensures ok { IfOk result (λ way. ReadsWay way.0 way.1 self.old self.new) }
-        ensures err { IfErr result (λ stop. (more : List Class) (stage : Stage) → Halts stop (expect (way_classes more) stage) self.old self.new) }
+        ensures err { IfErr result (HaltsInWay self.old self.new) }
     {
         self.require(Token::Word(b"from"))?;
         let from = self.take(Wanted::Id)?;

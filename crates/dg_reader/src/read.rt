@@ -1,27 +1,40 @@
 // A graph file, read and checked.
-ghost use Rattle.std.specs.Prelude.{◌≡◌, ◌≤◌, ◌<◌, ◌-◌, [], ℕ, length, take, slice_index, IfOk, IfErr};
+ghost use Rattle.std.specs.Prelude.{◌≡◌, ◌≤◌, ◌<◌, ◌-◌, [], length, take, IfOk, IfErr};
 ghost use Rattle.meaning_texts.specs.Limits.{graph_limit};
 ghost use Rattle.meaning_graph_text.specs.Places.{line_behind, column_behind, BeginsOnLine};
-ghost use Rattle.dg_reader.specs.Files.{AreRead, IsFile, IsRead, Refuses};
+ghost use Rattle.dg_reader.specs.Files.{AreRead, IsFile, IsRead, Refuses, syntax_at};
 
 use crate::cursor::{Cursor, Stop};
 use crate::fault::ReadFault;
 use dg_tokens::{column_behind, line_behind};
-use object_values::{Decl, GraphFault, Seq};
+use object_values::{Decl, GRAPH_LIMIT, GraphFault, Seq};
 use std::alloc::Global;
 use type_graph::{CheckFault, Graph};
 
-// The most bytes of a graph file.
-const GRAPH_LIMIT: usize = 1_048_576;
-
 /// The graph of a graph file, with the places where its declarations begin.
-#[derive(Debug, Drop)]
 pub struct GraphFile {
     pub graph: Graph,
     starts: Seq<usize>,
 }
 
+impl Drop for GraphFile {
+    fn drop(self) {
+        let GraphFile { graph, starts } = self;
+        drop(graph);
+        drop(starts);
+    }
+}
+
 impl GraphFile {
+    /// The graph alone.
+    pub fn into_graph(self) -> Graph
+        ensures { result ≡ self.graph }
+    {
+        let GraphFile { graph, starts } = self;
+        drop(starts);
+        graph
+    }
+
     /// The line, from 1, where the declaration of a number, from 1, begins in the text that was read.
     pub fn line_of(&self, text: &[u8], number: usize) -> u32
         requires read { IsFile text.now self.now }
@@ -59,7 +72,7 @@ pub fn read_graph(alloc: Global, text: &[u8]) -> Result<Graph, ReadFault>
     ensures ok { IfOk result (IsRead text.now) }
     ensures err { IfErr result (Refuses text.now) }
 {
-    let graph = read_graph_file(alloc, text)?.graph;
+    let graph = read_graph_file(alloc, text)?.into_graph();
     graph.checked();
     Ok(graph)
 }
@@ -97,7 +110,7 @@ fn read_decls(alloc: Global, text: &[u8]) -> Result<Declared, ReadFault>
 fn syntax_fault(text: &[u8], place: usize) -> ReadFault
     requires within { place ≤ length text.now }
     requires short { length text.now ≤ graph_limit }
-    ensures { result ≡ ReadFault.Syntax (line_behind (take place text.now)) (column_behind (take place text.now)) }
+    ensures { result ≡ syntax_at text.now place }
 {
     let front = &text[..place];
     ReadFault::Syntax(line_behind(front) as u32, column_behind(front) as u32)

@@ -1,9 +1,8 @@
 // The canonical spelling of a graph.
-ghost use Rattle.std.specs.Prelude.{◌≡◌, ◌++◌, ◌∷◌, [], true, IfOk, OnOk};
-ghost use Rattle.meaning_graph_text.specs.Tokens.{word, semicolon};
+ghost use Rattle.std.specs.Prelude.{◌≡◌, ◌++◌, true, IfOk, OnOk};
 ghost use Rattle.meaning_graph_text.specs.Grammar.{kind_tokens, closure_tokens, way_tokens, tool_tokens, decl_tokens, IsSpellable, GraphText};
-ghost use Rattle.meaning_graph_text.specs.Spelling.{tokens_spelling, graph_spelling};
-ghost use Rattle.dg_reader.specs.Written.{Writes};
+ghost use Rattle.meaning_graph_text.specs.Spelling.{graph_spelling};
+ghost use Rattle.dg_reader.specs.Written.{Writes, type_tokens, front_tokens, line_spelling};
 
 use crate::writer::Writer;
 use dg_tokens::Token;
@@ -32,7 +31,7 @@ impl Writer {
     // A declaration on a line of its own.
     fn line(&mut self, decl: &Decl) -> Result<(), Memory>
         requires { self.old.glued ≡ true }
-        ensures out { OnOk result (self.new.out ≡ self.old.out ++ tokens_spelling (decl_tokens decl.now ++ semicolon ∷ [])) }
+        ensures out { OnOk result (self.new.out ≡ self.old.out ++ line_spelling decl.now) }
         ensures glued { OnOk result (self.new.glued ≡ true) }
     {
         self.decl(decl)?;
@@ -54,7 +53,7 @@ impl Writer {
     }
 
     fn type_decl(&mut self, declared: &TypeDecl) -> Result<(), Memory>
-        ensures { OnOk result (Writes (decl_tokens (Decl.ObjectType declared.now)) self.old self.new) }
+        ensures { OnOk result (Writes (type_tokens declared.now) self.old self.new) }
     {
         self.word(b"type")?;
         self.word(declared.name.as_slice())?;
@@ -111,7 +110,7 @@ impl Writer {
     }
 
     fn plain(&mut self, keyword: &[u8], maker: &MakerDecl) -> Result<(), Memory>
-        ensures { OnOk result (Writes (word keyword.now ∷ word maker.now.name ∷ way_tokens maker.now) self.old self.new) }
+        ensures { OnOk result (Writes (front_tokens keyword.now maker.now) self.old self.new) }
     {
         self.word(keyword)?;
         self.word(maker.name.as_slice())?;

@@ -1,6 +1,6 @@
 // Tokens, written one behind the other.
-ghost use Rattle.std.specs.Prelude.{◌≡◌, ◌++◌, ◌∷◌, [], codes, OnOk};
-ghost use Rattle.meaning_graph_text.specs.Tokens.{word, string, comma};
+ghost use Rattle.std.specs.Prelude.{◌≡◌, ◌++◌, ◌∷◌, [], OnOk};
+ghost use Rattle.meaning_graph_text.specs.Tokens.{word, string};
 ghost use Rattle.meaning_graph_text.specs.Grammar.{id_tokens, optional_tokens, part_tokens, string_tokens, extra_tokens};
 ghost use Rattle.meaning_graph_text.specs.Spelling.{token_spelling, follows_close};
 ghost use Rattle.dg_tokens.specs.Seen.{seen};
@@ -77,7 +77,7 @@ impl Writer {
     }
 
     fn part(&mut self, part: &PartDecl) -> Result<(), Memory>
-        ensures { OnOk result (Writes (word part.now.name ∷ word part.now.of ∷ []) self.old self.new) }
+        ensures { OnOk result (Writes (part_tokens (part.now ∷ [])) self.old self.new) }
     {
         self.word(part.name.as_slice())?;
         self.word(part.of.as_slice())

@@ -1,8 +1,8 @@
 -- A token that borrows from a text, as the token that it is.
-use Rattle.std.specs.Prelude.{ℕ, List, Option, Some, None, if◌then◌else◌}
+use Rattle.std.specs.Prelude.{ℕ, List, ◌∷◌, Option, Some, None, if◌then◌else◌}
 use Rattle.meaning_texts.specs.Tests.{is_name}
 use Rattle.meaning_graph_text.specs.Tokens.{Token, word, string, semicolon, comma, opening, closing}
-use Rattle.meaning_graph_text.specs.Lexing.{Taken, taken, name_front, past_names}
+use Rattle.meaning_graph_text.specs.Lexing.{Taken, taken, token_at, name_front, past_names}
 use Rattle.dg_tokens.specs.declared.lexer.Token.{Token as Borrowed}
 use Rattle.dg_tokens.specs.declared.lexer.Token.TheVariants.{Word, String, Semicolon, Comma, Opening, Closing}
 
@@ -26,3 +26,7 @@ string_in other = None
 -- the longest word with which a text begins, and what follows it
 abbrev pub word_of : List ℕ → Option Taken
 word_of text = if is_name (name_front text) then Some (taken (word (name_front text)) (past_names text)) else None
+
+-- the string whose first quote stands before the text
+abbrev pub string_of : List ℕ → Option Taken
+string_of text = token_at (34 ∷ text)

@@ -1,8 +1,8 @@
 // Tokens, each read from the front of a text.
-ghost use Rattle.std.specs.Prelude.{◌≡◌, ◌↔◌, ◌≤◌, ◌∷◌, length, take, drop, not, position, false, true, IsTrue, option_map};
+ghost use Rattle.std.specs.Prelude.{◌≡◌, ◌↔◌, ◌≤◌, length, take, drop, not, position, false, true, IsTrue, option_map};
 ghost use Rattle.meaning_texts.specs.Classes.{is_name_byte};
 ghost use Rattle.meaning_graph_text.specs.Lexing.{token_at, past_gap, name_front, past_names, taken};
-ghost use Rattle.dg_tokens.specs.Seen.{seen, word_in, string_in, word_of};
+ghost use Rattle.dg_tokens.specs.Seen.{seen, word_in, string_in, word_of, string_of};
 
 use memchr::memchr;
 use odin_bytes::{is_name, is_name_byte, is_string_text};
@@ -90,7 +90,7 @@ pub fn past_gap(text: &[u8]) -> &[u8]
 
 // The string whose first quote stands before the text.
 fn string_at(text: &[u8]) -> Option<(Token<'_>, &[u8])>
-    ensures { option_map (λ read. taken (seen read.0) read.1.now) result ≡ token_at (34 ∷ text.now) }
+    ensures { option_map (λ read. taken (seen read.0) read.1.now) result ≡ string_of text.now }
 {
     let end = memchr(b'"', text)?;
     let inner = &text[..end];

@@ -1,5 +1,6 @@
 -- Words and lines, cut from a text.
-use Rattle.std.specs.Prelude.{◌≡◌, ℕ, List, ◌∷◌, ◌++◌}
+use Rattle.std.specs.Prelude.{◌≡◌, ℕ, List, ◌∷◌, ◌++◌, Option, Some, None}
+use Rattle.meaning_texts.specs.Classes.{IsName}
 use Rattle.meaning_texts.specs.Lists.{HasNo}
 use Rattle.meaning_texts.specs.Lines.{cut_lines}
 
@@ -11,3 +12,8 @@ IsCutAt byte text before behind = (text ≡ before ++ byte ∷ behind) × HasNo 
 abbrev pub IsFirstLine : List ℕ → List ℕ → List ℕ → Type 0
 IsFirstLine text line behind =
     let rest = cut_lines behind in cut_lines text ≡ record { full = line ∷ rest.full; last = rest.last }
+
+-- the name that a word is, where it is one
+abbrev pub MayName : List ℕ → Option (List ℕ) → Type 0
+MayName word None = ¬ IsName word
+MayName word (Some name) = (name ≡ word) × IsName name

@@ -1,8 +1,7 @@
 // Words, cut from a line.
-ghost use Rattle.std.specs.Prelude.{◌≡◌, IfOk, MatchOption};
+ghost use Rattle.std.specs.Prelude.{IfOk, IfSome, IfNone};
 ghost use Rattle.meaning_texts.specs.Lists.{HasNo};
-ghost use Rattle.meaning_texts.specs.Classes.{IsName};
-ghost use Rattle.odin_bytes.specs.Words.{IsCutAt};
+ghost use Rattle.odin_bytes.specs.Words.{IsCutAt, MayName};
 
 use crate::names::{Name, NameFault};
 use memchr::memchr;
@@ -11,7 +10,8 @@ use std::alloc::Global;
 
 /// What stands before the first such byte, and what stands behind it.
 pub fn cut_at(byte: u8, text: &[u8]) -> Option<(&[u8], &[u8])>
-    ensures { MatchOption result (HasNo byte text.now) (λ parts. IsCutAt byte text.now parts.0.now parts.1.now) }
+    ensures some { IfSome result (λ cut. IsCutAt byte text.now cut.0.now cut.1.now) }
+    ensures none { IfNone result (HasNo byte text.now) }
 {
     match memchr(byte, text) {
         Some(at) => Some((&text[..at], &text[at + 1..])),
@@ -21,7 +21,7 @@ pub fn cut_at(byte: u8, text: &[u8]) -> Option<(&[u8], &[u8])>
 
 /// The name that a word is, if it is one.
 pub fn read_name(alloc: Global, word: &[u8]) -> Result<Option<Name>, Memory>
-    ensures { IfOk result (λ name. MatchOption name (¬ IsName word.now) (λ name. (name ≡ word.now) × IsName name)) }
+    ensures { IfOk result (MayName word.now) }
 {
     match Name::read(alloc, word) {
         Ok(name) => Ok(Some(name)),

@@ -22,6 +22,10 @@ pub record IsNear (g : Graph) (to level : ℕ) (near : List (Option ℕ)) : Type
   pub bounded : (a n : ℕ) → near_at near a ≡ Some n → n ≤ level
   pub complete : (a : ℕ) (path : List ℕ) → a < length (types g) → Path g a to path → length path ≤ level → (n : ℕ) × (near_at near a ≡ Some n)
 
+-- Distances up to a level become those up to the next one, to whatever type they are.
+abbrev pub Widens : Graph → ℕ → List (Option ℕ) → List (Option ℕ) → Type 0
+Widens g level old new = (to : ℕ) → IsNear g to level old → IsNear g to (level + 1) new
+
 -- So many makers are looked at on the way to the next level: the types that they take have distances, where what they make is at the level.
 pub record IsBetween (g : Graph) (to level i : ℕ) (near : List (Option ℕ)) : Type 0 where
   pub sized : length near ≡ length (types g)

@@ -4,7 +4,7 @@ ghost use Rattle.std.specs.List.{list_any};
 ghost use Rattle.std.specs.Option.{option_eq, option_or};
 ghost use Rattle.meaning_graph.specs.Graphs.{types};
 ghost use Rattle.path_planner.specs.Ends.{ends_in, AreTypes};
-ghost use Rattle.path_planner.specs.Near.{near_at, distance_if, IsNear, IsBetween, IsAllNear};
+ghost use Rattle.path_planner.specs.Near.{near_at, distance_if, Widens, IsBetween, IsAllNear};
 
 use crate::route::Ends;
 use object_values::{Memory, Seq};
@@ -46,7 +46,7 @@ fn widen(near: &mut [Option<usize>], graph: &Graph, makers: &[Ends], level: usiz
     requires made { makers.now ≡ ends_in graph.now }
     requires sized { length near.old ≡ length (types graph.now) }
     requires level { level < length (types graph.now) }
-    ensures { (to : ℕ) → IsNear graph.now to level near.old → IsNear graph.now to (level + 1) near.new }
+    ensures { Widens graph.now level near.old near.new }
 {
     for maker in makers {
         widen_by(near, graph, *maker, level);

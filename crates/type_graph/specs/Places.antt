@@ -1,5 +1,5 @@
 -- Names with the places where they first stand.
-use Rattle.std.specs.Prelude.{◌≡◌, ℕ, Bool, List, [], ◌∷◌, ◌++◌, Option, Some, None, cond, bytes_eq, position, is_some}
+use Rattle.std.specs.Prelude.{◌≡◌, ℕ, Bool, List, [], ◌∷◌, ◌++◌, Option, Some, None, cond, bytes_eq, position, is_some, take}
 use Rattle.std.specs.List.{list_any}
 use Rattle.meaning_graph.specs.Graphs.{Text}
 
@@ -22,3 +22,7 @@ AreOf pairs names = (name : Text) → place_of pairs name ≡ position (λ n. by
 -- the name is one of these
 abbrev pub stands_in : Text → List Text → Bool
 stands_in name names = list_any (λ n. bytes_eq n name) names
+
+-- the answer says whether the name is one of the first so many names, whatever list the places are of
+abbrev pub StandsBefore : Places → Text → ℕ → Bool → Type 0
+StandsBefore places name count answer = (names : List Text) → AreOf places names → answer ≡ stands_in name (take count names)

@@ -61,6 +61,9 @@ pub record IsContext (g : Graph) (spaces : Spaces) (kinds : Kinds) : Type 0 wher
 
 -- ---- the rules of kinds, rule by rule
 
+abbrev pub fits_named : Graph → List Bool → Text → Bool
+fits_named g row name = fits_by row (shape_named g name)
+
 abbrev pub supers_fit : Graph → Kind → List Text → Bool
 supers_fit g k supers = list_all (super_fits g k) supers
 

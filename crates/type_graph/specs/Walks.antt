@@ -17,6 +17,10 @@ unmarked (false ∷ marked) = 1 + unmarked marked
 abbrev pub AreBelow : ℕ → List ℕ → Type 0
 AreBelow limit numbers = (number : ℕ) → IsIn number numbers → number < limit
 
+-- each list has numbers of lists alone
+abbrev pub AreAllBelow : List (List ℕ) → Type 0
+AreAllBelow lists = (number : ℕ) → AreBelow (length lists) (slice_index_or lists number [])
+
 -- What a walk has marked, and what it has yet to look at.
 pub record Seen : Type 0 where
   pub marked : List Bool

@@ -4,7 +4,7 @@ ghost use Rattle.std.specs.List.{list_all};
 ghost use Rattle.std.specs.Option.{option_to_list};
 ghost use Rattle.meaning_graph.specs.Graphs.{type_named};
 ghost use Rattle.meaning_graph_text.specs.Checks.{is_simple, is_list, is_compound, keeps_kind, keeps_rules};
-ghost use Rattle.type_graph.specs.Shapes.{shape_named, fits_by, supers_fit, keeps_type, maker_keeps, IsRowAbove};
+ghost use Rattle.type_graph.specs.Shapes.{fits_named, supers_fit, keeps_type, maker_keeps, IsRowAbove};
 
 use crate::context::{Context, Shape};
 use object_values::{Bytes, Decl, Kind, Make, MakerDecl, Memory, PartDecl, Seq, TypeDecl};
@@ -100,13 +100,13 @@ impl<'a> Context<'a> {
     }
 
     fn all_fit(&self, above: &[bool], supers: &[Bytes]) -> bool
-        ensures { result ≡ list_all (λ name. fits_by above.now (shape_named self.now name)) supers.now }
+        ensures { result ≡ list_all (fits_named self.now above.now) supers.now }
     {
         supers.iter().all(|name| self.list_fits(above, name))
     }
 
     fn list_fits(&self, above: &[bool], name: &Bytes) -> bool
-        ensures { result ≡ fits_by above.now (shape_named self.now name.now) }
+        ensures { result ≡ fits_named self.now above.now name.now }
     {
         match self.shape(name) {
             Some(Shape::List(Some(elements))) => match above.get(elements) {

@@ -1,7 +1,6 @@
 // Names and the places where they first stand.
-ghost use Rattle.std.specs.Prelude.{◌≡◌, [], List, OnOk, take};
-ghost use Rattle.meaning_graph.specs.Graphs.{Text};
-ghost use Rattle.type_graph.specs.Places.{place_of, with_place, stands_in, AreOf};
+ghost use Rattle.std.specs.Prelude.{◌≡◌, [], OnOk};
+ghost use Rattle.type_graph.specs.Places.{place_of, with_place, StandsBefore};
 
 use indexmap::IndexMap;
 use object_values::{Bytes, Memory};
@@ -58,7 +57,7 @@ impl Names {
 
     /// Whether the name stands before a place in the list that the names are of.
     pub(crate) fn stands_before(&self, name: &[u8], place: usize) -> bool
-        ensures { (names : List Text) → AreOf self.now names → result ≡ stands_in name.now (take place names) }
+        ensures { StandsBefore self.now name.now place result }
     {
         match self.place(name) {
             Some(first) => first < place,

@@ -1,6 +1,6 @@
 // Walks from types to their supertypes.
-ghost use Rattle.std.specs.Prelude.{◌≡◌, ℕ, [], OnOk, IfOk, length, slice_index_or};
-ghost use Rattle.type_graph.specs.Walks.{AreBelow, Marks, IsRowReached, seen};
+ghost use Rattle.std.specs.Prelude.{◌≡◌, OnOk, IfOk, length};
+ghost use Rattle.type_graph.specs.Walks.{AreBelow, AreAllBelow, Marks, IsRowReached, seen};
 
 use object_values::{Memory, Seq};
 use std::alloc::Global;
@@ -51,7 +51,7 @@ pub(crate) fn reached(
     starts: &[usize],
 ) -> Result<Seq<bool>, Memory>
     requires starts { AreBelow (length supers.now) starts.now }
-    requires supers { (number : ℕ) → AreBelow (length supers.now) (slice_index_or supers.now number []) }
+    requires supers { AreAllBelow supers.now }
     ensures { IfOk result (IsRowReached supers.now starts.now) }
 {
     let mut walk = Walk {

@@ -5,8 +5,8 @@ use Rattle.meaning_texts.proofs.Lemmas.{HasNo-places, HasNo-take}
 use Rattle.odin_bytes.proofs.CutLemmas.{cut_there}
 use Rattle.odin_bytes.proofs.words.cut_at.Goals as goal
 
-pub returns-in-Some : goal.returns-in-Some
-returns-in-Some c =
+pub returns-in-Some-clause-some : goal.returns-in-Some-clause-some
+returns-in-Some-clause-some c =
     let found = rw c.in-Some.is at c.memchr.ensures in
     let here : c.in-Some.at < length c.args.text.now = found.0.high in
     let there : get_or c.args.text.now c.in-Some.at 0 ≡ c.args.byte = (Decides-eqb _ c.args.byte).0 found.1 in
@@ -15,7 +15,7 @@ returns-in-Some c =
       HasNo-take c.args.byte c.args.text.now c.in-Some.at (λ k lt in_text e. found.0.before k (omega arith) lt ((Decides-eqb _ c.args.byte).1 e)),
     )
 
-pub returns-in-None : goal.returns-in-None
-returns-in-None c =
+pub returns-in-None-clause-none : goal.returns-in-None-clause-none
+returns-in-None-clause-none c =
     let none = rw c.in-None.is at c.memchr.ensures in
     HasNo-places c.args.byte c.args.text.now (λ k lt e. none k (omega arith) lt ((Decides-eqb _ c.args.byte).1 e))
