@@ -13,7 +13,7 @@ use Rattle.object_values.specs.declared.jobs.Job.{Job}
 use Rattle.meaning_texts.specs.Classes.{is_name_byte, is_value_byte, IsId}
 use Rattle.meaning_texts.specs.Expressions.{IsParamOfClass}
 use Rattle.meaning_texts.specs.Lines.{HasNoLf, LineCut, cut_lines}
-use Rattle.meaning_texts.proofs.Cuts.{cut_full}
+use Rattle.meaning_texts.proofs.Lemmas.{cut_full}
 use Rattle.meaning_calls.specs.Jobs.{IsLabel, IsPartOfClass, IsWellFormed, tool_line, param_line, part_line, part_lines, part_file, out_line, call_lines, call_text, body_files, job_of}
 use Rattle.meaning_calls.proofs.Lines.{lacks, word_lacks, id_lacks, decimal_lacks, no_lf_from, SameParts, cut_at, SameLists, cut_kind}
 use Rattle.meaning_calls.proofs.Parts.{one_params, one_outs, one_parts, file_lacks, first_body}

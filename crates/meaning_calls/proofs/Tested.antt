@@ -15,12 +15,12 @@ use Rattle.object_values.specs.declared.calls.Call.{Call}
 use Rattle.object_values.specs.declared.calls.Outcome.{Outcome}
 use Rattle.meaning_texts.specs.Classes.{is_name_byte, IsId}
 use Rattle.meaning_texts.specs.Limits.{body_limit}
-use Rattle.meaning_texts.specs.Tests.{is_name, is_id, is_param_value}
+use Rattle.meaning_texts.specs.Tests.{is_name, is_id, is_param_value, is_param_of_class}
 use Rattle.meaning_texts.specs.Expressions.{IsParamOfClass}
-use Rattle.meaning_texts.proofs.Words.{word_decides, id_decides, value_decides}
+use Rattle.meaning_texts.proofs.Lemmas.{word_decides, id_decides, value_decides}
 use Rattle.meaning_calls.specs.Jobs.{IsLabel, IsPartOfClass, IsWellFormed}
-use Rattle.meaning_calls.specs.Outcomes.{Fits}
-use Rattle.meaning_calls.specs.Tests.{is_label, is_short_or_none, is_part_of_class, is_param_of_class, is_well_formed, has_none, outputs_fit, outcome_fits}
+use Rattle.meaning_calls.specs.Outcomes.{OutcomeFits}
+use Rattle.meaning_calls.specs.Tests.{is_label, is_short_or_none, is_part_of_class, is_well_formed, has_none, outputs_fit, outcome_fits}
 
 all_decides : {X : Type 0} (p : X → Bool) (P : X → Type 0) → ((x : X) → Decides (p x) (P x)) → (xs : List X) → Decides (list_all p xs) (All P xs)
 all_decides p P each xs = Decides-by_and p P (list_all p) each refl (λ x ys. refl) xs
@@ -69,7 +69,7 @@ outputs_decide outs Warning outputs = names_decide outs Warning outputs (λ e. c
 outputs_decide outs Error outputs = names_decide outs Error outputs (λ e. cc)
 outputs_decide outs Abort outputs = let d : Decides (has_none outputs) (outputs ≡ []) = none_decides outputs in (λ e. inl (refl, d.0 e), λ f. elim f [ inl h ↦ d.1 h.1 | inr h ↦ absurd (h.0 refl) ])
 
-pub fits_decides : (call : Call) (outcome : Outcome) → Decides (outcome_fits call outcome) (Fits call outcome)
+pub fits_decides : (call : Call) (outcome : Outcome) → Decides (outcome_fits call outcome) (OutcomeFits call outcome)
 unfolding outcome_fits
 fits_decides call outcome = Decides-like (outcome_fits call outcome) (λ h. record { outputs = h.0; short = h.1 }) (λ r. (r.outputs, r.short))
     (Decides-and (outputs_fit call.outs outcome.status outcome.outputs) (list_all (λ (p : Part). nat_le (length p.body) body_limit) outcome.outputs) (outputs_decide call.outs outcome.status outcome.outputs)

@@ -23,8 +23,8 @@ use Rattle.meaning_texts.specs.Expressions.{IsParamOfClass, step_spelling}
 use Rattle.meaning_texts.specs.Limits.{body_limit, height_limit}
 use Rattle.meaning_calls.specs.Jobs.{IsLabel, IsPartOfClass, IsWellFormed}
 use Rattle.meaning_graph.specs.Graphs.{Text, Graph, makers, text_type, kind_of, kind_named}
-use Rattle.meaning_graph.specs.Members.{IsIn}
-use Rattle.meaning_graph.proofs.Members.{in_either, in_map, from_map, from_flat, from_filter, in_all, all_in, same_some}
+use Rattle.meaning_texts.specs.Lists.{IsIn}
+use Rattle.meaning_texts.proofs.Lemmas.{in_either, in_map, from_map, from_flat, from_filter, in_all, all_in, same_some}
 use Rattle.meaning_graph_text.specs.Grammar.{IsSpellable, IsSpellableDecl, IsSpellableMake, IsSpellableTool, IsSpellableKind, AreSpellableParts, IsSpellablePart}
 use Rattle.meaning_graph_text.specs.Checks.{Checked}
 use Rattle.meaning_nodes.specs.Nodes.{source_node, base_of, reached_type, IsStepOfClass, Fits}

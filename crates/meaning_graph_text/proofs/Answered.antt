@@ -38,7 +38,7 @@ stops_at rest left tokens u k never t other b f =
     let whole : tokens ++ u ∷ f.0 ≡ graph_tokens f.1 = ap (λ x. tokens ++ x ∷ f.0) (sym same) ∙ sym (append_assoc tokens (t ∷ []) f.0) ∙ f.3 in
     never f.1 f.0 f.2 whole
 
-no_graph_at : (text rest left : List ℕ) (tokens : List Token) (u : Token) → Tokens text tokens rest → is_past_gap rest ≡ true → token_at rest ≡ Some (taken u left) → ((decls : List Decl) (more : List Token) → HasSpelling decls → tokens ++ u ∷ more ≡ graph_tokens decls → ⊥)
+pub no_graph_at : (text rest left : List ℕ) (tokens : List Token) (u : Token) → Tokens text tokens rest → is_past_gap rest ≡ true → token_at rest ≡ Some (taken u left) → ((decls : List Decl) (more : List Token) → HasSpelling decls → tokens ++ u ∷ more ≡ graph_tokens decls → ⊥)
     → (decls : List Decl) → GraphText text decls → ⊥
 no_graph_at text rest left tokens u d p k never decls g = elim (compared text tokens (graph_tokens decls) rest [] d g.tokens p refl) [
   | inl h ↦ let e : ◌≡◌ {A = Option Taken} None (Some (taken u left)) = subst (λ x. token_at x ≡ Some (taken u left)) h.left k in let n : ⊥ = cc in absurd n
@@ -52,7 +52,7 @@ no_graph_at text rest left tokens u d p k never decls g = elim (compared text to
 stops_without : (rest : List ℕ) (tokens : List Token) → token_at rest ≡ None → (t : Token) (other : List ℕ) → BeginsWith rest t other → IsFrontOfGraph (tokens ++ t ∷ []) → ⊥
 stops_without rest tokens k t other b f = let e : ◌≡◌ {A = Option Taken} None (Some (taken t other)) = sym k ∙ begins_told rest t other b in cc
 
-no_graph_without : (text rest : List ℕ) (tokens : List Token) → Tokens text tokens rest → is_past_gap rest ≡ true → token_at rest ≡ None → (rest ≡ [] → (decls : List Decl) → HasSpelling decls → tokens ≡ graph_tokens decls → ⊥) → (decls : List Decl) → GraphText text decls → ⊥
+pub no_graph_without : (text rest : List ℕ) (tokens : List Token) → Tokens text tokens rest → is_past_gap rest ≡ true → token_at rest ≡ None → (rest ≡ [] → (decls : List Decl) → HasSpelling decls → tokens ≡ graph_tokens decls → ⊥) → (decls : List Decl) → GraphText text decls → ⊥
 no_graph_without text rest tokens d p k never decls g = elim (compared text tokens (graph_tokens decls) rest [] d g.tokens p refl) [
   | inl h ↦ never h.left decls g.spelled h.tokens
   | inr h ↦ elim h [

@@ -7,7 +7,7 @@ use Rattle.std.proofs.lemmas.List.Elements.{All-nil, All-cons}
 use Rattle.meaning_texts.specs.Classes.{is_name_byte}
 use Rattle.meaning_texts.specs.Tests.{is_name, is_string_text}
 use Rattle.meaning_texts.specs.Lines.{HasNoLf}
-use Rattle.meaning_texts.proofs.Words.{word_decides, string_decides}
+use Rattle.meaning_texts.proofs.Lemmas.{word_decides, string_decides}
 use Rattle.meaning_graph_text.specs.Tokens.{Token, word, string, semicolon, comma, opening, closing, is_blank, begins_with, is_line_end, BeginsWith, a_word, a_string, a_semicolon, a_comma, an_opening, a_closing, Tokens, no_more, blank, comment, one}
 use Rattle.meaning_graph_text.specs.Lexing.{past_gap, name_front, past_names, before_quote, behind_quote, Taken, taken, token_at}
 

@@ -10,13 +10,13 @@ use Rattle.object_values.specs.declared.expressions.ExprStep.TheVariants.{To, Pi
 use Rattle.object_values.specs.declared.expressions.Expression.{Expression}
 use Rattle.meaning_texts.specs.Expressions.{IsCanonical, IsStepOfClass as IsExprStepOfClass}
 use Rattle.meaning_graph.specs.Graphs.{Text, Graph, type_named}
-use Rattle.meaning_graph.specs.Members.{IsIn}
+use Rattle.meaning_texts.specs.Lists.{IsIn}
 use Rattle.meaning_graph.specs.Suffixes.{source_type}
 use Rattle.meaning_graph.specs.Types.{IsA, is_a}
 use Rattle.meaning_graph.specs.Paths.{Makes, Path, Chosen, HasNoPath, made_of, chosen_path}
-use Rattle.meaning_graph.proofs.Members.{in_either, in_left, from_map, in_all, all_in, cond_true, same_some}
-use Rattle.meaning_graph.proofs.Types.{so_is_a}
-use Rattle.meaning_graph.proofs.Paths.{path_chosen}
+use Rattle.meaning_texts.proofs.Lemmas.{in_either, in_left, from_map, in_all, all_in, same_some}
+use Rattle.std.proofs.lemmas.Bool.{cond-true}
+use Rattle.meaning_graph.proofs.Lemmas.{so_is_a, path_chosen}
 use Rattle.meaning_nodes.specs.Nodes.{before_last, last_step, base_of, stepped, extended, step_type, type_after, reached_type, onward, onward_named, IsStepOfClass, Fits}
 use Rattle.meaning_nodes.specs.NodeOf.{NodeAnswer, is_node, unknown_param, unknown_type, no_path, node_or_no_path, toward, step_on, steps_on, unknown_in, of_known, node_of}
 use Rattle.meaning_nodes.specs.Laws.{IsLedTo}
@@ -36,7 +36,7 @@ step_makes : (g : Graph) (a k to : ℕ) → Makes g a k to → step_type g a (Ma
 step_makes g a k to m =
     ap (option_and_then (made_of g a)) m.numbered
     ∙ ap (option_and_then (λ taken. cond (is_a g a taken) (type_named g m.maker.to) None)) m.takes
-    ∙ cond_true (is_a g a m.taken) (type_named g m.maker.to) None (so_is_a g a m.taken m.fits) ∙ m.makes
+    ∙ cond-true (is_a g a m.taken) (type_named g m.maker.to) None (so_is_a g a m.taken m.fits) ∙ m.makes
 
 -- the type at the end of a path
 path_type : (g : Graph) (p : List ℕ) (a b : ℕ) → Path g a b p → (c : ℕ) × (type_after g (Some a) (map Maker p) ≡ Some c) × IsA g c b

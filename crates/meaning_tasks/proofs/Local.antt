@@ -9,8 +9,9 @@ use Rattle.object_values.specs.declared.views.Value.{Value}
 use Rattle.object_values.specs.declared.views.Value.TheVariants.{Simple, List as Listed, Compound}
 use Rattle.object_values.specs.declared.calls.Outcome.{Outcome}
 use Rattle.meaning_graph.specs.Graphs.{Text, Graph}
-use Rattle.meaning_graph.specs.Members.{IsIn}
-use Rattle.meaning_graph.proofs.Members.{in_left, in_right, in_map, in_flat, both_true, passes_or_fails, cond_false}
+use Rattle.meaning_texts.specs.Lists.{IsIn}
+use Rattle.meaning_texts.proofs.Lemmas.{in_left, in_right, in_map, in_flat}
+use Rattle.std.proofs.lemmas.Bool.{and_parts, cases_Bool, cond-false}
 use Rattle.meaning_nodes.specs.Nodes.{source_node}
 use Rattle.meaning_nodes.specs.Labels.{label_of}
 use Rattle.meaning_nodes.specs.Values.{Picked, element, body, pick}
@@ -94,9 +95,9 @@ module _ (known other : Known) where
 
   -- the scan node of a reached name that has a value is among the needs
   scan_agrees : (t : ToolTask) (names : List Text) (x : Text) → ToolAgrees t names → IsIn x names → IsValued (known (source_node x)) → AgreeOn known other (option_to_list (t.scan x))
-  scan_agrees t names x p h v n k = elim (passes_or_fails (bytes_eq x t.root)) [
+  scan_agrees t names x p h v n k = elim (cases_Bool (bytes_eq x t.root)) [
     | inl e ↦ p.root n (subst (λ z. IsIn n (option_to_list (t.scan z))) ((bytes_decides x t.root).0 e) k)
-    | inr e ↦ p.scans n (in_flat (scan_needs t known) x n names h (subst (λ l. IsIn n l) (sym (cond_false (bytes_eq x t.root) [] _ e)) (in_where (known (source_node x)) n (option_to_list (t.scan x)) v k)))
+    | inr e ↦ p.scans n (in_flat (scan_needs t known) x n names h (subst (λ l. IsIn n l) (sym (cond-false (bytes_eq x t.root) [] _ e)) (in_where (known (source_node x)) n (option_to_list (t.scan x)) v k)))
   ]
 
   -- ---- needs
@@ -192,7 +193,7 @@ module _ (known other : Known) where
       let whole : all_valued known ranked ≡ all_valued other (ranked_needs (tooled t) other names) = valued_local ranked (λ n h. a n (in_left n ranked _ h)) ∙ ap (all_valued other) (ranked_local (tooled t) names a) in
       same_cond (none_of (missing_extras t.extras) && all_valued known ranked) (Some (tool_call g t known names)) (Some (tool_call g t other names)) None
       (λ e.
-      let v : IsValued (known t.base) = (both_true (has_value (known t.base)) _ (both_true (none_of (missing_extras t.extras)) _ e).1).0 in
+      let v : IsValued (known t.base) = (and_parts (has_value (known t.base)) _ (and_parts (none_of (missing_extras t.extras)) _ e).1).0 in
       ap (λ parts. Some (record { tool = t.name; version = t.tool.version; words = t.tool.words; params = t.params; parts = parts; outs = t.outs })) (same_call_parts g t names (tool_agrees t names a v)))
       ∙ ap (λ b. cond (none_of (missing_extras t.extras) && b) (Some (tool_call g t other names)) None) whole
 

@@ -10,12 +10,11 @@ use Rattle.object_values.specs.declared.expressions.Lines.TheVariants.{These, To
 use Rattle.meaning_texts.specs.Expressions.{IsCanonical, name_cmp}
 use Rattle.meaning_texts.specs.Limits.{reference_limit}
 use Rattle.meaning_texts.specs.Reading.{single, put_sorted, sorted, kept_params, expression_of}
-use Rattle.meaning_texts.specs.Lines.{is_passed_over, read_line, read_lines, references, lines_of}
-use Rattle.meaning_texts.proofs.Canonical.{canonical}
-use Rattle.meaning_texts.proofs.Readings.{is_read}
+use Rattle.meaning_texts.specs.References.{is_passed_over, read_line, read_lines, references}
+use Rattle.meaning_texts.specs.Lines.{lines_of}
+use Rattle.meaning_texts.proofs.Lemmas.{canonical, is_read, from_filter}
 use Rattle.meaning_graph.specs.Graphs.{Text}
-use Rattle.meaning_graph.specs.Members.{IsIn}
-use Rattle.meaning_graph.proofs.Members.{from_filter}
+use Rattle.meaning_texts.specs.Lists.{IsIn}
 
 -- ---- parameters
 

@@ -8,7 +8,7 @@ use Rattle.object_values.specs.declared.views.View.{View}
 use Rattle.object_values.specs.declared.graph.Kind.{Kind}
 use Rattle.object_values.specs.declared.graph.Kind.TheVariants.{Simple as SimpleKind, List as ListKind, Compound as CompoundKind}
 use Rattle.meaning_graph.specs.Graphs.{Text, Graph, type_named, kind_of}
-use Rattle.meaning_graph.specs.Members.{IsIn}
+use Rattle.meaning_texts.specs.Lists.{IsIn}
 use Rattle.meaning_graph.specs.Types.{IsA}
 use Rattle.meaning_nodes.specs.Nodes.{Fits, reached_type}
 use Rattle.meaning_tasks.specs.Needs.{Results}

@@ -4,9 +4,9 @@ use Rattle.object_values.specs.declared.nodes.Node.{Node}
 use Rattle.object_values.specs.declared.views.Value.{Value}
 use Rattle.object_values.specs.declared.views.Value.TheVariants.{Simple, List as Listed, Compound}
 use Rattle.object_values.specs.declared.views.View.{View}
-use Rattle.meaning_texts.specs.Lines.{scanned_names}
+use Rattle.meaning_texts.specs.References.{scanned_names}
 use Rattle.meaning_graph.specs.Graphs.{Text, Graph}
-use Rattle.meaning_graph.specs.Members.{IsIn}
+use Rattle.meaning_texts.specs.Lists.{IsIn}
 use Rattle.meaning_nodes.specs.Nodes.{source_node}
 use Rattle.meaning_nodes.specs.Values.{Picked, element, body, pick}
 use Rattle.meaning_tasks.specs.Reached.{AreReached}

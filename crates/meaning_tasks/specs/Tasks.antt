@@ -24,7 +24,7 @@ use Rattle.object_values.specs.declared.graph.Make.{Make}
 use Rattle.object_values.specs.declared.graph.Make.TheVariants.{Tool, Read, Each, Pack}
 use Rattle.object_values.specs.declared.graph.MakerDecl.{MakerDecl}
 use Rattle.meaning_texts.specs.Reading.{kept_params}
-use Rattle.meaning_texts.specs.Lines.{references}
+use Rattle.meaning_texts.specs.References.{references}
 use Rattle.meaning_graph.specs.Graphs.{Text, Graph, makers, kind_named}
 use Rattle.meaning_nodes.specs.Nodes.{source_node, base_of, last_step, onward_named}
 use Rattle.meaning_nodes.specs.Labels.{label_of, abort_message, no_path as no_path_to, too_many_references, at_line}

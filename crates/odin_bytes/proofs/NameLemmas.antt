@@ -2,7 +2,8 @@
 use Rattle.std.proofs.Common.{◌≡◌, ℕ, zero, suc, ◌<◌, ◌≤◌, Bool, false, not, List, [], ◌∷◌, length, None, position, IsTrue, get_or, ◌==◌, arith}
 use Rattle.std.specs.List.{position_or_len}
 use Rattle.std.proofs.lemmas.Bool.Decides.{nat_tests}
-use Rattle.meaning_texts.specs.Classes.{word_limit, is_name_byte, IsName}
+use Rattle.meaning_texts.specs.Limits.{word_limit}
+use Rattle.meaning_texts.specs.Classes.{is_name_byte, IsName}
 
 -- each byte passes where no place is found of one that fails
 pub passed : (test : ℕ → Bool) (text : List ℕ) (k default : ℕ) → length text ≤ position_or_len (λ b. not (test b)) text → k < length text → IsTrue (test (get_or text k default))

@@ -1,6 +1,7 @@
 -- What is wrong with a text that is no name.
 use Rattle.std.specs.Prelude.{◌≡◌, ℕ, ◌<◌, ◌≤◌, not, List, [], length, Some, position}
-use Rattle.meaning_texts.specs.Classes.{word_limit, is_name_byte, IsName}
+use Rattle.meaning_texts.specs.Limits.{word_limit}
+use Rattle.meaning_texts.specs.Classes.{is_name_byte, IsName}
 use Rattle.odin_bytes.specs.declared.names.NameFault.{NameFault}
 use Rattle.odin_bytes.specs.declared.names.NameFault.TheVariants.{Empty, TooLong, BadByte, Memory}
 

@@ -4,7 +4,7 @@ use Rattle.std.proofs.lemmas.List.{take-append-drop}
 use Rattle.std.proofs.lemmas.List.Elements.{All-nil, All-cons, All-from_get_or}
 use Rattle.std.proofs.Math.Seq.{drop-cons}
 use Rattle.meaning_texts.specs.Lines.{HasNoLf, cut_lines}
-use Rattle.meaning_texts.proofs.Cuts.{cut_line, cut_last}
+use Rattle.meaning_texts.proofs.Lemmas.{cut_line, cut_last}
 
 abbrev no_lf : ℕ → Type 0
 no_lf b = b ≢ 10

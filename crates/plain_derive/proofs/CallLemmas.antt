@@ -10,8 +10,8 @@ use Rattle.odin_outside.specs.Causes.{last_count}
 use Rattle.odin_outside.specs.Spawned.{Table, Spawned}
 use Rattle.meaning_texts.specs.Limits.{height_limit}
 use Rattle.meaning_graph.specs.Graphs.{Graph}
-use Rattle.meaning_graph.specs.Members.{IsIn}
-use Rattle.meaning_graph.proofs.Members.{in_either}
+use Rattle.meaning_texts.specs.Lists.{IsIn}
+use Rattle.meaning_texts.proofs.Lemmas.{in_either}
 use Rattle.meaning_nodes.specs.Nodes.{Fits, base_of}
 use Rattle.meaning_tasks.specs.Needs.{Results}
 use Rattle.meaning_tasks.specs.Calls.{CallOf}
@@ -19,7 +19,7 @@ use Rattle.meaning_derive.specs.Derive.{Sources, Outcomes, derive, derived}
 use Rattle.meaning_derive.specs.Given.{table_outcomes}
 use Rattle.meaning_derive.specs.Chains.{IsNeed, LeadsOn, Chain, IsMet}
 use Rattle.meaning_derive.specs.Calls.{IsCallFrom}
-use Rattle.meaning_derive.proofs.Steps.{grows_to}
+use Rattle.meaning_derive.proofs.Lemmas.{grows_to}
 use Rattle.plain_derive.specs.Built.{IsBuiltGraph}
 use Rattle.plain_derive.specs.Seen.{only}
 use Rattle.plain_derive.specs.Deriving.{HasNoElements}

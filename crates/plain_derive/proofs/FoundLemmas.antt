@@ -17,7 +17,7 @@ use Rattle.meaning_derive.specs.Derive.{Sources, text_of, Outcomes, outcome_for,
 use Rattle.meaning_derive.specs.Given.{table_outcomes}
 use Rattle.meaning_derive.specs.Chains.{IsDeep}
 use Rattle.meaning_derive.specs.Derive.{derived}
-use Rattle.meaning_derive.proofs.Steps.{grows_to}
+use Rattle.meaning_derive.proofs.Lemmas.{grows_to}
 use Rattle.plain_derive.specs.declared.found.Found.TheVariants.{Answer, Deep}
 use Rattle.plain_derive.specs.Built.{IsBuiltGraph}
 use Rattle.plain_derive.specs.Seen.{AreSeen, only}

@@ -1,6 +1,6 @@
 // One call, run while nothing else runs.
 ghost use Rattle.std.specs.Prelude.{◌≡◌, ◌≢◌, ◌≤◌, [], Some, IfOk, OnErr};
-ghost use Rattle.meaning_calls.specs.Outcomes.{Fits};
+ghost use Rattle.meaning_calls.specs.Outcomes.{OutcomeFits};
 ghost use Rattle.meaning_derive.specs.Derive.{outcome_for};
 ghost use Rattle.meaning_derive.specs.Given.{table_outcomes};
 ghost use Rattle.odin_outside.specs.declared.events.ToolEvent.TheVariants.{Ended};
@@ -18,7 +18,7 @@ use tool_calls::{job_of, outcome_of};
 // Runs the tool of a call to its end.
 fn run_call<S: Spawner>(alloc: Global, call: &Call, tools: &mut S) -> Result<Outcome, PlainFault>
     requires { (S.told tools.old).running ≡ [] }
-    ensures fits { IfOk result (Fits call.now) }
+    ensures fits { IfOk result (OutcomeFits call.now) }
     ensures outcome { IfOk result (λ outcome. (table : Table) → (S.told tools.old).answer ≡ Some table → table_outcomes table call.now ≡ Some outcome) }
     ensures idle { result ≢ Err PlainFault.Memory → (S.told tools.new).running ≡ [] }
     ensures answer { (S.told tools.new).answer ≡ (S.told tools.old).answer }

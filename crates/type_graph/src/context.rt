@@ -1,7 +1,7 @@
 // What the tests of declarations look up: names, and the types by their numbers.
 ghost use Rattle.std.specs.Prelude.{◌≡◌, ◌<◌, ℕ, IfOk, length, filter_map, option_map, slice_index_or, false, bytes_eq, take};
 ghost use Rattle.std.specs.List.{list_any};
-ghost use Rattle.meaning_graph.specs.Members.{IsIn};
+ghost use Rattle.meaning_texts.specs.Lists.{IsIn};
 ghost use Rattle.meaning_graph.specs.Graphs.{types, params, type_named, has_param, kind_named};
 ghost use Rattle.meaning_graph.specs.Types.{is_a};
 ghost use Rattle.meaning_graph_text.specs.Checks.{is_known};

@@ -1,6 +1,6 @@
 // Walks from types to their supertypes.
 ghost use Rattle.std.specs.Prelude.{◌≡◌, ◌<◌, ◌↔◌, ℕ, [], IsTrue, OnOk, IfOk, false, length, slice_index_or};
-ghost use Rattle.meaning_graph.specs.Members.{IsIn};
+ghost use Rattle.meaning_texts.specs.Lists.{IsIn};
 ghost use Rattle.type_graph.specs.Walks.{Marks, IsReached};
 
 use object_values::{Memory, Seq};

@@ -3,7 +3,7 @@ use Rattle.std.proofs.Common.{sym, subst}
 use Rattle.std.specs.Prelude.{MatchOption}
 use Rattle.std.proofs.lemmas.Result.{IfOk-weaker}
 use Rattle.meaning_graph.specs.Paths.{Chosen, HasNoPath}
-use Rattle.meaning_graph.proofs.Paths.{path_chosen}
+use Rattle.meaning_graph.proofs.Lemmas.{path_chosen}
 use Rattle.path_planner.specs.Near.{IsAllNear}
 use Rattle.path_planner.proofs.plans.Plans.plan.Goals as goal
 
