@@ -59,7 +59,7 @@ lines_no_lf call w = All-cons HasNoLf (codes "odin 1") (tool_line call ∷ behin
 -- the text tells the lines
 lines_told : (a b : Call) → IsWellFormed a → IsWellFormed b → call_text a ≡ call_text b → call_lines a ≡ call_lines b
 lines_told a b v w e =
-    let whole : (c : Call) → IsWellFormed c → cut_lines (call_text c) ≡ record { full = call_lines c; last = [] } = λ c u. ap cut_lines (sym (append-nil (call_text c))) ∙ cut_full (call_lines c) [] (lines_no_lf c u) (All-nil (λ b. b ≢ 10)) in
+    let whole : (c : Call) → IsWellFormed c → cut_lines (call_text c) ≡ record { full = call_lines c; last = [] } = λ c u. ap cut_lines (sym (append-nil (call_text c))) ∙ cut_full (call_lines c) [] (lines_no_lf c u) tt in
     let x = whole a v in
     let y = whole b w in
     let z : ◌≡◌ {A = LineCut} (record { full = call_lines a; last = [] }) (record { full = call_lines b; last = [] }) = sym x ∙ ap cut_lines e ∙ y in
