@@ -30,7 +30,7 @@ use Rattle.meaning_texts.specs.Limits.{body_limit}
 use Rattle.meaning_texts.specs.References.{references}
 use Rattle.meaning_calls.specs.Outcomes.{OutcomeFits as OutcomeFits}
 use Rattle.meaning_graph.specs.Graphs.{Text, Graph, type_named, kind_of, kind_named}
-use Rattle.meaning_texts.specs.Lists.{IsIn}
+use Rattle.meaning_texts.specs.Lists.{is_empty, IsIn}
 use Rattle.meaning_graph.specs.Suffixes.{source_type}
 use Rattle.meaning_texts.proofs.Lemmas.{in_either, in_map, from_chosen, in_all, all_in, in_all_pass, same_some, value_of_some}
 use Rattle.std.proofs.lemmas.Bool.{and_parts, or_cases}
@@ -41,7 +41,7 @@ use Rattle.meaning_nodes.specs.Values.{element, body, pick}
 use Rattle.meaning_nodes.specs.NodeOf.{NodeAnswer, is_node, unknown_param, unknown_type, no_path, node_of}
 use Rattle.meaning_tasks.specs.Tasks.{Own, Task, tooled, ToolTask, PackPart, listed_unless, unless_node, with_params_of, answer_node, line_node, lines_own, read_own, each_own, element_name, parts_of, is_compound, outs_of, pack_part, pack_missing, tool_task, make_task, task_of}
 use Rattle.meaning_tasks.specs.Needs.{Known, has_value, elements_of, part_nodes, ranked_needs}
-use Rattle.meaning_tasks.specs.Calls.{text_in, none_of, missing_extras, all_valued, call_of, tool_call}
+use Rattle.meaning_tasks.specs.Calls.{text_in, missing_extras, all_valued, call_of, tool_call}
 use Rattle.meaning_tasks.specs.Settle.{Texts, given_own, element_own, pick_own, picked_own, mapped_own, named_body, part_body, packed_own, first_body, made_value, at_status, outcome_own, own_of}
 use Rattle.meaning_tasks.specs.Maps.{IsElementOf, IsOfKind}
 use Rattle.meaning_nodes.proofs.Lemmas.{HasBase, made_fits, onward_named_fits}
@@ -281,7 +281,7 @@ module _ (g : Graph) (checked : Checked g) where
     if_called false x y e = cc
 
     call_outs : (t : ToolTask) (names : List Text) (call : Call) → call_of g (tooled t) known names ≡ Some call → t.outs ≡ call.outs
-    call_outs t names call e = ap (λ (c : Call). c.outs) (if_called (none_of (missing_extras t.extras) && all_valued known (ranked_needs (tooled t) known names)) (tool_call g t known names) call e)
+    call_outs t names call e = ap (λ (c : Call). c.outs) (if_called (is_empty (missing_extras t.extras) && all_valued known (ranked_needs (tooled t) known names)) (tool_call g t known names) call e)
 
     first_short : (outputs : List Part) → ((p : Part) → IsIn p outputs → length p.body ≤ body_limit) → length (first_body outputs) ≤ body_limit
     first_short [] h = omega arith

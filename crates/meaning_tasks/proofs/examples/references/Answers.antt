@@ -14,4 +14,4 @@ use Rattle.meaning_tasks.proofs.examples.references.Goals as goal
 
 pub returns : goal.returns
 unfolding digits expression_of kept_params references scanned_names lines_of source_type is_a chosen_path reached_type node_of task_of reached_names
-returns c = record { each_line = refl; bad_reference = refl; other_faults = refl; own_parameters = refl; further = refl; no_way = refl }
+returns c = record { each_line = refl; bad = refl; others = refl }

@@ -10,8 +10,8 @@ use Rattle.meaning_nodes.specs.Nodes.{reached_type}
 use Rattle.meaning_nodes.specs.NodeOf.{node_of}
 use Rattle.meaning_tasks.specs.Tasks.{task_of}
 use Rattle.meaning_tasks.specs.Reached.{reached_names}
-use Rattle.meaning_tasks.proofs.examples.calls.Goals as goal
+use Rattle.meaning_tasks.proofs.examples.whole_call.Goals as goal
 
 pub returns : goal.returns
 unfolding digits expression_of kept_params references scanned_names lines_of source_type is_a chosen_path reached_type node_of task_of reached_names
-returns c = record { absent_header = refl; extras = refl; compound = refl; scan_aborted = refl; extra_aborted = refl; packed = refl }
+returns c = record { call = refl }
