@@ -19,7 +19,7 @@ use Rattle.meaning_graph_text.specs.Going.{Class, keyword, identifier, any_word,
 use Rattle.dg_reader.specs.declared.cursor.Wanted.TheVariants.{Id, Word}
 use Rattle.dg_reader.specs.Walks.{Takes, HasNone, Finds, Leads}
 use Rattle.dg_reader.specs.Reads.{ReadsParts, ReadsStrings, ReadsExtras, HasNoExtra, ReadsSupers, ReadsUses, ReadsClosure, ReadsWay, way_classes, ReadsKind, ReadsTool, ReadsHead, HeadBehind, KindBehind, plain_keyword, ReadsDecl}
-use Rattle.meaning_graph_text.proofs.Readings.{tokens_append, tokens_short}
+use Rattle.meaning_graph_text.proofs.Lemmas.{tokens_append, tokens_short}
 use Rattle.dg_reader.proofs.TokenLemmas.{takes_cons, takes_one, tokens_snoc, takes_shorter, takes_past}
 use Rattle.dg_reader.proofs.WalkLemmas.{leads_step, leads_class, leads_found, leads_keyword}
 use Rattle.dg_reader.proofs.ListLemmas.{id_found, word_found}

@@ -9,12 +9,8 @@ use Rattle.meaning_graph_text.specs.Lexing.{Taken, token_at}
 use Rattle.meaning_graph_text.specs.Grammar.{graph_tokens, HasSpelling, GraphText}
 use Rattle.meaning_graph_text.specs.Places.{line_behind, column_behind, IsFrontOfGraph, IsSyntaxFault}
 use Rattle.meaning_graph_text.specs.Going.{Expected, start, step, run, can_go_on}
-use Rattle.meaning_graph_text.proofs.Lexed.{begins_from}
-use Rattle.meaning_graph_text.proofs.Runs.{graph_run, run_append}
-use Rattle.meaning_graph_text.proofs.Fronts.{front_from_going, going_from_front}
-use Rattle.meaning_graph_text.proofs.Samples.{no_graph_at, no_graph_without}
+use Rattle.meaning_graph_text.proofs.Lemmas.{begins_from, graph_run, run_append, front_from_going, going_from_front, no_graph_at, no_graph_without, tokens_append, tokens_short, past_is_past}
 use Rattle.dg_reader.specs.Walks.{StopsAt, here, behind}
-use Rattle.meaning_graph_text.proofs.Readings.{tokens_append, tokens_short, past_is_past}
 use Rattle.dg_reader.proofs.TokenLemmas.{takes_cons}
 
 -- ---- what stands before the rest of a reading

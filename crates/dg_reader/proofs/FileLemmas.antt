@@ -15,10 +15,9 @@ use Rattle.meaning_graph_text.specs.Lexing.{past_gap}
 use Rattle.meaning_graph_text.specs.Grammar.{decl_tokens, graph_tokens, HasSpelling, IsSpellableDecl, IsInGrammar, GraphText}
 use Rattle.meaning_graph_text.specs.Places.{line_behind}
 use Rattle.meaning_graph_text.specs.Checks.{FirstFault}
-use Rattle.meaning_graph_text.proofs.Lexed.{gap_read}
+use Rattle.meaning_graph_text.proofs.Lemmas.{gap_read, tokens_append, tokens_short, past_is_past}
 use Rattle.dg_reader.specs.Reads.{ReadsDecl}
 use Rattle.dg_reader.specs.Files.{BeginsAt, AreRead, IsCheckFault}
-use Rattle.meaning_graph_text.proofs.Readings.{tokens_append, tokens_short, past_is_past}
 use Rattle.dg_reader.proofs.FaultLemmas.{rest_at}
 
 -- ---- one by one

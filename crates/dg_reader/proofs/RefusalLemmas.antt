@@ -9,10 +9,8 @@ use Rattle.meaning_texts.specs.Limits.{graph_limit}
 use Rattle.meaning_graph_text.specs.Grammar.{GraphText}
 use Rattle.meaning_graph_text.specs.Places.{line_behind, column_behind, BeginsOnLine, IsSyntaxFault}
 use Rattle.meaning_graph_text.specs.Checks.{HasFault, Checked, FirstFault, FaultAt, first_fault}
-use Rattle.meaning_graph_text.proofs.Faults.{one_graph, one_fault, one_line, each_begins}
-use Rattle.meaning_graph_text.proofs.Firsts.{OneFault, first_or_checked, one_first}
+use Rattle.meaning_graph_text.proofs.Lemmas.{one_graph, one_fault, one_line, each_begins, OneFault, first_or_checked, one_first, answered}
 use Rattle.meaning_graph_text.specs.Stopping.{syntax_stop, front_of}
-use Rattle.meaning_graph_text.proofs.Answered.{answered}
 use Rattle.dg_reader.specs.declared.fault.ReadFault.{ReadFault}
 use Rattle.dg_reader.specs.declared.fault.ReadFault.TheVariants.{TooLong, Syntax, Check, Memory}
 use Rattle.dg_reader.specs.Files.{IsRead, IsCheckFault, Refuses}

@@ -5,9 +5,7 @@ use Rattle.std.proofs.lemmas.Bool.{cases_Bool, or_from, not_from_false}
 use Rattle.meaning_graph_text.specs.Tokens.{Token, is_blank, BeginsWith, a_word, a_string, a_semicolon, a_comma, an_opening, a_closing, Tokens, no_more, blank, comment, one, is_past_gap}
 use Rattle.meaning_graph_text.specs.Lexing.{past_gap, Taken, taken, token_at}
 use Rattle.meaning_graph_text.specs.Going.{Class, accepts}
-use Rattle.meaning_graph_text.proofs.Tokens.{begins_told}
-use Rattle.meaning_graph_text.proofs.Lexed.{begins_from, gap_read}
-use Rattle.meaning_graph_text.proofs.Readings.{tokens_append, past_is_past, gap_shorter, begins_shorter}
+use Rattle.meaning_graph_text.proofs.Lemmas.{begins_told, begins_from, gap_read, tokens_append, past_is_past, gap_shorter, begins_shorter}
 use Rattle.dg_reader.specs.declared.cursor.Wanted.{Wanted}
 use Rattle.dg_reader.specs.Walks.{Takes, IsNotAt, HasNone, class_of, token_of, Finds}
 

@@ -7,13 +7,12 @@ use Rattle.object_values.specs.declared.expressions.Expression.{Expression}
 use Rattle.meaning_texts.specs.Expressions.{ExpressionText, IsFaultPlace}
 use Rattle.meaning_texts.specs.Fronts.{fault_place}
 use Rattle.meaning_texts.specs.Reading.{expression_of}
-use Rattle.meaning_texts.proofs.Found.{found}
+use Rattle.meaning_texts.proofs.Lemmas.{found, value_of_some}
 use Rattle.meaning_graph.specs.Graphs.{Text, Graph}
-use Rattle.meaning_graph.proofs.Members.{value_of_some}
 use Rattle.meaning_nodes.specs.NodeOf.{NodeAnswer, is_node, unknown_param, unknown_type, no_path, node_of}
 use Rattle.meaning_derive.specs.Derive.{Sources, Outcomes, derived, IsFounded}
 use Rattle.meaning_derive.specs.Chains.{IsRefusal}
-use Rattle.meaning_derive.proofs.Founded.{founded_or_chained}
+use Rattle.meaning_derive.proofs.Lemmas.{founded_or_chained}
 use Rattle.meaning_answers.specs.Replies.{object_reply, refused_expression, refused_param, refused_type, refused_path, refused_circular, refused_deep, plan_reply}
 use Rattle.meaning_answers.specs.Answers.{Refused, expression, param, type, path, Asks, Answer, refused, object, circular, deep, Plan, refused_plan, steps}
 

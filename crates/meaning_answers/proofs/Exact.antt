@@ -4,15 +4,13 @@ use Rattle.std.specs.Prelude.{Some, None}
 use Rattle.object_values.specs.declared.nodes.Node.{Node}
 use Rattle.object_values.specs.declared.views.View.{View}
 use Rattle.meaning_graph.specs.Graphs.{Text, Graph}
-use Rattle.meaning_graph.proofs.Members.{same_some, some_is_none}
+use Rattle.meaning_texts.proofs.Lemmas.{same_some, some_is_none, no_expression, one_expression}
 use Rattle.meaning_nodes.specs.NodeOf.{is_node, unknown_param, unknown_type, no_path, node_of}
 use Rattle.meaning_derive.specs.Derive.{Sources, Outcomes, derived}
 use Rattle.meaning_derive.specs.Chains.{IsCircular, IsDeep}
-use Rattle.meaning_derive.proofs.Founded.{no_chain}
+use Rattle.meaning_derive.proofs.Lemmas.{no_chain}
 use Rattle.meaning_answers.specs.Replies.{object_reply, refused_circular, refused_deep}
 use Rattle.meaning_answers.specs.Answers.{Refused, expression, param, type, path, Asks, Answer, refused, object, circular, deep}
-use Rattle.meaning_texts.proofs.Places.{no_expression}
-use Rattle.meaning_texts.proofs.Spellings.{one_expression}
 
 -- a text of a node isn't refused
 not_refused : (g : Graph) (text reply : Text) (n : Node) → Asks g text n → Refused g text reply → ⊥

@@ -1,2 +1,3 @@
-pub mod Answers
-pub mod Exact
+mod Answers
+mod Exact
+pub mod Lemmas

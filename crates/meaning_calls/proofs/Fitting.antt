@@ -14,7 +14,7 @@ use Rattle.object_values.specs.declared.jobs.End.TheVariants.{Exit, Signal}
 use Rattle.object_values.specs.declared.jobs.Raw.{Raw}
 use Rattle.meaning_texts.specs.Limits.{body_limit}
 use Rattle.meaning_calls.specs.Jobs.{out_file}
-use Rattle.meaning_calls.specs.Outcomes.{file_in, output_fault, output_faults, output_of, ended_well, ended_badly, status_at_zero, exit_outcome, end_outcome, warnings_of, message_lines, outcome_of, Fits}
+use Rattle.meaning_calls.specs.Outcomes.{file_in, output_fault, output_faults, output_of, ended_well, ended_badly, status_at_zero, exit_outcome, end_outcome, warnings_of, message_lines, outcome_of, OutcomeFits}
 
 abbrev IsShort : Part → Type 0
 IsShort p = length p.body ≤ body_limit
@@ -41,11 +41,11 @@ names_of_outputs : (raw : Raw) (outs : List (List ℕ)) → map (λ (p : Part). 
 names_of_outputs raw [] = refl
 names_of_outputs raw (name ∷ outs) = ap (λ t. name ∷ t) (names_of_outputs raw outs)
 
-fits_well : (call : Call) (raw : Raw) (status : Status) (lines : List OwnLine) (faults : List (List ℕ)) → status ≢ Abort → output_faults raw call.outs ≡ faults → Fits call (ended_well call raw status lines faults)
+fits_well : (call : Call) (raw : Raw) (status : Status) (lines : List OwnLine) (faults : List (List ℕ)) → status ≢ Abort → output_faults raw call.outs ≡ faults → OutcomeFits call (ended_well call raw status lines faults)
 fits_well call raw status lines [] off e = record { outputs = inr (off, names_of_outputs raw call.outs); short = short_outputs raw call.outs e }
 fits_well call raw status lines (fault ∷ more) off e = record { outputs = inl (refl, refl); short = All-nil IsShort }
 
-fits_badly : (call : Call) (lines : List (List ℕ)) (how : List ℕ) → Fits call (ended_badly lines how)
+fits_badly : (call : Call) (lines : List (List ℕ)) (how : List ℕ) → OutcomeFits call (ended_badly lines how)
 fits_badly call lines how = record { outputs = inl (refl, refl); short = All-nil IsShort }
 
 not_abort_at_zero : (lines : List (List ℕ)) → status_at_zero lines ≢ Abort
@@ -55,15 +55,15 @@ not_abort_at_zero (line ∷ more) e = cc
 not_abort_error : Error ≢ Abort
 not_abort_error e = cc
 
-fits_exit : (call : Call) (raw : Raw) (lines : List (List ℕ)) (status : ℕ) → Fits call (exit_outcome call raw lines status)
+fits_exit : (call : Call) (raw : Raw) (lines : List (List ℕ)) (status : ℕ) → OutcomeFits call (exit_outcome call raw lines status)
 fits_exit call raw lines zero = fits_well call raw _ _ _ (not_abort_at_zero lines) refl
 fits_exit call raw lines (suc zero) = fits_well call raw _ _ _ not_abort_error refl
 fits_exit call raw lines (suc (suc n)) = fits_badly call lines _
 
-fits_end : (call : Call) (raw : Raw) (lines : List (List ℕ)) (end : End) → Fits call (end_outcome call raw lines end)
+fits_end : (call : Call) (raw : Raw) (lines : List (List ℕ)) (end : End) → OutcomeFits call (end_outcome call raw lines end)
 fits_end call raw lines (Exit status) = fits_exit call raw lines status
 fits_end call raw lines Signal = fits_badly call lines _
 
-pub fits : (call : Call) (raw : Raw) → Fits call (outcome_of call raw)
+pub fits : (call : Call) (raw : Raw) → OutcomeFits call (outcome_of call raw)
 unfolding outcome_of
 fits call raw = fits_end call raw (message_lines (warnings_of raw)) raw.end

@@ -13,7 +13,7 @@ use Rattle.object_values.specs.declared.jobs.Job.{Job}
 use Rattle.meaning_texts.specs.Classes.{is_name_byte, is_value_byte, IsId}
 use Rattle.meaning_texts.specs.Expressions.{IsParamOfClass}
 use Rattle.meaning_texts.specs.Lines.{HasNoLf, LineCut, cut_lines}
-use Rattle.meaning_texts.proofs.Cuts.{cut_full}
+use Rattle.meaning_texts.proofs.Lemmas.{cut_full}
 use Rattle.meaning_calls.specs.Jobs.{IsLabel, IsPartOfClass, IsWellFormed, tool_line, param_line, part_line, part_lines, part_file, out_line, call_lines, call_text, body_files, job_of}
 use Rattle.meaning_calls.proofs.Lines.{lacks, word_lacks, id_lacks, decimal_lacks, no_lf_from, SameParts, cut_at, SameLists, cut_kind}
 use Rattle.meaning_calls.proofs.Parts.{one_params, one_outs, one_parts, file_lacks, first_body}
@@ -59,7 +59,7 @@ lines_no_lf call w = All-cons HasNoLf (codes "odin 1") (tool_line call ∷ behin
 -- the text tells the lines
 lines_told : (a b : Call) → IsWellFormed a → IsWellFormed b → call_text a ≡ call_text b → call_lines a ≡ call_lines b
 lines_told a b v w e =
-    let whole : (c : Call) → IsWellFormed c → cut_lines (call_text c) ≡ record { full = call_lines c; last = [] } = λ c u. ap cut_lines (sym (append-nil (call_text c))) ∙ cut_full (call_lines c) [] (lines_no_lf c u) (All-nil (λ b. b ≢ 10)) in
+    let whole : (c : Call) → IsWellFormed c → cut_lines (call_text c) ≡ record { full = call_lines c; last = [] } = λ c u. ap cut_lines (sym (append-nil (call_text c))) ∙ cut_full (call_lines c) [] (lines_no_lf c u) tt in
     let x = whole a v in
     let y = whole b w in
     let z : ◌≡◌ {A = LineCut} (record { full = call_lines a; last = [] }) (record { full = call_lines b; last = [] }) = sym x ∙ ap cut_lines e ∙ y in

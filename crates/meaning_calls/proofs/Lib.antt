@@ -1,5 +1,6 @@
-pub mod Fitting
-pub mod Lines
-pub mod Parts
-pub mod Jobs
-pub mod Tested
+mod Lines
+mod Parts
+mod Jobs
+mod Fitting
+mod Tested
+pub mod Lemmas

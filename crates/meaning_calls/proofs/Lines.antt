@@ -1,10 +1,9 @@
 -- Bytes that lines don't hold, and what follows where two texts with a byte between their parts are one.
-use Rattle.std.proofs.Common.{◌≡◌, ◌≢◌, ℕ, zero, suc, ◌+◌, ◌/◌, ◌%◌, ◌<◌, Bool, true, false, not, List, [], ◌∷◌, ◌++◌, refl, sym, ap₂, subst, inl, inr, arith}
+use Rattle.std.proofs.Common.{◌≡◌, ℕ, zero, suc, ◌+◌, ◌/◌, ◌%◌, ◌<◌, Bool, true, false, not, List, [], ◌∷◌, ◌++◌, refl, sym, ap₂, subst, inl, inr, arith}
 use Rattle.std.specs.Prelude.{nat_eq, decimal}
 use Rattle.std.specs.Fmt.{digits, digits_onto, digit_glyph}
 use Rattle.std.specs.List.{list_all}
 use Rattle.std.proofs.lemmas.Bool.{cases_Bool, both_ways, and_parts, and_from, eqb-true, eqb-false, not-true, not_from_false, lt-ltb, le-leb}
-use Rattle.std.proofs.lemmas.List.Elements.{All-nil, All-cons}
 use Rattle.std.proofs.lemmas.List.Sums.{list_all-from_AllPass}
 use Rattle.meaning_texts.specs.Classes.{is_digit, is_key_byte, IsId}
 use Rattle.meaning_texts.specs.Lines.{HasNoLf}
@@ -27,8 +26,8 @@ pub id_lacks : (c : ℕ) → is_key_byte c ≡ false → (id : List ℕ) → IsI
 id_lacks c none id i = word_lacks is_key_byte c none id (list_all-from_AllPass is_key_byte id i.key.each)
 
 pub no_lf_from : (text : List ℕ) → lacks 10 text ≡ true → HasNoLf text
-no_lf_from [] e = All-nil (λ b. b ≢ 10)
-no_lf_from (b ∷ rest) e = let h = and_parts (not (nat_eq b 10)) (lacks 10 rest) e in All-cons (λ b. b ≢ 10) b rest (eqb-false b 10 (not-true (nat_eq b 10) h.0)) (no_lf_from rest h.1)
+no_lf_from [] e = tt
+no_lf_from (b ∷ rest) e = let h = and_parts (not (nat_eq b 10)) (lacks 10 rest) e in (eqb-false b 10 (not-true (nat_eq b 10) h.0), no_lf_from rest h.1)
 
 -- ---- numbers
 

@@ -8,19 +8,19 @@ use Rattle.std.proofs.lemmas.Bool.{leb-true, le-leb, both_ways}
 use Rattle.std.proofs.lemmas.Bool.Decides.{Decides-and, Decides-not, Decides-like, Decides-by_and, Decides-ltb, Decides-eqb}
 use Rattle.object_values.specs.declared.messages.Status.{Status}
 use Rattle.object_values.specs.declared.messages.Status.TheVariants.{Ok, Warning, Error, Abort}
-use Rattle.object_values.specs.declared.nodes.ParamValue.{ParamValue}
 use Rattle.object_values.specs.declared.views.Part.{Part}
 use Rattle.object_values.specs.declared.calls.CallPart.{CallPart}
 use Rattle.object_values.specs.declared.calls.Call.{Call}
 use Rattle.object_values.specs.declared.calls.Outcome.{Outcome}
+use Rattle.meaning_texts.specs.Lists.{is_empty}
 use Rattle.meaning_texts.specs.Classes.{is_name_byte, IsId}
-use Rattle.meaning_texts.specs.Limits.{body_limit}
-use Rattle.meaning_texts.specs.Tests.{is_name, is_id, is_param_value}
+use Rattle.meaning_texts.specs.Limits.{body_limit, slot_bound}
+use Rattle.meaning_texts.specs.Tests.{is_name, is_id, is_param_of_class}
 use Rattle.meaning_texts.specs.Expressions.{IsParamOfClass}
-use Rattle.meaning_texts.proofs.Words.{word_decides, id_decides, value_decides}
+use Rattle.meaning_texts.proofs.Lemmas.{word_decides, id_decides, param_decides}
 use Rattle.meaning_calls.specs.Jobs.{IsLabel, IsPartOfClass, IsWellFormed}
-use Rattle.meaning_calls.specs.Outcomes.{Fits}
-use Rattle.meaning_calls.specs.Tests.{is_label, is_short_or_none, is_part_of_class, is_param_of_class, is_well_formed, has_none, outputs_fit, outcome_fits}
+use Rattle.meaning_calls.specs.Outcomes.{OutcomeFits}
+use Rattle.meaning_calls.specs.Tests.{is_label, is_short_or_none, is_part_of_class, is_well_formed, outputs_fit, outcome_fits}
 
 all_decides : {X : Type 0} (p : X → Bool) (P : X → Type 0) → ((x : X) → Decides (p x) (P x)) → (xs : List X) → Decides (list_all p xs) (All P xs)
 all_decides p P each xs = Decides-by_and p P (list_all p) each refl (λ x ys. refl) xs
@@ -39,10 +39,7 @@ body_decides (Some body) = le_decides (length body) body_limit
 
 part_decides : (part : CallPart) → Decides (is_part_of_class part) (IsPartOfClass part)
 part_decides part = Decides-like (is_part_of_class part) (λ h. record { slot = h.0; label = h.1.0; body = h.1.1 }) (λ r. (r.slot, (r.label, r.body)))
-    (Decides-and (nat_lt part.slot 4294967296) _ (Decides-ltb part.slot 4294967296) (Decides-and (is_label part.label) (is_short_or_none part.body) (label_decides part.label) (body_decides part.body)))
-
-param_decides : (p : ParamValue) → Decides (is_param_of_class p) (IsParamOfClass p)
-param_decides p = Decides-like (is_param_of_class p) (λ h. record { name = h.0; value = h.1 }) (λ r. (r.name, r.value)) (Decides-and (is_id p.param) (is_param_value p.value) (id_decides p.param) (value_decides p.value))
+    (Decides-and (nat_lt part.slot slot_bound) _ (Decides-ltb part.slot slot_bound) (Decides-and (is_label part.label) (is_short_or_none part.body) (label_decides part.label) (body_decides part.body)))
 
 pub well_formed_decides : (call : Call) → Decides (is_well_formed call) (IsWellFormed call)
 unfolding is_well_formed
@@ -59,7 +56,7 @@ OutputsFit outs status outputs = ((status ≡ Abort) × (outputs ≡ [])) ⊎ ((
 names_decide : (outs : List (List ℕ)) (status : Status) (outputs : List Part) → status ≢ Abort → Decides (pointwise bytes_eq (map (λ (p : Part). p.name) outputs) outs) (OutputsFit outs status outputs)
 names_decide outs status outputs off = let d = pointwise_decides bytes_decides (map (λ (p : Part). p.name) outputs) outs in (λ e. inr (off, d.0 e), λ f. elim f [ inl h ↦ absurd (off h.0) | inr h ↦ d.1 h.1 ])
 
-none_decides : (outputs : List Part) → Decides (has_none outputs) (outputs ≡ [])
+none_decides : (outputs : List Part) → Decides (is_empty outputs) (outputs ≡ [])
 none_decides [] = (λ e. refl, λ e. refl)
 none_decides (part ∷ rest) = (λ e. absurd (both_ways false refl e), λ e. let n : ⊥ = cc in absurd n)
 
@@ -67,9 +64,9 @@ outputs_decide : (outs : List (List ℕ)) (status : Status) (outputs : List Part
 outputs_decide outs Ok outputs = names_decide outs Ok outputs (λ e. cc)
 outputs_decide outs Warning outputs = names_decide outs Warning outputs (λ e. cc)
 outputs_decide outs Error outputs = names_decide outs Error outputs (λ e. cc)
-outputs_decide outs Abort outputs = let d : Decides (has_none outputs) (outputs ≡ []) = none_decides outputs in (λ e. inl (refl, d.0 e), λ f. elim f [ inl h ↦ d.1 h.1 | inr h ↦ absurd (h.0 refl) ])
+outputs_decide outs Abort outputs = let d : Decides (is_empty outputs) (outputs ≡ []) = none_decides outputs in (λ e. inl (refl, d.0 e), λ f. elim f [ inl h ↦ d.1 h.1 | inr h ↦ absurd (h.0 refl) ])
 
-pub fits_decides : (call : Call) (outcome : Outcome) → Decides (outcome_fits call outcome) (Fits call outcome)
+pub fits_decides : (call : Call) (outcome : Outcome) → Decides (outcome_fits call outcome) (OutcomeFits call outcome)
 unfolding outcome_fits
 fits_decides call outcome = Decides-like (outcome_fits call outcome) (λ h. record { outputs = h.0; short = h.1 }) (λ r. (r.outputs, r.short))
     (Decides-and (outputs_fit call.outs outcome.status outcome.outputs) (list_all (λ (p : Part). nat_le (length p.body) body_limit) outcome.outputs) (outputs_decide call.outs outcome.status outcome.outputs)

@@ -1,5 +1,5 @@
 -- Calls that are well formed, and the job of a call: the words, the files that the tool finds, and those that it leaves.
-use Rattle.std.specs.Prelude.{◌≢◌, ℕ, ◌+◌, ◌<◌, ◌≤◌, ◌^◌, List, [], ◌∷◌, ◌++◌, length, map, Option, Some, None, IfSome, codes, decimal}
+use Rattle.std.specs.Prelude.{◌≢◌, ℕ, ◌+◌, ◌<◌, ◌≤◌, List, [], ◌∷◌, ◌++◌, length, map, Option, Some, None, IfSome, codes, decimal}
 use Rattle.std.specs.List.{flat_map, All}
 use Rattle.object_values.specs.declared.nodes.ParamValue.{ParamValue}
 use Rattle.object_values.specs.declared.calls.CallPart.{CallPart}
@@ -8,7 +8,7 @@ use Rattle.object_values.specs.declared.jobs.FileBody.{FileBody}
 use Rattle.object_values.specs.declared.jobs.Job.{Job}
 use Rattle.meaning_texts.specs.Classes.{IsId, IsWord}
 use Rattle.meaning_texts.specs.Expressions.{IsParamOfClass}
-use Rattle.meaning_texts.specs.Limits.{body_limit}
+use Rattle.meaning_texts.specs.Limits.{body_limit, slot_bound}
 use Rattle.meaning_texts.specs.Lines.{with_lf}
 
 -- ---- well formed calls
@@ -17,9 +17,9 @@ use Rattle.meaning_texts.specs.Lines.{with_lf}
 abbrev pub IsLabel : List ℕ → Type 0
 IsLabel = All (λ b. (b ≢ 32) × (b ≢ 10))
 
--- a slot is a number of 32 bits
+-- a slot is a number of 32 bits, and a body no longer than the limit
 pub record IsPartOfClass (part : CallPart) : Type 0 where
-  pub slot : part.slot < 2 ^ 32
+  pub slot : part.slot < slot_bound
   pub label : IsLabel part.label
   pub body : IfSome part.body (λ (body : List ℕ). length body ≤ body_limit)
 

@@ -1,5 +1,5 @@
 -- The outcome of a call, from the end of the tool and the files that it left; and the outcomes that fit a call.
-use Rattle.std.specs.Prelude.{◌≡◌, ◌≢◌, ℕ, suc, zero, ◌≤◌, ◌⊎◌, Bool, true, false, nat_lt, List, [], ◌∷◌, ◌++◌, length, map, take, filter, Option, Some, None, unwrap_or, codes, decimal, bytes_eq, if◌then◌else◌}
+use Rattle.std.specs.Prelude.{◌≡◌, ◌≢◌, ℕ, suc, zero, ◌≤◌, ◌⊎◌, Bool, not, nat_lt, List, [], ◌∷◌, ◌++◌, length, map, take, filter, Option, Some, None, unwrap_or, codes, decimal, bytes_eq, if◌then◌else◌}
 use Rattle.std.specs.List.{flat_map, All}
 use Rattle.object_values.specs.declared.messages.Status.{Status}
 use Rattle.object_values.specs.declared.messages.Status.TheVariants.{Ok, Warning, Error, Abort}
@@ -11,6 +11,7 @@ use Rattle.object_values.specs.declared.jobs.End.{End}
 use Rattle.object_values.specs.declared.jobs.End.TheVariants.{Exit, Signal}
 use Rattle.object_values.specs.declared.jobs.FileBody.{FileBody}
 use Rattle.object_values.specs.declared.jobs.Raw.{Raw}
+use Rattle.meaning_texts.specs.Lists.{is_empty}
 use Rattle.meaning_texts.specs.Limits.{body_limit, message_limit, message_length}
 use Rattle.meaning_texts.specs.Lines.{warning_lines}
 use Rattle.meaning_calls.specs.Jobs.{out_file, warnings_file}
@@ -27,8 +28,7 @@ abbrev pub warnings_of : Raw → List ℕ
 warnings_of raw = unwrap_or (file_in warnings_file raw.files) []
 
 abbrev pub has_byte : List ℕ → Bool
-has_byte [] = false
-has_byte (b ∷ rest) = true
+has_byte line = not (is_empty line)
 
 -- the lines of `warnings` that count, as far as they count
 unfoldable pub message_lines : List ℕ → List (List ℕ)
@@ -94,6 +94,6 @@ outcome_of call raw = end_outcome call raw (message_lines (warnings_of raw)) raw
 -- ---- outcomes that fit
 
 -- At `Abort` there are no outputs, else there are those of the call in order; and none is too long.
-pub record Fits (call : Call) (outcome : Outcome) : Type 0 where
+pub record OutcomeFits (call : Call) (outcome : Outcome) : Type 0 where
   pub outputs : ((outcome.status ≡ Abort) × (outcome.outputs ≡ [])) ⊎ ((outcome.status ≢ Abort) × (map (λ (p : Part). p.name) outcome.outputs ≡ call.outs))
   pub short : All (λ (p : Part). length p.body ≤ body_limit) outcome.outputs

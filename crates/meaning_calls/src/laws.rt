@@ -1,5 +1,5 @@
 //! Laws of calls. Each is the contract of a function with an empty body.
-ghost use Rattle.meaning_calls.specs.Laws.{OneJobOneCall, OutcomesFit, WellFormedIsTested, FitsIsTested};
+ghost use Rattle.meaning_calls.specs.Laws.{OneJobOneCall, EachOutcomeFits, WellFormedIsTested, OutcomeFitsIsTested};
 
 /// Two well formed calls with one job are one call.
 pub fn one_job_one_call()
@@ -8,7 +8,7 @@ pub fn one_job_one_call()
 
 /// The outcome of a call fits it, whatever its job left.
 pub fn outcomes_fit()
-    ensures { OutcomesFit }
+    ensures { EachOutcomeFits }
 {}
 
 /// The computed test holds of the well formed calls alone.
@@ -18,5 +18,5 @@ pub fn well_formed_is_tested()
 
 /// The computed test holds of the outcomes that fit alone.
 pub fn fits_is_tested()
-    ensures { FitsIsTested }
+    ensures { OutcomeFitsIsTested }
 {}

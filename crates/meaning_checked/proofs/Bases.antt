@@ -8,15 +8,15 @@ use Rattle.object_values.specs.declared.graph.MakerDecl.{MakerDecl}
 use Rattle.object_values.specs.declared.graph.Decl.TheVariants.{Maker as MakerDeclared}
 use Rattle.meaning_texts.specs.Classes.{IsName}
 use Rattle.meaning_graph.specs.Graphs.{Text, Graph, makers, type_named}
-use Rattle.meaning_graph.specs.Members.{IsIn}
+use Rattle.meaning_texts.specs.Lists.{IsIn}
 use Rattle.meaning_graph.specs.Suffixes.{source_type}
 use Rattle.meaning_graph.specs.Types.{IsA, is_a}
 use Rattle.meaning_graph.specs.Paths.{made_of}
-use Rattle.meaning_graph.proofs.Members.{all_in}
-use Rattle.meaning_graph.proofs.Types.{is_a_so}
+use Rattle.meaning_texts.proofs.Lemmas.{all_in}
+use Rattle.meaning_graph.proofs.Lemmas.{is_a_so}
 use Rattle.meaning_nodes.specs.Nodes.{source_node, last_step, base_of, step_type, reached_type, IsStepOfClass, Fits}
 use Rattle.meaning_tasks.specs.Tasks.{Task, given, picked, make_task, maker_task, step_task, task_of}
-use Rattle.meaning_nodes.proofs.Made.{HasBase, base_fits}
+use Rattle.meaning_nodes.proofs.Lemmas.{HasBase, base_fits}
 use Rattle.meaning_checked.proofs.Rules.{maker_declared}
 
 -- A node whose last step is this maker.

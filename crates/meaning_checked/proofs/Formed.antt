@@ -23,15 +23,15 @@ use Rattle.meaning_texts.specs.Expressions.{IsParamOfClass, step_spelling}
 use Rattle.meaning_texts.specs.Limits.{body_limit, height_limit}
 use Rattle.meaning_calls.specs.Jobs.{IsLabel, IsPartOfClass, IsWellFormed}
 use Rattle.meaning_graph.specs.Graphs.{Text, Graph, makers, text_type, kind_of, kind_named}
-use Rattle.meaning_graph.specs.Members.{IsIn}
-use Rattle.meaning_graph.proofs.Members.{in_either, in_map, from_map, from_flat, from_filter, in_all, all_in, same_some}
+use Rattle.meaning_texts.specs.Lists.{is_empty, IsIn}
+use Rattle.meaning_texts.proofs.Lemmas.{in_either, in_map, from_map, from_flat, from_filter, in_all, all_in, same_some}
 use Rattle.meaning_graph_text.specs.Grammar.{IsSpellable, IsSpellableDecl, IsSpellableMake, IsSpellableTool, IsSpellableKind, AreSpellableParts, IsSpellablePart}
 use Rattle.meaning_graph_text.specs.Checks.{Checked}
 use Rattle.meaning_nodes.specs.Nodes.{source_node, base_of, reached_type, IsStepOfClass, Fits}
 use Rattle.meaning_nodes.specs.Labels.{made_name, written_step, label_of}
 use Rattle.meaning_tasks.specs.Tasks.{ExtraNode, extra_node, outs_of, tool_task, make_task, task_of}
 use Rattle.meaning_tasks.specs.Needs.{Results, Known, values_of, elements_of, ranked_needs}
-use Rattle.meaning_tasks.specs.Calls.{text_in, simple_part, compound_part, value_parts, node_parts, extra_parts, reached_part, call_parts, tool_call, missing_extras, none_of, all_valued, call_of}
+use Rattle.meaning_tasks.specs.Calls.{text_in, simple_part, compound_part, value_parts, node_parts, extra_parts, reached_part, call_parts, tool_call, missing_extras, all_valued, call_of}
 use Rattle.meaning_tasks.specs.Maps.{IsOfKind}
 use Rattle.meaning_derive.specs.Derive.{Sources, Outcomes, derived}
 use Rattle.meaning_derive.specs.Chains.{LeadsOn, Chain}
@@ -219,7 +219,7 @@ module _ (g : Graph) (spellable : IsSpellable g) where
         ]
 
     made_formed : (n : Node) → Fits g n → (m : MakerDecl) (a : AtMaker g n m) (make : Make) → m.make ≡ make → (names : List Text) → ((x : Text) → IsIn x names → IsName x) → (call : Call) → Some call ≡ call_of g (make_task g n m make) known names → IsWellFormed call
-    made_formed n f m a (Tool tool) is names named call e = subst IsWellFormed (if_called (none_of (missing_extras (tool_task g n m tool).extras) && all_valued known (ranked_needs (make_task g n m (Tool tool)) known names)) (tool_call g (tool_task g n m tool) known names) call e) (tool_formed n f m a tool is names named)
+    made_formed n f m a (Tool tool) is names named call e = subst IsWellFormed (if_called (is_empty (missing_extras (tool_task g n m tool).extras) && all_valued known (ranked_needs (make_task g n m (Tool tool)) known names)) (tool_call g (tool_task g n m tool) known names) call e) (tool_formed n f m a tool is names named)
     made_formed n f m a Read is names named call e = cc
     made_formed n f m a EachOf is names named call e = cc
     made_formed n f m a Pack is names named call e = cc

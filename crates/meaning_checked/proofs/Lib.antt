@@ -1,6 +1,7 @@
-pub mod Rules
-pub mod Bases
-pub mod Needed
-pub mod Shapes
-pub mod Maps
-pub mod Formed
+mod Rules
+mod Shapes
+mod Needed
+mod Bases
+mod Maps
+mod Formed
+pub mod Lemmas

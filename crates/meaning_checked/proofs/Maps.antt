@@ -8,8 +8,8 @@ use Rattle.object_values.specs.declared.graph.Kind.{Kind}
 use Rattle.object_values.specs.declared.calls.Call.{Call}
 use Rattle.object_values.specs.declared.calls.Outcome.{Outcome}
 use Rattle.meaning_graph.specs.Graphs.{Text, Graph, kind_of}
-use Rattle.meaning_graph.specs.Members.{IsIn}
-use Rattle.meaning_graph.proofs.Members.{same_some}
+use Rattle.meaning_texts.specs.Lists.{IsIn}
+use Rattle.meaning_texts.proofs.Lemmas.{same_some}
 use Rattle.meaning_graph_text.specs.Grammar.{IsSpellable}
 use Rattle.meaning_graph_text.specs.Checks.{Checked}
 use Rattle.meaning_nodes.specs.Nodes.{reached_type, fits, Fits}
@@ -19,11 +19,10 @@ use Rattle.meaning_tasks.specs.Needs.{Results, values_of, ranked_needs, Needs}
 use Rattle.meaning_tasks.specs.Calls.{all_valued, call_of}
 use Rattle.meaning_tasks.specs.Settle.{own_of}
 use Rattle.meaning_tasks.specs.Maps.{IsOfKind, IsResultMap}
-use Rattle.meaning_nodes.proofs.Fits.{so_fits}
+use Rattle.meaning_nodes.proofs.Lemmas.{so_fits}
 use Rattle.meaning_nodes.proofs.Fits as fit
 use Rattle.meaning_derive.specs.Derive.{Sources, text_of, Outcomes, outcome_for, names_for, derive}
-use Rattle.meaning_derive.proofs.Steps.{step_so}
-use Rattle.meaning_derive.proofs.Sound.{derived_sound, valued_exactly}
+use Rattle.meaning_derive.proofs.Lemmas.{step_so, derived_sound, valued_exactly}
 use Rattle.meaning_derive.specs.Given.{AreSources, OutcomesFit}
 use Rattle.meaning_checked.specs.Premises.{IsShort, fitting, IsMapOverFitting}
 use Rattle.meaning_checked.proofs.Needed.{AreOfKind, reached_named, task_needs_fit}

@@ -17,11 +17,11 @@ use Rattle.object_values.specs.declared.graph.MakerDecl.{MakerDecl}
 use Rattle.object_values.specs.declared.graph.Decl.TheVariants.{Maker as MakerDeclared}
 use Rattle.meaning_texts.specs.Classes.{IsName, is_name_byte}
 use Rattle.meaning_texts.specs.Tests.{is_name}
-use Rattle.meaning_texts.specs.Lines.{scanned_names, lines_of}
-use Rattle.meaning_texts.proofs.Words.{word_decides}
+use Rattle.meaning_texts.specs.References.{scanned_names}
+use Rattle.meaning_texts.specs.Lines.{lines_of}
+use Rattle.meaning_texts.proofs.Lemmas.{word_decides, in_either, from_map, from_flat, from_filter, in_all, same_some}
 use Rattle.meaning_graph.specs.Graphs.{Text, Graph, kind_of, kind_named}
-use Rattle.meaning_graph.specs.Members.{IsIn}
-use Rattle.meaning_graph.proofs.Members.{in_either, from_map, from_flat, from_filter, in_all, same_some}
+use Rattle.meaning_texts.specs.Lists.{IsIn}
 use Rattle.meaning_graph_text.specs.Grammar.{IsSpellable, IsSpellableDecl, IsSpellableMake, IsSpellableTool, IsSpellableExtra}
 use Rattle.meaning_nodes.specs.Nodes.{source_node, base_of, element_number, reached_type, Fits}
 use Rattle.meaning_nodes.specs.Values.{element, body, pick}
@@ -29,8 +29,8 @@ use Rattle.meaning_tasks.specs.Reached.{Reached, by_own, by_line}
 use Rattle.meaning_tasks.specs.Tasks.{Task, given, picked, mapped, packed, tooled, unfit, ToolTask, PackPart, ExtraNode, pack_part, extra_node, scan_node, parts_of, tool_task, make_task, task_of}
 use Rattle.meaning_tasks.specs.Needs.{Known, where_valued, elements_of, element_in, picked_element, with_elements, extra_needs, scan_needs, tool_needs, part_nodes, needs_of, lines_in, lines_by, own_lines, other_lines}
 use Rattle.meaning_tasks.specs.Maps.{IsElementOf, IsOfKind}
-use Rattle.meaning_tasks.proofs.Valued.{from_where}
-use Rattle.meaning_nodes.proofs.Made.{onward_named_fits}
+use Rattle.meaning_tasks.proofs.Lemmas.{from_where}
+use Rattle.meaning_nodes.proofs.Lemmas.{onward_named_fits}
 use Rattle.meaning_checked.proofs.Rules.{slice_in}
 use Rattle.meaning_checked.proofs.Bases.{AtMaker, source_fits, bare_fits, by_task}
 

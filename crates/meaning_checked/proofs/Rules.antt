@@ -14,12 +14,12 @@ use Rattle.object_values.specs.declared.graph.Decl.{Decl}
 use Rattle.object_values.specs.declared.graph.Decl.TheVariants.{ObjectType, Suffix, Param, Maker}
 use Rattle.object_values.specs.declared.graph.GraphFault.TheVariants.{UnknownType, WrongKind}
 use Rattle.meaning_graph.specs.Graphs.{Text, Graph, as_type, as_suffix, as_maker, text_type, types, makers, suffixes, type_named, kind_of, kind_named}
-use Rattle.meaning_graph.specs.Members.{IsIn}
+use Rattle.meaning_texts.specs.Lists.{IsIn}
 use Rattle.meaning_graph.specs.Suffixes.{IsLongestSuffix, HasNoSuffix, suffix_of, suffix_type, source_type}
 use Rattle.meaning_graph.specs.Types.{supers_of, IsA, itself, by_super}
-use Rattle.meaning_graph.proofs.Members.{from_chosen, same_some, both_true, in_all_pass, passes_or_fails}
-use Rattle.meaning_graph.proofs.Paths.{named_below}
-use Rattle.meaning_graph.proofs.Suffixes.{suffix_longest, found_passes}
+use Rattle.meaning_texts.proofs.Lemmas.{from_chosen, same_some, in_all_pass}
+use Rattle.std.proofs.lemmas.Bool.{and_parts, cases_Bool}
+use Rattle.meaning_graph.proofs.Lemmas.{named_below, suffix_longest, found_passes}
 use Rattle.meaning_graph_text.specs.Checks.{all_types_known, keeps_rules, keeps_kind, kind_types, super_fits, fits_list, is_simple, is_list, is_compound, is_simple_kind, is_list_kind, is_compound_kind, has_fault, Checked}
 
 -- ---- lists
@@ -135,7 +135,7 @@ module _ (g : Graph) where
   module _ (checked : Checked g) where
     pub kept_rules : (d : Decl) → IsIn d g → keeps_rules g d ≡ true
     unfolding has_fault
-    kept_rules d h = by_known (passes_or_fails (all_types_known g d))
+    kept_rules d h = by_known (cases_Bool (all_types_known g d))
       where
         place : (i : ℕ) × (slice_get g i ≡ Some d)
         place = in_slice g d h
@@ -154,7 +154,7 @@ module _ (g : Graph) where
         by_kept k (inr e) = absurd (checked (suc place.0) WrongKind (record { declaration = d; counted = counted; there = there; wrong = λ i. (k i) && not (e i) }))
 
         by_known : (all_types_known g d ≡ true) ⊎ (all_types_known g d ≡ false) → keeps_rules g d ≡ true
-        by_known (inl k) = by_kept k (passes_or_fails (keeps_rules g d))
+        by_known (inl k) = by_kept k (cases_Bool (keeps_rules g d))
         by_known (inr k) = absurd (checked (suc place.0) UnknownType (record { declaration = d; counted = counted; there = there; wrong = ap not k }))
 
     -- the types of elements and of parts are simple
@@ -166,7 +166,7 @@ module _ (g : Graph) where
 
         by_decl : (d.decl ≡ text_type) ⊎ IsIn (ObjectType d.decl) g → is_simple g name ≡ true
         by_decl (inl q) = absurd (subst (λ x. IsIn name (kind_types x)) (sym d.kind ∙ ap (λ (x : TypeDecl). x.kind) q) h)
-        by_decl (inr i) = in_all_pass (is_simple g) (kind_types k) (subst (λ x. list_all (is_simple g) (kind_types x) ≡ true) d.kind (both_true (keeps_kind g d.decl.kind) _ (kept_rules (ObjectType d.decl) i)).0) name h
+        by_decl (inr i) = in_all_pass (is_simple g) (kind_types k) (subst (λ x. list_all (is_simple g) (kind_types x) ≡ true) d.kind (and_parts (keeps_kind g d.decl.kind) _ (kept_rules (ObjectType d.decl) i)).0) name h
 
     -- what is a simple type is simple
     pub simple_down : (a b : ℕ) → IsA g a b → kind_of g b ≡ Some Simple → kind_of g a ≡ Some Simple
@@ -181,7 +181,7 @@ module _ (g : Graph) where
         by_declared : kind_of g d ≡ Some Simple → (t : TypeDecl) → slice_get (types g) c ≡ Some t → (name : Text) → IsIn name t.supers → type_named g name ≡ Some d → (t ≡ text_type) ⊎ IsIn (ObjectType t) g → kind_of g c ≡ Some Simple
         by_declared below t q name i n (inl x) = absurd (subst (λ (y : TypeDecl). IsIn name y.supers) x i)
         by_declared below t q name i n (inr x) =
-            let rules = both_true (keeps_kind g t.kind) (list_all (super_fits g t.kind) t.supers) (kept_rules (ObjectType t) x) in
+            let rules = and_parts (keeps_kind g t.kind) (list_all (super_fits g t.kind) t.supers) (kept_rules (ObjectType t) x) in
             ap (option_map (λ (y : TypeDecl). y.kind)) q ∙ ap Some (by_kind below t.kind name n (in_all_pass (super_fits g t.kind) t.supers rules.1 name i))
 
         by_decl : kind_of g d ≡ Some Simple → (o : Option TypeDecl) → slice_get (types g) c ≡ o → IsIn d (supers_of g o) → kind_of g c ≡ Some Simple

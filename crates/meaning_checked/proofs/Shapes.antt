@@ -27,24 +27,25 @@ use Rattle.object_values.specs.declared.calls.Call.{Call}
 use Rattle.object_values.specs.declared.calls.Outcome.{Outcome}
 use Rattle.meaning_texts.specs.Expressions.{IsParamOfClass, IsCanonical}
 use Rattle.meaning_texts.specs.Limits.{body_limit}
-use Rattle.meaning_texts.specs.Lines.{references}
-use Rattle.meaning_calls.specs.Outcomes.{Fits as OutcomeFits}
+use Rattle.meaning_texts.specs.References.{references}
+use Rattle.meaning_calls.specs.Outcomes.{OutcomeFits as OutcomeFits}
 use Rattle.meaning_graph.specs.Graphs.{Text, Graph, type_named, kind_of, kind_named}
-use Rattle.meaning_graph.specs.Members.{IsIn}
+use Rattle.meaning_texts.specs.Lists.{is_empty, IsIn}
 use Rattle.meaning_graph.specs.Suffixes.{source_type}
-use Rattle.meaning_graph.proofs.Members.{in_either, in_map, from_chosen, in_all, all_in, in_all_pass, both_true, either_true, same_some, value_of_some}
-use Rattle.meaning_graph.proofs.Suffixes.{found_passes}
+use Rattle.meaning_texts.proofs.Lemmas.{in_either, in_map, from_chosen, in_all, all_in, in_all_pass, same_some, value_of_some}
+use Rattle.std.proofs.lemmas.Bool.{and_parts, or_cases}
+use Rattle.meaning_graph.proofs.Lemmas.{found_passes}
 use Rattle.meaning_graph_text.specs.Checks.{Checked, is_simple, is_list, is_compound as is_compound_type, keeps_make}
 use Rattle.meaning_nodes.specs.Nodes.{base_of, element_number, picked_type, reached_type, onward_named, Fits}
 use Rattle.meaning_nodes.specs.Values.{element, body, pick}
 use Rattle.meaning_nodes.specs.NodeOf.{NodeAnswer, is_node, unknown_param, unknown_type, no_path, node_of}
 use Rattle.meaning_tasks.specs.Tasks.{Own, Task, tooled, ToolTask, PackPart, listed_unless, unless_node, with_params_of, answer_node, line_node, lines_own, read_own, each_own, element_name, parts_of, is_compound, outs_of, pack_part, pack_missing, tool_task, make_task, task_of}
 use Rattle.meaning_tasks.specs.Needs.{Known, has_value, elements_of, part_nodes, ranked_needs}
-use Rattle.meaning_tasks.specs.Calls.{text_in, none_of, missing_extras, all_valued, call_of, tool_call}
+use Rattle.meaning_tasks.specs.Calls.{text_in, missing_extras, all_valued, call_of, tool_call}
 use Rattle.meaning_tasks.specs.Settle.{Texts, given_own, element_own, pick_own, picked_own, mapped_own, named_body, part_body, packed_own, first_body, made_value, at_status, outcome_own, own_of}
 use Rattle.meaning_tasks.specs.Maps.{IsElementOf, IsOfKind}
-use Rattle.meaning_nodes.proofs.Made.{HasBase, made_fits, onward_named_fits}
-use Rattle.meaning_tasks.proofs.Reading.{from_kept, references_canonical}
+use Rattle.meaning_nodes.proofs.Lemmas.{HasBase, made_fits, onward_named_fits}
+use Rattle.meaning_tasks.proofs.Lemmas.{from_kept, references_canonical}
 use Rattle.meaning_derive.specs.Given.{IsSource}
 use Rattle.meaning_checked.specs.Premises.{IsShort}
 use Rattle.meaning_checked.proofs.Rules.{kind_name, name_kind, named_kind, simple_named, list_named, compound_named, simple_number, kept_rules, contents_simple, simple_down, source_simple, slice_in}
@@ -280,7 +281,7 @@ module _ (g : Graph) (checked : Checked g) where
     if_called false x y e = cc
 
     call_outs : (t : ToolTask) (names : List Text) (call : Call) → call_of g (tooled t) known names ≡ Some call → t.outs ≡ call.outs
-    call_outs t names call e = ap (λ (c : Call). c.outs) (if_called (none_of (missing_extras t.extras) && all_valued known (ranked_needs (tooled t) known names)) (tool_call g t known names) call e)
+    call_outs t names call e = ap (λ (c : Call). c.outs) (if_called (is_empty (missing_extras t.extras) && all_valued known (ranked_needs (tooled t) known names)) (tool_call g t known names) call e)
 
     first_short : (outputs : List Part) → ((p : Part) → IsIn p outputs → length p.body ≤ body_limit) → length (first_body outputs) ≤ body_limit
     first_short [] h = omega arith
@@ -291,7 +292,7 @@ module _ (g : Graph) (checked : Checked g) where
 
     tool_good : (n : Node) (m : MakerDecl) → AtMaker g n m → (tool : ToolDecl) → m.make ≡ Tool tool → (label : Text) (missing : List Message) (names : List Text) (o : Option Outcome) → IsOutcomeOf g (tooled (tool_task g n m tool)) known names o → (v : Value) → (outcome_own label (tool_task g n m tool).makes_compound missing o).value ≡ Some v → IsGood n v
     tool_good n m a tool is label missing names None ok v e = cc
-    tool_good n m a tool is label missing names (Some x) ok v e = by_rule (either_true (is_simple g m.to) (is_compound_type g m.to) (both_true (is_simple g m.to || is_compound_type g m.to) _ rules).0)
+    tool_good n m a tool is label missing names (Some x) ok v e = by_rule (or_cases (is_simple g m.to) (is_compound_type g m.to) (and_parts (is_simple g m.to || is_compound_type g m.to) _ rules).0)
       where
         rules : keeps_make g m.from m.to (Tool tool) ≡ true
         rules = subst (λ z. keeps_make g m.from m.to z ≡ true) is (kept_rules g checked (MakerDeclared m) a.declared)
@@ -358,11 +359,11 @@ module _ (g : Graph) (checked : Checked g) where
       made_good m a Read is v e valued ok =
           let rules : keeps_make g m.from m.to Read ≡ true = subst (λ z. keeps_make g m.from m.to z ≡ true) is (kept_rules g checked (MakerDeclared m) a.declared) in
           let w = mapped_value (read_own g n (element_name (kind_named g m.to))) v e in
-          good_list n m a.typed (both_true (is_simple g m.from) (is_list g m.to) rules).1 v (read_elements n (element_name (kind_named g m.to)) f w.0 v w.2)
+          good_list n m a.typed (and_parts (is_simple g m.from) (is_list g m.to) rules).1 v (read_elements n (element_name (kind_named g m.to)) f w.0 v w.2)
       made_good m a Each is v e valued ok =
           let rules : keeps_make g m.from m.to Each ≡ true = subst (λ z. keeps_make g m.from m.to z ≡ true) is (kept_rules g checked (MakerDeclared m) a.declared) in
           let w = mapped_value (each_own g n (element_name (kind_named g m.to))) v e in
-          good_list n m a.typed (both_true (is_list g m.from) (is_list g m.to) rules).1 v (each_elements n (element_name (kind_named g m.to)) w.0 v (base_elements a.base w.0 w.1) w.2)
+          good_list n m a.typed (and_parts (is_list g m.from) (is_list g m.to) rules).1 v (each_elements n (element_name (kind_named g m.to)) w.0 v (base_elements a.base w.0 w.1) w.2)
       made_good m a Pack is v e valued ok = packed_good
         where
           rules : is_compound_type g m.to ≡ true

@@ -7,7 +7,7 @@ use Rattle.object_values.specs.declared.views.Value.TheVariants.{Simple, List as
 use Rattle.object_values.specs.declared.views.View.{View}
 use Rattle.meaning_texts.specs.Limits.{body_limit}
 use Rattle.meaning_graph.specs.Graphs.{Graph}
-use Rattle.meaning_graph.specs.Members.{IsIn}
+use Rattle.meaning_texts.specs.Lists.{IsIn}
 use Rattle.meaning_nodes.specs.Nodes.{Fits, fits}
 use Rattle.meaning_tasks.specs.Needs.{Results}
 use Rattle.meaning_tasks.specs.Maps.{IsResultOf}

@@ -6,7 +6,7 @@ use Rattle.object_values.specs.declared.views.View.{View}
 use Rattle.object_values.specs.declared.calls.Call.{Call}
 use Rattle.meaning_texts.specs.Limits.{height_limit}
 use Rattle.meaning_graph.specs.Graphs.{Graph}
-use Rattle.meaning_graph.proofs.Members.{in_all_pass, value_of_some}
+use Rattle.meaning_texts.proofs.Lemmas.{in_all_pass, value_of_some}
 use Rattle.meaning_tasks.specs.Needs.{Results}
 use Rattle.meaning_derive.specs.Derive.{Sources, Outcomes, all_known, outcome_for, names_for, derive, derived}
 use Rattle.meaning_derive.specs.Chains.{Chain}

@@ -9,12 +9,12 @@ use Rattle.object_values.specs.declared.views.View.{View}
 use Rattle.object_values.specs.declared.calls.Call.{Call}
 use Rattle.meaning_texts.specs.Limits.{height_limit}
 use Rattle.meaning_graph.specs.Graphs.{Graph}
-use Rattle.meaning_graph.specs.Members.{IsIn}
-use Rattle.meaning_graph.proofs.Members.{in_either, in_all_pass, one_passes, passes_one, passes_or_fails, never_both, split_at, some_or_none, some_is_none, value_of_some}
+use Rattle.meaning_texts.specs.Lists.{IsIn}
+use Rattle.meaning_texts.proofs.Lemmas.{in_either, in_all_pass, one_passes, passes_one, never_both, split_at, some_or_none, some_is_none, value_of_some}
+use Rattle.std.proofs.lemmas.Bool.{cases_Bool}
 use Rattle.meaning_tasks.specs.Tasks.{task_of}
 use Rattle.meaning_tasks.specs.Needs.{Results, values_of, Grows, needs_of}
-use Rattle.meaning_tasks.proofs.Local.{local}
-use Rattle.meaning_tasks.proofs.Reached.{one_list}
+use Rattle.meaning_tasks.proofs.Lemmas.{local, one_list}
 use Rattle.meaning_derive.specs.Derive.{Sources, Outcomes, names_for, derive, derived, IsFounded}
 use Rattle.meaning_derive.specs.Chains.{IsNeed, LeadsOn, Chain, AreDifferent, IsCircular, IsRefusal, IsMet}
 use Rattle.meaning_derive.specs.Calls.{Runs, IsFrontier}
@@ -25,7 +25,7 @@ use Rattle.meaning_derive.proofs.Heights.{at, needs, need_below, need_at_limit, 
 
 -- a node stands in the list, or does not
 pub in_or_not : (n : Node) (nodes : List Node) → IsIn n nodes ⊎ (IsIn n nodes → ⊥)
-in_or_not n nodes = elim (passes_or_fails (list_any (node_eq.eq n) nodes)) [
+in_or_not n nodes = elim (cases_Bool (list_any (node_eq.eq n) nodes)) [
   | inl e ↦ let r = one_passes (node_eq.eq n) nodes e in inl (subst (λ z. IsIn z nodes) (sym ((node_exact n r.0).0 r.2)) r.1)
   | inr e ↦ inr (λ h. never_both (list_any (node_eq.eq n) nodes) (passes_one (node_eq.eq n) n nodes h ((node_exact n n).1 refl)) e)
 ]

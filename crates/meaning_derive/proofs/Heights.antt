@@ -7,15 +7,13 @@ use Rattle.object_values.specs.declared.calls.Call.{Call}
 use Rattle.object_values.specs.declared.calls.Outcome.{Outcome}
 use Rattle.meaning_texts.specs.Limits.{height_limit}
 use Rattle.meaning_graph.specs.Graphs.{Graph}
-use Rattle.meaning_graph.specs.Members.{IsIn}
-use Rattle.meaning_graph.proofs.Members.{in_all_pass, all_pass_in, one_fails, value_of_some, some_or_none, some_is_none, same_some}
+use Rattle.meaning_texts.specs.Lists.{IsIn}
+use Rattle.meaning_texts.proofs.Lemmas.{in_all_pass, all_pass_in, one_fails, value_of_some, some_or_none, some_is_none, same_some}
 use Rattle.meaning_tasks.specs.Tasks.{task_of}
 use Rattle.meaning_tasks.specs.Needs.{Results, values_of, needs_of, Needs}
 use Rattle.meaning_tasks.specs.Calls.{call_of, CallOf}
 use Rattle.meaning_tasks.specs.Settle.{settle, Settles}
-use Rattle.meaning_tasks.proofs.Reached.{one_list}
-use Rattle.meaning_tasks.proofs.Local.{local, one_list_of_needs}
-use Rattle.meaning_tasks.proofs.Grow.{need_stays}
+use Rattle.meaning_tasks.proofs.Lemmas.{one_list, local, one_list_of_needs, need_stays}
 use Rattle.meaning_derive.specs.Derive.{Sources, text_of, Outcomes, all_known, outcome_for, names_for, derive, derived, HasHeight}
 use Rattle.meaning_derive.specs.Chains.{IsNeed}
 use Rattle.meaning_derive.specs.Laws.{IsSettled, IsOneAbove}

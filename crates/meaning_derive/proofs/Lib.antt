@@ -1,8 +1,9 @@
-pub mod Steps
-pub mod Present
-pub mod Heights
-pub mod Founded
-pub mod Enough
-pub mod Stay
-pub mod Sound
+mod Steps
+mod Present
+mod Heights
+mod Founded
+mod Sound
+mod Stay
+mod Enough
 mod Samples
+pub mod Lemmas

@@ -8,21 +8,19 @@ use Rattle.std.specs.Ordering.{eq_by_cmp}
 use Rattle.object_values.specs.declared.nodes.Node.{Node}
 use Rattle.meaning_texts.specs.Expressions.{name_cmp}
 use Rattle.meaning_graph.specs.Graphs.{Text, Graph}
-use Rattle.meaning_graph.specs.Members.{IsIn}
-use Rattle.meaning_graph.proofs.Members.{either_true}
+use Rattle.meaning_texts.specs.Lists.{IsIn}
+use Rattle.std.proofs.lemmas.Bool.{or_cases}
 use Rattle.meaning_nodes.specs.Nodes.{source_node}
 use Rattle.meaning_nodes.specs.Labels.{label_of}
 use Rattle.meaning_tasks.specs.Tasks.{Task, given, picked, mapped, packed, tooled, unfit, task_of}
 use Rattle.meaning_tasks.specs.Needs.{Results, Known, values_of, has_value, own_lines, other_lines, needs_of, ReachedNames, Needs}
 use Rattle.meaning_tasks.specs.Settle.{given_own, settled}
-use Rattle.meaning_tasks.proofs.Sorted.{cmp_same}
-use Rattle.meaning_tasks.proofs.Reached.{all_reached}
-use Rattle.meaning_tasks.proofs.Valued.{IsValued, from_where}
+use Rattle.meaning_tasks.proofs.Lemmas.{cmp_same, all_reached, IsValued, from_where}
 use Rattle.meaning_derive.specs.Derive.{Sources, text_of, Outcomes, names_for, derive}
 
 tied_in : (x : Text) (names : List Text) → list_any (eq_by_cmp name_cmp x) names ≡ true → IsIn x names
 tied_in x [] h = cc
-tied_in x (y ∷ names) h = elim (either_true (eq_by_cmp name_cmp x y) (list_any (eq_by_cmp name_cmp x) names) h) [
+tied_in x (y ∷ names) h = elim (or_cases (eq_by_cmp name_cmp x y) (list_any (eq_by_cmp name_cmp x) names) h) [
   | inl e ↦ inl (cmp_same x y ((Equal-is (name_cmp x y)).0 e))
   | inr k ↦ inr (tied_in x names k)
 ]

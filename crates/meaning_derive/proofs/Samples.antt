@@ -7,7 +7,7 @@ use Rattle.object_values.specs.declared.views.Value.{Value}
 use Rattle.object_values.specs.declared.views.Value.TheVariants.{List as Listed}
 use Rattle.object_values.specs.declared.views.View.{View}
 use Rattle.meaning_graph.specs.Graphs.{Text, Graph}
-use Rattle.meaning_graph.specs.Members.{IsIn}
+use Rattle.meaning_texts.specs.Lists.{IsIn}
 use Rattle.meaning_graph.specs.Samples.{c_units_back, joined_texts}
 use Rattle.meaning_tasks.specs.Reached.{Reached, by_own, by_line, AreReached}
 use Rattle.meaning_tasks.specs.Tasks.{task_of}

@@ -16,10 +16,10 @@ use Rattle.object_values.specs.declared.graph.Make.{Make}
 use Rattle.object_values.specs.declared.graph.Make.TheVariants.{Tool, Read, Each, Pack}
 use Rattle.object_values.specs.declared.graph.MakerDecl.{MakerDecl}
 use Rattle.object_values.specs.declared.calls.Outcome.{Outcome}
-use Rattle.meaning_texts.specs.Lines.{references}
+use Rattle.meaning_texts.specs.References.{references}
 use Rattle.meaning_graph.specs.Graphs.{Text, Graph, makers, kind_named}
-use Rattle.meaning_graph.specs.Members.{IsIn}
-use Rattle.meaning_graph.proofs.Members.{in_all_pass}
+use Rattle.meaning_texts.specs.Lists.{IsIn}
+use Rattle.meaning_texts.proofs.Lemmas.{in_all_pass}
 use Rattle.meaning_nodes.specs.Nodes.{last_step}
 use Rattle.meaning_nodes.specs.Labels.{label_of}
 use Rattle.meaning_nodes.specs.Values.{Picked, element, body, pick, worst}

@@ -4,7 +4,7 @@ use Rattle.object_values.specs.declared.nodes.Node.{Node}
 use Rattle.meaning_texts.specs.Limits.{height_limit}
 use Rattle.meaning_graph.specs.Graphs.{Graph}
 use Rattle.meaning_tasks.specs.Needs.{Grows}
-use Rattle.meaning_tasks.proofs.Grow.{need_stays}
+use Rattle.meaning_tasks.proofs.Lemmas.{need_stays}
 use Rattle.meaning_derive.specs.Derive.{Sources, Outcomes, derived}
 use Rattle.meaning_derive.specs.Chains.{IsNeed, LeadsOn, Chain}
 use Rattle.meaning_derive.specs.Laws.{HasMore, AreKept}

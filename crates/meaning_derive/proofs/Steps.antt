@@ -8,16 +8,16 @@ use Rattle.object_values.specs.declared.views.View.{View}
 use Rattle.object_values.specs.declared.calls.Call.{Call}
 use Rattle.object_values.specs.declared.calls.Outcome.{Outcome}
 use Rattle.meaning_graph.specs.Graphs.{Text, Graph}
-use Rattle.meaning_graph.specs.Members.{IsIn}
-use Rattle.meaning_graph.proofs.Members.{in_left, in_all_pass, cond_true}
+use Rattle.meaning_texts.specs.Lists.{IsIn}
+use Rattle.meaning_texts.proofs.Lemmas.{in_left, in_all_pass}
+use Rattle.std.proofs.lemmas.Bool.{cond-true}
 use Rattle.meaning_nodes.specs.Labels.{label_of}
 use Rattle.meaning_nodes.specs.Values.{worst, inherit}
 use Rattle.meaning_tasks.specs.Tasks.{Own, task_of}
 use Rattle.meaning_tasks.specs.Needs.{Results, values_of, AgreeOn, Grows, has_value, needs_of, ranked_needs}
 use Rattle.meaning_tasks.specs.Calls.{call_of}
 use Rattle.meaning_tasks.specs.Settle.{own_of, status_in, messages_in, worst_of, settled, settle}
-use Rattle.meaning_tasks.proofs.Local.{same_flat, same_all, ranked_local, list_local, computed_local, call_local, own_local}
-use Rattle.meaning_tasks.proofs.Valued.{stays}
+use Rattle.meaning_tasks.proofs.Lemmas.{same_flat, same_all, ranked_local, list_local, computed_local, call_local, own_local, stays}
 use Rattle.meaning_derive.specs.Derive.{Sources, text_of, Outcomes, all_known, outcome_for, names_for, settle_if_known, derive_above, derive}
 use Rattle.meaning_derive.specs.Laws.{HasMore}
 
@@ -89,7 +89,7 @@ module _ (g : Graph) (s : Sources) (n : Node) where
 
   pub so_step : (outcomes : Outcomes) (seen : Results) (names : List Text) (view : View) → IsStep outcomes seen names view → settle_if_known g s outcomes n seen names ≡ Some view
   so_step outcomes seen names view p =
-      cond_true (all_known seen (needs_in seen names)) _ None p.known
+      cond-true (all_known seen (needs_in seen names)) _ None p.known
       ∙ ap (option_map (λ o. settle g (text_of s) n seen o names)) p.given ∙ ap Some (sym p.is)
 
   -- needs that all have results keep them where there are more

@@ -7,7 +7,7 @@ use Rattle.object_values.specs.declared.jobs.Raw.{Raw}
 use Rattle.meaning_texts.specs.Classes.{IsName}
 use Rattle.meaning_texts.specs.Limits.{body_limit}
 use Rattle.meaning_calls.specs.Jobs.{job_of}
-use Rattle.meaning_calls.specs.Outcomes.{outcome_of, Fits}
+use Rattle.meaning_calls.specs.Outcomes.{outcome_of, OutcomeFits}
 use Rattle.meaning_graph.specs.Graphs.{Text}
 use Rattle.meaning_derive.specs.Derive.{Sources, text_of, Outcomes}
 
@@ -20,7 +20,7 @@ abbrev pub AreSources : Sources → Type 0
 AreSources s = (name text : Text) → text_of s name ≡ Some text → IsSource name text
 
 abbrev pub OutcomesFit : Outcomes → Type 0
-OutcomesFit outcomes = (call : Call) (o : Outcome) → outcomes call ≡ Some o → Fits call o
+OutcomesFit outcomes = (call : Call) (o : Outcome) → outcomes call ≡ Some o → OutcomeFits call o
 
 -- The table of the tools gives what comes of each job, and so each call has an outcome.
 abbrev pub table_outcomes : (Job → Raw) → Outcomes

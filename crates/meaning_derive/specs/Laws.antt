@@ -9,7 +9,7 @@ use Rattle.object_values.specs.declared.jobs.Job.{Job}
 use Rattle.object_values.specs.declared.jobs.Raw.{Raw}
 use Rattle.meaning_texts.specs.Limits.{height_limit}
 use Rattle.meaning_graph.specs.Graphs.{Graph}
-use Rattle.meaning_graph.specs.Members.{IsIn}
+use Rattle.meaning_texts.specs.Lists.{IsIn}
 use Rattle.meaning_tasks.specs.Needs.{Results, Grows, Needs}
 use Rattle.meaning_tasks.specs.Calls.{CallOf}
 use Rattle.meaning_tasks.specs.Settle.{Settles}

@@ -1,6 +1,6 @@
-pub mod Members
-pub mod Order
-pub mod Routes
-pub mod Types
-pub mod Paths
-pub mod Suffixes
+mod Order
+mod Routes
+mod Types
+mod Paths
+mod Suffixes
+pub mod Lemmas

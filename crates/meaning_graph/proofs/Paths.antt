@@ -5,12 +5,13 @@ use Rattle.std.specs.List.{position_or_len}
 use Rattle.std.proofs.lemmas.Bool.Decides.{Decides-ltb}
 use Rattle.object_values.specs.declared.graph.TypeDecl.{TypeDecl}
 use Rattle.object_values.specs.declared.graph.MakerDecl.{MakerDecl}
-use Rattle.meaning_graph.specs.Members.{IsIn, numbered}
+use Rattle.meaning_texts.specs.Lists.{IsIn, numbered}
 use Rattle.meaning_graph.specs.Graphs.{Text, Graph, types, makers, type_named}
 use Rattle.meaning_graph.specs.Types.{IsA, itself, by_super, is_a}
 use Rattle.meaning_graph.specs.Routes.{least_route}
 use Rattle.meaning_graph.specs.Paths.{Makes, Path, Chosen, HasNoPath, made_of, maker_edges, chosen_path}
-use Rattle.meaning_graph.proofs.Members.{in_chosen, from_chosen, numbered_in, in_numbered, same_some, cond_true}
+use Rattle.meaning_texts.proofs.Lemmas.{in_chosen, from_chosen, numbered_in, in_numbered, same_some}
+use Rattle.std.proofs.lemmas.Bool.{cond-true}
 use Rattle.meaning_graph.proofs.Order.{IsLeast, before_chain, not_before_itself}
 use Rattle.meaning_graph.proofs.Routes.{Route, least_of_all}
 use Rattle.meaning_graph.proofs.Types.{numbers, in_below, length-below, super_numbered, is_a_so, so_is_a}
@@ -44,7 +45,7 @@ module _ (g : Graph) where
   ]) refl h
 
   so_made : (a : ℕ) (m : MakerDecl) (to : ℕ) → Made a m to → made_of g a m ≡ Some to
-  so_made a m to d = ap (option_and_then (λ t. cond (is_a g a t) (type_named g m.to) None)) d.takes ∙ cond_true (is_a g a d.taken) (type_named g m.to) None (so_is_a g a d.taken d.fits) ∙ d.makes
+  so_made a m to d = ap (option_and_then (λ t. cond (is_a g a t) (type_named g m.to) None)) d.takes ∙ cond-true (is_a g a d.taken) (type_named g m.to) None (so_is_a g a d.taken d.fits) ∙ d.makes
 
   abbrev edge : ℕ → ℕ × MakerDecl → Option (ℕ × ℕ)
   edge a e = option_map (λ to. (e.0, to)) (made_of g a e.1)

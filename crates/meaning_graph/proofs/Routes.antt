@@ -1,9 +1,9 @@
 -- The least route is found: where there is a route there is one with no more labels than places, since a route that leaves a place twice can be cut.
 use Rattle.std.proofs.Common.{◌≡◌, ℕ, zero, suc, ◌≤◌, ◌<◌, Bool, true, false, List, [], ◌∷◌, ◌++◌, ◌⊎◌, inl, inr, sym, ap, subst, refl, length, arith, length-append}
 use Rattle.std.specs.Prelude.{Option, Some, None, option_map, IsTrue}
-use Rattle.meaning_graph.specs.Members.{IsIn}
+use Rattle.meaning_texts.specs.Lists.{IsIn}
 use Rattle.meaning_graph.specs.Routes.{Edges, least_over, least_route}
-use Rattle.meaning_graph.proofs.Members.{split_at, in_without, never_both}
+use Rattle.meaning_texts.proofs.Lemmas.{split_at, in_without, never_both}
 use Rattle.meaning_graph.proofs.Order.{AtMost, IsLeast, least_same, lesser_least, at_most_behind}
 
 -- the labels lead from a to a place that passes the test

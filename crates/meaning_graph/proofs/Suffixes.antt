@@ -3,10 +3,10 @@ use Rattle.std.proofs.Common.{◌≡◌, ℕ, ◌≤◌, Bool, true, false, List
 use Rattle.std.specs.Prelude.{Option, Some, None, MatchOption, bytes_eq, find, cond}
 use Rattle.std.specs.Cmp.Lexicographic.{bytes_decides}
 use Rattle.object_values.specs.declared.graph.SuffixDecl.{SuffixDecl}
-use Rattle.meaning_graph.specs.Members.{IsIn}
+use Rattle.meaning_texts.specs.Lists.{IsIn}
 use Rattle.meaning_graph.specs.Graphs.{Text, Graph, suffixes}
 use Rattle.meaning_graph.specs.Suffixes.{EndsWith, IsLongestSuffix, HasNoSuffix, or_later, suffix_of}
-use Rattle.meaning_graph.proofs.Members.{never_both}
+use Rattle.meaning_texts.proofs.Lemmas.{never_both, same_some}
 
 -- what is found passes the test and is one of the list, and where nothing is found none passes
 pub found_passes : {A : Type 0} (p : A → Bool) (xs : List A) (x : A) → find p xs ≡ Some x → IsIn x xs × (p x ≡ true)
@@ -22,6 +22,13 @@ none_passes p (y ∷ xs) x h i e = (elim (p y) as (λ b. p y ≡ b → cond b (S
   | true ↦ λ q k. cc
   | false ↦ λ q k. elim i [ inl z ↦ never_both (p y) (ap p (sym z) ∙ e) q | inr m ↦ none_passes p xs x k m e ]
 ]) refl h
+
+-- two ends of one text that are as long are one
+same_end : (a b x y : Text) → a ++ x ≡ b ++ y → length x ≡ length y → x ≡ y
+same_end [] [] x y e l = e
+same_end [] (c ∷ b) x y e l = let n : length x ≡ length ((c ∷ b) ++ y) = ap length e in absurd (omega (arith, n, l, length-append b y))
+same_end (d ∷ a) [] x y e l = let n : length ((d ∷ a) ++ x) ≡ length y = ap length e in absurd (omega (arith, n, l, length-append a x))
+same_end (d ∷ a) (c ∷ b) x y e l = let rest : a ++ x ≡ b ++ y = cc in same_end a b x y rest l
 
 module _ (g : Graph) where
   abbrev is_that : Text → SuffixDecl → Bool
@@ -73,3 +80,12 @@ module _ (g : Graph) where
         ends = (b ∷ l.ends.0, ap (λ t. b ∷ t) l.ends.1);
         longest = λ d i h. elim (itself_or_later b name d.suffix h) [ inl q ↦ absurd (is_none_of (b ∷ name) d e i q) | inr k ↦ l.longest d i k ];
       }
+
+  pub one_suffix : (name : Text) (s t : SuffixDecl) → IsLongestSuffix g name s → IsLongestSuffix g name t → s ≡ t
+  one_suffix name s t x y =
+      let s_in : IsIn s (suffixes g) = (found_passes (is_that s.suffix) (suffixes g) s x.first).0 in
+      let t_in : IsIn t (suffixes g) = (found_passes (is_that t.suffix) (suffixes g) t y.first).0 in
+      let low : length t.suffix ≤ length s.suffix = x.longest t t_in y.ends in
+      let high : length s.suffix ≤ length t.suffix = y.longest s s_in x.ends in
+      let same : s.suffix ≡ t.suffix = same_end x.ends.0 y.ends.0 s.suffix t.suffix (sym x.ends.1 ∙ y.ends.1) (omega (arith, low, high)) in
+      same_some (sym x.first ∙ ap (λ text. find (is_that text) (suffixes g)) same ∙ y.first)

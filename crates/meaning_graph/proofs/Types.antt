@@ -5,11 +5,12 @@ use Rattle.std.specs.List.{list_any}
 use Rattle.std.proofs.lemmas.Bool.Decides.{Decides-eqb}
 use Rattle.std.proofs.lemmas.Option.{slice_get_within}
 use Rattle.object_values.specs.declared.graph.TypeDecl.{TypeDecl}
-use Rattle.meaning_graph.specs.Members.{IsIn}
+use Rattle.meaning_texts.specs.Lists.{IsIn}
 use Rattle.meaning_graph.specs.Graphs.{Graph, types}
 use Rattle.meaning_graph.specs.Types.{supers, supers_of, IsA, itself, by_super, is_a_within, is_a}
 use Rattle.meaning_graph.specs.Routes.{Edges}
-use Rattle.meaning_graph.proofs.Members.{either_true, left_true, right_true, in_map, from_map, one_passes, passes_one}
+use Rattle.std.proofs.lemmas.Bool.{or_cases, or_left, or_right}
+use Rattle.meaning_texts.proofs.Lemmas.{in_map, from_map, one_passes, passes_one}
 use Rattle.meaning_graph.proofs.Routes.{Route, short_route}
 
 -- the numbers below n
@@ -59,13 +60,13 @@ module _ (g : Graph) where
 
   within_of : (n : ℕ) (q : List ℕ) (a c : ℕ) → length q ≤ n → Route super_edges (λ b. nat_eq b c) a q → is_a_within g n c a ≡ true
   within_of zero [] a c few r = r
-  within_of (suc n) [] a c few r = left_true (nat_eq a c) _ r
+  within_of (suc n) [] a c few r = or_left (nat_eq a c) _ r
   within_of zero (k ∷ q) a c few r = absurd (omega (arith, few))
-  within_of (suc n) (k ∷ q) a c few r = right_true (nat_eq a c) _ (passes_one (is_a_within g n c) r.0 (supers g a) (edge_super a k r.0 r.1) (within_of n q r.0 c (omega (arith, few)) r.2))
+  within_of (suc n) (k ∷ q) a c few r = or_right (nat_eq a c) _ (passes_one (is_a_within g n c) r.0 (supers g a) (edge_super a k r.0 r.1) (within_of n q r.0 c (omega (arith, few)) r.2))
 
   of_within : (n a c : ℕ) → is_a_within g n c a ≡ true → IsA g a c
   of_within zero a c h = subst (λ z. IsA g a z) ((Decides-eqb a c).0 h) (itself a)
-  of_within (suc n) a c h = elim (either_true (nat_eq a c) (list_any (is_a_within g n c) (supers g a)) h) [
+  of_within (suc n) a c h = elim (or_cases (nat_eq a c) (list_any (is_a_within g n c) (supers g a)) h) [
     | inl e ↦ subst (λ z. IsA g a z) ((Decides-eqb a c).0 e) (itself a)
     | inr k ↦ let r = one_passes (is_a_within g n c) (supers g a) k in by_super a r.0 c r.1 (of_within n r.0 c r.2)
   ]

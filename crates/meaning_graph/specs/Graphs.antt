@@ -18,27 +18,19 @@ Graph = List Decl
 
 abbrev pub as_type : Decl → Option TypeDecl
 as_type (ObjectType t) = Some t
-as_type (Suffix s) = None
-as_type (Param p) = None
-as_type (Maker m) = None
+as_type other = None
 
 abbrev pub as_suffix : Decl → Option SuffixDecl
-as_suffix (ObjectType t) = None
 as_suffix (Suffix s) = Some s
-as_suffix (Param p) = None
-as_suffix (Maker m) = None
+as_suffix other = None
 
 abbrev pub as_param : Decl → Option Text
-as_param (ObjectType t) = None
-as_param (Suffix s) = None
 as_param (Param p) = Some p
-as_param (Maker m) = None
+as_param other = None
 
 abbrev pub as_maker : Decl → Option MakerDecl
-as_maker (ObjectType t) = None
-as_maker (Suffix s) = None
-as_maker (Param p) = None
 as_maker (Maker m) = Some m
+as_maker other = None
 
 -- the type that is there before the first declaration
 abbrev pub text_type : TypeDecl

@@ -1,5 +1,6 @@
 -- What the laws of graphs say.
 use Rattle.std.specs.Prelude.{◌≡◌, ◌↔◌, ℕ, List, IsTrue, MatchOption}
+use Rattle.object_values.specs.declared.graph.SuffixDecl.{SuffixDecl}
 use Rattle.meaning_graph.specs.Graphs.{Text, Graph}
 use Rattle.meaning_graph.specs.Suffixes.{IsLongestSuffix, HasNoSuffix, suffix_of}
 use Rattle.meaning_graph.specs.Types.{IsA, is_a}
@@ -12,6 +13,10 @@ IsAIsReachability = (g : Graph) (a b : ℕ) → IsTrue (is_a g a b) ↔ IsA g a 
 -- The computed suffix is the longest one, and there is none exactly where no declared suffix ends the name.
 abbrev pub SuffixIsLongest : Type 0
 SuffixIsLongest = (g : Graph) (name : Text) → MatchOption (suffix_of g name) (HasNoSuffix g name) (IsLongestSuffix g name)
+
+-- There is one longest suffix.
+abbrev pub OneIsLongest : Type 0
+OneIsLongest = (g : Graph) (name : Text) (s t : SuffixDecl) → IsLongestSuffix g name s → IsLongestSuffix g name t → s ≡ t
 
 -- The computed path is the chosen one, and there is none exactly where there is no path.
 abbrev pub PathIsChosen : Type 0

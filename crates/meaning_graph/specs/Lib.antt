@@ -1,4 +1,3 @@
-pub mod Members
 pub mod Graphs
 pub mod Suffixes
 pub mod Types

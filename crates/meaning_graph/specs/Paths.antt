@@ -1,7 +1,7 @@
 -- Paths of makers from type to type, and the chosen one.
 use Rattle.std.specs.Prelude.{◌≡◌, ℕ, ◌⊎◌, List, [], ◌∷◌, length, Option, Some, None, cond, slice_get, filter_map, option_map, option_and_then}
 use Rattle.object_values.specs.declared.graph.MakerDecl.{MakerDecl}
-use Rattle.meaning_graph.specs.Members.{numbered}
+use Rattle.meaning_texts.specs.Lists.{numbered}
 use Rattle.meaning_graph.specs.Graphs.{Graph, types, makers, type_named}
 use Rattle.meaning_graph.specs.Types.{IsA, is_a}
 use Rattle.meaning_graph.specs.Routes.{Edges, ComesBefore, least_route}

@@ -1,7 +1,7 @@
 -- The type of a source, by the longest declared suffix that its name ends with.
 use Rattle.std.specs.Prelude.{◌≡◌, ℕ, ◌≤◌, [], ◌∷◌, ◌++◌, length, Option, Some, None, bytes_eq, find, unwrap_or, codes}
 use Rattle.object_values.specs.declared.graph.SuffixDecl.{SuffixDecl}
-use Rattle.meaning_graph.specs.Members.{IsIn}
+use Rattle.meaning_texts.specs.Lists.{IsIn}
 use Rattle.meaning_graph.specs.Graphs.{Text, Graph, suffixes, type_named}
 
 -- the name ends with the suffix

@@ -2,7 +2,7 @@
 use Rattle.std.specs.Prelude.{ℕ, zero, suc, Bool, List, [], length, Option, Some, None, ◌||◌, nat_eq, filter_map, slice_get}
 use Rattle.std.specs.List.{list_any}
 use Rattle.object_values.specs.declared.graph.TypeDecl.{TypeDecl}
-use Rattle.meaning_graph.specs.Members.{IsIn}
+use Rattle.meaning_texts.specs.Lists.{IsIn}
 use Rattle.meaning_graph.specs.Graphs.{Graph, types, type_named}
 
 abbrev pub supers_of : Graph → Option TypeDecl → List ℕ

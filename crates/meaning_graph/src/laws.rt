@@ -1,5 +1,5 @@
 //! Laws of graphs, for every list of declarations. Each is the contract of a function with an empty body.
-ghost use Rattle.meaning_graph.specs.Laws.{IsAIsReachability, SuffixIsLongest, PathIsChosen, OneIsChosen};
+ghost use Rattle.meaning_graph.specs.Laws.{IsAIsReachability, SuffixIsLongest, OneIsLongest, PathIsChosen, OneIsChosen};
 
 /// One type is another exactly where supertypes lead there.
 pub fn is_a_is_reachability()
@@ -9,6 +9,11 @@ pub fn is_a_is_reachability()
 /// The suffix that gives a source its type is the longest declared one.
 pub fn suffix_is_longest()
     ensures { SuffixIsLongest }
+{}
+
+/// There is at most one longest suffix.
+pub fn one_is_longest()
+    ensures { OneIsLongest }
 {}
 
 /// A chosen path exists exactly where a path exists.

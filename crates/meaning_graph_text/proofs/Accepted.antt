@@ -18,7 +18,7 @@ use Rattle.object_values.specs.declared.graph.Decl.TheVariants.{ObjectType, Suff
 use Rattle.meaning_texts.specs.Classes.{is_name_byte, IsWord, IsId, IsName, IsStringText}
 use Rattle.meaning_texts.specs.Limits.{extra_bound}
 use Rattle.meaning_texts.specs.Tests.{is_string_text}
-use Rattle.meaning_texts.proofs.Words.{word_decides, id_decides, string_decides}
+use Rattle.meaning_texts.proofs.Lemmas.{word_decides, id_decides, string_decides}
 use Rattle.meaning_graph_text.specs.Tokens.{Token, word, string, semicolon, comma, opening, closing}
 use Rattle.meaning_graph_text.specs.Grammar.{id_tokens, optional_tokens, part_tokens, kind_tokens, string_tokens, decl_tokens, graph_tokens, IsSpellablePart, IsSpellableKind, IsSpellableExtra, IsSpellableMake, IsSpellableDecl, HasNoSupers, IsInGrammar, HasSpelling}
 use Rattle.meaning_graph_text.specs.Going.{Class, keyword, identifier, any_word, any_string, name_string, open_mark, accepts, Stage, between, kind, supers, super_ids, parts, ending, strings, used_ids, extras, Expected, expect, start, way, tool_front, extra_word, run}

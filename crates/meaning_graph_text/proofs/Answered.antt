@@ -35,10 +35,10 @@ stops_at : (rest left : List ℕ) (tokens : List Token) (u : Token) → token_at
     → (t : Token) (other : List ℕ) → BeginsWith rest t other → IsFrontOfGraph (tokens ++ t ∷ []) → ⊥
 stops_at rest left tokens u k never t other b f =
     let same : t ≡ u = same_taken t u other left (sym (begins_told rest t other b) ∙ k) in
-    let whole : tokens ++ u ∷ f.0 ≡ graph_tokens f.1 = ap (λ x. tokens ++ x ∷ f.0) (sym same) ∙ sym (append_assoc tokens (t ∷ []) f.0) ∙ f.3 in
-    never f.1 f.0 f.2 whole
+    let whole : tokens ++ u ∷ f.more ≡ graph_tokens f.decls = ap (λ x. tokens ++ x ∷ f.more) (sym same) ∙ sym (append_assoc tokens (t ∷ []) f.more) ∙ f.is in
+    never f.decls f.more f.spelled whole
 
-no_graph_at : (text rest left : List ℕ) (tokens : List Token) (u : Token) → Tokens text tokens rest → is_past_gap rest ≡ true → token_at rest ≡ Some (taken u left) → ((decls : List Decl) (more : List Token) → HasSpelling decls → tokens ++ u ∷ more ≡ graph_tokens decls → ⊥)
+pub no_graph_at : (text rest left : List ℕ) (tokens : List Token) (u : Token) → Tokens text tokens rest → is_past_gap rest ≡ true → token_at rest ≡ Some (taken u left) → ((decls : List Decl) (more : List Token) → HasSpelling decls → tokens ++ u ∷ more ≡ graph_tokens decls → ⊥)
     → (decls : List Decl) → GraphText text decls → ⊥
 no_graph_at text rest left tokens u d p k never decls g = elim (compared text tokens (graph_tokens decls) rest [] d g.tokens p refl) [
   | inl h ↦ let e : ◌≡◌ {A = Option Taken} None (Some (taken u left)) = subst (λ x. token_at x ≡ Some (taken u left)) h.left k in let n : ⊥ = cc in absurd n
@@ -52,7 +52,7 @@ no_graph_at text rest left tokens u d p k never decls g = elim (compared text to
 stops_without : (rest : List ℕ) (tokens : List Token) → token_at rest ≡ None → (t : Token) (other : List ℕ) → BeginsWith rest t other → IsFrontOfGraph (tokens ++ t ∷ []) → ⊥
 stops_without rest tokens k t other b f = let e : ◌≡◌ {A = Option Taken} None (Some (taken t other)) = sym k ∙ begins_told rest t other b in cc
 
-no_graph_without : (text rest : List ℕ) (tokens : List Token) → Tokens text tokens rest → is_past_gap rest ≡ true → token_at rest ≡ None → (rest ≡ [] → (decls : List Decl) → HasSpelling decls → tokens ≡ graph_tokens decls → ⊥) → (decls : List Decl) → GraphText text decls → ⊥
+pub no_graph_without : (text rest : List ℕ) (tokens : List Token) → Tokens text tokens rest → is_past_gap rest ≡ true → token_at rest ≡ None → (rest ≡ [] → (decls : List Decl) → HasSpelling decls → tokens ≡ graph_tokens decls → ⊥) → (decls : List Decl) → GraphText text decls → ⊥
 no_graph_without text rest tokens d p k never decls g = elim (compared text tokens (graph_tokens decls) rest [] d g.tokens p refl) [
   | inl h ↦ never h.left decls g.spelled h.tokens
   | inr h ↦ elim h [
@@ -104,7 +104,7 @@ not_expected ts e t h s f =
     both_ways false refl (rw one_more at g)
 
 never_there : (ts : List Token) (e : Expected) (t : Token) → run start ts ≡ Some e → step e.must e.stage t ≡ None → (decls : List Decl) (more : List Token) → HasSpelling decls → ts ++ t ∷ more ≡ graph_tokens decls → ⊥
-never_there ts e t h s decls more good w = not_expected ts e t h s (more, decls, good, append_assoc ts (t ∷ []) more ∙ w)
+never_there ts e t h s decls more good w = not_expected ts e t h s (record { more = more; decls = decls; spelled = good; is = append_assoc ts (t ∷ []) more ∙ w })
 
 unexpected : (text : List ℕ) (ts : List Token) (rest : List ℕ) (e : Expected) (k : Taken) → Reading text ts rest e → token_at rest ≡ Some k → step e.must e.stage k.token ≡ None → FaultAt text rest
 unexpected text ts rest e k r a s = fault text ts rest e r (stops_at rest k.rest ts k.token a (never_there ts e k.token r.runs s)) (no_graph_at text rest k.rest ts k.token r.tokens r.past a (never_there ts e k.token r.runs s))

@@ -31,9 +31,9 @@ same_front xs ys rest e = append_cancel_right xs ys rest e
 -- where one reading stops another doesn't go on, if both stop at faults
 no_more_tokens : (text : List ℕ) (l c m d : ℕ) (f : IsSyntaxFault text l c) (g : IsSyntaxFault text m d) → GoesOn f.tokens g.tokens f.rest → ⊥
 no_more_tokens text l c m d f g k =
-    let whole : (f.tokens ++ k.token ∷ []) ++ (k.more ++ g.goes_on.0) ≡ graph_tokens g.goes_on.1 =
-    append_assoc f.tokens (k.token ∷ []) (k.more ++ g.goes_on.0) ∙ sym (append_assoc f.tokens (k.token ∷ k.more) g.goes_on.0) ∙ ap (λ ts. ts ++ g.goes_on.0) (sym k.tokens) ∙ g.goes_on.3 in
-    f.stops k.token k.left k.begins (k.more ++ g.goes_on.0, g.goes_on.1, g.goes_on.2, whole)
+    let whole : (f.tokens ++ k.token ∷ []) ++ (k.more ++ g.goes_on.more) ≡ graph_tokens g.goes_on.decls =
+    append_assoc f.tokens (k.token ∷ []) (k.more ++ g.goes_on.more) ∙ sym (append_assoc f.tokens (k.token ∷ k.more) g.goes_on.more) ∙ ap (λ ts. ts ++ g.goes_on.more) (sym k.tokens) ∙ g.goes_on.is in
+    f.stops k.token k.left k.begins (record { more = k.more ++ g.goes_on.more; decls = g.goes_on.decls; spelled = g.goes_on.spelled; is = whole })
 
 pub one_fault : (text : List ℕ) (l c m d : ℕ) → IsSyntaxFault text l c → IsSyntaxFault text m d → (m ≡ l) × (d ≡ c)
 one_fault text l c m d f g = elim (compared text f.tokens g.tokens f.rest g.rest f.before g.before f.begins g.begins) [

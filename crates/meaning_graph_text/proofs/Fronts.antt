@@ -174,7 +174,7 @@ goes_on tokens e low h =
     let d : length (tokens ++ (samples e.must ++ stage_end e.stage)) ≡ length tokens + length (samples e.must ++ stage_end e.stage) = length-append tokens (samples e.must ++ stage_end e.stage) in
     let back : run start (tokens ++ (samples e.must ++ stage_end e.stage)) ≡ Some start = run_append start tokens (samples e.must ++ stage_end e.stage) ∙ ap (option_and_then (λ (f : Expected). run f (samples e.must ++ stage_end e.stage))) h ∙ completes e.must e.stage in
     let g : GraphOf (tokens ++ (samples e.must ++ stage_end e.stage)) = graph_told (tokens ++ (samples e.must ++ stage_end e.stage)) (omega arith) back in
-    (samples e.must ++ stage_end e.stage, g.decls, g.good, g.is)
+    record { more = samples e.must ++ stage_end e.stage; decls = g.decls; spelled = g.good; is = g.is }
 
 pub front_from_going : (tokens : List Token) → length tokens ≤ graph_limit → can_go_on tokens ≡ true → IsFrontOfGraph tokens
 unfolding can_go_on
@@ -187,8 +187,8 @@ prefix_runs (Some x) ys e = refl
 pub going_from_front : (tokens : List Token) → IsFrontOfGraph tokens → can_go_on tokens ≡ true
 unfolding can_go_on
 going_from_front tokens f =
-    let back : run start (tokens ++ f.0) ≡ Some start = ap (run start) f.3 ∙ graph_run f.1 f.2.spellable in
-    prefix_runs (run start tokens) f.0 (sym (run_append start tokens f.0) ∙ back)
+    let back : run start (tokens ++ f.more) ≡ Some start = ap (run start) f.is ∙ graph_run f.decls f.spelled.spellable in
+    prefix_runs (run start tokens) f.more (sym (run_append start tokens f.more) ∙ back)
 
 -- where the tokens lead back to the start, they are those of a graph
 pub whole_from_run : (tokens : List Token) → length tokens ≤ graph_limit → run start tokens ≡ Some start → GraphOf tokens

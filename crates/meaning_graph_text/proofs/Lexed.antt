@@ -3,11 +3,10 @@ use Rattle.std.proofs.Common.{◌≡◌, ℕ, zero, suc, Bool, true, false, List
 use Rattle.std.specs.Prelude.{nat_eq}
 use Rattle.std.specs.Option.{option_map, option_and_then}
 use Rattle.std.proofs.lemmas.Bool.{cases_Bool, eqb-true, eqb-false}
-use Rattle.std.proofs.lemmas.List.Elements.{All-nil, All-cons}
 use Rattle.meaning_texts.specs.Classes.{is_name_byte}
 use Rattle.meaning_texts.specs.Tests.{is_name, is_string_text}
 use Rattle.meaning_texts.specs.Lines.{HasNoLf}
-use Rattle.meaning_texts.proofs.Words.{word_decides, string_decides}
+use Rattle.meaning_texts.proofs.Lemmas.{word_decides, string_decides}
 use Rattle.meaning_graph_text.specs.Tokens.{Token, word, string, semicolon, comma, opening, closing, is_blank, begins_with, is_line_end, BeginsWith, a_word, a_string, a_semicolon, a_comma, an_opening, a_closing, Tokens, no_more, blank, comment, one}
 use Rattle.meaning_graph_text.specs.Lexing.{past_gap, name_front, past_names, before_quote, behind_quote, Taken, taken, token_at}
 
@@ -104,11 +103,11 @@ comment_read : (b : ℕ) (text : List ℕ) (tokens : List Token) (rest : List �
 comment_read b text tokens rest e c = rw (e, c.is) (comment c.words c.behind tokens rest c.no_lf c.line_end c.read)
 
 comment_more : (b : ℕ) (text : List ℕ) (tokens : List Token) (rest : List ℕ) → (b ≡ 10 → ⊥) → InComment text tokens rest → InComment (b ∷ text) tokens rest
-comment_more b text tokens rest n c = record { words = b ∷ c.words; behind = c.behind; is = ap (λ x. b ∷ x) c.is; no_lf = All-cons (λ c. c ≡ 10 → ⊥) b c.words n c.no_lf; line_end = c.line_end; read = c.read }
+comment_more b text tokens rest n c = record { words = b ∷ c.words; behind = c.behind; is = ap (λ x. b ∷ x) c.is; no_lf = (n, c.no_lf); line_end = c.line_end; read = c.read }
 
 pub gap_read : (inside : Bool) (text : List ℕ) (tokens : List Token) (rest : List ℕ) → Tokens (past_gap inside text) tokens rest → Reads inside text tokens rest
 gap_read false [] tokens rest d = d
-gap_read true [] tokens rest d = record { words = []; behind = []; is = refl; no_lf = All-nil (λ c. c ≡ 10 → ⊥); line_end = refl; read = d }
+gap_read true [] tokens rest d = record { words = []; behind = []; is = refl; no_lf = tt; line_end = refl; read = d }
 gap_read false (b ∷ text) tokens rest d = elim (cases_Bool (is_blank b)) [
   | inl e ↦ blank b text tokens rest e (gap_read false text tokens rest (rw e at d))
   | inr e ↦ let d1 = rw e at d in elim (cases_Bool (nat_eq b 35)) [
@@ -120,7 +119,7 @@ gap_read true (b ∷ text) tokens rest d = elim (cases_Bool (nat_eq b 10)) [
   | inl e ↦
       let t : Tokens text tokens rest = gap_read false text tokens rest (rw e at d) in
       let blank_is : is_blank b ≡ true = rw (eqb-true b 10 e) refl in
-      record { words = []; behind = b ∷ text; is = refl; no_lf = All-nil (λ c. c ≡ 10 → ⊥); line_end = e; read = blank b text tokens rest blank_is t }
+      record { words = []; behind = b ∷ text; is = refl; no_lf = tt; line_end = e; read = blank b text tokens rest blank_is t }
   | inr e ↦
       let c : InComment text tokens rest = gap_read true text tokens rest (rw e at d) in
       comment_more b text tokens rest (eqb-false b 10 e) c

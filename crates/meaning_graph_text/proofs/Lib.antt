@@ -1,15 +1,16 @@
-pub mod Tokens
-pub mod Stops
-pub mod Decls
-pub mod Faults
-pub mod Spelled
-pub mod Firsts
-pub mod CheckedGraphs
-pub mod Lexed
-pub mod Readings
-pub mod Samples
-pub mod Named
-pub mod Runs
-pub mod Accepted
-pub mod Fronts
-pub mod Answered
+mod Tokens
+mod Stops
+mod Decls
+mod Faults
+mod Spelled
+mod Firsts
+mod CheckedGraphs
+mod Lexed
+mod Readings
+mod Samples
+mod Named
+mod Runs
+mod Accepted
+mod Fronts
+mod Answered
+pub mod Lemmas

@@ -3,7 +3,7 @@ use Rattle.std.proofs.Common.{◌≡◌, ℕ, true, false, Option, Some, None, r
 use Rattle.std.proofs.lemmas.Bool.{both_ways}
 use Rattle.meaning_graph.specs.Graphs.{Text, Graph, type_named}
 use Rattle.meaning_graph.specs.Types.{is_a}
-use Rattle.meaning_graph.proofs.Types.{is_a_so, so_is_a}
+use Rattle.meaning_graph.proofs.Lemmas.{is_a_so, so_is_a}
 use Rattle.meaning_graph_text.specs.Checks.{both_known, is_a_named, IsANamed}
 
 named_from : (g : Graph) (a b : Text) (o p : Option ℕ) → type_named g a ≡ o → type_named g b ≡ p → both_known (is_a g) o p ≡ true → IsANamed g a b

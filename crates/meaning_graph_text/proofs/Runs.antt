@@ -16,7 +16,7 @@ use Rattle.object_values.specs.declared.graph.Decl.{Decl}
 use Rattle.object_values.specs.declared.graph.Decl.TheVariants.{ObjectType, Suffix, Param, Maker}
 use Rattle.meaning_texts.specs.Classes.{is_name_byte, IsWord, IsId, IsStringText}
 use Rattle.meaning_texts.specs.Tests.{is_name, is_id, is_string_text}
-use Rattle.meaning_texts.proofs.Words.{word_decides, id_decides, string_decides}
+use Rattle.meaning_texts.proofs.Lemmas.{word_decides, id_decides, string_decides}
 use Rattle.meaning_graph_text.specs.Tokens.{Token, word, semicolon, comma, closing}
 use Rattle.meaning_graph_text.specs.Grammar.{id_tokens, optional_tokens, part_tokens, kind_tokens, string_tokens, closure_tokens, maker_tokens, decl_tokens, graph_tokens, IsSpellablePart, IsSpellableKind, IsSpellableExtra, IsSpellableMake, IsSpellableDecl}
 use Rattle.meaning_graph_text.specs.Going.{Class, keyword, identifier, any_string, Stage, kind, supers, super_ids, parts, ending, strings, used_ids, extras, Expected, expect, start, step, run}

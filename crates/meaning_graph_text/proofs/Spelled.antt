@@ -17,7 +17,7 @@ use Rattle.object_values.specs.declared.graph.Decl.{Decl}
 use Rattle.object_values.specs.declared.graph.Decl.TheVariants.{ObjectType, Suffix, Param, Maker}
 use Rattle.meaning_texts.specs.Classes.{is_letter, is_digit, is_name_byte, is_key_byte, is_string_byte, IsWord, IsId, IsName, IsStringText}
 use Rattle.meaning_texts.specs.Tests.{is_name}
-use Rattle.meaning_texts.proofs.Words.{word_decides}
+use Rattle.meaning_texts.proofs.Lemmas.{word_decides}
 use Rattle.meaning_graph_text.specs.Tokens.{Token, word, string, semicolon, comma, opening, closing, begins_with, BeginsWith, a_word, a_string, a_semicolon, a_comma, an_opening, a_closing, Tokens, no_more, blank, one}
 use Rattle.meaning_graph_text.specs.Grammar.{id_tokens, optional_tokens, part_tokens, kind_tokens, string_tokens, extra_tokens, closure_tokens, way_tokens, maker_tokens, decl_tokens, graph_tokens, IsSpellablePart, IsSpellableKind, IsSpellableExtra, IsSpellableTool, IsSpellableMake, IsSpellableDecl, HasSpelling, GraphText}
 use Rattle.meaning_graph_text.specs.Spelling.{token_spelling, between, tokens_spelling, graph_spelling}

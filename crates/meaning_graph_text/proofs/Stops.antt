@@ -2,7 +2,6 @@
 use Rattle.std.proofs.Common.{◌≡◌, ℕ, true, false, ◌||◌, List, [], ◌∷◌, ◌++◌, refl, sym, ap₂, ◌∙◌, subst, inl, inr, ◌⊎◌}
 use Rattle.std.specs.Prelude.{nat_eq}
 use Rattle.std.proofs.lemmas.Bool.{or_parts, not-true, ne_eqb, eqb-true}
-use Rattle.std.proofs.lemmas.List.Elements.{All-head, All-tail}
 use Rattle.meaning_texts.specs.Lines.{HasNoLf}
 use Rattle.meaning_graph_text.specs.Tokens.{Token, is_blank, is_line_end, BeginsWith, Tokens, no_more, blank, comment, one, is_past_gap}
 use Rattle.meaning_graph_text.specs.Lexing.{past_gap}
@@ -20,7 +19,7 @@ past_blank b text e = rw e refl
 
 past_words : (words text : List ℕ) → HasNoLf words → past_gap true (words ++ text) ≡ past_gap true text
 past_words [] text n = refl
-past_words (b ∷ words) text n = rw (ne_eqb b 10 (All-head (λ c. c ≡ 10 → ⊥) b words n)) (past_words words text (All-tail (λ c. c ≡ 10 → ⊥) b words n))
+past_words (b ∷ words) text n = rw (ne_eqb b 10 n.0) (past_words words text n.1)
 
 past_end : (text : List ℕ) → is_line_end text ≡ true → past_gap true text ≡ past_gap false text
 past_end [] e = refl
@@ -45,6 +44,10 @@ split_told text tokens rest (no_more end) e = no_gap end e
 split_told text tokens rest (blank b more ts end i d) e = split_gap (b ∷ more) more ts end (past_blank b more i) (split_told more ts end d e)
 split_told text tokens rest (comment words more ts end n l d) e = split_gap (35 ∷ (words ++ more)) more ts end (past_comment words more n l) (split_told more ts end d e)
 split_told text tokens rest (one whole t more ts end b d) e = (more, subst (λ x. BeginsWith x t more) (sym (no_gap whole (begins_past_gap whole t more b))) b, d)
+
+-- the computed gap is the one
+pub one_gap : (text rest : List ℕ) → Tokens text [] rest → is_past_gap rest ≡ true → past_gap false text ≡ rest
+one_gap text rest gap past = split_told text [] rest gap past
 
 -- ---- two readings
 

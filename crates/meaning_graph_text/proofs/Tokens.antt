@@ -6,7 +6,7 @@ use Rattle.std.proofs.lemmas.Bool.{cases_Bool, both_ways, and_parts, or_from, eq
 use Rattle.std.proofs.lemmas.List.Sums.{list_all-from_AllPass}
 use Rattle.meaning_texts.specs.Classes.{is_name_byte, is_string_byte, IsWord, IsStringText}
 use Rattle.meaning_texts.specs.Tests.{is_name}
-use Rattle.meaning_texts.proofs.Words.{word_decides, string_decides}
+use Rattle.meaning_texts.proofs.Lemmas.{word_decides, string_decides}
 use Rattle.meaning_graph_text.specs.Tokens.{Token, word, string, is_blank, begins_with, BeginsWith, a_word, a_string, a_semicolon, a_comma, an_opening, a_closing, is_past_gap}
 use Rattle.meaning_graph_text.specs.Lexing.{name_front, past_names, before_quote, behind_quote, Taken, taken, token_at}
 

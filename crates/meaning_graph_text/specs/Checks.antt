@@ -33,9 +33,7 @@ also_type (With name) = None
 
 abbrev pub make_types : Make → List Text
 make_types (Tool tool) = filter_map also_type tool.extras ++ option_to_list tool.closure
-make_types Read = []
-make_types Each = []
-make_types Pack = []
+make_types other = []
 
 -- the types that a declaration names
 abbrev pub types_named_in : Decl → List Text
@@ -59,14 +57,11 @@ has_twice (x ∷ xs) = list_any (bytes_eq x) xs || has_twice xs
 
 abbrev pub used_params : Make → List Text
 used_params (Tool tool) = tool.uses
-used_params Read = []
-used_params Each = []
-used_params Pack = []
+used_params other = []
 
 abbrev pub part_names : Kind → List Text
-part_names Simple = []
-part_names (ListOf of) = []
 part_names (Compound parts) = map (λ (part : PartDecl). part.name) parts
+part_names other = []
 
 -- The name is declared before in the same space, `text` being there from the start, or a part or a used parameter stands twice.
 abbrev pub doubles_name : Graph → Decl → Bool
@@ -98,26 +93,21 @@ pub record IsANamed (g : Graph) (a b : Text) : Type 0 where
 -- the type is reached from itself by one or more supertypes
 abbrev pub is_in_loop : Graph → Decl → Bool
 is_in_loop g (ObjectType t) = list_any (λ super. is_a_named g super t.name) t.supers
-is_in_loop g (Suffix s) = false
-is_in_loop g (Param id) = false
-is_in_loop g (Maker m) = false
+is_in_loop g other = false
 
 -- ---- wrong kind
 
 abbrev pub is_simple_kind : Kind → Bool
 is_simple_kind Simple = true
-is_simple_kind (ListOf of) = false
-is_simple_kind (Compound parts) = false
+is_simple_kind other = false
 
 abbrev pub is_list_kind : Kind → Bool
-is_list_kind Simple = false
 is_list_kind (ListOf of) = true
-is_list_kind (Compound parts) = false
+is_list_kind other = false
 
 abbrev pub is_compound_kind : Kind → Bool
-is_compound_kind Simple = false
-is_compound_kind (ListOf of) = false
 is_compound_kind (Compound parts) = true
+is_compound_kind other = false
 
 abbrev pub is_simple : Graph → Text → Bool
 is_simple g name = option_map_or is_simple_kind (kind_named g name) false
@@ -130,10 +120,8 @@ is_compound g name = option_map_or is_compound_kind (kind_named g name) false
 
 -- the supertype of a list of this type is a list, and the elements of the one are the elements of the other; an element type that is nowhere declared is a fault of the supertype alone
 abbrev pub fits_list : Graph → Text → Option Kind → Bool
-fits_list g of None = false
-fits_list g of (Some Simple) = false
 fits_list g of (Some (ListOf super_of)) = not (is_known g super_of) || is_a_named g of super_of
-fits_list g of (Some (Compound parts)) = false
+fits_list g of other = false
 
 -- a supertype of a simple type is simple, one of a list is a list, and a compound has none
 abbrev pub super_fits : Graph → Kind → Text → Bool
@@ -162,10 +150,8 @@ keeps_rules g (Maker m) = keeps_make g m.from m.to m.make
 -- ---- unknown parameter
 
 abbrev pub uses_unknown_param : Graph → Decl → Bool
-uses_unknown_param g (ObjectType t) = false
-uses_unknown_param g (Suffix s) = false
-uses_unknown_param g (Param id) = false
 uses_unknown_param g (Maker m) = list_any (λ id. not (has_param g id)) (used_params m.make)
+uses_unknown_param g other = false
 
 -- ---- faults
 

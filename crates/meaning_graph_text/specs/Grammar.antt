@@ -119,9 +119,7 @@ pub record IsSpellableTool (tool : ToolDecl) : Type 0 where
 
 abbrev pub IsSpellableMake : Make → Type 0
 IsSpellableMake (Tool tool) = IsSpellableTool tool
-IsSpellableMake Read = ⊤
-IsSpellableMake Each = ⊤
-IsSpellableMake Pack = ⊤
+IsSpellableMake other = ⊤
 
 pub record IsSpellableMaker (m : MakerDecl) : Type 0 where
   pub name : IsId m.name
@@ -143,15 +141,12 @@ IsSpellable decls = All IsSpellableDecl decls
 
 -- the grammar has no supertypes for a compound
 abbrev pub HasNoSupers : Kind → List (List ℕ) → Type 0
-HasNoSupers Simple supers = ⊤
-HasNoSupers (ListOf of) supers = ⊤
 HasNoSupers (Compound parts) supers = supers ≡ []
+HasNoSupers other supers = ⊤
 
 abbrev pub IsInGrammar : Decl → Type 0
 IsInGrammar (ObjectType t) = HasNoSupers t.kind t.supers
-IsInGrammar (Suffix s) = ⊤
-IsInGrammar (Param id) = ⊤
-IsInGrammar (Maker m) = ⊤
+IsInGrammar other = ⊤
 
 -- The list is one that the grammar can spell.
 pub record HasSpelling (decls : List Decl) : Type 0 where

@@ -1,16 +1,29 @@
 -- What the laws of graph files say.
-use Rattle.std.specs.Prelude.{◌≡◌, ◌↔◌, ◌<◌, ◌≤◌, ℕ, List, Some, length, IsTrue, MatchOption}
+use Rattle.std.specs.Prelude.{◌≡◌, ◌↔◌, ◌<◌, ◌≤◌, ℕ, false, List, [], Some, length, IsTrue, MatchOption}
 use Rattle.object_values.specs.declared.graph.Decl.{Decl}
 use Rattle.object_values.specs.declared.graph.GraphFault.{GraphFault}
 use Rattle.meaning_texts.specs.Limits.{graph_limit}
 use Rattle.meaning_graph.specs.Graphs.{Text, Graph}
-use Rattle.meaning_graph_text.specs.Tokens.{Token}
+use Rattle.meaning_graph_text.specs.Tokens.{Token, BeginsWith, Tokens, is_past_gap}
+use Rattle.meaning_graph_text.specs.Lexing.{past_gap, taken, token_at}
 use Rattle.meaning_graph_text.specs.Grammar.{graph_tokens, IsSpellable, HasSpelling, GraphText}
 use Rattle.meaning_graph_text.specs.Going.{start, run, can_go_on}
 use Rattle.meaning_graph_text.specs.Places.{line_behind, column_behind, IsFrontOfGraph, IsSyntaxFault, BeginsOnLine}
 use Rattle.meaning_graph_text.specs.Stopping.{syntax_stop, front_of}
 use Rattle.meaning_graph_text.specs.Spelling.{graph_spelling}
 use Rattle.meaning_graph_text.specs.Checks.{IsANamed, is_a_named, Checked, FirstFault, first_fault, FaultAt}
+
+-- The computed token is the one with which a text begins, with what follows it, and no other one is.
+abbrev pub TokenIsAtFront : Type 0
+TokenIsAtFront = (text : List ℕ) (t : Token) (rest : List ℕ) → (token_at text ≡ Some (taken t rest)) ↔ BeginsWith text t rest
+
+-- What stands behind a gap: the text has no tokens before it, and it begins with neither a blank nor a comment.
+pub record IsBehindGap (text rest : List ℕ) : Type 0 where
+  pub gap : Tokens text [] rest
+  pub past : IsTrue (is_past_gap rest)
+
+abbrev pub GapIsPassed : Type 0
+GapIsPassed = (text rest : List ℕ) → (past_gap false text ≡ rest) ↔ IsBehindGap text rest
 
 -- The canonical spelling of a list is a text of it.
 abbrev pub SpellingIsText : Type 0

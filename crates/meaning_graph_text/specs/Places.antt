@@ -14,8 +14,11 @@ abbrev pub column_behind : List ℕ → ℕ
 column_behind front = length (cut_lines front).last + 1
 
 -- Further tokens, or none, make these the tokens of a graph.
-abbrev pub IsFrontOfGraph : List Token → Type 0
-IsFrontOfGraph tokens = (more : List Token) × (decls : List Decl) × HasSpelling decls × (tokens ++ more ≡ graph_tokens decls)
+pub record IsFrontOfGraph (tokens : List Token) : Type 0 where
+  pub more : List Token
+  pub decls : List Decl
+  pub spelled : HasSpelling decls
+  pub is : tokens ++ more ≡ graph_tokens decls
 
 -- The tokens before the place can go on, and what begins there is no token with which they can: or the text ends there too early.
 pub record IsSyntaxFault (text : List ℕ) (line column : ℕ) : Type 0 where

@@ -15,20 +15,14 @@ token_spelling closing = 41 ∷ []
 
 -- `;`, `,` and `)` follow without a space
 abbrev pub follows_close : Token → Bool
-follows_close (word w) = false
-follows_close (string s) = false
 follows_close semicolon = true
 follows_close comma = true
-follows_close opening = false
 follows_close closing = true
+follows_close other = false
 
 abbrev pub is_opening : Token → Bool
-is_opening (word w) = false
-is_opening (string s) = false
-is_opening semicolon = false
-is_opening comma = false
 is_opening opening = true
-is_opening closing = false
+is_opening other = false
 
 -- one space between two tokens, but none before `;`, `,` and `)` and none behind `(`
 abbrev pub between : Token → Token → List ℕ

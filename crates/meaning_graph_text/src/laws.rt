@@ -1,5 +1,15 @@
 //! Laws of graph files. Each is the contract of a function with an empty body.
-ghost use Rattle.meaning_graph_text.specs.Laws.{SpellingIsText, GraphIsOne, SyntaxFaultIsOne, LineIsOne, EachDeclarationBegins, FirstFaultIsComputed, FirstFaultIsOne, CheckedHasSpelling, NamedIsReachability, GoingIsTested, WholeIsTested, EachTextIsAnswered};
+ghost use Rattle.meaning_graph_text.specs.Laws.{TokenIsAtFront, GapIsPassed, SpellingIsText, GraphIsOne, SyntaxFaultIsOne, LineIsOne, EachDeclarationBegins, FirstFaultIsComputed, FirstFaultIsOne, CheckedHasSpelling, NamedIsReachability, GoingIsTested, WholeIsTested, EachTextIsAnswered};
+
+/// The computed token is the one with which a text begins.
+pub fn token_is_at_front()
+    ensures { TokenIsAtFront }
+{}
+
+/// The computed rest is what stands behind blanks and comments.
+pub fn gap_is_passed()
+    ensures { GapIsPassed }
+{}
 
 /// The canonical spelling of a list is a text of it.
 pub fn spelling_is_text()

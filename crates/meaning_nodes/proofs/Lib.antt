@@ -1,3 +1,4 @@
-pub mod Fits
-pub mod Made
-pub mod Numbers
+mod Fits
+mod Made
+mod Numbers
+pub mod Lemmas

@@ -10,14 +10,14 @@ use Rattle.object_values.specs.declared.expressions.ExprStep.TheVariants.{To, Pi
 use Rattle.object_values.specs.declared.expressions.Expression.{Expression}
 use Rattle.meaning_texts.specs.Expressions.{IsCanonical, IsStepOfClass as IsExprStepOfClass}
 use Rattle.meaning_graph.specs.Graphs.{Text, Graph, type_named}
-use Rattle.meaning_graph.specs.Members.{IsIn}
+use Rattle.meaning_texts.specs.Lists.{IsIn}
 use Rattle.meaning_graph.specs.Suffixes.{source_type}
 use Rattle.meaning_graph.specs.Types.{IsA, is_a}
 use Rattle.meaning_graph.specs.Paths.{Makes, Path, Chosen, HasNoPath, made_of, chosen_path}
-use Rattle.meaning_graph.proofs.Members.{in_either, in_left, from_map, in_all, all_in, cond_true, same_some}
-use Rattle.meaning_graph.proofs.Types.{so_is_a}
-use Rattle.meaning_graph.proofs.Paths.{path_chosen}
-use Rattle.meaning_nodes.specs.Nodes.{before_last, last_step, base_of, stepped, extended, step_type, type_after, reached_type, onward, onward_named, IsStepOfClass, Fits}
+use Rattle.meaning_texts.proofs.Lemmas.{in_either, in_left, from_map, in_all, all_in, same_some}
+use Rattle.std.proofs.lemmas.Bool.{cond-true}
+use Rattle.meaning_graph.proofs.Lemmas.{so_is_a, path_chosen}
+use Rattle.meaning_nodes.specs.Nodes.{before_last, last_step, base_of, stepped, extended, step_type, type_after, reached_type, onward, onward_named, HasKeyOfClass, Fits}
 use Rattle.meaning_nodes.specs.NodeOf.{NodeAnswer, is_node, unknown_param, unknown_type, no_path, node_or_no_path, toward, step_on, steps_on, unknown_in, of_known, node_of}
 use Rattle.meaning_nodes.specs.Laws.{IsLedTo}
 
@@ -36,7 +36,7 @@ step_makes : (g : Graph) (a k to : ℕ) → Makes g a k to → step_type g a (Ma
 step_makes g a k to m =
     ap (option_and_then (made_of g a)) m.numbered
     ∙ ap (option_and_then (λ taken. cond (is_a g a taken) (type_named g m.maker.to) None)) m.takes
-    ∙ cond_true (is_a g a m.taken) (type_named g m.maker.to) None (so_is_a g a m.taken m.fits) ∙ m.makes
+    ∙ cond-true (is_a g a m.taken) (type_named g m.maker.to) None (so_is_a g a m.taken m.fits) ∙ m.makes
 
 -- the type at the end of a path
 path_type : (g : Graph) (p : List ℕ) (a b : ℕ) → Path g a b p → (c : ℕ) × (type_after g (Some a) (map Maker p) ≡ Some c) × IsA g c b
@@ -54,16 +54,16 @@ extended_fits g n t to p f e w =
     let i = path_type g p t to w in
     let whole : reached_type g (extended n p) ≡ Some i.0 = type_after-append g (Some (source_type g n.source)) n.steps (map Maker p) ∙ ap (λ o. type_after g o (map Maker p)) e ∙ i.1 in
     record {
-      fits = record { source = f.source; params = f.params; keys = all_in IsStepOfClass (n.steps ++ map Maker p) keys; typed = ap is_some whole };
+      fits = record { source = f.source; params = f.params; keys = all_in HasKeyOfClass (n.steps ++ map Maker p) keys; typed = ap is_some whole };
       type = i.0;
       typed = whole;
       is = i.2;
     }
   where
-    keys : (s : Step) → IsIn s (n.steps ++ map Maker p) → IsStepOfClass s
+    keys : (s : Step) → IsIn s (n.steps ++ map Maker p) → HasKeyOfClass s
     keys s h = elim (in_either s n.steps (map Maker p) h) [
-      | inl k ↦ in_all IsStepOfClass n.steps f.keys s k
-      | inr k ↦ let r = from_map Maker s p k in subst IsStepOfClass (sym r.2) tt
+      | inl k ↦ in_all HasKeyOfClass n.steps f.keys s k
+      | inr k ↦ let r = from_map Maker s p k in subst HasKeyOfClass (sym r.2) tt
     ]
 
 pub onward_fits : (g : Graph) (n m : Node) (to : ℕ) → Fits g n → onward g n to ≡ Some m → IsLedTo g n to m
@@ -114,7 +114,7 @@ base_fits g n s f e = by_type (reached_type g (base_of n)) refl
       fits = record {
         source = f.source;
         params = f.params;
-        keys = all_in IsStepOfClass (before_last n.steps) (λ x i. in_all IsStepOfClass n.steps f.keys x (subst (λ l. IsIn x l) (sym split) (in_left x (before_last n.steps) (s ∷ []) i)));
+        keys = all_in HasKeyOfClass (before_last n.steps) (λ x i. in_all HasKeyOfClass n.steps f.keys x (subst (λ l. IsIn x l) (sym split) (in_left x (before_last n.steps) (s ∷ []) i)));
         typed = ap is_some q;
       };
       type = t;
@@ -125,12 +125,12 @@ base_fits g n s f e = by_type (reached_type g (base_of n)) refl
 -- ---- nodes of expressions
 
 pick_fits : (g : Graph) (n : Node) (key : Text) → Fits g n → IsExprStepOfClass (Pick key) → is_some (reached_type g (stepped n (PickKey key))) ≡ true → Fits g (stepped n (PickKey key))
-pick_fits g n key f k t = record { source = f.source; params = f.params; keys = all_in IsStepOfClass (n.steps ++ PickKey key ∷ []) keys; typed = t }
+pick_fits g n key f k t = record { source = f.source; params = f.params; keys = all_in HasKeyOfClass (n.steps ++ PickKey key ∷ []) keys; typed = t }
   where
-    keys : (s : Step) → IsIn s (n.steps ++ PickKey key ∷ []) → IsStepOfClass s
+    keys : (s : Step) → IsIn s (n.steps ++ PickKey key ∷ []) → HasKeyOfClass s
     keys s h = elim (in_either s n.steps (PickKey key ∷ []) h) [
-      | inl i ↦ in_all IsStepOfClass n.steps f.keys s i
-      | inr i ↦ elim i [ inl e ↦ subst IsStepOfClass (sym e) k | inr none ↦ absurd none ]
+      | inl i ↦ in_all HasKeyOfClass n.steps f.keys s i
+      | inr i ↦ elim i [ inl e ↦ subst HasKeyOfClass (sym e) k | inr none ↦ absurd none ]
     ]
 
 same_node : {n m : Node} → is_node n ≡ is_node m → n ≡ m
@@ -167,7 +167,7 @@ made_fits g e n c h = by_known (unknown_in g e.params) h
     start = record { source = e.source; params = e.params; steps = [] }
 
     start_fits : Fits g start
-    start_fits = record { source = c.source; params = c.params; keys = all_in IsStepOfClass [] (λ x i. absurd i); typed = refl }
+    start_fits = record { source = c.source; params = c.params; keys = all_in HasKeyOfClass [] (λ x i. absurd i); typed = refl }
 
     by_known : (o : Option ParamValue) → of_known g e o ≡ is_node n → Fits g n
     by_known None q = steps_on_fits g e.steps 1 (is_node start) n (λ x r. subst (Fits g) (same_node r) start_fits) (in_all IsExprStepOfClass e.steps c.steps) q

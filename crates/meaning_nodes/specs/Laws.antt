@@ -5,7 +5,8 @@ use Rattle.object_values.specs.declared.expressions.Expression.{Expression}
 use Rattle.meaning_texts.specs.Expressions.{IsCanonical}
 use Rattle.meaning_graph.specs.Graphs.{Text, Graph}
 use Rattle.meaning_graph.specs.Types.{IsA}
-use Rattle.meaning_nodes.specs.Nodes.{Fits, fits, reached_type, onward, element_bound, element_number}
+use Rattle.meaning_nodes.specs.Nodes.{Fits, fits, reached_type, onward, element_number}
+use Rattle.meaning_texts.specs.Limits.{element_bound}
 use Rattle.meaning_nodes.specs.NodeOf.{is_node, node_of}
 
 -- The test decides which nodes fit.

@@ -4,3 +4,4 @@ pub mod Labels
 pub mod NodeOf
 pub mod Samples
 pub mod Laws
+pub mod Examples

@@ -33,9 +33,7 @@ step_on g n k (Pick key) = cond (is_some (reached_type g (stepped n (PickKey key
 abbrev pub steps_on : Graph → ℕ → NodeAnswer → List ExprStep → NodeAnswer
 steps_on g k answer [] = answer
 steps_on g k (is_node n) (s ∷ steps) = steps_on g (k + 1) (step_on g n k s) steps
-steps_on g k (unknown_param name) (s ∷ steps) = unknown_param name
-steps_on g k (unknown_type name) (s ∷ steps) = unknown_type name
-steps_on g k (no_path j) (s ∷ steps) = no_path j
+steps_on g k refusal (s ∷ steps) = refusal
 
 -- a parameter that the graph doesn't declare, the first in the order of the expression
 abbrev pub unknown_in : Graph → List ParamValue → Option ParamValue

@@ -2,15 +2,15 @@
 use Rattle.std.specs.Prelude.{ℕ, Bool, true, cond, ◌&&◌, nat_lt, List, [], ◌∷◌, ◌++◌, map, Option, Some, None, is_some, IsSome, ⊤, bytes_eq, find, slice_get, decimal, option_map, option_and_then, All}
 use Rattle.std.specs.List.{list_all}
 use Rattle.std.specs.Str.Parse.{digits_value}
-use Rattle.object_values.specs.declared.nodes.ParamValue.{ParamValue}
 use Rattle.object_values.specs.declared.nodes.Step.{Step}
 use Rattle.object_values.specs.declared.nodes.Step.TheVariants.{Maker, Pick}
 use Rattle.object_values.specs.declared.nodes.Node.{Node}
 use Rattle.object_values.specs.declared.graph.Kind.{Kind}
-use Rattle.object_values.specs.declared.graph.Kind.TheVariants.{Simple, List as ListOf, Compound}
+use Rattle.object_values.specs.declared.graph.Kind.TheVariants.{List as ListOf, Compound}
 use Rattle.meaning_texts.specs.Classes.{IsName, IsKey}
 use Rattle.meaning_texts.specs.Expressions.{IsParamOfClass}
-use Rattle.meaning_texts.specs.Tests.{is_name, is_id, is_key, is_param_value}
+use Rattle.meaning_texts.specs.Limits.{element_bound}
+use Rattle.meaning_texts.specs.Tests.{is_name, is_key, is_param_of_class}
 use Rattle.meaning_graph.specs.Graphs.{Text, Graph, makers, type_named, kind_of}
 use Rattle.meaning_graph.specs.Suffixes.{source_type}
 use Rattle.meaning_graph.specs.Paths.{made_of, chosen_path}
@@ -43,10 +43,6 @@ extended n path = record n { steps = n.steps ++ map Maker path }
 
 -- ---- the number of an element
 
--- an element's number is below this
-abbrev pub element_bound : ℕ
-element_bound = 4294967296
-
 -- the key is the number k from 1, without leading zeros
 abbrev pub is_number : ℕ → Text → Bool
 is_number k key = bytes_eq (decimal k) key && nat_lt 0 k && nat_lt k element_bound
@@ -59,10 +55,9 @@ element_number key = cond (is_number (digits_value 10 key) key) (Some (digits_va
 
 -- the type of what a key picks from an object of the kind
 abbrev pub picked_type : Graph → Text → Option Kind → Option ℕ
-picked_type g key None = None
-picked_type g key (Some Simple) = None
 picked_type g key (Some (ListOf of)) = cond (is_some (element_number key)) (type_named g of) None
 picked_type g key (Some (Compound parts)) = option_and_then (λ p. type_named g p.of) (find (λ p. bytes_eq p.name key) parts)
+picked_type g key other = None
 
 -- the type behind a step that can be applied to the type t
 abbrev pub step_type : Graph → ℕ → Step → Option ℕ
@@ -88,27 +83,25 @@ onward_named g n to = option_and_then (onward g n) (type_named g to)
 
 -- ---- nodes that fit
 
-abbrev pub IsStepOfClass : Step → Type 0
-IsStepOfClass (Maker k) = ⊤
-IsStepOfClass (Pick key) = IsKey key
+-- a key is of its class
+abbrev pub HasKeyOfClass : Step → Type 0
+HasKeyOfClass (Maker k) = ⊤
+HasKeyOfClass (Pick key) = IsKey key
 
 -- Its names, values and keys are of their classes, and each step can be applied to the type before it.
 pub record Fits (g : Graph) (n : Node) : Type 0 where
   pub source : IsName n.source
   pub params : All IsParamOfClass n.params
-  pub keys : All IsStepOfClass n.steps
+  pub keys : All HasKeyOfClass n.steps
   pub typed : IsSome (reached_type g n)
 
-abbrev pub is_param_of_class : ParamValue → Bool
-is_param_of_class p = is_id p.param && is_param_value p.value
-
-abbrev pub is_step_of_class : Step → Bool
-is_step_of_class (Maker k) = true
-is_step_of_class (Pick key) = is_key key
+abbrev pub has_key_of_class : Step → Bool
+has_key_of_class (Maker k) = true
+has_key_of_class (Pick key) = is_key key
 
 -- whether a node fits
 abbrev pub fits : Graph → Node → Bool
-fits g n = is_name n.source && list_all is_param_of_class n.params && list_all is_step_of_class n.steps && is_some (reached_type g n)
+fits g n = is_name n.source && list_all is_param_of_class n.params && list_all has_key_of_class n.steps && is_some (reached_type g n)
 
 -- the type of a node that fits, and none of another
 abbrev pub type_of : Graph → Node → Option ℕ

@@ -1,11 +1,12 @@
 -- Values and what is picked from them, the order of statuses, and messages without doubles.
-use Rattle.std.specs.Prelude.{ℕ, ◌-◌, Bool, cond, not, ◌&&◌, nat_le, ◌==◌, List, [], ◌∷◌, ◌++◌, take, filter, Option, None, bytes_eq, find, slice_get, option_map, option_and_then}
+use Rattle.std.specs.Prelude.{ℕ, ◌-◌, Bool, cond, ◌&&◌, nat_le, ◌==◌, List, ◌++◌, take, Option, None, bytes_eq, find, slice_get, option_map, option_and_then}
 use Rattle.object_values.specs.declared.messages.Status.{Status}
 use Rattle.object_values.specs.declared.messages.Status.TheVariants.{Ok, Warning, Error, Abort}
 use Rattle.object_values.specs.declared.messages.Message.{Message}
 use Rattle.object_values.specs.declared.nodes.Node.{Node}
 use Rattle.object_values.specs.declared.views.Value.{Value}
 use Rattle.object_values.specs.declared.views.Value.TheVariants.{Simple, List as Listed, Compound}
+use Rattle.meaning_texts.specs.Lists.{once}
 use Rattle.meaning_texts.specs.Limits.{message_limit}
 use Rattle.meaning_graph.specs.Graphs.{Text}
 use Rattle.meaning_nodes.specs.Nodes.{element_number}
@@ -42,10 +43,9 @@ abbrev pub is_message : Message → Message → Bool
 is_message m other = bytes_eq m.label other.label && rank m.level == rank other.level && bytes_eq m.text other.text
 
 -- each message once, where it stands first
-abbrev pub once : List Message → List Message
-once [] = []
-once (m ∷ messages) = m ∷ filter (λ other. not (is_message m other)) (once messages)
+abbrev pub messages_once : List Message → List Message
+messages_once = once (λ later m. is_message m later)
 
 -- those of the needs and then the own, each once, and no more than the limit
 unfoldable pub inherit : List Message → List Message → List Message
-inherit needs own = take message_limit (once (needs ++ own))
+inherit needs own = take message_limit (messages_once (needs ++ own))

@@ -1,7 +1,8 @@
-pub mod Sorted
-pub mod Reached
-pub mod Valued
-pub mod Local
-pub mod Grow
-pub mod Reading
-pub mod Finite
+mod Reached
+mod Local
+mod Valued
+mod Reading
+mod Finite
+mod Sorted
+mod Grow
+pub mod Lemmas

@@ -9,15 +9,16 @@ use Rattle.object_values.specs.declared.views.Value.{Value}
 use Rattle.object_values.specs.declared.views.Value.TheVariants.{Simple, List as Listed, Compound}
 use Rattle.object_values.specs.declared.calls.Outcome.{Outcome}
 use Rattle.meaning_graph.specs.Graphs.{Text, Graph}
-use Rattle.meaning_graph.specs.Members.{IsIn}
-use Rattle.meaning_graph.proofs.Members.{in_left, in_right, in_map, in_flat, both_true, passes_or_fails, cond_false}
+use Rattle.meaning_texts.specs.Lists.{is_empty, IsIn}
+use Rattle.meaning_texts.proofs.Lemmas.{in_left, in_right, in_map, in_flat}
+use Rattle.std.proofs.lemmas.Bool.{and_parts, cases_Bool, cond-false}
 use Rattle.meaning_nodes.specs.Nodes.{source_node}
 use Rattle.meaning_nodes.specs.Labels.{label_of}
 use Rattle.meaning_nodes.specs.Values.{Picked, element, body, pick}
 use Rattle.meaning_tasks.specs.Reached.{AreReached, reached_names, lines_among, has_name}
 use Rattle.meaning_tasks.specs.Tasks.{Task, given, picked, mapped, packed, tooled, unfit, ToolTask, PackPart, ExtraNode, fine, task_of}
 use Rattle.meaning_tasks.specs.Needs.{Results, Known, values_of, AgreeOn, has_value, where_valued, elements_of, element_in, picked_element, with_elements, extra_needs, scan_needs, tool_needs, part_nodes, ranked_needs, reached_needs, needs_of, lines_in, lines_by, own_lines, other_lines, ReachedNames, Needs}
-use Rattle.meaning_tasks.specs.Calls.{text_in, simple_part, value_parts, node_parts, extra_parts, reached_part, call_parts, tool_call, missing_extras, none_of, all_valued, call_of}
+use Rattle.meaning_tasks.specs.Calls.{text_in, simple_part, value_parts, node_parts, extra_parts, reached_part, call_parts, tool_call, missing_extras, all_valued, call_of}
 use Rattle.meaning_tasks.specs.Settle.{Texts, element_own, pick_own, picked_own, mapped_own, named_body, part_body, packed_own, outcome_own, own_of}
 use Rattle.meaning_tasks.specs.Laws.{IsSameUnder}
 use Rattle.meaning_tasks.proofs.Reached.{reached_moved, among_reached, one_list}
@@ -94,9 +95,9 @@ module _ (known other : Known) where
 
   -- the scan node of a reached name that has a value is among the needs
   scan_agrees : (t : ToolTask) (names : List Text) (x : Text) → ToolAgrees t names → IsIn x names → IsValued (known (source_node x)) → AgreeOn known other (option_to_list (t.scan x))
-  scan_agrees t names x p h v n k = elim (passes_or_fails (bytes_eq x t.root)) [
+  scan_agrees t names x p h v n k = elim (cases_Bool (bytes_eq x t.root)) [
     | inl e ↦ p.root n (subst (λ z. IsIn n (option_to_list (t.scan z))) ((bytes_decides x t.root).0 e) k)
-    | inr e ↦ p.scans n (in_flat (scan_needs t known) x n names h (subst (λ l. IsIn n l) (sym (cond_false (bytes_eq x t.root) [] _ e)) (in_where (known (source_node x)) n (option_to_list (t.scan x)) v k)))
+    | inr e ↦ p.scans n (in_flat (scan_needs t known) x n names h (subst (λ l. IsIn n l) (sym (cond-false (bytes_eq x t.root) [] _ e)) (in_where (known (source_node x)) n (option_to_list (t.scan x)) v k)))
   ]
 
   -- ---- needs
@@ -190,11 +191,11 @@ module _ (known other : Known) where
   call_local g (tooled t) names a =
       let ranked : List Node = ranked_needs (tooled t) known names in
       let whole : all_valued known ranked ≡ all_valued other (ranked_needs (tooled t) other names) = valued_local ranked (λ n h. a n (in_left n ranked _ h)) ∙ ap (all_valued other) (ranked_local (tooled t) names a) in
-      same_cond (none_of (missing_extras t.extras) && all_valued known ranked) (Some (tool_call g t known names)) (Some (tool_call g t other names)) None
+      same_cond (is_empty (missing_extras t.extras) && all_valued known ranked) (Some (tool_call g t known names)) (Some (tool_call g t other names)) None
       (λ e.
-      let v : IsValued (known t.base) = (both_true (has_value (known t.base)) _ (both_true (none_of (missing_extras t.extras)) _ e).1).0 in
+      let v : IsValued (known t.base) = (and_parts (has_value (known t.base)) _ (and_parts (is_empty (missing_extras t.extras)) _ e).1).0 in
       ap (λ parts. Some (record { tool = t.name; version = t.tool.version; words = t.tool.words; params = t.params; parts = parts; outs = t.outs })) (same_call_parts g t names (tool_agrees t names a v)))
-      ∙ ap (λ b. cond (none_of (missing_extras t.extras) && b) (Some (tool_call g t other names)) None) whole
+      ∙ ap (λ b. cond (is_empty (missing_extras t.extras) && b) (Some (tool_call g t other names)) None) whole
 
   -- ---- what the node itself gives
 

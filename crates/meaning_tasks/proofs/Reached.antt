@@ -2,10 +2,10 @@
 use Rattle.std.proofs.Common.{◌≡◌, ℕ, zero, suc, ◌≤◌, true, false, List, [], ◌∷◌, ◌++◌, inl, inr, sym, ap, subst, refl, length, arith, map, flat_map, cond, bytes_eq}
 use Rattle.std.specs.Cmp.Lexicographic.{bytes_decides}
 use Rattle.meaning_graph.specs.Graphs.{Text}
-use Rattle.meaning_graph.specs.Members.{IsIn}
+use Rattle.meaning_texts.specs.Lists.{IsIn}
 use Rattle.meaning_graph.specs.Routes.{Edges}
-use Rattle.meaning_graph.proofs.Members.{in_left, in_right, in_either, in_map, from_map, in_flat, from_flat, one_passes, passes_one, never_both}
-use Rattle.meaning_graph.proofs.Routes.{Route, short_route}
+use Rattle.meaning_texts.proofs.Lemmas.{in_left, in_right, in_either, in_map, from_map, in_flat, from_flat, one_passes, passes_one, never_both}
+use Rattle.meaning_graph.proofs.Lemmas.{Route, short_route}
 use Rattle.meaning_tasks.specs.Reached.{Reached, by_own, by_line, AreReached, has_name, lines_among, reached_within, reached_names}
 use Rattle.meaning_tasks.proofs.Sorted.{names_sorted, in_sorted, from_sorted, same_names}
 

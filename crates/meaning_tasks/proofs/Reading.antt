@@ -9,20 +9,20 @@ use Rattle.object_values.specs.declared.expressions.Line.TheVariants.{Good}
 use Rattle.object_values.specs.declared.expressions.Lines.TheVariants.{These, TooMany}
 use Rattle.meaning_texts.specs.Expressions.{IsCanonical, name_cmp}
 use Rattle.meaning_texts.specs.Limits.{reference_limit}
-use Rattle.meaning_texts.specs.Reading.{single, put_sorted, sorted, kept_params, expression_of}
-use Rattle.meaning_texts.specs.Lines.{is_passed_over, read_line, read_lines, references, lines_of}
-use Rattle.meaning_texts.proofs.Canonical.{canonical}
-use Rattle.meaning_texts.proofs.Readings.{is_read}
+use Rattle.meaning_texts.specs.Lists.{once}
+use Rattle.meaning_texts.specs.Reading.{same_param, put_sorted, sorted, kept_params, expression_of}
+use Rattle.meaning_texts.specs.References.{is_passed_over, read_line, read_lines, references}
+use Rattle.meaning_texts.specs.Lines.{lines_of}
+use Rattle.meaning_texts.proofs.Lemmas.{canonical, is_read, from_filter}
 use Rattle.meaning_graph.specs.Graphs.{Text}
-use Rattle.meaning_graph.specs.Members.{IsIn}
-use Rattle.meaning_graph.proofs.Members.{from_filter}
+use Rattle.meaning_texts.specs.Lists.{IsIn}
 
 -- ---- parameters
 
-from_single : (p : ParamValue) (ps : List ParamValue) → IsIn p (single ps) → IsIn p ps
+from_single : (p : ParamValue) (ps : List ParamValue) → IsIn p (once same_param ps) → IsIn p ps
 from_single p [] h = h
 from_single p (q ∷ ps) (inl e) = inl e
-from_single p (q ∷ ps) (inr h) = inr (from_single p ps (from_filter _ p (single ps) h).0)
+from_single p (q ∷ ps) (inr h) = inr (from_single p ps (from_filter _ p (once same_param ps) h).0)
 
 from_put : (p q : ParamValue) (ps : List ParamValue) → IsIn p (put_sorted q ps) → (p ≡ q) ⊎ IsIn p ps
 from_put p q [] (inl e) = inl e
@@ -38,7 +38,7 @@ from_sorted p (q ∷ ps) h = elim (from_put p q (sorted ps) h) [ inl e ↦ inl e
 
 pub from_kept : (p : ParamValue) (ps : List ParamValue) → IsIn p (kept_params ps) → IsIn p ps
 unfolding kept_params
-from_kept p ps h = from_single p ps (from_sorted p (single ps) h)
+from_kept p ps h = from_single p ps (from_sorted p (once same_param ps) h)
 
 -- ---- lines of a reference list
 

@@ -9,7 +9,7 @@ use Rattle.std.specs.List.Sorted.{IsStrictlySortedBy}
 use Rattle.std.specs.BTreeSet.{insert_key}
 use Rattle.meaning_texts.specs.Expressions.{name_cmp}
 use Rattle.meaning_graph.specs.Graphs.{Text}
-use Rattle.meaning_graph.specs.Members.{IsIn}
+use Rattle.meaning_texts.specs.Lists.{IsIn}
 use Rattle.meaning_tasks.specs.Reached.{sorted_names}
 
 -- by which of the three it is

@@ -3,7 +3,7 @@ use Rattle.std.proofs.Common.{◌≡◌, true, List, [], sym, ap, ◌∙◌, sub
 use Rattle.std.specs.Prelude.{Option, Some, None, option_map, is_some}
 use Rattle.object_values.specs.declared.nodes.Node.{Node}
 use Rattle.object_values.specs.declared.views.Value.{Value}
-use Rattle.meaning_graph.specs.Members.{IsIn}
+use Rattle.meaning_texts.specs.Lists.{IsIn}
 use Rattle.meaning_tasks.specs.Needs.{Results, Known, values_of, Grows, has_value, where_valued}
 
 abbrev pub IsValued : Option (Option Value) → Type 0

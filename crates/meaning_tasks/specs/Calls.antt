@@ -1,5 +1,5 @@
 -- The call of a node whose tool is run: the tool, the used parameters, and the labelled parts.
-use Rattle.std.specs.Prelude.{◌≡◌, ℕ, ◌+◌, Bool, true, false, cond, ◌&&◌, List, [], ◌∷◌, ◌++◌, map, flat_map, length, Option, Some, None, option_to_list, codes}
+use Rattle.std.specs.Prelude.{◌≡◌, ℕ, ◌+◌, Bool, cond, ◌&&◌, List, [], ◌∷◌, ◌++◌, map, flat_map, length, Option, Some, None, option_to_list, codes}
 use Rattle.std.specs.List.{list_all}
 use Rattle.object_values.specs.declared.messages.Message.{Message}
 use Rattle.object_values.specs.declared.nodes.Node.{Node}
@@ -8,18 +8,16 @@ use Rattle.object_values.specs.declared.views.Value.{Value}
 use Rattle.object_values.specs.declared.views.Value.TheVariants.{Simple, List as Listed, Compound}
 use Rattle.object_values.specs.declared.calls.CallPart.{CallPart}
 use Rattle.object_values.specs.declared.calls.Call.{Call}
+use Rattle.meaning_texts.specs.Lists.{is_empty}
 use Rattle.meaning_graph.specs.Graphs.{Text, Graph}
 use Rattle.meaning_nodes.specs.Nodes.{source_node}
 use Rattle.meaning_nodes.specs.Labels.{label_of}
-use Rattle.meaning_tasks.specs.Tasks.{Task, given, picked, mapped, packed, tooled, unfit, ToolTask, ExtraNode, task_of}
+use Rattle.meaning_tasks.specs.Tasks.{Task, tooled, ToolTask, ExtraNode, task_of}
 use Rattle.meaning_tasks.specs.Needs.{Results, Known, values_of, has_value, ranked_needs, ReachedNames}
 
 abbrev pub text_in : Option (Option Value) → Option Text
-text_in None = None
-text_in (Some None) = None
 text_in (Some (Some (Simple text))) = Some text
-text_in (Some (Some (Listed elements))) = None
-text_in (Some (Some (Compound parts))) = None
+text_in other = None
 
 -- one part for a node that is simple
 abbrev pub simple_part : Graph → Known → ℕ → Node → CallPart
@@ -31,11 +29,10 @@ compound_part slot label p = record { slot = slot; label = label ++ codes "%" ++
 
 -- one part for a simple object, one for each element of a list, one for each part of a compound
 abbrev pub value_parts : Graph → Known → ℕ → Node → Option (Option Value) → List CallPart
-value_parts g known slot n None = []
-value_parts g known slot n (Some None) = []
 value_parts g known slot n (Some (Some (Simple text))) = record { slot = slot; label = label_of g n; body = Some text } ∷ []
 value_parts g known slot n (Some (Some (Listed elements))) = map (simple_part g known slot) elements
 value_parts g known slot n (Some (Some (Compound parts))) = map (compound_part slot (label_of g n)) parts
+value_parts g known slot n other = []
 
 abbrev pub node_parts : Graph → Known → ℕ → Node → List CallPart
 node_parts g known slot n = value_parts g known slot n (known n)
@@ -59,21 +56,13 @@ tool_call g t known names = record { tool = t.name; version = t.tool.version; wo
 abbrev pub missing_extras : List ExtraNode → List Message
 missing_extras extras = flat_map (λ e. e.missing) extras
 
-abbrev pub none_of : {A : Type 0} → List A → Bool
-none_of [] = true
-none_of (x ∷ xs) = false
-
 abbrev pub all_valued : Known → List Node → Bool
 all_valued known nodes = list_all (λ n. has_value (known n)) nodes
 
 -- The call, and none where no tool is run: a tool isn't run where an extra has no path, or where a need but a reached source has no value.
 abbrev pub call_of : Graph → Task → Known → List Text → Option Call
-call_of g (given name) known names = None
-call_of g (picked base key) known names = None
-call_of g (mapped base f) known names = None
-call_of g (packed parts missing) known names = None
-call_of g (tooled t) known names = cond (none_of (missing_extras t.extras) && all_valued known (ranked_needs (tooled t) known names)) (Some (tool_call g t known names)) None
-call_of g unfit known names = None
+call_of g (tooled t) known names = cond (is_empty (missing_extras t.extras) && all_valued known (ranked_needs (tooled t) known names)) (Some (tool_call g t known names)) None
+call_of g other known names = None
 
 -- The call of a node under the results.
 pub record CallOf (g : Graph) (n : Node) (seen : Results) (call : Option Call) : Type 0 where

@@ -3,7 +3,7 @@ use Rattle.std.specs.Prelude.{◌≡◌, List, Option}
 use Rattle.object_values.specs.declared.nodes.Node.{Node}
 use Rattle.object_values.specs.declared.calls.Outcome.{Outcome}
 use Rattle.meaning_graph.specs.Graphs.{Text, Graph}
-use Rattle.meaning_graph.specs.Members.{IsIn}
+use Rattle.meaning_texts.specs.Lists.{IsIn}
 use Rattle.meaning_nodes.specs.Labels.{label_of}
 use Rattle.meaning_tasks.specs.Reached.{AreReached, reached_names}
 use Rattle.meaning_tasks.specs.Tasks.{task_of}

@@ -5,4 +5,5 @@ pub mod Calls
 pub mod Settle
 pub mod Maps
 pub mod Samples
+pub mod Examples
 pub mod Laws

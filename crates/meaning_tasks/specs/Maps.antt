@@ -8,7 +8,7 @@ use Rattle.object_values.specs.declared.views.View.{View}
 use Rattle.object_values.specs.declared.graph.Kind.{Kind}
 use Rattle.object_values.specs.declared.graph.Kind.TheVariants.{Simple as SimpleKind, List as ListKind, Compound as CompoundKind}
 use Rattle.meaning_graph.specs.Graphs.{Text, Graph, type_named, kind_of}
-use Rattle.meaning_graph.specs.Members.{IsIn}
+use Rattle.meaning_texts.specs.Lists.{IsIn}
 use Rattle.meaning_graph.specs.Types.{IsA}
 use Rattle.meaning_nodes.specs.Nodes.{Fits, reached_type}
 use Rattle.meaning_tasks.specs.Needs.{Results}
@@ -25,14 +25,9 @@ pub record IsElementOf (g : Graph) (of : Text) (e : Node) : Type 0 where
 -- The value is of the kind.
 abbrev pub IsOfKind : Graph → Kind → Value → Type 0
 IsOfKind g SimpleKind (Simple text) = ⊤
-IsOfKind g SimpleKind (Listed elements) = ⊥
-IsOfKind g SimpleKind (Compound parts) = ⊥
-IsOfKind g (ListKind of) (Simple text) = ⊥
 IsOfKind g (ListKind of) (Listed elements) = (e : Node) → IsIn e elements → IsElementOf g of e
-IsOfKind g (ListKind of) (Compound parts) = ⊥
-IsOfKind g (CompoundKind declared) (Simple text) = ⊥
-IsOfKind g (CompoundKind declared) (Listed elements) = ⊥
 IsOfKind g (CompoundKind declared) (Compound parts) = map (λ p. p.name) parts ≡ map (λ p. p.name) declared
+IsOfKind g kind value = ⊥
 
 -- A view of a node that fits: it has a value exactly where its status isn't `Abort`, and one of the node's kind.
 pub record IsResultOf (g : Graph) (n : Node) (view : View) : Type 0 where

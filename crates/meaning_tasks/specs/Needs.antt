@@ -2,13 +2,13 @@
 use Rattle.std.specs.Prelude.{◌≡◌, Bool, true, false, cond, List, [], ◌∷◌, ◌++◌, map, flat_map, Option, Some, None, bytes_eq, option_map, option_to_list}
 use Rattle.object_values.specs.declared.nodes.Node.{Node}
 use Rattle.object_values.specs.declared.views.Value.{Value}
-use Rattle.object_values.specs.declared.views.Value.TheVariants.{Simple, List as Listed, Compound}
+use Rattle.object_values.specs.declared.views.Value.TheVariants.{Simple, List as Listed}
 use Rattle.object_values.specs.declared.views.View.{View}
-use Rattle.meaning_texts.specs.Lines.{scanned_names}
+use Rattle.meaning_texts.specs.References.{scanned_names}
 use Rattle.meaning_graph.specs.Graphs.{Text, Graph}
-use Rattle.meaning_graph.specs.Members.{IsIn}
+use Rattle.meaning_texts.specs.Lists.{IsIn}
 use Rattle.meaning_nodes.specs.Nodes.{source_node}
-use Rattle.meaning_nodes.specs.Values.{Picked, element, body, pick}
+use Rattle.meaning_nodes.specs.Values.{Picked, element, pick}
 use Rattle.meaning_tasks.specs.Reached.{AreReached}
 use Rattle.meaning_tasks.specs.Tasks.{Task, given, picked, mapped, packed, tooled, unfit, ToolTask, PackPart, ExtraNode, task_of}
 
@@ -34,34 +34,27 @@ Grows {A} seen more = (n : Node) (v : A) → seen n ≡ Some v → more n ≡ So
 -- ---- by what is known of a node
 
 abbrev pub has_value : Option (Option Value) → Bool
-has_value None = false
-has_value (Some None) = false
 has_value (Some (Some v)) = true
+has_value other = false
 
 -- the list, where there is a value
 abbrev pub where_valued : {A : Type 0} → Option (Option Value) → List A → List A
-where_valued None xs = []
-where_valued (Some None) xs = []
 where_valued (Some (Some v)) xs = xs
+where_valued other xs = []
 
 -- the elements of a list
 abbrev pub elements_of : Option (Option Value) → List Node
-elements_of None = []
-elements_of (Some None) = []
-elements_of (Some (Some (Simple text))) = []
 elements_of (Some (Some (Listed elements))) = elements
-elements_of (Some (Some (Compound parts))) = []
+elements_of other = []
 
 abbrev pub element_in : Option Picked → List Node
-element_in None = []
 element_in (Some (element e)) = e ∷ []
-element_in (Some (body text)) = []
+element_in other = []
 
 -- the element that the key picks
 abbrev pub picked_element : Text → Option (Option Value) → List Node
-picked_element key None = []
-picked_element key (Some None) = []
 picked_element key (Some (Some v)) = element_in (pick v key)
+picked_element key other = []
 
 -- ---- needs
 
@@ -94,12 +87,8 @@ ranked_needs unfit known names = []
 
 -- the reached sources, which add neither
 abbrev pub reached_needs : Task → Known → List Text → List Node
-reached_needs (given name) known names = []
-reached_needs (picked base key) known names = []
-reached_needs (mapped base f) known names = []
-reached_needs (packed parts missing) known names = []
 reached_needs (tooled t) known names = where_valued (known t.base) (map source_node names)
-reached_needs unfit known names = []
+reached_needs other known names = []
 
 -- all needs, in order
 abbrev pub needs_of : Task → Known → List Text → List Node
@@ -109,11 +98,8 @@ needs_of t known names = ranked_needs t known names ++ reached_needs t known nam
 
 -- the names in the object of a scan node
 abbrev pub lines_in : Option (Option Value) → List Text
-lines_in None = []
-lines_in (Some None) = []
 lines_in (Some (Some (Simple text))) = scanned_names text
-lines_in (Some (Some (Listed elements))) = []
-lines_in (Some (Some (Compound parts))) = []
+lines_in other = []
 
 abbrev pub lines_by : Known → Option Node → List Text
 lines_by known None = []
@@ -121,21 +107,13 @@ lines_by known (Some scan) = lines_in (known scan)
 
 -- the lines of the own source, whatever is known of its source node
 abbrev pub own_lines : Task → Known → List Text
-own_lines (given name) known = []
-own_lines (picked base key) known = []
-own_lines (mapped base f) known = []
-own_lines (packed parts missing) known = []
 own_lines (tooled t) known = where_valued (known t.base) (lines_by known (t.scan t.root))
-own_lines unfit known = []
+own_lines other known = []
 
 -- the lines of another name, where its source node has a value
 abbrev pub other_lines : Task → Known → Text → List Text
-other_lines (given name) known x = []
-other_lines (picked base key) known x = []
-other_lines (mapped base f) known x = []
-other_lines (packed parts missing) known x = []
 other_lines (tooled t) known x = where_valued (known t.base) (where_valued (known (source_node x)) (lines_by known (t.scan x)))
-other_lines unfit known x = []
+other_lines other known x = []
 
 -- The reached names of a node.
 abbrev pub ReachedNames : Graph → Node → Results → List Text → Type 0

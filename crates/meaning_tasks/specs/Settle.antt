@@ -1,7 +1,7 @@
 -- What a node itself gives from its needs, and the view that it is settled to.
 use Rattle.std.specs.Prelude.{◌≡◌, Bool, true, false, cond, List, [], ◌∷◌, map, flat_map, Option, Some, None, option_to_list}
 use Rattle.object_values.specs.declared.messages.Status.{Status}
-use Rattle.object_values.specs.declared.messages.Status.TheVariants.{Ok, Warning, Error, Abort}
+use Rattle.object_values.specs.declared.messages.Status.TheVariants.{Ok, Abort}
 use Rattle.object_values.specs.declared.messages.Message.{Message}
 use Rattle.object_values.specs.declared.nodes.Node.{Node}
 use Rattle.object_values.specs.declared.views.Part.{Part}
@@ -39,14 +39,12 @@ pick_own label known key (Some (element e)) = element_own (known e)
 pick_own label known key (Some (body text)) = fine (Simple text)
 
 abbrev pub picked_own : Text → Known → Text → Option (Option Value) → Own
-picked_own label known key None = aborted []
-picked_own label known key (Some None) = aborted []
 picked_own label known key (Some (Some v)) = pick_own label known key (pick v key)
+picked_own label known key other = aborted []
 
 abbrev pub mapped_own : (Value → Own) → Option (Option Value) → Own
-mapped_own f None = aborted []
-mapped_own f (Some None) = aborted []
 mapped_own f (Some (Some v)) = f v
+mapped_own f other = aborted []
 
 abbrev pub named_body : Text → Option Text → List Part
 named_body name None = []
@@ -72,10 +70,8 @@ made_value true outputs = Compound outputs
 made_value false outputs = Simple (first_body outputs)
 
 abbrev pub at_status : Status → Value → List Message → Own
-at_status Ok v messages = record { value = Some v; status = Ok; messages = messages }
-at_status Warning v messages = record { value = Some v; status = Warning; messages = messages }
-at_status Error v messages = record { value = Some v; status = Error; messages = messages }
 at_status Abort v messages = aborted messages
+at_status status v messages = record { value = Some v; status = status; messages = messages }
 
 -- without an outcome the tool isn't run
 abbrev pub outcome_own : Text → Bool → List Message → Option Outcome → Own

@@ -9,14 +9,14 @@ use Rattle.object_values.specs.declared.nodes.Step.{Step}
 use Rattle.object_values.specs.declared.nodes.Step.TheVariants.{Maker, Pick}
 use Rattle.object_values.specs.declared.nodes.Node.{Node}
 use Rattle.object_values.specs.declared.views.Value.{Value}
-use Rattle.object_values.specs.declared.views.Value.TheVariants.{Simple, List as Listed, Compound}
+use Rattle.object_values.specs.declared.views.Value.TheVariants.{Simple, List as Listed}
 use Rattle.object_values.specs.declared.expressions.Line.{Line}
 use Rattle.object_values.specs.declared.expressions.Line.TheVariants.{Good, Bad}
 use Rattle.object_values.specs.declared.expressions.Lines.{Lines}
 use Rattle.object_values.specs.declared.expressions.Lines.TheVariants.{These, TooMany}
 use Rattle.object_values.specs.declared.graph.PartDecl.{PartDecl}
 use Rattle.object_values.specs.declared.graph.Kind.{Kind}
-use Rattle.object_values.specs.declared.graph.Kind.TheVariants.{Simple as SimpleKind, List as ListKind, Compound as CompoundKind}
+use Rattle.object_values.specs.declared.graph.Kind.TheVariants.{List as ListKind, Compound as CompoundKind}
 use Rattle.object_values.specs.declared.graph.Extra.{Extra}
 use Rattle.object_values.specs.declared.graph.Extra.TheVariants.{Also, With}
 use Rattle.object_values.specs.declared.graph.ToolDecl.{ToolDecl}
@@ -24,11 +24,11 @@ use Rattle.object_values.specs.declared.graph.Make.{Make}
 use Rattle.object_values.specs.declared.graph.Make.TheVariants.{Tool, Read, Each, Pack}
 use Rattle.object_values.specs.declared.graph.MakerDecl.{MakerDecl}
 use Rattle.meaning_texts.specs.Reading.{kept_params}
-use Rattle.meaning_texts.specs.Lines.{references}
+use Rattle.meaning_texts.specs.References.{references}
 use Rattle.meaning_graph.specs.Graphs.{Text, Graph, makers, kind_named}
 use Rattle.meaning_nodes.specs.Nodes.{source_node, base_of, last_step, onward_named}
 use Rattle.meaning_nodes.specs.Labels.{label_of, abort_message, no_path as no_path_to, too_many_references, at_line}
-use Rattle.meaning_nodes.specs.NodeOf.{NodeAnswer, is_node, unknown_param, unknown_type, no_path, node_of}
+use Rattle.meaning_nodes.specs.NodeOf.{NodeAnswer, is_node, unknown_param, unknown_type, node_of}
 
 -- What a node itself gives, beside its needs: its value, its own status and its own messages.
 pub record Own : Type 0 where
@@ -61,9 +61,7 @@ with_params_of n m = record m { params = kept_params (n.params ++ m.params) }
 -- what a line refers to: the node of its expression, and on to the element type
 abbrev pub answer_node : Graph → Node → Text → NodeAnswer → Option Node
 answer_node g n of (is_node m) = onward_named g (with_params_of n m) of
-answer_node g n of (unknown_param name) = None
-answer_node g n of (unknown_type name) = None
-answer_node g n of (no_path k) = None
+answer_node g n of refusal = None
 
 abbrev pub line_node : Graph → Node → Text → Line → Option Node
 line_node g n of (Bad number) = None
@@ -71,10 +69,9 @@ line_node g n of (Good number e) = answer_node g n of (node_of g e)
 
 -- why it refers to none
 abbrev pub answer_fault : NodeAnswer → Text
-answer_fault (is_node m) = codes "no path"
 answer_fault (unknown_param name) = codes "unknown parameter"
 answer_fault (unknown_type name) = codes "unknown type"
-answer_fault (no_path k) = codes "no path"
+answer_fault other = codes "no path"
 
 abbrev pub line_fault : Graph → Line → Text
 line_fault g (Bad number) = at_line number (codes "bad reference")
@@ -90,37 +87,29 @@ lines_own g n of TooMany = aborted (abort_message (label_of g n) too_many_refere
 -- one reference for each line of the text
 abbrev pub read_own : Graph → Node → Text → Value → Own
 read_own g n of (Simple text) = lines_own g n of (references text)
-read_own g n of (Listed elements) = aborted []
-read_own g n of (Compound parts) = aborted []
+read_own g n of other = aborted []
 
 -- ---- each
 
 -- each reference further from its own type to the element type
 abbrev pub each_own : Graph → Node → Text → Value → Own
 each_own g n of (Listed elements) = listed_unless (filter_map (λ e. onward_named g e of) elements) (flat_map (λ e. unless_node (abort_message (label_of g n) (no_path_to of)) (onward_named g e of)) elements)
-each_own g n of (Simple text) = aborted []
-each_own g n of (Compound parts) = aborted []
+each_own g n of other = aborted []
 
 -- ---- kinds
 
 -- the name of the element type of a list type
 abbrev pub element_name : Option Kind → Text
-element_name None = []
-element_name (Some SimpleKind) = []
 element_name (Some (ListKind of)) = of
-element_name (Some (CompoundKind parts)) = []
+element_name other = []
 
 abbrev pub parts_of : Option Kind → List PartDecl
-parts_of None = []
-parts_of (Some SimpleKind) = []
-parts_of (Some (ListKind of)) = []
 parts_of (Some (CompoundKind parts)) = parts
+parts_of other = []
 
 abbrev pub is_compound : Option Kind → Bool
-is_compound None = false
-is_compound (Some SimpleKind) = false
-is_compound (Some (ListKind of)) = false
 is_compound (Some (CompoundKind parts)) = true
+is_compound other = false
 
 -- ---- tasks
 

@@ -5,7 +5,7 @@ pub use Rattle.meaning_texts.proofs.Members.{in_left, in_right, in_either, in_ma
 pub use Rattle.meaning_texts.proofs.Members.{one_passes, passes_one, split_at, in_all, all_in, in_all_pass, all_pass_in, one_fails, numbered_in, in_numbered}
 pub use Rattle.meaning_texts.proofs.Members.{HasNo-append, HasNo-more, HasNo-split, HasNo-places, HasNo-take, HasNo-pass, same_cut}
 -- The tests of classes decide the classes.
-pub use Rattle.meaning_texts.proofs.Words.{word_decides, id_decides, value_decides, string_decides}
+pub use Rattle.meaning_texts.proofs.Words.{word_decides, id_decides, value_decides, param_decides, string_decides}
 -- The lines of a text.
 pub use Rattle.meaning_texts.proofs.Cuts.{are_lines, one_cut, cut_last, cut_line, cut_full, without_cr_is}
 pub use Rattle.meaning_texts.proofs.References.{references_said, said_references}

@@ -7,7 +7,9 @@ use Rattle.std.proofs.lemmas.Bool.{and_parts, and_from, ltb-true, lt-ltb, leb-tr
 use Rattle.std.proofs.lemmas.List.Sums.{AllPass-from_list_all, list_all-from_AllPass}
 use Rattle.meaning_texts.specs.Classes.{IsWordOf, IsId, IsParamValue, is_value_byte, is_string_byte, IsStringText}
 use Rattle.meaning_texts.specs.Limits.{word_limit}
-use Rattle.meaning_texts.specs.Tests.{is_word_of, is_id, is_param_value, is_string_text}
+use Rattle.object_values.specs.declared.nodes.ParamValue.{ParamValue}
+use Rattle.meaning_texts.specs.Expressions.{IsParamOfClass}
+use Rattle.meaning_texts.specs.Tests.{is_word_of, is_id, is_param_value, is_param_of_class, is_string_text}
 
 word_from_test : (class : ℕ → Bool) (text : List ℕ) → is_word_of class text ≡ true → IsWordOf class text
 word_from_test class text e =
@@ -32,6 +34,13 @@ id_decides text = (id_from_test text, test_from_id text)
 
 pub value_decides : (text : List ℕ) → Decides (is_param_value text) (IsParamValue text)
 value_decides text = (AllPass-from_list_all is_value_byte text, list_all-from_AllPass is_value_byte text)
+
+-- the class of a parameter's name and value
+pub param_decides : (p : ParamValue) → Decides (is_param_of_class p) (IsParamOfClass p)
+param_decides p = (
+  λ e. let h = and_parts (is_id p.param) (is_param_value p.value) e in record { name = id_from_test p.param h.0; value = (value_decides p.value).0 h.1 },
+  λ c. and_from (is_id p.param) (is_param_value p.value) (test_from_id p.param c.name) ((value_decides p.value).1 c.value),
+)
 
 pub string_decides : (text : List ℕ) → Decides (is_string_text text) (IsStringText text)
 string_decides text = (

@@ -6,9 +6,8 @@ use Rattle.object_values.specs.declared.graph.MakerDecl.{MakerDecl}
 use Rattle.meaning_graph.specs.Graphs.{Graph, types, makers}
 use Rattle.meaning_graph.specs.Types.{is_a}
 use Rattle.meaning_graph.specs.Paths.{Makes, Chosen, HasNoPath}
-use Rattle.meaning_graph.proofs.Members.{same_some, some_is_none}
-use Rattle.meaning_graph.proofs.Types.{is_a_so, so_is_a}
-use Rattle.meaning_graph.proofs.Paths.{named_below}
+use Rattle.meaning_texts.proofs.Lemmas.{same_some, some_is_none}
+use Rattle.meaning_graph.proofs.Lemmas.{is_a_so, so_is_a, named_below}
 use Rattle.path_planner.specs.declared.route.Ends.{Ends}
 use Rattle.path_planner.specs.Ends.{ends_of, ends_in, from_to, AreTypes, IsChosen}
 

@@ -7,14 +7,12 @@ use Rattle.std.proofs.lemmas.Bool.Decides.{Decides-eqb}
 use Rattle.std.proofs.lemmas.List.Folds.{list_any_at}
 use Rattle.sequences.specs.Exact.{option_exact}
 use Rattle.std.proofs.lemmas.List.{length-replicate, take_at, get_or-set_same, get_or-set_other}
-use Rattle.meaning_graph.specs.Members.{IsIn}
+use Rattle.meaning_texts.specs.Lists.{IsIn}
 use Rattle.meaning_graph.specs.Graphs.{Graph, types}
 use Rattle.meaning_graph.specs.Types.{IsA, itself, by_super, is_a}
 use Rattle.meaning_graph.specs.Paths.{Makes, Path, maker_edges}
-use Rattle.meaning_graph.proofs.Members.{same_some, some_is_none}
-use Rattle.meaning_graph.proofs.Routes.{Route, short_route}
-use Rattle.meaning_graph.proofs.Types.{numbers, in_below, length-below, super_numbered, is_a_so, so_is_a}
-use Rattle.meaning_graph.proofs.Paths.{named_below, edge_makes, makes_edge}
+use Rattle.meaning_texts.proofs.Lemmas.{same_some, some_is_none}
+use Rattle.meaning_graph.proofs.Lemmas.{Route, short_route, numbers, in_below, length-below, super_numbered, is_a_so, so_is_a, named_below, edge_makes, makes_edge}
 use Rattle.path_planner.specs.declared.route.Ends.{Ends}
 use Rattle.path_planner.specs.Ends.{ends_in, from_to}
 use Rattle.path_planner.specs.Near.{near_at, IsNear, IsBetween, IsAllNear}

@@ -8,9 +8,8 @@ use Rattle.object_values.specs.declared.graph.MakerDecl.{MakerDecl}
 use Rattle.meaning_graph.specs.Graphs.{Graph, types, type_named}
 use Rattle.meaning_graph.specs.Routes.{ComesBefore}
 use Rattle.meaning_graph.specs.Paths.{Makes, Path, Chosen, HasNoPath, chosen_path}
-use Rattle.meaning_graph.proofs.Members.{same_some, some_is_none}
-use Rattle.meaning_graph.proofs.Order.{AtMost, at_most_behind}
-use Rattle.meaning_graph.proofs.Paths.{path_chosen, one_chosen, named_below}
+use Rattle.meaning_texts.proofs.Lemmas.{same_some, some_is_none}
+use Rattle.meaning_graph.proofs.Lemmas.{AtMost, at_most_behind, path_chosen, one_chosen, named_below}
 use Rattle.path_planner.specs.Near.{near_at, IsAllNear, Leads}
 
 module _ (g : Graph) (a b : ℕ) where

@@ -12,12 +12,12 @@ use Rattle.object_values.specs.declared.graph.MakerDecl.{MakerDecl}
 use Rattle.object_values.specs.declared.graph.Decl.{Decl}
 use Rattle.object_values.specs.declared.graph.Decl.TheVariants.{ObjectType, Suffix, Param, Maker}
 use Rattle.meaning_texts.specs.Limits.{declaration_limit}
-use Rattle.meaning_graph.specs.Members.{IsIn}
+use Rattle.meaning_texts.specs.Lists.{IsIn}
 use Rattle.meaning_graph.specs.Graphs.{Text, Graph, types, params, makers, type_named, as_type, as_suffix, text_type}
 use Rattle.meaning_graph.specs.Types.{IsA, itself, by_super, is_a}
 use Rattle.meaning_graph.specs.Types as order
-use Rattle.meaning_graph.proofs.Members.{from_chosen, one_passes, passes_one}
-use Rattle.meaning_graph.proofs.Types.{is_a_so, so_is_a}
+use Rattle.meaning_texts.proofs.Lemmas.{from_chosen, one_passes, passes_one}
+use Rattle.meaning_graph.proofs.Lemmas.{is_a_so, so_is_a}
 use Rattle.type_graph.specs.declared.spaces.Space.TheVariants.{Types, Suffixes, Params, Makers}
 use Rattle.type_graph.specs.declared.context.Kinds.{Kinds}
 use Rattle.type_graph.specs.Places.{Places, place_of, AreOf}

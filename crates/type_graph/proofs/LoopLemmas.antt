@@ -2,10 +2,10 @@
 use Rattle.std.proofs.Common.{◌≡◌, ◌||◌, ◌<◌, ℕ, Bool, false, List, [], ◌∷◌, refl, sym, ap, ◌∙◌, length}
 use Rattle.std.specs.Prelude.{Option, Some, None, filter_map}
 use Rattle.std.specs.List.{list_any, cons_option}
-use Rattle.meaning_graph.specs.Members.{IsIn}
+use Rattle.meaning_texts.specs.Lists.{IsIn}
 use Rattle.meaning_graph.specs.Graphs.{Text, Graph, types, type_named}
 use Rattle.meaning_graph.specs.Types.{is_a}
-use Rattle.meaning_graph.proofs.Members.{from_chosen}
+use Rattle.meaning_texts.proofs.Lemmas.{from_chosen}
 use Rattle.meaning_graph_text.specs.Checks.{both_known, is_a_named}
 use Rattle.type_graph.proofs.ContextLemmas.{number_within}
 

@@ -8,7 +8,7 @@ use Rattle.std.proofs.lemmas.Option.{slice_get-map, slice_get-get_or, get_or_fro
 use Rattle.object_values.specs.declared.graph.PartDecl.{PartDecl}
 use Rattle.meaning_graph.specs.Graphs.{Text}
 use Rattle.meaning_graph_text.specs.Checks.{has_twice}
-use Rattle.meaning_graph.proofs.Members.{either_true, left_true, right_true}
+use Rattle.std.proofs.lemmas.Bool.{or_cases, or_left, or_right}
 use Rattle.type_graph.specs.Places.{Places, place_of, with_place, AreOf}
 use Rattle.type_graph.proofs.TableLemmas.{is_some-position}
 use Rattle.type_graph.proofs.SpaceLemmas.{one_more_name}
@@ -27,13 +27,13 @@ twice-push (y ∷ ys) x =
     ∙ sorted_out (list_any (bytes_eq y) ys) (bytes_eq y x) (has_twice ys) (list_any (λ z. bytes_eq z x) ys)
 
 any_front : (p : Text → Bool) (xs ys : List Text) → list_any p xs ≡ true → list_any p (xs ++ ys) ≡ true
-any_front p xs ys h = list_any-append p xs ys ∙ left_true (list_any p xs) (list_any p ys) h
+any_front p xs ys h = list_any-append p xs ys ∙ or_left (list_any p xs) (list_any p ys) h
 
 pub twice_front : (xs ys : List Text) → has_twice xs ≡ true → has_twice (xs ++ ys) ≡ true
 twice_front [] ys h = absurd (true≢false (sym h))
-twice_front (x ∷ xs) ys h = elim (either_true (list_any (bytes_eq x) xs) (has_twice xs) h) [
-  | inl a ↦ left_true (list_any (bytes_eq x) (xs ++ ys)) (has_twice (xs ++ ys)) (any_front (bytes_eq x) xs ys a)
-  | inr b ↦ right_true (list_any (bytes_eq x) (xs ++ ys)) (has_twice (xs ++ ys)) (twice_front xs ys b)
+twice_front (x ∷ xs) ys h = elim (or_cases (list_any (bytes_eq x) xs) (has_twice xs) h) [
+  | inl a ↦ or_left (list_any (bytes_eq x) (xs ++ ys)) (has_twice (xs ++ ys)) (any_front (bytes_eq x) xs ys a)
+  | inr b ↦ or_right (list_any (bytes_eq x) (xs ++ ys)) (has_twice (xs ++ ys)) (twice_front xs ys b)
 ]
 
 -- The names so far are all different, and stand in the table.
@@ -54,7 +54,7 @@ module _ (names : List Text) (i : ℕ) (table : Places) (so_far : AreApart names
   -- a name that is there already stands twice
   pub found_twice : is_some (place_of table name) ≡ true → true ≡ has_twice names
   found_twice h =
-      let both : has_twice (take (i + 1) names) ≡ true = ap has_twice grown ∙ twice-push (take i names) name ∙ right_true (has_twice (take i names)) (list_any (λ y. bytes_eq y name) (take i names)) (sym stands ∙ h) in
+      let both : has_twice (take (i + 1) names) ≡ true = ap has_twice grown ∙ twice-push (take i names) name ∙ or_right (has_twice (take i names)) (list_any (λ y. bytes_eq y name) (take i names)) (sym stands ∙ h) in
       sym (ap has_twice (sym (take-append-drop (i + 1) names)) ∙ twice_front (take (i + 1) names) (drop (i + 1) names) both)
 
   -- a name that is new is kept

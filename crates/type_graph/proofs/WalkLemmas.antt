@@ -1,8 +1,8 @@
 -- What a walk keeps, number by number.
 use Rattle.std.proofs.Common.{◌≡◌, ◌≢◌, ℕ, zero, suc, ◌+◌, ◌<◌, Bool, true, false, List, [], ◌∷◌, ◌++◌, ◌⊎◌, inl, inr, refl, sym, ap, ◌∙◌, subst, length, arith, set, get_or, true≢false, length-set, length-append, replicate}
 use Rattle.std.proofs.lemmas.List.{length-replicate, get_or_default, get_or-set_same, get_or-set_other}
-use Rattle.meaning_graph.specs.Members.{IsIn}
-use Rattle.meaning_graph.proofs.Members.{in_left, in_right, in_either}
+use Rattle.meaning_texts.specs.Lists.{IsIn}
+use Rattle.meaning_texts.proofs.Lemmas.{in_left, in_right, in_either}
 use Rattle.type_graph.specs.Walks.{IsMarked, unmarked, Marks, Leads, here, over, IsReached}
 
 same_or_not : (a b : ℕ) → (a ≡ b) ⊎ (a ≢ b)

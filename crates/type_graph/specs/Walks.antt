@@ -1,6 +1,6 @@
 -- Walks along lists of numbers: from each number the list at its place leads on.
 use Rattle.std.specs.Prelude.{◌≡◌, ◌↔◌, ◌<◌, ℕ, ◌+◌, ◌⊎◌, IsTrue, Bool, true, false, List, [], ◌∷◌, length, slice_index_or}
-use Rattle.meaning_graph.specs.Members.{IsIn}
+use Rattle.meaning_texts.specs.Lists.{IsIn}
 use Rattle.type_graph.specs.declared.walk.Walk.{Walk}
 
 -- the number is marked

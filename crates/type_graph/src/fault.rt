@@ -3,7 +3,7 @@ use object_values::{Copied, GraphFault, Memory};
 use std::alloc::Global;
 
 /// Why declarations make no graph. `Graph` names the declaration by its number, from 1, and its fault.
-#[derive(Clone, Copy, Debug, PartialEq, Eq)]
+#[derive(Clone, Copy, PartialEq, Eq)]
 pub enum CheckFault {
     Graph(u32, GraphFault),
     Memory,

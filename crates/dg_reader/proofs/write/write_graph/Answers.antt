@@ -3,8 +3,7 @@ use Rattle.std.proofs.lemmas.List.{take_all}
 use Rattle.meaning_graph_text.specs.Tokens.{semicolon}
 use Rattle.meaning_graph_text.specs.Grammar.{decl_tokens}
 use Rattle.meaning_graph_text.specs.Spelling.{tokens_spelling, graph_spelling}
-use Rattle.meaning_graph_text.proofs.CheckedGraphs.{checked_has_spelling}
-use Rattle.meaning_graph_text.proofs.Spelled.{spelled}
+use Rattle.meaning_graph_text.proofs.Lemmas.{checked_has_spelling, spelled}
 use Rattle.dg_reader.proofs.WriteLemmas.{graph_none, graph_more, take_step}
 use Rattle.dg_reader.proofs.write.write_graph.Goals as goal
 

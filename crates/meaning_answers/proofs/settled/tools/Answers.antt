@@ -1,7 +1,8 @@
 use Rattle.std.proofs.Common.{refl}
 use Rattle.std.specs.Fmt.{digits}
 use Rattle.meaning_texts.specs.Reading.{expression_of, kept_params}
-use Rattle.meaning_texts.specs.Lines.{references, scanned_names, lines_of}
+use Rattle.meaning_texts.specs.References.{references, scanned_names}
+use Rattle.meaning_texts.specs.Lines.{lines_of}
 use Rattle.meaning_graph.specs.Suffixes.{source_type}
 use Rattle.meaning_graph.specs.Types.{is_a}
 use Rattle.meaning_graph.specs.Paths.{chosen_path}

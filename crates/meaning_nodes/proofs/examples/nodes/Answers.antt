@@ -10,4 +10,4 @@ use Rattle.meaning_nodes.proofs.examples.nodes.Goals as goal
 
 pub returns : goal.returns
 unfolding digits expression_of kept_params source_type is_a chosen_path reached_type node_of
-returns c = record { two_ways = refl; whole = refl; keeps_its_type = refl; picked = refl; unknown_type = refl; unknown_param = refl; no_path = refl; first_step = refl; pick_of_simple = refl; leading_zero = refl; past_all = refl }
+returns c = record { two_ways = refl; whole = refl; keeps_its_type = refl; picked = refl }

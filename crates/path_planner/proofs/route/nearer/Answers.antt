@@ -3,7 +3,7 @@ use Rattle.std.proofs.Common.{◌∙◌, ◌<◌, length, sym, ap, arith, slice_
 use Rattle.std.specs.Prelude.{Some}
 use Rattle.std.proofs.lemmas.List.{length-map}
 use Rattle.meaning_graph.specs.Graphs.{makers}
-use Rattle.meaning_graph.proofs.Members.{same_some}
+use Rattle.meaning_texts.proofs.Lemmas.{same_some}
 use Rattle.path_planner.specs.Ends.{ends_in, ends_of}
 use Rattle.path_planner.proofs.EndLemmas.{place_ends, ends_are_types, makes_of, of_makes}
 use Rattle.path_planner.proofs.NearLemmas.{below_or, not_below}

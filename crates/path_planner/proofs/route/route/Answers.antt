@@ -1,7 +1,7 @@
 -- Maker by maker, each one nearer.
 use Rattle.std.proofs.Common.{◌≡◌, ◌∙◌, ◌-◌, ◌+◌, sym, ap, subst, arith}
 use Rattle.std.specs.Prelude.{Some}
-use Rattle.meaning_graph.proofs.Paths.{named_below}
+use Rattle.meaning_graph.proofs.Lemmas.{named_below}
 use Rattle.path_planner.specs.Near.{near_at}
 use Rattle.path_planner.proofs.NearLemmas.{none_by_all}
 use Rattle.path_planner.proofs.RouteLemmas.{IsOnWay, none_is, far_away, one_leads, goes_on, arrives}

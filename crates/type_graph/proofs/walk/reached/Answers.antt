@@ -1,7 +1,7 @@
 -- The walk begins with the starts, and ends where nothing is to do.
 use Rattle.std.proofs.Common.{◌∙◌, ◌<◌, [], replicate, length, sym, ap, subst, arith, false}
 use Rattle.std.proofs.lemmas.List.{length-replicate}
-use Rattle.meaning_graph.specs.Members.{IsIn}
+use Rattle.meaning_texts.specs.Lists.{IsIn}
 use Rattle.type_graph.proofs.WalkLemmas.{MarksTo, IsWalk, walk_begins, walk_goes, walk_ends, todo_within, read_default, nothing_left}
 use Rattle.type_graph.proofs.walk.reached.Goals as goal
 

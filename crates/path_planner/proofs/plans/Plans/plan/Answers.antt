@@ -2,7 +2,7 @@
 use Rattle.std.proofs.Common.{sym, subst}
 use Rattle.std.proofs.lemmas.Result.{IfOk-weaker}
 use Rattle.meaning_graph.specs.Paths.{chosen_path}
-use Rattle.meaning_graph.proofs.Paths.{path_chosen}
+use Rattle.meaning_graph.proofs.Lemmas.{path_chosen}
 use Rattle.path_planner.specs.Ends.{IsChosen}
 use Rattle.path_planner.specs.Near.{IsAllNear}
 use Rattle.path_planner.proofs.EndLemmas.{is_chosen}

@@ -2,7 +2,7 @@
 use Rattle.std.proofs.Common.{◌∙◌, ◌<◌, sym, ap, subst, length, get_or, []}
 use Rattle.std.specs.List.{list_any}
 use Rattle.std.proofs.lemmas.Result.{IfOk-weaker}
-use Rattle.meaning_graph.specs.Members.{IsIn}
+use Rattle.meaning_texts.specs.Lists.{IsIn}
 use Rattle.meaning_graph.specs.Graphs.{types}
 use Rattle.type_graph.specs.Walks.{IsReached}
 use Rattle.meaning_graph.specs.Types.{is_a}

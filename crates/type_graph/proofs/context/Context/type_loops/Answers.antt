@@ -1,7 +1,7 @@
 -- Supertypes lead back to the type by its number.
 use Rattle.std.proofs.Common.{◌∙◌, sym, ap, subst, slice_index_or, false}
 use Rattle.std.specs.List.{list_any}
-use Rattle.meaning_graph.specs.Members.{IsIn}
+use Rattle.meaning_texts.specs.Lists.{IsIn}
 use Rattle.meaning_graph.specs.Graphs.{type_named}
 use Rattle.meaning_graph.specs.Types.{is_a}
 use Rattle.std.specs.Prelude.{filter_map}
