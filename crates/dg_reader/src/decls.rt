@@ -1,6 +1,7 @@
 // Declarations.
 ghost use Rattle.std.specs.Prelude.{◌≢◌, ◌∷◌, [], codes, IfOk, IfErr};
 ghost use Rattle.meaning_graph_text.specs.Going.{ending, start, expect};
+ghost use Rattle.meaning_graph_text.specs.Going.{kind as kind_stage};
 ghost use Rattle.dg_reader.specs.Walks.{HaltsAt};
 ghost use Rattle.dg_reader.specs.Reads.{HeadBehind, ReadsHead, ReadsDecl, an_id, word_and_id};
 

@@ -1,6 +1,7 @@
 // Makers.
 ghost use Rattle.std.specs.Prelude.{◌≡◌, ◌∷◌, [], codes, IfOk, IfErr};
 ghost use Rattle.meaning_graph_text.specs.Going.{any_string, ending, strings, tool_front, expect};
+ghost use Rattle.meaning_graph_text.specs.Going.{way as way_front};
 ghost use Rattle.dg_reader.specs.Walks.{HaltsAt};
 ghost use Rattle.dg_reader.specs.Reads.{ReadsWay, ReadsTool, HeadBehind, HaltsInWay, PlainBehind};
 

@@ -7,13 +7,13 @@ use Rattle.dg_tokens.proofs.lexer.string_at.Goals as goal
 pub returns-in_err-end : goal.returns-in_err-end
 returns-in_err-end c =
     let none = rw c.in_err-end.was at c.memchr.ensures in
-    rw c.from_residual.ensures (string_open c.args.text.now (no_quote c.args.text.now (λ k less e. none k (omega arith) less ((Decides-eqb _ 34).1 e))))
+    rw c.from_residual.ensures (sym (string_open c.args.text.now (no_quote c.args.text.now (λ k less e. none k (omega arith) less ((Decides-eqb _ 34).1 e)))))
 
 pub returns-then-not-is_string_text : goal.returns-then-not-is_string_text
 returns-then-not-is_string_text c =
     let found = rw c.in_ok-end.was at c.memchr.ensures in
     let q : QuoteAt c.args.text.now c.in_ok-end.end = quote_at c.args.text.now c.in_ok-end.end found.0.high (λ k less e. found.0.before k (omega arith) less ((Decides-eqb _ 34).1 e)) ((Decides-eqb _ 34).0 found.1) in
-    string_refused c.args.text.now c.in_ok-end.end q (sym c.is_string_text.ensures ∙ c.if-not-is_string_text.true)
+    sym (string_refused c.args.text.now c.in_ok-end.end q (sym c.is_string_text.ensures ∙ c.if-not-is_string_text.true))
 
 pub returns : goal.returns
 returns c =
@@ -21,4 +21,4 @@ returns c =
     let here : c.in_ok-end.end < length c.args.text.now = found.0.high in
     let q : QuoteAt c.args.text.now c.in_ok-end.end = quote_at c.args.text.now c.in_ok-end.end here (λ k less e. found.0.before k (omega arith) less ((Decides-eqb _ 34).1 e)) ((Decides-eqb _ 34).0 found.1) in
     let rest : take (length c.args.text.now - (c.in_ok-end.end + 1)) (drop (c.in_ok-end.end + 1) c.args.text.now) ≡ drop (c.in_ok-end.end + 1) c.args.text.now = grind (arith, common_steps) in
-    rw rest (string_read c.args.text.now c.in_ok-end.end q (sym c.is_string_text.ensures ∙ c.if-not-is_string_text.false))
+    rw rest (sym (string_read c.args.text.now c.in_ok-end.end q (sym c.is_string_text.ensures ∙ c.if-not-is_string_text.false)))
