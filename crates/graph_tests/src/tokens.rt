@@ -1,7 +1,6 @@
 // Tokens, gaps, places and classes, as tables.
-use dg_tokens::{
-    Token, column_behind, is_id, is_name, is_string_text, line_behind, past_gap, token_at,
-};
+use dg_tokens::{Token, column_behind, line_behind, past_gap, token_at};
+use odin_bytes::{is_id, is_name, is_string_text};
 
 #[test]
 fn tokens_are_read_one_by_one(rt: HostRuntime) {

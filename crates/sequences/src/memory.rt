@@ -2,7 +2,7 @@
 use std::alloc::{AllocError, AllocFailed};
 
 /// Want of memory.
-#[derive(Clone, Copy, PartialEq, Eq)]
+#[derive(Clone, Copy, Debug, PartialEq, Eq)]
 pub struct Memory;
 
 impl From<AllocError> for Memory {

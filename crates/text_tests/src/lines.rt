@@ -1,5 +1,5 @@
 // The first line of a text.
-use odin_lines::first_line;
+use odin_bytes::first_line;
 
 // A text, its first line and what stands behind it.
 const ROWS: &[(&[u8], &[u8], &[u8])] = &[
