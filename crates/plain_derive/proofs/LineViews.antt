@@ -20,7 +20,7 @@ use Rattle.meaning_graph.specs.Suffixes.{source_type}
 use Rattle.meaning_texts.proofs.Lemmas.{in_all, all_in, in_left}
 use Rattle.std.proofs.lemmas.Bool.{cond-true}
 use Rattle.meaning_nodes.specs.Labels.{label_of}
-use Rattle.meaning_nodes.specs.Nodes.{Fits, base_of, before_last, last_step, stepped, type_after, reached_type, IsStepOfClass}
+use Rattle.meaning_nodes.specs.Nodes.{Fits, base_of, before_last, last_step, stepped, type_after, reached_type, HasKeyOfClass}
 use Rattle.meaning_nodes.specs.Values.{inherit}
 use Rattle.meaning_nodes.proofs.Lemmas.{type_after-append}
 use Rattle.meaning_tasks.specs.Tasks.{task_of, given}
@@ -66,7 +66,7 @@ unfolding reached_type
 front_fits g n i f = record {
   source = f.source;
   params = f.params;
-  keys = all_in IsStepOfClass (take i n.steps) (λ s h. in_all IsStepOfClass n.steps f.keys s (subst (λ l. IsIn s l) whole (in_left s (take i n.steps) (drop i n.steps) h)));
+  keys = all_in HasKeyOfClass (take i n.steps) (λ s h. in_all HasKeyOfClass n.steps f.keys s (subst (λ l. IsIn s l) whole (in_left s (take i n.steps) (drop i n.steps) h)));
   typed = by_type (type_after g (Some (source_type g n.source)) (take i n.steps)) (ap is_some (sym (type_after-append g (Some (source_type g n.source)) (take i n.steps) (drop i n.steps)) ∙ ap (type_after g (Some (source_type g n.source))) whole) ∙ f.typed);
 }
   where
