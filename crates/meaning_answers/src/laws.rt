@@ -1,5 +1,5 @@
 //! Laws of answers. Each is the contract of a function with an empty body.
-ghost use Rattle.meaning_answers.specs.Laws.{EachIsAnswered, EachHasPlan, FoundedIsShown, OthersAreChained};
+ghost use Rattle.meaning_answers.specs.Laws.{EachIsAnswered, EachHasPlan, FoundedIsShown, OthersAreChained, RefusalIsOne, PlanIsOne, AnswerIsOne};
 
 /// Every text has an answer and a plan.
 pub fn each_is_answered()
@@ -11,4 +11,11 @@ pub fn each_is_answered()
 pub fn answers_are_exact()
     ensures founded { FoundedIsShown }
     ensures others { OthersAreChained }
+{}
+
+/// A text has one refusal, one plan and one answer at most, but for the choice of the chain.
+pub fn answer_is_one()
+    ensures refusal { RefusalIsOne }
+    ensures plan { PlanIsOne }
+    ensures answer { AnswerIsOne }
 {}

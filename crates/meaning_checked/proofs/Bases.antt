@@ -14,7 +14,7 @@ use Rattle.meaning_graph.specs.Types.{IsA, is_a}
 use Rattle.meaning_graph.specs.Paths.{made_of}
 use Rattle.meaning_texts.proofs.Lemmas.{all_in}
 use Rattle.meaning_graph.proofs.Lemmas.{is_a_so}
-use Rattle.meaning_nodes.specs.Nodes.{source_node, last_step, base_of, step_type, reached_type, IsStepOfClass, Fits}
+use Rattle.meaning_nodes.specs.Nodes.{source_node, last_step, base_of, step_type, reached_type, HasKeyOfClass, Fits}
 use Rattle.meaning_tasks.specs.Tasks.{Task, given, picked, make_task, maker_task, step_task, task_of}
 use Rattle.meaning_nodes.proofs.Lemmas.{HasBase, base_fits}
 use Rattle.meaning_checked.proofs.Rules.{maker_declared}
@@ -38,11 +38,11 @@ no_last (s ∷ t ∷ steps) e = let more : t ∷ steps ≡ [] = no_last (t ∷ s
 -- a source node, or the same with parameters, fits by its name
 pub source_fits : (g : Graph) (n : Node) (x : Text) → Fits g n → IsName x → Fits g (record n { source = x; steps = [] })
 unfolding reached_type
-source_fits g n x f h = record { source = h; params = f.params; keys = all_in IsStepOfClass [] (λ s i. absurd i); typed = refl }
+source_fits g n x f h = record { source = h; params = f.params; keys = all_in HasKeyOfClass [] (λ s i. absurd i); typed = refl }
 
 pub bare_fits : (g : Graph) (x : Text) → IsName x → Fits g (source_node x)
 unfolding reached_type
-bare_fits g x h = record { source = h; params = all_in _ [] (λ p i. absurd i); keys = all_in IsStepOfClass [] (λ s i. absurd i); typed = refl }
+bare_fits g x h = record { source = h; params = all_in _ [] (λ p i. absurd i); keys = all_in HasKeyOfClass [] (λ s i. absurd i); typed = refl }
 
 pub source_typed : (g : Graph) (n : Node) → n.steps ≡ [] → reached_type g n ≡ Some (source_type g n.source)
 unfolding reached_type

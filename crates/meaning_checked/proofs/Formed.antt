@@ -27,7 +27,7 @@ use Rattle.meaning_texts.specs.Lists.{is_empty, IsIn}
 use Rattle.meaning_texts.proofs.Lemmas.{in_either, in_map, from_map, from_flat, from_filter, in_all, all_in, same_some}
 use Rattle.meaning_graph_text.specs.Grammar.{IsSpellable, IsSpellableDecl, IsSpellableMake, IsSpellableTool, IsSpellableKind, AreSpellableParts, IsSpellablePart}
 use Rattle.meaning_graph_text.specs.Checks.{Checked}
-use Rattle.meaning_nodes.specs.Nodes.{source_node, base_of, reached_type, IsStepOfClass, Fits}
+use Rattle.meaning_nodes.specs.Nodes.{source_node, base_of, reached_type, HasKeyOfClass, Fits}
 use Rattle.meaning_nodes.specs.Labels.{made_name, written_step, label_of}
 use Rattle.meaning_tasks.specs.Tasks.{ExtraNode, extra_node, outs_of, tool_task, make_task, task_of}
 use Rattle.meaning_tasks.specs.Needs.{Results, Known, values_of, elements_of, ranked_needs}
@@ -83,7 +83,7 @@ module _ (g : Graph) (spellable : IsSpellable g) where
   clear_made k None e = λ b h. absurd h
   clear_made k (Some m) e = clear_key m.to (in_all IsSpellableDecl g spellable (MakerDeclared m) (maker_declared g k m e)).to.key
 
-  clear_step : (s : Step) → IsStepOfClass s → IsClear (step_spelling (written_step g s))
+  clear_step : (s : Step) → HasKeyOfClass s → IsClear (step_spelling (written_step g s))
   clear_step (Pick key) c = clear_byte 37 (not_space 37 refl) (not_lf 37 refl) key (clear_key key c)
   clear_step (Maker k) c = clear_byte 58 (not_space 58 refl) (not_lf 58 refl) (made_name (slice_get (makers g) k)) (clear_made k (slice_get (makers g) k) refl)
 
@@ -94,7 +94,7 @@ module _ (g : Graph) (spellable : IsSpellable g) where
       steps b h =
           let r = from_flat step_spelling b (map (written_step g) n.steps) h in
           let s = from_map (written_step g) r.0 n.steps r.1 in
-          clear_step s.0 (in_all IsStepOfClass n.steps f.keys s.0 s.1) b (subst (λ z. IsIn b (step_spelling z)) s.2 r.2)
+          clear_step s.0 (in_all HasKeyOfClass n.steps f.keys s.0 s.1) b (subst (λ z. IsIn b (step_spelling z)) s.2 r.2)
 
   as_label : (text : Text) → IsClear text → IsLabel text
   as_label text h = all_in _ text h

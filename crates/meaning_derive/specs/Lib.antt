@@ -3,4 +3,5 @@ pub mod Given
 pub mod Chains
 pub mod Calls
 pub mod Samples
+pub mod Examples
 pub mod Laws

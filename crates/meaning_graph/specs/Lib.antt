@@ -4,4 +4,5 @@ pub mod Types
 pub mod Routes
 pub mod Paths
 pub mod Samples
+pub mod Examples
 pub mod Laws

@@ -5,4 +5,4 @@ use Rattle.meaning_answers.proofs.examples.objects.Goals as goal
 
 pub returns : goal.returns
 unfolding object_reply digits
-returns c = record { empty = refl; warned = refl; listed = refl; compound = refl; aborted = refl }
+returns c = record { empty = refl; listed = refl; compound = refl; failed = refl }

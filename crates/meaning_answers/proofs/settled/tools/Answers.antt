@@ -15,4 +15,4 @@ use Rattle.meaning_answers.proofs.settled.tools.Goals as goal
 
 pub returns : goal.returns
 unfolding digits expression_of kept_params references scanned_names lines_of source_type is_a chosen_path reached_type node_of inherit task_of object_reply
-returns c = record { absent_header = refl; inherited = refl; base_aborted = refl; ended = refl; missing_extra = refl; base_first = refl }
+returns c = record { absent_header = refl; inherited = refl; base_aborted = refl; own_last = refl; ended = refl }

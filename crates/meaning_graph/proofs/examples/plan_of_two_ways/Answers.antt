@@ -1,8 +1,9 @@
 use Rattle.std.proofs.Common.{refl}
+use Rattle.meaning_graph.specs.Suffixes.{source_type}
 use Rattle.meaning_graph.specs.Types.{is_a}
 use Rattle.meaning_graph.specs.Paths.{chosen_path}
 use Rattle.meaning_graph.proofs.examples.plan_of_two_ways.Goals as goal
 
 pub returns : goal.returns
-unfolding chosen_path is_a
+unfolding chosen_path is_a source_type
 returns c = record { two = refl; shorter = refl; none = refl }
