@@ -1,9 +1,10 @@
-pub mod TokenLemmas
-pub mod WalkLemmas
-pub mod StageLemmas
-pub mod ListLemmas
-pub mod DeclLemmas
-pub mod FaultLemmas
-pub mod FileLemmas
-pub mod WriteLemmas
-pub mod RefusalLemmas
+mod TokenLemmas
+mod WalkLemmas
+mod StageLemmas
+mod ListLemmas
+mod DeclLemmas
+mod FaultLemmas
+mod FileLemmas
+mod WriteLemmas
+mod RefusalLemmas
+pub mod Lemmas

@@ -1,2 +1,2 @@
-pub mod LexLemmas
-pub mod PlaceLemmas
+mod LexLemmas
+mod PlaceLemmas

@@ -1,3 +1,3 @@
-pub mod EndLemmas
-pub mod NearLemmas
-pub mod RouteLemmas
+mod EndLemmas
+mod NearLemmas
+mod RouteLemmas

@@ -1,12 +1,13 @@
-pub mod ContextLemmas
-pub mod DoubleLemmas
-pub mod FaultLemmas
-pub mod KindLemmas
-pub mod LoopLemmas
-pub mod PlaceLemmas
-pub mod RowLemmas
-pub mod SpaceLemmas
-pub mod SuffixLemmas
-pub mod TableLemmas
-pub mod TwiceLemmas
-pub mod WalkLemmas
+mod ContextLemmas
+mod DoubleLemmas
+mod FaultLemmas
+mod KindLemmas
+mod LoopLemmas
+mod PlaceLemmas
+mod RowLemmas
+mod SpaceLemmas
+mod SuffixLemmas
+mod TableLemmas
+mod TwiceLemmas
+mod WalkLemmas
+pub mod Lemmas

@@ -1,8 +1,7 @@
 -- Maker by maker.
 use Rattle.std.proofs.Common.{◌∙◌, ◌++◌, ◌∷◌, [], ap}
 use Rattle.meaning_graph.specs.Graphs.{type_named, as_maker}
-use Rattle.type_graph.proofs.TableLemmas.{no_other}
-use Rattle.type_graph.proofs.ContextLemmas.{mapped_push, mapped_stays}
+use Rattle.type_graph.proofs.Lemmas.{no_other, mapped_push, mapped_stays}
 use Rattle.path_planner.specs.Ends.{ends_of}
 use Rattle.path_planner.proofs.EndLemmas.{same_ends}
 use Rattle.path_planner.proofs.plans.ends_in.Goals as goal
