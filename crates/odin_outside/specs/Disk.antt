@@ -157,3 +157,35 @@ pub record LeavesOnly (old new : Telling) (P : List ℕ → Type 0) : Type 0 whe
 pub record IsQuiet (disk : Telling) : Type 0 where
   pub follows : IsTrue disk.follows
   pub only : Only disk.seen (MayLeave disk)
+
+-- ---- what a read gives before and after a call, where the disk follows its model
+
+-- the same
+abbrev pub SeesSame : Telling → Telling → Type 0
+SeesSame old new = IsTrue old.follows → new.seen ≡ old.seen
+
+-- so many bytes from a place on
+abbrev pub Gives : ℕ → ℕ → Telling → List ℕ → Type 0
+Gives at n old bytes = IsTrue old.follows → bytes ≡ take n (drop at old.seen)
+
+-- these bytes were written at the place, or the write was cut short there
+abbrev pub SeesWritten : ℕ → List ℕ → Telling → Telling → Type 0
+SeesWritten at bytes old new = IsTrue old.follows → Written old.seen at bytes new.seen
+
+abbrev pub SeesTorn : ℕ → List ℕ → Telling → Telling → Type 0
+SeesTorn at bytes old new = IsTrue old.follows → Torn at (length bytes) old.seen new.seen
+
+-- what stood behind the size was taken away, or the cut was left midway
+abbrev pub SeesTaken : ℕ → Telling → Telling → Type 0
+SeesTaken size old new = IsTrue old.follows → new.seen ≡ take size old.seen
+
+abbrev pub SeesCut : ℕ → Telling → Telling → Type 0
+SeesCut size old new = IsTrue old.follows → Cut size old.seen new.seen
+
+-- the change of a sync: what a read gives is all that a crash leaves
+abbrev pub synced_as : Telling → Pending → Pending
+synced_as disk pending = synced_at disk.seen
+
+-- the size after a write at a place
+abbrev pub size_with : ℕ → ℕ → List ℕ → ℕ
+size_with size at bytes = max size (at + length bytes)

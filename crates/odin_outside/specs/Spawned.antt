@@ -1,10 +1,12 @@
 -- What starts child programs, as it is told: what runs, what was started and ended, and what each job leaves.
-use Rattle.std.specs.Prelude.{◌≡◌, ⊤, ℕ, ◌<◌, List, [], ◌∷◌, ◌++◌, Any, Option, Some, None}
+use Rattle.std.specs.Prelude.{◌≡◌, ⊤, ℕ, ◌<◌, List, [], ◌∷◌, ◌++◌, Any, Option, Some, None, Result, Err}
 use Rattle.object_values.specs.declared.jobs.Job.{Job}
 use Rattle.object_values.specs.declared.jobs.Raw.{Raw}
 use Rattle.odin_outside.specs.declared.events.Running.{Running}
 use Rattle.odin_outside.specs.declared.events.ToolEvent.{ToolEvent}
 use Rattle.odin_outside.specs.declared.events.ToolEvent.TheVariants.{Began, Ended, Lost}
+use Rattle.odin_outside.specs.declared.spawner.FinishFault.{FinishFault}
+use Rattle.odin_outside.specs.declared.spawner.FinishFault.TheVariants.{Failed}
 use Rattle.odin_outside.specs.Causes.{once_more, IsCounted}
 
 -- what each job leaves
@@ -65,3 +67,7 @@ pub record Loses (old : Spawned) (slot : ℕ) (new : Spawned) : Type 0 where
   pub job : Job
   pub counted : IsCounted old.faults new.faults
   pub stops : Stops old slot job (Lost slot) new.faults new
+
+-- the same of a result that names the slot
+abbrev pub LosesAt : {T : Type 0} → Spawned → Spawned → Result T FinishFault → Type 0
+LosesAt old new result = (slot : ℕ) → result ≡ Err (Failed slot) → Loses old slot new

@@ -1,7 +1,8 @@
 // The file that the store is kept in, and what crashes may leave of it.
-ghost use Rattle.std.specs.Prelude.{◌≡◌, ◌+◌, ◌^◌, ◌≤◌, ℕ, List, IsTrue, max, length, take, drop, IfOk, OnOk, OnErr};
+ghost use Rattle.std.specs.Prelude.{◌≡◌, ◌+◌, ◌^◌, ◌≤◌, ℕ, List, IsTrue, length, IfOk, OnOk, OnErr};
 ghost use Rattle.odin_outside.specs.Causes.{HasCause};
-ghost use Rattle.odin_outside.specs.Disk.{Telling, MayLeave, Written, Torn, Cut, Goes, Works, synced_at, wrote, cut_to, same_pending};
+ghost use Rattle.odin_outside.specs.Disk.{Telling, MayLeave, Goes, Works, wrote, cut_to, same_pending, synced_as, size_with};
+ghost use Rattle.odin_outside.specs.Disk.{SeesSame, Gives, SeesWritten, SeesTorn, SeesTaken, SeesCut};
 
 use crate::failed::Failed;
 
@@ -19,7 +20,7 @@ pub trait Disk {
     fn size(&mut self) -> Result<u64, Failed>
         ensures size { IfOk result (λ n. n ≡ size_of self.old) }
         ensures kept { OnOk result (size_of self.new ≡ size_of self.old) }
-        ensures seen { IsTrue (told self.old).follows → (told self.new).seen ≡ (told self.old).seen }
+        ensures seen { SeesSame (told self.old) (told self.new) }
         ensures goes { Goes same_pending (told self.old) (told self.new) result }
         ensures works { Works 0 (told self.old).work (told self.new).work result }
         ensures cause { HasCause (faults self.old) (faults self.new) result };
@@ -27,9 +28,9 @@ pub trait Disk {
     /// Reads the bytes from `at` on, as many as the buffer has.
     fn read(&mut self, at: u64, into: &mut [u8]) -> Result<(), Failed>
         requires { at + length into.old ≤ size_of self.old }
-        ensures bytes { OnOk result (IsTrue (told self.old).follows → into.new ≡ take (length into.old) (drop at (told self.old).seen)) }
+        ensures bytes { OnOk result (Gives at (length into.old) (told self.old) into.new) }
         ensures kept { OnOk result (size_of self.new ≡ size_of self.old) }
-        ensures seen { IsTrue (told self.old).follows → (told self.new).seen ≡ (told self.old).seen }
+        ensures seen { SeesSame (told self.old) (told self.new) }
         ensures goes { Goes same_pending (told self.old) (told self.new) result }
         ensures works { Works 0 (told self.old).work (told self.new).work result }
         ensures cause { HasCause (faults self.old) (faults self.new) result };
@@ -38,9 +39,9 @@ pub trait Disk {
     fn write_at(&mut self, at: u64, bytes: &[u8]) -> Result<(), Failed>
         requires inside { at ≤ size_of self.old }
         requires end { at + length bytes.now ≤ 2 ^ 30 }
-        ensures written { OnOk result (IsTrue (told self.old).follows → Written (told self.old).seen at bytes.now (told self.new).seen) }
-        ensures size { OnOk result (size_of self.new ≡ max (size_of self.old) (at + length bytes.now)) }
-        ensures err { OnErr result (IsTrue (told self.old).follows → Torn at (length bytes.now) (told self.old).seen (told self.new).seen) }
+        ensures written { OnOk result (SeesWritten at bytes.now (told self.old) (told self.new)) }
+        ensures size { OnOk result (size_of self.new ≡ size_with (size_of self.old) at bytes.now) }
+        ensures err { OnErr result (SeesTorn at bytes.now (told self.old) (told self.new)) }
         ensures goes { Goes (wrote at (length bytes.now)) (told self.old) (told self.new) result }
         ensures works { Works (length bytes.now) (told self.old).work (told self.new).work result }
         ensures cause { HasCause (faults self.old) (faults self.new) result };
@@ -48,9 +49,9 @@ pub trait Disk {
     /// Takes the bytes from `size` on away.
     fn cut(&mut self, size: u64) -> Result<(), Failed>
         requires { size ≤ size_of self.old }
-        ensures seen { OnOk result (IsTrue (told self.old).follows → (told self.new).seen ≡ take size (told self.old).seen) }
+        ensures seen { OnOk result (SeesTaken size (told self.old) (told self.new)) }
         ensures size { OnOk result (size_of self.new ≡ size) }
-        ensures err { OnErr result (IsTrue (told self.old).follows → Cut size (told self.old).seen (told self.new).seen) }
+        ensures err { OnErr result (SeesCut size (told self.old) (told self.new)) }
         ensures goes { Goes (cut_to size) (told self.old) (told self.new) result }
         ensures works { Works 0 (told self.old).work (told self.new).work result }
         ensures cause { HasCause (faults self.old) (faults self.new) result };
@@ -58,8 +59,8 @@ pub trait Disk {
     /// Returns once what was written is there after a crash too.
     fn sync(&mut self) -> Result<(), Failed>
         ensures kept { OnOk result (size_of self.new ≡ size_of self.old) }
-        ensures seen { IsTrue (told self.old).follows → (told self.new).seen ≡ (told self.old).seen }
-        ensures goes { Goes (λ _. synced_at (told self.old).seen) (told self.old) (told self.new) result }
+        ensures seen { SeesSame (told self.old) (told self.new) }
+        ensures goes { Goes (synced_as (told self.old)) (told self.old) (told self.new) result }
         ensures works { Works 0 (told self.old).work (told self.new).work result }
         ensures cause { HasCause (faults self.old) (faults self.new) result };
 

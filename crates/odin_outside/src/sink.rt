@@ -1,7 +1,7 @@
 // Where the output goes.
-ghost use Rattle.std.specs.Prelude.{◌≡◌, ◌<◌, ◌≤◌, ℕ, List, Option, length, take, IfOk, OnErr};
+ghost use Rattle.std.specs.Prelude.{◌≡◌, ◌<◌, ◌≤◌, ℕ, List, Option, length, IfOk, OnErr};
 ghost use Rattle.odin_outside.specs.Causes.{HasCause};
-ghost use Rattle.odin_outside.specs.Told.{appended};
+ghost use Rattle.odin_outside.specs.Told.{AreTaken};
 
 use crate::failed::Failed;
 
@@ -17,7 +17,7 @@ pub trait Sink {
     fn write(&mut self, bytes: &[u8]) -> Result<usize, Failed>
         requires { 0 < length bytes.now }
         ensures bound { IfOk result (λ n. (0 < n) × (n ≤ length bytes.now)) }
-        ensures bytes { IfOk result (λ n. taken self.new ≡ appended (taken self.old) (take n bytes.now)) }
+        ensures bytes { IfOk result (AreTaken bytes.now (taken self.old) (taken self.new)) }
         ensures err { OnErr result (taken self.new ≡ taken self.old) }
         ensures cause { HasCause (faults self.old) (faults self.new) result };
 }

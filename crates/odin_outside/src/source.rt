@@ -1,8 +1,8 @@
 // Where the input comes from.
-ghost use Rattle.std.specs.Prelude.{◌≡◌, ◌<◌, ◌≤◌, ℕ, List, [], Option, length, take, IfOk, OnErr};
+ghost use Rattle.std.specs.Prelude.{◌≡◌, ◌<◌, ◌≤◌, ℕ, List, [], Option, length, IfOk, OnErr};
 ghost use Rattle.std.specs.Option.{ForSome};
 ghost use Rattle.odin_outside.specs.Causes.{HasCause};
-ghost use Rattle.odin_outside.specs.Told.{prepended};
+ghost use Rattle.odin_outside.specs.Told.{AreNext};
 
 use crate::failed::Failed;
 
@@ -19,7 +19,7 @@ pub trait Source {
     fn read(&mut self, into: &mut [u8]) -> Result<usize, Failed>
         requires { 0 < length into.old }
         ensures bound { IfOk result (λ n. n ≤ length into.new) }
-        ensures bytes { IfOk result (λ n. left self.old ≡ prepended (take n into.new) (left self.new)) }
+        ensures bytes { IfOk result (AreNext into.new (left self.old) (left self.new)) }
         ensures end { IfOk result (λ n. n ≡ 0 → ForSome (left self.old) (λ rest. rest ≡ [])) }
         ensures err { OnErr result (left self.new ≡ left self.old) }
         ensures cause { HasCause (faults self.old) (faults self.new) result };

@@ -1,6 +1,6 @@
 // What starts child programs.
-ghost use Rattle.std.specs.Prelude.{◌≡◌, ◌<◌, ℕ, length, IfOk};
-ghost use Rattle.odin_outside.specs.Spawned.{Spawned, IsLeastFree, begun, Fails, Ends, Loses};
+ghost use Rattle.std.specs.Prelude.{◌≡◌, ◌<◌, length, IfOk};
+ghost use Rattle.odin_outside.specs.Spawned.{Spawned, IsLeastFree, begun, Fails, Ends, LosesAt};
 
 use object_values::{Copied, Job, Memory, Raw};
 use std::alloc::Global;
@@ -69,7 +69,7 @@ pub trait Spawner {
     fn finish(&mut self, alloc: Global) -> Result<(u32, Raw), FinishFault>
         requires { 0 < length (told self.old).running }
         ensures ok { IfOk result (λ end. Ends (told self.old) end.0 end.1 (told self.new)) }
-        ensures lost { (slot : ℕ) → result ≡ Err (FinishFault.Failed slot) → Loses (told self.old) slot (told self.new) }
+        ensures lost { LosesAt (told self.old) (told self.new) result }
         ensures memory { result ≡ Err FinishFault.Memory → told self.new ≡ told self.old };
 
     fn running(&self) -> usize
