@@ -97,7 +97,7 @@ never_whole text ts place f h e decls good w = h.ends e (inside f start (sym h.r
 no_graph : (text : List ℕ) (ts : List Token) (place : List ℕ) (f : Expected) → Faulty text ts place f → (o : Option Taken) → token_at place ≡ o → (decls : List Decl) → GraphText text decls → ⊥
 no_graph text ts place f h None k = no_graph_without text place ts h.read h.past k (never_whole text ts place f h)
 no_graph text ts place f h (Some t) k =
-    no_graph_at text place t.rest ts t.token h.read h.past k (λ decls more good w. not_expected ts f t.token h.runs (h.none t.token t.rest (begins_from place t k)) (more, decls, good, append_assoc ts (t.token ∷ []) more ∙ w))
+    no_graph_at text place t.rest ts t.token h.read h.past k (λ decls more good w. not_expected ts f t.token h.runs (h.none t.token t.rest (begins_from place t k)) (record { more = more; decls = decls; spelled = good; is = append_assoc ts (t.token ∷ []) more ∙ w }))
 
 syntax_fault : (text : List ℕ) (ts : List Token) (place : List ℕ) (f : Expected) → Faulty text ts place f → IsSyntaxFault text (line_behind (take (length text - length place) text)) (column_behind (take (length text - length place) text))
 syntax_fault text ts place f h =
