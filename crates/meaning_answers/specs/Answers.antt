@@ -12,10 +12,14 @@ use Rattle.meaning_answers.specs.Replies.{object_reply, refused_expression, refu
 
 -- The text is refused: it is no expression, or its expression has no node.
 pub data Refused (g : Graph) : Text → Text → Type 0 where
-  expression : (text : Text) (place : ℕ) → IsFaultPlace text place → Refused g text (refused_expression place)
-  param : (text : Text) (e : Expression) (name : Text) → ExpressionText text e → node_of g e ≡ unknown_param name → Refused g text (refused_param name)
-  type : (text : Text) (e : Expression) (name : Text) → ExpressionText text e → node_of g e ≡ unknown_type name → Refused g text (refused_type name)
-  path : (text : Text) (e : Expression) (step : ℕ) → ExpressionText text e → node_of g e ≡ no_path step → Refused g text (refused_path step)
+  expression : (text : Text) (place : ℕ) → IsFaultPlace text place
+      → Refused g text (refused_expression place)
+  param : (text : Text) (e : Expression) (name : Text) → ExpressionText text e
+      → node_of g e ≡ unknown_param name → Refused g text (refused_param name)
+  type : (text : Text) (e : Expression) (name : Text) → ExpressionText text e
+      → node_of g e ≡ unknown_type name → Refused g text (refused_type name)
+  path : (text : Text) (e : Expression) (step : ℕ) → ExpressionText text e
+      → node_of g e ≡ no_path step → Refused g text (refused_path step)
 
 -- The text is one of an expression of this node.
 pub record Asks (g : Graph) (text : Text) (n : Node) : Type 0 where
@@ -26,9 +30,13 @@ pub record Asks (g : Graph) (text : Text) (n : Node) : Type 0 where
 -- The answer: a refusal, the print of what is derived, or a chain of the node.
 pub data Answer (g : Graph) (s : Sources) (outcomes : Outcomes) : Text → Text → Type 0 where
   refused : (text reply : Text) → Refused g text reply → Answer g s outcomes text reply
-  object : (text : Text) (n : Node) (view : View) → Asks g text n → derived g s outcomes n ≡ Some view → Answer g s outcomes text (object_reply g view)
-  circular : (text : Text) (n : Node) (chain : List Node) → Asks g text n → IsCircular g (derived g s outcomes) n chain → Answer g s outcomes text (refused_circular g chain)
-  deep : (text : Text) (n : Node) (chain : List Node) → Asks g text n → IsDeep g (derived g s outcomes) n chain → Answer g s outcomes text (refused_deep g chain)
+  object : (text : Text) (n : Node) (view : View) → Asks g text n
+      → derived g s outcomes n ≡ Some view → Answer g s outcomes text (object_reply g view)
+  circular : (text : Text) (n : Node) (chain : List Node) → Asks g text n
+      → IsCircular g (derived g s outcomes) n chain
+      → Answer g s outcomes text (refused_circular g chain)
+  deep : (text : Text) (n : Node) (chain : List Node) → Asks g text n
+      → IsDeep g (derived g s outcomes) n chain → Answer g s outcomes text (refused_deep g chain)
 
 -- The steps to the node, or the refusal.
 pub data Plan (g : Graph) : Text → Text → Type 0 where

@@ -17,15 +17,21 @@ IsPrinted view text = object_reply c_units view ≡ text
 -- objects of each kind
 pub record Objects : Type 0 where
   pub empty : IsPrinted (good (Simple [])) (codes "object ok simple 0\n\nmessages 0\n")
-  pub listed : IsPrinted (good (Listed (object_of (codes "a.c") ∷ object_of (codes "b.c") ∷ []))) (codes "object ok list 2\na.c:o\nb.c:o\nmessages 0\n")
-  pub compound : IsPrinted (good (Compound (part (codes "prog") (codes "x=1\n") ∷ part (codes "src") (codes "a.c\n") ∷ [])))
+  pub listed : IsPrinted (good (Listed (object_of (codes "a.c") ∷ object_of (codes "b.c") ∷ [])))
+      (codes "object ok list 2\na.c:o\nb.c:o\nmessages 0\n")
+  pub compound : IsPrinted
+      (good (Compound (part (codes "prog") (codes "x=1\n") ∷ part (codes "src") (codes "a.c\n") ∷ [])))
       (codes "object ok compound 2\nprog 4\nx=1\n\nsrc 4\na.c\n\nmessages 0\n")
-  pub failed : IsPrinted (record { value = Some (Simple (codes "x=1\n")); status = Error; messages = [] }) (codes "object error simple 4\nx=1\n\nmessages 0\n")
+  pub failed : IsPrinted
+      (record { value = Some (Simple (codes "x=1\n")); status = Error; messages = [] })
+      (codes "object error simple 4\nx=1\n\nmessages 0\n")
 
 -- messages, whose texts are escaped
 pub record Messages : Type 0 where
-  pub escaped : IsPrinted (warned (codes "x=1\n") (codes "a\tb")) (codes "object warning simple 4\nx=1\n\nmessages 1\nwarning a.c:o a\\x09b\n")
-  pub aborted : IsPrinted (aborted_view (message (codes "z") Abort (codes "no source z") ∷ [])) (codes "object abort none 0\nmessages 1\nabort z no source z\n")
+  pub escaped : IsPrinted (warned (codes "x=1\n") (codes "a\tb"))
+      (codes "object warning simple 4\nx=1\n\nmessages 1\nwarning a.c:o a\\x09b\n")
+  pub aborted : IsPrinted (aborted_view (message (codes "z") Abort (codes "no source z") ∷ []))
+      (codes "object abort none 0\nmessages 1\nabort z no source z\n")
 
 pub record Refusals : Type 0 where
   pub place : refused_expression 5 ≡ codes "refused expression 5\n"
@@ -35,13 +41,17 @@ pub record Refusals : Type 0 where
 
 -- chains of two nodes
 pub record ShownChains : Type 0 where
-  pub circular : refused_circular c_units_back (at_steps (codes "a.c") (Maker 5 ∷ []) ∷ at_steps (codes "a.c") [] ∷ [])
+  pub circular : refused_circular c_units_back
+      (at_steps (codes "a.c") (Maker 5 ∷ []) ∷ at_steps (codes "a.c") [] ∷ [])
       ≡ codes "refused circular 2\na.c:c\na.c\n"
-  pub deep : refused_deep joined_texts (at_steps (codes "a63.t") (Maker 0 ∷ []) ∷ at_steps (codes "a63.t") [] ∷ [])
+  pub deep : refused_deep joined_texts
+      (at_steps (codes "a63.t") (Maker 0 ∷ []) ∷ at_steps (codes "a63.t") [] ∷ [])
       ≡ codes "refused deep 2\na63.t:l\na63.t\n"
 
 -- a maker by its name, and a pick by its key
 pub record Plans : Type 0 where
-  pub makers : plan_reply two_ways (at_steps (codes "z.a") (Maker 0 ∷ Maker 3 ∷ [])) ≡ codes "plan 2\np\ns\n"
-  pub keyed : plan_reply c_units (at_steps (codes "m.sm") (Maker 2 ∷ Pick (codes "2") ∷ [])) ≡ codes "plan 2\nrd\n%2\n"
+  pub makers : plan_reply two_ways (at_steps (codes "z.a") (Maker 0 ∷ Maker 3 ∷ []))
+      ≡ codes "plan 2\np\ns\n"
+  pub keyed : plan_reply c_units (at_steps (codes "m.sm") (Maker 2 ∷ Pick (codes "2") ∷ []))
+      ≡ codes "plan 2\nrd\n%2\n"
   pub empty : plan_reply c_units (at_steps (codes "a.c") []) ≡ codes "plan 0\n"

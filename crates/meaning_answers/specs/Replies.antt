@@ -37,16 +37,23 @@ nodes_reply g nodes = flat_map (λ n. with_lf (node_text g n)) nodes
 -- the kind and the count, behind the status, and the object
 abbrev pub value_reply : Graph → Option Value → Text
 value_reply g None = with_lf (counted (codes "none") 0)
-value_reply g (Some (Simple text)) = with_lf (counted (codes "simple") (length text)) ++ with_lf text
-value_reply g (Some (Listed elements)) = with_lf (counted (codes "list") (length elements)) ++ nodes_reply g elements
-value_reply g (Some (Compound parts)) = with_lf (counted (codes "compound") (length parts)) ++ flat_map part_reply parts
+value_reply g (Some (Simple text)) =
+    with_lf (counted (codes "simple") (length text)) ++ with_lf text
+value_reply g (Some (Listed elements)) =
+    with_lf (counted (codes "list") (length elements)) ++ nodes_reply g elements
+value_reply g (Some (Compound parts)) =
+    with_lf (counted (codes "compound") (length parts)) ++ flat_map part_reply parts
 
 abbrev pub message_reply : Message → Text
-message_reply m = with_lf (status_word m.level ++ codes " " ++ m.label ++ codes " " ++ escaped m.text)
+message_reply m =
+    with_lf (status_word m.level ++ codes " " ++ m.label ++ codes " " ++ escaped m.text)
 
 -- the print of a view
 unfoldable pub object_reply : Graph → View → Text
-object_reply g view = codes "object " ++ status_word view.status ++ codes " " ++ value_reply g view.value ++ with_lf (counted (codes "messages") (length view.messages)) ++ flat_map message_reply view.messages
+object_reply g view =
+    codes "object " ++ status_word view.status ++ codes " " ++ value_reply g view.value
+    ++ with_lf (counted (codes "messages") (length view.messages))
+    ++ flat_map message_reply view.messages
 
 -- ---- refusals
 
@@ -63,10 +70,12 @@ abbrev pub refused_path : ℕ → Text
 refused_path step = with_lf (counted (codes "refused path") step)
 
 abbrev pub refused_circular : Graph → List Node → Text
-refused_circular g chain = with_lf (counted (codes "refused circular") (length chain)) ++ nodes_reply g chain
+refused_circular g chain =
+    with_lf (counted (codes "refused circular") (length chain)) ++ nodes_reply g chain
 
 abbrev pub refused_deep : Graph → List Node → Text
-refused_deep g chain = with_lf (counted (codes "refused deep") (length chain)) ++ nodes_reply g chain
+refused_deep g chain =
+    with_lf (counted (codes "refused deep") (length chain)) ++ nodes_reply g chain
 
 -- ---- steps
 
@@ -80,4 +89,5 @@ step_reply g (Maker k) = with_lf (maker_name (slice_get (makers g) k))
 step_reply g (Pick key) = with_lf (codes "%" ++ key)
 
 abbrev pub plan_reply : Graph → Node → Text
-plan_reply g n = with_lf (counted (codes "plan") (length n.steps)) ++ flat_map (step_reply g) n.steps
+plan_reply g n =
+    with_lf (counted (codes "plan") (length n.steps)) ++ flat_map (step_reply g) n.steps

@@ -39,7 +39,11 @@ good v = record { value = Some v; status = Ok; messages = [] }
 
 -- the text with a warning of a.c:o
 abbrev pub warned : Text → Text → View
-warned text warning = record { value = Some (Simple text); status = Warning; messages = message (codes "a.c:o") Warning warning ∷ [] }
+warned text warning = record {
+  value = Some (Simple text);
+  status = Warning;
+  messages = message (codes "a.c:o") Warning warning ∷ [];
+}
 
 abbrev pub aborted_view : List Message → View
 aborted_view messages = record { value = None; status = Abort; messages = messages }
@@ -52,7 +56,8 @@ Entry = Text × View
 
 abbrev pub results_of : Graph → List Entry → Results
 results_of g [] n = None
-results_of g (e ∷ entries) n = cond (bytes_eq e.0 (node_text g n)) (Some e.1) (results_of g entries n)
+results_of g (e ∷ entries) n =
+    cond (bytes_eq e.0 (node_text g n)) (Some e.1) (results_of g entries n)
 
 abbrev pub simple_at : Text → Text → Entry
 simple_at name text = (name, good (Simple text))
@@ -73,7 +78,9 @@ abbrev pub made_by : Text → Text → Option Outcome
 made_by name body = Some (record { status = Ok; lines = []; outputs = part name body ∷ [] })
 
 abbrev pub ended_by : Text → Option Outcome
-ended_by text = Some (record { status = Abort; lines = record { level = Abort; text = text } ∷ []; outputs = [] })
+ended_by text =
+    Some
+    (record { status = Abort; lines = record { level = Abort; text = text } ∷ []; outputs = [] })
 
 -- ---- settling
 
@@ -83,4 +90,5 @@ no_texts name = None
 
 -- the print of what the node settles to, with these reached names
 abbrev pub settled_reply : Graph → List Entry → Node → Option Outcome → List Text → Text
-settled_reply g entries n outcome names = object_reply g (settle g no_texts n (results_of g entries) outcome names)
+settled_reply g entries n outcome names =
+    object_reply g (settle g no_texts n (results_of g entries) outcome names)

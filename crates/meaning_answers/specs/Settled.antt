@@ -12,58 +12,88 @@ use Rattle.meaning_answers.specs.Samples.{Entry, simple_at, listed_at, warned_at
 
 -- what a.c:o settles to, with these reached names
 abbrev pub compiled : List Entry → Option Outcome → List Text → Text
-compiled entries outcome names = settled_reply c_units entries (object_of (codes "a.c")) outcome names
+compiled entries outcome names =
+    settled_reply c_units entries (object_of (codes "a.c")) outcome names
 
 -- what m.sm:units:objs:exe settles to
 abbrev pub linked : List Entry → Option Outcome → Text
-linked entries outcome = settled_reply c_units entries (at_steps (codes "m.sm") (Maker 2 ∷ Maker 3 ∷ Maker 4 ∷ [])) outcome []
+linked entries outcome =
+    settled_reply c_units entries
+    (at_steps (codes "m.sm") (Maker 2 ∷ Maker 3 ∷ Maker 4 ∷ [])) outcome []
 
 -- an absent header adds neither status nor messages, a warning is inherited, and an object at `Abort` stops what is made of it
 pub record Tools : Type 0 where
-  pub absent_header : compiled (simple_at (codes "a.c") (codes "include x.h\nx=1\n") ∷ simple_at (codes "a.c:inc") (codes "x.h\n") ∷ aborted_at (codes "x.h") (codes "x.h") (codes "no source x.h") ∷ [])
-      (made_by (codes "o") (codes "x=1\n")) (codes "x.h" ∷ []) ≡ codes "object ok simple 4\nx=1\n\nmessages 0\n"
-  pub inherited : linked (listed_at (codes "m.sm:units:objs") (object_of (codes "a.c") ∷ []) ∷ warned_at (codes "a.c:o") (codes "x=1\n") (codes "old") ∷ [])
-      (made_by (codes "exe") (codes "x=1\n")) ≡ codes "object warning simple 4\nx=1\n\nmessages 1\nwarning a.c:o old\n"
-  pub base_aborted : linked (aborted_at (codes "m.sm:units:objs") (codes "m.sm:units") (codes "line 2: bad reference") ∷ []) None
+  pub absent_header : compiled
+      (simple_at (codes "a.c") (codes "include x.h\nx=1\n")
+      ∷ simple_at (codes "a.c:inc") (codes "x.h\n") ∷ aborted_at (codes "x.h") (codes "x.h") (codes "no source x.h") ∷ [])
+      (made_by (codes "o") (codes "x=1\n")) (codes "x.h" ∷ [])
+      ≡ codes "object ok simple 4\nx=1\n\nmessages 0\n"
+  pub inherited : linked
+      (listed_at (codes "m.sm:units:objs") (object_of (codes "a.c") ∷ [])
+      ∷ warned_at (codes "a.c:o") (codes "x=1\n") (codes "old") ∷ [])
+      (made_by (codes "exe") (codes "x=1\n"))
+      ≡ codes "object warning simple 4\nx=1\n\nmessages 1\nwarning a.c:o old\n"
+  pub base_aborted : linked
+      (aborted_at (codes "m.sm:units:objs") (codes "m.sm:units") (codes "line 2: bad reference")
+      ∷ []) None
       ≡ codes "object abort none 0\nmessages 1\nabort m.sm:units line 2: bad reference\n"
   -- messages of needs stand before the own ones
-  pub own_last : linked (listed_at (codes "m.sm:units:objs") (object_of (codes "a.c") ∷ []) ∷ warned_at (codes "a.c:o") (codes "x=1\n") (codes "old") ∷ []) (ended_by (codes "tool ld ended by a signal"))
+  pub own_last : linked
+      (listed_at (codes "m.sm:units:objs") (object_of (codes "a.c") ∷ [])
+      ∷ warned_at (codes "a.c:o") (codes "x=1\n") (codes "old") ∷ [])
+      (ended_by (codes "tool ld ended by a signal"))
       ≡ codes "object abort none 0\nmessages 2\nwarning a.c:o old\nabort m.sm:units:objs:exe tool ld ended by a signal\n"
-  pub ended : compiled (simple_at (codes "a.c") (codes "!signal\n") ∷ simple_at (codes "a.c:inc") [] ∷ []) (ended_by (codes "tool cc ended by a signal")) []
+  pub ended : compiled
+      (simple_at (codes "a.c") (codes "!signal\n") ∷ simple_at (codes "a.c:inc") [] ∷ [])
+      (ended_by (codes "tool cc ended by a signal")) []
       ≡ codes "object abort none 0\nmessages 1\nabort a.c:o tool cc ended by a signal\n"
 
 -- what a tool with an extra to which no path leads settles to
 abbrev pub far_extra : List Entry → Text
-far_extra entries = settled_reply with_far_extra entries (at_steps (codes "z.a") (Maker 4 ∷ [])) None []
+far_extra entries =
+    settled_reply with_far_extra entries (at_steps (codes "z.a") (Maker 4 ∷ [])) None []
 
 -- a missing path, but where the base is at `Abort`
 pub record MissingExtras : Type 0 where
-  pub missing : far_extra (simple_at (codes "z.a") [] ∷ []) ≡ codes "object abort none 0\nmessages 1\nabort z.a:d no path far\n"
-  pub base_first : far_extra (aborted_at (codes "z.a") (codes "z.a") (codes "no source z.a") ∷ []) ≡ codes "object abort none 0\nmessages 1\nabort z.a no source z.a\n"
+  pub missing : far_extra (simple_at (codes "z.a") [] ∷ [])
+      ≡ codes "object abort none 0\nmessages 1\nabort z.a:d no path far\n"
+  pub base_first : far_extra (aborted_at (codes "z.a") (codes "z.a") (codes "no source z.a") ∷ [])
+      ≡ codes "object abort none 0\nmessages 1\nabort z.a no source z.a\n"
 
 -- ---- sources and lists
 
 pub record SourcesAndLists : Type 0 where
-  pub absent_source : settled_reply c_units [] (at_source (codes "z")) None [] ≡ codes "object abort none 0\nmessages 1\nabort z no source z\n"
-  pub bad_reference : settled_reply c_units (simple_at (codes "m.sm") (codes "a.c\n?\n") ∷ []) (at_steps (codes "m.sm") (Maker 2 ∷ [])) None []
+  pub absent_source : settled_reply c_units [] (at_source (codes "z")) None []
+      ≡ codes "object abort none 0\nmessages 1\nabort z no source z\n"
+  pub bad_reference : settled_reply c_units (simple_at (codes "m.sm") (codes "a.c\n?\n") ∷ [])
+      (at_steps (codes "m.sm") (Maker 2 ∷ [])) None []
       ≡ codes "object abort none 0\nmessages 1\nabort m.sm:units line 2: bad reference\n"
-  pub listed : settled_reply c_units (listed_at (codes "m.sm:units") (at_source (codes "a.c") ∷ at_source (codes "b.c") ∷ []) ∷ []) (at_steps (codes "m.sm") (Maker 2 ∷ Maker 3 ∷ [])) None []
+  pub listed : settled_reply c_units
+      (listed_at (codes "m.sm:units") (at_source (codes "a.c") ∷ at_source (codes "b.c") ∷ []) ∷ [])
+      (at_steps (codes "m.sm") (Maker 2 ∷ Maker 3 ∷ [])) None []
       ≡ codes "object ok list 2\na.c:o\nb.c:o\nmessages 0\n"
 
 -- ---- picks
 
 -- what the pick of an element of m.sm:units:objs settles to
 abbrev pub element : Text → List Entry → Text
-element key entries = settled_reply c_units entries (at_steps (codes "m.sm") (Maker 2 ∷ Maker 3 ∷ Pick key ∷ [])) None []
+element key entries =
+    settled_reply c_units entries
+    (at_steps (codes "m.sm") (Maker 2 ∷ Maker 3 ∷ Pick key ∷ [])) None []
 
 abbrev pub two_objects : Entry
-two_objects = listed_at (codes "m.sm:units:objs") (object_of (codes "a.c") ∷ object_of (codes "b.c") ∷ [])
+two_objects =
+    listed_at (codes "m.sm:units:objs") (object_of (codes "a.c") ∷ object_of (codes "b.c") ∷ [])
 
 -- an element gives its value, its status and its messages, and one at `Abort` has no message of the pick's own
 pub record Elements : Type 0 where
-  pub second : element (codes "2") (two_objects ∷ simple_at (codes "b.c:o") (codes "y=2\n") ∷ []) ≡ codes "object ok simple 4\ny=2\n\nmessages 0\n"
-  pub past_the_end : element (codes "9") (two_objects ∷ []) ≡ codes "object abort none 0\nmessages 1\nabort m.sm:units:objs%9 no element 9\n"
-  pub aborted : element (codes "1") (two_objects ∷ aborted_at (codes "a.c:o") (codes "a.c") (codes "no source a.c") ∷ []) ≡ codes "object abort none 0\nmessages 1\nabort a.c no source a.c\n"
+  pub second : element (codes "2") (two_objects ∷ simple_at (codes "b.c:o") (codes "y=2\n") ∷ [])
+      ≡ codes "object ok simple 4\ny=2\n\nmessages 0\n"
+  pub past_the_end : element (codes "9") (two_objects ∷ [])
+      ≡ codes "object abort none 0\nmessages 1\nabort m.sm:units:objs%9 no element 9\n"
+  pub aborted : element (codes "1")
+      (two_objects ∷ aborted_at (codes "a.c:o") (codes "a.c") (codes "no source a.c") ∷ [])
+      ≡ codes "object abort none 0\nmessages 1\nabort a.c no source a.c\n"
 
 -- ---- packs
 
@@ -73,8 +103,13 @@ kit entries = settled_reply kits entries (at_steps (codes "m.sm") (Maker 5 ∷ [
 
 -- the parts in order, a part at `Abort`, and a base from which no path leads to the parts
 pub record Packs : Type 0 where
-  pub whole : kit (simple_at (codes "m.sm:units:objs:exe") (codes "x=1\n") ∷ simple_at (codes "m.sm") (codes "a.c\n") ∷ [])
+  pub whole : kit
+      (simple_at (codes "m.sm:units:objs:exe") (codes "x=1\n")
+      ∷ simple_at (codes "m.sm") (codes "a.c\n") ∷ [])
       ≡ codes "object ok compound 2\nprog 4\nx=1\n\nsrc 4\na.c\n\nmessages 0\n"
-  pub part_aborted : kit (aborted_at (codes "m.sm:units:objs:exe") (codes "a.c") (codes "no source a.c") ∷ simple_at (codes "m.sm") (codes "a.c\n") ∷ [])
+  pub part_aborted : kit
+      (aborted_at (codes "m.sm:units:objs:exe") (codes "a.c") (codes "no source a.c")
+      ∷ simple_at (codes "m.sm") (codes "a.c\n") ∷ [])
       ≡ codes "object abort none 0\nmessages 1\nabort a.c no source a.c\n"
-  pub no_path : settled_reply kits [] (at_steps (codes "a.c") (Maker 5 ∷ [])) None [] ≡ codes "object abort none 0\nmessages 2\nabort a.c:kit no path exe\nabort a.c:kit no path sm\n"
+  pub no_path : settled_reply kits [] (at_steps (codes "a.c") (Maker 5 ∷ [])) None []
+      ≡ codes "object abort none 0\nmessages 2\nabort a.c:kit no path exe\nabort a.c:kit no path sm\n"

@@ -10,6 +10,7 @@ use Rattle.object_values.specs.declared.calls.Outcome.{Outcome}
 use Rattle.object_values.specs.declared.jobs.End.{End}
 use Rattle.object_values.specs.declared.jobs.End.TheVariants.{Exit, Signal}
 use Rattle.object_values.specs.declared.jobs.FileBody.{FileBody}
+use Rattle.object_values.specs.declared.jobs.Job.{Job}
 use Rattle.object_values.specs.declared.jobs.Raw.{Raw}
 use Rattle.std.specs.List.{flat_map}
 use Rattle.meaning_texts.specs.Lines.{with_lf}
@@ -21,35 +22,77 @@ part slot label body = record { slot = slot; label = label; body = body }
 
 -- a call of cc with these inputs
 abbrev pub cc_call : List CallPart → Call
-cc_call parts = record { tool = codes "cc"; version = codes "1"; words = codes "cc" ∷ []; params = []; parts = parts; outs = codes "o" ∷ [] }
+cc_call parts = record {
+  tool = codes "cc";
+  version = codes "1";
+  words = codes "cc" ∷ [];
+  params = [];
+  parts = parts;
+  outs = codes "o" ∷ [];
+}
 
 abbrev pub file : List ℕ → List ℕ → FileBody
 file name body = record { name = name; body = body }
 
--- a source with two headers that include each other, and one with a header that isn't there
-pub record JobsOfCalls : Type 0 where
-  pub loop : job_of (cc_call (part 0 (codes "a.c") (Some (codes "include a.h\nx=1\n")) ∷ part 1 (codes "a.h") (Some (codes "include b.h\ny=2\n")) ∷ part 1 (codes "b.h") (Some (codes "include a.h\nz=3\n")) ∷ []))
-      ≡ record {
-        words = codes "cc" ∷ [];
-        files = file (codes "call") (codes "odin 1\ntool cc 1\npart 0 i1 a.c\npart 1 i2 a.h\npart 1 i3 b.h\nout out.o\n") ∷ file (codes "i1") (codes "include a.h\nx=1\n") ∷ file (codes "i2") (codes "include b.h\ny=2\n") ∷ file (codes "i3") (codes "include a.h\nz=3\n") ∷ [];
-        outs = codes "warnings" ∷ codes "out.o" ∷ [];
-      }
-  pub absent : job_of (cc_call (part 0 (codes "a.c") (Some (codes "x=1\n")) ∷ part 1 (codes "x.h") None ∷ part 2 (codes "b.h") (Some []) ∷ []))
-      ≡ record {
-        words = codes "cc" ∷ [];
-        files = file (codes "call") (codes "odin 1\ntool cc 1\npart 0 i1 a.c\npart 1 - x.h\npart 2 i3 b.h\nout out.o\n") ∷ file (codes "i1") (codes "x=1\n") ∷ file (codes "i3") [] ∷ [];
-        outs = codes "warnings" ∷ codes "out.o" ∷ [];
-      }
-  -- an empty value leaves the space before it
-  pub params : job_of (record { tool = codes "t"; version = codes "2.0"; words = codes "a b" ∷ []; params = record { param = codes "d"; value = [] } ∷ record { param = codes "d"; value = codes "x" } ∷ []; parts = []; outs = codes "p" ∷ codes "q" ∷ [] })
-      ≡ record {
-        words = codes "a b" ∷ [];
-        files = file (codes "call") (codes "odin 1\ntool t 2.0\nparam d \nparam d x\nout out.p\nout out.q\n") ∷ [];
-        outs = codes "warnings" ∷ codes "out.p" ∷ codes "out.q" ∷ [];
-      }
+-- a job of cc
+abbrev pub cc_job : List FileBody → Job
+cc_job files =
+    record { words = codes "cc" ∷ []; files = files; outs = codes "warnings" ∷ codes "out.o" ∷ [] }
 
-abbrev pub left : End → List FileBody → Raw
-left end files = record { end = end; files = files }
+-- a source with two headers that include each other
+abbrev pub loop_call : Call
+loop_call = cc_call
+    (part 0 (codes "a.c") (Some (codes "include a.h\nx=1\n"))
+    ∷ part 1 (codes "a.h") (Some (codes "include b.h\ny=2\n"))
+    ∷ part 1 (codes "b.h") (Some (codes "include a.h\nz=3\n")) ∷ [])
+
+abbrev pub loop_files : List FileBody
+loop_files =
+    file (codes "call")
+    (codes "odin 1\ntool cc 1\npart 0 i1 a.c\npart 1 i2 a.h\npart 1 i3 b.h\nout out.o\n")
+    ∷ file (codes "i1") (codes "include a.h\nx=1\n")
+    ∷ file (codes "i2") (codes "include b.h\ny=2\n")
+    ∷ file (codes "i3") (codes "include a.h\nz=3\n") ∷ []
+
+-- a source with a header that isn't there
+abbrev pub absent_call : Call
+absent_call =
+    cc_call
+    (part 0 (codes "a.c") (Some (codes "x=1\n")) ∷ part 1 (codes "x.h") None
+    ∷ part 2 (codes "b.h") (Some []) ∷ [])
+
+abbrev pub absent_files : List FileBody
+absent_files =
+    file (codes "call")
+    (codes "odin 1\ntool cc 1\npart 0 i1 a.c\npart 1 - x.h\npart 2 i3 b.h\nout out.o\n")
+    ∷ file (codes "i1") (codes "x=1\n") ∷ file (codes "i3") [] ∷ []
+
+-- a tool with parameters and two outputs
+abbrev pub params_call : Call
+params_call = record {
+  tool = codes "t";
+  version = codes "2.0";
+  words = codes "a b" ∷ [];
+  params = record { param = codes "d"; value = [] } ∷ record { param = codes "d"; value = codes "x" } ∷ [];
+  parts = [];
+  outs = codes "p" ∷ codes "q" ∷ [];
+}
+
+abbrev pub params_job : Job
+params_job = record {
+  words = codes "a b" ∷ [];
+  files = file (codes "call") (codes "odin 1\ntool t 2.0\nparam d \nparam d x\nout out.p\nout out.q\n") ∷ [];
+  outs = codes "warnings" ∷ codes "out.p" ∷ codes "out.q" ∷ [];
+}
+
+pub record JobsOfCalls : Type 0 where
+  pub loop : job_of loop_call ≡ cc_job loop_files
+  pub absent : job_of absent_call ≡ cc_job absent_files
+  -- an empty value leaves the space before it
+  pub params : job_of params_call ≡ params_job
+
+abbrev pub left_by : End → List FileBody → Raw
+left_by end files = record { end = end; files = files }
 
 abbrev pub line : Status → List ℕ → OwnLine
 line level text = record { level = level; text = text }
@@ -57,30 +100,56 @@ line level text = record { level = level; text = text }
 abbrev pub made : Status → List OwnLine → List Part → Outcome
 made status lines outputs = record { status = status; lines = lines; outputs = outputs }
 
+abbrev pub output : List ℕ → List ℕ → Part
+output name body = record { name = name; body = body }
+
 -- the output `o` with this body
 abbrev pub object_file : List ℕ → FileBody
 object_file body = file (codes "out.o") body
 
 -- the ends of cc over one input
 pub record EndsOfATool : Type 0 where
-  pub signal : outcome_of (cc_call []) (left Signal (file (codes "warnings") [] ∷ [])) ≡ made Abort (line Abort (codes "tool cc ended by a signal") ∷ []) []
-  pub error : outcome_of (cc_call []) (left (Exit 1) (file (codes "warnings") [] ∷ object_file (codes "x=1\n") ∷ [])) ≡ made Error [] (record { name = codes "o"; body = codes "x=1\n" } ∷ [])
-  pub missing : outcome_of (cc_call []) (left (Exit 0) (file (codes "warnings") [] ∷ [])) ≡ made Abort (line Abort (codes "no output o") ∷ []) []
-  pub ok : outcome_of (cc_call []) (left (Exit 0) (object_file [] ∷ [])) ≡ made Ok [] (record { name = codes "o"; body = [] } ∷ [])
-  pub warning : outcome_of (cc_call []) (left (Exit 0) (file (codes "warnings") (codes "old\n\nnew") ∷ object_file [] ∷ [])) ≡ made Warning (line Warning (codes "old") ∷ line Warning (codes "new") ∷ []) (record { name = codes "o"; body = [] } ∷ [])
-  pub status : outcome_of (cc_call []) (left (Exit 255) (file (codes "warnings") (codes "a\n") ∷ object_file [] ∷ [])) ≡ made Abort (line Abort (codes "a") ∷ line Abort (codes "tool cc ended with status 255") ∷ []) []
+  pub signal : outcome_of (cc_call []) (left_by Signal (file (codes "warnings") [] ∷ []))
+      ≡ made Abort (line Abort (codes "tool cc ended by a signal") ∷ []) []
+  pub error : outcome_of (cc_call [])
+      (left_by (Exit 1) (file (codes "warnings") [] ∷ object_file (codes "x=1\n") ∷ []))
+      ≡ made Error [] (output (codes "o") (codes "x=1\n") ∷ [])
+  pub missing : outcome_of (cc_call []) (left_by (Exit 0) (file (codes "warnings") [] ∷ []))
+      ≡ made Abort (line Abort (codes "no output o") ∷ []) []
+  pub ok : outcome_of (cc_call []) (left_by (Exit 0) (object_file [] ∷ []))
+      ≡ made Ok [] (output (codes "o") [] ∷ [])
+  pub warning : outcome_of (cc_call [])
+      (left_by (Exit 0) (file (codes "warnings") (codes "old\n\nnew") ∷ object_file [] ∷ []))
+      ≡ made Warning (line Warning (codes "old") ∷ line Warning (codes "new") ∷ [])
+      (output (codes "o") [] ∷ [])
+  pub status : outcome_of (cc_call [])
+      (left_by (Exit 255) (file (codes "warnings") (codes "a\n") ∷ object_file [] ∷ []))
+      ≡ made Abort
+      (line Abort (codes "a") ∷ line Abort (codes "tool cc ended with status 255") ∷ []) []
 
 -- what the tool leaves beside its end: lines keep the level of the end where an output is missing, the first file of a name counts, and a CR without an LF is a line
 pub record FilesOfATool : Type 0 where
-  pub levels : outcome_of (cc_call []) (left (Exit 1) (file (codes "warnings") (codes "a") ∷ [])) ≡ made Abort (line Error (codes "a") ∷ line Abort (codes "no output o") ∷ []) []
-  pub first : outcome_of (cc_call []) (left (Exit 0) (object_file (codes "1") ∷ object_file (codes "2") ∷ file (codes "out.p") [] ∷ [])) ≡ made Ok [] (record { name = codes "o"; body = codes "1" } ∷ [])
-  pub cr : outcome_of (cc_call []) (left (Exit 0) (file (codes "warnings") (13 ∷ []) ∷ object_file [] ∷ [])) ≡ made Warning (line Warning (13 ∷ []) ∷ []) (record { name = codes "o"; body = [] } ∷ [])
-  pub crlf : outcome_of (cc_call []) (left (Exit 0) (file (codes "warnings") (13 ∷ 10 ∷ []) ∷ object_file [] ∷ [])) ≡ made Ok [] (record { name = codes "o"; body = [] } ∷ [])
+  pub levels : outcome_of (cc_call []) (left_by (Exit 1) (file (codes "warnings") (codes "a") ∷ []))
+      ≡ made Abort (line Error (codes "a") ∷ line Abort (codes "no output o") ∷ []) []
+  pub first : outcome_of (cc_call [])
+      (left_by (Exit 0) (object_file (codes "1") ∷ object_file (codes "2") ∷ file (codes "out.p") []
+      ∷ []))
+      ≡ made Ok [] (output (codes "o") (codes "1") ∷ [])
+  pub cr : outcome_of (cc_call [])
+      (left_by (Exit 0) (file (codes "warnings") (13 ∷ []) ∷ object_file [] ∷ []))
+      ≡ made Warning (line Warning (13 ∷ []) ∷ []) (output (codes "o") [] ∷ [])
+  pub crlf : outcome_of (cc_call [])
+      (left_by (Exit 0) (file (codes "warnings") (13 ∷ 10 ∷ []) ∷ object_file [] ∷ []))
+      ≡ made Ok [] (output (codes "o") [] ∷ [])
 
 -- a body of one byte too much, and of the most bytes
 pub record LongOutputs : Type 0 where
-  pub too_long : (body : List ℕ) → length body ≡ 16777217 → outcome_of (cc_call []) (left (Exit 0) (object_file body ∷ [])) ≡ made Abort (line Abort (codes "output o too long") ∷ []) []
-  pub longest : (body : List ℕ) → length body ≡ 16777216 → outcome_of (cc_call []) (left (Exit 0) (object_file body ∷ [])) ≡ made Ok [] (record { name = codes "o"; body = body } ∷ [])
+  pub too_long : (body : List ℕ) → length body ≡ 16777217
+      → outcome_of (cc_call []) (left_by (Exit 0) (object_file body ∷ []))
+      ≡ made Abort (line Abort (codes "output o too long") ∷ []) []
+  pub longest : (body : List ℕ) → length body ≡ 16777216
+      → outcome_of (cc_call []) (left_by (Exit 0) (object_file body ∷ []))
+      ≡ made Ok [] (output (codes "o") body ∷ [])
 
 -- of a line of 1,001 bytes the first 1,000 count, and of 1,001 lines the first 1,000
 pub record LongWarnings : Type 0 where
@@ -89,11 +158,27 @@ pub record LongWarnings : Type 0 where
 
 -- a call with two outputs
 abbrev pub two_outputs : Call
-two_outputs = record { tool = codes "t"; version = codes "1"; words = codes "t" ∷ []; params = []; parts = []; outs = codes "p" ∷ codes "q" ∷ [] }
+two_outputs = record {
+  tool = codes "t";
+  version = codes "1";
+  words = codes "t" ∷ [];
+  params = [];
+  parts = [];
+  outs = codes "p" ∷ codes "q" ∷ [];
+}
 
 -- what is wrong with outputs stands in their order, behind the lines, and then no output stays
 pub record SeveralOutputs : Type 0 where
-  pub both : outcome_of two_outputs (left (Exit 0) (file (codes "out.q") (codes "2") ∷ file (codes "out.p") (codes "1") ∷ [])) ≡ made Ok [] (record { name = codes "p"; body = codes "1" } ∷ record { name = codes "q"; body = codes "2" } ∷ [])
-  pub neither : outcome_of two_outputs (left (Exit 0) (file (codes "warnings") (codes "w\n") ∷ [])) ≡ made Abort (line Warning (codes "w") ∷ line Abort (codes "no output p") ∷ line Abort (codes "no output q") ∷ []) []
-  pub one : outcome_of two_outputs (left (Exit 1) (file (codes "out.p") (codes "1") ∷ [])) ≡ made Abort (line Abort (codes "no output q") ∷ []) []
-  pub ended : outcome_of two_outputs (left (Exit 2) (file (codes "out.p") (codes "1") ∷ file (codes "out.q") (codes "2") ∷ [])) ≡ made Abort (line Abort (codes "tool t ended with status 2") ∷ []) []
+  pub both : outcome_of two_outputs
+      (left_by (Exit 0) (file (codes "out.q") (codes "2") ∷ file (codes "out.p") (codes "1") ∷ []))
+      ≡ made Ok [] (output (codes "p") (codes "1") ∷ output (codes "q") (codes "2") ∷ [])
+  pub neither : outcome_of two_outputs
+      (left_by (Exit 0) (file (codes "warnings") (codes "w\n") ∷ []))
+      ≡ made Abort
+      (line Warning (codes "w") ∷ line Abort (codes "no output p")
+      ∷ line Abort (codes "no output q") ∷ []) []
+  pub one : outcome_of two_outputs (left_by (Exit 1) (file (codes "out.p") (codes "1") ∷ []))
+      ≡ made Abort (line Abort (codes "no output q") ∷ []) []
+  pub ended : outcome_of two_outputs
+      (left_by (Exit 2) (file (codes "out.p") (codes "1") ∷ file (codes "out.q") (codes "2") ∷ []))
+      ≡ made Abort (line Abort (codes "tool t ended with status 2") ∷ []) []

@@ -49,7 +49,8 @@ part_file number None = codes "-"
 part_file number (Some body) = body_name number
 
 abbrev pub part_line : ℕ → CallPart → List ℕ
-part_line number part = codes "part " ++ (decimal part.slot ++ 32 ∷ (part_file number part.body ++ 32 ∷ part.label))
+part_line number part =
+    codes "part " ++ (decimal part.slot ++ 32 ∷ (part_file number part.body ++ 32 ∷ part.label))
 
 -- one line for each part, numbered from the number on
 abbrev pub part_lines : ℕ → List CallPart → List (List ℕ)
@@ -63,7 +64,9 @@ abbrev pub out_line : List ℕ → List ℕ
 out_line name = codes "out " ++ out_file name
 
 abbrev pub call_lines : Call → List (List ℕ)
-call_lines call = codes "odin 1" ∷ tool_line call ∷ (map param_line call.params ++ (part_lines 1 call.parts ++ map out_line call.outs))
+call_lines call =
+    codes "odin 1" ∷ tool_line call
+    ∷ (map param_line call.params ++ (part_lines 1 call.parts ++ map out_line call.outs))
 
 abbrev pub call_text : Call → List ℕ
 call_text call = flat_map with_lf (call_lines call)
@@ -84,4 +87,8 @@ abbrev pub warnings_file : List ℕ
 warnings_file = codes "warnings"
 
 unfoldable pub job_of : Call → Job
-job_of call = record { words = call.words; files = record { name = codes "call"; body = call_text call } ∷ body_files 1 call.parts; outs = warnings_file ∷ map out_file call.outs }
+job_of call = record {
+  words = call.words;
+  files = record { name = codes "call"; body = call_text call } ∷ body_files 1 call.parts;
+  outs = warnings_file ∷ map out_file call.outs;
+}

@@ -21,4 +21,6 @@ WellFormedIsTested = (call : Call) → IsTrue (is_well_formed call) ↔ IsWellFo
 
 -- The computed test holds of the outcomes that fit alone.
 abbrev pub OutcomeFitsIsTested : Type 0
-OutcomeFitsIsTested = (call : Call) (outcome : Outcome) → IsTrue (outcome_fits call outcome) ↔ OutcomeFits call outcome
+OutcomeFitsIsTested =
+    (call : Call) (outcome : Outcome)
+    → IsTrue (outcome_fits call outcome) ↔ OutcomeFits call outcome

@@ -32,7 +32,8 @@ has_byte line = not (is_empty line)
 
 -- the lines of `warnings` that count, as far as they count
 unfoldable pub message_lines : List ℕ → List (List ℕ)
-message_lines warnings = map (take message_length) (take message_limit (filter has_byte (warning_lines warnings)))
+message_lines warnings =
+    map (take message_length) (take message_limit (filter has_byte (warning_lines warnings)))
 
 abbrev pub at_level : Status → List ℕ → OwnLine
 at_level level text = record { level = level; text = text }
@@ -48,10 +49,12 @@ too_long_text name = codes "output " ++ (name ++ codes " too long")
 -- what is wrong with an output
 abbrev pub output_fault : List ℕ → Option (List ℕ) → List (List ℕ)
 output_fault name None = missing_text name ∷ []
-output_fault name (Some body) = if nat_lt body_limit (length body) then too_long_text name ∷ [] else []
+output_fault name (Some body) =
+    if nat_lt body_limit (length body) then too_long_text name ∷ [] else []
 
 abbrev pub output_faults : Raw → List (List ℕ) → List (List ℕ)
-output_faults raw outs = flat_map (λ name. output_fault name (file_in (out_file name) raw.files)) outs
+output_faults raw outs =
+    flat_map (λ name. output_fault name (file_in (out_file name) raw.files)) outs
 
 abbrev pub output_of : Raw → List ℕ → Part
 output_of raw name = record { name = name; body = unwrap_or (file_in (out_file name) raw.files) [] }
@@ -60,15 +63,19 @@ output_of raw name = record { name = name; body = unwrap_or (file_in (out_file n
 
 -- the messages of the tool, and what is wrong with its outputs: if nothing is, the outputs stand
 abbrev pub ended_well : Call → Raw → Status → List OwnLine → List (List ℕ) → Outcome
-ended_well call raw status lines [] = record { status = status; lines = lines; outputs = map (output_of raw) call.outs }
-ended_well call raw status lines (fault ∷ more) = record { status = Abort; lines = lines ++ map (at_level Abort) (fault ∷ more); outputs = [] }
+ended_well call raw status lines [] =
+    record { status = status; lines = lines; outputs = map (output_of raw) call.outs }
+ended_well call raw status lines (fault ∷ more) =
+    record { status = Abort; lines = lines ++ map (at_level Abort) (fault ∷ more); outputs = [] }
 
 -- the messages of the tool, and how it ended
 abbrev pub ended_badly : List (List ℕ) → List ℕ → Outcome
-ended_badly lines how = record { status = Abort; lines = map (at_level Abort) (lines ++ how ∷ []); outputs = [] }
+ended_badly lines how =
+    record { status = Abort; lines = map (at_level Abort) (lines ++ how ∷ []); outputs = [] }
 
 abbrev pub status_text : Call → ℕ → List ℕ
-status_text call status = codes "tool " ++ (call.tool ++ (codes " ended with status " ++ decimal status))
+status_text call status =
+    codes "tool " ++ (call.tool ++ (codes " ended with status " ++ decimal status))
 
 abbrev pub signal_text : Call → List ℕ
 signal_text call = codes "tool " ++ (call.tool ++ codes " ended by a signal")
@@ -80,8 +87,11 @@ status_at_zero (line ∷ more) = Warning
 
 -- the outcome at an exit status
 abbrev pub exit_outcome : Call → Raw → List (List ℕ) → ℕ → Outcome
-exit_outcome call raw lines zero = ended_well call raw (status_at_zero lines) (map (at_level Warning) lines) (output_faults raw call.outs)
-exit_outcome call raw lines (suc zero) = ended_well call raw Error (map (at_level Error) lines) (output_faults raw call.outs)
+exit_outcome call raw lines zero =
+    ended_well call raw (status_at_zero lines) (map (at_level Warning) lines)
+    (output_faults raw call.outs)
+exit_outcome call raw lines (suc zero) =
+    ended_well call raw Error (map (at_level Error) lines) (output_faults raw call.outs)
 exit_outcome call raw lines (suc (suc n)) = ended_badly lines (status_text call (suc (suc n)))
 
 abbrev pub end_outcome : Call → Raw → List (List ℕ) → End → Outcome
@@ -95,5 +105,6 @@ outcome_of call raw = end_outcome call raw (message_lines (warnings_of raw)) raw
 
 -- At `Abort` there are no outputs, else there are those of the call in order; and none is too long.
 pub record OutcomeFits (call : Call) (outcome : Outcome) : Type 0 where
-  pub outputs : ((outcome.status ≡ Abort) × (outcome.outputs ≡ [])) ⊎ ((outcome.status ≢ Abort) × (map (λ (p : Part). p.name) outcome.outputs ≡ call.outs))
+  pub outputs : ((outcome.status ≡ Abort) × (outcome.outputs ≡ []))
+      ⊎ ((outcome.status ≢ Abort) × (map (λ (p : Part). p.name) outcome.outputs ≡ call.outs))
   pub short : All (λ (p : Part). length p.body ≤ body_limit) outcome.outputs

@@ -22,10 +22,15 @@ is_short_or_none None = true
 is_short_or_none (Some body) = nat_le (length body) body_limit
 
 abbrev pub is_part_of_class : CallPart → Bool
-is_part_of_class part = nat_lt part.slot slot_bound && (is_label part.label && is_short_or_none part.body)
+is_part_of_class part =
+    nat_lt part.slot slot_bound && (is_label part.label && is_short_or_none part.body)
 
 unfoldable pub is_well_formed : Call → Bool
-is_well_formed call = is_id call.tool && (is_name call.version && (list_all is_param_of_class call.params && (list_all is_part_of_class call.parts && list_all is_id call.outs)))
+is_well_formed call =
+    is_id call.tool
+    && (is_name call.version
+    && (list_all is_param_of_class call.params
+    && (list_all is_part_of_class call.parts && list_all is_id call.outs)))
 
 -- ---- outcomes
 
@@ -35,4 +40,6 @@ outputs_fit outs Abort outputs = is_empty outputs
 outputs_fit outs status outputs = pointwise bytes_eq (map (λ (p : Part). p.name) outputs) outs
 
 unfoldable pub outcome_fits : Call → Outcome → Bool
-outcome_fits call outcome = outputs_fit call.outs outcome.status outcome.outputs && list_all (λ (p : Part). nat_le (length p.body) body_limit) outcome.outputs
+outcome_fits call outcome =
+    outputs_fit call.outs outcome.status outcome.outputs
+    && list_all (λ (p : Part). nat_le (length p.body) body_limit) outcome.outputs

@@ -17,19 +17,32 @@ use Rattle.meaning_checked.specs.Premises.{fitting, IsMapOverFitting}
 
 -- Each need of a node that fits, fits.
 abbrev pub NeedsFit : Type 0
-NeedsFit = (g : Graph) → IsSpellable g → Checked g → (seen : Results) → IsMapOverFitting g seen → (n : Node) → Fits g n → (needs : List Node) → Needs g n seen needs → (m : Node) → IsIn m needs → Fits g m
+NeedsFit =
+    (g : Graph) → IsSpellable g → Checked g → (seen : Results) → IsMapOverFitting g seen
+    → (n : Node) → Fits g n → (needs : List Node) → Needs g n seen needs → (m : Node) → IsIn m needs
+    → Fits g m
 
 -- Derive(h) is a map of results over the nodes that fit.
 abbrev pub DeriveIsMap : Type 0
-DeriveIsMap = (g : Graph) → IsSpellable g → Checked g → (s : Sources) → AreSources s → (outcomes : Outcomes) → OutcomesFit outcomes → (h : ℕ) → IsResultMap g (fitting g (derive g s outcomes h))
+DeriveIsMap =
+    (g : Graph) → IsSpellable g → Checked g → (s : Sources) → AreSources s → (outcomes : Outcomes)
+    → OutcomesFit outcomes → (h : ℕ) → IsResultMap g (fitting g (derive g s outcomes h))
 
 -- The same of each result of a node that fits.
 abbrev pub DeriveIsMapOverFitting : Type 0
-DeriveIsMapOverFitting = (g : Graph) → IsSpellable g → Checked g → (s : Sources) → AreSources s → (outcomes : Outcomes) → OutcomesFit outcomes → (h : ℕ) → IsMapOverFitting g (derive g s outcomes h)
+DeriveIsMapOverFitting =
+    (g : Graph) → IsSpellable g → Checked g → (s : Sources) → AreSources s → (outcomes : Outcomes)
+    → OutcomesFit outcomes → (h : ℕ) → IsMapOverFitting g (derive g s outcomes h)
 
 -- The calls that are met from a node that fits are well formed, and so are those at which its derivation stops.
 abbrev pub CallsWellFormed : Type 0
-CallsWellFormed = (g : Graph) → IsSpellable g → Checked g → (s : Sources) → AreSources s → (outcomes : Outcomes) → OutcomesFit outcomes → (n : Node) → Fits g n → (call : Call) → IsCallFrom g (derived g s outcomes) n call → IsWellFormed call
+CallsWellFormed =
+    (g : Graph) → IsSpellable g → Checked g → (s : Sources) → AreSources s → (outcomes : Outcomes)
+    → OutcomesFit outcomes → (n : Node) → Fits g n → (call : Call)
+    → IsCallFrom g (derived g s outcomes) n call → IsWellFormed call
 
 abbrev pub FrontierWellFormed : Type 0
-FrontierWellFormed = (g : Graph) → IsSpellable g → Checked g → (s : Sources) → AreSources s → (outcomes : Outcomes) → OutcomesFit outcomes → (n : Node) → Fits g n → (call : Call) → IsFrontier g s outcomes n call → IsWellFormed call
+FrontierWellFormed =
+    (g : Graph) → IsSpellable g → Checked g → (s : Sources) → AreSources s → (outcomes : Outcomes)
+    → OutcomesFit outcomes → (n : Node) → Fits g n → (call : Call) → IsFrontier g s outcomes n call
+    → IsWellFormed call

@@ -24,4 +24,5 @@ fitting g seen n = cond (fits g n) (seen n) None
 
 -- Of a node that fits each result is a view of it.
 abbrev pub IsMapOverFitting : Graph → Results → Type 0
-IsMapOverFitting g seen = (n : Node) (view : View) → Fits g n → seen n ≡ Some view → IsResultOf g n view
+IsMapOverFitting g seen =
+    (n : Node) (view : View) → Fits g n → seen n ≡ Some view → IsResultOf g n view

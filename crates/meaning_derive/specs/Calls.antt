@@ -23,6 +23,7 @@ pub record IsCallFrom (g : Graph) (seen : Results) (n : Node) (call : Call) : Ty
   pub runs : Runs g seen node call
 
 -- A call at which the derivation stops, since it has no outcome: Frontier(S, n, P).
-pub record IsFrontier (g : Graph) (s : Sources) (outcomes : Outcomes) (n : Node) (call : Call) : Type 0 where
+pub record IsFrontier (g : Graph) (s : Sources) (outcomes : Outcomes) (n : Node)
+    (call : Call) : Type 0 where
   pub from : IsCallFrom g (derived g s outcomes) n call
   pub outside : outcomes call ≡ None

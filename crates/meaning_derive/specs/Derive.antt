@@ -37,12 +37,16 @@ outcome_for outcomes (Some call) = option_map (λ o. Some o) (outcomes call)
 
 -- the reached names of a node: only names of sources have lines there
 abbrev pub names_for : Graph → Sources → Node → Results → List Text
-names_for g s n seen = reached_names (map.keys s) (own_lines (task_of g n) (values_of seen)) (other_lines (task_of g n) (values_of seen))
+names_for g s n seen =
+    reached_names (map.keys s) (own_lines (task_of g n) (values_of seen))
+    (other_lines (task_of g n) (values_of seen))
 
 -- the view of a node all of whose needs have results and whose call, if there is one, has an outcome
 abbrev pub settle_if_known : Graph → Sources → Outcomes → Node → Results → List Text → Option View
-settle_if_known g s outcomes n seen names = cond (all_known seen (needs_of (task_of g n) (values_of seen) names))
-    (option_map (λ o. settle g (text_of s) n seen o names) (outcome_for outcomes (call_of g (task_of g n) (values_of seen) names)))
+settle_if_known g s outcomes n seen names =
+    cond (all_known seen (needs_of (task_of g n) (values_of seen) names))
+    (option_map (λ o. settle g (text_of s) n seen o names)
+    (outcome_for outcomes (call_of g (task_of g n) (values_of seen) names)))
     None
 
 -- one more height
@@ -62,6 +66,7 @@ abbrev pub IsFounded : Graph → Sources → Outcomes → Node → Type 0
 IsFounded g s outcomes n = IsSome (derived g s outcomes n)
 
 -- The height of a node: the least one at which it has a result.
-pub record HasHeight (g : Graph) (s : Sources) (outcomes : Outcomes) (n : Node) (h : ℕ) : Type 0 where
+pub record HasHeight (g : Graph) (s : Sources) (outcomes : Outcomes) (n : Node)
+    (h : ℕ) : Type 0 where
   pub there : IsSome (derive g s outcomes h n)
   pub least : (k : ℕ) → k < h → derive g s outcomes k n ≡ None

@@ -9,12 +9,15 @@ use Rattle.meaning_derive.specs.Samples.{objs, exe, back, back_again, lines, joi
 
 -- A program whose unit is made of the program, where the list of objects is known and nothing further on.
 pub record MadeOfItself : Type 0 where
-  pub chain : (seen : Results) → values_of seen objs ≡ Some (Some (Listed (back_again ∷ []))) → seen back ≡ None
+  pub chain : (seen : Results) → values_of seen objs ≡ Some (Some (Listed (back_again ∷ [])))
+      → seen back ≡ None
       → IsCircular c_units_back seen exe (exe ∷ back_again ∷ back ∷ exe ∷ [])
   pub texts : map (node_text c_units_back) (exe ∷ back_again ∷ back ∷ [])
-      ≡ codes "m.sm:units:objs:exe" ∷ codes "m.sm:units:objs:exe:c:o" ∷ codes "m.sm:units:objs:exe:c" ∷ []
+      ≡ codes "m.sm:units:objs:exe" ∷ codes "m.sm:units:objs:exe:c:o"
+      ∷ codes "m.sm:units:objs:exe:c" ∷ []
 
 -- A text that refers to the text that is joined from it.
 pub record SelfReference : Type 0 where
-  pub chain : (seen : Results) → values_of seen lines ≡ Some (Some (Listed (joined ∷ []))) → IsCircular joined_texts seen joined (joined ∷ joined ∷ [])
+  pub chain : (seen : Results) → values_of seen lines ≡ Some (Some (Listed (joined ∷ [])))
+      → IsCircular joined_texts seen joined (joined ∷ joined ∷ [])
   pub text : node_text joined_texts joined ≡ codes "a1.t:l:u"

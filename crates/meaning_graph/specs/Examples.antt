@@ -34,7 +34,9 @@ pub record PathsOfUnits : Type 0 where
 
 -- two suffixes of which the one ends the other
 abbrev pub long_suffixes : Graph
-long_suffixes = simple (codes "c") ∷ simple (codes "test") ∷ suffix (codes ".c") (codes "c") ∷ suffix (codes ".t.c") (codes "test") ∷ []
+long_suffixes =
+    simple (codes "c") ∷ simple (codes "test") ∷ suffix (codes ".c") (codes "c")
+    ∷ suffix (codes ".t.c") (codes "test") ∷ []
 
 -- the longest suffix that ends a name, and `text` where none does
 pub record TypesOfSources : Type 0 where

@@ -12,15 +12,20 @@ IsAIsReachability = (g : Graph) (a b : ℕ) → IsTrue (is_a g a b) ↔ IsA g a 
 
 -- The computed suffix is the longest one, and there is none exactly where no declared suffix ends the name.
 abbrev pub SuffixIsLongest : Type 0
-SuffixIsLongest = (g : Graph) (name : Text) → MatchOption (suffix_of g name) (HasNoSuffix g name) (IsLongestSuffix g name)
+SuffixIsLongest =
+    (g : Graph) (name : Text)
+    → MatchOption (suffix_of g name) (HasNoSuffix g name) (IsLongestSuffix g name)
 
 -- There is one longest suffix.
 abbrev pub OneIsLongest : Type 0
-OneIsLongest = (g : Graph) (name : Text) (s t : SuffixDecl) → IsLongestSuffix g name s → IsLongestSuffix g name t → s ≡ t
+OneIsLongest =
+    (g : Graph) (name : Text) (s t : SuffixDecl) → IsLongestSuffix g name s
+    → IsLongestSuffix g name t → s ≡ t
 
 -- The computed path is the chosen one, and there is none exactly where there is no path.
 abbrev pub PathIsChosen : Type 0
-PathIsChosen = (g : Graph) (a b : ℕ) → MatchOption (chosen_path g a b) (HasNoPath g a b) (Chosen g a b)
+PathIsChosen =
+    (g : Graph) (a b : ℕ) → MatchOption (chosen_path g a b) (HasNoPath g a b) (Chosen g a b)
 
 -- There is one chosen path.
 abbrev pub OneIsChosen : Type 0

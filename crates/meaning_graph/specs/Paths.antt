@@ -30,11 +30,13 @@ HasNoPath g a b = (q : List ℕ) → Path g a b q → ⊥
 
 -- what a maker makes of the type a, where it takes it
 abbrev pub made_of : Graph → ℕ → MakerDecl → Option ℕ
-made_of g a m = option_and_then (λ taken. cond (is_a g a taken) (type_named g m.to) None) (type_named g m.from)
+made_of g a m =
+    option_and_then (λ taken. cond (is_a g a taken) (type_named g m.to) None) (type_named g m.from)
 
 -- the makers that take the type, each with the type that it makes
 abbrev pub maker_edges : Graph → Edges ℕ
-maker_edges g a = filter_map (λ e. option_map (λ to. (e.0, to)) (made_of g a e.1)) (numbered 0 (makers g))
+maker_edges g a =
+    filter_map (λ e. option_map (λ to. (e.0, to)) (made_of g a e.1)) (numbered 0 (makers g))
 
 -- The chosen path: the least one, of no more makers than there are types.
 unfoldable pub chosen_path : Graph → ℕ → ℕ → Option (List ℕ)

@@ -30,4 +30,5 @@ least_over rest (e ∷ es) = lesser (option_map (λ q. e.0 ∷ q) (rest e.1)) (l
 -- the least route of so many labels at most
 abbrev pub least_route : {A : Type 0} → Edges A → (A → Bool) → ℕ → A → Option (List ℕ)
 least_route out ends zero a = elim (ends a) [ true ↦ Some [] | false ↦ None ]
-least_route out ends (suc n) a = elim (ends a) [ true ↦ Some [] | false ↦ least_over (least_route out ends n) (out a) ]
+least_route out ends (suc n) a =
+    elim (ends a) [ true ↦ Some [] | false ↦ least_over (least_route out ends n) (out a) ]

@@ -12,7 +12,8 @@ EndsWith name suffix = (front : Text) × (name ≡ front ++ suffix)
 pub record IsLongestSuffix (g : Graph) (name : Text) (s : SuffixDecl) : Type 0 where
   pub first : find (λ d. bytes_eq d.suffix s.suffix) (suffixes g) ≡ Some s
   pub ends : EndsWith name s.suffix
-  pub longest : (other : SuffixDecl) → IsIn other (suffixes g) → EndsWith name other.suffix → length other.suffix ≤ length s.suffix
+  pub longest : (other : SuffixDecl) → IsIn other (suffixes g) → EndsWith name other.suffix
+      → length other.suffix ≤ length s.suffix
 
 -- no declared suffix ends the name
 abbrev pub HasNoSuffix : Graph → Text → Type 0
@@ -25,7 +26,8 @@ or_later (Some s) later = Some s
 -- the declaration of the name itself as a suffix, or else that of the longest suffix of the name without its first byte
 abbrev pub suffix_of : Graph → Text → Option SuffixDecl
 suffix_of g [] = find (λ d. bytes_eq d.suffix []) (suffixes g)
-suffix_of g (b ∷ name) = or_later (find (λ d. bytes_eq d.suffix (b ∷ name)) (suffixes g)) (suffix_of g name)
+suffix_of g (b ∷ name) =
+    or_later (find (λ d. bytes_eq d.suffix (b ∷ name)) (suffixes g)) (suffix_of g name)
 
 -- the name of the type of a source of that name: `text` where no declared suffix ends it
 abbrev pub suffix_type : Option SuffixDecl → Text

@@ -22,6 +22,7 @@ use Rattle.meaning_texts.proofs.Lemmas.{word_decides, id_decides, string_decides
 use Rattle.meaning_graph_text.specs.Tokens.{Token, word, string, semicolon, comma, opening, closing}
 use Rattle.meaning_graph_text.specs.Grammar.{id_tokens, optional_tokens, part_tokens, kind_tokens, string_tokens, decl_tokens, graph_tokens, IsSpellablePart, IsSpellableKind, IsSpellableExtra, IsSpellableMake, IsSpellableDecl, HasNoSupers, IsInGrammar, HasSpelling}
 use Rattle.meaning_graph_text.specs.Going.{Class, keyword, identifier, any_word, any_string, name_string, open_mark, accepts, Stage, between, kind, supers, super_ids, parts, ending, strings, used_ids, extras, Expected, expect, start, way, tool_front, extra_word, run}
+use Rattle.meaning_graph_text.specs.Laws.{AreOfGraph}
 use Rattle.meaning_graph_text.proofs.Decls.{extras_behind, uses_behind}
 
 -- ---- what must come
@@ -678,11 +679,5 @@ told n l [] low bound h = at_end l h
 told zero l (t ∷ us) low bound h = absurd (omega arith)
 told (suc n) l (t ∷ us) low bound h = one_step l t us (omega arith) (λ k vs short r. told n k vs (omega arith) (omega arith) r) h
 
--- tokens that lead back to the start are those of a graph
-pub record GraphOf (tokens : List Token) : Type 0 where
-  pub decls : List Decl
-  pub good : HasSpelling decls
-  pub is : tokens ≡ graph_tokens decls
-
-pub graph_told : (us : List Token) → length us < extra_bound → run start us ≡ Some start → GraphOf us
-graph_told us bound h = let b : Begin us = told (length us) between us (omega arith) bound h in record { decls = b.decls; good = b.good; is = b.is }
+pub graph_told : (us : List Token) → length us < extra_bound → run start us ≡ Some start → AreOfGraph us
+graph_told us bound h = let b : Begin us = told (length us) between us (omega arith) bound h in record { decls = b.decls; spelled = b.good; is = b.is }

@@ -16,7 +16,7 @@ use Rattle.meaning_graph_text.specs.Stopping.{is_done, stop_by, stop_at, stop_fr
 use Rattle.meaning_graph_text.proofs.Lexed.{begins_from}
 use Rattle.meaning_graph_text.proofs.Readings.{Before, tokens_append, read_before, past_is_past, past_read, gap_shorter, begins_shorter, tokens_short}
 use Rattle.meaning_graph_text.proofs.Runs.{graph_run, run_append}
-use Rattle.meaning_graph_text.proofs.Accepted.{GraphOf}
+use Rattle.meaning_graph_text.specs.Laws.{AreOfGraph}
 use Rattle.meaning_graph_text.proofs.Fronts.{front_from_going, going_from_front, whole_from_run}
 use Rattle.meaning_graph_text.proofs.Tokens.{begins_told}
 use Rattle.meaning_graph_text.proofs.Stops.{compared, none_at_end}
@@ -131,8 +131,8 @@ at_end : (text : List ℕ) (ts : List Token) (e : Expected) → Reading text ts 
 at_end text ts e r true d =
     let c : length ts + 0 ≤ length text = tokens_short text ts [] r.tokens in
     let low : length text ≤ graph_limit = r.low in
-    let g : GraphOf ts = whole_from_run ts (omega arith) (r.runs ∙ ap (λ (x : Expected). Some x) (done_start e.must e.stage d)) in
-    (g.decls, record { spelled = g.good; tokens = subst (λ x. Tokens text x []) g.is r.tokens })
+    let g : AreOfGraph ts = whole_from_run ts (omega arith) (r.runs ∙ ap (λ (x : Expected). Some x) (done_start e.must e.stage d)) in
+    (g.decls, record { spelled = g.spelled; tokens = subst (λ x. Tokens text x []) g.is r.tokens })
 at_end text ts e r false d = fault text ts [] e r (stops_without [] ts refl) (no_graph_without text [] ts r.tokens refl refl (λ h decls good w. not_done (inside e start (sym r.runs ∙ ap (run start) w ∙ graph_run decls good.spellable))))
   where
     not_done : e ≡ start → ⊥

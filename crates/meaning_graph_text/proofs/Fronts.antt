@@ -10,7 +10,8 @@ use Rattle.meaning_graph_text.specs.Tokens.{Token, word, string, semicolon, comm
 use Rattle.meaning_graph_text.specs.Places.{IsFrontOfGraph}
 use Rattle.meaning_graph_text.specs.Going.{Class, keyword, identifier, any_word, any_string, name_string, open_mark, accepts, Stage, between, kind, supers, super_ids, parts, ending, strings, used_ids, extras, Expected, expect, start, extra_word, step_at, step, run, can_go_on}
 use Rattle.meaning_graph_text.proofs.Runs.{graph_run, run_append}
-use Rattle.meaning_graph_text.proofs.Accepted.{GraphOf, graph_told}
+use Rattle.meaning_graph_text.specs.Laws.{AreOfGraph}
+use Rattle.meaning_graph_text.proofs.Accepted.{graph_told}
 
 -- ---- tokens that lead back to the start
 
@@ -173,8 +174,8 @@ goes_on tokens e low h =
     let c : length (stage_end e.stage) ≤ 2 = length_end e.stage in
     let d : length (tokens ++ (samples e.must ++ stage_end e.stage)) ≡ length tokens + length (samples e.must ++ stage_end e.stage) = length-append tokens (samples e.must ++ stage_end e.stage) in
     let back : run start (tokens ++ (samples e.must ++ stage_end e.stage)) ≡ Some start = run_append start tokens (samples e.must ++ stage_end e.stage) ∙ ap (option_and_then (λ (f : Expected). run f (samples e.must ++ stage_end e.stage))) h ∙ completes e.must e.stage in
-    let g : GraphOf (tokens ++ (samples e.must ++ stage_end e.stage)) = graph_told (tokens ++ (samples e.must ++ stage_end e.stage)) (omega arith) back in
-    record { more = samples e.must ++ stage_end e.stage; decls = g.decls; spelled = g.good; is = g.is }
+    let g : AreOfGraph (tokens ++ (samples e.must ++ stage_end e.stage)) = graph_told (tokens ++ (samples e.must ++ stage_end e.stage)) (omega arith) back in
+    record { more = samples e.must ++ stage_end e.stage; decls = g.decls; spelled = g.spelled; is = g.is }
 
 pub front_from_going : (tokens : List Token) → length tokens ≤ graph_limit → can_go_on tokens ≡ true → IsFrontOfGraph tokens
 unfolding can_go_on
@@ -191,5 +192,5 @@ going_from_front tokens f =
     prefix_runs (run start tokens) f.more (sym (run_append start tokens f.more) ∙ back)
 
 -- where the tokens lead back to the start, they are those of a graph
-pub whole_from_run : (tokens : List Token) → length tokens ≤ graph_limit → run start tokens ≡ Some start → GraphOf tokens
+pub whole_from_run : (tokens : List Token) → length tokens ≤ graph_limit → run start tokens ≡ Some start → AreOfGraph tokens
 whole_from_run tokens low h = graph_told tokens (omega arith) h

@@ -10,7 +10,7 @@ use Rattle.meaning_graph_text.specs.Going.{start, run}
 use Rattle.meaning_graph_text.specs.Places.{BeginsOnLine}
 use Rattle.meaning_graph_text.specs.Checks.{Checked, FirstFault, FaultAt, first_fault}
 use Rattle.meaning_graph_text.proofs.Decls.{same_decls}
-use Rattle.meaning_graph_text.proofs.Accepted.{GraphOf}
+use Rattle.meaning_graph_text.specs.Laws.{AreOfGraph}
 use Rattle.meaning_graph_text.proofs.Fronts.{whole_from_run}
 use Rattle.meaning_graph_text.proofs.CheckedGraphs.{checked_in_grammar}
 use Rattle.meaning_graph_text.proofs.Firsts.{first_or_checked}
@@ -22,9 +22,9 @@ checked_if_none g e = subst (λ (o : Option FaultAt). MatchOption o (Checked g) 
 -- tokens that lead back to the start are those of a list with a spelling, which is this one
 pub spelling_if : (g : Graph) → nat_le (length (graph_tokens g)) graph_limit ≡ true → run start (graph_tokens g) ≡ Some start → first_fault g ≡ None → HasSpelling g
 spelling_if g low back none =
-    let of : GraphOf (graph_tokens g) = whole_from_run (graph_tokens g) (leb-true (length (graph_tokens g)) graph_limit low) back in
-    let same : g ≡ of.decls = same_decls g of.decls (checked_in_grammar g (checked_if_none g none)) of.good.grammar of.is in
-    subst HasSpelling (sym same) of.good
+    let of : AreOfGraph (graph_tokens g) = whole_from_run (graph_tokens g) (leb-true (length (graph_tokens g)) graph_limit low) back in
+    let same : g ≡ of.decls = same_decls g of.decls (checked_in_grammar g (checked_if_none g none)) of.spelled.grammar of.is in
+    subst HasSpelling (sym same) of.spelled
 
 pub text_if : (text : List ℕ) (g : Graph) → HasSpelling g → read_tokens (length (graph_tokens g)) text ≡ Some (record { tokens = graph_tokens g; rest = [] }) → GraphText text g
 text_if text g h e = record { spelled = h; tokens = tokens_read (length (graph_tokens g)) text (record { tokens = graph_tokens g; rest = [] }) e }

@@ -65,10 +65,15 @@ part_names other = []
 
 -- The name is declared before in the same space, `text` being there from the start, or a part or a used parameter stands twice.
 abbrev pub doubles_name : Graph → Decl → Bool
-doubles_name before (ObjectType t) = list_any (λ (u : TypeDecl). bytes_eq u.name t.name) (types before) || has_twice (part_names t.kind)
-doubles_name before (Suffix s) = list_any (λ (u : SuffixDecl). bytes_eq u.suffix s.suffix) (suffixes before)
+doubles_name before (ObjectType t) =
+    list_any (λ (u : TypeDecl). bytes_eq u.name t.name) (types before)
+    || has_twice (part_names t.kind)
+doubles_name before (Suffix s) =
+    list_any (λ (u : SuffixDecl). bytes_eq u.suffix s.suffix) (suffixes before)
 doubles_name before (Param id) = has_param before id
-doubles_name before (Maker m) = list_any (λ (n : MakerDecl). bytes_eq n.name m.name) (makers before) || has_twice (used_params m.make)
+doubles_name before (Maker m) =
+    list_any (λ (n : MakerDecl). bytes_eq n.name m.name) (makers before)
+    || has_twice (used_params m.make)
 
 -- ---- supertype loop
 
@@ -135,7 +140,8 @@ keeps_kind g kind = list_all (is_simple g) (kind_types kind)
 
 -- what a maker of this sort takes and makes
 abbrev pub keeps_make : Graph → Text → Text → Make → Bool
-keeps_make g from to (Tool tool) = (is_simple g to || is_compound g to) && list_all (is_simple g) (option_to_list tool.closure)
+keeps_make g from to (Tool tool) =
+    (is_simple g to || is_compound g to) && list_all (is_simple g) (option_to_list tool.closure)
 keeps_make g from to Read = is_simple g from && is_list g to
 keeps_make g from to Each = is_list g from && is_list g to
 keeps_make g from to Pack = is_compound g to
@@ -186,7 +192,8 @@ Checked g = (number : ℕ) (fault : GraphFault) → HasFault g number fault → 
 -- This is the least number of a declaration with a fault, and there the least fault.
 pub record FirstFault (g : Graph) (number : ℕ) (fault : GraphFault) : Type 0 where
   pub there : HasFault g number fault
-  pub least : (m : ℕ) (other : GraphFault) → HasFault g m other → (number < m) ⊎ ((number ≡ m) × (fault_number fault ≤ fault_number other))
+  pub least : (m : ℕ) (other : GraphFault) → HasFault g m other
+      → (number < m) ⊎ ((number ≡ m) × (fault_number fault ≤ fault_number other))
 
 -- ---- the first fault, computed
 
@@ -205,7 +212,8 @@ at_or_later number (Some fault) later = Some (record { number = number; fault = 
 -- the first fault of these declarations, numbered from the number on
 abbrev pub first_from : Graph → ℕ → List Decl → Option FaultAt
 first_from g number [] = None
-first_from g number (d ∷ rest) = at_or_later number (find (has_fault g number d) all_faults) (first_from g (number + 1) rest)
+first_from g number (d ∷ rest) =
+    at_or_later number (find (has_fault g number d) all_faults) (first_from g (number + 1) rest)
 
 unfoldable pub first_fault : Graph → Option FaultAt
 first_fault g = first_from g 1 g

@@ -51,7 +51,9 @@ way = identifier ∷ keyword (codes "from") ∷ identifier ∷ keyword (codes "t
 
 -- a tool up to its first word
 abbrev pub tool_front : List Class
-tool_front = identifier ∷ any_word ∷ keyword (codes "from") ∷ identifier ∷ keyword (codes "to") ∷ identifier ∷ keyword (codes "run") ∷ any_string ∷ []
+tool_front =
+    identifier ∷ any_word ∷ keyword (codes "from") ∷ identifier ∷ keyword (codes "to") ∷ identifier
+    ∷ keyword (codes "run") ∷ any_string ∷ []
 
 -- the word of an extra or of the closure
 abbrev pub extra_word : List ℕ → Option Expected
@@ -75,21 +77,25 @@ decl_word w =
 abbrev pub kind_word : List ℕ → Option Expected
 kind_word w =
     if bytes_eq w (codes "simple") then Some (expect [] supers)
-    else if bytes_eq w (codes "list") then Some (expect (keyword (codes "of") ∷ identifier ∷ []) supers)
-    else if bytes_eq w (codes "compound") then Some (expect (open_mark ∷ identifier ∷ identifier ∷ []) parts)
+    else if bytes_eq w (codes "list") then
+    Some (expect (keyword (codes "of") ∷ identifier ∷ []) supers)
+    else if bytes_eq w (codes "compound") then
+    Some (expect (open_mark ∷ identifier ∷ identifier ∷ []) parts)
     else None
 
 abbrev pub step_at : Stage → Token → Option Expected
 step_at between (word w) = decl_word w
 step_at kind (word w) = kind_word w
-step_at supers (word w) = if bytes_eq w (codes "is") then Some (expect (identifier ∷ []) super_ids) else None
+step_at supers (word w) =
+    if bytes_eq w (codes "is") then Some (expect (identifier ∷ []) super_ids) else None
 step_at supers semicolon = Some start
 step_at super_ids comma = Some (expect (identifier ∷ []) super_ids)
 step_at super_ids semicolon = Some start
 step_at parts comma = Some (expect (identifier ∷ identifier ∷ []) parts)
 step_at parts closing = Some (expect [] ending)
 step_at ending semicolon = Some start
-step_at strings (word w) = if bytes_eq w (codes "uses") then Some (expect (identifier ∷ []) used_ids) else extra_word w
+step_at strings (word w) =
+    if bytes_eq w (codes "uses") then Some (expect (identifier ∷ []) used_ids) else extra_word w
 step_at strings (string s) = if is_string_text s then Some (expect [] strings) else None
 step_at strings semicolon = Some start
 step_at used_ids (word w) = extra_word w

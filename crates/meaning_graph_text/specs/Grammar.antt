@@ -39,8 +39,10 @@ part_tokens (part ∷ next ∷ rest) = word part.name ∷ word part.of ∷ comma
 
 abbrev pub kind_tokens : Kind → List (List ℕ) → List Token
 kind_tokens Simple supers = word (codes "simple") ∷ optional_tokens (codes "is") supers
-kind_tokens (ListOf of) supers = word (codes "list") ∷ word (codes "of") ∷ word of ∷ optional_tokens (codes "is") supers
-kind_tokens (Compound parts) supers = word (codes "compound") ∷ opening ∷ (part_tokens parts ++ closing ∷ [])
+kind_tokens (ListOf of) supers =
+    word (codes "list") ∷ word (codes "of") ∷ word of ∷ optional_tokens (codes "is") supers
+kind_tokens (Compound parts) supers =
+    word (codes "compound") ∷ opening ∷ (part_tokens parts ++ closing ∷ [])
 
 abbrev pub string_tokens : List (List ℕ) → List Token
 string_tokens [] = []
@@ -60,7 +62,12 @@ abbrev pub way_tokens : MakerDecl → List Token
 way_tokens m = word (codes "from") ∷ word m.from ∷ word (codes "to") ∷ word m.to ∷ []
 
 abbrev pub tool_tokens : MakerDecl → ToolDecl → List Token
-tool_tokens m tool = word (codes "tool") ∷ word m.name ∷ word tool.version ∷ (way_tokens m ++ word (codes "run") ∷ (string_tokens tool.words ++ (optional_tokens (codes "uses") tool.uses ++ (extra_tokens tool.extras ++ closure_tokens tool.closure))))
+tool_tokens m tool =
+    word (codes "tool") ∷ word m.name ∷ word tool.version
+    ∷ (way_tokens m ++ word (codes "run")
+    ∷ (string_tokens tool.words
+    ++ (optional_tokens (codes "uses") tool.uses
+    ++ (extra_tokens tool.extras ++ closure_tokens tool.closure))))
 
 abbrev pub maker_tokens : MakerDecl → Make → List Token
 maker_tokens m (Tool tool) = tool_tokens m tool

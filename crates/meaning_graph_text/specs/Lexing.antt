@@ -8,7 +8,8 @@ use Rattle.meaning_graph_text.specs.Tokens.{Token, word, string, semicolon, comm
 -- the text from the first byte that begins neither a blank nor a comment, inside a comment where the flag is set
 abbrev pub past_gap : Bool → List ℕ → List ℕ
 past_gap inside [] = []
-past_gap false (b ∷ rest) = if is_blank b then past_gap false rest else if b == 35 then past_gap true rest else b ∷ rest
+past_gap false (b ∷ rest) =
+    if is_blank b then past_gap false rest else if b == 35 then past_gap true rest else b ∷ rest
 past_gap true (b ∷ rest) = if b == 10 then past_gap false rest else past_gap true rest
 
 -- the longest front of name bytes, and what follows it
@@ -37,12 +38,20 @@ pub record Taken : Type 0 where
 abbrev pub taken : Token → List ℕ → Taken
 taken t rest = record { token = t; rest = rest }
 
+-- a word and what follows it, where it is one
+abbrev pub word_at : List ℕ → List ℕ → Option Taken
+word_at w rest = if is_name w then Some (taken (word w) rest) else None
+
+-- a string and what follows its quote, where there is one
+abbrev pub string_at : List ℕ → Option (List ℕ) → Option Taken
+string_at s rest = if is_string_text s then option_map (taken (string s)) rest else None
+
 -- the token with which a text begins, if it begins with one
 abbrev pub token_at : List ℕ → Option Taken
 token_at [] = None
 token_at (b ∷ rest) =
-    if is_name_byte b then (if is_name (name_front (b ∷ rest)) then Some (taken (word (name_front (b ∷ rest))) (past_names (b ∷ rest))) else None)
-    else if b == 34 then (if is_string_text (before_quote rest) then option_map (taken (string (before_quote rest))) (behind_quote rest) else None)
+    if is_name_byte b then word_at (name_front (b ∷ rest)) (past_names (b ∷ rest))
+    else if b == 34 then string_at (before_quote rest) (behind_quote rest)
     else if b == 59 then Some (taken semicolon rest)
     else if b == 44 then Some (taken comma rest)
     else if b == 40 then Some (taken opening rest)

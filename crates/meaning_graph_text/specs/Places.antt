@@ -29,7 +29,8 @@ pub record IsSyntaxFault (text : List ℕ) (line column : ℕ) : Type 0 where
   pub before : Tokens text tokens rest
   pub begins : IsTrue (is_past_gap rest)
   pub goes_on : IsFrontOfGraph tokens
-  pub stops : (t : Token) (left : List ℕ) → BeginsWith rest t left → IsFrontOfGraph (tokens ++ t ∷ []) → ⊥
+  pub stops : (t : Token) (left : List ℕ) → BeginsWith rest t left
+      → IsFrontOfGraph (tokens ++ t ∷ []) → ⊥
   pub none : (decls : List Decl) → GraphText text decls → ⊥
   pub line_is : line ≡ line_behind front
   pub column_is : column ≡ column_behind front

@@ -8,11 +8,13 @@ is_done [] between = true
 is_done classes stage = false
 
 -- behind a token: what isn't expected stops there
-abbrev pub stop_by : (Expected → List ℕ → Option (List ℕ)) → List ℕ → Taken → Option Expected → Option (List ℕ)
+abbrev pub stop_by : (Expected → List ℕ → Option (List ℕ)) → List ℕ → Taken → Option Expected
+    → Option (List ℕ)
 stop_by go rest k None = Some rest
 stop_by go rest k (Some e) = go e (past_gap false k.rest)
 
-abbrev pub stop_at : (Expected → List ℕ → Option (List ℕ)) → Expected → List ℕ → Option Taken → Option (List ℕ)
+abbrev pub stop_at : (Expected → List ℕ → Option (List ℕ)) → Expected → List ℕ → Option Taken
+    → Option (List ℕ)
 stop_at go e rest None = Some rest
 stop_at go e rest (Some k) = stop_by go rest k (step e.must e.stage k.token)
 

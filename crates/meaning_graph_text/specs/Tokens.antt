@@ -26,7 +26,8 @@ is_line_end (b ∷ rest) = b == 10
 
 -- The text begins with this token, a word being of the longest length, and then comes the rest.
 pub data BeginsWith : List ℕ → Token → List ℕ → Type 0 where
-  a_word : (w rest : List ℕ) → IsWord w → begins_with is_name_byte rest ≡ false → BeginsWith (w ++ rest) (word w) rest
+  a_word : (w rest : List ℕ) → IsWord w → begins_with is_name_byte rest ≡ false
+      → BeginsWith (w ++ rest) (word w) rest
   a_string : (s rest : List ℕ) → IsStringText s → BeginsWith (34 ∷ (s ++ 34 ∷ rest)) (string s) rest
   a_semicolon : (rest : List ℕ) → BeginsWith (59 ∷ rest) semicolon rest
   a_comma : (rest : List ℕ) → BeginsWith (44 ∷ rest) comma rest
@@ -36,9 +37,13 @@ pub data BeginsWith : List ℕ → Token → List ℕ → Type 0 where
 -- The text begins with these tokens, with blanks and comments before and behind each, and then comes the rest. A comment is left whole.
 pub data Tokens : List ℕ → List Token → List ℕ → Type 0 where
   no_more : (rest : List ℕ) → Tokens rest [] rest
-  blank : (b : ℕ) (text : List ℕ) (tokens : List Token) (rest : List ℕ) → IsTrue (is_blank b) → Tokens text tokens rest → Tokens (b ∷ text) tokens rest
-  comment : (words text : List ℕ) (tokens : List Token) (rest : List ℕ) → HasNoLf words → IsTrue (is_line_end text) → Tokens text tokens rest → Tokens (35 ∷ (words ++ text)) tokens rest
-  one : (whole : List ℕ) (t : Token) (text : List ℕ) (tokens : List Token) (rest : List ℕ) → BeginsWith whole t text → Tokens text tokens rest → Tokens whole (t ∷ tokens) rest
+  blank : (b : ℕ) (text : List ℕ) (tokens : List Token) (rest : List ℕ) → IsTrue (is_blank b)
+      → Tokens text tokens rest → Tokens (b ∷ text) tokens rest
+  comment : (words text : List ℕ) (tokens : List Token) (rest : List ℕ) → HasNoLf words
+      → IsTrue (is_line_end text) → Tokens text tokens rest
+      → Tokens (35 ∷ (words ++ text)) tokens rest
+  one : (whole : List ℕ) (t : Token) (text : List ℕ) (tokens : List Token) (rest : List ℕ)
+      → BeginsWith whole t text → Tokens text tokens rest → Tokens whole (t ∷ tokens) rest
 
 -- a byte that begins neither a blank nor a comment, or the end
 abbrev pub is_past_gap : List ℕ → Bool

@@ -27,7 +27,8 @@ pub record NodesOfTexts : Type 0 where
   pub whole : IsNodeIn c_units (codes "m.sm:exe") (codes "m.sm") (Maker 2 ∷ Maker 3 ∷ Maker 4 ∷ [])
   -- behind an empty path the node keeps its own type
   pub keeps_its_type : IsNodeIn c_units (codes "a.c:hdr:o") (codes "a.c") (Maker 1 ∷ [])
-  pub picked : IsNodeIn c_units (codes "m.sm:objs%2") (codes "m.sm") (Maker 2 ∷ Maker 3 ∷ Pick (codes "2") ∷ [])
+  pub picked : IsNodeIn c_units (codes "m.sm:objs%2") (codes "m.sm")
+      (Maker 2 ∷ Maker 3 ∷ Pick (codes "2") ∷ [])
 
 -- what is refused for what it names: a parameter first, then the steps in order
 pub record RefusedNodes : Type 0 where
@@ -43,18 +44,23 @@ pub record RefusedNodes : Type 0 where
 
 -- this source with the parameter `debug` and these steps
 abbrev pub debugged : Text → List Step → Node
-debugged source steps = record { source = source; params = parameter (codes "debug") ∷ []; steps = steps }
+debugged source steps =
+    record { source = source; params = parameter (codes "debug") ∷ []; steps = steps }
 
 -- labels have no parameters, texts have
 pub record LabelsAndTexts : Type 0 where
-  pub label : label_of c_units (debugged (codes "m.sm") (Maker 2 ∷ Maker 3 ∷ Pick (codes "9") ∷ [])) ≡ codes "m.sm:units:objs%9"
+  pub label : label_of c_units (debugged (codes "m.sm") (Maker 2 ∷ Maker 3 ∷ Pick (codes "9") ∷ []))
+      ≡ codes "m.sm:units:objs%9"
   pub text : node_text c_units (debugged (codes "a.c") (Maker 1 ∷ [])) ≡ codes "a.c+debug:o"
 
 abbrev pub two_units : List Node
 two_units = at_steps (codes "a.c") [] ∷ at_steps (codes "b.c") [] ∷ []
 
 abbrev pub two_parts : Value
-two_parts = Compound (record { name = codes "prog"; body = codes "x=1\n" } ∷ record { name = codes "src"; body = codes "a.c\n" } ∷ [])
+two_parts =
+    Compound
+    (record { name = codes "prog"; body = codes "x=1\n" }
+    ∷ record { name = codes "src"; body = codes "a.c\n" } ∷ [])
 
 -- what keys pick: elements from 1, parts by their names, and nothing of a simple object
 pub record Picks : Type 0 where
@@ -86,6 +92,7 @@ warned = record { label = codes "a"; level = Warning; text = codes "x" }
 
 -- those of the needs before the own ones, each once
 pub record InheritedMessages : Type 0 where
-  pub order : inherit (said_a ∷ said_b ∷ []) (said_a ∷ said_more ∷ []) ≡ said_a ∷ said_b ∷ said_more ∷ []
+  pub order : inherit (said_a ∷ said_b ∷ []) (said_a ∷ said_more ∷ [])
+      ≡ said_a ∷ said_b ∷ said_more ∷ []
   -- the level counts
   pub levels : inherit (warned ∷ []) (said_a ∷ []) ≡ warned ∷ said_a ∷ []

@@ -15,7 +15,8 @@ FitsIsDecided = (g : Graph) (n : Node) → IsTrue (fits g n) ↔ Fits g n
 
 -- The node of a canonical expression fits, and so that of every expression that is read.
 abbrev pub MadeNodesFit : Type 0
-MadeNodesFit = (g : Graph) (e : Expression) (n : Node) → IsCanonical e → node_of g e ≡ is_node n → Fits g n
+MadeNodesFit =
+    (g : Graph) (e : Expression) (n : Node) → IsCanonical e → node_of g e ≡ is_node n → Fits g n
 
 -- A node that fits, and whose type is the one that was asked for.
 pub record IsLedTo (g : Graph) (n : Node) (to : ℕ) (m : Node) : Type 0 where
@@ -26,7 +27,8 @@ pub record IsLedTo (g : Graph) (n : Node) (to : ℕ) (m : Node) : Type 0 where
 
 -- A node that is led on by the chosen path from one that fits does so too.
 abbrev pub OnwardFits : Type 0
-OnwardFits = (g : Graph) (n m : Node) (to : ℕ) → Fits g n → onward g n to ≡ Some m → IsLedTo g n to m
+OnwardFits =
+    (g : Graph) (n m : Node) (to : ℕ) → Fits g n → onward g n to ≡ Some m → IsLedTo g n to m
 
 -- A key is the number of an element where it is written so, without leading zeros, from 1 and below the bound.
 pub record IsNumberOf (key : Text) (k : ℕ) : Type 0 where

@@ -27,7 +27,9 @@ toward g n k name (Some to) = node_or_no_path k (onward g n to)
 -- the node behind step k: a type by the chosen path from the type reached so far, a key by one pick
 abbrev pub step_on : Graph → Node → ℕ → ExprStep → NodeAnswer
 step_on g n k (To name) = toward g n k name (type_named g name)
-step_on g n k (Pick key) = cond (is_some (reached_type g (stepped n (PickKey key)))) (is_node (stepped n (PickKey key))) (no_path k)
+step_on g n k (Pick key) =
+    cond (is_some (reached_type g (stepped n (PickKey key)))) (is_node (stepped n (PickKey key)))
+    (no_path k)
 
 -- the node behind the steps from number k on; a refusal stays
 abbrev pub steps_on : Graph → ℕ → NodeAnswer → List ExprStep → NodeAnswer
@@ -40,7 +42,8 @@ abbrev pub unknown_in : Graph → List ParamValue → Option ParamValue
 unknown_in g params = find (λ p. not (has_param g p.param)) params
 
 abbrev pub of_known : Graph → Expression → Option ParamValue → NodeAnswer
-of_known g e None = steps_on g 1 (is_node (record { source = e.source; params = e.params; steps = [] })) e.steps
+of_known g e None =
+    steps_on g 1 (is_node (record { source = e.source; params = e.params; steps = [] })) e.steps
 of_known g e (Some p) = unknown_param p.param
 
 unfoldable pub node_of : Graph → Expression → NodeAnswer

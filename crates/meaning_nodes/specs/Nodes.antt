@@ -56,7 +56,8 @@ element_number key = cond (is_number (digits_value 10 key) key) (Some (digits_va
 -- the type of what a key picks from an object of the kind
 abbrev pub picked_type : Graph → Text → Option Kind → Option ℕ
 picked_type g key (Some (ListOf of)) = cond (is_some (element_number key)) (type_named g of) None
-picked_type g key (Some (Compound parts)) = option_and_then (λ p. type_named g p.of) (find (λ p. bytes_eq p.name key) parts)
+picked_type g key (Some (Compound parts)) =
+    option_and_then (λ p. type_named g p.of) (find (λ p. bytes_eq p.name key) parts)
 picked_type g key other = None
 
 -- the type behind a step that can be applied to the type t
@@ -75,7 +76,8 @@ reached_type g n = type_after g (Some (source_type g n.source)) n.steps
 
 -- the node further along the chosen path from its own type
 abbrev pub onward : Graph → Node → ℕ → Option Node
-onward g n to = option_and_then (λ t. option_map (extended n) (chosen_path g t to)) (reached_type g n)
+onward g n to =
+    option_and_then (λ t. option_map (extended n) (chosen_path g t to)) (reached_type g n)
 
 -- the same by the name of a type
 abbrev pub onward_named : Graph → Node → Text → Option Node
@@ -101,7 +103,9 @@ has_key_of_class (Pick key) = is_key key
 
 -- whether a node fits
 abbrev pub fits : Graph → Node → Bool
-fits g n = is_name n.source && list_all is_param_of_class n.params && list_all has_key_of_class n.steps && is_some (reached_type g n)
+fits g n =
+    is_name n.source && list_all is_param_of_class n.params && list_all has_key_of_class n.steps
+    && is_some (reached_type g n)
 
 -- the type of a node that fits, and none of another
 abbrev pub type_of : Graph → Node → Option ℕ

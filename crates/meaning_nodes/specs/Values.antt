@@ -21,7 +21,8 @@ pub data Picked : Type 0 where
 -- What a key picks: element K from 1 of a list, or the part of that name of a compound, and nothing else.
 abbrev pub pick : Value → Text → Option Picked
 pick (Simple text) key = None
-pick (Listed elements) key = option_map element (option_and_then (λ k. slice_get elements (k - 1)) (element_number key))
+pick (Listed elements) key =
+    option_map element (option_and_then (λ k. slice_get elements (k - 1)) (element_number key))
 pick (Compound parts) key = option_map (λ p. body p.body) (find (λ p. bytes_eq p.name key) parts)
 
 -- ---- statuses
@@ -40,7 +41,8 @@ worst a b = cond (nat_le (rank a) (rank b)) b a
 -- ---- messages
 
 abbrev pub is_message : Message → Message → Bool
-is_message m other = bytes_eq m.label other.label && rank m.level == rank other.level && bytes_eq m.text other.text
+is_message m other =
+    bytes_eq m.label other.label && rank m.level == rank other.level && bytes_eq m.text other.text
 
 -- each message once, where it stands first
 abbrev pub messages_once : List Message → List Message

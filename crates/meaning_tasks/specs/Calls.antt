@@ -25,13 +25,16 @@ simple_part g known slot n = record { slot = slot; label = label_of g n; body = 
 
 -- one part for a part of a compound, with its name behind the label
 abbrev pub compound_part : ℕ → Text → Part → CallPart
-compound_part slot label p = record { slot = slot; label = label ++ codes "%" ++ p.name; body = Some p.body }
+compound_part slot label p =
+    record { slot = slot; label = label ++ codes "%" ++ p.name; body = Some p.body }
 
 -- one part for a simple object, one for each element of a list, one for each part of a compound
 abbrev pub value_parts : Graph → Known → ℕ → Node → Option (Option Value) → List CallPart
-value_parts g known slot n (Some (Some (Simple text))) = record { slot = slot; label = label_of g n; body = Some text } ∷ []
+value_parts g known slot n (Some (Some (Simple text))) =
+    record { slot = slot; label = label_of g n; body = Some text } ∷ []
 value_parts g known slot n (Some (Some (Listed elements))) = map (simple_part g known slot) elements
-value_parts g known slot n (Some (Some (Compound parts))) = map (compound_part slot (label_of g n)) parts
+value_parts g known slot n (Some (Some (Compound parts))) =
+    map (compound_part slot (label_of g n)) parts
 value_parts g known slot n other = []
 
 abbrev pub node_parts : Graph → Known → ℕ → Node → List CallPart
@@ -40,17 +43,29 @@ node_parts g known slot n = value_parts g known slot n (known n)
 -- the extras, each with the next slot
 abbrev pub extra_parts : Graph → Known → ℕ → List ExtraNode → List CallPart
 extra_parts g known slot [] = []
-extra_parts g known slot (e ∷ extras) = flat_map (node_parts g known slot) (option_to_list e.node) ++ extra_parts g known (slot + 1) extras
+extra_parts g known slot (e ∷ extras) =
+    flat_map (node_parts g known slot) (option_to_list e.node)
+    ++ extra_parts g known (slot + 1) extras
 
 -- a reached source, which may be absent
 abbrev pub reached_part : Known → ℕ → Text → CallPart
-reached_part known slot x = record { slot = slot; label = x; body = text_in (known (source_node x)) }
+reached_part known slot x =
+    record { slot = slot; label = x; body = text_in (known (source_node x)) }
 
 abbrev pub call_parts : Graph → ToolTask → Known → List Text → List CallPart
-call_parts g t known names = node_parts g known 0 t.base ++ (extra_parts g known 1 t.extras ++ map (reached_part known (length t.extras + 1)) names)
+call_parts g t known names =
+    node_parts g known 0 t.base
+    ++ (extra_parts g known 1 t.extras ++ map (reached_part known (length t.extras + 1)) names)
 
 abbrev pub tool_call : Graph → ToolTask → Known → List Text → Call
-tool_call g t known names = record { tool = t.name; version = t.tool.version; words = t.tool.words; params = t.params; parts = call_parts g t known names; outs = t.outs }
+tool_call g t known names = record {
+  tool = t.name;
+  version = t.tool.version;
+  words = t.tool.words;
+  params = t.params;
+  parts = call_parts g t known names;
+  outs = t.outs;
+}
 
 -- the messages on extras to which there is no path
 abbrev pub missing_extras : List ExtraNode → List Message
@@ -61,7 +76,10 @@ all_valued known nodes = list_all (λ n. has_value (known n)) nodes
 
 -- The call, and none where no tool is run: a tool isn't run where an extra has no path, or where a need but a reached source has no value.
 abbrev pub call_of : Graph → Task → Known → List Text → Option Call
-call_of g (tooled t) known names = cond (is_empty (missing_extras t.extras) && all_valued known (ranked_needs (tooled t) known names)) (Some (tool_call g t known names)) None
+call_of g (tooled t) known names =
+    cond
+    (is_empty (missing_extras t.extras) && all_valued known (ranked_needs (tooled t) known names))
+    (Some (tool_call g t known names)) None
 call_of g other known names = None
 
 -- The call of a node under the results.

@@ -61,17 +61,23 @@ fault_of_units text = abort_message (codes "m.sm:units") text
 
 -- the lines of a reference list, each a reference or a message
 pub record References : Type 0 where
-  pub each_line : read_as units (codes "a.c\nb.c\n") ≡ fine (Listed (source_of (codes "a.c") ∷ source_of (codes "b.c") ∷ []))
-  pub bad : read_as units (codes "a.c\n?\n") ≡ aborted (fault_of_units (codes "line 2: bad reference") ∷ [])
+  pub each_line : read_as units (codes "a.c\nb.c\n")
+      ≡ fine (Listed (source_of (codes "a.c") ∷ source_of (codes "b.c") ∷ []))
+  pub bad : read_as units (codes "a.c\n?\n")
+      ≡ aborted (fault_of_units (codes "line 2: bad reference") ∷ [])
   pub others : read_as units (codes "a.c+opt\n#\na.c:zz\nm.sm")
-      ≡ aborted (fault_of_units (codes "line 1: unknown parameter") ∷ fault_of_units (codes "line 3: unknown type") ∷ fault_of_units (codes "line 4: no path") ∷ [])
+      ≡ aborted
+      (fault_of_units (codes "line 1: unknown parameter")
+      ∷ fault_of_units (codes "line 3: unknown type") ∷ fault_of_units (codes "line 4: no path") ∷ [])
 
 -- a line has the parameters of the reading node, then its own; those of the reading node may be undeclared
 pub record LineParameters : Type 0 where
   pub sorted : read_as (with_params (parameter (codes "zz") ∷ []) units) (codes "a.c+debug")
-      ≡ fine (Listed (with_params (parameter (codes "debug") ∷ parameter (codes "zz") ∷ []) (source_of (codes "a.c")) ∷ []))
+      ≡ fine
+      (Listed (with_params (parameter (codes "debug") ∷ parameter (codes "zz") ∷ []) (source_of (codes "a.c")) ∷ []))
   pub values : read_as (with_params (debug_at (codes "1") ∷ []) units) (codes "a.c+debug=2")
-      ≡ fine (Listed (with_params (debug_at (codes "1") ∷ debug_at (codes "2") ∷ []) (source_of (codes "a.c")) ∷ []))
+      ≡ fine
+      (Listed (with_params (debug_at (codes "1") ∷ debug_at (codes "2") ∷ []) (source_of (codes "a.c")) ∷ []))
 
 -- what the elements of a list of units are led on to
 abbrev pub led_to_objects : List Node → Own
@@ -79,41 +85,53 @@ led_to_objects elements = each_own c_units objects (codes "o") (Listed elements)
 
 -- each reference is led on by the chosen path from its own type
 pub record Onward : Type 0 where
-  pub further : led_to_objects (source_of (codes "a.c") ∷ source_of (codes "b.c") ∷ []) ≡ fine (Listed (object_of (codes "a.c") ∷ object_of (codes "b.c") ∷ []))
-  pub no_way : led_to_objects (source_of (codes "m.sm") ∷ []) ≡ aborted (abort_message (codes "m.sm:units:objs") (codes "no path o") ∷ [])
+  pub further : led_to_objects (source_of (codes "a.c") ∷ source_of (codes "b.c") ∷ [])
+      ≡ fine (Listed (object_of (codes "a.c") ∷ object_of (codes "b.c") ∷ []))
+  pub no_way : led_to_objects (source_of (codes "m.sm") ∷ [])
+      ≡ aborted (abort_message (codes "m.sm:units:objs") (codes "no path o") ∷ [])
 
 -- ---- picks
 
 abbrev pub picked_ninth : Value → Own
-picked_ninth v = picked_own (codes "m.sm:units:objs%9") (known_of c_units []) (codes "9") (Some (Some v))
+picked_ninth v =
+    picked_own (codes "m.sm:units:objs%9") (known_of c_units []) (codes "9") (Some (Some v))
 
 -- a list without so many elements
 pub record PickPastTheEnd : Type 0 where
-  pub message : picked_ninth (Listed (object_of (codes "a.c") ∷ [])) ≡ aborted (abort_message (codes "m.sm:units:objs%9") (codes "no element 9") ∷ [])
+  pub message : picked_ninth (Listed (object_of (codes "a.c") ∷ []))
+      ≡ aborted (abort_message (codes "m.sm:units:objs%9") (codes "no element 9") ∷ [])
 
 -- ---- closures
 
 -- an include loop
 abbrev pub loop : List Entry
 loop =
-    simple_entry (codes "a.c") (codes "include a.h\n") ∷ simple_entry (codes "a.c:inc") (codes "a.h\n")
-    ∷ simple_entry (codes "a.h") (codes "include b.h\n") ∷ simple_entry (codes "a.h:inc") (codes "b.h\n")
-    ∷ simple_entry (codes "b.h") (codes "include a.h\n") ∷ simple_entry (codes "b.h:inc") (codes "a.h\n") ∷ []
+    simple_entry (codes "a.c") (codes "include a.h\n")
+    ∷ simple_entry (codes "a.c:inc") (codes "a.h\n")
+    ∷ simple_entry (codes "a.h") (codes "include b.h\n")
+    ∷ simple_entry (codes "a.h:inc") (codes "b.h\n")
+    ∷ simple_entry (codes "b.h") (codes "include a.h\n")
+    ∷ simple_entry (codes "b.h:inc") (codes "a.h\n") ∷ []
 
 -- a header that isn't there
 abbrev pub absent : List Entry
-absent = simple_entry (codes "a.c") (codes "include x.h\n") ∷ simple_entry (codes "a.c:inc") (codes "x.h\n") ∷ aborted_entry (codes "x.h") ∷ []
+absent =
+    simple_entry (codes "a.c") (codes "include x.h\n")
+    ∷ simple_entry (codes "a.c:inc") (codes "x.h\n") ∷ aborted_entry (codes "x.h") ∷ []
 
 -- a header that includes the source again
 abbrev pub source_again : List Entry
 source_again =
-    simple_entry (codes "a.c") (codes "include a.h\n") ∷ simple_entry (codes "a.c:inc") (codes "a.h\n")
-    ∷ simple_entry (codes "a.h") (codes "include a.c\n") ∷ simple_entry (codes "a.h:inc") (codes "a.c\n") ∷ []
+    simple_entry (codes "a.c") (codes "include a.h\n")
+    ∷ simple_entry (codes "a.c:inc") (codes "a.h\n")
+    ∷ simple_entry (codes "a.h") (codes "include a.c\n")
+    ∷ simple_entry (codes "a.h:inc") (codes "a.c\n") ∷ []
 
 -- a header at `Abort`, with lines that don't count
 abbrev pub aborted_header : List Entry
 aborted_header =
-    simple_entry (codes "a.c") (codes "include a.h\n") ∷ simple_entry (codes "a.c:inc") (codes "a.h\n")
+    simple_entry (codes "a.c") (codes "include a.h\n")
+    ∷ simple_entry (codes "a.c:inc") (codes "a.h\n")
     ∷ aborted_entry (codes "a.h") ∷ simple_entry (codes "a.h:inc") (codes "b.h\n") ∷ []
 
 abbrev pub object_needs : List Text → List Entry → List Text
@@ -122,11 +140,14 @@ object_needs listed entries = need_texts c_units listed entries (object_of (code
 -- the scan nodes by name, that of the own source first, and then the reached sources: an include loop is no circularity, and an absent header is a need
 pub record Closures : Type 0 where
   pub include_loop : object_needs (codes "a.c" ∷ codes "a.h" ∷ codes "b.h" ∷ []) loop
-      ≡ codes "a.c" ∷ codes "a.c:inc" ∷ codes "a.h:inc" ∷ codes "b.h:inc" ∷ codes "a.h" ∷ codes "b.h" ∷ []
-  pub absent_header : object_needs (codes "a.c" ∷ []) absent ≡ codes "a.c" ∷ codes "a.c:inc" ∷ codes "x.h" ∷ []
+      ≡ codes "a.c" ∷ codes "a.c:inc" ∷ codes "a.h:inc" ∷ codes "b.h:inc" ∷ codes "a.h"
+      ∷ codes "b.h" ∷ []
+  pub absent_header : object_needs (codes "a.c" ∷ []) absent
+      ≡ codes "a.c" ∷ codes "a.c:inc" ∷ codes "x.h" ∷ []
   pub own_source_again : object_needs (codes "a.c" ∷ codes "a.h" ∷ []) source_again
       ≡ codes "a.c" ∷ codes "a.c:inc" ∷ codes "a.h:inc" ∷ codes "a.c" ∷ codes "a.h" ∷ []
-  pub header_aborted : object_needs (codes "a.c" ∷ codes "a.h" ∷ []) aborted_header ≡ codes "a.c" ∷ codes "a.c:inc" ∷ codes "a.h" ∷ []
+  pub header_aborted : object_needs (codes "a.c" ∷ codes "a.h" ∷ []) aborted_header
+      ≡ codes "a.c" ∷ codes "a.c:inc" ∷ codes "a.h" ∷ []
 
 -- what is needed before the base has a value, and of a pack
 pub record FirstNeeds : Type 0 where
@@ -134,19 +155,23 @@ pub record FirstNeeds : Type 0 where
   pub base_aborted : object_needs [] (aborted_entry (codes "a.c") ∷ []) ≡ codes "a.c" ∷ []
   pub packed : need_texts kits [] [] kit ≡ codes "m.sm:units:objs:exe" ∷ codes "m.sm" ∷ []
   -- the elements of a list follow it
-  pub listed : need_texts c_units [] (listed_entry (codes "m.sm:units:objs") (object_of (codes "a.c") ∷ object_of (codes "b.c") ∷ []) ∷ []) program
+  pub listed : need_texts c_units []
+      (listed_entry (codes "m.sm:units:objs") (object_of (codes "a.c") ∷ object_of (codes "b.c")
+      ∷ []) ∷ []) program
       ≡ codes "m.sm:units:objs" ∷ codes "a.c:o" ∷ codes "b.c:o" ∷ []
 
 -- ---- calls
 
 -- a.c+debug+opt:o
 abbrev pub debugged : Node
-debugged = with_params (parameter (codes "debug") ∷ parameter (codes "opt") ∷ []) (object_of (codes "a.c"))
+debugged =
+    with_params (parameter (codes "debug") ∷ parameter (codes "opt") ∷ []) (object_of (codes "a.c"))
 
 -- what it needs: the scan nodes have its parameters, the reached sources have none
 abbrev pub debugged_needs : List Entry
 debugged_needs =
-    simple_entry (codes "a.c+debug+opt") (codes "include a.h\n") ∷ simple_entry (codes "a.c+debug+opt:inc") (codes "a.h\n")
+    simple_entry (codes "a.c+debug+opt") (codes "include a.h\n")
+    ∷ simple_entry (codes "a.c+debug+opt:inc") (codes "a.h\n")
     ∷ simple_entry (codes "a.h") (codes "y=2\n") ∷ simple_entry (codes "a.h+debug+opt:inc") [] ∷ []
 
 -- the tool uses `debug` alone
@@ -161,36 +186,66 @@ debugged_call = record {
 }
 
 pub record WholeCall : Type 0 where
-  pub call : call_in c_units (codes "a.h" ∷ codes "a.c" ∷ []) debugged_needs debugged ≡ Some debugged_call
+  pub call : call_in c_units (codes "a.h" ∷ codes "a.c" ∷ []) debugged_needs debugged
+      ≡ Some debugged_call
 
 -- kits and a tool with extras and a closure
 abbrev pub with_both : Graph
-with_both = kits ++ tool_with (codes "both") (codes "c") (codes "txt") (codes "ld") [] (Also (codes "o") ∷ With (codes "lic.h") ∷ []) (Some (codes "inc")) ∷ []
+with_both =
+    kits
+    ++ tool_with (codes "both") (codes "c") (codes "txt") (codes "ld") []
+    (Also (codes "o") ∷ With (codes "lic.h") ∷ []) (Some (codes "inc"))
+    ∷ []
 
 abbrev pub both_needs : List Entry
 both_needs =
-    simple_entry (codes "a.c") (codes "x=1\n") ∷ simple_entry (codes "a.c:o") (codes "x=2\n") ∷ simple_entry (codes "lic.h") (codes "L\n")
-    ∷ simple_entry (codes "a.c:inc") (codes "a.h\n") ∷ simple_entry (codes "a.h") (codes "y=2\n") ∷ simple_entry (codes "a.h:inc") [] ∷ []
+    simple_entry (codes "a.c") (codes "x=1\n") ∷ simple_entry (codes "a.c:o") (codes "x=2\n")
+    ∷ simple_entry (codes "lic.h") (codes "L\n")
+    ∷ simple_entry (codes "a.c:inc") (codes "a.h\n") ∷ simple_entry (codes "a.h") (codes "y=2\n")
+    ∷ simple_entry (codes "a.h:inc") [] ∷ []
 
 -- slot 0 is the base, the extras follow one by one, and the reached sources stand behind them
 pub record Slots : Type 0 where
-  pub extras_and_closure : parts_of_call with_both (codes "a.c" ∷ codes "a.h" ∷ []) both_needs (at_steps (codes "a.c") (Maker 7 ∷ []))
-      ≡ Some (call_part 0 (codes "a.c") (Some (codes "x=1\n")) ∷ call_part 1 (codes "a.c:o") (Some (codes "x=2\n")) ∷ call_part 2 (codes "lic.h") (Some (codes "L\n")) ∷ call_part 3 (codes "a.h") (Some (codes "y=2\n")) ∷ [])
+  pub extras_and_closure : parts_of_call with_both (codes "a.c" ∷ codes "a.h" ∷ []) both_needs
+      (at_steps (codes "a.c") (Maker 7 ∷ []))
+      ≡ Some
+      (call_part 0 (codes "a.c") (Some (codes "x=1\n"))
+      ∷ call_part 1 (codes "a.c:o") (Some (codes "x=2\n")) ∷ call_part 2 (codes "lic.h") (Some (codes "L\n")) ∷ call_part 3 (codes "a.h") (Some (codes "y=2\n")) ∷ [])
   pub absent_header : parts_of_call c_units (codes "a.c" ∷ []) absent (object_of (codes "a.c"))
-      ≡ Some (call_part 0 (codes "a.c") (Some (codes "include x.h\n")) ∷ call_part 1 (codes "x.h") None ∷ [])
+      ≡ Some
+      (call_part 0 (codes "a.c") (Some (codes "include x.h\n")) ∷ call_part 1 (codes "x.h") None
+      ∷ [])
   -- each element of the base by its own label
-  pub elements : parts_of_call c_units [] (listed_entry (codes "m.sm:units:objs") (object_of (codes "a.c") ∷ object_of (codes "b.c") ∷ []) ∷ simple_entry (codes "a.c:o") (codes "x=1\n") ∷ simple_entry (codes "b.c:o") (codes "y=2\n") ∷ []) program
-      ≡ Some (call_part 0 (codes "a.c:o") (Some (codes "x=1\n")) ∷ call_part 0 (codes "b.c:o") (Some (codes "y=2\n")) ∷ [])
+  pub elements : parts_of_call c_units []
+      (listed_entry (codes "m.sm:units:objs") (object_of (codes "a.c") ∷ object_of (codes "b.c")
+      ∷ []) ∷ simple_entry (codes "a.c:o") (codes "x=1\n") ∷ simple_entry (codes "b.c:o") (codes "y=2\n") ∷ []) program
+      ≡ Some
+      (call_part 0 (codes "a.c:o") (Some (codes "x=1\n"))
+      ∷ call_part 0 (codes "b.c:o") (Some (codes "y=2\n")) ∷ [])
   -- each part of a compound by its name behind the label
-  pub compound : value_parts kits (known_of kits []) 1 kit (Some (Some (Compound (record { name = codes "prog"; body = codes "x=1\n" } ∷ []))))
+  pub compound : value_parts kits (known_of kits []) 1 kit
+      (Some (Some (Compound (record { name = codes "prog"; body = codes "x=1\n" } ∷ []))))
       ≡ call_part 1 (codes "m.sm:kit%prog") (Some (codes "x=1\n")) ∷ []
 
 -- a tool with an extra to which no path leads
 abbrev pub with_far_extra : Graph
-with_far_extra = two_ways ++ simple (codes "far") ∷ tool_with (codes "t") (codes "a") (codes "d") (codes "ld") [] (Also (codes "far") ∷ []) None ∷ []
+with_far_extra =
+    two_ways
+    ++ simple (codes "far")
+    ∷ tool_with (codes "t") (codes "a") (codes "d") (codes "ld") []
+    (Also (codes "far") ∷ []) None
+    ∷ []
 
 -- tools that aren't run
 pub record NotRun : Type 0 where
-  pub scan_aborted : parts_of_call c_units (codes "a.c" ∷ []) (simple_entry (codes "a.c") [] ∷ aborted_entry (codes "a.c:inc") ∷ []) (object_of (codes "a.c")) ≡ None
-  pub extra_aborted : parts_of_call kits [] (simple_entry (codes "a.c") [] ∷ simple_entry (codes "a.c:o") [] ∷ aborted_entry (codes "lic.h") ∷ []) doc ≡ None
-  pub no_extra : parts_of_call with_far_extra [] (simple_entry (codes "z.a") [] ∷ []) (at_steps (codes "z.a") (Maker 4 ∷ [])) ≡ None
+  pub scan_aborted : parts_of_call c_units (codes "a.c" ∷ [])
+      (simple_entry (codes "a.c") [] ∷ aborted_entry (codes "a.c:inc") ∷ [])
+      (object_of (codes "a.c"))
+      ≡ None
+  pub extra_aborted : parts_of_call kits []
+      (simple_entry (codes "a.c") [] ∷ simple_entry (codes "a.c:o") []
+      ∷ aborted_entry (codes "lic.h") ∷ []) doc
+      ≡ None
+  pub no_extra : parts_of_call with_far_extra [] (simple_entry (codes "z.a") [] ∷ [])
+      (at_steps (codes "z.a") (Maker 4 ∷ []))
+      ≡ None

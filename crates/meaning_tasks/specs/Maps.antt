@@ -26,14 +26,16 @@ pub record IsElementOf (g : Graph) (of : Text) (e : Node) : Type 0 where
 abbrev pub IsOfKind : Graph → Kind → Value → Type 0
 IsOfKind g SimpleKind (Simple text) = ⊤
 IsOfKind g (ListKind of) (Listed elements) = (e : Node) → IsIn e elements → IsElementOf g of e
-IsOfKind g (CompoundKind declared) (Compound parts) = map (λ p. p.name) parts ≡ map (λ p. p.name) declared
+IsOfKind g (CompoundKind declared) (Compound parts) =
+    map (λ p. p.name) parts ≡ map (λ p. p.name) declared
 IsOfKind g kind value = ⊥
 
 -- A view of a node that fits: it has a value exactly where its status isn't `Abort`, and one of the node's kind.
 pub record IsResultOf (g : Graph) (n : Node) (view : View) : Type 0 where
   pub fits : Fits g n
   pub valued : (view.value ≡ None) ↔ (view.status ≡ Abort)
-  pub kind : (t : ℕ) (k : Kind) (v : Value) → reached_type g n ≡ Some t → kind_of g t ≡ Some k → view.value ≡ Some v → IsOfKind g k v
+  pub kind : (t : ℕ) (k : Kind) (v : Value) → reached_type g n ≡ Some t → kind_of g t ≡ Some k
+      → view.value ≡ Some v → IsOfKind g k v
 
 -- Each result is a view of a node that fits.
 abbrev pub IsResultMap : Graph → Results → Type 0

@@ -67,11 +67,15 @@ extra_needs known e = flat_map (with_elements known) (option_to_list e.node)
 
 -- the scan node of a reached name that is present; that of the own source isn't repeated
 abbrev pub scan_needs : ToolTask → Known → Text → List Node
-scan_needs t known x = cond (bytes_eq x t.root) [] (where_valued (known (source_node x)) (option_to_list (t.scan x)))
+scan_needs t known x =
+    cond (bytes_eq x t.root) [] (where_valued (known (source_node x)) (option_to_list (t.scan x)))
 
 -- what a tool needs behind a base that has a value: its elements, the extras, the scan nodes
 abbrev pub tool_needs : ToolTask → Known → List Text → List Node
-tool_needs t known names = elements_of (known t.base) ++ (flat_map (extra_needs known) t.extras ++ (option_to_list (t.scan t.root) ++ flat_map (scan_needs t known) names))
+tool_needs t known names =
+    elements_of (known t.base)
+    ++ (flat_map (extra_needs known) t.extras
+    ++ (option_to_list (t.scan t.root) ++ flat_map (scan_needs t known) names))
 
 abbrev pub part_nodes : List PackPart → List Node
 part_nodes parts = flat_map (λ p. option_to_list p.node) parts
@@ -82,7 +86,8 @@ ranked_needs (given name) known names = []
 ranked_needs (picked base key) known names = base ∷ picked_element key (known base)
 ranked_needs (mapped base f) known names = base ∷ []
 ranked_needs (packed parts missing) known names = part_nodes parts
-ranked_needs (tooled t) known names = t.base ∷ where_valued (known t.base) (tool_needs t known names)
+ranked_needs (tooled t) known names =
+    t.base ∷ where_valued (known t.base) (tool_needs t known names)
 ranked_needs unfit known names = []
 
 -- the reached sources, which add neither
@@ -112,12 +117,15 @@ own_lines other known = []
 
 -- the lines of another name, where its source node has a value
 abbrev pub other_lines : Task → Known → Text → List Text
-other_lines (tooled t) known x = where_valued (known t.base) (where_valued (known (source_node x)) (lines_by known (t.scan x)))
+other_lines (tooled t) known x =
+    where_valued (known t.base) (where_valued (known (source_node x)) (lines_by known (t.scan x)))
 other_lines other known x = []
 
 -- The reached names of a node.
 abbrev pub ReachedNames : Graph → Node → Results → List Text → Type 0
-ReachedNames g n seen names = AreReached (own_lines (task_of g n) (values_of seen)) (other_lines (task_of g n) (values_of seen)) names
+ReachedNames g n seen names =
+    AreReached (own_lines (task_of g n) (values_of seen))
+    (other_lines (task_of g n) (values_of seen)) names
 
 -- The list of the needs of a node.
 pub record Needs (g : Graph) (n : Node) (seen : Results) (needs : List Node) : Type 0 where

@@ -13,7 +13,8 @@ pub data Reached (own : List Text) (lines : Text → List Text) : Text → Type 
   by_line : (x y : Text) → Reached own lines x → IsIn y (lines x) → Reached own lines y
 
 -- The names are just those that are reached, sorted by bytes, each once.
-pub record AreReached (own : List Text) (lines : Text → List Text) (names : List Text) : Type 0 where
+pub record AreReached (own : List Text) (lines : Text → List Text)
+    (names : List Text) : Type 0 where
   pub sorted : IsStrictlySortedBy name_cmp names
   pub only : (x : Text) → IsIn x names → Reached own lines x
   pub each : (x : Text) → Reached own lines x → IsIn x names

@@ -31,14 +31,18 @@ aborted_entry name = (name, None)
 
 -- the texts of the needs, with the names that are reached over the listed ones
 abbrev pub names_of : Graph → List Text → List Entry → Node → List Text
-names_of g listed entries n = reached_names listed (own_lines (task_of g n) (known_of g entries)) (other_lines (task_of g n) (known_of g entries))
+names_of g listed entries n =
+    reached_names listed (own_lines (task_of g n) (known_of g entries))
+    (other_lines (task_of g n) (known_of g entries))
 
 abbrev pub need_texts : Graph → List Text → List Entry → Node → List Text
-need_texts g listed entries n = map (node_text g) (needs_of (task_of g n) (known_of g entries) (names_of g listed entries n))
+need_texts g listed entries n =
+    map (node_text g) (needs_of (task_of g n) (known_of g entries) (names_of g listed entries n))
 
 -- the call and its parts, where the tool is run
 abbrev pub call_in : Graph → List Text → List Entry → Node → Option Call
-call_in g listed entries n = call_of g (task_of g n) (known_of g entries) (names_of g listed entries n)
+call_in g listed entries n =
+    call_of g (task_of g n) (known_of g entries) (names_of g listed entries n)
 
 abbrev pub parts_of_call : Graph → List Text → List Entry → Node → Option (List CallPart)
 parts_of_call g listed entries n = option_map (λ c. c.parts) (call_in g listed entries n)

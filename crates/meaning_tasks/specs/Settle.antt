@@ -76,7 +76,8 @@ at_status status v messages = record { value = Some v; status = status; messages
 -- without an outcome the tool isn't run
 abbrev pub outcome_own : Text → Bool → List Message → Option Outcome → Own
 outcome_own label makes_compound missing None = aborted missing
-outcome_own label makes_compound missing (Some o) = at_status o.status (made_value makes_compound o.outputs) (map (labelled label) o.lines)
+outcome_own label makes_compound missing (Some o) =
+    at_status o.status (made_value makes_compound o.outputs) (map (labelled label) o.lines)
 
 -- What the node itself gives: by the sources, by what is known of its needs, and by the outcome of its call.
 abbrev pub own_of : Text → Texts → Task → Known → Option Outcome → Own
@@ -84,7 +85,9 @@ own_of label texts (given name) known outcome = given_own label name (texts name
 own_of label texts (picked base key) known outcome = picked_own label known key (known base)
 own_of label texts (mapped base f) known outcome = mapped_own f (known base)
 own_of label texts (packed parts missing) known outcome = packed_own known parts missing
-own_of label texts (tooled t) known outcome = outcome_own label t.makes_compound (where_valued (known t.base) (missing_extras t.extras)) outcome
+own_of label texts (tooled t) known outcome =
+    outcome_own label t.makes_compound
+    (where_valued (known t.base) (missing_extras t.extras)) outcome
 own_of label texts unfit known outcome = aborted []
 
 -- ---- the view
@@ -115,10 +118,13 @@ settled seen own ranked = record {
 
 -- the view of a node, given the reached names
 abbrev pub settle : Graph → Texts → Node → Results → Option Outcome → List Text → View
-settle g texts n seen outcome names = settled seen (own_of (label_of g n) texts (task_of g n) (values_of seen) outcome) (ranked_needs (task_of g n) (values_of seen) names)
+settle g texts n seen outcome names =
+    settled seen (own_of (label_of g n) texts (task_of g n) (values_of seen) outcome)
+    (ranked_needs (task_of g n) (values_of seen) names)
 
 -- A node settles to the view under the results, with the outcome of its call.
-pub record Settles (g : Graph) (texts : Texts) (n : Node) (seen : Results) (outcome : Option Outcome) (view : View) : Type 0 where
+pub record Settles (g : Graph) (texts : Texts) (n : Node) (seen : Results)
+    (outcome : Option Outcome) (view : View) : Type 0 where
   pub names : List Text
   pub reached : ReachedNames g n seen names
   pub is : view ≡ settle g texts n seen outcome names

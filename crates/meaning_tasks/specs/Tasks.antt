@@ -52,6 +52,10 @@ abbrev pub unless_node : Message → Option Node → List Message
 unless_node m None = m ∷ []
 unless_node m (Some n) = []
 
+-- the message that there is no path to the type, where there is no node
+abbrev pub unless_path : Graph → Node → Text → Option Node → List Message
+unless_path g n of led = unless_node (abort_message (label_of g n) (no_path_to of)) led
+
 -- ---- read
 
 -- a read line has the reading node's parameters, then its own
@@ -78,10 +82,12 @@ line_fault g (Bad number) = at_line number (codes "bad reference")
 line_fault g (Good number e) = at_line number (answer_fault (node_of g e))
 
 abbrev pub line_messages : Graph → Node → Text → Line → List Message
-line_messages g n of line = unless_node (abort_message (label_of g n) (line_fault g line)) (line_node g n of line)
+line_messages g n of line =
+    unless_node (abort_message (label_of g n) (line_fault g line)) (line_node g n of line)
 
 abbrev pub lines_own : Graph → Node → Text → Lines → Own
-lines_own g n of (These lines) = listed_unless (filter_map (line_node g n of) lines) (flat_map (line_messages g n of) lines)
+lines_own g n of (These lines) =
+    listed_unless (filter_map (line_node g n of) lines) (flat_map (line_messages g n of) lines)
 lines_own g n of TooMany = aborted (abort_message (label_of g n) too_many_references ∷ [])
 
 -- one reference for each line of the text
@@ -93,7 +99,9 @@ read_own g n of other = aborted []
 
 -- each reference further from its own type to the element type
 abbrev pub each_own : Graph → Node → Text → Value → Own
-each_own g n of (Listed elements) = listed_unless (filter_map (λ e. onward_named g e of) elements) (flat_map (λ e. unless_node (abort_message (label_of g n) (no_path_to of)) (onward_named g e of)) elements)
+each_own g n of (Listed elements) =
+    listed_unless (filter_map (λ e. onward_named g e of) elements)
+    (flat_map (λ e. unless_path g n of (onward_named g e of)) elements)
 each_own g n of other = aborted []
 
 -- ---- kinds
@@ -152,10 +160,13 @@ abbrev pub pack_part : Graph → Node → PartDecl → PackPart
 pack_part g base p = record { name = p.name; node = onward_named g base p.of }
 
 abbrev pub pack_missing : Graph → Node → Node → PartDecl → List Message
-pack_missing g n base p = unless_node (abort_message (label_of g n) (no_path_to p.of)) (onward_named g base p.of)
+pack_missing g n base p = unless_path g n p.of (onward_named g base p.of)
 
 abbrev pub extra_node : Graph → Node → Extra → ExtraNode
-extra_node g n (Also of) = record { node = onward_named g (base_of n) of; missing = unless_node (abort_message (label_of g n) (no_path_to of)) (onward_named g (base_of n) of) }
+extra_node g n (Also of) = record {
+  node = onward_named g (base_of n) of;
+  missing = unless_path g n of (onward_named g (base_of n) of);
+}
 extra_node g n (With name) = record { node = Some (source_node name); missing = [] }
 
 -- the scan node of a name, with the node's parameters
@@ -184,7 +195,9 @@ abbrev pub make_task : Graph → Node → MakerDecl → Make → Task
 make_task g n m (Tool tool) = tooled (tool_task g n m tool)
 make_task g n m Read = mapped (base_of n) (read_own g n (element_name (kind_named g m.to)))
 make_task g n m Each = mapped (base_of n) (each_own g n (element_name (kind_named g m.to)))
-make_task g n m Pack = packed (map (pack_part g (base_of n)) (parts_of (kind_named g m.to))) (flat_map (pack_missing g n (base_of n)) (parts_of (kind_named g m.to)))
+make_task g n m Pack =
+    packed (map (pack_part g (base_of n)) (parts_of (kind_named g m.to)))
+    (flat_map (pack_missing g n (base_of n)) (parts_of (kind_named g m.to)))
 
 abbrev pub maker_task : Graph → Node → Option MakerDecl → Task
 maker_task g n None = unfit

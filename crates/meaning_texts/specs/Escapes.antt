@@ -11,7 +11,10 @@ abbrev pub is_printable : ℕ → Bool
 is_printable b = nat_le 32 b && nat_le b 126
 
 abbrev pub escaped_byte : ℕ → List ℕ
-escaped_byte b = if b == 92 then 92 ∷ 92 ∷ [] else if is_printable b then b ∷ [] else 92 ∷ 120 ∷ hexadecimal (b / 16) ∷ hexadecimal (b % 16) ∷ []
+escaped_byte b =
+    if b == 92 then 92 ∷ 92 ∷ []
+    else if is_printable b then b ∷ []
+    else 92 ∷ 120 ∷ hexadecimal (b / 16) ∷ hexadecimal (b % 16) ∷ []
 
 -- the one spelling of a text
 abbrev pub escaped : List ℕ → List ℕ

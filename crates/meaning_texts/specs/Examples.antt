@@ -37,7 +37,10 @@ pub record CanonicalSpelling : Type 0 where
 
 -- `a+b=2+a+b=1+b=2%1`, as it is kept
 abbrev pub sorted : Expression
-sorted = expression (codes "a") (param (codes "a") [] ∷ param (codes "b") (codes "2") ∷ param (codes "b") (codes "1") ∷ []) (Pick (codes "1") ∷ [])
+sorted =
+    expression (codes "a")
+    (param (codes "a") [] ∷ param (codes "b") (codes "2") ∷ param (codes "b") (codes "1") ∷ [])
+    (Pick (codes "1") ∷ [])
 
 -- the names are sorted, the values of one name stay in their order, and a value that was there before is dropped
 pub record SortedParams : Type 0 where
@@ -46,7 +49,8 @@ pub record SortedParams : Type 0 where
 -- the texts that are refused for what they name are expressions
 pub record NamedLater : Type 0 where
   pub kind : ExpressionText (codes "a.c:zz") (expression (codes "a.c") [] (To (codes "zz") ∷ []))
-  pub step : ExpressionText (codes "a.c%1:zz") (expression (codes "a.c") [] (Pick (codes "1") ∷ To (codes "zz") ∷ []))
+  pub step : ExpressionText (codes "a.c%1:zz")
+      (expression (codes "a.c") [] (Pick (codes "1") ∷ To (codes "zz") ∷ []))
 
 -- a text that ends too early, one that begins wrongly, and those that are too long
 pub record FaultPlaces : Type 0 where
@@ -75,8 +79,10 @@ pub record LongWords : Type 0 where
 -- a name, an identifier and a key of 255 bytes, a text of 1,000 bytes, and a key that begins with a digit
 pub record LongestTexts : Type 0 where
   pub name : ExpressionText (replicate 255 97) (bare (replicate 255 97))
-  pub id : ExpressionText (codes "a:" ++ replicate 255 97) (expression (codes "a") [] (To (replicate 255 97) ∷ []))
-  pub key : ExpressionText (codes "a%" ++ replicate 255 49) (expression (codes "a") [] (Pick (replicate 255 49) ∷ []))
+  pub id : ExpressionText (codes "a:" ++ replicate 255 97)
+      (expression (codes "a") [] (To (replicate 255 97) ∷ []))
+  pub key : ExpressionText (codes "a%" ++ replicate 255 49)
+      (expression (codes "a") [] (Pick (replicate 255 49) ∷ []))
   pub text : ExpressionText (97 ∷ replicate 999 32) (bare (codes "a"))
   pub digit : ExpressionText (codes "a%1b") (expression (codes "a") [] (Pick (codes "1b") ∷ []))
 
@@ -90,7 +96,8 @@ pub record Values : Type 0 where
 -- The second line is none. A comment and an empty line are counted and passed over, and a CR at the end of a line is dropped.
 pub record ReferenceLists : Type 0 where
   pub bad : references (codes "a.c\n?\n") ≡ These (Good 1 (bare (codes "a.c")) ∷ Bad 2 ∷ [])
-  pub passed : references (codes "#a" ++ 13 ∷ 10 ∷ 13 ∷ 10 ∷ codes "b.c:o" ++ 13 ∷ []) ≡ These (Good 3 (expression (codes "b.c") [] (To (codes "o") ∷ [])) ∷ [])
+  pub passed : references (codes "#a" ++ 13 ∷ 10 ∷ 13 ∷ 10 ∷ codes "b.c:o" ++ 13 ∷ [])
+      ≡ These (Good 3 (expression (codes "b.c") [] (To (codes "o") ∷ [])) ∷ [])
   pub two : references (codes "a b\n a ") ≡ These (Bad 1 ∷ Good 2 (bare (codes "a")) ∷ [])
   -- behind a space `#` begins no comment
   pub spaced : references (codes " #") ≡ These (Bad 1 ∷ [])

@@ -18,19 +18,25 @@ use Rattle.meaning_texts.specs.Limits.{expression_limit}
 -- What stands behind the name: spaces and items, with the parameters and the steps in the order in which they are written.
 pub data Items : List ℕ → List ParamValue → List ExprStep → Type 0 where
   no_more : Items [] [] []
-  space : (rest : List ℕ) (ps : List ParamValue) (ss : List ExprStep) → Items rest ps ss → Items (32 ∷ rest) ps ss
+  space : (rest : List ℕ) (ps : List ParamValue) (ss : List ExprStep) → Items rest ps ss
+      → Items (32 ∷ rest) ps ss
   -- `+ID=VALUE`
-  param_value : (id of rest : List ℕ) (ps : List ParamValue) (ss : List ExprStep) → IsId id → IsParamValue of → Items rest ps ss
+  param_value : (id of rest : List ℕ) (ps : List ParamValue) (ss : List ExprStep) → IsId id
+      → IsParamValue of → Items rest ps ss
       → Items (43 ∷ (id ++ 61 ∷ (of ++ rest))) (record { param = id; value = of } ∷ ps) ss
   -- `+ID`
-  param_alone : (id rest : List ℕ) (ps : List ParamValue) (ss : List ExprStep) → IsId id → Items rest ps ss → Items (43 ∷ (id ++ rest)) (record { param = id; value = [] } ∷ ps) ss
+  param_alone : (id rest : List ℕ) (ps : List ParamValue) (ss : List ExprStep) → IsId id
+      → Items rest ps ss → Items (43 ∷ (id ++ rest)) (record { param = id; value = [] } ∷ ps) ss
   -- `:ID`
-  type_step : (id rest : List ℕ) (ps : List ParamValue) (ss : List ExprStep) → IsId id → Items rest ps ss → Items (58 ∷ (id ++ rest)) ps (To id ∷ ss)
+  type_step : (id rest : List ℕ) (ps : List ParamValue) (ss : List ExprStep) → IsId id
+      → Items rest ps ss → Items (58 ∷ (id ++ rest)) ps (To id ∷ ss)
   -- `%KEY`
-  pick_step : (key rest : List ℕ) (ps : List ParamValue) (ss : List ExprStep) → IsKey key → Items rest ps ss → Items (37 ∷ (key ++ rest)) ps (Pick key ∷ ss)
+  pick_step : (key rest : List ℕ) (ps : List ParamValue) (ss : List ExprStep) → IsKey key
+      → Items rest ps ss → Items (37 ∷ (key ++ rest)) ps (Pick key ∷ ss)
 
 -- A text of the grammar, of any length: so many spaces, the name, and the items.
-pub record Written (text source : List ℕ) (params : List ParamValue) (steps : List ExprStep) : Type 0 where
+pub record Written (text source : List ℕ) (params : List ParamValue)
+    (steps : List ExprStep) : Type 0 where
   pub spaces : ℕ
   pub behind : List ℕ
   pub is : text ≡ replicate spaces 32 ++ (source ++ behind)
@@ -45,7 +51,8 @@ name_cmp = slice_cmp nat_cmp
 
 -- the values of one name, in order
 abbrev pub values_of : List ℕ → List ParamValue → List (List ℕ)
-values_of name params = map (λ (p : ParamValue). p.value) (filter (λ (p : ParamValue). bytes_eq p.param name) params)
+values_of name params =
+    map (λ (p : ParamValue). p.value) (filter (λ (p : ParamValue). bytes_eq p.param name) params)
 
 -- The parameters as an expression keeps them: sorted by name, and for each name its values in order, a value that was there before dropped.
 pub record AreKeptAs (written kept : List ParamValue) : Type 0 where
@@ -78,7 +85,8 @@ pub data IsStop (text : List ℕ) (place : ℕ) : Type 0 where
   -- the first byte past the limit
   past_limit : expression_limit < length text → place ≡ expression_limit + 1 → IsStop text place
   -- the text ends there too early
-  too_short : place ≡ length text + 1 → ((e : Expression) → ExpressionText text e → ⊥) → IsStop text place
+  too_short : place ≡ length text + 1 → ((e : Expression) → ExpressionText text e → ⊥)
+      → IsStop text place
 
 -- All bytes before this place can go on, and the one at the place can't. Places are counted from 1.
 pub record IsFaultPlace (text : List ℕ) (place : ℕ) : Type 0 where

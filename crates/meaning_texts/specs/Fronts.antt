@@ -18,7 +18,9 @@ abbrev pub has_equals : List ℕ → Bool
 has_equals word = list_any (λ b. b == 61) word
 
 abbrev pub begins_param : List ℕ → Bool
-begins_param word = if has_equals word then is_id (name_part word) && is_param_value (value_part word) else begins_id word
+begins_param word =
+    if has_equals word then is_id (name_part word) && is_param_value (value_part word)
+    else begins_id word
 
 -- further bytes, or none, make the piece an item or a space
 abbrev pub begins_piece : Piece → Bool
@@ -48,12 +50,14 @@ begins_cut head [] = begins_word is_name_byte head
 begins_cut head (p ∷ rest) = is_name head && begins_pieces (p ∷ rest)
 
 unfoldable pub is_front : List ℕ → Bool
-is_front bytes = begins_cut (cut_at_marks (past_spaces bytes)).head (cut_at_marks (past_spaces bytes)).pieces
+is_front bytes =
+    begins_cut (cut_at_marks (past_spaces bytes)).head (cut_at_marks (past_spaces bytes)).pieces
 
 -- the first of so many places, from this one on, at which the bytes are no front, or the place behind them
 abbrev pub first_stop : List ℕ → ℕ → ℕ → ℕ
 first_stop text zero place = place
-first_stop text (suc n) place = if is_front (take place text) then first_stop text n (place + 1) else place
+first_stop text (suc n) place =
+    if is_front (take place text) then first_stop text n (place + 1) else place
 
 -- the place of the fault of a text that has no expression
 unfoldable pub fault_place : List ℕ → ℕ

@@ -22,19 +22,25 @@ pub record TestsAreExact (text : List ℕ) : Type 0 where
 
 -- The computed expression of a text is the one that the text is related to.
 abbrev pub ReadingIsExact : Type 0
-ReadingIsExact = (text : List ℕ) (e : Expression) → (expression_of text ≡ Some e) ↔ ExpressionText text e
+ReadingIsExact =
+    (text : List ℕ) (e : Expression) → (expression_of text ≡ Some e) ↔ ExpressionText text e
 
 -- The computed parameters are those that an expression keeps, and there are no others.
 abbrev pub KeptParamsAreOne : Type 0
-KeptParamsAreOne = (written kept : List ParamValue) → AreKeptAs written kept ↔ (kept ≡ kept_params written)
+KeptParamsAreOne =
+    (written kept : List ParamValue) → AreKeptAs written kept ↔ (kept ≡ kept_params written)
 
 -- The spelling of a canonical expression is a text of it, and of no other, where it isn't too long.
 abbrev pub SpellingReadsBack : Type 0
-SpellingReadsBack = (e : Expression) → IsCanonical e → length (spelling e) ≤ expression_limit → (other : Expression) → ExpressionText (spelling e) other ↔ (other ≡ e)
+SpellingReadsBack =
+    (e : Expression) → IsCanonical e → length (spelling e) ≤ expression_limit → (other : Expression)
+    → ExpressionText (spelling e) other ↔ (other ≡ e)
 
 -- A text has one expression at most.
 abbrev pub ExpressionIsOne : Type 0
-ExpressionIsOne = (text : List ℕ) (e other : Expression) → ExpressionText text e → ExpressionText text other → other ≡ e
+ExpressionIsOne =
+    (text : List ℕ) (e other : Expression) → ExpressionText text e → ExpressionText text other
+    → other ≡ e
 
 -- The expression of a text is canonical.
 abbrev pub ExpressionIsCanonical : Type 0
@@ -42,11 +48,15 @@ ExpressionIsCanonical = (text : List ℕ) (e : Expression) → ExpressionText te
 
 -- A text has one place of a fault at most.
 abbrev pub FaultPlaceIsOne : Type 0
-FaultPlaceIsOne = (text : List ℕ) (place other : ℕ) → IsFaultPlace text place → IsFaultPlace text other → other ≡ place
+FaultPlaceIsOne =
+    (text : List ℕ) (place other : ℕ) → IsFaultPlace text place → IsFaultPlace text other
+    → other ≡ place
 
 -- A text with a fault has no expression.
 abbrev pub FaultHasNoExpression : Type 0
-FaultHasNoExpression = (text : List ℕ) (place : ℕ) (e : Expression) → IsFaultPlace text place → ExpressionText text e → ⊥
+FaultHasNoExpression =
+    (text : List ℕ) (place : ℕ) (e : Expression) → IsFaultPlace text place → ExpressionText text e
+    → ⊥
 
 -- The computed test holds of the bytes that can go on to a text of the grammar.
 abbrev pub FrontsAreTested : Type 0
@@ -54,12 +64,17 @@ FrontsAreTested = (bytes : List ℕ) → IsTrue (is_front bytes) ↔ IsFront byt
 
 -- A text has an expression, or it has a fault, at the computed place.
 abbrev pub EachTextIsAnswered : Type 0
-EachTextIsAnswered = (text : List ℕ) → MatchOption (expression_of text) (IsFaultPlace text (fault_place text)) (ExpressionText text)
+EachTextIsAnswered =
+    (text : List ℕ)
+    → MatchOption (expression_of text) (IsFaultPlace text (fault_place text)) (ExpressionText text)
 
 -- The computed lines of a text are its lines, and there are no others.
 abbrev pub LinesAreOne : Type 0
-LinesAreOne = (text : List ℕ) (full : List (List ℕ)) (last : List ℕ) → AreLines text full last ↔ (cut_lines text ≡ record { full = full; last = last })
+LinesAreOne =
+    (text : List ℕ) (full : List (List ℕ)) (last : List ℕ)
+    → AreLines text full last ↔ (cut_lines text ≡ record { full = full; last = last })
 
 -- The computed reference list is what the text says, line by line, and it says nothing else.
 abbrev pub ReferencesAreSaid : Type 0
-ReferencesAreSaid = (text : List ℕ) (said : Lines) → ReferenceList text said ↔ (references text ≡ said)
+ReferencesAreSaid =
+    (text : List ℕ) (said : Lines) → ReferenceList text said ↔ (references text ≡ said)

@@ -27,7 +27,9 @@ put_byte b [] last = record { full = []; last = b ∷ last }
 put_byte b (line ∷ full) last = record { full = (b ∷ line) ∷ full; last = last }
 
 abbrev pub cut_byte : ℕ → LineCut → LineCut
-cut_byte b rest = if b == 10 then record { full = [] ∷ rest.full; last = rest.last } else put_byte b rest.full rest.last
+cut_byte b rest =
+    if b == 10 then record { full = [] ∷ rest.full; last = rest.last }
+    else put_byte b rest.full rest.last
 
 abbrev pub cut_lines : List ℕ → LineCut
 cut_lines [] = record { full = []; last = [] }

@@ -8,7 +8,7 @@ use Rattle.object_values.specs.declared.expressions.ExprStep.TheVariants.{To, Pi
 use Rattle.object_values.specs.declared.expressions.Expression.{Expression}
 use Rattle.meaning_texts.specs.Lists.{is_empty, once}
 use Rattle.meaning_texts.specs.Limits.{expression_limit}
-use Rattle.meaning_texts.specs.Tests.{is_name, is_id, is_key, is_param_value}
+use Rattle.meaning_texts.specs.Tests.{is_name, is_id, is_key, is_param_of_class}
 use Rattle.meaning_texts.specs.Expressions.{name_cmp}
 
 -- ---- pieces
@@ -28,7 +28,13 @@ pub record PieceCut : Type 0 where
   pub pieces : List Piece
 
 abbrev pub cut_before : ℕ → PieceCut → PieceCut
-cut_before b rest = if is_mark b then record { head = []; pieces = record { mark = b; word = rest.head } ∷ rest.pieces } else record { head = b ∷ rest.head; pieces = rest.pieces }
+cut_before b rest =
+    if is_mark b then record {
+      head =
+          [];
+      pieces = record { mark = b; word = rest.head } ∷ rest.pieces;
+    }
+    else record { head = b ∷ rest.head; pieces = rest.pieces }
 
 abbrev pub cut_at_marks : List ℕ → PieceCut
 cut_at_marks [] = record { head = []; pieces = [] }
@@ -56,11 +62,16 @@ abbrev pub value_part : List ℕ → List ℕ
 value_part [] = []
 value_part (b ∷ rest) = if b == 61 then rest else value_part rest
 
+-- the parameter of a piece
+abbrev pub param_of : List ℕ → ParamValue
+param_of word = record { param = name_part word; value = value_part word }
+
 -- what the piece adds to the items behind it, if it is an item
 abbrev pub read_piece : Piece → ItemList → Option ItemList
 read_piece p items =
     if p.mark == 32 then (if is_empty p.word then Some items else None)
-    else if p.mark == 43 then (if is_id (name_part p.word) && is_param_value (value_part p.word) then Some (put_param (record { param = name_part p.word; value = value_part p.word }) items) else None)
+    else if p.mark == 43 then
+    (if is_param_of_class (param_of p.word) then Some (put_param (param_of p.word) items) else None)
     else if p.mark == 58 then (if is_id p.word then Some (put_step (To p.word) items) else None)
     else if p.mark == 37 then (if is_key p.word then Some (put_step (Pick p.word) items) else None)
     else None
@@ -78,7 +89,8 @@ same_param p q = bytes_eq p.param q.param && bytes_eq p.value q.value
 -- before the first parameter whose name isn't less
 abbrev pub put_sorted : ParamValue → List ParamValue → List ParamValue
 put_sorted p [] = p ∷ []
-put_sorted p (q ∷ rest) = if is_lt (name_cmp q.param p.param) then q ∷ put_sorted p rest else p ∷ q ∷ rest
+put_sorted p (q ∷ rest) =
+    if is_lt (name_cmp q.param p.param) then q ∷ put_sorted p rest else p ∷ q ∷ rest
 
 -- in the order of the names, those of one name in their order
 abbrev pub sorted : List ParamValue → List ParamValue
@@ -96,11 +108,15 @@ past_spaces [] = []
 past_spaces (b ∷ rest) = if b == 32 then past_spaces rest else b ∷ rest
 
 abbrev pub expression_with : List ℕ → ItemList → Expression
-expression_with source items = record { source = source; params = kept_params items.params; steps = items.steps }
+expression_with source items =
+    record { source = source; params = kept_params items.params; steps = items.steps }
 
 abbrev pub read_cut : PieceCut → Option Expression
-read_cut c = if is_name c.head then option_map (expression_with c.head) (read_pieces c.pieces) else None
+read_cut c =
+    if is_name c.head then option_map (expression_with c.head) (read_pieces c.pieces) else None
 
 -- the expression of a text, if it has one
 unfoldable pub expression_of : List ℕ → Option Expression
-expression_of text = if nat_le (length text) expression_limit then read_cut (cut_at_marks (past_spaces text)) else None
+expression_of text =
+    if nat_le (length text) expression_limit then read_cut (cut_at_marks (past_spaces text))
+    else None

@@ -27,14 +27,18 @@ pub data ReadsAs (number : ℕ) (text : List ℕ) : Line → Type 0 where
 pub data ReadAs : ℕ → List (List ℕ) → List Line → Type 0 where
   no_more : (number : ℕ) → ReadAs number [] []
   passed : (number : ℕ) (text : List ℕ) (texts : List (List ℕ)) (lines : List Line)
-      → is_passed_over text ≡ true → ReadAs (number + 1) texts lines → ReadAs number (text ∷ texts) lines
+      → is_passed_over text ≡ true → ReadAs (number + 1) texts lines
+      → ReadAs number (text ∷ texts) lines
   counted : (number : ℕ) (text : List ℕ) (texts : List (List ℕ)) (line : Line) (lines : List Line)
-      → is_passed_over text ≡ false → ReadsAs number text line → ReadAs (number + 1) texts lines → ReadAs number (text ∷ texts) (line ∷ lines)
+      → is_passed_over text ≡ false → ReadsAs number text line → ReadAs (number + 1) texts lines
+      → ReadAs number (text ∷ texts) (line ∷ lines)
 
 -- What a reference list says: its lines, unless there are too many.
 pub data ReferenceList (text : List ℕ) : Lines → Type 0 where
-  these : (lines : List Line) → ReadAs 1 (lines_of text) lines → length lines ≤ reference_limit → ReferenceList text (These lines)
-  too_many : (lines : List Line) → ReadAs 1 (lines_of text) lines → reference_limit < length lines → ReferenceList text TooMany
+  these : (lines : List Line) → ReadAs 1 (lines_of text) lines → length lines ≤ reference_limit
+      → ReferenceList text (These lines)
+  too_many : (lines : List Line) → ReadAs 1 (lines_of text) lines → reference_limit < length lines
+      → ReferenceList text TooMany
 
 -- ---- computed
 
@@ -46,7 +50,8 @@ read_line number (Some e) = Good number e
 abbrev pub read_lines : ℕ → List (List ℕ) → List Line
 read_lines number [] = []
 read_lines number (text ∷ rest) =
-    if is_passed_over text then read_lines (number + 1) rest else read_line number (expression_of text) ∷ read_lines (number + 1) rest
+    if is_passed_over text then read_lines (number + 1) rest
+    else read_line number (expression_of text) ∷ read_lines (number + 1) rest
 
 abbrev pub at_most_references : List Line → Lines
 at_most_references found = if nat_lt reference_limit (length found) then TooMany else These found

@@ -6,7 +6,8 @@ use Rattle.meaning_texts.specs.Limits.{word_limit}
 use Rattle.meaning_texts.specs.Classes.{is_name_byte, is_key_byte, is_value_byte, is_string_byte, begins_with_letter}
 
 abbrev pub is_word_of : (ℕ → Bool) → List ℕ → Bool
-is_word_of class text = nat_lt 0 (length text) && nat_le (length text) word_limit && list_all class text
+is_word_of class text =
+    nat_lt 0 (length text) && nat_le (length text) word_limit && list_all class text
 
 abbrev pub is_name : List ℕ → Bool
 is_name = is_word_of is_name_byte
