@@ -1,4 +1,5 @@
 pub mod Calls
+pub mod Choices
 pub mod DiskLaws
 pub mod Entries
 pub mod Entry

@@ -1,8 +1,9 @@
 // A file that is kept in memory, with each call.
-ghost use Rattle.std.specs.Prelude.{◌≡◌, ◌↔◌, ◌⊎◌, ◌<◌, ◌+◌, ◌^◌, ◌≤◌, length, take, drop, IfOk, IsOk, IsErr, OnOk, OnErr, vec_capacity};
+ghost use Rattle.std.specs.Prelude.{◌≡◌, ◌↔◌, ◌⊎◌, ◌<◌, ◌+◌, ◌^◌, ◌≤◌, [], length, take, drop, IfOk, IsOk, IsErr, OnOk, OnErr, vec_capacity};
 ghost use Rattle.odin_outside.specs.Causes.{HasCause};
 ghost use Rattle.odin_fakes.specs.Calls.{written};
 
+use crate::choice::Choice;
 use crate::replay::stopped;
 use object_values::{Bytes, Memory};
 use odin_outside::{Disk, Failed};
@@ -31,20 +32,21 @@ pub struct MemDisk {
 }
 
 impl Model for MemDisk {
-    ghost use Rattle.std.specs.Prelude.{◌≡◌, ◌≤◌, ◌+◌, length, reverse, vec_capacity};
+    ghost use Rattle.std.specs.Prelude.{◌≡◌, ◌≤◌, ◌+◌, length, vec_capacity};
     ghost use Rattle.odin_fakes.specs.File.{File};
     ghost use Rattle.odin_fakes.specs.Calls.{image_after, AreWithin};
-    ghost use Rattle.odin_fakes.specs.Entries.{calls_of};
+    ghost use Rattle.odin_fakes.specs.Entries.{calls_of, bytes_of};
 
     ghost Value = { File };
 
-    ghost view = { λ d. record { first = d.first; calls = calls_of (reverse d.entries.items) d.written.items; bytes = d.bytes; room = d.room; faults = d.faults } };
+    ghost view = { λ d. record { first = d.first; calls = calls_of d.entries.items d.written.items; bytes = d.bytes; room = d.room; faults = d.faults } };
 
-    ghost invariant = { λ d. (d.image.items ≡ image_after d.first (calls_of (reverse d.entries.items) d.written.items))
+    ghost invariant = { λ d. (d.image.items ≡ image_after d.first (calls_of d.entries.items d.written.items))
         × (length d.image.items + d.bytes ≤ vec_capacity d.image)
         × (length d.written.items + d.bytes ≤ vec_capacity d.written)
         × (length d.entries.items + d.room ≤ vec_capacity d.entries)
-        × AreWithin d.first (calls_of (reverse d.entries.items) d.written.items) };
+        × (length d.written.items ≡ bytes_of d.entries.items)
+        × AreWithin d.first (calls_of d.entries.items d.written.items) };
 }
 
 impl Drop for MemDisk {
@@ -83,7 +85,7 @@ pub fn overwrite(image: &mut Vec<u8>, start: usize, bytes: &[u8]) -> Result<(), 
 impl MemDisk {
     ghost use Rattle.odin_fakes.specs.File.{new_file, image_of, after_call, refused};
     ghost use Rattle.odin_fakes.specs.Calls.{image_after, calls_until, LeftWithin};
-    ghost use Rattle.odin_fakes.specs.Entries.{IsPlain, plain_call};
+    ghost use Rattle.odin_fakes.specs.Entries.{IsPlain, call_of};
 
     /// A file with these bytes, and room for so many bytes to be written in all and for so many calls.
     pub fn new(alloc: Global, image: Bytes, bytes: usize, calls: usize) -> Result<Self, Memory>
@@ -120,9 +122,9 @@ impl MemDisk {
         self.entries.len()
     }
 
-    /// What a stop within a call may leave, by its number; 0 is the time before the first. The last digit of the choice in base 8 says
-    /// how the last write or cut is torn, the digit before it the one before, and so on; where it is 0, none is: 0 picks what a read
-    /// gives after the call, and 1 what it gives before, where that call is a write or a cut.
+    /// What a stop within a call may leave, by its number; 0 is the time before the first. The digits of the choice in base 8, from
+    /// the last one on, say of one write or cut after the other how it is torn, from the oldest since the last sync on: 0 not at all, 7
+    /// and all after it by chance. So 0 picks what a read gives after the call.
     pub fn crash(&self, alloc: Global, moment: u32, choice: u64) -> Result<Bytes, Memory>
         requires { moment ≤ length self.now.calls }
         ensures left { IfOk result (LeftWithin self.now.first (calls_until moment self.now.calls)) }
@@ -134,7 +136,7 @@ impl MemDisk {
             &self.entries,
             &self.written,
             moment as usize,
-            choice,
+            Choice::new(choice),
         )?;
         Ok(Bytes::from_vec(image))
     }
@@ -152,7 +154,7 @@ impl MemDisk {
     fn keep(&mut self, entry: Entry) -> Result<(), Failed>
         requires { IsPlain entry }
         ensures fails { IsErr result ↔ (self.old.room ≡ 0) }
-        ensures ok { OnOk result (self.new ≡ after_call (plain_call entry) 0 self.old) }
+        ensures ok { OnOk result (self.new ≡ after_call (call_of entry []) 0 self.old) }
         ensures err { OnErr result (self.new ≡ refused self.old) }
         ensures cause { HasCause self.old.faults self.new.faults result }
     {

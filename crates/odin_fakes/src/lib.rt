@@ -2,6 +2,7 @@
 #![tactic(auto)]
 
 mod answers;
+mod choice;
 mod disk;
 mod fail_disk;
 mod fail_sink;
