@@ -1,6 +1,9 @@
 -- What calls on a disk leave of it.
-use Rattle.std.specs.Prelude.{◌≡◌, ℕ, ◌+◌, ◌≤◌, Option, Some, None, length}
+use Rattle.std.specs.Prelude.{◌≡◌, ℕ, ◌+◌, ◌<◌, ◌≤◌, IsTrue, IsFalse, List, Option, Some, None, length}
 use Rattle.odin_outside.specs.Disk.{Telling, Work, LeavesOnly, IsQuiet}
+use Rattle.meaning_store.specs.Front.{file_limit}
+use Rattle.meaning_store.specs.Images.{IsNew, IsWritten}
+use Rattle.odin_journal.specs.declared.front.Looked.{Looked}
 
 -- nothing is pending, a read gives the same, and a crash at any moment leaves the same
 pub record Untouched (old new : Telling) : Type 0 where
@@ -18,3 +21,18 @@ WorkedWithin bytes calls (Some old) (Some new) = (new.bytes ≤ old.bytes + byte
 pub record IsQuietAt (disk : Telling) (size : ℕ) : Type 0 where
   pub quiet : IsQuiet disk
   pub long : length disk.seen ≡ size
+
+-- what a look at a file tells: its size, and whether it counts as new
+pub record IsLookOf (image : List ℕ) (looked : Looked) : Type 0 where
+  pub long : length image ≡ looked.size
+  pub new : IsTrue looked.is_new → IsNew image
+  pub written : IsFalse looked.is_new → IsWritten image
+
+-- the size of the disk that was looked at, which a store may have
+pub record HasSize (size : ℕ) (looked : Looked) : Type 0 where
+  pub is : looked.size ≡ size
+  pub within : looked.size ≤ file_limit
+
+-- a file that is too long is not ours at 0
+abbrev pub IsTooLong : List ℕ → ℕ → Type 0
+IsTooLong image at = (file_limit < length image) × (at ≡ 0)

@@ -2,12 +2,13 @@
 ghost use Rattle.std.specs.Prelude.{◌≡◌, ◌+◌, ◌<◌, ◌≤◌, ◌^◌, ℕ, List, length, slice_range, OnOk, IfOk, IfErr, IfSome, IfNone};
 ghost use Rattle.odin_outside.specs.Disk.{IsQuiet};
 ghost use Rattle.meaning_store.specs.Images.{behind, IsWritten, IsOpen, IsClosed, IsRecord, AreRecords, IsStore, NotOurs};
-ghost use Rattle.odin_journal.specs.Faults.{HasNoRecord, BreaksBehind, IsReadFault, nowhere};
-ghost use Rattle.meaning_store.specs.Front.{start_of, HasFront};
+ghost use Rattle.odin_journal.specs.Faults.{HasNoRecord, BreaksBehind, IsCause, IsReadFault, nowhere};
+ghost use Rattle.meaning_store.specs.Front.{front_size, start_of, HasFront};
 ghost use Rattle.odin_journal.specs.Marks.{HasMarks};
 ghost use Rattle.odin_journal.specs.Moments.{IsQuietAt, Untouched};
 
 use crate::fault::JournalFault;
+use crate::front::FRONT_SIZE;
 use byteorder::{BigEndian, ByteOrder};
 use object_values::{Bytes, Seq};
 use odin_bytes::take_u32;
@@ -26,8 +27,8 @@ pub fn read_bytes<D: Disk>(
     ensures length { IfOk result (λ bytes. length bytes ≡ count) }
     ensures untouched { IsQuiet (D.told disk.old) → Untouched (D.told disk.old) (D.told disk.new) }
     ensures size { OnOk result (D.size_of disk.new ≡ D.size_of disk.old) }
-    ensures err { IfErr result (IsReadFault nowhere (D.faults disk.old) (D.faults disk.new)) }
-    ensures later { D.faults disk.old ≤ D.faults disk.new }
+    ensures err { IfErr result (IsReadFault nowhere) }
+    ensures cause { IsCause (D.faults disk.old) (D.faults disk.new) result }
 {
     let mut bytes = vec![in alloc; 0; count as usize]?;
     disk.read(at, bytes.as_mut_slice())?;
@@ -48,8 +49,8 @@ pub fn read_record<D: Disk>(
     ensures none { IfOk result (λ read. IfNone read (IsQuietAt (D.told disk.old) size → IsClosed (D.told disk.old).seen gate)) }
     ensures untouched { IsQuiet (D.told disk.old) → Untouched (D.told disk.old) (D.told disk.new) }
     ensures size { OnOk result (D.size_of disk.new ≡ D.size_of disk.old) }
-    ensures err { IfErr result (IsReadFault (λ at. (at ≡ gate) × (IsQuietAt (D.told disk.old) size → IsOpen (D.told disk.old).seen gate × HasNoRecord (D.told disk.old).seen gate)) (D.faults disk.old) (D.faults disk.new)) }
-    ensures later { D.faults disk.old ≤ D.faults disk.new }
+    ensures err { IfErr result (IsReadFault (λ at. (at ≡ gate) × (IsQuietAt (D.told disk.old) size → IsOpen (D.told disk.old).seen gate × HasNoRecord (D.told disk.old).seen gate))) }
+    ensures cause { IsCause (D.faults disk.old) (D.faults disk.new) result }
 {
     let head = read_bytes(alloc, disk, gate, (size - gate).min(5))?;
     let bytes = head.as_slice();
@@ -79,8 +80,8 @@ pub fn read_records<D: Disk>(
     ensures inside { IfOk result (λ read. read.0 < size) }
     ensures untouched { IsQuiet (D.told disk.old) → Untouched (D.told disk.old) (D.told disk.new) }
     ensures size { OnOk result (D.size_of disk.new ≡ D.size_of disk.old) }
-    ensures err { IfErr result (IsReadFault (λ at. IsQuietAt (D.told disk.old) size → BreaksBehind (D.told disk.old).seen start at) (D.faults disk.old) (D.faults disk.new)) }
-    ensures later { D.faults disk.old ≤ D.faults disk.new }
+    ensures err { IfErr result (IsReadFault (λ at. IsQuietAt (D.told disk.old) size → BreaksBehind (D.told disk.old).seen start at)) }
+    ensures cause { IsCause (D.faults disk.old) (D.faults disk.new) result }
 {
     let mut records = Seq::new(alloc);
     let mut gate = start;
@@ -104,17 +105,17 @@ pub fn read_start<D: Disk>(
     ensures none { IfOk result (λ read. IfNone read (IsQuietAt (D.told disk.old) size → HasFront (D.told disk.old).seen → ⊥)) }
     ensures untouched { IsQuiet (D.told disk.old) → Untouched (D.told disk.old) (D.told disk.new) }
     ensures size { OnOk result (D.size_of disk.new ≡ D.size_of disk.old) }
-    ensures err { IfErr result (IsReadFault nowhere (D.faults disk.old) (D.faults disk.new)) }
-    ensures later { D.faults disk.old ≤ D.faults disk.new }
+    ensures err { IfErr result (IsReadFault nowhere) }
+    ensures cause { IsCause (D.faults disk.old) (D.faults disk.new) result }
 {
-    if size < 65 {
+    if size <= FRONT_SIZE {
         return Ok(None);
     }
-    let front = read_bytes(alloc, disk, 0, 64)?;
+    let front = read_bytes(alloc, disk, 0, FRONT_SIZE)?;
     let Some(start) = start_in(front.as_slice()) else {
         return Ok(None);
     };
-    if start < 64 || start >= size {
+    if start < FRONT_SIZE || start >= size {
         return Ok(None);
     }
     Ok(Some(start))
@@ -122,7 +123,7 @@ pub fn read_start<D: Disk>(
 
 // The start in use that a front tells, where its marks are those of a store.
 fn start_in(front: &[u8]) -> Option<u64>
-    requires { length front.now ≡ 64 }
+    requires { length front.now ≡ front_size }
     ensures some { IfSome result (λ start. HasMarks front.now) }
     ensures start { IfSome result (λ start. start ≡ start_of front.now) }
     ensures none { IfNone result (HasMarks front.now → ⊥) }
@@ -150,8 +151,8 @@ pub fn read_store<D: Disk>(
     ensures inside { IfOk result (λ read. read.0 < size) }
     ensures untouched { IsQuiet (D.told disk.old) → Untouched (D.told disk.old) (D.told disk.new) }
     ensures size { OnOk result (D.size_of disk.new ≡ D.size_of disk.old) }
-    ensures err { IfErr result (IsReadFault (λ at. IsQuietAt (D.told disk.old) size → IsWritten (D.told disk.old).seen → NotOurs (D.told disk.old).seen at) (D.faults disk.old) (D.faults disk.new)) }
-    ensures later { D.faults disk.old ≤ D.faults disk.new }
+    ensures err { IfErr result (IsReadFault (λ at. IsQuietAt (D.told disk.old) size → IsWritten (D.told disk.old).seen → NotOurs (D.told disk.old).seen at)) }
+    ensures cause { IsCause (D.faults disk.old) (D.faults disk.new) result }
 {
     let Some(start) = read_start(alloc, disk, size)? else {
         return Err(JournalFault::NotOurs(0));

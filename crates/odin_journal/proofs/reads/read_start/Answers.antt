@@ -9,12 +9,12 @@ returns-in_default-clause-none g c quiet front =
     let agree : Agree 64 image c.as_slice.result.now = first_agree image _ (c.as_slice.ensures ∙ c.in_ok-front.ensures.bytes quiet.quiet) (omega (arith, quiet.long)) in
     rw c.in_default.is at c.start_in.ensures.none (marks_there image _ agree front)
 
-pub returns-then-start-lt64-clause-none : goal.returns-then-start-lt64-clause-none
-returns-then-start-lt64-clause-none g c quiet front =
+pub returns-then-start-lt-FRONT_SIZE-clause-none : goal.returns-then-start-lt-FRONT_SIZE-clause-none
+returns-then-start-lt-FRONT_SIZE-clause-none g c quiet front =
     let image = (g.D.Disk.told c.args.disk.now).seen in
     let agree : Agree 64 image c.as_slice.result.now = first_agree image _ (c.as_slice.ensures ∙ c.in_ok-front.ensures.bytes quiet.quiet) (omega (arith, quiet.long)) in
     let start = c.in-Some.ensures.start ∙ agree_start 64 image _ agree (omega arith) in
-    elim c.then-start-lt64.either [
+    elim c.then-start-lt-FRONT_SIZE.either [
       | inl below ↦ omega (arith, start, front.starts_behind)
       | inr past ↦ omega (arith, past.1, start, front.starts_within, quiet.long)
     ]

@@ -31,7 +31,7 @@ returns-clause-err g c =
     let start = c.in-Some.start in
     let front = rw c.in-Some.is at c.in_ok-start.ensures.some in
     let start_is = rw c.in-Some.is at c.in_ok-start.ensures.start in
-    faults_from (λ at. IsQuietAt mid size → BreaksBehind mid.seen start at) (λ at. IsQuietAt old size → IsWritten old.seen → NotOurs old.seen at) (g.D.Disk.faults c.args.disk.now) (g.D.Disk.faults c.read_start.new.disk) (g.D.Disk.faults c.read_records.new.disk) c.read_records.result c.read_start.ensures.later
+    faults_from (λ at. IsQuietAt mid size → BreaksBehind mid.seen start at) (λ at. IsQuietAt old size → IsWritten old.seen → NotOurs old.seen at) c.read_records.result
     (λ at breaks quiet written.
     let untouched = c.read_start.ensures.untouched quiet.quiet in
     breaks_from old.seen start at written (front quiet) (start_is quiet) (subst (λ image. BreaksBehind image start at) untouched.same (breaks (quiet_on old mid size untouched quiet))))
