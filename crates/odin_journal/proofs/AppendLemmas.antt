@@ -7,7 +7,7 @@ use Rattle.odin_bytes.specs.Fields.{bytes_field}
 use Rattle.byteorder.specs.Endian.{big_number}
 use Rattle.odin_outside.specs.Disk.{Telling, MayLeave, LeavesOnly, Written, Torn}
 use Rattle.odin_journal.specs.Rest.{AtRest, BeforeOrAfter}
-use Rattle.odin_journal.proofs.MomentLemmas.{no_call}
+use Rattle.odin_outside.specs.Moments.{no_call}
 use Rattle.meaning_store.specs.Front.{file_limit, start_of, HasFront}
 use Rattle.meaning_store.specs.Images.{IsWritten, with_record, behind, IsRecord, AreRecords, IsStore, Stored}
 

@@ -10,7 +10,8 @@ use Rattle.odin_journal.specs.declared.fault.JournalFault.TheVariants as fault
 use Rattle.odin_journal.specs.Moments.{IsLookOf, IsQuietAt, Untouched}
 use Rattle.odin_journal.specs.Rest.{AtRest, Makes, Opens, KeepsRecords}
 use Rattle.odin_journal.specs.declared.front.Looked.{Looked}
-use Rattle.odin_journal.proofs.MomentLemmas.{then, weaker, untouched_on}
+use Rattle.odin_outside.specs.Moments.{then, weaker}
+use Rattle.odin_journal.proofs.MomentLemmas.{untouched_on}
 
 pub if_ok_two : {T E : Type 0} (r : Result T E) (P Q R : T → Type 0) → ((x : T) → P x → Q x → R x) → IfOk r P → IfOk r Q → IfOk r R
 if_ok_two (Ok x) P Q R f p q = f x p q

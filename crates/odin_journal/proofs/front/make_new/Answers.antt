@@ -2,7 +2,7 @@ use Rattle.std.proofs.Common.{[]}
 use Rattle.std.proofs.lemmas.Result.{on_ok_weaker}
 use Rattle.meaning_store.specs.Images.{Stored}
 use Rattle.odin_journal.proofs.FrontLemmas.{makes_on}
-use Rattle.odin_journal.proofs.MomentLemmas.{then}
+use Rattle.odin_outside.specs.Moments.{then}
 use Rattle.odin_journal.proofs.front.make_new.Goals as goal
 
 pub returns-clause-any_moment : goal.returns-clause-any_moment

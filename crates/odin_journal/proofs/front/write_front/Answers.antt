@@ -1,7 +1,8 @@
 use Rattle.std.proofs.Common.{[], drop, inl, refl}
 use Rattle.odin_outside.specs.Disk.{Torn}
 use Rattle.meaning_store.specs.Images.{Stored}
-use Rattle.odin_journal.proofs.MomentLemmas.{then, weaker, on_ok_two}
+use Rattle.odin_outside.specs.Moments.{then, weaker}
+use Rattle.odin_journal.proofs.MomentLemmas.{on_ok_two}
 use Rattle.odin_journal.proofs.FrontLemmas.{torn_front, front_written, torn_mark, marked, marked_bytes}
 use Rattle.odin_journal.proofs.front.write_front.Goals as goal
 

@@ -2,7 +2,8 @@ use Rattle.std.proofs.Common.{◌+◌, ◌<◌, length, subst, inl, inr, arith}
 use Rattle.std.proofs.lemmas.Result.{on_ok_weaker}
 use Rattle.odin_outside.specs.Disk.{Written, Torn}
 use Rattle.odin_journal.specs.Rest.{BeforeOrAfter}
-use Rattle.odin_journal.proofs.MomentLemmas.{then, weaker, on_ok_two}
+use Rattle.odin_outside.specs.Moments.{then, weaker}
+use Rattle.odin_journal.proofs.MomentLemmas.{on_ok_two}
 use Rattle.odin_journal.proofs.AppendLemmas.{torn_store, stands, torn_gate, opened_torn, gate_written, gate_and_behind}
 use Rattle.odin_journal.proofs.journal.add.Goals as goal
 
