@@ -1,5 +1,5 @@
 -- When a journal is refused, and what its answers say of the disk's faults.
-use Rattle.std.specs.Prelude.{◌≡◌, ◌+◌, ◌≤◌, ◌<◌, ℕ, List, ⊤, Result, OnOk, IfErr, IsErrOf}
+use Rattle.std.specs.Prelude.{◌≡◌, ◌+◌, ◌≤◌, ◌<◌, ℕ, List, ⊤, Result, Ok, Err, OnOk, IfErr, IsErrOf}
 use Rattle.meaning_store.specs.Front.{file_limit}
 use Rattle.meaning_store.specs.Images.{IsOpen, IsRecord, AreRecords, NotOurs}
 use Rattle.odin_outside.specs.Causes.{Rose}
@@ -59,3 +59,9 @@ pub record IsFull {T : Type 0} (end count : ℕ) (result : Result T JournalFault
   pub room : OnOk result (end + 6 + count ≤ file_limit)
   pub exact : file_limit < end + 6 + count → IsErrOf result (fault.Full end count)
   pub err : IfErr result (IsAddFault end count)
+
+-- an answer that is neither `Ok` nor a fault of the disk
+abbrev pub IsRefused : {T : Type 0} → Result T JournalFault → Type 0
+IsRefused (Ok value) = ⊥
+IsRefused (Err fault.Disk) = ⊥
+IsRefused (Err other) = ⊤

@@ -1,12 +1,11 @@
 // The making of a new store file.
-ghost use Rattle.std.specs.Prelude.{◌≡◌, ◌≤◌, ◌<◌, [], IsTrue, IfOk, IfErr, OnOk};
+ghost use Rattle.std.specs.Prelude.{◌≡◌, ◌≤◌, ◌<◌, IsTrue, IfOk, IfErr, OnOk};
 ghost use Rattle.odin_outside.specs.Causes.{HasCause};
-ghost use Rattle.odin_outside.specs.Disk.{IsQuiet, LeavesOnly};
 ghost use Rattle.meaning_store.specs.Front.{front_size};
-ghost use Rattle.meaning_store.specs.Images.{IsNew, Stored};
 ghost use Rattle.odin_journal.specs.Faults.{IsCause, IsReadFault};
-ghost use Rattle.odin_journal.specs.Moments.{HasSize, IsLookOf, IsTooLong, Untouched, WorkedWithin};
-ghost use Rattle.odin_journal.specs.Rest.{Clears, IsCleared, Makes};
+ghost use Rattle.odin_journal.specs.Moments.{HasSize, IsLookAt, StaysQuiet, Works};
+ghost use Rattle.odin_journal.specs.Reads.{IsLong};
+ghost use Rattle.odin_journal.specs.Rest.{ClearsNew, MakesCleared, MakesNew, StaysCleared, StaysEmpty};
 
 use crate::fault::JournalFault;
 use crate::writes::write_synced;
@@ -31,12 +30,12 @@ pub struct Looked {
 
 /// Looks at a file, which may be a store of another length than the longest.
 pub fn look<D: Disk>(disk: &mut D) -> Result<Looked, JournalFault>
-    ensures look { IfOk result (λ looked. IsQuiet (D.told disk.old) → IsLookOf (D.told disk.old).seen looked) }
+    ensures look { IfOk result (IsLookAt (D.told disk.old)) }
     ensures size { IfOk result (HasSize (D.size_of disk.new)) }
     ensures empty { D.size_of disk.old ≡ 0 → IfOk result (λ looked. IsTrue looked.is_new) }
-    ensures untouched { IsQuiet (D.told disk.old) → Untouched (D.told disk.old) (D.told disk.new) }
-    ensures err { IfErr result (IsReadFault (λ at. IsQuiet (D.told disk.old) → IsTooLong (D.told disk.old).seen at)) }
-    ensures works { WorkedWithin 0 2 (D.told disk.old).work (D.told disk.new).work }
+    ensures untouched { StaysQuiet (D.told disk.old) (D.told disk.new) }
+    ensures err { IfErr result (IsReadFault (IsLong (D.told disk.old))) }
+    ensures works { Works 0 2 (D.told disk.old) (D.told disk.new) }
     ensures cause { IsCause (D.faults disk.old) (D.faults disk.new) result }
 {
     let size = disk.size()?;
@@ -57,10 +56,10 @@ pub fn look<D: Disk>(disk: &mut D) -> Result<Looked, JournalFault>
 /// Makes a file that counts as new a store without records.
 pub fn make_new<D: Disk>(disk: &mut D, size: u64) -> Result<(), Failed>
     requires { size ≡ D.size_of disk.old }
-    ensures ok { OnOk result (IsQuiet (D.told disk.old) → IsNew (D.told disk.old).seen → Makes (D.told disk.old) (D.told disk.new)) }
-    ensures any_moment { IsQuiet (D.told disk.old) → IsNew (D.told disk.old).seen → LeavesOnly (D.told disk.old) (D.told disk.new) (Stored []) }
+    ensures ok { OnOk result (MakesNew (D.told disk.old) (D.told disk.new)) }
+    ensures any_moment { StaysEmpty (D.told disk.old) (D.told disk.new) }
     ensures inside { OnOk result (front_size < D.size_of disk.new) }
-    ensures works { WorkedWithin 66 6 (D.told disk.old).work (D.told disk.new).work }
+    ensures works { Works 66 6 (D.told disk.old) (D.told disk.new) }
     ensures cause { HasCause (D.faults disk.old) (D.faults disk.new) result }
 {
     clear_first(disk, size)?;
@@ -70,10 +69,10 @@ pub fn make_new<D: Disk>(disk: &mut D, size: u64) -> Result<(), Failed>
 // Makes the byte at 0 a 0, where the file has at most one byte.
 fn clear_first<D: Disk>(disk: &mut D, size: u64) -> Result<(), Failed>
     requires { size ≡ D.size_of disk.old }
-    ensures ok { OnOk result (IsQuiet (D.told disk.old) → IsNew (D.told disk.old).seen → Clears (D.told disk.old) (D.told disk.new)) }
-    ensures any_moment { IsQuiet (D.told disk.old) → IsNew (D.told disk.old).seen → LeavesOnly (D.told disk.old) (D.told disk.new) (Stored []) }
+    ensures ok { OnOk result (ClearsNew (D.told disk.old) (D.told disk.new)) }
+    ensures any_moment { StaysEmpty (D.told disk.old) (D.told disk.new) }
     ensures inside { OnOk result (1 ≤ D.size_of disk.new) }
-    ensures works { WorkedWithin 1 2 (D.told disk.old).work (D.told disk.new).work }
+    ensures works { Works 1 2 (D.told disk.old) (D.told disk.new) }
     ensures cause { HasCause (D.faults disk.old) (D.faults disk.new) result }
 {
     if size > 1 {
@@ -85,10 +84,10 @@ fn clear_first<D: Disk>(disk: &mut D, size: u64) -> Result<(), Failed>
 // Writes the front of a file whose byte at 0 is 0, and then the byte that marks it as a store.
 fn write_front<D: Disk>(disk: &mut D) -> Result<(), Failed>
     requires { 1 ≤ D.size_of disk.old }
-    ensures ok { OnOk result (IsCleared (D.told disk.old) → Makes (D.told disk.old) (D.told disk.new)) }
-    ensures any_moment { IsCleared (D.told disk.old) → LeavesOnly (D.told disk.old) (D.told disk.new) (Stored []) }
+    ensures ok { OnOk result (MakesCleared (D.told disk.old) (D.told disk.new)) }
+    ensures any_moment { StaysCleared (D.told disk.old) (D.told disk.new) }
     ensures inside { OnOk result (front_size < D.size_of disk.new) }
-    ensures works { WorkedWithin 65 4 (D.told disk.old).work (D.told disk.new).work }
+    ensures works { Works 65 4 (D.told disk.old) (D.told disk.new) }
     ensures cause { HasCause (D.faults disk.old) (D.faults disk.new) result }
 {
     write_synced(disk, 1, BLANK_FRONT)?;

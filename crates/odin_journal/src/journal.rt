@@ -1,12 +1,10 @@
 // The journal: an open gate, a length and a payload for each record, and a closed gate behind the last.
-ghost use Rattle.std.specs.Prelude.{◌≡◌, ◌<◌, ◌≤◌, ◌+◌, ◌^◌, ◌++◌, [], ◌∷◌, ℕ, List, length, IsTrue, IfOk, IfErr, OnOk, IsErrOf, OnErr};
+ghost use Rattle.std.specs.Prelude.{◌≡◌, ◌<◌, ◌≤◌, ◌+◌, ◌^◌, ◌++◌, [], ◌∷◌, length, IfOk, IfErr, OnOk};
 ghost use Rattle.odin_bytes.specs.Fields.{bytes_field};
 ghost use Rattle.odin_outside.specs.Causes.{HasCause};
-ghost use Rattle.odin_outside.specs.Disk.{LeavesOnly, IsQuiet, Written};
-ghost use Rattle.meaning_store.specs.Images.{IsNew};
-ghost use Rattle.odin_journal.specs.Faults.{IsCause, IsFull, IsOpenFault};
-ghost use Rattle.odin_journal.specs.Moments.{Untouched, WorkedWithin};
-ghost use Rattle.odin_journal.specs.Rest.{AtRest, BeforeOrAfter, Opens, Adds, KeepsRecords, KeepsOrAdds, IsReady};
+ghost use Rattle.odin_journal.specs.Faults.{IsCause, IsFull, IsOpenFault, IsRefused};
+ghost use Rattle.odin_journal.specs.Moments.{Works};
+ghost use Rattle.odin_journal.specs.Rest.{AddsBytes, AddsTo, IsLeft, IsReady, KeepsOrAddsBytes, KeepsRecords, LeavesAdded, OnlyReads, OpensGate, OpensQuiet};
 
 use crate::fault::JournalFault;
 use crate::front::{FILE_LIMIT, FRONT_SIZE, look, make_new};
@@ -27,13 +25,13 @@ pub struct Journal {
 impl Journal {
     /// Opens the journal in a file and gives its whole records. It makes a file that counts as new a store, and repairs nothing else.
     pub fn open<D: Disk>(alloc: Global, disk: &mut D) -> Result<(Journal, Seq<Bytes>), JournalFault>
-        ensures opened { IfOk result (λ opened. IsQuiet (D.told disk.old) → Opens (D.told disk.old) (D.told disk.new) opened.1 opened.0.end) }
+        ensures opened { IfOk result (OpensQuiet (D.told disk.old) (D.told disk.new)) }
         // A file that doesn't count as new is only read, whatever the answer.
-        ensures untouched { IsQuiet (D.told disk.old) → ¬ (IsNew (D.told disk.old).seen) → Untouched (D.told disk.old) (D.told disk.new) }
+        ensures untouched { OnlyReads (D.told disk.old) (D.told disk.new) }
         ensures any_moment { KeepsRecords (D.told disk.old) (D.told disk.new) }
         ensures refused { IfErr result (IsOpenFault (D.told disk.old) (D.told disk.new)) }
         ensures ready { IfOk result (λ opened. IsReady opened.0 (D.size_of disk.new)) }
-        ensures works { D.size_of disk.old ≡ 0 → WorkedWithin 66 16 (D.told disk.old).work (D.told disk.new).work }
+        ensures works { D.size_of disk.old ≡ 0 → Works 66 16 (D.told disk.old) (D.told disk.new) }
         ensures cause { IsCause (D.faults disk.old) (D.faults disk.new) result }
     {
         let looked = look(disk)?;
@@ -70,13 +68,12 @@ impl Journal {
         payload: &[u8],
     ) -> Result<(), JournalFault>
         requires { IsReady self.old (D.size_of disk.old) }
-        ensures added { OnOk result (Adds self.old.end self.new.end payload.now (D.told disk.old) (D.told disk.new)) }
-        ensures any_moment { KeepsOrAdds self.old.end payload.now (D.told disk.old) (D.told disk.new) }
+        ensures added { OnOk result (AddsTo self.old self.new payload.now (D.told disk.old) (D.told disk.new)) }
+        ensures any_moment { LeavesAdded self.old payload.now (D.told disk.old) (D.told disk.new) }
         ensures full { IsFull self.old.end (length payload.now) result }
-        ensures same { ¬ (IsErrOf result JournalFault.Disk) → OnErr result ((disk.new ≡ disk.old) × (self.new ≡ self.old)) }
-        ensures spent { IsErrOf result JournalFault.Disk → IsTrue self.new.spent }
-        ensures ready { OnOk result (IsReady self.new (D.size_of disk.new)) }
-        ensures works { WorkedWithin (length payload.now + 6) 4 (D.told disk.old).work (D.told disk.new).work }
+        ensures same { IsRefused result → (disk.new ≡ disk.old) × (self.new ≡ self.old) }
+        ensures state { IsLeft self.new (D.size_of disk.new) result }
+        ensures works { Works (length payload.now + 6) 4 (D.told disk.old) (D.told disk.new) }
         ensures cause { IsCause (D.faults disk.old) (D.faults disk.new) result }
     {
         let length = payload.len() as u64;
@@ -113,11 +110,11 @@ fn behind_gate(alloc: Global, payload: &[u8]) -> Result<Bytes, Memory>
 fn add<D: Disk>(disk: &mut D, end: u64, bytes: &[u8]) -> Result<(), Failed>
     requires inside { end < D.size_of disk.old }
     requires room { end + 1 + length bytes.now ≤ 2 ^ 30 }
-    ensures ok { OnOk result ((payload : List ℕ) (records : List (List ℕ)) → bytes.now ≡ bytes_field payload ++ 0 ∷ [] → AtRest (D.told disk.old) records end → AtRest (D.told disk.new) (records ++ payload ∷ []) (end + 5 + length payload)) }
-    ensures any_moment { (payload : List ℕ) (records : List (List ℕ)) → bytes.now ≡ bytes_field payload ++ 0 ∷ [] → AtRest (D.told disk.old) records end → LeavesOnly (D.told disk.old) (D.told disk.new) (BeforeOrAfter records payload) }
-    ensures bytes { OnOk result (IsQuiet (D.told disk.old) → Written (D.told disk.old).seen end (1 ∷ bytes.now) (D.told disk.new).seen) }
+    ensures ok { OnOk result (AddsBytes end bytes.now (D.told disk.old) (D.told disk.new)) }
+    ensures any_moment { KeepsOrAddsBytes end bytes.now (D.told disk.old) (D.told disk.new) }
+    ensures bytes { OnOk result (OpensGate end bytes.now (D.told disk.old) (D.told disk.new)) }
     ensures inside { OnOk result (end + length bytes.now < D.size_of disk.new) }
-    ensures works { WorkedWithin (length bytes.now + 1) 4 (D.told disk.old).work (D.told disk.new).work }
+    ensures works { Works (length bytes.now + 1) 4 (D.told disk.old) (D.told disk.new) }
     ensures cause { HasCause (D.faults disk.old) (D.faults disk.new) result }
 {
     write_synced(disk, end + 1, bytes)?;

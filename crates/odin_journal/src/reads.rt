@@ -1,11 +1,11 @@
 // The reading of an existing store file.
-ghost use Rattle.std.specs.Prelude.{◌≡◌, ◌+◌, ◌<◌, ◌≤◌, ◌^◌, ℕ, List, length, slice_range, OnOk, IfOk, IfErr, IfSome, IfNone};
-ghost use Rattle.odin_outside.specs.Disk.{IsQuiet};
-ghost use Rattle.meaning_store.specs.Images.{behind, IsWritten, IsOpen, IsClosed, IsRecord, AreRecords, IsStore, NotOurs};
-ghost use Rattle.odin_journal.specs.Faults.{HasNoRecord, BreaksBehind, IsCause, IsReadFault, nowhere};
-ghost use Rattle.meaning_store.specs.Front.{front_size, start_of, HasFront};
+ghost use Rattle.std.specs.Prelude.{◌≡◌, ◌+◌, ◌<◌, ◌≤◌, length, OnOk, IfOk, IfErr, IfSome, IfNone};
+ghost use Rattle.meaning_store.specs.Front.{front_size, start_of};
+ghost use Rattle.meaning_store.specs.Images.{behind};
+ghost use Rattle.odin_journal.specs.Faults.{IsCause, IsReadFault, nowhere};
 ghost use Rattle.odin_journal.specs.Marks.{HasMarks};
-ghost use Rattle.odin_journal.specs.Moments.{IsQuietAt, Untouched};
+ghost use Rattle.odin_journal.specs.Moments.{IsPlace, IsRangeOf, StaysQuiet};
+ghost use Rattle.odin_journal.specs.Reads.{BreaksFrom, BreaksHere, BreaksStore, HasNoFront, HasRecord, HasRecords, HasStart, HasStore, IsShut};
 
 use crate::fault::JournalFault;
 use crate::front::FRONT_SIZE;
@@ -23,9 +23,9 @@ pub fn read_bytes<D: Disk>(
     count: u64,
 ) -> Result<Bytes, JournalFault>
     requires { at + count ≤ D.size_of disk.old }
-    ensures bytes { IfOk result (λ bytes. IsQuiet (D.told disk.old) → bytes ≡ slice_range (D.told disk.old).seen at (at + count)) }
+    ensures bytes { IfOk result (IsRangeOf (D.told disk.old) at count) }
     ensures length { IfOk result (λ bytes. length bytes ≡ count) }
-    ensures untouched { IsQuiet (D.told disk.old) → Untouched (D.told disk.old) (D.told disk.new) }
+    ensures untouched { StaysQuiet (D.told disk.old) (D.told disk.new) }
     ensures size { OnOk result (D.size_of disk.new ≡ D.size_of disk.old) }
     ensures err { IfErr result (IsReadFault nowhere) }
     ensures cause { IsCause (D.faults disk.old) (D.faults disk.new) result }
@@ -42,14 +42,13 @@ pub fn read_record<D: Disk>(
     gate: u64,
     size: u64,
 ) -> Result<Option<Bytes>, JournalFault>
-    requires size { size ≡ D.size_of disk.old }
-    requires inside { gate < size }
-    ensures some { IfOk result (λ read. IfSome read (λ payload. IsQuietAt (D.told disk.old) size → IsRecord (D.told disk.old).seen gate payload)) }
+    requires { IsPlace (D.size_of disk.old) size gate }
+    ensures some { IfOk result (λ read. IfSome read (HasRecord (D.told disk.old) size gate)) }
     ensures room { IfOk result (λ read. IfSome read (λ payload. behind gate payload < size)) }
-    ensures none { IfOk result (λ read. IfNone read (IsQuietAt (D.told disk.old) size → IsClosed (D.told disk.old).seen gate)) }
-    ensures untouched { IsQuiet (D.told disk.old) → Untouched (D.told disk.old) (D.told disk.new) }
+    ensures none { IfOk result (λ read. IfNone read (IsShut (D.told disk.old) size gate)) }
+    ensures untouched { StaysQuiet (D.told disk.old) (D.told disk.new) }
     ensures size { OnOk result (D.size_of disk.new ≡ D.size_of disk.old) }
-    ensures err { IfErr result (IsReadFault (λ at. (at ≡ gate) × (IsQuietAt (D.told disk.old) size → IsOpen (D.told disk.old).seen gate × HasNoRecord (D.told disk.old).seen gate))) }
+    ensures err { IfErr result (IsReadFault (BreaksHere (D.told disk.old) size gate)) }
     ensures cause { IsCause (D.faults disk.old) (D.faults disk.new) result }
 {
     let head = read_bytes(alloc, disk, gate, (size - gate).min(5))?;
@@ -73,14 +72,13 @@ pub fn read_records<D: Disk>(
     start: u64,
     size: u64,
 ) -> Result<(u64, Seq<Bytes>), JournalFault>
-    requires size { size ≡ D.size_of disk.old }
-    requires inside { start < size }
-    ensures whole { IfOk result (λ read. IsQuietAt (D.told disk.old) size → AreRecords (D.told disk.old).seen start read.1 read.0) }
-    ensures closed { IfOk result (λ read. IsQuietAt (D.told disk.old) size → IsClosed (D.told disk.old).seen read.0) }
+    requires { IsPlace (D.size_of disk.old) size start }
+    ensures whole { IfOk result (HasRecords (D.told disk.old) size start) }
+    ensures closed { IfOk result (λ read. IsShut (D.told disk.old) size read.0) }
     ensures inside { IfOk result (λ read. read.0 < size) }
-    ensures untouched { IsQuiet (D.told disk.old) → Untouched (D.told disk.old) (D.told disk.new) }
+    ensures untouched { StaysQuiet (D.told disk.old) (D.told disk.new) }
     ensures size { OnOk result (D.size_of disk.new ≡ D.size_of disk.old) }
-    ensures err { IfErr result (IsReadFault (λ at. IsQuietAt (D.told disk.old) size → BreaksBehind (D.told disk.old).seen start at)) }
+    ensures err { IfErr result (IsReadFault (BreaksFrom (D.told disk.old) size start)) }
     ensures cause { IsCause (D.faults disk.old) (D.faults disk.new) result }
 {
     let mut records = Seq::new(alloc);
@@ -99,11 +97,10 @@ pub fn read_start<D: Disk>(
     size: u64,
 ) -> Result<Option<u64>, JournalFault>
     requires { size ≡ D.size_of disk.old }
-    ensures some { IfOk result (λ read. IfSome read (λ start. IsQuietAt (D.told disk.old) size → HasFront (D.told disk.old).seen)) }
-    ensures start { IfOk result (λ read. IfSome read (λ start. IsQuietAt (D.told disk.old) size → start ≡ start_of (D.told disk.old).seen)) }
+    ensures some { IfOk result (λ read. IfSome read (HasStart (D.told disk.old) size)) }
     ensures inside { IfOk result (λ read. IfSome read (λ start. start < size)) }
-    ensures none { IfOk result (λ read. IfNone read (IsQuietAt (D.told disk.old) size → HasFront (D.told disk.old).seen → ⊥)) }
-    ensures untouched { IsQuiet (D.told disk.old) → Untouched (D.told disk.old) (D.told disk.new) }
+    ensures none { IfOk result (λ read. IfNone read (HasNoFront (D.told disk.old) size)) }
+    ensures untouched { StaysQuiet (D.told disk.old) (D.told disk.new) }
     ensures size { OnOk result (D.size_of disk.new ≡ D.size_of disk.old) }
     ensures err { IfErr result (IsReadFault nowhere) }
     ensures cause { IsCause (D.faults disk.old) (D.faults disk.new) result }
@@ -147,11 +144,11 @@ pub fn read_store<D: Disk>(
     size: u64,
 ) -> Result<(u64, Seq<Bytes>), JournalFault>
     requires { size ≡ D.size_of disk.old }
-    ensures store { IfOk result (λ read. IsQuietAt (D.told disk.old) size → IsWritten (D.told disk.old).seen → IsStore (D.told disk.old).seen read.1 read.0) }
+    ensures store { IfOk result (HasStore (D.told disk.old) size) }
     ensures inside { IfOk result (λ read. read.0 < size) }
-    ensures untouched { IsQuiet (D.told disk.old) → Untouched (D.told disk.old) (D.told disk.new) }
+    ensures untouched { StaysQuiet (D.told disk.old) (D.told disk.new) }
     ensures size { OnOk result (D.size_of disk.new ≡ D.size_of disk.old) }
-    ensures err { IfErr result (IsReadFault (λ at. IsQuietAt (D.told disk.old) size → IsWritten (D.told disk.old).seen → NotOurs (D.told disk.old).seen at)) }
+    ensures err { IfErr result (IsReadFault (BreaksStore (D.told disk.old) size)) }
     ensures cause { IsCause (D.faults disk.old) (D.faults disk.new) result }
 {
     let Some(start) = read_start(alloc, disk, size)? else {
