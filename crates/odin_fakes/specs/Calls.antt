@@ -13,6 +13,10 @@ pub data Call : Type 0 where
 abbrev pub written : List ℕ → ℕ → List ℕ → List ℕ
 written image at bytes = take at image ++ bytes ++ drop (at + length bytes) image
 
+-- the image is that with these bytes at this offset, if that lies within it
+abbrev pub IsWrittenIn : List ℕ → ℕ → List ℕ → List ℕ → Type 0
+IsWrittenIn old at bytes new = at ≤ length old → new ≡ written old at bytes
+
 -- what a call makes of an image
 abbrev pub changed : Call → List ℕ → List ℕ
 changed (Wrote at bytes) image = written image at bytes

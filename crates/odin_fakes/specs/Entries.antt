@@ -3,7 +3,8 @@
 use Rattle.std.specs.Prelude.{◌≡◌, ◌⊎◌, ℕ, ◌+◌, List, [], ◌∷◌, ◌++◌, ⊤, take, drop}
 use Rattle.odin_fakes.specs.declared.disk.Entry.{Entry}
 use Rattle.odin_fakes.specs.declared.disk.Entry.TheVariants as entry
-use Rattle.odin_fakes.specs.Calls.{Call, Wrote, WasCut, Synced, Looked}
+use Rattle.odin_outside.specs.Disk.{IsCrashImage}
+use Rattle.odin_fakes.specs.Calls.{Call, Wrote, WasCut, Synced, Looked, changed, image_after, pending_after, calls_until, FitsIn, LeftWithin}
 
 -- how many bytes a kept call has in the list
 abbrev pub count_of : Entry → ℕ
@@ -54,3 +55,24 @@ IsPending entry.Look = ⊤
 -- these calls but for a sync at their end, which may have done nothing yet
 abbrev pub IsUnfinished : List Entry → List Entry → Type 0
 IsUnfinished entries before = (before ≡ entries) ⊎ (entries ≡ before ++ entry.Sync ∷ [])
+
+-- what a read gives after these calls, what a crash after them may leave, and what a stop within the last of them may leave
+abbrev pub IsImageOf : List ℕ → List Entry → List ℕ → List ℕ → Type 0
+IsImageOf first entries written image = image ≡ image_after first (calls_of entries written)
+
+abbrev pub IsCrashOf : List ℕ → List Entry → List ℕ → List ℕ → Type 0
+IsCrashOf first entries written image = IsCrashImage (pending_after first (calls_of entries written)) image
+
+abbrev pub IsStopOf : List ℕ → List Entry → List ℕ → List ℕ → Type 0
+IsStopOf first entries written image = LeftWithin first (calls_of entries written) image
+
+-- likewise of the first calls up to a number
+abbrev pub IsImageAt : ℕ → List ℕ → List Entry → List ℕ → List ℕ → Type 0
+IsImageAt moment first entries written image = image ≡ image_after first (calls_until moment (calls_of entries written))
+
+abbrev pub IsStopAt : ℕ → List ℕ → List Entry → List ℕ → List ℕ → Type 0
+IsStopAt moment first entries written image = LeftWithin first (calls_until moment (calls_of entries written)) image
+
+-- what the whole call makes of an image that it fits into
+abbrev pub IsDone : Entry → List ℕ → List ℕ → List ℕ → Type 0
+IsDone kept bytes old new = FitsIn (call_of kept bytes) old → new ≡ changed (call_of kept bytes) old

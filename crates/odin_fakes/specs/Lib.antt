@@ -7,5 +7,6 @@ pub mod File
 pub mod Input
 pub mod Output
 pub mod Plan
+pub mod Room
 pub mod Tools
 pub mod Trees

@@ -1,12 +1,13 @@
 -- Tools in memory: what jobs leave, and in which order they end.
-use Rattle.std.specs.Prelude.{◌≡◌, ℕ, ◌%◌, List, [], ◌∷◌, ◌++◌, Some, length, drop, remove, slice_get, if◌then◌else◌}
+use Rattle.std.specs.Prelude.{◌≡◌, ℕ, Result, Err, ◌%◌, List, [], ◌∷◌, ◌++◌, Some, length, drop, remove, slice_get, if◌then◌else◌}
 use Rattle.object_values.specs.declared.jobs.Job.{Job}
 use Rattle.object_values.specs.declared.jobs.Raw.{Raw}
 use Rattle.object_values.specs.contracts.jobs.JobPartialEq.TheImpl.{ghosts as job_eq}
 use Rattle.odin_outside.specs.declared.events.Running.{Running}
 use Rattle.odin_outside.specs.declared.events.ToolEvent.{ToolEvent}
 use Rattle.odin_outside.specs.declared.events.ToolEvent.TheVariants.{Ended, Lost}
-use Rattle.odin_outside.specs.Spawned.{Spawned, begun}
+use Rattle.odin_outside.specs.Spawned.{Spawned, begun, Fails, Ends, Loses}
+use Rattle.odin_outside.specs.declared.spawner.FinishFault.{FinishFault}
 use Rattle.toy_tools.specs.Toys.{toy_raw}
 use Rattle.odin_fakes.specs.declared.plan.Failing.{Failing}
 use Rattle.odin_fakes.specs.Plan.{FailsNext, called, failed}
@@ -76,6 +77,20 @@ pub record LosesNext (old : Tools) (slot : ℕ) (new : Tools) : Type 0 where
 -- what is told of tools whose starts and ends fail by plan
 abbrev pub told_failing : Failing Tools → Spawned
 told_failing tools = told_with tools.plan.faults tools.inner
+
+-- a start of theirs fails, an end of theirs is given or lost, as it is told
+abbrev pub FailsAsTold : Failing Tools → Failing Tools → Type 0
+FailsAsTold old new = Fails (told_failing old) (told_failing new)
+
+abbrev pub EndsAsTold : Failing Tools → Failing Tools → ℕ × Raw → Type 0
+EndsAsTold old new end = Ends (told_failing old) end.0 end.1 (told_failing new)
+
+abbrev pub LosesAsTold : Failing Tools → Failing Tools → ℕ → Type 0
+LosesAsTold old new slot = Loses (told_failing old) slot (told_failing new)
+
+-- P of the slot whose end was lost
+abbrev pub OnLost : Result (ℕ × Raw) FinishFault → (ℕ → Type 0) → Type 0
+OnLost result P = (slot : ℕ) → result ≡ Err (FinishFault.Failed slot) → P slot
 
 -- such tools after the start of a job in a slot
 abbrev pub started_unplanned : Failing Tools → ℕ → Job → Failing Tools

@@ -4,6 +4,8 @@ use Rattle.std.specs.Coded.{Coded, code_by, coded×, coded_ℕ, coded_list}
 use Rattle.std.specs.FinMap.{code}
 use Rattle.odin_outside.specs.Causes.{once_more}
 use Rattle.odin_outside.specs.Files.{Files}
+use Rattle.odin_fakes.specs.declared.plan.Failing.{Failing}
+use Rattle.odin_fakes.specs.Plan.{called, failed}
 
 pub record FileTree : Type 0 where
   pub files : Files
@@ -21,3 +23,11 @@ tree_code =
     (λ tree. (tree.files, tree.reads))
     (λ parts. record { files = parts.0; reads = parts.1 })
     (λ _. refl)
+
+-- files whose reads fail by plan, after a read that did not fail
+abbrev pub asked_unplanned : Failing FileTree → Failing FileTree
+asked_unplanned tree = record { inner = asked tree.inner; plan = called tree.plan }
+
+-- after one that failed by plan
+abbrev pub stopped_read : Failing FileTree → Failing FileTree
+stopped_read tree = record tree { plan = failed tree.plan }

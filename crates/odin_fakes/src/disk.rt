@@ -1,7 +1,8 @@
 // A file that is kept in memory, with each call.
-ghost use Rattle.std.specs.Prelude.{◌≡◌, ◌↔◌, ◌⊎◌, ◌<◌, ◌+◌, ◌^◌, ◌≤◌, [], length, take, drop, IfOk, IsOk, IsErr, OnOk, OnErr, vec_capacity};
+ghost use Rattle.std.specs.Prelude.{◌≡◌, ◌↔◌, ◌⊎◌, ◌<◌, ◌+◌, ◌^◌, ◌≤◌, [], length, IfOk, IsOk, IsErr, OnOk, OnErr, vec_capacity};
 ghost use Rattle.odin_outside.specs.Causes.{HasCause};
 ghost use Rattle.odin_fakes.specs.Calls.{written};
+ghost use Rattle.odin_fakes.specs.Room.{HasRoomFor};
 
 use crate::choice::Choice;
 use crate::replay::stopped;
@@ -74,7 +75,7 @@ pub type CrashDisk = MemDisk;
 pub fn overwrite(image: &mut Vec<u8>, start: usize, bytes: &[u8]) -> Result<(), AllocError>
     requires { start ≤ length image.old.items }
     ensures ok { OnOk result (image.new.items ≡ written image.old.items start bytes.now) }
-    ensures room { length image.old.items + length bytes.now ≤ vec_capacity image.old → IsOk result }
+    ensures room { HasRoomFor bytes.now image.old → IsOk result }
     ensures capacity { vec_capacity image.old ≤ vec_capacity image.new }
 {
     let over = bytes.len().min(image.len() - start);
@@ -83,8 +84,7 @@ pub fn overwrite(image: &mut Vec<u8>, start: usize, bytes: &[u8]) -> Result<(), 
 }
 
 impl MemDisk {
-    ghost use Rattle.odin_fakes.specs.File.{new_file, image_of, after_call, refused};
-    ghost use Rattle.odin_fakes.specs.Calls.{image_after, calls_until, LeftWithin};
+    ghost use Rattle.odin_fakes.specs.File.{new_file, image_of, after_call, refused, IsLeftAt, IsSeenAt};
     ghost use Rattle.odin_fakes.specs.Entries.{IsPlain, call_of};
 
     /// A file with these bytes, and room for so many bytes to be written in all and for so many calls.
@@ -127,8 +127,8 @@ impl MemDisk {
     /// and all after it by chance. So 0 picks what a read gives after the call.
     pub fn crash(&self, alloc: Global, moment: u32, choice: u64) -> Result<Bytes, Memory>
         requires { moment ≤ length self.now.calls }
-        ensures left { IfOk result (LeftWithin self.now.first (calls_until moment self.now.calls)) }
-        ensures whole { choice ≡ 0 → IfOk result (λ image. image ≡ image_after self.now.first (calls_until moment self.now.calls)) }
+        ensures left { IfOk result (IsLeftAt moment self.now) }
+        ensures whole { choice ≡ 0 → IfOk result (IsSeenAt moment self.now) }
     {
         let image = stopped(
             alloc,
@@ -171,8 +171,8 @@ impl MemDisk {
 
 impl Disk for MemDisk {
     ghost use Rattle.std.specs.Prelude.{◌≡◌, refl, length};
-    ghost use Rattle.odin_fakes.specs.File.{image_of, after_call, refused, HasNoRoom, told_of};
-    ghost use Rattle.odin_fakes.specs.Calls.{Wrote, WasCut, Synced, Looked};
+    ghost use Rattle.odin_fakes.specs.File.{image_of, after_call, after_write, bytes_at, refused, HasNoRoomFor, told_of};
+    ghost use Rattle.odin_fakes.specs.Calls.{WasCut, Synced, Looked};
     ghost use Rattle.odin_fakes.specs.DiskLaws.{image_is_left, left_now, left_only};
 
     ghost told = { told_of };
@@ -203,7 +203,7 @@ impl Disk for MemDisk {
     fn read(&mut self, at: u64, into: &mut [u8]) -> Result<(), Failed>
         requires { at + length into.old ≤ length (image_of self.old) }
         ensures fails { IsErr result ↔ (self.old.room ≡ 0) }
-        ensures bytes { OnOk result (into.new ≡ take (length into.old) (drop at (image_of self.old))) }
+        ensures bytes { OnOk result (into.new ≡ bytes_at at (length into.old) self.old) }
         ensures ok { OnOk result (self.new ≡ after_call Looked 0 self.old) }
         ensures err { OnErr result (self.new ≡ refused self.old) }
         ensures cause { HasCause self.old.faults self.new.faults result }
@@ -218,8 +218,8 @@ impl Disk for MemDisk {
     fn write_at(&mut self, at: u64, bytes: &[u8]) -> Result<(), Failed>
         requires inside { at ≤ length (image_of self.old) }
         requires end { at + length bytes.now ≤ 2 ^ 30 }
-        ensures fails { IsErr result ↔ HasNoRoom (length bytes.now) self.old }
-        ensures ok { OnOk result (self.new ≡ after_call (Wrote at bytes.now) (length bytes.now) self.old) }
+        ensures fails { IsErr result ↔ HasNoRoomFor bytes.now self.old }
+        ensures ok { OnOk result (self.new ≡ after_write at bytes.now self.old) }
         ensures err { OnErr result (self.new ≡ refused self.old) }
         ensures cause { HasCause self.old.faults self.new.faults result }
     {

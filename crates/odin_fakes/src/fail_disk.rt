@@ -1,5 +1,5 @@
 // A file in memory that fails by plan.
-ghost use Rattle.std.specs.Prelude.{◌≡◌, ◌+◌, ◌^◌, ◌≤◌, length, take, drop, IfOk, OnOk, OnErr};
+ghost use Rattle.std.specs.Prelude.{◌≡◌, ◌+◌, ◌^◌, ◌≤◌, length, IfOk, OnOk, OnErr};
 ghost use Rattle.odin_outside.specs.Causes.{HasCause, once_more};
 
 use crate::disk::MemDisk;
@@ -24,8 +24,8 @@ fn counted<T>(plan: &mut FailPlan, done: Result<T, Failed>) -> Result<T, Failed>
 
 impl Disk for Failing<MemDisk> {
     ghost use Rattle.std.specs.Prelude.{◌≡◌, refl, length};
-    ghost use Rattle.odin_fakes.specs.File.{image_of, went, HasNoRoom, Stops, told_of};
-    ghost use Rattle.odin_fakes.specs.Calls.{Wrote, WasCut, Synced, Looked};
+    ghost use Rattle.odin_fakes.specs.File.{bytes_at, image_of, went, went_write, HasNoRoomFor, Stops, told_of};
+    ghost use Rattle.odin_fakes.specs.Calls.{WasCut, Synced, Looked};
     ghost use Rattle.odin_fakes.specs.DiskLaws.{image_is_left, left_now, left_only};
 
     ghost told = { λ d. told_of d.inner };
@@ -54,7 +54,7 @@ impl Disk for Failing<MemDisk> {
 
     fn read(&mut self, at: u64, into: &mut [u8]) -> Result<(), Failed>
         requires { at + length into.old ≤ length (image_of self.old.inner) }
-        ensures bytes { OnOk result (into.new ≡ take (length into.old) (drop at (image_of self.old.inner))) }
+        ensures bytes { OnOk result (into.new ≡ bytes_at at (length into.old) self.old.inner) }
         ensures ok { OnOk result (self.new ≡ went Looked 0 self.old) }
         ensures stops { Stops (self.old.inner.room ≡ 0) self.old self.new result }
         ensures cause { HasCause self.old.plan.faults self.new.plan.faults result }
@@ -66,8 +66,8 @@ impl Disk for Failing<MemDisk> {
     fn write_at(&mut self, at: u64, bytes: &[u8]) -> Result<(), Failed>
         requires inside { at ≤ length (image_of self.old.inner) }
         requires end { at + length bytes.now ≤ 2 ^ 30 }
-        ensures ok { OnOk result (self.new ≡ went (Wrote at bytes.now) (length bytes.now) self.old) }
-        ensures stops { Stops (HasNoRoom (length bytes.now) self.old.inner) self.old self.new result }
+        ensures ok { OnOk result (self.new ≡ went_write at bytes.now self.old) }
+        ensures stops { Stops (HasNoRoomFor bytes.now self.old.inner) self.old self.new result }
         ensures cause { HasCause self.old.plan.faults self.new.plan.faults result }
     {
         self.plan.call()?;

@@ -1,8 +1,8 @@
 // Input that fails by plan.
 ghost use Rattle.std.specs.Prelude.{◌≡◌, ◌↔◌, ◌<◌, [], length, take, Some, IfOk, IsErr, OnErr};
 ghost use Rattle.odin_outside.specs.Causes.{HasCause};
-ghost use Rattle.odin_fakes.specs.Input.{given, given_count};
-ghost use Rattle.odin_fakes.specs.Plan.{FailsNext, called, failed};
+ghost use Rattle.odin_fakes.specs.Input.{given_count, given_unplanned, stopped_read};
+ghost use Rattle.odin_fakes.specs.Plan.{FailsNext};
 
 use crate::plan::Failing;
 use crate::source::MemSource;
@@ -22,8 +22,8 @@ impl Source for Failing<MemSource> {
         ensures count { IfOk result (λ n. n ≡ given_count self.old.inner (length into.old)) }
         ensures bytes { IfOk result (λ n. take n into.new ≡ take n self.old.inner.left) }
         ensures end { IfOk result (λ n. n ≡ 0 → self.old.inner.left ≡ []) }
-        ensures ok { IfOk result (λ n. self.new ≡ record { inner = given n self.old.inner; plan = called self.old.plan }) }
-        ensures err { OnErr result (self.new ≡ record self.old { plan = failed self.old.plan }) }
+        ensures ok { IfOk result (λ n. self.new ≡ given_unplanned n self.old) }
+        ensures err { OnErr result (self.new ≡ stopped_read self.old) }
         ensures cause { HasCause self.old.plan.faults self.new.plan.faults result }
     {
         self.plan.call()?;

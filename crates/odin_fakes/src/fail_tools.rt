@@ -1,6 +1,6 @@
 // Tools in memory whose starts and ends fail by plan.
-ghost use Rattle.std.specs.Prelude.{◌≡◌, ◌↔◌, ◌<◌, ℕ, length, IfOk, IsErr};
-ghost use Rattle.odin_outside.specs.Spawned.{IsLeastFree, Fails, Ends, Loses};
+ghost use Rattle.std.specs.Prelude.{◌≡◌, ◌↔◌, ◌<◌, length, IfOk, IsErr};
+ghost use Rattle.odin_outside.specs.Spawned.{IsLeastFree};
 ghost use Rattle.odin_fakes.specs.Plan.{FailsNext};
 
 use crate::plan::Failing;
@@ -12,7 +12,7 @@ use std::alloc::Global;
 pub type FailTools = Failing<TableTools>;
 
 impl Spawner for Failing<TableTools> {
-    ghost use Rattle.odin_fakes.specs.Tools.{told_failing, started_unplanned, stopped, wanted, EndsUnplanned, LosesByPlan};
+    ghost use Rattle.odin_fakes.specs.Tools.{told_failing, started_unplanned, stopped, wanted, OnLost, FailsAsTold, EndsAsTold, LosesAsTold, EndsUnplanned, LosesByPlan};
 
     ghost told = { told_failing };
 
@@ -21,7 +21,7 @@ impl Spawner for Failing<TableTools> {
         ensures slot { IfOk result (IsLeastFree self.old.inner.running) }
         ensures ok { IfOk result (λ slot. self.new ≡ started_unplanned self.old slot job.now) }
         ensures by_plan { FailsNext self.old.plan → self.new ≡ stopped self.old }
-        ensures told { result ≡ Err StartFault.Failed → Fails (told_failing self.old) (told_failing self.new) }
+        ensures told { result ≡ Err StartFault.Failed → FailsAsTold self.old self.new }
         ensures memory { result ≡ Err StartFault.Memory → self.new ≡ wanted self.old }
     {
         if self.plan.call().is_err() {
@@ -34,9 +34,9 @@ impl Spawner for Failing<TableTools> {
         requires { 0 < length self.old.inner.running }
         ensures only { FailsNext self.old.plan → IsErr result }
         ensures ok { IfOk result (λ end. EndsUnplanned self.old end.0 end.1 self.new) }
-        ensures told { IfOk result (λ end. Ends (told_failing self.old) end.0 end.1 (told_failing self.new)) }
-        ensures lost { (slot : ℕ) → result ≡ Err (FinishFault.Failed slot) → LosesByPlan self.old slot self.new }
-        ensures told_lost { (slot : ℕ) → result ≡ Err (FinishFault.Failed slot) → Loses (told_failing self.old) slot (told_failing self.new) }
+        ensures told { IfOk result (EndsAsTold self.old self.new) }
+        ensures lost { OnLost result (λ slot. LosesByPlan self.old slot self.new) }
+        ensures told_lost { OnLost result (LosesAsTold self.old self.new) }
         ensures memory { result ≡ Err FinishFault.Memory → self.new ≡ wanted self.old }
     {
         if self.plan.fails_next() {

@@ -2,8 +2,9 @@
 ghost use Rattle.std.specs.Prelude.{◌≡◌, ◌↔◌, Some, IfOk};
 ghost use Rattle.odin_outside.specs.Causes.{HasCauseBut, once_more};
 ghost use Rattle.odin_outside.specs.Files.{given_of};
-ghost use Rattle.odin_fakes.specs.Plan.{FailsNext, called, failed};
-ghost use Rattle.odin_fakes.specs.Trees.{asked};
+ghost use Rattle.odin_fakes.specs.Plan.{FailsNext};
+ghost use Rattle.odin_fakes.specs.Trees.{asked_unplanned, stopped_read};
+ghost use Rattle.odin_outside.specs.declared.tree.TreeFault.TheVariants.{Memory};
 
 use crate::plan::Failing;
 use crate::tree::MemTree;
@@ -24,11 +25,11 @@ impl Tree for Failing<MemTree> {
     fn read(&mut self, alloc: Global, name: &[u8]) -> Result<Option<Bytes>, TreeFault>
         ensures fails { (result ≡ Err TreeFault.Failed) ↔ FailsNext self.old.plan }
         ensures ok { IfOk result (λ answer. answer ≡ given_of self.old.inner.files name.now) }
-        ensures by_plan { FailsNext self.old.plan → self.new ≡ record self.old { plan = failed self.old.plan } }
-        ensures other { ¬ FailsNext self.old.plan → self.new ≡ record { inner = asked self.old.inner; plan = called self.old.plan } }
+        ensures by_plan { FailsNext self.old.plan → self.new ≡ stopped_read self.old }
+        ensures other { ¬ FailsNext self.old.plan → self.new ≡ asked_unplanned self.old }
         ensures kept { self.new.inner.files ≡ self.old.inner.files }
         ensures counted { self.new.plan.calls ≡ once_more self.old.plan.calls }
-        ensures cause { HasCauseBut TreeFault.Memory self.old.plan.faults self.new.plan.faults result }
+        ensures cause { HasCauseBut Memory self.old.plan.faults self.new.plan.faults result }
     {
         if self.plan.call().is_err() {
             return Err(TreeFault::Failed);
