@@ -1,6 +1,6 @@
 -- The front of a store file: its marks, and the start of its records that is in use.
-use Rattle.std.specs.Prelude.{◌≡◌, ℕ, ◌%◌, ◌≤◌, ◌<◌, ◌==◌, List, length, replicate, codes, if◌then◌else◌, slice_index, slice_range}
-use Rattle.byteorder.specs.Endian.{big_number}
+use Rattle.std.specs.Prelude.{◌≡◌, ℕ, ◌%◌, ◌≤◌, ◌<◌, ◌==◌, List, [], ◌∷◌, ◌++◌, length, drop, replicate, codes, if◌then◌else◌, slice_index, slice_range}
+use Rattle.byteorder.specs.Endian.{big_number, big_bytes}
 
 -- the longest store file
 abbrev pub file_limit : ℕ
@@ -21,3 +21,12 @@ pub record HasFront (image : List ℕ) : Type 0 where
   pub more_zeros : slice_range image 32 64 ≡ replicate 32 0
   pub starts_behind : front_size ≤ start_of image
   pub starts_within : start_of image < length image
+
+-- The front of a new store and its first gate: the name, the first start in use and where it is, no second start, zeros, and a closed
+-- gate.
+abbrev pub new_front : List ℕ
+new_front = codes "ODINSTO1" ++ replicate 8 0 ++ big_bytes 8 front_size ++ replicate 40 0 ++ 0 ∷ []
+
+-- what a file that counts as new is made
+abbrev pub new_store : List ℕ → List ℕ
+new_store image = new_front ++ drop 65 image

@@ -29,7 +29,7 @@ one_list image gate end last (payload ∷ records) (second ∷ other) whole also
     (ap (λ p. p ∷ other) (sym same) ∙ ap (λ l. payload ∷ l) rest.0, rest.1)
 
 -- no file that counts as new is written
-new_or_written : (image : List ℕ) → IsNew image → IsWritten image → ⊥
+pub new_or_written : (image : List ℕ) → IsNew image → IsWritten image → ⊥
 new_or_written image new written = by_blank new.blank
   where
     by_blank : (length image ≤ 1) ⊎ (slice_index image 0 ≡ 0) → ⊥

@@ -1,5 +1,5 @@
 -- What the bytes of a store file stand for: its whole records and where they end, or that it isn't ours.
-use Rattle.std.specs.Prelude.{◌≡◌, ◌≢◌, ◌⊎◌, ℕ, ◌+◌, ◌^◌, ◌≤◌, ◌<◌, List, [], ◌∷◌, length, slice_index}
+use Rattle.std.specs.Prelude.{◌≡◌, ◌≢◌, ◌⊎◌, ℕ, ◌+◌, ◌^◌, ◌≤◌, ◌<◌, List, [], ◌∷◌, ◌++◌, length, take, drop, slice_index}
 use Rattle.odin_bytes.specs.Fields.{bytes_field, IsFieldAt}
 use Rattle.meaning_store.specs.Front.{file_limit, start_of, HasFront}
 
@@ -27,6 +27,10 @@ pub record IsClosed (image : List ℕ) (gate : ℕ) : Type 0 where
 -- the place of the gate behind a record of this payload
 abbrev pub behind : ℕ → List ℕ → ℕ
 behind gate payload = gate + 5 + length payload
+
+-- the image once a record stands at the closed gate of this place: an open gate, a length, the payload and a closed gate
+abbrev pub with_record : ℕ → List ℕ → List ℕ → List ℕ
+with_record gate payload image = take gate image ++ 1 ∷ (bytes_field payload ++ 0 ∷ drop (gate + 6 + length payload) image)
 
 -- behind an open gate stand a length and the payload, and then there is a next gate
 pub record IsRecord (image : List ℕ) (gate : ℕ) (payload : List ℕ) : Type 0 where

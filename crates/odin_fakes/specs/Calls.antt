@@ -1,6 +1,6 @@
 -- The calls of a file in memory, and what they make of it.
-use Rattle.std.specs.Prelude.{◌⊎◌, ℕ, ◌+◌, ◌-◌, ◌≤◌, ⊤, min, List, [], ◌∷◌, ◌++◌, length, take, drop}
-use Rattle.odin_outside.specs.Disk.{Pending, IsCrashImage, synced_at, wrote, cut_to}
+use Rattle.std.specs.Prelude.{◌≡◌, ◌⊎◌, ℕ, ◌+◌, ◌-◌, ◌≤◌, ⊤, min, List, [], ◌∷◌, ◌++◌, length, take, drop}
+use Rattle.odin_outside.specs.Disk.{Pending, IsCrashImage, Torn, Cut, synced_at, wrote, cut_to}
 
 -- a write of these bytes at this offset, a cut to this size, a sync, or a call that changes nothing
 pub data Call : Type 0 where
@@ -13,13 +13,21 @@ pub data Call : Type 0 where
 abbrev pub written : List ℕ → ℕ → List ℕ → List ℕ
 written image at bytes = take at image ++ bytes ++ drop (at + length bytes) image
 
+-- the image is that with these bytes at this offset, if that lies within it
+abbrev pub IsWrittenIn : List ℕ → ℕ → List ℕ → List ℕ → Type 0
+IsWrittenIn old at bytes new = at ≤ length old → new ≡ written old at bytes
+
+-- what a call makes of an image
+abbrev pub changed : Call → List ℕ → List ℕ
+changed (Wrote at bytes) image = written image at bytes
+changed (WasCut size) image = take size image
+changed Synced image = image
+changed Looked image = image
+
 -- what a read gives after these calls, the newest first, on a file that was this image
 abbrev pub image_after : List ℕ → List Call → List ℕ
 image_after first [] = first
-image_after first (Wrote at bytes ∷ before) = written (image_after first before) at bytes
-image_after first (WasCut size ∷ before) = take size (image_after first before)
-image_after first (Synced ∷ before) = image_after first before
-image_after first (Looked ∷ before) = image_after first before
+image_after first (call ∷ before) = changed call (image_after first before)
 
 -- What is pending after them. A write begins no later than at the end of the file, and a cut leaves no more than there is.
 abbrev pub pending_after : List ℕ → List Call → Pending
@@ -42,13 +50,24 @@ bytes_written (WasCut size ∷ before) = bytes_written before
 bytes_written (Synced ∷ before) = bytes_written before
 bytes_written (Looked ∷ before) = bytes_written before
 
--- each write begins within the file, and each cut leaves no more than there is
+-- a write begins within the image, and a cut leaves no more than there is
+abbrev pub FitsIn : Call → List ℕ → Type 0
+FitsIn (Wrote at bytes) image = at ≤ length image
+FitsIn (WasCut size) image = size ≤ length image
+FitsIn Synced image = ⊤
+FitsIn Looked image = ⊤
+
+-- each call fits into what there was before it
 abbrev pub AreWithin : List ℕ → List Call → Type 0
 AreWithin first [] = ⊤
-AreWithin first (Wrote at bytes ∷ before) = (at ≤ length (image_after first before)) × AreWithin first before
-AreWithin first (WasCut size ∷ before) = (size ≤ length (image_after first before)) × AreWithin first before
-AreWithin first (Synced ∷ before) = AreWithin first before
-AreWithin first (Looked ∷ before) = AreWithin first before
+AreWithin first (call ∷ before) = FitsIn call (image_after first before) × AreWithin first before
+
+-- what a call that is cut short may make of an image
+abbrev pub TornBy : Call → List ℕ → List ℕ → Type 0
+TornBy (Wrote at bytes) old new = Torn at (length bytes) old new
+TornBy (WasCut size) old new = Cut size old new
+TornBy Synced old new = new ≡ old
+TornBy Looked old new = new ≡ old
 
 -- the first calls up to a number
 abbrev pub calls_until : ℕ → List Call → List Call

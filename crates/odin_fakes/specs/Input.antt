@@ -1,6 +1,7 @@
 -- What is known of an input in memory.
 use Rattle.std.specs.Prelude.{ℕ, List, length, drop, min}
-use Rattle.fail_plan.specs.Plan.{Plan}
+use Rattle.odin_fakes.specs.declared.plan.Failing.{Failing}
+use Rattle.odin_fakes.specs.Plan.{called, failed}
 
 -- the bytes that are left, and how many are given at most at once
 pub record Input : Type 0 where
@@ -15,7 +16,10 @@ given count input = record input { left = drop count input.left }
 abbrev pub given_count : Input → ℕ → ℕ
 given_count input room = min (min (length input.left) room) input.piece
 
--- an input whose calls fail by plan
-pub record FailingInput : Type 0 where
-  pub inner : Input
-  pub plan : Plan
+-- after so many bytes were given, of an input whose calls fail by plan
+abbrev pub given_unplanned : ℕ → Failing Input → Failing Input
+given_unplanned count input = record { inner = given count input.inner; plan = called input.plan }
+
+-- after a read that failed by plan
+abbrev pub stopped_read : Failing Input → Failing Input
+stopped_read input = record input { plan = failed input.plan }

@@ -1,8 +1,12 @@
 pub mod Calls
+pub mod Choices
 pub mod DiskLaws
 pub mod Entries
 pub mod Entry
 pub mod File
 pub mod Input
 pub mod Output
+pub mod Plan
+pub mod Room
+pub mod Tools
 pub mod Trees

@@ -1,7 +1,8 @@
 -- What is known of an output in memory.
-use Rattle.std.specs.Prelude.{ℕ, ◌+◌, ◌-◌, List, ◌++◌, length, min}
-use Rattle.odin_outside.specs.Causes.{last_count}
-use Rattle.fail_plan.specs.Plan.{Plan}
+use Rattle.std.specs.Prelude.{◌≡◌, ◌↔◌, ◌⊎◌, ℕ, ◌-◌, List, ◌++◌, length, min, Result, IsErr, OnErr}
+use Rattle.odin_outside.specs.Causes.{once_more}
+use Rattle.odin_fakes.specs.declared.plan.Failing.{Failing}
+use Rattle.odin_fakes.specs.Plan.{FailsNext, called, failed}
 
 -- the bytes that were taken, how many are taken at most at once, for how many there is still room, and how many writes have failed
 pub record Output : Type 0 where
@@ -20,9 +21,16 @@ taken_count output offered = min (min offered output.piece) output.room
 
 -- after a write that failed
 abbrev pub refused : Output → Output
-refused output = record output { faults = min (output.faults + 1) last_count }
+refused output = record output { faults = once_more output.faults }
 
--- an output whose calls fail by plan
-pub record FailingOutput : Type 0 where
-  pub inner : Output
-  pub plan : Plan
+-- after these bytes were taken, of an output whose calls fail by plan
+abbrev pub took_unplanned : List ℕ → Failing Output → Failing Output
+took_unplanned bytes output = record { inner = took bytes output.inner; plan = called output.plan }
+
+-- What a write comes to that failed: by plan, which leaves the wrapped output as it was, or, where the plan lets it pass, for want of
+-- room.
+pub record StopsWrite {T E : Type 0} (old new : Failing Output) (result : Result T E) : Type 0 where
+  pub fails : IsErr result ↔ (FailsNext old.plan ⊎ (old.inner.room ≡ 0))
+  pub by_plan : FailsNext old.plan → new ≡ record old { plan = failed old.plan }
+  pub no_room : ¬ (FailsNext old.plan) → old.inner.room ≡ 0 → new ≡ record { inner = refused old.inner; plan = failed old.plan }
+  pub same : OnErr result (new.inner.taken ≡ old.inner.taken)

@@ -1,8 +1,10 @@
 // A file that is kept in memory, with each call.
-ghost use Rattle.std.specs.Prelude.{◌≡◌, ◌↔◌, ◌⊎◌, ◌<◌, ◌+◌, ◌^◌, ◌≤◌, length, take, drop, IfOk, IsOk, IsErr, OnOk, OnErr, vec_capacity};
+ghost use Rattle.std.specs.Prelude.{◌≡◌, ◌↔◌, ◌⊎◌, ◌<◌, ◌+◌, ◌^◌, ◌≤◌, [], length, IfOk, IsOk, IsErr, OnOk, OnErr, vec_capacity};
 ghost use Rattle.odin_outside.specs.Causes.{HasCause};
 ghost use Rattle.odin_fakes.specs.Calls.{written};
+ghost use Rattle.odin_fakes.specs.Room.{HasRoomFor};
 
+use crate::choice::Choice;
 use crate::replay::stopped;
 use object_values::{Bytes, Memory};
 use odin_outside::{Disk, Failed};
@@ -10,7 +12,7 @@ use std::alloc::{AllocError, Global};
 use std::marker::Model;
 
 /// A call: a write at an offset of so many bytes, a cut to a size, a sync, or one that changes nothing.
-#[derive(Clone, Copy, Debug, PartialEq, Eq, Hash)]
+#[derive(Clone, Copy)]
 pub enum Entry {
     Write(u64, usize),
     Cut(u64),
@@ -20,7 +22,6 @@ pub enum Entry {
 
 /// A file that is kept in memory, with each call. It has room for so many written bytes and so many calls, and a call fails exactly
 /// where it passes that room.
-#[derive(Drop)]
 pub struct MemDisk {
     first: Bytes,
     image: Vec<u8>,
@@ -32,27 +33,49 @@ pub struct MemDisk {
 }
 
 impl Model for MemDisk {
-    ghost use Rattle.std.specs.Prelude.{◌≡◌, ◌≤◌, ◌+◌, length, reverse, vec_capacity};
+    ghost use Rattle.std.specs.Prelude.{◌≡◌, ◌≤◌, ◌+◌, length, vec_capacity};
     ghost use Rattle.odin_fakes.specs.File.{File};
     ghost use Rattle.odin_fakes.specs.Calls.{image_after, AreWithin};
-    ghost use Rattle.odin_fakes.specs.Entries.{calls_of};
+    ghost use Rattle.odin_fakes.specs.Entries.{calls_of, bytes_of};
 
     ghost Value = { File };
 
-    ghost view = { λ d. record { first = d.first; calls = calls_of (reverse d.entries.items) d.written.items; bytes = d.bytes; room = d.room; faults = d.faults } };
+    ghost view = { λ d. record { first = d.first; calls = calls_of d.entries.items d.written.items; bytes = d.bytes; room = d.room; faults = d.faults } };
 
-    ghost invariant = { λ d. (d.image.items ≡ image_after d.first (calls_of (reverse d.entries.items) d.written.items))
+    ghost invariant = { λ d. (d.image.items ≡ image_after d.first (calls_of d.entries.items d.written.items))
         × (length d.image.items + d.bytes ≤ vec_capacity d.image)
         × (length d.written.items + d.bytes ≤ vec_capacity d.written)
         × (length d.entries.items + d.room ≤ vec_capacity d.entries)
-        × AreWithin d.first (calls_of (reverse d.entries.items) d.written.items) };
+        × (length d.written.items ≡ bytes_of d.entries.items)
+        × AreWithin d.first (calls_of d.entries.items d.written.items) };
 }
+
+impl Drop for MemDisk {
+    fn drop(self) {
+        let MemDisk {
+            first,
+            image,
+            entries,
+            written,
+            bytes: _,
+            room: _,
+            faults: _,
+        } = self;
+        drop(first);
+        drop(image);
+        drop(entries);
+        drop(written);
+    }
+}
+
+/// A file in memory, as `MemDisk`, that also gives what crashes may leave.
+pub type CrashDisk = MemDisk;
 
 /// Writes bytes over an image and behind it. It takes no memory where the image has room for them.
 pub fn overwrite(image: &mut Vec<u8>, start: usize, bytes: &[u8]) -> Result<(), AllocError>
     requires { start ≤ length image.old.items }
     ensures ok { OnOk result (image.new.items ≡ written image.old.items start bytes.now) }
-    ensures room { length image.old.items + length bytes.now ≤ vec_capacity image.old → IsOk result }
+    ensures room { HasRoomFor bytes.now image.old → IsOk result }
     ensures capacity { vec_capacity image.old ≤ vec_capacity image.new }
 {
     let over = bytes.len().min(image.len() - start);
@@ -61,9 +84,8 @@ pub fn overwrite(image: &mut Vec<u8>, start: usize, bytes: &[u8]) -> Result<(), 
 }
 
 impl MemDisk {
-    ghost use Rattle.odin_fakes.specs.File.{new_file, image_of, after_call, refused};
-    ghost use Rattle.odin_fakes.specs.Calls.{image_after, calls_until, LeftWithin};
-    ghost use Rattle.odin_fakes.specs.Entries.{IsPlain, plain_call};
+    ghost use Rattle.odin_fakes.specs.File.{new_file, image_of, after_call, refused, IsLeftAt, IsSeenAt};
+    ghost use Rattle.odin_fakes.specs.Entries.{IsPlain, call_of};
 
     /// A file with these bytes, and room for so many bytes to be written in all and for so many calls.
     pub fn new(alloc: Global, image: Bytes, bytes: usize, calls: usize) -> Result<Self, Memory>
@@ -94,25 +116,27 @@ impl MemDisk {
     }
 
     /// How many calls there were.
-    pub(crate) fn calls(&self) -> usize
+    pub fn calls(&self) -> usize
         ensures { result ≡ length self.now.calls }
     {
         self.entries.len()
     }
 
-    /// What a stop within a call may leave, by its number. `choice` picks it; 0 picks what a read gives after the call.
-    pub(crate) fn stopped(&self, alloc: Global, moment: usize, choice: u64) -> Result<Bytes, Memory>
+    /// What a stop within a call may leave, by its number; 0 is the time before the first. The digits of the choice in base 8, from
+    /// the last one on, say of one write or cut after the other how it is torn, from the oldest since the last sync on: 0 not at all, 7
+    /// and all after it by chance. So 0 picks what a read gives after the call.
+    pub fn crash(&self, alloc: Global, moment: u32, choice: u64) -> Result<Bytes, Memory>
         requires { moment ≤ length self.now.calls }
-        ensures left { IfOk result (LeftWithin self.now.first (calls_until moment self.now.calls)) }
-        ensures whole { choice ≡ 0 → IfOk result (λ image. image ≡ image_after self.now.first (calls_until moment self.now.calls)) }
+        ensures left { IfOk result (IsLeftAt moment self.now) }
+        ensures whole { choice ≡ 0 → IfOk result (IsSeenAt moment self.now) }
     {
         let image = stopped(
             alloc,
             self.first.as_slice(),
             &self.entries,
             &self.written,
-            moment,
-            choice,
+            moment as usize,
+            Choice::new(choice),
         )?;
         Ok(Bytes::from_vec(image))
     }
@@ -130,7 +154,7 @@ impl MemDisk {
     fn keep(&mut self, entry: Entry) -> Result<(), Failed>
         requires { IsPlain entry }
         ensures fails { IsErr result ↔ (self.old.room ≡ 0) }
-        ensures ok { OnOk result (self.new ≡ after_call (plain_call entry) 0 self.old) }
+        ensures ok { OnOk result (self.new ≡ after_call (call_of entry []) 0 self.old) }
         ensures err { OnErr result (self.new ≡ refused self.old) }
         ensures cause { HasCause self.old.faults self.new.faults result }
     {
@@ -147,8 +171,8 @@ impl MemDisk {
 
 impl Disk for MemDisk {
     ghost use Rattle.std.specs.Prelude.{◌≡◌, refl, length};
-    ghost use Rattle.odin_fakes.specs.File.{image_of, after_call, refused, told_of};
-    ghost use Rattle.odin_fakes.specs.Calls.{Wrote, WasCut, Synced, Looked};
+    ghost use Rattle.odin_fakes.specs.File.{image_of, after_call, after_write, bytes_at, refused, HasNoRoomFor, told_of};
+    ghost use Rattle.odin_fakes.specs.Calls.{WasCut, Synced, Looked};
     ghost use Rattle.odin_fakes.specs.DiskLaws.{image_is_left, left_now, left_only};
 
     ghost told = { told_of };
@@ -179,7 +203,7 @@ impl Disk for MemDisk {
     fn read(&mut self, at: u64, into: &mut [u8]) -> Result<(), Failed>
         requires { at + length into.old ≤ length (image_of self.old) }
         ensures fails { IsErr result ↔ (self.old.room ≡ 0) }
-        ensures bytes { OnOk result (into.new ≡ take (length into.old) (drop at (image_of self.old))) }
+        ensures bytes { OnOk result (into.new ≡ bytes_at at (length into.old) self.old) }
         ensures ok { OnOk result (self.new ≡ after_call Looked 0 self.old) }
         ensures err { OnErr result (self.new ≡ refused self.old) }
         ensures cause { HasCause self.old.faults self.new.faults result }
@@ -194,8 +218,8 @@ impl Disk for MemDisk {
     fn write_at(&mut self, at: u64, bytes: &[u8]) -> Result<(), Failed>
         requires inside { at ≤ length (image_of self.old) }
         requires end { at + length bytes.now ≤ 2 ^ 30 }
-        ensures fails { IsErr result ↔ ((self.old.room ≡ 0) ⊎ (self.old.bytes < length bytes.now)) }
-        ensures ok { OnOk result (self.new ≡ after_call (Wrote at bytes.now) (length bytes.now) self.old) }
+        ensures fails { IsErr result ↔ HasNoRoomFor bytes.now self.old }
+        ensures ok { OnOk result (self.new ≡ after_write at bytes.now self.old) }
         ensures err { OnErr result (self.new ≡ refused self.old) }
         ensures cause { HasCause self.old.faults self.new.faults result }
     {

@@ -1,54 +1,105 @@
 // Images that a stop in the middle of kept calls may leave.
-ghost use Rattle.std.specs.Prelude.{◌≡◌, ◌≤◌, length, reverse, IfOk};
-ghost use Rattle.odin_outside.specs.Disk.{IsCrashImage};
-ghost use Rattle.odin_fakes.specs.Calls.{image_after, pending_after, calls_until, AreWithin, LeftWithin};
-ghost use Rattle.odin_fakes.specs.Entries.{calls_of, bytes_before as written_before};
+ghost use Rattle.std.specs.Prelude.{◌≡◌, ◌≤◌, All, length, take, drop, IfOk, OnOk};
+ghost use Rattle.odin_fakes.specs.Calls.{AreWithin, TornBy};
+ghost use Rattle.odin_fakes.specs.Choices.{IsWhole};
+ghost use Rattle.odin_fakes.specs.Entries.{IsCrashOf, IsDone, IsImageAt, IsImageOf, IsPending, IsStopAt, IsStopOf, IsUnfinished, call_of, count_of, calls_of};
 
+use crate::choice::Choice;
 use crate::disk::Entry;
 use crate::tear::{tear_cut, tear_write};
 use object_values::Memory;
 use std::alloc::Global;
 
-/// What a crash after these calls may leave. The last digit of the choice in base 8 says how the last write or cut is torn, the
-/// digit before it the one before, and so on; where it is 0, none is.
+// How many bytes a kept call has.
+fn count(entry: Entry) -> usize
+    ensures { result ≡ count_of entry }
+{
+    match entry {
+        Entry::Write(_, count) => count,
+        _ => 0,
+    }
+}
+
+// The bytes of a kept call, and those behind them.
+fn split(entry: Entry, bytes: &[u8]) -> (&[u8], &[u8])
+    ensures here { result.0.now ≡ take (count_of entry) bytes.now }
+    ensures rest { result.1.now ≡ drop (count_of entry) bytes.now }
+{
+    bytes.split_at(count(entry).min(bytes.len()))
+}
+
+// What a call that is cut short may make of the image. These are the bytes of the call, and of the writes before it.
+fn tear(
+    alloc: Global,
+    image: &mut Vec<u8>,
+    entry: Entry,
+    bytes: &[u8],
+    earlier: &[u8],
+    choice: &mut Choice,
+) -> Result<(), Memory>
+    ensures torn { OnOk result (TornBy (call_of entry bytes.now) image.old.items image.new.items) }
+    ensures whole { IsWhole choice.old → OnOk result (IsDone entry bytes.now image.old.items image.new.items) }
+    ensures stays { IsWhole choice.old → IsWhole choice.new }
+{
+    match entry {
+        Entry::Write(start, _) => tear_write(alloc, image, start as usize, bytes, earlier, choice),
+        Entry::Cut(size) => tear_cut(alloc, image, size as usize, earlier, choice),
+        Entry::Sync | Entry::Look => Ok(()),
+    }
+}
+
+// What a crash after these calls may leave. Those before a place are done whole.
 fn torn(
     alloc: Global,
     first: &[u8],
     entries: &[Entry],
     written: &[u8],
-    choice: u64,
+    pending: usize,
+    choice: Choice,
 ) -> Result<Vec<u8>, Memory>
-    requires { AreWithin first.now (calls_of (reverse entries.now) written.now) }
-    ensures left { IfOk result (λ image. IsCrashImage (pending_after first.now (calls_of (reverse entries.now) written.now)) image.items) }
-    ensures whole { choice ≡ 0 → IfOk result (λ image. image.items ≡ image_after first.now (calls_of (reverse entries.now) written.now)) }
+    requires within { AreWithin first.now (calls_of entries.now written.now) }
+    requires unsynced { All IsPending (drop pending entries.now) }
+    ensures left { IfOk result (λ image. IsCrashOf first.now entries.now written.now image.items) }
+    ensures whole { IsWhole choice → IfOk result (λ left. IsImageOf first.now entries.now written.now left.items) }
 {
-    let Some((last, before)) = entries.split_last() else {
-        return Ok(first.to_vec(alloc)?);
-    };
-    match last {
-        Entry::Write(start, count) => {
-            let (earlier, bytes) = written.split_at(written.len().saturating_sub(*count));
-            let mut image = torn(alloc, first, before, earlier, choice / 8)?;
-            tear_write(alloc, &mut image, *start as usize, bytes, choice % 8)?;
-            Ok(image)
+    let mut choice = choice;
+    let mut whole = Choice::new(0);
+    let mut image = first.to_vec(alloc)?;
+    let mut bytes = written;
+    for (place, entry) in entries.iter().enumerate() {
+        let (here, rest) = split(*entry, bytes);
+        let earlier = &written[..written.len().saturating_sub(bytes.len())];
+        if place < pending {
+            tear(alloc, &mut image, *entry, here, earlier, &mut whole)?;
+        } else {
+            tear(alloc, &mut image, *entry, here, earlier, &mut choice)?;
         }
-        Entry::Cut(size) => {
-            let mut image = torn(alloc, first, before, written, choice / 8)?;
-            tear_cut(alloc, &mut image, *size as usize, choice % 8)?;
-            Ok(image)
-        }
-        Entry::Sync => torn(alloc, first, before, written, 0),
-        Entry::Look => torn(alloc, first, before, written, choice),
+        bytes = rest;
     }
+    Ok(image)
 }
 
-// The bytes of the writes before an entry.
-fn bytes_before<'a>(last: &Entry, written: &'a [u8]) -> &'a [u8]
-    ensures { result.now ≡ written_before last.now written.now }
+// The place behind the last sync.
+fn pending_from(entries: &[Entry]) -> usize
+    ensures { All IsPending (drop result entries.now) }
 {
-    match last {
-        Entry::Write(_, count) => &written[..written.len().saturating_sub(*count)],
-        _ => written,
+    let mut place = entries.len();
+    while place > 0 {
+        if matches!(entries[place - 1], Entry::Sync) {
+            break;
+        }
+        place -= 1;
+    }
+    place
+}
+
+// The calls but for a sync at their end.
+fn unfinished(entries: &[Entry]) -> &[Entry]
+    ensures { IsUnfinished entries.now result.now }
+{
+    match entries.split_last() {
+        Some((Entry::Sync, before)) => before,
+        _ => entries,
     }
 }
 
@@ -58,41 +109,29 @@ fn within_last(
     first: &[u8],
     entries: &[Entry],
     written: &[u8],
-    choice: u64,
+    choice: Choice,
 ) -> Result<Vec<u8>, Memory>
-    requires { AreWithin first.now (calls_of (reverse entries.now) written.now) }
-    ensures left { IfOk result (λ image. LeftWithin first.now (calls_of (reverse entries.now) written.now) image.items) }
-    ensures whole { choice ≡ 0 → IfOk result (λ image. image.items ≡ image_after first.now (calls_of (reverse entries.now) written.now)) }
+    requires { AreWithin first.now (calls_of entries.now written.now) }
+    ensures left { IfOk result (λ image. IsStopOf first.now entries.now written.now image.items) }
+    ensures whole { IsWhole choice → IfOk result (λ left. IsImageOf first.now entries.now written.now left.items) }
 {
-    match entries.split_last() {
-        Some((Entry::Sync, before)) => torn(alloc, first, before, written, choice),
-        _ => torn(alloc, first, entries, written, choice),
-    }
+    let before = unfinished(entries);
+    torn(alloc, first, before, written, pending_from(before), choice)
 }
 
-/// What a stop within a call may leave, by its number; where it is 0, no call began. The last digit of the choice in base 8 says how
-/// the last write or cut is torn, the digit before it the one before, and so on; where it is 0, none is.
+/// What a stop within a call may leave, by its number; where it is 0, no call began.
 pub fn stopped(
     alloc: Global,
     first: &[u8],
     entries: &[Entry],
     written: &[u8],
     moment: usize,
-    choice: u64,
+    choice: Choice,
 ) -> Result<Vec<u8>, Memory>
-    requires within { AreWithin first.now (calls_of (reverse entries.now) written.now) }
+    requires within { AreWithin first.now (calls_of entries.now written.now) }
     requires moment { moment ≤ length entries.now }
-    ensures left { IfOk result (λ image. LeftWithin first.now (calls_until moment (calls_of (reverse entries.now) written.now)) image.items) }
-    ensures whole { choice ≡ 0 → IfOk result (λ image. image.items ≡ image_after first.now (calls_until moment (calls_of (reverse entries.now) written.now))) }
+    ensures left { IfOk result (λ left. IsStopAt moment first.now entries.now written.now left.items) }
+    ensures whole { IsWhole choice → IfOk result (λ left. IsImageAt moment first.now entries.now written.now left.items) }
 {
-    let mut kept = entries;
-    let mut bytes = written;
-    while moment < kept.len() {
-        let Some((last, before)) = kept.split_last() else {
-            break;
-        };
-        bytes = bytes_before(last, bytes);
-        kept = before;
-    }
-    within_last(alloc, first, kept, bytes, choice)
+    within_last(alloc, first, &entries[..moment], written, choice)
 }

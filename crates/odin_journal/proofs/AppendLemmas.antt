@@ -1,15 +1,15 @@
 -- What a write behind the end of a store, or at its end, leaves of the store.
-use Rattle.std.proofs.Common.{◌≡◌, ◌≢◌, ◌⊎◌, inl, inr, ℕ, ◌+◌, ◌-◌, ◌<◌, ◌≤◌, ◌^◌, ◌%◌, ◌==◌, min, if◌then◌else◌, List, [], ◌∷◌, ◌++◌, take, drop, length, get_or, slice_index, slice_range, sym, ap, subst, ◌∙◌, arith, append_assoc, length-append, length-drop}
-use Rattle.std.proofs.lemmas.List.{drop-take, get_or-take, get_or-drop, take-take, take_all, length-take-le}
+use Rattle.std.proofs.Common.{◌≡◌, ◌≢◌, ◌⊎◌, inl, inr, ℕ, suc, ◌+◌, ◌-◌, ◌<◌, ◌≤◌, ◌^◌, ◌%◌, ◌==◌, min, if◌then◌else◌, List, [], ◌∷◌, ◌++◌, take, drop, length, get_or, slice_index, slice_range, sym, ap, subst, ◌∙◌, arith, append_assoc, length-append, length-drop}
+use Rattle.std.proofs.lemmas.List.{drop-take, get_or-take, get_or-drop, take-take, take_all, take-append-le, length-take-le}
 use Rattle.std.proofs.Math.Seq.{take-append_seam, drop-append_seam, get_or-append_seam}
 use Rattle.std.proofs.lemmas.Bool.{cases_eq}
 use Rattle.odin_bytes.specs.Fields.{bytes_field}
 use Rattle.byteorder.specs.Endian.{big_number}
 use Rattle.odin_outside.specs.Disk.{Telling, MayLeave, LeavesOnly, Written, Torn}
 use Rattle.odin_journal.specs.Rest.{AtRest, BeforeOrAfter}
-use Rattle.odin_journal.proofs.MomentLemmas.{no_call}
+use Rattle.odin_outside.specs.Moments.{no_call}
 use Rattle.meaning_store.specs.Front.{file_limit, start_of, HasFront}
-use Rattle.meaning_store.specs.Images.{IsWritten, behind, IsRecord, AreRecords, IsStore, Stored}
+use Rattle.meaning_store.specs.Images.{IsWritten, with_record, behind, IsRecord, AreRecords, IsStore, Stored}
 
 -- two images that have the same first bytes
 pub record Agree (n : ℕ) (image c : List ℕ) : Type 0 where
@@ -190,3 +190,32 @@ pub rest_stays : (disk : Telling) (records : List (List ℕ)) (end : ℕ) (paylo
 rest_stays disk records end payload only_now rest =
     let here : (c : List ℕ) → MayLeave disk c → BeforeOrAfter records payload c = λ c left. inl (inr (end, subst (λ image. IsStore image records end) (sym (rest.quiet.only c left)) rest.store)) in
     no_call disk (BeforeOrAfter records payload) (λ c left. here c (only_now c left)) here
+
+-- the bytes that are written behind a gate and those of the gate, as one write
+pub gate_and_behind : (image mid c : List ℕ) (end : ℕ) (bytes : List ℕ) → end < length image → Written image (end + 1) bytes mid → Written mid end (1 ∷ []) c → Written image end (1 ∷ bytes) c
+gate_and_behind image mid c end bytes inside first second =
+    let rest : List ℕ = drop (end + 1 + length bytes) image in
+    let long : length (take (end + 1) image) ≡ end + 1 = length-take-le (end + 1) image (omega arith) in
+    let is : mid ≡ take (end + 1) image ++ (bytes ++ rest) = first ∙ append_assoc (take (end + 1) image) bytes rest in
+    let front : take end mid ≡ take end image =
+    ap (take end) is ∙ take-append-le end (take (end + 1) image) (bytes ++ rest) (omega arith) ∙ take-take end (end + 1) image (omega arith) in
+    let back : drop (end + 1) mid ≡ bytes ++ rest = ap (drop (end + 1)) is ∙ ap (λ n. drop n (take (end + 1) image ++ (bytes ++ rest))) (sym long) ∙ drop-append_seam (take (end + 1) image) (bytes ++ rest) in
+    let place : end + 1 + length bytes ≡ end + suc (length bytes) = omega arith in
+    second
+    ∙ append_assoc (take end mid) (1 ∷ []) (drop (end + 1) mid)
+    ∙ ap (λ l. l ++ 1 ∷ drop (end + 1) mid) front
+    ∙ ap (λ l. take end image ++ 1 ∷ l) back
+    ∙ ap (λ n. take end image ++ 1 ∷ (bytes ++ drop n image)) place
+    ∙ sym (append_assoc (take end image) (1 ∷ bytes) (drop (end + suc (length bytes)) image))
+
+-- and with the bytes of a record
+pub record_written : (image c : List ℕ) (end : ℕ) (payload : List ℕ) → Written image end (1 ∷ (bytes_field payload ++ 0 ∷ [])) c → c ≡ with_record end payload image
+record_written image c end payload written =
+    let field : List ℕ = bytes_field payload in
+    let size : length field ≡ 4 + length payload = omega arith in
+    let count : length (field ++ 0 ∷ []) ≡ length field + 1 = length-append field (0 ∷ []) in
+    let place : end + suc (length (field ++ 0 ∷ [])) ≡ end + 6 + length payload = omega arith in
+    written
+    ∙ append_assoc (take end image) (1 ∷ (field ++ 0 ∷ [])) (drop (end + suc (length (field ++ 0 ∷ []))) image)
+    ∙ ap (λ n. take end image ++ 1 ∷ ((field ++ 0 ∷ []) ++ drop n image)) place
+    ∙ ap (λ l. take end image ++ 1 ∷ l) (append_assoc field (0 ∷ []) (drop (end + 6 + length payload) image))

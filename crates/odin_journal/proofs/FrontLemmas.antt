@@ -1,9 +1,10 @@
 -- What crashes leave while a new store file is made.
 use Rattle.std.proofs.Common.{◌≡◌, ◌≢◌, inl, inr, ℕ, ◌<◌, ◌≤◌, List, [], ◌∷◌, ◌++◌, drop, length, slice_index, refl, sym, ap, subst, ◌∙◌, arith}
 use Rattle.std.proofs.lemmas.Bool.{cases_eq}
-use Rattle.odin_outside.specs.Disk.{Written, Torn}
-use Rattle.meaning_store.specs.Front.{file_limit}
+use Rattle.odin_outside.specs.Disk.{Telling, Written, Torn}
+use Rattle.meaning_store.specs.Front.{file_limit, new_front}
 use Rattle.meaning_store.specs.Images.{IsNew, IsStore, Stored}
+use Rattle.odin_journal.specs.Rest.{Clears, Makes}
 use Rattle.odin_journal.proofs.AppendLemmas.{agree_index, torn_agree, torn_gate_back, torn_gate_size}
 
 -- what is written behind the byte at 0
@@ -24,9 +25,9 @@ torn_front image c some zero_first within torn = record {
   blank = inr (agree_index 1 image c (torn_agree 1 64 image c some torn) 0 (omega arith) ∙ zero_first);
 }
 
-pub front_written : (image c : List ℕ) → 1 ≤ length image → slice_index image 0 ≡ 0 → Written image 1 blank c → (rest : List ℕ) × (c ≡ 0 ∷ (blank ++ rest))
+pub front_written : (image c : List ℕ) → 1 ≤ length image → slice_index image 0 ≡ 0 → Written image 1 blank c → c ≡ 0 ∷ (blank ++ drop 65 image)
 front_written [] c some zero_first written = absurd (omega (arith, some))
-front_written (x ∷ image) c some zero_first written = (drop 64 image, written ∙ ap (λ b. b ∷ (blank ++ drop 64 image)) zero_first)
+front_written (x ∷ image) c some zero_first written = written ∙ ap (λ b. b ∷ (blank ++ drop 64 image)) zero_first
 
 -- a new store without records
 pub fresh_store : (mark : ℕ) (rest : List ℕ) → mark ≢ 0 → length (mark ∷ (blank ++ rest)) ≤ file_limit → IsStore (mark ∷ (blank ++ rest)) [] 64
@@ -64,3 +65,12 @@ marked image c rest is within torn written =
     let short : length c ≤ file_limit = omega arith in
     let some : slice_index c 0 ≢ 0 = subst (λ b. b ≢ 0) (sym (ap (λ l. slice_index l 0) written)) (omega arith) in
     subst (λ l. IsStore l [] 64) (sym c_is) (fresh_store (slice_index c 0) rest some (subst (λ l. length l ≤ file_limit) c_is short))
+
+-- and its bytes
+pub marked_bytes : (image c rest : List ℕ) → image ≡ 0 ∷ (blank ++ rest) → Torn 0 1 image c → Written image 0 (79 ∷ []) c → c ≡ new_front ++ rest
+marked_bytes image c rest is torn written =
+    torn_mark_is image c rest is torn ∙ ap (λ b. b ∷ (blank ++ rest)) (ap (λ l. slice_index l 0) written)
+
+-- a store that was made of a file whose byte at 0 was written first
+pub makes_on : (old mid new : Telling) → Clears old mid → Makes mid new → Makes old new
+makes_on old mid new clears makes = record { rests = makes.rests; bytes = makes.bytes ∙ ap (λ rest. new_front ++ rest) clears.back }

@@ -1,15 +1,17 @@
 -- What is known of a journal's disk after readings of it.
-use Rattle.std.proofs.Common.{◌≡◌, ◌⊎◌, inl, inr, ℕ, ◌≤◌, List, [], length, Result, Ok, Err, IfOk, IfErr, IsErrAnd, IsErrOf, refl, sym, ap, subst, ◌∙◌, arith}
-use Rattle.odin_outside.specs.Disk.{Telling, LeavesOnly}
-use Rattle.meaning_store.specs.Front.{start_of, HasFront}
+use Rattle.std.proofs.Common.{◌≡◌, inl, inr, ℕ, List, [], length, Result, Ok, Err, IfOk, IfErr, IsErrAnd, IsTrue, IsFalse, refl, sym, ap, subst, ◌∙◌}
+use Rattle.odin_outside.specs.Disk.{Telling, LeavesOnly, IsQuiet}
+use Rattle.meaning_store.specs.Front.{start_of, HasFront, new_store}
 use Rattle.meaning_store.specs.Images.{IsNew, IsWritten, IsStore, Stored, IsClosed, AreRecords, NotOurs}
-use Rattle.meaning_store.specs.ImageLemmas.{one_stored}
-use Rattle.odin_journal.specs.Faults.{BreaksBehind, IsReadFault}
+use Rattle.meaning_store.specs.ImageLemmas.{one_stored, new_or_written}
+use Rattle.odin_journal.specs.Faults.{BreaksBehind, IsReadFault, IsOpenFault}
 use Rattle.odin_journal.specs.declared.fault.JournalFault.{JournalFault}
 use Rattle.odin_journal.specs.declared.fault.JournalFault.TheVariants as fault
-use Rattle.odin_journal.specs.Moments.{IsQuietAt, Untouched}
-use Rattle.odin_journal.specs.Rest.{AtRest}
-use Rattle.odin_journal.proofs.MomentLemmas.{then, weaker}
+use Rattle.odin_journal.specs.Moments.{IsLookOf, IsQuietAt, Untouched}
+use Rattle.odin_journal.specs.Rest.{AtRest, Makes, Opens, KeepsRecords}
+use Rattle.odin_journal.specs.declared.front.Looked.{Looked}
+use Rattle.odin_outside.specs.Moments.{then, weaker}
+use Rattle.odin_journal.proofs.MomentLemmas.{untouched_on}
 
 pub if_ok_two : {T E : Type 0} (r : Result T E) (P Q R : T → Type 0) → ((x : T) → P x → Q x → R x) → IfOk r P → IfOk r Q → IfOk r R
 if_ok_two (Ok x) P Q R f p q = f x p q
@@ -18,13 +20,13 @@ if_ok_two (Err e) P Q R f p q = tt
 pub quiet_on : (old new : Telling) (size : ℕ) → Untouched old new → IsQuietAt old size → IsQuietAt new size
 quiet_on old new size untouched quiet = record { quiet = untouched.quiet; long = ap length untouched.same ∙ quiet.long }
 
--- the same faults, since an earlier count and at offsets that say more
-pub faults_from : {T : Type 0} (breaks also : ℕ → Type 0) (before mid now : ℕ) (r : Result T JournalFault) → before ≤ mid → ((at : ℕ) → breaks at → also at) → IfErr r (IsReadFault breaks mid now) → IfErr r (IsReadFault also before now)
-faults_from breaks also before mid now (Ok x) later from fault = tt
-faults_from breaks also before mid now (Err fault.Disk) later from rose = omega (arith, rose)
-faults_from breaks also before mid now (Err (fault.NotOurs at)) later from there = from at there
-faults_from breaks also before mid now (Err (fault.Full end count)) later from never = never
-faults_from breaks also before mid now (Err fault.Memory) later from free = tt
+-- the same faults, at offsets that say more
+pub faults_from : {T : Type 0} (breaks also : ℕ → Type 0) (r : Result T JournalFault) → ((at : ℕ) → breaks at → also at) → IfErr r (IsReadFault breaks) → IfErr r (IsReadFault also)
+faults_from breaks also (Ok x) from fault = tt
+faults_from breaks also (Err fault.Disk) from there = there
+faults_from breaks also (Err (fault.NotOurs at)) from there = from at there
+faults_from breaks also (Err (fault.Full end count)) from never = never
+faults_from breaks also (Err fault.Memory) from there = there
 
 pub store_from : (image : List ℕ) (start end : ℕ) (records : List (List ℕ)) → IsWritten image → HasFront image → start ≡ start_of image → AreRecords image start records end → IsClosed image end → IsStore image records end
 store_from image start end records written front is whole closed = record { written = written; front = front; whole = subst (λ s. AreRecords image s records end) is whole; closed = closed }
@@ -46,20 +48,49 @@ made_stored old mid new records untouched is_new stored made =
 pub rests_from : (old new : Telling) (records : List (List ℕ)) (end : ℕ) → Untouched old new → IsStore old.seen records end → AtRest new records end
 rests_from old new records end untouched store = record { quiet = untouched.quiet; store = subst (λ c. IsStore c records end) (sym untouched.same) store }
 
--- what a fault that is handed on says
-handed : {T : Type 0} (P : JournalFault → Type 0) (r : Result T JournalFault) (e : JournalFault) → IsErrAnd r (λ given. given ≡ e) → P e → IsErrAnd r P
-handed P (Ok x) e never there = never
+-- a fault of a reading is one of the opening
+pub open_fault : (old new : Telling) (breaks : ℕ → Type 0) (e : JournalFault) → ((at : ℕ) → breaks at → IsQuiet old → NotOurs old.seen at) → (IsQuiet old → Untouched old new) → IsReadFault breaks e → IsOpenFault old new e
+open_fault old new breaks fault.Disk from untouched there = tt
+open_fault old new breaks (fault.NotOurs at) from untouched there = from at there
+open_fault old new breaks (fault.Full end count) from untouched never = never
+open_fault old new breaks fault.Memory from untouched there = untouched
+
+-- what is read of a disk that was only looked at
+pub look_again : (old mid : Telling) (looked : Looked) → (IsQuiet old → Untouched old mid) → (IsQuiet old → IsLookOf old.seen looked) → IsFalse looked.is_new → IsQuiet old → IsQuietAt mid looked.size × IsWritten mid.seen
+look_again old mid looked untouched look is quiet =
+    let same : Untouched old mid = untouched quiet in
+    let seen : IsLookOf old.seen looked = look quiet in
+    (record { quiet = same.quiet; long = ap length same.same ∙ seen.long }, subst (λ (image : List ℕ). IsWritten image) (sym same.same) (seen.written is))
+
+-- an opened store
+pub opens_store : (old mid new : Telling) (records : List (List ℕ)) (end : ℕ) → Untouched old mid → Untouched mid new → IsWritten mid.seen → IsStore mid.seen records end → Opens old new records end
+opens_store old mid new records end first second written store =
+    let both : Untouched old new = untouched_on old mid new first second in
+    let there : IsStore old.seen records end = subst (λ (image : List ℕ). IsStore image records end) first.same store in
+    record {
+      stored = inr (end, there);
+      rests = rests_from old new records end both there;
+      made = λ is_new. absurd (new_or_written old.seen is_new (subst (λ (image : List ℕ). IsWritten image) first.same written));
+    }
+
+-- and one that was made
+pub opens_new : (old mid new : Telling) → Untouched old mid → IsNew old.seen → Makes mid new → Opens old new [] 64
+opens_new old mid new first is_new made = record {
+  stored = inl (is_new, refl);
+  rests = made.rests;
+  made = λ _. made.bytes ∙ ap new_store first.same;
+}
+
+pub keeps_untouched : (old new : Telling) → (IsQuiet old → Untouched old new) → KeepsRecords old new
+keeps_untouched old new untouched records quiet stored = untouched_stored old new records (untouched quiet) stored
+
+pub keeps_made : (old mid new : Telling) (looked : Looked) → (IsQuiet old → Untouched old mid) → (IsQuiet old → IsLookOf old.seen looked) → IsTrue looked.is_new → (IsQuiet mid → IsNew mid.seen → LeavesOnly mid new (Stored [])) → KeepsRecords old new
+keeps_made old mid new looked untouched look is made records quiet stored =
+    let same : Untouched old mid = untouched quiet in
+    let is_new : IsNew old.seen = (look quiet).new is in
+    made_stored old mid new records same is_new stored (made same.quiet (subst (λ (image : List ℕ). IsNew image) (sym same.same) is_new))
+
+-- a fault that is handed on
+pub handed : {T : Type 0} (P : JournalFault → Type 0) (r : Result T JournalFault) (e : JournalFault) → IsErrAnd r (λ given. given ≡ e) → P e → IfErr r P
+handed P (Ok x) e never there = tt
 handed P (Err given) e is there = subst P (sym is) there
-
-pub told_at : {T : Type 0} (r : Result T JournalFault) (e : JournalFault) (breaks : ℕ → Type 0) (before now at : ℕ) → IsErrAnd r (λ given. given ≡ e) → IsReadFault breaks before now e → IsErrOf r (fault.NotOurs at) → breaks at
-told_at r e breaks before now at given there is = subst (λ answer. IsErrAnd answer (IsReadFault breaks before now)) is (handed (IsReadFault breaks before now) r e given there)
-
-exact_by : {T : Type 0} (r : Result T JournalFault) (breaks : ℕ → Type 0) (before now at : ℕ) → IsErrAnd r (IsReadFault breaks before now) → ((other : ℕ) → breaks other → other ≡ at) → IsErrOf r (fault.NotOurs at) ⊎ (IsErrOf r fault.Disk ⊎ IsErrOf r fault.Memory)
-exact_by (Ok x) breaks before now at never one = absurd never
-exact_by (Err fault.Disk) breaks before now at there one = inr (inl refl)
-exact_by (Err (fault.NotOurs other)) breaks before now at there one = inl (ap (λ gate. Err (fault.NotOurs gate)) (one other there))
-exact_by (Err (fault.Full end count)) breaks before now at never one = absurd never
-exact_by (Err fault.Memory) breaks before now at there one = inr (inr refl)
-
-pub exact_at : {T : Type 0} (r : Result T JournalFault) (e : JournalFault) (breaks : ℕ → Type 0) (before now at : ℕ) → IsErrAnd r (λ given. given ≡ e) → IsReadFault breaks before now e → ((other : ℕ) → breaks other → other ≡ at) → IsErrOf r (fault.NotOurs at) ⊎ (IsErrOf r fault.Disk ⊎ IsErrOf r fault.Memory)
-exact_at r e breaks before now at given there one = exact_by r breaks before now at (handed (IsReadFault breaks before now) r e given there) one

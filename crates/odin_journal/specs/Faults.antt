@@ -1,16 +1,29 @@
--- When a reading of a journal is refused.
-use Rattle.std.specs.Prelude.{ℕ, List, ⊤}
-use Rattle.meaning_store.specs.Images.{IsOpen, IsRecord, AreRecords}
+-- When a journal is refused, and what its answers say of the disk's faults.
+use Rattle.std.specs.Prelude.{◌≡◌, ◌+◌, ◌≤◌, ◌<◌, ℕ, List, ⊤, Result, Ok, Err, OnOk, IfErr, IsErrOf}
+use Rattle.meaning_store.specs.Front.{file_limit}
+use Rattle.meaning_store.specs.Images.{IsOpen, IsRecord, AreRecords, NotOurs}
 use Rattle.odin_outside.specs.Causes.{Rose}
+use Rattle.odin_outside.specs.Disk.{Telling, IsQuiet}
+use Rattle.odin_journal.specs.Moments.{Untouched}
 use Rattle.odin_journal.specs.declared.fault.JournalFault.{JournalFault}
-use Rattle.odin_journal.specs.declared.fault.JournalFault.TheVariants.{Disk, NotOurs, Full, Memory}
+use Rattle.odin_journal.specs.declared.fault.JournalFault.TheVariants as fault
 
--- `Disk` only where the disk's count rose, `NotOurs` only at such an offset, and never `Full`
-abbrev pub IsReadFault : (ℕ → Type 0) → ℕ → ℕ → JournalFault → Type 0
-IsReadFault breaks before now Disk = Rose before now
-IsReadFault breaks before now (NotOurs at) = breaks at
-IsReadFault breaks before now (Full end count) = ⊥
-IsReadFault breaks before now Memory = ⊤
+-- what a fault says of the disk's count of faults: it rose where the disk failed, and else it is as it was
+abbrev pub IsCauseOf : ℕ → ℕ → JournalFault → Type 0
+IsCauseOf before now fault.Disk = Rose before now
+IsCauseOf before now other = now ≡ before
+
+-- and what any answer says of it
+pub record IsCause {T : Type 0} (before now : ℕ) (result : Result T JournalFault) : Type 0 where
+  pub later : before ≤ now
+  pub ok : OnOk result (now ≡ before)
+  pub err : IfErr result (IsCauseOf before now)
+
+-- a fault of a reading: `NotOurs` only at such an offset, and never `Full`
+abbrev pub IsReadFault : (ℕ → Type 0) → JournalFault → Type 0
+IsReadFault breaks (fault.NotOurs at) = breaks at
+IsReadFault breaks (fault.Full end count) = ⊥
+IsReadFault breaks other = ⊤
 
 -- at no offset
 abbrev pub nowhere : ℕ → Type 0
@@ -26,3 +39,29 @@ pub record BreaksBehind (image : List ℕ) (start gate : ℕ) : Type 0 where
   pub whole : AreRecords image start records gate
   pub opened : IsOpen image gate
   pub none : HasNoRecord image gate
+
+-- A fault of an opening. `NotOurs` is exact, for what isn't ours has no records, and one place at which it isn't. Want of memory
+-- leaves the disk as it was.
+abbrev pub IsOpenFault : Telling → Telling → JournalFault → Type 0
+IsOpenFault old new fault.Disk = ⊤
+IsOpenFault old new (fault.NotOurs at) = IsQuiet old → NotOurs old.seen at
+IsOpenFault old new (fault.Full end count) = ⊥
+IsOpenFault old new fault.Memory = IsQuiet old → Untouched old new
+
+-- a fault of an adding of so many bytes at this end
+abbrev pub IsAddFault : ℕ → ℕ → JournalFault → Type 0
+IsAddFault end count (fault.NotOurs at) = ⊥
+IsAddFault end count (fault.Full at some) = (file_limit < end + 6 + count) × (at ≡ end) × (some ≡ count)
+IsAddFault end count other = ⊤
+
+-- `Full` is answered exactly where so many bytes don't fit behind this end.
+pub record IsFull {T : Type 0} (end count : ℕ) (result : Result T JournalFault) : Type 0 where
+  pub room : OnOk result (end + 6 + count ≤ file_limit)
+  pub exact : file_limit < end + 6 + count → IsErrOf result (fault.Full end count)
+  pub err : IfErr result (IsAddFault end count)
+
+-- an answer that is neither `Ok` nor a fault of the disk
+abbrev pub IsRefused : {T : Type 0} → Result T JournalFault → Type 0
+IsRefused (Ok value) = ⊥
+IsRefused (Err fault.Disk) = ⊥
+IsRefused (Err other) = ⊤

@@ -1,6 +1,9 @@
 -- What calls on a disk leave of it.
-use Rattle.std.specs.Prelude.{◌≡◌, ℕ, ◌+◌, ◌≤◌, Option, Some, None, length}
-use Rattle.odin_outside.specs.Disk.{Telling, Work, LeavesOnly, IsQuiet}
+use Rattle.std.specs.Prelude.{◌≡◌, ℕ, max, ◌+◌, ◌<◌, ◌≤◌, IsTrue, IsFalse, List, Option, Some, None, length, slice_range}
+use Rattle.odin_outside.specs.Disk.{Telling, Work, LeavesOnly, IsQuiet, Written, Torn}
+use Rattle.meaning_store.specs.Front.{file_limit}
+use Rattle.meaning_store.specs.Images.{IsNew, IsWritten}
+use Rattle.odin_journal.specs.declared.front.Looked.{Looked}
 
 -- nothing is pending, a read gives the same, and a crash at any moment leaves the same
 pub record Untouched (old new : Telling) : Type 0 where
@@ -14,7 +17,55 @@ WorkedWithin bytes calls None new = new ≡ None
 WorkedWithin bytes calls (Some old) None = ⊥
 WorkedWithin bytes calls (Some old) (Some new) = (new.bytes ≤ old.bytes + bytes) × (new.calls ≤ old.calls + calls)
 
+-- the same of a disk
+abbrev pub Works : ℕ → ℕ → Telling → Telling → Type 0
+Works bytes calls old new = WorkedWithin bytes calls old.work new.work
+
+-- the size after these bytes were written at this offset
+abbrev pub grown : ℕ → ℕ → List ℕ → ℕ
+grown size at bytes = max size (at + length bytes)
+
+-- what a read gives has these bytes at this offset, where the disk follows the model
+abbrev pub Writes : ℕ → List ℕ → Telling → Telling → Type 0
+Writes at bytes old new = IsTrue old.follows → Written old.seen at bytes new.seen
+
+-- a crash at any moment leaves the file but for so many bytes at this offset
+abbrev pub LeavesTorn : ℕ → ℕ → Telling → Telling → Type 0
+LeavesTorn at n old new = IsQuiet old → LeavesOnly old new (Torn at n old.seen)
+
 -- nothing is pending on a disk of this size
 pub record IsQuietAt (disk : Telling) (size : ℕ) : Type 0 where
   pub quiet : IsQuiet disk
   pub long : length disk.seen ≡ size
+
+-- what a look at a file tells: its size, and whether it counts as new
+pub record IsLookOf (image : List ℕ) (looked : Looked) : Type 0 where
+  pub long : length image ≡ looked.size
+  pub new : IsTrue looked.is_new → IsNew image
+  pub written : IsFalse looked.is_new → IsWritten image
+
+-- of a disk on which nothing is pending
+abbrev pub IsLookAt : Telling → Looked → Type 0
+IsLookAt disk looked = IsQuiet disk → IsLookOf disk.seen looked
+
+-- the size of the disk that was looked at, which a store may have
+pub record HasSize (size : ℕ) (looked : Looked) : Type 0 where
+  pub is : looked.size ≡ size
+  pub within : looked.size ≤ file_limit
+
+-- a file that is too long is not ours at 0
+abbrev pub IsTooLong : List ℕ → ℕ → Type 0
+IsTooLong image at = (file_limit < length image) × (at ≡ 0)
+
+-- a disk on which nothing is pending is left untouched
+abbrev pub StaysQuiet : Telling → Telling → Type 0
+StaysQuiet old new = IsQuiet old → Untouched old new
+
+-- so many bytes of what a read gives, where nothing is pending
+abbrev pub IsRangeOf : Telling → ℕ → ℕ → List ℕ → Type 0
+IsRangeOf disk at count bytes = IsQuiet disk → bytes ≡ slice_range disk.seen at (at + count)
+
+-- a place on a disk of this size
+pub record IsPlace (whole size place : ℕ) : Type 0 where
+  pub size_is : size ≡ whole
+  pub inside : place < size

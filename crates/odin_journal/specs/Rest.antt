@@ -1,8 +1,13 @@
 -- A journal on a disk at rest.
-use Rattle.std.specs.Prelude.{◌≡◌, ◌≤◌, ◌⊎◌, ℕ, List, [], ◌∷◌, ◌++◌, length, slice_index}
-use Rattle.odin_outside.specs.Disk.{Telling, IsQuiet}
-use Rattle.meaning_store.specs.Front.{file_limit}
-use Rattle.meaning_store.specs.Images.{Stored, IsStore}
+use Rattle.std.specs.Prelude.{◌≡◌, ◌+◌, ◌≤◌, ◌<◌, ◌⊎◌, ℕ, List, [], ◌∷◌, ◌++◌, IsTrue, IsFalse, length, drop, slice_index, Result, OnOk, IsErrOf}
+use Rattle.odin_outside.specs.Disk.{Telling, IsQuiet, LeavesOnly, Written}
+use Rattle.odin_bytes.specs.Fields.{bytes_field}
+use Rattle.odin_journal.specs.Moments.{Untouched}
+use Rattle.meaning_store.specs.Front.{file_limit, front_size, new_store}
+use Rattle.meaning_store.specs.Images.{behind, with_record, IsNew, Stored, IsStore}
+use Rattle.odin_journal.specs.declared.journal.Journal.{Journal}
+use Rattle.odin_journal.specs.declared.fault.JournalFault.{JournalFault}
+use Rattle.odin_journal.specs.declared.fault.JournalFault.TheVariants.{Disk}
 
 -- nothing is pending, and what a read gives is a store with these records and this end
 pub record AtRest (disk : Telling) (records : List (List ℕ)) (end : ℕ) : Type 0 where
@@ -19,3 +24,85 @@ pub record IsCleared (disk : Telling) : Type 0 where
   pub some : 1 ≤ length disk.seen
   pub zero_first : slice_index disk.seen 0 ≡ 0
   pub within : length disk.seen ≤ file_limit
+
+-- such a file became it, and what lies behind a front is as it was
+pub record Clears (old new : Telling) : Type 0 where
+  pub cleared : IsCleared new
+  pub back : drop 65 new.seen ≡ drop 65 old.seen
+
+-- a file that counted as new became a store without records
+pub record Makes (old new : Telling) : Type 0 where
+  pub rests : AtRest new [] front_size
+  pub bytes : new.seen ≡ new_store old.seen
+
+-- where nothing is pending on it
+abbrev pub MakesNew : Telling → Telling → Type 0
+MakesNew old new = IsQuiet old → IsNew old.seen → Makes old new
+
+abbrev pub ClearsNew : Telling → Telling → Type 0
+ClearsNew old new = IsQuiet old → IsNew old.seen → Clears old new
+
+abbrev pub MakesCleared : Telling → Telling → Type 0
+MakesCleared old new = IsCleared old → Makes old new
+
+-- and a crash at any moment leaves a file without records
+abbrev pub StaysEmpty : Telling → Telling → Type 0
+StaysEmpty old new = IsQuiet old → IsNew old.seen → LeavesOnly old new (Stored [])
+
+abbrev pub StaysCleared : Telling → Telling → Type 0
+StaysCleared old new = IsCleared old → LeavesOnly old new (Stored [])
+
+-- The records of the file were these, and the journal rests on them. A file that counted as new was made a store, with these bytes.
+pub record Opens (old new : Telling) (records : List (List ℕ)) (end : ℕ) : Type 0 where
+  pub stored : Stored records old.seen
+  pub rests : AtRest new records end
+  pub made : IsNew old.seen → new.seen ≡ new_store old.seen
+
+-- where nothing was pending
+abbrev pub OpensQuiet : Telling → Telling → Journal × List (List ℕ) → Type 0
+OpensQuiet old new opened = IsQuiet old → Opens old new opened.1 opened.0.end
+
+-- a file that doesn't count as new is only read
+abbrev pub OnlyReads : Telling → Telling → Type 0
+OnlyReads old new = IsQuiet old → ¬ (IsNew old.seen) → Untouched old new
+
+-- a crash at any moment leaves the records from before
+abbrev pub KeepsRecords : Telling → Telling → Type 0
+KeepsRecords old new = (records : List (List ℕ)) → IsQuiet old → Stored records old.seen → LeavesOnly old new (Stored records)
+
+-- A record was added at this end, and the next is added at that one.
+pub record Adds (end next : ℕ) (payload : List ℕ) (old new : Telling) : Type 0 where
+  pub next_is : next ≡ behind end payload
+  pub rests : (records : List (List ℕ)) → AtRest old records end → AtRest new (records ++ payload ∷ []) next
+  pub bytes : IsQuiet old → new.seen ≡ with_record end payload old.seen
+
+-- a crash at any moment leaves the records from before, with this one or without
+abbrev pub KeepsOrAdds : ℕ → List ℕ → Telling → Telling → Type 0
+KeepsOrAdds end payload old new = (records : List (List ℕ)) → AtRest old records end → LeavesOnly old new (BeforeOrAfter records payload)
+
+-- the same of the bytes behind a closed gate and that gate, which are those of a record
+abbrev pub AddsBytes : ℕ → List ℕ → Telling → Telling → Type 0
+AddsBytes end bytes old new = (payload : List ℕ) (records : List (List ℕ)) → bytes ≡ bytes_field payload ++ 0 ∷ [] → AtRest old records end → AtRest new (records ++ payload ∷ []) (end + 5 + length payload)
+
+abbrev pub KeepsOrAddsBytes : ℕ → List ℕ → Telling → Telling → Type 0
+KeepsOrAddsBytes end bytes old new = (payload : List ℕ) (records : List (List ℕ)) → bytes ≡ bytes_field payload ++ 0 ∷ [] → AtRest old records end → LeavesOnly old new (BeforeOrAfter records payload)
+
+abbrev pub OpensGate : ℕ → List ℕ → Telling → Telling → Type 0
+OpensGate end bytes old new = IsQuiet old → Written old.seen end (1 ∷ bytes) new.seen
+
+-- a journal that can be added to, on a disk of this size
+pub record IsReady (journal : Journal) (size : ℕ) : Type 0 where
+  pub fresh : IsFalse journal.spent
+  pub inside : journal.end < size
+
+-- the adding of a record to a journal
+abbrev pub AddsTo : Journal → Journal → List ℕ → Telling → Telling → Type 0
+AddsTo journal next payload old new = Adds journal.end next.end payload old new
+
+abbrev pub LeavesAdded : Journal → List ℕ → Telling → Telling → Type 0
+LeavesAdded journal payload old new = KeepsOrAdds journal.end payload old new
+
+-- what a journal is after an adding: it can be added to, or is spent
+pub record IsLeft {T : Type 0} (journal : Journal) (size : ℕ) (result : Result T JournalFault) : Type 0 where
+  pub ready : OnOk result (IsReady journal size)
+  pub spent : IsErrOf result Disk → IsTrue journal.spent

@@ -1,45 +1,65 @@
 // The making of a new store file.
-ghost use Rattle.std.specs.Prelude.{◌≡◌, ◌≤◌, ◌<◌, ◌^◌, [], IsTrue, IsFalse, IfOk, OnOk};
+ghost use Rattle.std.specs.Prelude.{◌≡◌, ◌≤◌, ◌<◌, IsTrue, IfOk, IfErr, OnOk};
 ghost use Rattle.odin_outside.specs.Causes.{HasCause};
-ghost use Rattle.odin_outside.specs.Disk.{IsQuiet, LeavesOnly};
-ghost use Rattle.meaning_store.specs.Images.{IsNew, IsWritten, Stored};
-ghost use Rattle.odin_journal.specs.Moments.{IsQuietAt, Untouched, WorkedWithin};
-ghost use Rattle.odin_journal.specs.Rest.{AtRest, IsCleared};
+ghost use Rattle.meaning_store.specs.Front.{front_size};
+ghost use Rattle.odin_journal.specs.Faults.{IsCause, IsReadFault};
+ghost use Rattle.odin_journal.specs.Moments.{HasSize, IsLookAt, StaysQuiet, Works};
+ghost use Rattle.odin_journal.specs.Reads.{IsLong};
+ghost use Rattle.odin_journal.specs.Rest.{ClearsNew, MakesCleared, MakesNew, StaysCleared, StaysEmpty};
 
+use crate::fault::JournalFault;
 use crate::writes::write_synced;
 use odin_outside::{Disk, Failed};
+
+/// The longest store file.
+pub const FILE_LIMIT: u64 = 1_073_741_824;
+
+/// The size of a front, behind which the records of a new store start.
+pub const FRONT_SIZE: u64 = 64;
 
 // Behind the byte at 0: the rest of the name, no second start, and a closed gate where the first one points.
 const BLANK_FRONT: &[u8; 64] =
     b"DINSTO1\0\0\0\0\0\0\0\0\0\0\0\0\0\0\0\x40\0\0\0\0\0\0\0\0\0\0\0\0\0\0\0\0\0\0\0\0\0\0\0\0\0\0\0\0\0\0\0\0\0\0\0\0\0\0\0\0\0";
 
-/// Whether a file of this size counts as new.
-pub fn is_new<D: Disk>(disk: &mut D, size: u64) -> Result<bool, Failed>
-    requires size { size ≡ D.size_of disk.old }
-    requires within { size ≤ 2 ^ 30 }
-    ensures new { IfOk result (λ new. IsTrue new → IsQuietAt (D.told disk.old) size → IsNew (D.told disk.old).seen) }
-    ensures written { IfOk result (λ new. IsFalse new → IsQuietAt (D.told disk.old) size → IsWritten (D.told disk.old).seen) }
-    ensures short { size ≤ 1 → IfOk result IsTrue }
-    ensures untouched { IsQuiet (D.told disk.old) → Untouched (D.told disk.old) (D.told disk.new) }
-    ensures size { OnOk result (D.size_of disk.new ≡ D.size_of disk.old) }
-    ensures works { WorkedWithin 0 1 (D.told disk.old).work (D.told disk.new).work }
-    ensures cause { HasCause (D.faults disk.old) (D.faults disk.new) result }
+/// The size of a file, and whether it counts as new.
+#[derive(Clone, Copy)]
+pub struct Looked {
+    pub size: u64,
+    pub is_new: bool,
+}
+
+/// Looks at a file, which may be a store of another length than the longest.
+pub fn look<D: Disk>(disk: &mut D) -> Result<Looked, JournalFault>
+    ensures look { IfOk result (IsLookAt (D.told disk.old)) }
+    ensures size { IfOk result (HasSize (D.size_of disk.new)) }
+    ensures empty { D.size_of disk.old ≡ 0 → IfOk result (λ looked. IsTrue looked.is_new) }
+    ensures untouched { StaysQuiet (D.told disk.old) (D.told disk.new) }
+    ensures err { IfErr result (IsReadFault (IsLong (D.told disk.old))) }
+    ensures works { Works 0 2 (D.told disk.old) (D.told disk.new) }
+    ensures cause { IsCause (D.faults disk.old) (D.faults disk.new) result }
 {
+    let size = disk.size()?;
+    if size > FILE_LIMIT {
+        return Err(JournalFault::NotOurs(0));
+    }
     if size <= 1 {
-        return Ok(true);
+        return Ok(Looked { size, is_new: true });
     }
     let mut first = [0];
     disk.read(0, &mut first)?;
-    Ok(first[0] == 0)
+    Ok(Looked {
+        size,
+        is_new: first[0] == 0,
+    })
 }
 
 /// Makes a file that counts as new a store without records.
 pub fn make_new<D: Disk>(disk: &mut D, size: u64) -> Result<(), Failed>
-    requires size { size ≡ D.size_of disk.old }
-    ensures ok { OnOk result (IsQuiet (D.told disk.old) → IsNew (D.told disk.old).seen → AtRest (D.told disk.new) [] 64) }
-    ensures any_moment { IsQuiet (D.told disk.old) → IsNew (D.told disk.old).seen → LeavesOnly (D.told disk.old) (D.told disk.new) (Stored []) }
-    ensures inside { OnOk result (64 < D.size_of disk.new) }
-    ensures works { WorkedWithin 66 6 (D.told disk.old).work (D.told disk.new).work }
+    requires { size ≡ D.size_of disk.old }
+    ensures ok { OnOk result (MakesNew (D.told disk.old) (D.told disk.new)) }
+    ensures any_moment { StaysEmpty (D.told disk.old) (D.told disk.new) }
+    ensures inside { OnOk result (front_size < D.size_of disk.new) }
+    ensures works { Works 66 6 (D.told disk.old) (D.told disk.new) }
     ensures cause { HasCause (D.faults disk.old) (D.faults disk.new) result }
 {
     clear_first(disk, size)?;
@@ -48,11 +68,11 @@ pub fn make_new<D: Disk>(disk: &mut D, size: u64) -> Result<(), Failed>
 
 // Makes the byte at 0 a 0, where the file has at most one byte.
 fn clear_first<D: Disk>(disk: &mut D, size: u64) -> Result<(), Failed>
-    requires size { size ≡ D.size_of disk.old }
-    ensures ok { OnOk result (IsQuiet (D.told disk.old) → IsNew (D.told disk.old).seen → IsCleared (D.told disk.new)) }
-    ensures any_moment { IsQuiet (D.told disk.old) → IsNew (D.told disk.old).seen → LeavesOnly (D.told disk.old) (D.told disk.new) (Stored []) }
+    requires { size ≡ D.size_of disk.old }
+    ensures ok { OnOk result (ClearsNew (D.told disk.old) (D.told disk.new)) }
+    ensures any_moment { StaysEmpty (D.told disk.old) (D.told disk.new) }
     ensures inside { OnOk result (1 ≤ D.size_of disk.new) }
-    ensures works { WorkedWithin 1 2 (D.told disk.old).work (D.told disk.new).work }
+    ensures works { Works 1 2 (D.told disk.old) (D.told disk.new) }
     ensures cause { HasCause (D.faults disk.old) (D.faults disk.new) result }
 {
     if size > 1 {
@@ -64,10 +84,10 @@ fn clear_first<D: Disk>(disk: &mut D, size: u64) -> Result<(), Failed>
 // Writes the front of a file whose byte at 0 is 0, and then the byte that marks it as a store.
 fn write_front<D: Disk>(disk: &mut D) -> Result<(), Failed>
     requires { 1 ≤ D.size_of disk.old }
-    ensures ok { OnOk result (IsCleared (D.told disk.old) → AtRest (D.told disk.new) [] 64) }
-    ensures any_moment { IsCleared (D.told disk.old) → LeavesOnly (D.told disk.old) (D.told disk.new) (Stored []) }
-    ensures inside { OnOk result (64 < D.size_of disk.new) }
-    ensures works { WorkedWithin 65 4 (D.told disk.old).work (D.told disk.new).work }
+    ensures ok { OnOk result (MakesCleared (D.told disk.old) (D.told disk.new)) }
+    ensures any_moment { StaysCleared (D.told disk.old) (D.told disk.new) }
+    ensures inside { OnOk result (front_size < D.size_of disk.new) }
+    ensures works { Works 65 4 (D.told disk.old) (D.told disk.new) }
     ensures cause { HasCause (D.faults disk.old) (D.faults disk.new) result }
 {
     write_synced(disk, 1, BLANK_FRONT)?;

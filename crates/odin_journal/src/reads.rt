@@ -1,13 +1,14 @@
 // The reading of an existing store file.
-ghost use Rattle.std.specs.Prelude.{◌≡◌, ◌+◌, ◌<◌, ◌≤◌, ◌^◌, ℕ, List, length, slice_range, OnOk, IfOk, IfErr, IfSome, IfNone};
-ghost use Rattle.odin_outside.specs.Disk.{IsQuiet};
-ghost use Rattle.meaning_store.specs.Images.{behind, IsWritten, IsOpen, IsClosed, IsRecord, AreRecords, IsStore, NotOurs};
-ghost use Rattle.odin_journal.specs.Faults.{HasNoRecord, BreaksBehind, IsReadFault, nowhere};
-ghost use Rattle.meaning_store.specs.Front.{start_of, HasFront};
+ghost use Rattle.std.specs.Prelude.{◌≡◌, ◌+◌, ◌<◌, ◌≤◌, length, OnOk, IfOk, IfErr, IfSome, IfNone};
+ghost use Rattle.meaning_store.specs.Front.{front_size, start_of};
+ghost use Rattle.meaning_store.specs.Images.{behind};
+ghost use Rattle.odin_journal.specs.Faults.{IsCause, IsReadFault, nowhere};
 ghost use Rattle.odin_journal.specs.Marks.{HasMarks};
-ghost use Rattle.odin_journal.specs.Moments.{IsQuietAt, Untouched};
+ghost use Rattle.odin_journal.specs.Moments.{IsPlace, IsRangeOf, StaysQuiet};
+ghost use Rattle.odin_journal.specs.Reads.{BreaksFrom, BreaksHere, BreaksStore, HasNoFront, HasRecord, HasRecords, HasStart, HasStore, IsShut};
 
 use crate::fault::JournalFault;
+use crate::front::FRONT_SIZE;
 use byteorder::{BigEndian, ByteOrder};
 use object_values::{Bytes, Seq};
 use odin_bytes::take_u32;
@@ -22,12 +23,12 @@ pub fn read_bytes<D: Disk>(
     count: u64,
 ) -> Result<Bytes, JournalFault>
     requires { at + count ≤ D.size_of disk.old }
-    ensures bytes { IfOk result (λ bytes. IsQuiet (D.told disk.old) → bytes ≡ slice_range (D.told disk.old).seen at (at + count)) }
+    ensures bytes { IfOk result (IsRangeOf (D.told disk.old) at count) }
     ensures length { IfOk result (λ bytes. length bytes ≡ count) }
-    ensures untouched { IsQuiet (D.told disk.old) → Untouched (D.told disk.old) (D.told disk.new) }
+    ensures untouched { StaysQuiet (D.told disk.old) (D.told disk.new) }
     ensures size { OnOk result (D.size_of disk.new ≡ D.size_of disk.old) }
-    ensures err { IfErr result (IsReadFault nowhere (D.faults disk.old) (D.faults disk.new)) }
-    ensures later { D.faults disk.old ≤ D.faults disk.new }
+    ensures err { IfErr result (IsReadFault nowhere) }
+    ensures cause { IsCause (D.faults disk.old) (D.faults disk.new) result }
 {
     let mut bytes = vec![in alloc; 0; count as usize]?;
     disk.read(at, bytes.as_mut_slice())?;
@@ -41,15 +42,14 @@ pub fn read_record<D: Disk>(
     gate: u64,
     size: u64,
 ) -> Result<Option<Bytes>, JournalFault>
-    requires size { size ≡ D.size_of disk.old }
-    requires inside { gate < size }
-    ensures some { IfOk result (λ read. IfSome read (λ payload. IsQuietAt (D.told disk.old) size → IsRecord (D.told disk.old).seen gate payload)) }
+    requires { IsPlace (D.size_of disk.old) size gate }
+    ensures some { IfOk result (λ read. IfSome read (HasRecord (D.told disk.old) size gate)) }
     ensures room { IfOk result (λ read. IfSome read (λ payload. behind gate payload < size)) }
-    ensures none { IfOk result (λ read. IfNone read (IsQuietAt (D.told disk.old) size → IsClosed (D.told disk.old).seen gate)) }
-    ensures untouched { IsQuiet (D.told disk.old) → Untouched (D.told disk.old) (D.told disk.new) }
+    ensures none { IfOk result (λ read. IfNone read (IsShut (D.told disk.old) size gate)) }
+    ensures untouched { StaysQuiet (D.told disk.old) (D.told disk.new) }
     ensures size { OnOk result (D.size_of disk.new ≡ D.size_of disk.old) }
-    ensures err { IfErr result (IsReadFault (λ at. (at ≡ gate) × (IsQuietAt (D.told disk.old) size → IsOpen (D.told disk.old).seen gate × HasNoRecord (D.told disk.old).seen gate)) (D.faults disk.old) (D.faults disk.new)) }
-    ensures later { D.faults disk.old ≤ D.faults disk.new }
+    ensures err { IfErr result (IsReadFault (BreaksHere (D.told disk.old) size gate)) }
+    ensures cause { IsCause (D.faults disk.old) (D.faults disk.new) result }
 {
     let head = read_bytes(alloc, disk, gate, (size - gate).min(5))?;
     let bytes = head.as_slice();
@@ -72,15 +72,14 @@ pub fn read_records<D: Disk>(
     start: u64,
     size: u64,
 ) -> Result<(u64, Seq<Bytes>), JournalFault>
-    requires size { size ≡ D.size_of disk.old }
-    requires inside { start < size }
-    ensures whole { IfOk result (λ read. IsQuietAt (D.told disk.old) size → AreRecords (D.told disk.old).seen start read.1 read.0) }
-    ensures closed { IfOk result (λ read. IsQuietAt (D.told disk.old) size → IsClosed (D.told disk.old).seen read.0) }
+    requires { IsPlace (D.size_of disk.old) size start }
+    ensures whole { IfOk result (HasRecords (D.told disk.old) size start) }
+    ensures closed { IfOk result (λ read. IsShut (D.told disk.old) size read.0) }
     ensures inside { IfOk result (λ read. read.0 < size) }
-    ensures untouched { IsQuiet (D.told disk.old) → Untouched (D.told disk.old) (D.told disk.new) }
+    ensures untouched { StaysQuiet (D.told disk.old) (D.told disk.new) }
     ensures size { OnOk result (D.size_of disk.new ≡ D.size_of disk.old) }
-    ensures err { IfErr result (IsReadFault (λ at. IsQuietAt (D.told disk.old) size → BreaksBehind (D.told disk.old).seen start at) (D.faults disk.old) (D.faults disk.new)) }
-    ensures later { D.faults disk.old ≤ D.faults disk.new }
+    ensures err { IfErr result (IsReadFault (BreaksFrom (D.told disk.old) size start)) }
+    ensures cause { IsCause (D.faults disk.old) (D.faults disk.new) result }
 {
     let mut records = Seq::new(alloc);
     let mut gate = start;
@@ -98,23 +97,22 @@ pub fn read_start<D: Disk>(
     size: u64,
 ) -> Result<Option<u64>, JournalFault>
     requires { size ≡ D.size_of disk.old }
-    ensures some { IfOk result (λ read. IfSome read (λ start. IsQuietAt (D.told disk.old) size → HasFront (D.told disk.old).seen)) }
-    ensures start { IfOk result (λ read. IfSome read (λ start. IsQuietAt (D.told disk.old) size → start ≡ start_of (D.told disk.old).seen)) }
+    ensures some { IfOk result (λ read. IfSome read (HasStart (D.told disk.old) size)) }
     ensures inside { IfOk result (λ read. IfSome read (λ start. start < size)) }
-    ensures none { IfOk result (λ read. IfNone read (IsQuietAt (D.told disk.old) size → HasFront (D.told disk.old).seen → ⊥)) }
-    ensures untouched { IsQuiet (D.told disk.old) → Untouched (D.told disk.old) (D.told disk.new) }
+    ensures none { IfOk result (λ read. IfNone read (HasNoFront (D.told disk.old) size)) }
+    ensures untouched { StaysQuiet (D.told disk.old) (D.told disk.new) }
     ensures size { OnOk result (D.size_of disk.new ≡ D.size_of disk.old) }
-    ensures err { IfErr result (IsReadFault nowhere (D.faults disk.old) (D.faults disk.new)) }
-    ensures later { D.faults disk.old ≤ D.faults disk.new }
+    ensures err { IfErr result (IsReadFault nowhere) }
+    ensures cause { IsCause (D.faults disk.old) (D.faults disk.new) result }
 {
-    if size < 65 {
+    if size <= FRONT_SIZE {
         return Ok(None);
     }
-    let front = read_bytes(alloc, disk, 0, 64)?;
+    let front = read_bytes(alloc, disk, 0, FRONT_SIZE)?;
     let Some(start) = start_in(front.as_slice()) else {
         return Ok(None);
     };
-    if start < 64 || start >= size {
+    if start < FRONT_SIZE || start >= size {
         return Ok(None);
     }
     Ok(Some(start))
@@ -122,7 +120,7 @@ pub fn read_start<D: Disk>(
 
 // The start in use that a front tells, where its marks are those of a store.
 fn start_in(front: &[u8]) -> Option<u64>
-    requires { length front.now ≡ 64 }
+    requires { length front.now ≡ front_size }
     ensures some { IfSome result (λ start. HasMarks front.now) }
     ensures start { IfSome result (λ start. start ≡ start_of front.now) }
     ensures none { IfNone result (HasMarks front.now → ⊥) }
@@ -146,12 +144,12 @@ pub fn read_store<D: Disk>(
     size: u64,
 ) -> Result<(u64, Seq<Bytes>), JournalFault>
     requires { size ≡ D.size_of disk.old }
-    ensures store { IfOk result (λ read. IsQuietAt (D.told disk.old) size → IsWritten (D.told disk.old).seen → IsStore (D.told disk.old).seen read.1 read.0) }
+    ensures store { IfOk result (HasStore (D.told disk.old) size) }
     ensures inside { IfOk result (λ read. read.0 < size) }
-    ensures untouched { IsQuiet (D.told disk.old) → Untouched (D.told disk.old) (D.told disk.new) }
+    ensures untouched { StaysQuiet (D.told disk.old) (D.told disk.new) }
     ensures size { OnOk result (D.size_of disk.new ≡ D.size_of disk.old) }
-    ensures err { IfErr result (IsReadFault (λ at. IsQuietAt (D.told disk.old) size → IsWritten (D.told disk.old).seen → NotOurs (D.told disk.old).seen at) (D.faults disk.old) (D.faults disk.new)) }
-    ensures later { D.faults disk.old ≤ D.faults disk.new }
+    ensures err { IfErr result (IsReadFault (BreaksStore (D.told disk.old) size)) }
+    ensures cause { IsCause (D.faults disk.old) (D.faults disk.new) result }
 {
     let Some(start) = read_start(alloc, disk, size)? else {
         return Err(JournalFault::NotOurs(0));

@@ -1,86 +1,92 @@
--- What a call of a disk does to its crash images, and stretches of time that leave only images of one kind.
-use Rattle.std.specs.Prelude.{◌≡◌, ◌⊎◌, ℕ, ◌≤◌, List, Result, Ok, Err, Bool, IsTrue, OnOk}
+-- What crashes leave over calls on a disk, one call behind another.
+use Rattle.std.specs.Prelude.{◌≡◌, ◌⊎◌, ℕ, ◌≤◌, List, Result, Ok, Err, IsTrue, OnOk}
 use Rattle.std.proofs.Common.{inl, inr, sym, ◌∙◌, subst, arith}
-use Rattle.odin_outside.specs.Disk.{Pending, Telling, MayLeave, IsCrashImage, synced_at, wrote, cut_to, same_pending, Torn, Cut, Follows, Goes, LeavesOnly, IsQuiet}
-use Rattle.odin_outside.specs.Steps.{torn_step, torn_same, cut_step, cut_same, synced_only}
+use Rattle.odin_outside.specs.Disk.{Pending, Telling, MayLeave, IsCrashImage, synced_at, wrote, same_pending, Torn, Goes, LeavesOnly, IsQuiet}
+use Rattle.odin_outside.specs.Steps.{torn_step, torn_same, synced_only}
 
-⊎_cases : {A B C : Type 0} → (A → C) → (B → C) → A ⊎ B → C
-⊎_cases f g (inl a) = f a
-⊎_cases f g (inr b) = g b
+cases : {P Q R : Type 0} → (P → R) → (Q → R) → P ⊎ Q → R
+cases f g (inl p) = f p
+cases f g (inr q) = g q
 
--- an image after a call is one of what is then pending, or of what was pending before
-pub images_after : {T E : Type 0} (change : Pending → Pending) (old new : Telling) (result : Result T E) (c : List ℕ) → Goes change old new result → IsTrue old.follows → MayLeave new c → MayLeave old c ⊎ IsCrashImage (change old.pending) c
-images_after change old new (Ok x) c goes follows left =
-    let image : Pending → Type 0 = λ pending. IsCrashImage pending c in
-    inr (subst image (goes.ok follows) left)
-images_after change old new (Err e) c goes follows left =
-    let image : Pending → Type 0 = λ pending. IsCrashImage pending c in
-    ⊎_cases (λ same. inl (subst image same left)) (λ changed. inr (subst image changed left)) (goes.err follows)
+pub follows_on : {T E : Type 0} (change : Pending → Pending) (old new : Telling) (r : Result T E) → Goes change old new r → IsTrue old.follows → IsTrue new.follows
+follows_on change old new r goes follows = subst IsTrue (sym goes.follows) follows
 
--- after a write, whether it failed or not, each image is an old one after a torn write
-pub write_follows : {T E : Type 0} (at n : ℕ) (old new : Telling) (result : Result T E) → Goes (wrote at n) old new result → IsTrue old.follows → Follows (Torn at n) (MayLeave old) (MayLeave new)
-write_follows at n old new result goes follows c left =
-    ⊎_cases (λ was. (c, was, torn_same at n c)) (λ is. torn_step old.pending at n c is) (images_after (wrote at n) old new result c goes follows left)
-
--- likewise after a cut
-pub cut_follows : {T E : Type 0} (size : ℕ) (old new : Telling) (result : Result T E) → Goes (cut_to size) old new result → IsTrue old.follows → Follows (Cut size) (MayLeave old) (MayLeave new)
-cut_follows size old new result goes follows c left =
-    ⊎_cases (λ was. (c, was, cut_same size c)) (λ is. cut_step old.pending size c is) (images_after (cut_to size) old new result c goes follows left)
-
--- a call that changes nothing leaves the images as they were
-pub same_follows : {T E : Type 0} (old new : Telling) (result : Result T E) (c : List ℕ) → Goes same_pending old new result → IsTrue old.follows → MayLeave new c → MayLeave old c
-same_follows old new result c goes follows left = ⊎_cases (λ was. was) (λ is. is) (images_after same_pending old new result c goes follows left)
-
--- after a sync there are no new images, where what is read was one
-pub sync_follows : {T E : Type 0} (old new : Telling) (result : Result T E) (c : List ℕ) → Goes (λ _. synced_at old.seen) old new result → IsTrue old.follows → MayLeave old old.seen → MayLeave new c → MayLeave old c
-sync_follows old new result c goes follows reads left =
-    ⊎_cases (λ was. was) (λ is. subst (λ (image : List ℕ). MayLeave old image) (sym (synced_only old.seen c is)) reads) (images_after (λ _. synced_at old.seen) old new result c goes follows left)
-
--- and nothing is pending after one that succeeds
-pub sync_quiet : {T E : Type 0} (old new : Telling) (result : Result T E) → Goes (λ _. synced_at old.seen) old new result → IsTrue old.follows → new.seen ≡ old.seen → OnOk result (IsQuiet new)
-sync_quiet old new (Ok x) goes follows seen = record {
-  follows = subst (λ (b : Bool). IsTrue b) (sym goes.follows) follows;
-  only = λ c left. synced_only old.seen c (subst (λ (pending : Pending). IsCrashImage pending c) (goes.ok follows) left) ∙ sym seen;
-}
-sync_quiet old new (Err e) goes follows seen = tt
-
--- What holds of the images before and after a call holds at each moment of it. The third premise is the disk's law `only_now`.
-pub LeavesOnly-call : {T E : Type 0} (change : Pending → Pending) (old new : Telling) (result : Result T E) (P : List ℕ → Type 0) → Goes change old new result → IsTrue old.follows → ((c : List ℕ) → old.left_since old.moment c → MayLeave old c) → ((c : List ℕ) → MayLeave old c → P c) → ((c : List ℕ) → MayLeave new c → P c) → LeavesOnly old new P
-LeavesOnly-call change old new result P goes follows only before after =
-    let here : old.moment ≤ old.moment = omega arith in
-    record {
-      later = goes.later follows;
-      each = λ c left. ⊎_cases (λ was. before c (only c was)) (λ is. after c is) (goes.nothing_else follows old.moment c here left);
-      before = λ t c le left. ⊎_cases (λ was. inl was) (λ is. inr (after c is)) (goes.nothing_else follows t c le left);
-      now = after;
-    }
-
--- a stretch without a call
-pub LeavesOnly-none : (disk : Telling) (P : List ℕ → Type 0) → ((c : List ℕ) → disk.left_since disk.moment c → MayLeave disk c) → ((c : List ℕ) → MayLeave disk c → P c) → LeavesOnly disk disk P
-LeavesOnly-none disk P only holds = record {
-  later = omega arith;
-  each = λ c left. holds c (only c left);
-  before = λ t c le left. inl left;
-  now = holds;
+-- over one call
+pub one_call : {T E : Type 0} (change : Pending → Pending) (old new : Telling) (r : Result T E) (P : List ℕ → Type 0) → IsTrue old.follows → Goes change old new r
+    → ((c : List ℕ) → old.left_since old.moment c → P c) → ((c : List ℕ) → MayLeave new c → P c) → LeavesOnly old new P
+one_call change old new r P follows goes start now = record {
+  later = goes.later follows;
+  each = λ c left. cases (start c) (now c) (goes.nothing_else follows old.moment c (omega arith) left);
+  before = λ t c le left. cases (λ earlier. inl earlier) (λ here. inr (now c here)) (goes.nothing_else follows t c le left);
+  now = now;
 }
 
--- what holds of more images holds of these
-pub LeavesOnly-weaker : (old new : Telling) (P Q : List ℕ → Type 0) → ((c : List ℕ) → P c → Q c) → LeavesOnly old new P → LeavesOnly old new Q
-LeavesOnly-weaker old new P Q weaker only = record {
-  later = only.later;
-  each = λ c left. weaker c (only.each c left);
-  before = λ t c le left. ⊎_cases (λ was. inl was) (λ p. inr (weaker c p)) (only.before t c le left);
-  now = λ c left. weaker c (only.now c left);
-}
+-- over none
+pub no_call : (old : Telling) (P : List ℕ → Type 0) → ((c : List ℕ) → old.left_since old.moment c → P c) → ((c : List ℕ) → MayLeave old c → P c) → LeavesOnly old old P
+no_call old P start now = record { later = omega arith; each = start; before = λ t c le left. inl left; now = now }
 
--- one stretch behind another
-pub LeavesOnly-then : (old middle new : Telling) (P : List ℕ → Type 0) → LeavesOnly old middle P → LeavesOnly middle new P → LeavesOnly old new P
-LeavesOnly-then old middle new P first second =
-    let early : old.moment ≤ middle.moment = first.later in
-    let late : middle.moment ≤ new.moment = second.later in
+-- over what is known to a call, and that call
+pub next_call : {T E : Type 0} (change : Pending → Pending) (old mid new : Telling) (r : Result T E) (P : List ℕ → Type 0) → LeavesOnly old mid P → IsTrue mid.follows → Goes change mid new r
+    → ((c : List ℕ) → MayLeave new c → P c) → LeavesOnly old new P
+next_call change old mid new r P so_far follows goes now =
+    let first = so_far.later in
+    let second = goes.later follows in
     record {
       later = omega arith;
-      each = λ c left. ⊎_cases (λ was. first.each c was) (λ is. is) (second.before old.moment c early left);
-      before = λ t c le left. ⊎_cases (λ was. first.before t c le was) (λ is. inr is) (second.before t c (omega arith) left);
-      now = second.now;
+      each = λ c left. cases (so_far.each c) (now c) (goes.nothing_else follows old.moment c first left);
+      before = λ t c le left. cases (so_far.before t c le) (λ here. inr (now c here)) (goes.nothing_else follows t c (omega arith) left);
+      now = now;
     }
+
+-- one after the other
+pub then : (old mid new : Telling) (P Q R : List ℕ → Type 0) → LeavesOnly old mid P → LeavesOnly mid new Q → ((c : List ℕ) → P c → R c) → ((c : List ℕ) → Q c → R c) → LeavesOnly old new R
+then old mid new P Q R first second from also =
+    let sooner = first.later in
+    let later = second.later in
+    record {
+      later = omega arith;
+      each = λ c left. cases (λ earlier. from c (first.each c earlier)) (also c) (second.before old.moment c sooner left);
+      before = λ t c le left. cases (λ earlier. cases (λ still. inl still) (λ p. inr (from c p)) (first.before t c le earlier)) (λ q. inr (also c q)) (second.before t c (omega arith) left);
+      now = λ c left. also c (second.now c left);
+    }
+
+pub weaker : (old new : Telling) (P Q : List ℕ → Type 0) → LeavesOnly old new P → ((c : List ℕ) → P c → Q c) → LeavesOnly old new Q
+weaker old new P Q leaves from = record {
+  later = leaves.later;
+  each = λ c left. from c (leaves.each c left);
+  before = λ t c le left. cases (λ earlier. inl earlier) (λ p. inr (from c p)) (leaves.before t c le left);
+  now = λ c left. from c (leaves.now c left);
+}
+
+torn_from : (old : Telling) (pending : Pending) (at n : ℕ) → IsQuiet old → pending ≡ wrote at n old.pending → (c : List ℕ) → IsCrashImage pending c → Torn at n old.seen c
+torn_from old pending at n quiet is c left =
+    let step = torn_step old.pending at n c (subst (λ p. IsCrashImage p c) is left) in
+    subst (λ d. Torn at n d c) (quiet.only step.0 step.1) step.2
+
+unchanged_from : (old : Telling) (pending : Pending) (at n : ℕ) → IsQuiet old → pending ≡ old.pending → (c : List ℕ) → IsCrashImage pending c → Torn at n old.seen c
+unchanged_from old pending at n quiet is c left = subst (λ d. Torn at n old.seen d) (sym (quiet.only c (subst (λ p. IsCrashImage p c) is left))) (torn_same at n old.seen)
+
+-- after a write on a disk where nothing is pending
+pub after_write : {T E : Type 0} (old new : Telling) (at n : ℕ) (r : Result T E) → IsQuiet old → Goes (wrote at n) old new r → (c : List ℕ) → MayLeave new c → Torn at n old.seen c
+after_write old new at n (Ok x) quiet goes c left = torn_from old new.pending at n quiet (goes.ok quiet.follows) c left
+after_write old new at n (Err e) quiet goes c left = cases (λ same. unchanged_from old new.pending at n quiet same c left) (λ done. torn_from old new.pending at n quiet done c left) (goes.err quiet.follows)
+
+synced_from : (mid : Telling) (pending : Pending) → MayLeave mid mid.seen → pending ≡ synced_at mid.seen → (c : List ℕ) → IsCrashImage pending c → MayLeave mid c
+synced_from mid pending image is c left = subst (λ d. MayLeave mid d) (sym (synced_only mid.seen c (subst (λ p. IsCrashImage p c) is left))) image
+
+-- a sync makes no new image
+pub after_sync : {T E : Type 0} (mid new : Telling) (r : Result T E) → IsTrue mid.follows → MayLeave mid mid.seen → Goes (λ _. synced_at mid.seen) mid new r → (c : List ℕ) → MayLeave new c → MayLeave mid c
+after_sync mid new (Ok x) follows image goes c left = synced_from mid new.pending image (goes.ok follows) c left
+after_sync mid new (Err e) follows image goes c left = cases (λ same. subst (λ p. IsCrashImage p c) same left) (λ done. synced_from mid new.pending image done c left) (goes.err follows)
+
+-- a call that changes nothing makes no new image
+pub after_look : {T E : Type 0} (old new : Telling) (r : Result T E) → Goes same_pending old new r → IsTrue old.follows → (c : List ℕ) → MayLeave new c → MayLeave old c
+after_look old new (Ok x) goes follows c left = subst (λ p. IsCrashImage p c) (goes.ok follows) left
+after_look old new (Err e) goes follows c left = cases (λ same. subst (λ p. IsCrashImage p c) same left) (λ same. subst (λ p. IsCrashImage p c) same left) (goes.err follows)
+
+-- after a sync nothing is pending
+pub sync_quiets : {T E : Type 0} (old mid new : Telling) (r : Result T E) → (IsTrue old.follows → IsTrue mid.follows) → Goes (λ _. synced_at mid.seen) mid new r → (IsTrue mid.follows → new.seen ≡ mid.seen) → OnOk r (IsQuiet old → IsQuiet new)
+sync_quiets old mid new (Ok x) on goes same = λ quiet.
+    let follows = on quiet.follows in
+    record { follows = follows_on _ mid new (Ok x) goes follows; only = λ c left. synced_only mid.seen c (subst (λ p. IsCrashImage p c) (goes.ok follows) left) ∙ sym (same follows) }
+sync_quiets old mid new (Err e) on goes same = tt

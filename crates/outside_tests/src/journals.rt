@@ -63,16 +63,15 @@ fn begun(alloc: Global) -> Result<(usize, usize), JournalFault> {
     Ok((disk.image().len(), disk.calls()))
 }
 
-// Whether the record `hi` stands behind a front.
-fn is_record(image: &[u8]) -> bool {
-    image.len() == 72 && &image[64..] == b"\x01\0\0\0\x02hi\0".as_slice()
-}
+// A store with the only record `hi`.
+const HI: &[u8; 72] =
+    b"ODINSTO1\0\0\0\0\0\0\0\0\0\0\0\0\0\0\0\x40\0\0\0\0\0\0\0\0\0\0\0\0\0\0\0\0\0\0\0\0\0\0\0\0\0\0\0\0\0\0\0\0\0\0\0\0\0\0\0\0\x01\0\0\0\x02hi\0";
 
 // Whether the record `hi` is added to a disk with an empty file, and is there when it is opened again.
 fn takes_hi(alloc: Global, disk: &mut CrashDisk) -> Result<bool, JournalFault> {
     let ends = added(alloc, disk)?;
     let image = disk.image();
-    Ok(ends == (64, 71, false) && is_record(image) && has_hi(alloc, image)?)
+    Ok(ends == (64, 71, false) && image == HI.as_slice() && has_hi(alloc, image)?)
 }
 
 #[test]
@@ -103,7 +102,7 @@ fn is_whole(
 // The first call and choice whose stop leaves something else.
 fn first_torn(alloc: Global, disk: &CrashDisk) -> Result<Option<(u32, u64)>, JournalFault> {
     for moment in 8..12 {
-        for choice in 0..8 {
+        for choice in 0..64 {
             if !is_whole(alloc, disk, moment, choice)? {
                 return Ok(Some((moment, choice)));
             }
@@ -196,5 +195,44 @@ const SMALL: &[&[u8]] = &[b"", b"\0", b"x"];
 fn a_small_file_is_made_anew(rt: HostRuntime) {
     for small in SMALL {
         assert!(rt; counted(rt.alloc(), small) == Ok((64, 0)));
+    }
+}
+
+// A file of so many bytes whose byte at 0 is 0.
+fn blank_file(alloc: Global, size: usize) -> Result<Bytes, Memory> {
+    let mut bytes = vec![in alloc; 7u8; size]?;
+    if let Some(first) = bytes.first_mut() {
+        *first = 0;
+    }
+    Ok(Bytes::from_vec(bytes))
+}
+
+// Whether a file of this size is a store without records, behind which stand bytes of 7.
+fn is_made(image: &[u8], size: usize) -> bool {
+    let Some((front, behind)) = image.split_at_checked(65) else {
+        return false;
+    };
+    let (start, gate) = front.split_at(64);
+    image.len() == size
+        && start == &HI[..64]
+        && gate == b"\0".as_slice()
+        && behind.iter().all(|byte| *byte == 7)
+}
+
+// Whether opening such a file makes it a store of that size.
+fn makes(alloc: Global, size: usize, wanted: usize) -> Result<bool, JournalFault> {
+    let file = blank_file(alloc, size)?;
+    let mut disk = disk_of(alloc, file.as_slice())?;
+    let (end, records) = opened_on(alloc, &mut disk)?;
+    Ok(end == 64 && records.len() == 0 && is_made(disk.image(), wanted))
+}
+
+// Sizes of files, and of the stores that they are made.
+const NEW: &[(usize, usize)] = &[(0, 65), (1, 65), (64, 65), (65, 65), (66, 66), (200, 200)];
+
+#[test]
+fn a_new_store_keeps_what_lies_behind_its_front(rt: HostRuntime) {
+    for (size, wanted) in NEW {
+        assert!(rt; makes(rt.alloc(), *size, *wanted) == Ok(true));
     }
 }

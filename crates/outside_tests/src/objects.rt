@@ -304,18 +304,20 @@ const TORN: &[(u32, u64, &[u8])] = &[
     (2, 1, b"abcdef"),
     (2, 2, b"abcde"),
     (2, 3, b"abcd\xff\xff"),
-    (4, 0, b"abcWXYZ"),
-    (4, 1, b"abcd"),
-    (4, 2, b"abcWX"),
-    (4, 3, b"abcd\0YZ"),
-    (4, 4, b"abc\0\0\0\0"),
-    (4, 5, b"abc\x01\x01\x01\x01"),
-    (4, 6, b"abc\xff\xff\xff\xff"),
-    (4, 7, b"abcW"),
-    (4, 8, b"abcWXYZ"),
-    (4, 9, b"abcdef"),
-    (5, 0, b"abcWXYZ"),
-    (5, 1, b"abcd"),
+    // the cut is whole, and the write behind it is torn
+    (4, 0o00, b"abcWXYZ"),
+    (4, 0o10, b"abcd"),
+    (4, 0o20, b"abcWX"),
+    (4, 0o30, b"abcd\0YZ"),
+    (4, 0o40, b"abc\0\0\0\0"),
+    (4, 0o50, b"abc\x01\x01\x01\x01"),
+    (4, 0o60, b"abc\xff\xff\xff\xff"),
+    // the cut is not done
+    (4, 0o01, b"abcWXYZ"),
+    (4, 0o11, b"abcdef"),
+    // within the sync the write may still be torn
+    (5, 0o00, b"abcWXYZ"),
+    (5, 0o10, b"abcd"),
 ];
 
 // Whether a stop within this call, with this choice, leaves these bytes.
@@ -363,5 +365,62 @@ fn tears_what_is_not_synced(rt: HostRuntime) -> Result<(), Fail> {
     assert!(rt; is_written(&mut disk));
     let wrong = first_wrong(rt.alloc(), &disk)?;
     assert_eq!(rt; wrong, None);
+    Ok(())
+}
+
+// What a stop within the write leaves by chance, which begins with this number.
+fn by_chance(alloc: Global, disk: &CrashDisk, number: u64) -> Result<Bytes, Memory> {
+    crashed(alloc, disk, 4, 0o70 + 0o100 * (number % 1000))
+}
+
+// How many of eight such images are neither that before the write nor that after it, where each is one that may be left.
+fn count_mixed(alloc: Global, disk: &CrashDisk) -> Result<Option<usize>, Memory> {
+    let mut mixed: usize = 0;
+    for number in 0..8 {
+        let left = by_chance(alloc, disk, number)?;
+        let image = left.as_slice();
+        if !image.starts_with(b"abc") || image.len() < 4 || image.len() > 7 {
+            return Ok(None);
+        }
+        if image != b"abcd".as_slice() && image != b"abcWXYZ".as_slice() {
+            mixed = mixed.saturating_add(1);
+        }
+    }
+    Ok(Some(mixed))
+}
+
+#[test]
+fn tears_by_chance(rt: HostRuntime) -> Result<(), Fail> {
+    let mut disk = crash_disk(rt.alloc())?;
+    assert!(rt; is_written(&mut disk));
+    let mixed = count_mixed(rt.alloc(), &disk)?;
+    assert!(rt; mixed.is_some_and(|count| count >= 4));
+    Ok(())
+}
+
+// Writes the first byte so many times, and asks for the size after each.
+fn write_often(disk: &mut CrashDisk, count: usize) -> Result<(), Failed> {
+    for _ in 0..count {
+        disk.write_at(0, b"x")?;
+        disk.size()?;
+    }
+    Ok(())
+}
+
+// Whether a stop after 40,000 calls leaves what a read gives, and one by chance a file of that size.
+fn stands_many_calls(alloc: Global, disk: &mut CrashDisk) -> Result<bool, Memory> {
+    if write_often(disk, 20_000).is_err() {
+        return Ok(false);
+    }
+    let whole = crashed(alloc, disk, 40_000, 0)?;
+    let torn = crashed(alloc, disk, 40_000, 7)?;
+    Ok(whole.as_slice() == b"xbcdef".as_slice() && torn.as_slice().ends_with(b"bcdef"))
+}
+
+#[test]
+fn gives_images_after_many_calls(rt: HostRuntime) -> Result<(), Fail> {
+    let image = Bytes::from_slice(rt.alloc(), b"abcdef")?;
+    let mut disk = CrashDisk::new(rt.alloc(), image, 20_000, 40_000)?;
+    assert!(rt; stands_many_calls(rt.alloc(), &mut disk)?);
     Ok(())
 }

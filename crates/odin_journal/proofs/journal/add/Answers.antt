@@ -1,8 +1,10 @@
-use Rattle.std.proofs.Common.{◌+◌, length, subst, inl, inr, arith}
+use Rattle.std.proofs.Common.{◌+◌, ◌<◌, length, subst, inl, inr, arith}
+use Rattle.std.proofs.lemmas.Result.{on_ok_weaker}
 use Rattle.odin_outside.specs.Disk.{Written, Torn}
 use Rattle.odin_journal.specs.Rest.{BeforeOrAfter}
-use Rattle.odin_journal.proofs.MomentLemmas.{then, weaker, on_ok_two}
-use Rattle.odin_journal.proofs.AppendLemmas.{torn_store, stands, torn_gate, opened_torn, gate_written}
+use Rattle.odin_outside.specs.Moments.{then, weaker}
+use Rattle.odin_journal.proofs.MomentLemmas.{on_ok_two}
+use Rattle.odin_journal.proofs.AppendLemmas.{torn_store, stands, torn_gate, opened_torn, gate_written, gate_and_behind}
 use Rattle.odin_journal.proofs.journal.add.Goals as goal
 
 pub returns-in_err-write_synced-clause-any_moment : goal.returns-in_err-write_synced-clause-any_moment
@@ -41,3 +43,13 @@ returns-clause-any_moment g c payload records is rest =
     then old mid new (Torn (end + 1) (length c.args.bytes.now) old.seen) (Torn end 1 mid.seen) (BeforeOrAfter records payload) first (c.write_synced-2.ensures.any_moment quiet)
     (λ image torn. inl (inr (end, torn_store old.seen image records end _ rest.store c.requires.room torn)))
     (λ image torn. torn_gate mid.seen image records end payload store there torn)
+
+pub returns-clause-bytes : goal.returns-clause-bytes
+returns-clause-bytes g c =
+    let old = g.D.Disk.told c.args.disk.now in
+    let mid = g.D.Disk.told c.write_synced.new.disk in
+    let new = g.D.Disk.told c.write_synced-2.new.disk in
+    on_ok_weaker c.write_synced-2.result (λ written quiet.
+    let inside : c.args.end < length old.seen = subst (λ size. c.args.end < size) (g.met.D.Disk.sized c.args.disk.now quiet.follows) c.requires.inside in
+    gate_and_behind old.seen mid.seen new.seen c.args.end c.args.bytes.now inside (c.in_ok-write_synced.ensures.written quiet.follows) (written (c.in_ok-write_synced.ensures.ok quiet).follows))
+    c.write_synced-2.ensures.written

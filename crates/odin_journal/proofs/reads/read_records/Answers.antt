@@ -26,5 +26,5 @@ gates-preserved g c =
           let there = some (record { quiet = first.quiet; long = ap length first.same ∙ quiet.long }) in
           let here = subst (λ image. IsRecord image c.gates.gate payload) first.same there in
           rw records_are (subst (λ gate. AreRecords old.seen c.args.start (c.gates.records ++ payload ∷ []) gate) gate_is (one_more old.seen c.args.start c.gates.gate c.gates.records payload (c.gates.invariant.whole quiet) here));
-      later = omega (arith, c.in_ok-payload.ensures.later);
+      faults = c.in_ok-payload.ensures.cause.ok ∙ c.gates.invariant.faults;
     }

@@ -1,4 +1,4 @@
-use Rattle.std.proofs.Common.{◌≡◌, ◌<◌, ◌≤◌, ◌-◌}
+use Rattle.std.proofs.Common.{◌≡◌, ◌<◌, ◌-◌}
 use Rattle.odin_outside.specs.Disk.{IsQuiet}
 use Rattle.meaning_store.specs.Images.{AreRecords}
 use Rattle.odin_journal.specs.Moments.{IsQuietAt, Untouched}
@@ -12,7 +12,7 @@ invariant-gates g l = record {
   same : g.D.Disk.size_of l.disk ≡ g.D.Disk.size_of l.initial.disk;
   untouched : IsQuiet (g.D.Disk.told l.initial.disk) → Untouched (g.D.Disk.told l.initial.disk) (g.D.Disk.told l.disk);
   whole : IsQuietAt (g.D.Disk.told l.initial.disk) l.size → AreRecords (g.D.Disk.told l.initial.disk).seen l.initial.gate l.records l.gate;
-  later : g.D.Disk.faults l.initial.disk ≤ g.D.Disk.faults l.disk;
+  faults : g.D.Disk.faults l.disk ≡ g.D.Disk.faults l.initial.disk;
 }
 
 abbrev pub decreases-gates : goal.decreases-gates

@@ -9,12 +9,12 @@ returns-in_default-clause-none g c quiet front =
     let agree : Agree 64 image c.as_slice.result.now = first_agree image _ (c.as_slice.ensures ∙ c.in_ok-front.ensures.bytes quiet.quiet) (omega (arith, quiet.long)) in
     rw c.in_default.is at c.start_in.ensures.none (marks_there image _ agree front)
 
-pub returns-then-start-lt64-clause-none : goal.returns-then-start-lt64-clause-none
-returns-then-start-lt64-clause-none g c quiet front =
+pub returns-then-start-lt-FRONT_SIZE-clause-none : goal.returns-then-start-lt-FRONT_SIZE-clause-none
+returns-then-start-lt-FRONT_SIZE-clause-none g c quiet front =
     let image = (g.D.Disk.told c.args.disk.now).seen in
     let agree : Agree 64 image c.as_slice.result.now = first_agree image _ (c.as_slice.ensures ∙ c.in_ok-front.ensures.bytes quiet.quiet) (omega (arith, quiet.long)) in
     let start = c.in-Some.ensures.start ∙ agree_start 64 image _ agree (omega arith) in
-    elim c.then-start-lt64.either [
+    elim c.then-start-lt-FRONT_SIZE.either [
       | inl below ↦ omega (arith, start, front.starts_behind)
       | inr past ↦ omega (arith, past.1, start, front.starts_within, quiet.long)
     ]
@@ -22,11 +22,7 @@ returns-then-start-lt64-clause-none g c quiet front =
 pub returns-clause-some : goal.returns-clause-some
 returns-clause-some g c quiet =
     let image = (g.D.Disk.told c.args.disk.now).seen in
-    let agree : Agree 64 image c.as_slice.result.now = first_agree image _ (c.as_slice.ensures ∙ c.in_ok-front.ensures.bytes quiet.quiet) (omega (arith, quiet.long)) in
-    front_there image _ agree c.in-Some.ensures.some (subst (λ s. 64 ≤ s) c.in-Some.ensures.start (omega arith)) (subst (λ s. s < length image) c.in-Some.ensures.start (omega (arith, quiet.long)))
-
-pub returns-clause-start : goal.returns-clause-start
-returns-clause-start g c quiet =
-    let image = (g.D.Disk.told c.args.disk.now).seen in
-    let agree : Agree 64 image c.as_slice.result.now = first_agree image _ (c.as_slice.ensures ∙ c.in_ok-front.ensures.bytes quiet.quiet) (omega (arith, quiet.long)) in
-    c.in-Some.ensures.start ∙ agree_start 64 image _ agree (omega arith)
+    let agree : Agree 64 image c.as_slice.result.now = first_agree image _ (c.as_slice.ensures ∙ c.in_ok-front.ensures.bytes quiet.quiet) (omega (arith, quiet.long)) in (
+      front_there image _ agree c.in-Some.ensures.some (subst (λ s. 64 ≤ s) c.in-Some.ensures.start (omega arith)) (subst (λ s. s < length image) c.in-Some.ensures.start (omega (arith, quiet.long))),
+      c.in-Some.ensures.start ∙ agree_start 64 image _ agree (omega arith),
+    )

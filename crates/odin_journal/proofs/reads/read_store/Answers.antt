@@ -12,7 +12,6 @@ returns-clause-store g c =
     let size = c.args.size in
     let start = c.in-Some.start in
     let front = rw c.in-Some.is at c.in_ok-start.ensures.some in
-    let start_is = rw c.in-Some.is at c.in_ok-start.ensures.start in
     if_ok_two c.read_records.result
     (λ read. IsQuietAt mid size → AreRecords mid.seen start read.1 read.0)
     (λ read. IsQuietAt mid size → IsClosed mid.seen read.0)
@@ -20,7 +19,7 @@ returns-clause-store g c =
     (λ read whole closed quiet written.
     let untouched = c.read_start.ensures.untouched quiet.quiet in
     let there = quiet_on old mid size untouched quiet in
-    store_from old.seen start read.0 read.1 written (front quiet) (start_is quiet) (subst (λ image. AreRecords image start read.1 read.0) untouched.same (whole there)) (subst (λ image. IsClosed image read.0) untouched.same (closed there)))
+    store_from old.seen start read.0 read.1 written (front quiet).0 (front quiet).1 (subst (λ image. AreRecords image start read.1 read.0) untouched.same (whole there)) (subst (λ image. IsClosed image read.0) untouched.same (closed there)))
     c.read_records.ensures.whole c.read_records.ensures.closed
 
 pub returns-clause-err : goal.returns-clause-err
@@ -30,9 +29,8 @@ returns-clause-err g c =
     let size = c.args.size in
     let start = c.in-Some.start in
     let front = rw c.in-Some.is at c.in_ok-start.ensures.some in
-    let start_is = rw c.in-Some.is at c.in_ok-start.ensures.start in
-    faults_from (λ at. IsQuietAt mid size → BreaksBehind mid.seen start at) (λ at. IsQuietAt old size → IsWritten old.seen → NotOurs old.seen at) (g.D.Disk.faults c.args.disk.now) (g.D.Disk.faults c.read_start.new.disk) (g.D.Disk.faults c.read_records.new.disk) c.read_records.result c.read_start.ensures.later
+    faults_from (λ at. IsQuietAt mid size → BreaksBehind mid.seen start at) (λ at. IsQuietAt old size → IsWritten old.seen → NotOurs old.seen at) c.read_records.result
     (λ at breaks quiet written.
     let untouched = c.read_start.ensures.untouched quiet.quiet in
-    breaks_from old.seen start at written (front quiet) (start_is quiet) (subst (λ image. BreaksBehind image start at) untouched.same (breaks (quiet_on old mid size untouched quiet))))
+    breaks_from old.seen start at written (front quiet).0 (front quiet).1 (subst (λ image. BreaksBehind image start at) untouched.same (breaks (quiet_on old mid size untouched quiet))))
     c.read_records.ensures.err

@@ -1,7 +1,7 @@
 use Rattle.std.proofs.Common.{length, sym, subst}
 use Rattle.odin_outside.specs.Disk.{Torn, wrote, synced_at}
 use Rattle.odin_outside.specs.Steps.{torn_same}
-use Rattle.odin_journal.proofs.MomentLemmas.{follows_on, one_call, next_call, after_write, after_sync, sync_quiets}
+use Rattle.odin_outside.specs.Moments.{follows_on, one_call, next_call, after_write, after_sync, sync_quiets}
 use Rattle.odin_journal.proofs.writes.write_synced.Goals as goal
 
 pub returns-in_err-write_at-clause-any_moment : goal.returns-in_err-write_at-clause-any_moment

@@ -1,0 +1,14 @@
+use Rattle.std.proofs.Common.{◌≡◌, ◌≤◌, ◌⊎◌, take}
+use Rattle.odin_outside.specs.Disk.{IsCrashImage}
+use Rattle.odin_fakes.specs.Calls.{image_after, pending_after}
+use Rattle.odin_fakes.specs.Choices.{IsWhole}
+use Rattle.odin_fakes.specs.Entries.{calls_of, bytes_left}
+use Rattle.odin_fakes.proofs.replay.torn.Given as goal
+
+abbrev pub invariant-loop-place : goal.invariant-loop-place
+invariant-loop-place l =
+    (l.bytes ≡ bytes_left (take l.place l.entries) l.written)
+    × IsWhole l.whole
+    × (IsWhole l.fn.choice → IsWhole l.choice)
+    × IsCrashImage (pending_after l.first (calls_of (take l.place l.entries) l.written)) l.image.items
+    × ((l.place ≤ l.pending) ⊎ IsWhole l.fn.choice → l.image.items ≡ image_after l.first (calls_of (take l.place l.entries) l.written))

@@ -1,0 +1,46 @@
+-- What is read of a store, on a disk of a size on which nothing is pending.
+use Rattle.std.specs.Prelude.{◌≡◌, ℕ, List}
+use Rattle.meaning_store.specs.Front.{start_of, HasFront}
+use Rattle.meaning_store.specs.Images.{IsWritten, IsOpen, IsClosed, IsRecord, AreRecords, IsStore, NotOurs}
+use Rattle.odin_outside.specs.Disk.{Telling, IsQuiet}
+use Rattle.odin_journal.specs.Faults.{HasNoRecord, BreaksBehind}
+use Rattle.odin_journal.specs.Moments.{IsQuietAt, IsTooLong}
+
+-- the record at a gate
+abbrev pub HasRecord : Telling → ℕ → ℕ → List ℕ → Type 0
+HasRecord disk size gate payload = IsQuietAt disk size → IsRecord disk.seen gate payload
+
+-- a gate that is closed
+abbrev pub IsShut : Telling → ℕ → ℕ → Type 0
+IsShut disk size gate = IsQuietAt disk size → IsClosed disk.seen gate
+
+-- an open gate with no record
+abbrev pub BreaksHere : Telling → ℕ → ℕ → ℕ → Type 0
+BreaksHere disk size gate at = (at ≡ gate) × (IsQuietAt disk size → IsOpen disk.seen gate × HasNoRecord disk.seen gate)
+
+-- the records from a start on, and the gate that ends them
+abbrev pub HasRecords : Telling → ℕ → ℕ → ℕ × List (List ℕ) → Type 0
+HasRecords disk size start read = IsQuietAt disk size → AreRecords disk.seen start read.1 read.0
+
+-- such an open gate behind records
+abbrev pub BreaksFrom : Telling → ℕ → ℕ → ℕ → Type 0
+BreaksFrom disk size start at = IsQuietAt disk size → BreaksBehind disk.seen start at
+
+-- a front, and the start in use
+abbrev pub HasStart : Telling → ℕ → ℕ → Type 0
+HasStart disk size start = IsQuietAt disk size → HasFront disk.seen × (start ≡ start_of disk.seen)
+
+abbrev pub HasNoFront : Telling → ℕ → Type 0
+HasNoFront disk size = IsQuietAt disk size → HasFront disk.seen → ⊥
+
+-- a store, of a file that doesn't count as new
+abbrev pub HasStore : Telling → ℕ → ℕ × List (List ℕ) → Type 0
+HasStore disk size read = IsQuietAt disk size → IsWritten disk.seen → IsStore disk.seen read.1 read.0
+
+-- and a place at which it isn't ours
+abbrev pub BreaksStore : Telling → ℕ → ℕ → Type 0
+BreaksStore disk size at = IsQuietAt disk size → IsWritten disk.seen → NotOurs disk.seen at
+
+-- a file that is too long
+abbrev pub IsLong : Telling → ℕ → Type 0
+IsLong disk at = IsQuiet disk → IsTooLong disk.seen at
