@@ -132,7 +132,7 @@ pub refused : (g : Graph) (table : Option Table) (s : Sources) (text reply : Tex
 refused g table s text reply before old new is behind =
     record { reply = reply; behind = behind; holds = inl (record { answer = refuses g table s text reply is; did = inl (record { refused = is; told = refl }) }) }
 
-pub start_refused : (g : Graph) (table : Option Table) (s : Sources) (text : Text) (n : Node) (before now : Spawned) (old new : Text)
-    → Asks g text n → AreBegun g table s n faults.Spawn before now → now.running ≡ [] → new ≡ old ++ refused_tool_start → Replied g table s text before now old new
-start_refused g table s text n before now old new asks begun idle behind =
-    record { reply = refused_tool_start; behind = behind; holds = inr (record { node = n; asks = asks; is = refl; begun = begun; idle = idle }) }
+pub start_refused : (g : Graph) (table : Option Table) (s : Sources) (text : Text) (n : Node) (fault : PlainFault) (before now : Spawned) (old new : Text)
+    → Asks g text n → fault ≡ faults.Spawn → AreBegun g table s n fault before now → now.running ≡ [] → new ≡ old ++ refused_tool_start → Replied g table s text before now old new
+start_refused g table s text n fault before now old new asks is begun idle behind =
+    record { reply = refused_tool_start; behind = behind; holds = inr (record { node = n; asks = asks; is = refl; begun = subst (λ f. AreBegun g table s n f before now) is begun; idle = idle }) }

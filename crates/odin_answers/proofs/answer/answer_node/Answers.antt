@@ -3,7 +3,6 @@ use Rattle.std.specs.Prelude.{Ok, Err}
 use Rattle.odin_answers.proofs.Joins.{on_ok, on_err}
 use Rattle.odin_answers.proofs.AnswerLemmas.{found_of, are_made, cut_off, are_begun, shown, start_refused}
 use Rattle.plain_derive.specs.declared.found.Found.TheVariants as found
-use Rattle.plain_derive.specs.declared.fault.PlainFault.TheVariants as fault
 use Rattle.odin_answers.proofs.answer.answer_node.Goals as goal
 
 pub returns-in-Ok-Answer-clause-ok : goal.returns-in-Ok-Answer-clause-ok
@@ -42,12 +41,12 @@ returns-in-Ok-Deep-clause-begun g c =
 pub returns-in-Err-Spawn-clause-ok : goal.returns-in-Err-Spawn-clause-ok
 returns-in-Err-Spawn-clause-ok g c =
     let is = c.in-Err-Spawn.is ∙ ap Err c.in-Err-Spawn.field-0-is in
-    on_ok c.write_start_refused.result (λ behind text asks. start_refused c.args.graph.now _ c.args.sources.now.texts text c.args.node.now _ _ c.args.out.now c.write_start_refused.new.out asks
-    (cut_off c.args.graph.now _ c.args.sources.now.texts c.args.node.now _ _ c.derive_plain.result fault.Spawn (c.in-Err-Spawn.is ∙ ap Err c.in-Err-Spawn.field-0-is) c.in-Err-Spawn.ensures.begun c.derive_plain.ensures.few c.derive_plain.ensures.untouched c.derive_plain.ensures.one c.derive_plain.ensures.cause) (c.derive_plain.ensures.idle (λ e. cc)) behind) c.write_start_refused.ensures
+    on_ok c.write_start_refused.result (λ behind text asks. start_refused c.args.graph.now _ c.args.sources.now.texts text c.args.node.now _ _ _ c.args.out.now c.write_start_refused.new.out asks
+    c.in-Err-Spawn.field-0-is (cut_off c.args.graph.now _ c.args.sources.now.texts c.args.node.now _ _ c.derive_plain.result c.in-Err-Spawn.field-0 c.in-Err-Spawn.is c.in-Err-Spawn.ensures.begun c.derive_plain.ensures.few c.derive_plain.ensures.untouched c.derive_plain.ensures.one c.derive_plain.ensures.cause) (c.derive_plain.ensures.idle (λ e. cc)) behind) c.write_start_refused.ensures
 
 pub returns-in-Err-Spawn-clause-begun : goal.returns-in-Err-Spawn-clause-begun
 returns-in-Err-Spawn-clause-begun g c =
-    on_err c.write_start_refused.result (λ text asks. record { node = _; asks = asks; fault = _; begun = (cut_off c.args.graph.now _ c.args.sources.now.texts c.args.node.now _ _ c.derive_plain.result fault.Spawn (c.in-Err-Spawn.is ∙ ap Err c.in-Err-Spawn.field-0-is) c.in-Err-Spawn.ensures.begun c.derive_plain.ensures.few c.derive_plain.ensures.untouched c.derive_plain.ensures.one c.derive_plain.ensures.cause) })
+    on_err c.write_start_refused.result (λ text asks. record { node = _; asks = asks; fault = _; begun = (cut_off c.args.graph.now _ c.args.sources.now.texts c.args.node.now _ _ c.derive_plain.result c.in-Err-Spawn.field-0 c.in-Err-Spawn.is c.in-Err-Spawn.ensures.begun c.derive_plain.ensures.few c.derive_plain.ensures.untouched c.derive_plain.ensures.one c.derive_plain.ensures.cause) })
 
 pub returns-in-Err-Memory-clause-begun : goal.returns-in-Err-Memory-clause-begun
-returns-in-Err-Memory-clause-begun g c text asks = record { node = _; asks = asks; fault = _; begun = (cut_off c.args.graph.now _ c.args.sources.now.texts c.args.node.now _ _ c.derive_plain.result fault.Memory (c.in-Err-Memory.is ∙ ap Err c.in-Err-Memory.field-0-is) c.in-Err-Memory.ensures.begun c.derive_plain.ensures.few c.derive_plain.ensures.untouched c.derive_plain.ensures.one c.derive_plain.ensures.cause) }
+returns-in-Err-Memory-clause-begun g c text asks = record { node = _; asks = asks; fault = _; begun = (cut_off c.args.graph.now _ c.args.sources.now.texts c.args.node.now _ _ c.derive_plain.result c.in-Err-Memory.field-0 c.in-Err-Memory.is c.in-Err-Memory.ensures.begun c.derive_plain.ensures.few c.derive_plain.ensures.untouched c.derive_plain.ensures.one c.derive_plain.ensures.cause) }
