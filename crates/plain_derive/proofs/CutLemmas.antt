@@ -1,17 +1,20 @@
 -- What is told of the tools once a call was made, or was given up.
-use Rattle.std.proofs.Common.{◌≡◌, ◌≢◌, ◌≤◌, ◌+◌, [], ◌∷◌, ◌++◌, length, inl, inr, refl, sym, subst, ap, ◌∙◌, min, arith}
-use Rattle.std.specs.Prelude.{Option, Some, None, Result, Err}
-use Rattle.object_values.specs.declared.nodes.Node.{Node}
+use Rattle.std.proofs.Common.{◌≡◌, ◌≢◌, ◌≤◌, ◌+◌, List, [], ◌∷◌, ◌++◌, length, inl, inr, refl, sym, subst, ap, ◌∙◌, min, arith}
+use Rattle.std.specs.Prelude.{Option, Result, Ok, Err}
+use Rattle.object_values.specs.declared.nodes.Step.{Step}
 use Rattle.object_values.specs.declared.calls.Call.{Call}
-use Rattle.odin_outside.specs.declared.events.ToolEvent.TheVariants.{Ended}
-use Rattle.odin_outside.specs.Causes.{last_count, Rose, IsCounted, HasCauseBut}
-use Rattle.odin_outside.specs.Spawned.{Spawned}
+use Rattle.object_values.specs.declared.calls.Outcome.{Outcome}
+use Rattle.odin_outside.specs.Causes.{last_count, Rose, IsCounted}
+use Rattle.odin_outside.specs.Spawned.{Table, Spawned}
 use Rattle.meaning_calls.specs.Jobs.{job_of}
 use Rattle.meaning_graph.specs.Graphs.{Graph}
-use Rattle.meaning_tasks.specs.Needs.{Results}
+use Rattle.plain_derive.specs.declared.derived.Derived.{Derived}
 use Rattle.plain_derive.specs.declared.fault.PlainFault.{PlainFault}
+use Rattle.plain_derive.specs.declared.found.Found.{Found}
+use Rattle.plain_derive.specs.declared.made.Made.{Made}
 use Rattle.plain_derive.specs.declared.fault.PlainFault.TheVariants.{Spawn, Memory}
-use Rattle.plain_derive.specs.Logs.{after_call, IsCut, HasCalled, GivesUp}
+use Rattle.plain_derive.specs.Deriving.{GivesUp}
+use Rattle.plain_derive.specs.Logs.{IsCut, MakesCall, no_call, made_before, made_now, ComeToRest}
 
 -- ---- a call that was made
 
@@ -22,16 +25,10 @@ pub record IsCalm (before now : Spawned) : Type 0 where
   pub faults : now.faults ≡ before.faults
   pub few : now.starts ≤ before.starts + 1
 
-calm_after : (before now : Spawned) (o : Option Call) → now ≡ after_call before o → IsCalm before now
-calm_after before now None e =
-    let same : now.starts ≡ before.starts = ap (λ (z : Spawned). z.starts) e in
-    record { answer = ap (λ (z : Spawned). z.answer) e; idle = λ none. ap (λ (z : Spawned). z.running) e ∙ none; faults = ap (λ (z : Spawned). z.faults) e; few = omega (arith, same) }
-calm_after before now (Some call) e =
-    let more : now.starts ≡ min (before.starts + 1) last_count = ap (λ (z : Spawned). z.starts) e in
-    record { answer = ap (λ (z : Spawned). z.answer) e; idle = λ none. ap (λ (z : Spawned). z.running) e; faults = ap (λ (z : Spawned). z.faults) e; few = omega (arith, more) }
-
-pub called_calm : (g : Graph) (n : Node) (seen : Results) (before now : Spawned) → HasCalled g n seen before now → IsCalm before now
-called_calm g n seen before now made = calm_after before now made.call made.now_is
+pub makes_calm : (answer : Option Table) (made : List Made) (before : Spawned) (call : Option Call) (outcome : Option Outcome) (made' : List Made) (now : Spawned) → MakesCall answer made before call outcome made' now → IsCalm before now
+makes_calm answer made before call outcome made' now no_call = record { answer = refl; idle = λ none. none; faults = refl; few = omega arith }
+makes_calm answer made before call outcome made' now (made_before c o is) = record { answer = refl; idle = λ none. none; faults = refl; few = omega arith }
+makes_calm answer made before call outcome made' now (made_now c o first is) = record { answer = refl; idle = λ none. refl; faults = refl; few = omega arith }
 
 -- ---- a call that was given up
 
@@ -78,10 +75,14 @@ cut_stopped call Memory before now idle (inr (inr e)) =
     let more : now.starts ≡ min (before.starts + 1) last_count = ap (λ (z : Spawned). z.starts) e in
     at_memory before now (ap (λ (z : Spawned). z.answer) e) (none_one now (ap (λ (z : Spawned). z.running) e)) (ap (λ (z : Spawned). z.faults) e) (omega (arith, more))
 
-pub gives_up_stopped : (g : Graph) (n : Node) (seen : Results) (fault : PlainFault) (before now : Spawned) → before.running ≡ [] → GivesUp g n seen fault before now → IsStopped fault before now
-gives_up_stopped g n seen fault before now idle (inl wanted) = subst (λ f. IsStopped f before now) (sym wanted.memory) (memory_stopped before now idle wanted.same)
-gives_up_stopped g n seen fault before now idle (inr cut) = cut_stopped cut.call fault before now idle cut.cut
+pub gives_up_stopped : (g : Graph) (base : Derived) (step : Step) (made : List Made) (before : Spawned) (fault : PlainFault) (now : Spawned) → before.running ≡ [] → GivesUp g base step made before fault now → IsStopped fault before now
+gives_up_stopped g base step made before fault now idle (inl wanted) = subst (λ f. IsStopped f before now) (sym wanted.memory) (memory_stopped before now idle wanted.same)
+gives_up_stopped g base step made before fault now idle (inr cut) = cut_stopped cut.call fault before now idle cut.off.cut
 
--- how the count of faults changed over it
-pub stopped_cause : {T : Type 0} (result : Result T PlainFault) (fault : PlainFault) (before now : Spawned) → result ≡ Err fault → IsStopped fault before now → HasCauseBut Memory before.faults now.faults result
-stopped_cause result fault before now is stopped = subst (λ r. HasCauseBut Memory before.faults now.faults r) (sym is) (record { later = stopped.later; ok = tt; wanted = λ e. stopped.same cc; failed = stopped.rose })
+-- ---- at the end of a derivation
+
+pub rest_at_ok : (first now : Spawned) (result : Result Found PlainFault) (found : Found) → result ≡ Ok found → now.answer ≡ first.answer → now.running ≡ [] → ComeToRest first now result
+rest_at_ok first now result found is answer idle = record { answer = answer; one = none_one now idle; idle = λ other. idle }
+
+pub rest_at_err : (first before now : Spawned) (result : Result Found PlainFault) (fault : PlainFault) → result ≡ Err fault → before.answer ≡ first.answer → IsStopped fault before now → ComeToRest first now result
+rest_at_err first before now result fault is answer stopped = record { answer = stopped.answer ∙ answer; one = stopped.one; idle = λ other. stopped.idle (λ e. other (is ∙ ap (λ f. Err f) e)) }

@@ -5,4 +5,5 @@ pub mod Faults
 pub mod Founds
 pub mod Lines
 pub mod Logs
+pub mod Made
 pub mod Seen

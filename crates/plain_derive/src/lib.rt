@@ -7,6 +7,7 @@ mod derivation;
 mod derived;
 mod fault;
 mod found;
+mod made;
 mod needing;
 mod nodes;
 mod results;

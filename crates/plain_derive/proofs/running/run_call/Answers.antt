@@ -1,11 +1,11 @@
-use Rattle.std.proofs.Common.{◌∙◌, inl, inr, refl, ap}
+use Rattle.std.proofs.Common.{◌∙◌, inr, ap}
 use Rattle.std.specs.Prelude.{Err}
 use Rattle.std.proofs.lemmas.Result.{err_from_is_err_and}
 use Rattle.plain_derive.proofs.RunLemmas.{outcome_told, cut_told, made_told, cut_at}
 use Rattle.plain_derive.proofs.running.run_call.Goals as goal
 
 pub returns-clause-outcome : goal.returns-clause-outcome
-returns-clause-outcome g c = outcome_told _ _ _ _ _ _ _ _ _ c.requires c.in_ok-start.ensures.ok c.in_ok-raw.ensures.ok c.in_ok-job.ensures c.in_ok-outcome.ensures.is
+returns-clause-outcome g c = record { fits = c.in_ok-outcome.ensures.fits; told = outcome_told _ _ _ _ _ _ _ _ _ c.requires c.in_ok-start.ensures.ok c.in_ok-raw.ensures.ok c.in_ok-job.ensures c.in_ok-outcome.ensures.is }
 
 pub returns-clause-made : goal.returns-clause-made
 returns-clause-made g c = made_told _ _ _ _ _ _ c.requires c.in_ok-start.ensures.slot c.in_ok-start.ensures.ok c.in_ok-job.ensures _ _ c.in_ok-raw.ensures.ok
