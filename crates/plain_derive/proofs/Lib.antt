@@ -6,6 +6,7 @@ pub mod FoundLemmas
 pub mod LineNeeds
 pub mod LineNodes
 pub mod LineViews
+pub mod LogLemmas
 pub mod MadeLemmas
 pub mod RunLemmas
 pub mod SourceLemmas

@@ -1,7 +1,7 @@
 -- The nodes of a line, by places, and the calls of its first ones.
-use Rattle.std.proofs.Common.{◌≡◌, ◌+◌, ◌<◌, ◌≤◌, ℕ, zero, suc, List, [], ◌∷◌, ◌++◌, ap, ◌∙◌, refl, length, take, slice_get, arith, append_assoc}
+use Rattle.std.proofs.Common.{◌≡◌, ◌+◌, ◌<◌, ◌≤◌, ℕ, zero, suc, List, [], ◌∷◌, ◌++◌, ap, ◌∙◌, refl, inl, inr, length, take, slice_get, arith, append_assoc}
 use Rattle.std.specs.Prelude.{nat_le, Some}
-use Rattle.std.proofs.lemmas.Bool.{le-leb, lt-leb}
+use Rattle.std.proofs.lemmas.Bool.{cases_lt, le-leb, lt-leb}
 use Rattle.std.proofs.lemmas.List.{take_more, take_all}
 use Rattle.std.proofs.lemmas.Option.{slice_get_within, get_or_from_slice_get}
 use Rattle.object_values.specs.declared.nodes.Step.{Step}
@@ -50,3 +50,10 @@ line_whole n i few all =
 pub calls_next : (before : Spawned) (calls : List Call) (call : Call) → after_calls before (calls ++ call ∷ []) ≡ closed (after_calls before calls) call (Ended 0)
 calls_next before [] call = refl
 calls_next before (first ∷ calls) call = calls_next (closed before first (Ended 0)) calls call
+
+-- no more nodes than steps
+pub length-line : (n : Node) → length (line_of n) ≤ length n.steps
+length-line n = elim (cases_lt (length n.steps) 64) [
+  | inl few ↦ let same : length (line_of n) ≡ length n.steps = ap length (line_shallow n few) ∙ length-on (front n 0) n.steps in omega (arith, same)
+  | inr deep ↦ let none : length (line_of n) ≡ 0 = ap length (line_deep n deep) in omega (arith, none)
+]

@@ -7,6 +7,7 @@ mod derivation;
 mod derived;
 mod fault;
 mod found;
+pub mod laws;
 mod made;
 mod needing;
 mod nodes;
