@@ -23,8 +23,8 @@ use path_planner::Plans;
 use std::alloc::Global;
 use type_graph::Graph;
 
-/// The view of the node, or the chain for which it is refused. Tools run one after another; after `Spawn` none runs, and after
-/// `Memory` one may still run.
+/// The view of the node, or the chain for which it is refused. Tools run one after another; after
+/// `Spawn` none runs, and after `Memory` one may still run.
 pub fn derive_plain<S: Spawner>(
     alloc: Global,
     graph: &Graph,
@@ -37,14 +37,10 @@ pub fn derive_plain<S: Spawner>(
     requires made { plans.now ≡ graph.now }
     requires fits { Fits graph.now node.now }
     requires idle { (S.told tools.old).running ≡ [] }
-    ensures found {
-        IfOk result (HasDerived graph.now sources.now.texts node.now
-            (S.told tools.old) (S.told tools.new))
-    }
-    ensures given_up {
-        IfErr result (HasGivenUp graph.now sources.now.texts node.now
-            (S.told tools.old) (S.told tools.new))
-    }
+    ensures found { IfOk result (HasDerived graph.now sources.now.texts node.now
+        (S.told tools.old) (S.told tools.new)) }
+    ensures given_up { IfErr result (HasGivenUp graph.now sources.now.texts node.now
+        (S.told tools.old) (S.told tools.new)) }
     ensures rest { ComeToRest (S.told tools.old) (S.told tools.new) result }
 {
     if node.steps.len() >= HEIGHT_LIMIT {
@@ -70,10 +66,8 @@ fn derive_source(
     requires fits { Fits graph.now node.now }
     ensures node { IfOk result (λ base. base.node ≡ record node.now { steps = [] }) }
     ensures simple { IfOk result (λ base. HasNoElements base.view) }
-    ensures view {
-        IfOk result (λ base. (outcomes : Outcomes) →
-            derive graph.now sources.now.texts outcomes 1 base.node ≡ Some base.view)
-    }
+    ensures view { IfOk result (λ base. (outcomes : Outcomes) →
+        derive graph.now sources.now.texts outcomes 1 base.node ≡ Some base.view) }
 {
     let node = Node {
         source: node.source.copy(alloc)?,
@@ -98,14 +92,10 @@ fn derive_step<S: Spawner>(
     requires made { HaveOutcomes (S.told tools.old).answer made.old }
     requires idle { (S.told tools.old).running ≡ [] }
     ensures next { IfOk result (IsNext graph.now base.now step.now made.new) }
-    ensures called {
-        OnOk result (HasCalled graph.now base.now step.now
-            made.old (S.told tools.old) made.new (S.told tools.new))
-    }
-    ensures cut {
-        IfErr result (λ fault. GivesUp graph.now base.now step.now
-            made.old (S.told tools.old) fault (S.told tools.new))
-    }
+    ensures called { OnOk result (HasCalled graph.now base.now step.now
+        made.old (S.told tools.old) made.new (S.told tools.new)) }
+    ensures cut { IfErr result (λ fault. GivesUp graph.now base.now step.now
+        made.old (S.told tools.old) fault (S.told tools.new)) }
 {
     let node = stepped(alloc, &base.node, step)?;
     let call = call_for(alloc, graph, plans, &node, base)?;

@@ -16,7 +16,8 @@ fn run_call<S: Spawner>(alloc: Global, call: &Call, tools: &mut S) -> Result<Out
     requires { (S.told tools.old).running ≡ [] }
     ensures outcome { IfOk result (IsOutcomeOf (S.told tools.old).answer call.now) }
     ensures made { OnOk result (S.told tools.new ≡ closed (S.told tools.old) call.now (Ended 0)) }
-    ensures cut { IfErr result (λ fault. IsCut fault call.now (S.told tools.old) (S.told tools.new)) }
+    ensures cut { IfErr result (λ fault. IsCut fault call.now
+        (S.told tools.old) (S.told tools.new)) }
 {
     let job = job_of(alloc, call)?;
     tools.start(alloc, &job)?;
@@ -33,13 +34,10 @@ fn make_once<S: Spawner>(
     tools: &mut S,
 ) -> Result<usize, PlainFault>
     requires { (S.told tools.old).running ≡ [] }
-    ensures makes {
-        IfOk result (λ place. MakesCall (S.told tools.old).answer made.old (S.told tools.old)
-            (Some call) (outcome_at made.new (Some place)) made.new (S.told tools.new))
-    }
-    ensures cut {
-        IfErr result (λ fault. IsCutOff made.old call fault (S.told tools.old) (S.told tools.new))
-    }
+    ensures makes { IfOk result (λ place. MakesCall (S.told tools.old).answer
+        made.old (S.told tools.old) (Some call) (outcome_at made.new (Some place)) made.new (S.told tools.new)) }
+    ensures cut { IfErr result (λ fault. IsCutOff made.old call fault
+        (S.told tools.old) (S.told tools.new)) }
 {
     if let Some(place) = place_of(made.as_slice(), &call) {
         return Ok(place);
@@ -58,13 +56,10 @@ pub(crate) fn make_if_called<S: Spawner>(
     tools: &mut S,
 ) -> Result<Option<usize>, PlainFault>
     requires { (S.told tools.old).running ≡ [] }
-    ensures makes {
-        IfOk result (λ place. MakesCall (S.told tools.old).answer made.old (S.told tools.old)
-            call (outcome_at made.new place) made.new (S.told tools.new))
-    }
-    ensures cut {
-        IfErr result (λ fault. CutsOff made.old call fault (S.told tools.old) (S.told tools.new))
-    }
+    ensures makes { IfOk result (λ place. MakesCall (S.told tools.old).answer
+        made.old (S.told tools.old) call (outcome_at made.new place) made.new (S.told tools.new)) }
+    ensures cut { IfErr result (λ fault. CutsOff made.old call fault
+        (S.told tools.old) (S.told tools.new)) }
 {
     let Some(call) = call else {
         return Ok(None);
