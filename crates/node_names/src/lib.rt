@@ -1,4 +1,5 @@
-//! How nodes are written: their labels, which name them in messages and in calls, and their whole texts.
+//! How nodes are written: their labels, which name them in messages and in calls, and their whole
+//! texts.
 #![tactic(auto)]
 
 mod names;

@@ -51,7 +51,8 @@ fn put_param(param: &ParamValue, out: &mut Bytes) -> Result<(), Memory>
 }
 
 fn put_steps(graph: &Graph, steps: &[Step], out: &mut Bytes) -> Result<(), Memory>
-    ensures { OnOk result (out.new ≡ out.old ++ flat_map step_spelling (map (written_step graph.now) steps.now)) }
+    ensures { let written = map (written_step graph.now) steps.now in
+        OnOk result (out.new ≡ out.old ++ flat_map step_spelling written) }
 {
     for step in steps {
         put_step(graph, step, out)?;

@@ -1,4 +1,5 @@
-// The messages that an object inherits: those of its needs in order and then its own, each once, up to a limit.
+// The messages that an object inherits: those of its needs in order and then its own, each once, up
+// to a limit.
 ghost use Rattle.std.specs.Prelude.{◌≡◌, [], ◌∷◌, flat_map, IfOk, OnOk};
 ghost use Rattle.meaning_nodes.specs.Values.{inherit};
 ghost use Rattle.object_rules.specs.Inheriting.{Inherits};
@@ -77,9 +78,11 @@ impl Inherited {
     }
 }
 
-/// The messages of the needs in order and then the own ones, each once, and no more than the first 1,000.
+/// The messages of the needs in order and then the own ones, each once, and no more than the first
+/// 1,000.
 pub fn inherit(alloc: Global, needs: &[View], own: &[Message]) -> Result<Seq<Message>, Memory>
-    ensures { IfOk result (λ messages. messages ≡ inherit (flat_map (λ view. view.messages) needs.now) own.now) }
+    ensures { let taken = flat_map (λ view. view.messages) needs.now in
+        IfOk result (λ messages. messages ≡ inherit taken own.now) }
 {
     let mut messages = Inherited::new(alloc);
     for need in needs {

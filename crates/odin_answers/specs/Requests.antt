@@ -1,5 +1,5 @@
 -- Requests: a source, and the type to go on to if one is named.
-use Rattle.std.specs.Prelude.{◌≡◌, ⊤, List, [], ◌∷◌, ◌++◌, Option, Some, None, IfSome}
+use Rattle.std.specs.Prelude.{◌≡◌, ⊤, List, [], ◌∷◌, ◌++◌, Option, Some, None, IfSome, MatchOption}
 use Rattle.object_values.specs.declared.expressions.ExprStep.{ExprStep}
 use Rattle.object_values.specs.declared.expressions.ExprStep.TheVariants.{To}
 use Rattle.object_values.specs.declared.expressions.Expression.{Expression}
@@ -24,6 +24,14 @@ pub record IsRequest (text : Text) (request : Request) : Type 0 where
   pub named : IsName request.source
   pub typed : IfSome request.to IsId
   pub is : text ≡ request_text request
+
+-- the request that the text is, and none exactly where it is none
+abbrev pub IsRequestOf : Text → Option Request → Type 0
+IsRequestOf text request = MatchOption request ((request : Request) → ¬ IsRequest text request) (IsRequest text)
+
+-- the word as the name of a type, and none exactly where it is no ID
+abbrev pub IsTypeName : Text → Option Text → Type 0
+IsTypeName word name = MatchOption name (¬ IsId word) (λ name. (name ≡ word) × IsId name)
 
 abbrev pub steps_to : Option Text → List ExprStep
 steps_to None = []

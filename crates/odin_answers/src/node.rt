@@ -9,8 +9,9 @@ use path_planner::Plans;
 use std::alloc::Global;
 use type_graph::Graph;
 
-/// The node, or why there is none: the name of a type that is nowhere declared, or the number of a step to which no path leads.
-#[derive(Debug, PartialEq, Eq, Hash, Drop)]
+/// The node, or why there is none: the name of a type that is nowhere declared, or the number of a
+/// step to which no path leads.
+#[derive(Drop)]
 pub(crate) enum Asked {
     Node(Node),
     UnknownType(Bytes),
@@ -36,7 +37,8 @@ pub(crate) fn node_asked(
     request: &Request,
 ) -> Result<Asked, Memory>
     requires made { plans.now ≡ graph.now }
-    ensures node { IfOk result (λ asked. node_of graph.now (expression_of request.now) ≡ asked_answer asked) }
+    ensures node { let answer = node_of graph.now (expression_of request.now) in
+        IfOk result (λ asked. answer ≡ asked_answer asked) }
     ensures fits { IfOk result (FitsIfNode graph.now) }
     ensures request { IsRequest (request_text request.now) request.now }
 {

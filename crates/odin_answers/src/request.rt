@@ -2,7 +2,7 @@
 ghost use Rattle.std.specs.Prelude.{◌≡◌, IfOk, MatchOption};
 ghost use Rattle.meaning_run.specs.Items.{HasNo};
 ghost use Rattle.meaning_texts.specs.Classes.{IsId};
-ghost use Rattle.odin_answers.specs.Requests.{request_text, IsRequest};
+ghost use Rattle.odin_answers.specs.Requests.{request_text, IsRequest, IsRequestOf, IsTypeName};
 
 use dg_tokens::is_id;
 use object_values::{Bytes, Memory};
@@ -12,7 +12,7 @@ use std::alloc::Global;
 use std::marker::Model;
 
 /// The name of a type: an ID.
-#[derive(Debug, PartialEq, Eq, PartialOrd, Ord, Hash, Drop)]
+#[derive(Debug, PartialEq, Eq, PartialOrd, Ord, Drop)]
 pub struct TypeName {
     text: Bytes,
 }
@@ -34,7 +34,7 @@ impl Model for TypeName {
 impl TypeName {
     // The name that a word is, if it is one.
     fn read(alloc: Global, word: &[u8]) -> Result<Option<Self>, Memory>
-        ensures { IfOk result (λ name. MatchOption name (¬ IsId word.now) (λ name. (name ≡ word.now) × IsId name)) }
+        ensures { IfOk result (IsTypeName word.now) }
     {
         if !is_id(word) {
             return Ok(None);
@@ -53,7 +53,7 @@ impl TypeName {
 }
 
 /// A source, and the type to go on to if one is named.
-#[derive(Debug, PartialEq, Eq, Hash, Drop)]
+#[derive(Debug, PartialEq, Eq, Drop)]
 pub struct Request {
     pub(crate) source: Name,
     pub(crate) to: Option<TypeName>,
@@ -74,7 +74,7 @@ impl Request {
 // The request that a text without a colon is.
 fn read_alone(alloc: Global, text: &[u8]) -> Result<Option<Request>, Memory>
     requires { HasNo 58 text.now }
-    ensures { IfOk result (λ request. MatchOption request ((request : Request) → ¬ IsRequest text.now request) (IsRequest text.now)) }
+    ensures { IfOk result (IsRequestOf text.now) }
 {
     let Some(source) = read_name(alloc, text)? else {
         return Ok(None);
@@ -84,7 +84,7 @@ fn read_alone(alloc: Global, text: &[u8]) -> Result<Option<Request>, Memory>
 
 /// The request that a text is: `NAME` or `NAME:ID`.
 pub fn read_request(alloc: Global, text: &[u8]) -> Result<Option<Request>, Memory>
-    ensures { IfOk result (λ request. MatchOption request ((request : Request) → ¬ IsRequest text.now request) (IsRequest text.now)) }
+    ensures { IfOk result (IsRequestOf text.now) }
 {
     let Some((word, id)) = cut_at(b':', text) else {
         return read_alone(alloc, text);

@@ -1,40 +1,51 @@
 -- The calls along a line are those of the derivation of its node.
-use Rattle.std.proofs.Common.{◌≡◌, ◌≢◌, ◌+◌, ◌-◌, ◌<◌, ◌≤◌, ℕ, zero, suc, List, [], ◌∷◌, ◌++◌, inl, inr, sym, ap, ◌∙◌, subst, refl, is_some, length, take, min, arith}
-use Rattle.std.specs.Prelude.{Option, Some, None, IfSome}
+use Rattle.std.proofs.Common.{◌≡◌, ◌≢◌, ◌+◌, ◌-◌, ◌<◌, ◌≤◌, ℕ, zero, suc, List, [], ◌∷◌, ◌++◌, inl, inr, sym, ap, ◌∙◌, subst, refl, is_some, length, take, arith}
+use Rattle.std.specs.Prelude.{Option, Some, None}
 use Rattle.std.proofs.lemmas.List.{take_all, length-take-le}
+use Rattle.object_values.specs.declared.nodes.Step.{Step}
 use Rattle.object_values.specs.declared.nodes.Node.{Node}
 use Rattle.object_values.specs.declared.views.View.{View}
 use Rattle.object_values.specs.declared.calls.Call.{Call}
+use Rattle.object_values.specs.declared.calls.Outcome.{Outcome}
 use Rattle.odin_outside.specs.declared.events.ToolEvent.TheVariants.{Ended}
-use Rattle.odin_outside.specs.Causes.{last_count}
-use Rattle.odin_outside.specs.Spawned.{Table, Spawned}
+use Rattle.odin_outside.specs.Spawned.{Spawned}
 use Rattle.meaning_texts.specs.Limits.{height_limit}
 use Rattle.meaning_graph.specs.Graphs.{Graph}
 use Rattle.meaning_graph.specs.Members.{IsIn}
 use Rattle.meaning_graph.proofs.Members.{in_either}
-use Rattle.meaning_nodes.specs.Nodes.{Fits, base_of}
+use Rattle.meaning_nodes.specs.Nodes.{Fits, base_of, stepped}
 use Rattle.meaning_tasks.specs.Needs.{Results}
 use Rattle.meaning_tasks.specs.Calls.{CallOf}
 use Rattle.meaning_derive.specs.Derive.{Sources, Outcomes, derive, derived}
-use Rattle.meaning_derive.specs.Given.{table_outcomes}
 use Rattle.meaning_derive.specs.Chains.{IsNeed, LeadsOn, Chain, IsMet}
 use Rattle.meaning_derive.specs.Calls.{IsCallFrom}
 use Rattle.meaning_derive.proofs.Steps.{grows_to}
+use Rattle.plain_derive.specs.declared.derived.Derived.{Derived}
+use Rattle.plain_derive.specs.declared.made.Made.{Made}
+use Rattle.plain_derive.specs.declared.fault.PlainFault.{PlainFault}
+use Rattle.plain_derive.specs.declared.fault.PlainFault.TheVariants.{Memory}
 use Rattle.plain_derive.specs.Built.{IsBuiltGraph}
 use Rattle.plain_derive.specs.Seen.{only}
-use Rattle.plain_derive.specs.Deriving.{HasNoElements}
-use Rattle.plain_derive.specs.Logs.{closed, IsCut, after_call, HasCalled, GivesUp, line_of, AreCalls, no_node, after_calls, HasMade, HasBegun}
+use Rattle.plain_derive.specs.Deriving.{HasNoElements, known, HasCalled, GivesUp}
+use Rattle.plain_derive.specs.Logs.{closed, IsCut, MakesCall, no_call, made_before, made_now, line_of, AreCalls, no_node, without, again, first, after_calls, HasMade, HasBegun, HasGivenUp}
+use Rattle.plain_derive.specs.Made.{IsOutcomeOf, calls_of, HaveOutcomes, Agree}
 use Rattle.plain_derive.proofs.StepLemmas.{before_front}
 use Rattle.plain_derive.proofs.LineViews.{front, front_fits, only_here, one_need, call_moves}
-use Rattle.plain_derive.proofs.LineNodes.{line_deep, line_got, line_more, line_whole, calls_next, are_without, are_with}
+use Rattle.plain_derive.proofs.LineNodes.{line_deep, line_got, line_more, line_whole, calls_next}
+use Rattle.plain_derive.proofs.MadeLemmas.{outcomes_in, agree_more, have_more, agree_fewer, calls_more, made_in, go_by}
 use Rattle.plain_derive.proofs.DeepLemmas.{base_need}
 
--- The calls of the first nodes of the line were made.
-pub record HasMadeFirst (g : Graph) (s : Sources) (table : Table) (n : Node) (count : ℕ) (before now : Spawned) : Type 0 where
-  pub calls : List Call
-  pub are : AreCalls g (derived g s (table_outcomes table)) (take count (line_of n)) calls
-  pub from : (call : Call) → IsIn call calls → IsCallFrom g (derived g s (table_outcomes table)) n call
-  pub now_is : now ≡ after_calls before calls
+-- The calls of the first nodes of the line were made, each once: under all outcomes that agree with them they are those of the derivation.
+pub record HasMadeFirst (g : Graph) (s : Sources) (n : Node) (count : ℕ) (before : Spawned) (made : List Made) (now : Spawned) : Type 0 where
+  pub have : HaveOutcomes before.answer made
+  pub agree : Agree (outcomes_in made) made
+  pub now_is : now ≡ after_calls before (calls_of made)
+  pub are : (outcomes : Outcomes) → Agree outcomes made → AreCalls g (derived g s outcomes) (take count (line_of n)) (calls_of made)
+  pub from : (outcomes : Outcomes) → Agree outcomes made → (call : Call) → IsIn call (calls_of made) → IsCallFrom g (derived g s outcomes) n call
+
+-- the base is derived under all outcomes that agree with what was made
+abbrev pub IsDerivedBy : Graph → Sources → ℕ → Derived → List Made → Type 0
+IsDerivedBy g s h base made = (outcomes : Outcomes) → Agree outcomes made → derive g s outcomes h base.node ≡ Some base.view
 
 -- ---- the chain to a front of the node
 
@@ -102,88 +113,108 @@ module _ (g : Graph) (n : Node) (built : IsBuiltGraph g) (fits : Fits g n) where
 
   -- ---- calls that were made
 
-  module _ (s : Sources) (table : Table) (i : ℕ) (base node : Node) (below : View) (inside : i < length n.steps) (few : length n.steps < 64) (base_is : base ≡ front n i) (node_is : node ≡ front n (i + 1))
-      (simple : HasNoElements below) (is : derive g s (table_outcomes table) (suc i) base ≡ Some below) where
-    moved : (call : Option Call) → CallOf g node (only base below) call → CallOf g (front n (suc i)) (only (front n i) below) call
+  module _ (s : Sources) (i : ℕ) (base : Derived) (step : Step) (inside : i < length n.steps) (few : length n.steps < 64) (base_is : base.node ≡ front n i) (node_is : stepped base.node step ≡ front n (i + 1)) (simple : HasNoElements base.view) where
+    moved : (call : Option Call) → CallOf g (stepped base.node step) (known base) call → CallOf g (front n (suc i)) (only (front n i) base.view) call
     moved call called =
         let more : i + 1 ≡ suc i = omega arith in
-        subst (λ b. CallOf g (front n (suc i)) (only b below) call) base_is (subst (λ m. CallOf g m (only base below) call) (node_is ∙ ap (front n) more) called)
+        subst (λ b. CallOf g (front n (suc i)) (only b base.view) call) base_is (subst (λ m. CallOf g m (known base) call) (node_is ∙ ap (front n) more) called)
 
-    above : (call : Option Call) → CallOf g node (only base below) call → CallOf g (front n (suc i)) (derived g s (table_outcomes table)) call
-    above call called = call_above s (table_outcomes table) i below inside few (ap (derive g s (table_outcomes table) (suc i)) (sym base_is) ∙ is) simple call (moved call called)
+    module _ (made : List Made) (is : IsDerivedBy g s (suc i) base made) (outcomes : Outcomes) (agree : Agree outcomes made) where
+      below : derive g s outcomes (suc i) (front n i) ≡ Some base.view
+      below = ap (derive g s outcomes (suc i)) (sym base_is) ∙ is outcomes agree
 
-    is_from : (call : Call) → CallOf g node (only base below) (Some call) → IsCallFrom g (derived g s (table_outcomes table)) n call
-    is_from call called = call_from s (table_outcomes table) i below inside few (ap (derive g s (table_outcomes table) (suc i)) (sym base_is) ∙ is) simple call (moved (Some call) called)
+      above : (call : Option Call) → CallOf g (stepped base.node step) (known base) call → CallOf g (front n (suc i)) (derived g s outcomes) call
+      above call called = call_above s outcomes i base.view inside few below simple call (moved call called)
 
-    pub made_next : (before mid now : Spawned) → HasMadeFirst g s table n i before mid → HasCalled g node (only base below) mid now → HasMadeFirst g s table n (i + 1) before now
-    made_next before mid now made step = by_call step.call step.called step.now_is
+      is_from : (call : Call) → CallOf g (stepped base.node step) (known base) (Some call) → IsCallFrom g (derived g s outcomes) n call
+      is_from call called = call_from s outcomes i base.view inside few below simple call (moved (Some call) called)
+
+      one_more : (calls : List Call) → AreCalls g (derived g s outcomes) (take i (line_of n) ++ front n (suc i) ∷ []) calls → AreCalls g (derived g s outcomes) (take (i + 1) (line_of n)) calls
+      one_more calls are = subst (λ nodes. AreCalls g (derived g s outcomes) nodes calls) (sym (line_more n i few inside)) are
+
+    pub made_next : (before mid now : Spawned) (made made' : List Made) → IsDerivedBy g s (suc i) base made → mid.answer ≡ before.answer → HasMadeFirst g s n i before made mid → HasCalled g base step made mid made' now → HasMadeFirst g s n (i + 1) before made' now
+    made_next before mid now made made' is told so call = by_call call.call call.outcome made' now call.called call.makes
       where
-        by_call : (o : Option Call) → CallOf g node (only base below) o → now ≡ after_call mid o → HasMadeFirst g s table n (i + 1) before now
-        by_call None called now_is = record {
-          calls = made.calls;
-          are = subst (λ nodes. AreCalls g (derived g s (table_outcomes table)) nodes made.calls) (sym (line_more n i few inside)) (are_without g (derived g s (table_outcomes table)) (front n (suc i)) (take i (line_of n)) made.calls (above None called) made.are);
-          from = made.from;
-          now_is = now_is ∙ made.now_is;
+        by_call : (o : Option Call) (outcome : Option Outcome) (made' : List Made) (now : Spawned) → CallOf g (stepped base.node step) (known base) o → MakesCall mid.answer made mid o outcome made' now → HasMadeFirst g s n (i + 1) before made' now
+        by_call o outcome made' now called no_call = record {
+          have = so.have;
+          agree = so.agree;
+          now_is = so.now_is;
+          are = λ outcomes agree. one_more made is outcomes agree (calls_of made) (without (take i (line_of n)) (calls_of made) (front n (suc i)) (so.are outcomes agree) (above made is outcomes agree None called));
+          from = so.from;
         }
-        by_call (Some call) called now_is = record {
-          calls = made.calls ++ call ∷ [];
-          are = subst (λ nodes. AreCalls g (derived g s (table_outcomes table)) nodes (made.calls ++ call ∷ [])) (sym (line_more n i few inside))
-              (are_with g (derived g s (table_outcomes table)) (front n (suc i)) (take i (line_of n)) made.calls call (above (Some call) called) made.are);
-          from = λ other h. elim (in_either other made.calls (call ∷ []) h) [
-            | inl k ↦ made.from other k
-            | inr k ↦ elim k [ inl q ↦ subst (λ c. IsCallFrom g (derived g s (table_outcomes table)) n c) (sym q) (is_from call called) | inr none ↦ absurd none ]
-          ];
-          now_is = now_is ∙ ap (λ b. closed b call (Ended 0)) made.now_is ∙ sym (calls_next before made.calls call);
+        by_call o outcome made' now called (made_before call result there) = record {
+          have = so.have;
+          agree = so.agree;
+          now_is = so.now_is;
+          are = λ outcomes agree.
+              one_more made is outcomes agree (calls_of made) (again (take i (line_of n)) (calls_of made) (front n (suc i)) call (so.are outcomes agree) (above made is outcomes agree (Some call) called) (made_in before.answer made call result there));
+          from = so.from;
+        }
+        by_call o outcome made' now called (made_now call result new one) = record {
+          have = have_more before.answer made call result so.have (subst (λ a. IsOutcomeOf a call result) told one);
+          agree = agree_more before.answer made call result new so.agree;
+          now_is = ap (λ b. closed b call (Ended 0)) so.now_is ∙ sym (calls_next before (calls_of made) call) ∙ sym (ap (after_calls before) (calls_more before.answer made call result));
+          are = λ outcomes agree.
+              let fewer = agree_fewer before.answer made call result outcomes agree in
+              subst (λ calls. AreCalls g (derived g s outcomes) (take (i + 1) (line_of n)) calls) (sym (calls_more before.answer made call result))
+              (one_more made is outcomes fewer (calls_of made ++ call ∷ []) (first (take i (line_of n)) (calls_of made) (front n (suc i)) call (so.are outcomes fewer) (above made is outcomes fewer (Some call) called) new));
+          from = λ outcomes agree other h.
+              let fewer = agree_fewer before.answer made call result outcomes agree in
+              elim (in_either other (calls_of made) (call ∷ []) (subst (λ calls. IsIn other calls) (calls_more before.answer made call result) h)) [
+                | inl k ↦ so.from outcomes fewer other k
+                | inr k ↦ elim k [ inl q ↦ subst (λ c. IsCallFrom g (derived g s outcomes) n c) (sym q) (is_from made is outcomes fewer call called) | inr none ↦ absurd none ]
+              ];
         }
 
-    pub cut_next : (before mid now : Spawned) → HasMadeFirst g s table n i before mid → GivesUp g node (only base below) mid now → HasBegun g s table n before now
-    cut_next before mid now made (inl same) = record { count = i; calls = made.calls; are = made.are; from = made.from; cut = inl (same ∙ made.now_is) }
-    cut_next before mid now made (inr c) = record {
-      count = i;
-      calls = made.calls;
-      are = made.are;
-      from = made.from;
-      cut = inr (record {
-        next = front n (suc i);
-        call = c.call;
-        place = line_got n i few inside;
-        called = above (Some c.call) c.called;
-        from = is_from c.call c.called;
-        cut = subst (λ b. IsCut c.call b now) made.now_is c.cut;
-      });
-    }
+    -- What was begun, where the step was given up.
+    pub cut_next : (fault : PlainFault) (before mid now : Spawned) (made : List Made) → IsDerivedBy g s (suc i) base made → HasMadeFirst g s n i before made mid → GivesUp g base step made mid fault now → HasGivenUp g s n before now fault
+    cut_next fault before mid now made is so gives_up =
+        let by = go_by before.answer made so.have so.agree in
+        record { outcomes = by.outcomes; given = by.given; begun = begun by.outcomes by.agree gives_up }
+      where
+        begun : (outcomes : Outcomes) → Agree outcomes made → GivesUp g base step made mid fault now → HasBegun g s outcomes n fault before now
+        begun outcomes agree (inl wanted) = record {
+          count = i;
+          calls = calls_of made;
+          are = so.are outcomes agree;
+          from = so.from outcomes agree;
+          cut = inl (record { memory = wanted.memory; same = wanted.same ∙ so.now_is });
+        }
+        begun outcomes agree (inr c) = record {
+          count = i;
+          calls = calls_of made;
+          are = so.are outcomes agree;
+          from = so.from outcomes agree;
+          cut = inr (record {
+            next = front n (suc i);
+            call = c.call;
+            place = line_got n i few inside;
+            called = above made is outcomes agree (Some c.call) c.called;
+            first = c.off.first;
+            from = is_from made is outcomes agree c.call c.called;
+            cut = subst (λ b. IsCut fault c.call b now) so.now_is c.off.cut;
+          });
+        }
 
 -- ---- before the first step, and behind the last one
 
-pub made_none : (g : Graph) (s : Sources) (table : Table) (n : Node) (told : Spawned) → HasMadeFirst g s table n 0 told told
-made_none g s table n told = record { calls = []; are = no_node; from = λ call h. absurd h; now_is = refl }
+module _ (g : Graph) (s : Sources) (n : Node) (told : Spawned) where
+  pub made_none : (made : List Made) → made ≡ [] → HasMadeFirst g s n 0 told made told
+  made_none made none = subst (λ l. HasMadeFirst g s n 0 told l told) (sym none) (record { have = λ m h. absurd h; agree = λ m h. absurd h; now_is = refl; are = λ outcomes agree. no_node; from = λ outcomes agree call h. absurd h })
 
-pub begun_none : (g : Graph) (s : Sources) (table : Table) (n : Node) (told : Spawned) → HasBegun g s table n told told
-begun_none g s table n told = record { count = 0; calls = []; are = no_node; from = λ call h. absurd h; cut = inl refl }
+  pub begun_none : HasGivenUp g s n told told Memory
+  begun_none =
+      let by = go_by told.answer [] (λ m h. absurd h) (λ m h. absurd h) in
+      record { outcomes = by.outcomes; given = by.given; begun = record { count = 0; calls = []; are = no_node; from = λ call h. absurd h; cut = inl (record { memory = refl; same = refl }) } }
 
-pub made_deep : (g : Graph) (s : Sources) (table : Table) (n : Node) (told : Spawned) → 64 ≤ length n.steps → HasMade g s table n told told
-made_deep g s table n told deep = record { calls = []; are = subst (λ nodes. AreCalls g (derived g s (table_outcomes table)) nodes []) (sym (line_deep n deep)) no_node; from = λ call h. absurd h; now_is = refl }
+  pub made_deep : (outcomes : Outcomes) → 64 ≤ length n.steps → HasMade g s outcomes n told told
+  made_deep outcomes deep = record { calls = []; are = subst (λ nodes. AreCalls g (derived g s outcomes) nodes []) (sym (line_deep n deep)) no_node; from = λ call h. absurd h; now_is = refl }
 
-pub made_all : (g : Graph) (s : Sources) (table : Table) (n : Node) (i : ℕ) (before now : Spawned) → length n.steps < 64 → length n.steps ≤ i → HasMadeFirst g s table n i before now → HasMade g s table n before now
-made_all g s table n i before now few all made = record {
-  calls = made.calls;
-  are = subst (λ nodes. AreCalls g (derived g s (table_outcomes table)) nodes made.calls) (line_whole n i few all) made.are;
-  from = made.from;
-  now_is = made.now_is;
+pub made_all : (g : Graph) (s : Sources) (n : Node) (i : ℕ) (before now : Spawned) (made : List Made) (outcomes : Outcomes) → Agree outcomes made → length n.steps < 64 → length n.steps ≤ i → HasMadeFirst g s n i before made now → HasMade g s outcomes n before now
+made_all g s n i before now made outcomes agree few all so = record {
+  calls = calls_of made;
+  are = subst (λ nodes. AreCalls g (derived g s outcomes) nodes (calls_of made)) (line_whole n i few all) (so.are outcomes agree);
+  from = so.from outcomes agree;
+  now_is = so.now_is;
 }
-
--- ---- what is told of the tools, whatever the graph
-
-pub called_few : (g : Graph) (n : Node) (seen : Results) (before now : Spawned) → HasCalled g n seen before now → now.starts ≤ before.starts + 1
-called_few g n seen before now made = by_call made.call made.now_is
-  where
-    closed_few : now.starts ≡ min (before.starts + 1) last_count → now.starts ≤ before.starts + 1
-    closed_few e = omega (arith, e)
-
-    by_call : (o : Option Call) → now ≡ after_call before o → now.starts ≤ before.starts + 1
-    by_call None e = let same : now.starts ≡ before.starts = ap (λ (z : Spawned). z.starts) e in omega (arith, same)
-    by_call (Some call) e = closed_few (ap (λ (z : Spawned). z.starts) e)
-
-pub told_all : {P : Table → Type 0} (answer : Option Table) → ((table : Table) → answer ≡ Some table → P table) → IfSome answer P
-told_all None each = tt
-told_all (Some table) each = each table refl

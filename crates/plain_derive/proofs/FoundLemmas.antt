@@ -1,31 +1,56 @@
 -- What the last step of a line finds, and each step on the way.
-use Rattle.std.proofs.Common.{◌≡◌, ◌≢◌, ◌+◌, ◌<◌, ◌≤◌, ℕ, suc, List, [], sym, ap, ◌∙◌, subst, refl, length, get_or, arith}
-use Rattle.std.specs.Prelude.{Option, Some, None, IfSome}
+use Rattle.std.proofs.Common.{◌≡◌, ◌≢◌, ◌+◌, ◌<◌, ◌≤◌, ℕ, suc, List, [], ◌∷◌, inl, inr, sym, ap, ◌∙◌, subst, refl, length, get_or, arith}
+use Rattle.std.specs.Prelude.{Option, Some, None, Result, Err, IfErr, option_map}
 use Rattle.std.proofs.lemmas.List.{take_all}
 use Rattle.object_values.specs.declared.nodes.Step.{Step}
 use Rattle.object_values.specs.declared.nodes.Node.{Node}
 use Rattle.object_values.specs.declared.views.View.{View}
 use Rattle.object_values.specs.declared.calls.Call.{Call}
 use Rattle.object_values.specs.declared.calls.Outcome.{Outcome}
-use Rattle.odin_outside.specs.Spawned.{Table}
+use Rattle.odin_outside.specs.Spawned.{Table, Spawned}
 use Rattle.meaning_texts.specs.Limits.{height_limit}
 use Rattle.meaning_graph.specs.Graphs.{Graph}
+use Rattle.meaning_graph.proofs.Members.{in_right}
 use Rattle.meaning_nodes.specs.Nodes.{Fits, base_of, stepped}
 use Rattle.meaning_tasks.specs.Calls.{CallOf}
 use Rattle.meaning_tasks.specs.Settle.{Texts, Settles}
 use Rattle.meaning_derive.specs.Derive.{Sources, text_of, Outcomes, outcome_for, derive}
-use Rattle.meaning_derive.specs.Given.{table_outcomes}
 use Rattle.meaning_derive.specs.Chains.{IsDeep}
 use Rattle.meaning_derive.specs.Derive.{derived}
 use Rattle.meaning_derive.proofs.Steps.{grows_to}
+use Rattle.plain_derive.specs.declared.derived.Derived.{Derived}
+use Rattle.plain_derive.specs.declared.fault.PlainFault.{PlainFault}
+use Rattle.plain_derive.specs.declared.fault.PlainFault.TheVariants.{Memory}
+use Rattle.plain_derive.specs.declared.made.Made.{Made}
 use Rattle.plain_derive.specs.declared.found.Found.TheVariants.{Answer, Deep}
 use Rattle.plain_derive.specs.Built.{IsBuiltGraph}
-use Rattle.plain_derive.specs.Seen.{AreSeen, only}
-use Rattle.plain_derive.specs.Deriving.{HasNoElements, IsViewAbove}
+use Rattle.plain_derive.specs.Logs.{MakesCall, no_call, made_before, made_now, CutsOff, HasDerived, HasGivenUp}
+use Rattle.plain_derive.specs.Made.{HaveOutcomes, Agree}
+use Rattle.plain_derive.specs.Seen.{AreSeen, FitsCall, IsOutcomeFor, only}
+use Rattle.plain_derive.specs.Deriving.{HasNoElements, IsNext, known, GivesUp}
 use Rattle.plain_derive.specs.Deep.{bases}
-use Rattle.plain_derive.specs.Founds.{IsFound, IsTooDeep}
 use Rattle.plain_derive.proofs.LineViews.{front, front_next, front_fits, base_stepped, stepped_some, only_here, are_seen, derived_above, settled_none}
+use Rattle.plain_derive.proofs.MadeLemmas.{agree_fewer, go_by}
+use Rattle.plain_derive.proofs.CallLemmas.{HasMadeFirst, IsDerivedBy, made_deep, made_all}
 use Rattle.plain_derive.proofs.DeepLemmas.{bases_deep}
+
+-- ---- what came of a call
+
+answered : (answer : Option Table) (before : Spawned) (made made' : List Made) (now : Spawned) (call : Option Call) (outcome : Option Outcome) (outcomes : Outcomes) → MakesCall answer made before call outcome made' now → Agree outcomes made' → outcome_for outcomes call ≡ Some outcome
+answered answer before made made' now call outcome outcomes no_call agree = refl
+answered answer before made made' now call outcome outcomes (made_before c o there) agree = ap (option_map (λ o. Some o)) (agree (record { call = c; outcome = o }) there)
+answered answer before made made' now call outcome outcomes (made_now c o first is) agree = ap (option_map (λ o. Some o)) (agree (record { call = c; outcome = o }) (in_right (record { call = c; outcome = o }) made ((record { call = c; outcome = o }) ∷ []) (inl refl)))
+
+fitting : (answer : Option Table) (before : Spawned) (made made' : List Made) (now : Spawned) (call : Option Call) (outcome : Option Outcome) → HaveOutcomes answer made → MakesCall answer made before call outcome made' now → FitsCall call outcome
+fitting answer before made made' now call outcome have no_call = tt
+fitting answer before made made' now call outcome have (made_before c o there) = (have (record { call = c; outcome = o }) there).fits
+fitting answer before made made' now call outcome have (made_now c o first is) = is.fits
+
+-- what was made before is among what was made
+fewer : (answer : Option Table) (before : Spawned) (made made' : List Made) (now : Spawned) (call : Option Call) (outcome : Option Outcome) (outcomes : Outcomes) → MakesCall answer made before call outcome made' now → Agree outcomes made' → Agree outcomes made
+fewer answer before made made' now call outcome outcomes no_call agree = agree
+fewer answer before made made' now call outcome outcomes (made_before c o there) agree = agree
+fewer answer before made made' now call outcome outcomes (made_now c o first is) agree = agree_fewer answer made c o outcomes agree
 
 -- ---- one step on
 
@@ -48,11 +73,16 @@ module _ (g : Graph) (base : Node) (below : View) (s : Step) (n : Node) (built :
   pub none_here : (outcome : Option Outcome) (view : View) → ((texts : Texts) → Settles g texts n (only base below) outcome view) → HasNoElements view
   none_here outcome view settles = settled_none g n built fits some (λ x. None) (only base below) outcome view (settles (λ x. None))
 
-  pub above_here : (answer : Option Table) (call : Option Call) (outcome : Option Outcome) (view : View) → CallOf g n (only base below) call
-      → ((table : Table) → answer ≡ Some table → outcome_for (table_outcomes table) call ≡ Some outcome) → ((texts : Texts) → Settles g texts n (only base below) outcome view) → IsViewAbove g answer base below n view
-  above_here answer call outcome view called given settles sources table h told under =
-      derived_above g n built fits some sources (table_outcomes table) h (only base below) below view call outcome
-      (ap (derive g sources (table_outcomes table) h) base_is ∙ under) here simple called (given table told) (settles (text_of sources))
+  -- where the calls that were made have their outcomes, it is derived one height above
+  pub above_here : (answer : Option Table) (before : Spawned) (made made' : List Made) (now : Spawned) (call : Option Call) (outcome : Option Outcome) (view : View) → CallOf g n (only base below) call → MakesCall answer made before call outcome made' now
+      → ((texts : Texts) → Settles g texts n (only base below) outcome view) → (sources : Sources) (outcomes : Outcomes) (h : ℕ) → Agree outcomes made' → derive g sources outcomes h base ≡ Some below → derive g sources outcomes (suc h) n ≡ Some view
+  above_here answer before made made' now call outcome view called makes settles sources outcomes h agree under =
+      derived_above g n built fits some sources outcomes h (only base below) below view call outcome
+      (ap (derive g sources outcomes h) base_is ∙ under) here simple called (answered answer before made made' now call outcome outcomes makes agree) (settles (text_of sources))
+
+  -- the outcome fits the call
+  pub outcome_for_call : (answer : Option Table) (before : Spawned) (made made' : List Made) (now : Spawned) (call : Option Call) (outcome : Option Outcome) → HaveOutcomes answer made → CallOf g n (only base below) call → MakesCall answer made before call outcome made' now → IsOutcomeFor g n (only base below) outcome
+  outcome_for_call answer before made made' now call outcome have called makes = record { call = call; called = called; fits = fitting answer before made made' now call outcome have makes }
 
 -- ---- along the steps
 
@@ -65,32 +95,50 @@ next_fits g n base items i s f same below is base_is = subst (Fits g) (sym (next
 
 -- ---- what is found
 
-pub deep_found : (g : Graph) (s : Sources) (n : Node) (chain : List Node) → IsBuiltGraph g → Fits g n → chain ≡ bases n 64 → 64 ≤ length n.steps → (answer : Option Table) → IfSome answer (λ table. IsFound g s (table_outcomes table) n (Deep chain))
-deep_found g s n chain built f is deep None = tt
-deep_found g s n chain built f is deep (Some table) = subst (IsDeep g (derived g s (table_outcomes table)) n) (sym is) (bases_deep g built (derived g s (table_outcomes table)) n f deep)
+-- A node of too many steps is too deep, whatever comes of the calls.
+pub deep_found : (g : Graph) (s : Sources) (n : Node) (chain : List Node) (told : Spawned) → IsBuiltGraph g → Fits g n → chain ≡ bases n 64 → 64 ≤ length n.steps → HasDerived g s n told told (Deep chain)
+deep_found g s n chain told built f is deep =
+    let by = go_by told.answer [] (λ m h. absurd h) (λ m h. absurd h) in
+    record { outcomes = by.outcomes; given = by.given; is = subst (IsDeep g (derived g s by.outcomes) n) (sym is) (bases_deep g built (derived g s by.outcomes) n f deep); made = made_deep g s n told by.outcomes deep }
 
--- It is too deep whatever comes of the calls.
-pub deep_always : (g : Graph) (s : Sources) (n : Node) (chain : List Node) → IsBuiltGraph g → Fits g n → chain ≡ bases n 64 → 64 ≤ length n.steps → IsTooDeep g s n (Deep chain)
-deep_always g s n chain built f is deep outcomes = subst (IsDeep g (derived g s outcomes) n) (sym is) (bases_deep g built (derived g s outcomes) n f deep)
-
--- A source is found whatever comes of the calls.
-pub source_found : (g : Graph) (s : Sources) (n base : Node) (view : View) → base ≡ front n 0 → n.steps ≡ [] → ((outcomes : Outcomes) → derive g s outcomes 1 base ≡ Some view) → (outcomes : Outcomes) → IsFound g s outcomes n (Answer view)
-source_found g s n base view is none each outcomes =
-    let le : 1 ≤ height_limit = omega arith in
-    let whole : base ≡ n = is ∙ ap (λ l. record n { steps = l }) (sym none) in
-    ap (derived g s outcomes) (sym whole) ∙ grows_to g s outcomes 1 height_limit le base view (each outcomes)
-
-pub answer_found : (g : Graph) (s : Sources) (n base : Node) (view : View) (i : ℕ) → base ≡ front n i → length n.steps ≤ i → i < 64 → (answer : Option Table)
-    → ((table : Table) → answer ≡ Some table → derive g s (table_outcomes table) (suc i) base ≡ Some view) → IfSome answer (λ table. IsFound g s (table_outcomes table) n (Answer view))
-answer_found g s n base view i is all few None each = tt
-answer_found g s n base view i is all few (Some table) each =
+-- Behind the last step the view is that of the node.
+pub answer_found : (g : Graph) (s : Sources) (n : Node) (base : Derived) (i : ℕ) (before now : Spawned) (made : List Made) → base.node ≡ front n i → length n.steps ≤ i → i < 64
+    → IsDerivedBy g s (suc i) base made → HasMadeFirst g s n i before made now → HasDerived g s n before now (Answer base.view)
+answer_found g s n base i before now made is all few derived_by so =
+    let by = go_by before.answer made so.have so.agree in
     let le : suc i ≤ height_limit = omega arith in
-    let whole : base ≡ n = is ∙ ap (λ l. record n { steps = l }) (take_all i n.steps all) in
-    ap (derived g s (table_outcomes table)) (sym whole) ∙ grows_to g s (table_outcomes table) (suc i) height_limit le base view (each table refl)
+    let whole : base.node ≡ n = is ∙ ap (λ l. record n { steps = l }) (take_all i n.steps all) in
+    record {
+      outcomes = by.outcomes;
+      given = by.given;
+      is = ap (derived g s by.outcomes) (sym whole) ∙ grows_to g s by.outcomes (suc i) height_limit le base.node base.view (derived_by by.outcomes by.agree);
+      made = made_all g s n i before now made by.outcomes by.agree (omega arith) all so;
+    }
 
--- the view one step on, under the same answers
-pub next_view : (g : Graph) (s : Sources) (first now : Option Table) (base n : Node) (below view : View) (i : ℕ) → now ≡ first → ((table : Table) → first ≡ Some table → derive g s (table_outcomes table) (suc i) base ≡ Some below)
-    → IsViewAbove g now base below n view → (table : Table) → first ≡ Some table → derive g s (table_outcomes table) (suc (i + 1)) n ≡ Some view
-next_view g s first now base n below view i same under above table told =
+-- the view one step on, where more calls may have been made
+pub next_view : (g : Graph) (s : Sources) (base next : Derived) (step : Step) (answer : Option Table) (before : Spawned) (made made' : List Made) (now : Spawned) (call : Option Call) (outcome : Option Outcome) (i : ℕ)
+    → IsDerivedBy g s (suc i) base made → IsNext g base step made' next → MakesCall answer made before call outcome made' now → IsDerivedBy g s (suc (i + 1)) next made'
+next_view g s base next step answer before made made' now call outcome i under is makes outcomes agree =
     let more : suc (suc i) ≡ suc (i + 1) = omega arith in
-    subst (λ h. derive g s (table_outcomes table) h n ≡ Some view) more (above s table (suc i) (same ∙ told) (under table told))
+    subst (λ h. derive g s outcomes h next.node ≡ Some next.view) more (is.above s outcomes (suc i) agree (under outcomes (fewer answer before made made' now call outcome outcomes makes agree)))
+
+-- ---- where a step is given up
+
+module _ (g : Graph) (base : Derived) (step : Step) (made : List Made) (before : Spawned) where
+  pub cut_step : (call : Option Call) (fault : PlainFault) (now : Spawned) → CallOf g (stepped base.node step) (known base) call → CutsOff made call fault before now → GivesUp g base step made before fault now
+  cut_step None fault now called off = absurd off
+  cut_step (Some call) fault now called off = inr (record { call = call; called = called; off = off })
+
+  pub cut_view : (answer : Option Table) (call : Option Call) (outcome : Option Outcome) (made' : List Made) (now : Spawned) → CallOf g (stepped base.node step) (known base) call → MakesCall answer made before call outcome made' now → GivesUp g base step made before Memory now
+  cut_view answer call outcome made' now called no_call = inl (record { memory = refl; same = refl })
+  cut_view answer call outcome made' now called (made_before c o there) = inl (record { memory = refl; same = refl })
+  cut_view answer call outcome made' now called (made_now c o first is) = inr (record { call = c; called = called; off = record { first = first; cut = inr (inr refl) } })
+
+-- It is so at the fault that is answered.
+pub gives_up_at : {T : Type 0} (r : Result T PlainFault) (g : Graph) (base : Derived) (step : Step) (made : List Made) (before : Spawned) (fault : PlainFault) (now : Spawned)
+    → r ≡ Err fault → GivesUp g base step made before fault now → IfErr r (λ f. GivesUp g base step made before f now)
+gives_up_at r g base step made before fault now is cut = subst (λ x. IfErr x (λ f. GivesUp g base step made before f now)) (sym is) cut
+
+pub given_up_at : {T : Type 0} (r : Result T PlainFault) (g : Graph) (s : Sources) (n : Node) (before now : Spawned) (fault : PlainFault)
+    → r ≡ Err fault → HasGivenUp g s n before now fault → IfErr r (HasGivenUp g s n before now)
+given_up_at r g s n before now fault is cut = subst (λ x. IfErr x (HasGivenUp g s n before now)) (sym is) cut

@@ -1,10 +1,13 @@
 pub mod BegunLemmas
 pub mod CallLemmas
+pub mod CutLemmas
 pub mod DeepLemmas
 pub mod FoundLemmas
 pub mod LineNeeds
 pub mod LineNodes
 pub mod LineViews
+pub mod LogLemmas
+pub mod MadeLemmas
 pub mod RunLemmas
 pub mod SourceLemmas
 pub mod StepLemmas

@@ -1,7 +1,7 @@
 -- The nodes of a line, by places, and the calls of its first ones.
-use Rattle.std.proofs.Common.{◌≡◌, ◌+◌, ◌<◌, ◌≤◌, ℕ, zero, suc, List, [], ◌∷◌, ◌++◌, ap, ◌∙◌, refl, length, take, slice_get, arith, append_assoc}
-use Rattle.std.specs.Prelude.{nat_le, Some, None}
-use Rattle.std.proofs.lemmas.Bool.{le-leb, lt-leb}
+use Rattle.std.proofs.Common.{◌≡◌, ◌+◌, ◌<◌, ◌≤◌, ℕ, zero, suc, List, [], ◌∷◌, ◌++◌, ap, ◌∙◌, refl, inl, inr, length, take, slice_get, arith, append_assoc}
+use Rattle.std.specs.Prelude.{nat_le, Some}
+use Rattle.std.proofs.lemmas.Bool.{cases_lt, le-leb, lt-leb}
 use Rattle.std.proofs.lemmas.List.{take_more, take_all}
 use Rattle.std.proofs.lemmas.Option.{slice_get_within, get_or_from_slice_get}
 use Rattle.object_values.specs.declared.nodes.Step.{Step}
@@ -9,13 +9,10 @@ use Rattle.object_values.specs.declared.nodes.Node.{Node}
 use Rattle.object_values.specs.declared.calls.Call.{Call}
 use Rattle.odin_outside.specs.declared.events.ToolEvent.TheVariants.{Ended}
 use Rattle.odin_outside.specs.Spawned.{Spawned}
-use Rattle.meaning_graph.specs.Graphs.{Graph}
 use Rattle.meaning_graph.proofs.Members.{cond_true, cond_false}
 use Rattle.meaning_nodes.specs.Nodes.{stepped}
 use Rattle.meaning_texts.specs.Limits.{height_limit}
-use Rattle.meaning_tasks.specs.Needs.{Results}
-use Rattle.meaning_tasks.specs.Calls.{CallOf}
-use Rattle.plain_derive.specs.Logs.{closed, nodes_on, line_of, AreCalls, no_node, without, with_call, after_calls}
+use Rattle.plain_derive.specs.Logs.{closed, nodes_on, line_of, after_calls}
 use Rattle.plain_derive.proofs.LineViews.{front}
 
 -- ---- nodes
@@ -54,13 +51,9 @@ pub calls_next : (before : Spawned) (calls : List Call) (call : Call) → after_
 calls_next before [] call = refl
 calls_next before (first ∷ calls) call = calls_next (closed before first (Ended 0)) calls call
 
-module _ (g : Graph) (seen : Results) (n : Node) where
-  pub are_without : (nodes : List Node) (calls : List Call) → CallOf g n seen None → AreCalls g seen nodes calls → AreCalls g seen (nodes ++ n ∷ []) calls
-  are_without nodes calls called no_node = without n [] [] called no_node
-  are_without nodes calls called (without m more others c rest) = without m (more ++ n ∷ []) others c (are_without more others called rest)
-  are_without nodes calls called (with_call m more first others c rest) = with_call m (more ++ n ∷ []) first others c (are_without more others called rest)
-
-  pub are_with : (nodes : List Node) (calls : List Call) (call : Call) → CallOf g n seen (Some call) → AreCalls g seen nodes calls → AreCalls g seen (nodes ++ n ∷ []) (calls ++ call ∷ [])
-  are_with nodes calls call called no_node = with_call n [] call [] called no_node
-  are_with nodes calls call called (without m more others c rest) = without m (more ++ n ∷ []) (others ++ call ∷ []) c (are_with more others call called rest)
-  are_with nodes calls call called (with_call m more first others c rest) = with_call m (more ++ n ∷ []) first (others ++ call ∷ []) c (are_with more others call called rest)
+-- no more nodes than steps
+pub length-line : (n : Node) → length (line_of n) ≤ length n.steps
+length-line n = elim (cases_lt (length n.steps) 64) [
+  | inl few ↦ let same : length (line_of n) ≡ length n.steps = ap length (line_shallow n few) ∙ length-on (front n 0) n.steps in omega (arith, same)
+  | inr deep ↦ let none : length (line_of n) ≡ 0 = ap length (line_deep n deep) in omega (arith, none)
+]

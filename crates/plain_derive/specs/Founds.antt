@@ -2,7 +2,7 @@
 use Rattle.object_values.specs.declared.nodes.Node.{Node}
 use Rattle.plain_derive.specs.declared.found.Found.{Found}
 use Rattle.plain_derive.specs.declared.found.Found.TheVariants.{Answer, Circular, Deep}
-use Rattle.std.specs.Prelude.{◌≡◌, ⊤, Some}
+use Rattle.std.specs.Prelude.{◌≡◌, Some}
 use Rattle.meaning_graph.specs.Graphs.{Graph}
 use Rattle.meaning_derive.specs.Derive.{Sources, Outcomes, derived}
 use Rattle.meaning_derive.specs.Chains.{IsCircular, IsDeep}
@@ -11,15 +11,3 @@ abbrev pub IsFound : Graph → Sources → Outcomes → Node → Found → Type 
 IsFound g s outcomes n (Answer view) = derived g s outcomes n ≡ Some view
 IsFound g s outcomes n (Circular chain) = IsCircular g (derived g s outcomes) n chain
 IsFound g s outcomes n (Deep chain) = IsDeep g (derived g s outcomes) n chain
-
--- a view, and no chain
-abbrev pub IsAnswer : Found → Type 0
-IsAnswer (Answer view) = ⊤
-IsAnswer (Circular chain) = ⊥
-IsAnswer (Deep chain) = ⊥
-
--- a deep chain, whatever comes of the calls
-abbrev pub IsTooDeep : Graph → Sources → Node → Found → Type 0
-IsTooDeep g s n (Answer view) = ⊥
-IsTooDeep g s n (Circular chain) = ⊥
-IsTooDeep g s n (Deep chain) = (outcomes : Outcomes) → IsDeep g (derived g s outcomes) n chain

@@ -4,5 +4,7 @@ pub mod Deriving
 pub mod Faults
 pub mod Founds
 pub mod Lines
+pub mod Laws
 pub mod Logs
+pub mod Made
 pub mod Seen

@@ -56,7 +56,10 @@ fn value_parts<R: Results>(
     base: &Node,
     seen: &R,
 ) -> Result<Option<Seq<CallPart>>, Memory>
-    ensures { let known = values_of (R.results seen.now) in IfOk result (λ parts. parts ≡ cond (all_valued known (base.now ∷ elements_of (known base.now))) (Some (node_parts graph.now known 0 base.now)) None) }
+    ensures { let known = values_of (R.results seen.now) in
+        let all = all_valued known (base.now ∷ elements_of (known base.now)) in
+        IfOk result (λ parts. parts ≡ cond all
+        (Some (node_parts graph.now known 0 base.now)) None) }
 {
     let Some(value) = value_in(seen.find(base)) else {
         return Ok(None);
@@ -87,7 +90,9 @@ fn element_parts<R: Results>(
     elements: &[Node],
     seen: &R,
 ) -> Result<Option<Seq<CallPart>>, Memory>
-    ensures { let known = values_of (R.results seen.now) in IfOk result (λ parts. parts ≡ cond (all_valued known elements.now) (Some (map (simple_part graph.now known 0) elements.now)) None) }
+    ensures { let known = values_of (R.results seen.now) in
+        IfOk result (λ parts. parts ≡ cond (all_valued known elements.now)
+        (Some (map (simple_part graph.now known 0) elements.now)) None) }
 {
     let mut parts = Seq::new(alloc);
     for element in elements {

@@ -1,22 +1,20 @@
 // Derivation of a node from the sources, with nothing kept.
-ghost use Rattle.std.specs.Prelude.{◌≡◌, ◌≢◌, ◌<◌, ◌≤◌, ◌+◌, ◌⊎◌, [], length, Some, IfOk, IfSome, OnErr};
+ghost use Rattle.std.specs.Prelude.{◌≡◌, ◌<◌, ◌≤◌, ◌+◌, [], length, Some, OnOk, IfOk, IfErr};
 ghost use Rattle.meaning_derive.specs.Derive.{Outcomes, derive};
-ghost use Rattle.meaning_derive.specs.Given.{table_outcomes};
 ghost use Rattle.meaning_nodes.specs.Nodes.{Fits, stepped};
-ghost use Rattle.odin_outside.specs.Causes.{Rose};
 ghost use Rattle.plain_derive.specs.Built.{IsBuiltGraph};
-ghost use Rattle.plain_derive.specs.Deriving.{HasNoElements, IsViewAbove};
-ghost use Rattle.plain_derive.specs.Founds.{IsFound, IsAnswer, IsTooDeep};
-ghost use Rattle.plain_derive.specs.Logs.{HasCalled, GivesUp, HasMade, HasBegun};
-ghost use Rattle.plain_derive.specs.Seen.{only};
+ghost use Rattle.plain_derive.specs.Deriving.{HasNoElements, CanStep, IsNext, HasCalled, GivesUp};
+ghost use Rattle.plain_derive.specs.Logs.{HasDerived, HasGivenUp, ComeToRest};
+ghost use Rattle.plain_derive.specs.Made.{HaveOutcomes};
 
 use crate::calling::call_for;
 use crate::deep::{HEIGHT_LIMIT, deep_chain};
 use crate::derived::{Derived, source_view};
 use crate::fault::PlainFault;
 use crate::found::Found;
+use crate::made::{Made, outcome_at};
 use crate::nodes::stepped;
-use crate::running::run_if_called;
+use crate::running::make_if_called;
 use crate::settling::settle;
 use object_sources::Sources;
 use object_values::{Copied, Memory, Node, Seq, Step};
@@ -25,8 +23,8 @@ use path_planner::Plans;
 use std::alloc::Global;
 use type_graph::Graph;
 
-/// The view of the node, or the chain for which it is refused. Tools run one after another; after `Spawn` none runs, and after
-/// `Memory` one may still run.
+/// The view of the node, or the chain for which it is refused. Tools run one after another; after
+/// `Spawn` none runs, and after `Memory` one may still run.
 pub fn derive_plain<S: Spawner>(
     alloc: Global,
     graph: &Graph,
@@ -39,27 +37,20 @@ pub fn derive_plain<S: Spawner>(
     requires made { plans.now ≡ graph.now }
     requires fits { Fits graph.now node.now }
     requires idle { (S.told tools.old).running ≡ [] }
-    ensures ok { IfOk result (λ found. IfSome (S.told tools.old).answer (λ table. IsFound graph.now sources.now.texts (table_outcomes table) node.now found)) }
-    ensures source { node.now.steps ≡ [] → IfOk result (λ found. (outcomes : Outcomes) → IsFound graph.now sources.now.texts outcomes node.now found) }
-    ensures deep { 64 ≤ length node.now.steps → IfOk result (IsTooDeep graph.now sources.now.texts node.now) }
-    ensures shallow { length node.now.steps < 64 → IfOk result IsAnswer }
-    ensures untouched { (64 ≤ length node.now.steps) ⊎ (node.now.steps ≡ []) → S.told tools.new ≡ S.told tools.old }
-    ensures few { (S.told tools.new).starts ≤ (S.told tools.old).starts + length node.now.steps }
-    ensures idle { result ≢ Err PlainFault.Memory → (S.told tools.new).running ≡ [] }
-    ensures one { length (S.told tools.new).running ≤ 1 }
-    ensures answer { (S.told tools.new).answer ≡ (S.told tools.old).answer }
-    ensures later { S.faults tools.old ≤ S.faults tools.new }
-    ensures cause { result ≡ Err PlainFault.Spawn → Rose (S.faults tools.old) (S.faults tools.new) }
-    ensures made { IfOk result (λ found. IfSome (S.told tools.old).answer (λ table. HasMade graph.now sources.now.texts table node.now (S.told tools.old) (S.told tools.new))) }
-    ensures begun { OnErr result (IfSome (S.told tools.old).answer (λ table. HasBegun graph.now sources.now.texts table node.now (S.told tools.old) (S.told tools.new))) }
+    ensures found { IfOk result (HasDerived graph.now sources.now.texts node.now
+        (S.told tools.old) (S.told tools.new)) }
+    ensures given_up { IfErr result (HasGivenUp graph.now sources.now.texts node.now
+        (S.told tools.old) (S.told tools.new)) }
+    ensures rest { ComeToRest (S.told tools.old) (S.told tools.new) result }
 {
     if node.steps.len() >= HEIGHT_LIMIT {
         let chain = deep_chain(alloc, node)?;
         return Ok(Found::Deep(chain));
     }
+    let mut made = Seq::new(alloc);
     let mut base = derive_source(alloc, graph, sources, node)?;
     for step in node.steps.as_slice() {
-        base = derive_step(alloc, graph, plans, &base, step, tools)?;
+        base = derive_step(alloc, graph, plans, &base, step, &mut made, tools)?;
     }
     Ok(Found::Answer(base.into_view()))
 }
@@ -75,7 +66,8 @@ fn derive_source(
     requires fits { Fits graph.now node.now }
     ensures node { IfOk result (λ base. base.node ≡ record node.now { steps = [] }) }
     ensures simple { IfOk result (λ base. HasNoElements base.view) }
-    ensures view { IfOk result (λ base. (outcomes : Outcomes) → derive graph.now sources.now.texts outcomes 1 base.node ≡ Some base.view) }
+    ensures view { IfOk result (λ base. (outcomes : Outcomes) →
+        derive graph.now sources.now.texts outcomes 1 base.node ≡ Some base.view) }
 {
     let node = Node {
         source: node.source.copy(alloc)?,
@@ -86,33 +78,29 @@ fn derive_source(
     Ok(Derived { node, view })
 }
 
-// One step on from a node with its view.
+// One step on from a node with its view. Its call is made unless it was made before.
 fn derive_step<S: Spawner>(
     alloc: Global,
     graph: &Graph,
     plans: &Plans,
     base: &Derived,
     step: &Step,
+    made: &mut Seq<Made>,
     tools: &mut S,
 ) -> Result<Derived, PlainFault>
-    requires built { IsBuiltGraph graph.now }
-    requires made { plans.now ≡ graph.now }
-    requires fits { Fits graph.now (stepped base.now.node step.now) }
-    requires simple { HasNoElements base.now.view }
+    requires can { CanStep graph.now plans.now base.now step.now }
+    requires made { HaveOutcomes (S.told tools.old).answer made.old }
     requires idle { (S.told tools.old).running ≡ [] }
-    ensures node { IfOk result (λ derived. derived.node ≡ stepped base.now.node step.now) }
-    ensures simple { IfOk result (λ derived. HasNoElements derived.view) }
-    ensures view { IfOk result (λ derived. IsViewAbove graph.now (S.told tools.old).answer base.now.node base.now.view derived.node derived.view) }
-    ensures idle { result ≢ Err PlainFault.Memory → (S.told tools.new).running ≡ [] }
-    ensures answer { (S.told tools.new).answer ≡ (S.told tools.old).answer }
-    ensures later { S.faults tools.old ≤ S.faults tools.new }
-    ensures cause { result ≡ Err PlainFault.Spawn → Rose (S.faults tools.old) (S.faults tools.new) }
-    ensures made { IfOk result (λ derived. HasCalled graph.now derived.node (only base.now.node base.now.view) (S.told tools.old) (S.told tools.new)) }
-    ensures cut { OnErr result (GivesUp graph.now (stepped base.now.node step.now) (only base.now.node base.now.view) (S.told tools.old) (S.told tools.new)) }
+    ensures next { IfOk result (IsNext graph.now base.now step.now made.new) }
+    ensures called { OnOk result (HasCalled graph.now base.now step.now
+        made.old (S.told tools.old) made.new (S.told tools.new)) }
+    ensures cut { IfErr result (λ fault. GivesUp graph.now base.now step.now
+        made.old (S.told tools.old) fault (S.told tools.new)) }
 {
     let node = stepped(alloc, &base.node, step)?;
     let call = call_for(alloc, graph, plans, &node, base)?;
-    let outcome = run_if_called(alloc, &call, tools)?;
-    let view = settle(alloc, graph, plans, &node, base, outcome.as_ref())?;
+    let place = make_if_called(alloc, call, made, tools)?;
+    let outcome = outcome_at(made.as_slice(), place);
+    let view = settle(alloc, graph, plans, &node, base, outcome)?;
     Ok(Derived { node, view })
 }

@@ -59,7 +59,11 @@ pub(crate) fn source_view(
     sources: &Sources,
     node: &Node,
 ) -> Result<View, Memory>
-    ensures { let own = given_own (label_of_node graph.now node.now) node.now.source (map.get sources.now.texts node.now.source) in IfOk result (λ view. view ≡ record { value = own.value; status = own.status; messages = inherit [] own.messages }) }
+    ensures { let label = label_of_node graph.now node.now in
+        let text = map.get sources.now.texts node.now.source in
+        let own = given_own label node.now.source text in
+        IfOk result (λ view. view ≡
+        record { value = own.value; status = own.status; messages = inherit [] own.messages }) }
 {
     if let Some(text) = sources.get(node.source.as_slice()) {
         return Ok(View {

@@ -1,4 +1,5 @@
-//! Derivation with nothing kept, one tool at a time: what a node needs, which tool it runs, what it settles to, and its result.
+//! Derivation with nothing kept, one tool at a time: what a node needs, which tool it runs, what it
+//! settles to, and its result.
 #![tactic(auto)]
 
 mod calling;
@@ -7,6 +8,8 @@ mod derivation;
 mod derived;
 mod fault;
 mod found;
+pub mod laws;
+mod made;
 mod needing;
 mod nodes;
 mod results;

@@ -36,7 +36,8 @@ pub(crate) fn stepped(alloc: Global, node: &Node, step: &Step) -> Result<Node, M
 pub(crate) fn last_tool<'a>(graph: &'a Graph, node: &Node) -> Option<(&'a MakerDecl, &'a ToolDecl)>
     requires built { IsBuiltGraph graph.now }
     requires fits { Fits graph.now node.now }
-    ensures some { IfSome result (λ found. task_of graph.now node.now ≡ tooled (line_task node.now found.0.now found.1.now)) }
+    ensures some { IfSome result (λ found. task_of graph.now node.now ≡
+        tooled (line_task node.now found.0.now found.1.now)) }
     ensures none { IfNone result (task_of graph.now node.now ≡ given node.now.source) }
 {
     let number = match last_step(node) {

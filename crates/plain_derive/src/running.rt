@@ -1,16 +1,12 @@
-// One call, run while nothing else runs.
-ghost use Rattle.std.specs.Prelude.{◌≡◌, ◌≢◌, ◌≤◌, [], Some, IfOk, OnErr};
-ghost use Rattle.meaning_calls.specs.Outcomes.{Fits};
-ghost use Rattle.meaning_derive.specs.Derive.{outcome_for};
-ghost use Rattle.meaning_derive.specs.Given.{table_outcomes};
+// Calls, each made once, while nothing else runs.
+ghost use Rattle.std.specs.Prelude.{◌≡◌, [], Some, OnOk, IfOk, IfErr};
 ghost use Rattle.odin_outside.specs.declared.events.ToolEvent.TheVariants.{Ended};
-ghost use Rattle.odin_outside.specs.Causes.{Rose};
-ghost use Rattle.odin_outside.specs.Spawned.{Table};
-ghost use Rattle.plain_derive.specs.Logs.{closed, after_call, IsCut, CutOff};
-ghost use Rattle.plain_derive.specs.Seen.{FitsCall};
+ghost use Rattle.plain_derive.specs.Logs.{closed, IsCut, MakesCall, IsCutOff, CutsOff};
+ghost use Rattle.plain_derive.specs.Made.{IsOutcomeOf, outcome_at};
 
 use crate::fault::PlainFault;
-use object_values::{Call, Outcome};
+use crate::made::{Made, place_of};
+use object_values::{Call, Outcome, Seq};
 use odin_outside::Spawner;
 use std::alloc::Global;
 use tool_calls::{job_of, outcome_of};
@@ -18,14 +14,10 @@ use tool_calls::{job_of, outcome_of};
 // Runs the tool of a call to its end.
 fn run_call<S: Spawner>(alloc: Global, call: &Call, tools: &mut S) -> Result<Outcome, PlainFault>
     requires { (S.told tools.old).running ≡ [] }
-    ensures fits { IfOk result (Fits call.now) }
-    ensures outcome { IfOk result (λ outcome. (table : Table) → (S.told tools.old).answer ≡ Some table → table_outcomes table call.now ≡ Some outcome) }
-    ensures idle { result ≢ Err PlainFault.Memory → (S.told tools.new).running ≡ [] }
-    ensures answer { (S.told tools.new).answer ≡ (S.told tools.old).answer }
-    ensures later { S.faults tools.old ≤ S.faults tools.new }
-    ensures cause { result ≡ Err PlainFault.Spawn → Rose (S.faults tools.old) (S.faults tools.new) }
-    ensures made { IfOk result (λ outcome. S.told tools.new ≡ closed (S.told tools.old) call.now (Ended 0)) }
-    ensures cut { OnErr result (IsCut call.now (S.told tools.old) (S.told tools.new)) }
+    ensures outcome { IfOk result (IsOutcomeOf (S.told tools.old).answer call.now) }
+    ensures made { OnOk result (S.told tools.new ≡ closed (S.told tools.old) call.now (Ended 0)) }
+    ensures cut { IfErr result (λ fault. IsCut fault call.now
+        (S.told tools.old) (S.told tools.new)) }
 {
     let job = job_of(alloc, call)?;
     tools.start(alloc, &job)?;
@@ -34,27 +26,44 @@ fn run_call<S: Spawner>(alloc: Global, call: &Call, tools: &mut S) -> Result<Out
     Ok(outcome)
 }
 
-/// The outcome of the call, where there is one.
-pub(crate) fn run_if_called<S: Spawner>(
+// Makes a call unless it was made before, and gives its place.
+fn make_once<S: Spawner>(
     alloc: Global,
-    call: &Option<Call>,
+    call: Call,
+    made: &mut Seq<Made>,
     tools: &mut S,
-) -> Result<Option<Outcome>, PlainFault>
+) -> Result<usize, PlainFault>
     requires { (S.told tools.old).running ≡ [] }
-    ensures fits { IfOk result (FitsCall call.now) }
-    ensures outcome { IfOk result (λ outcome. (table : Table) → (S.told tools.old).answer ≡ Some table → outcome_for (table_outcomes table) call.now ≡ Some outcome) }
-    ensures idle { result ≢ Err PlainFault.Memory → (S.told tools.new).running ≡ [] }
-    ensures answer { (S.told tools.new).answer ≡ (S.told tools.old).answer }
-    ensures later { S.faults tools.old ≤ S.faults tools.new }
-    ensures cause { result ≡ Err PlainFault.Spawn → Rose (S.faults tools.old) (S.faults tools.new) }
-    ensures made { IfOk result (λ outcome. S.told tools.new ≡ after_call (S.told tools.old) call.now) }
-    ensures cut { OnErr result (CutOff call.now (S.told tools.old) (S.told tools.new)) }
+    ensures makes { IfOk result (λ place. MakesCall (S.told tools.old).answer
+        made.old (S.told tools.old) (Some call) (outcome_at made.new (Some place)) made.new (S.told tools.new)) }
+    ensures cut { IfErr result (λ fault. IsCutOff made.old call fault
+        (S.told tools.old) (S.told tools.new)) }
 {
-    match call {
-        None => Ok(None),
-        Some(call) => {
-            let outcome = run_call(alloc, call, tools)?;
-            Ok(Some(outcome))
-        }
+    if let Some(place) = place_of(made.as_slice(), &call) {
+        return Ok(place);
     }
+    let outcome = run_call(alloc, &call, tools)?;
+    let place = made.len();
+    made.push(Made { call, outcome })?;
+    Ok(place)
+}
+
+/// The place of the call, where there is one.
+pub(crate) fn make_if_called<S: Spawner>(
+    alloc: Global,
+    call: Option<Call>,
+    made: &mut Seq<Made>,
+    tools: &mut S,
+) -> Result<Option<usize>, PlainFault>
+    requires { (S.told tools.old).running ≡ [] }
+    ensures makes { IfOk result (λ place. MakesCall (S.told tools.old).answer
+        made.old (S.told tools.old) call (outcome_at made.new place) made.new (S.told tools.new)) }
+    ensures cut { IfErr result (λ fault. CutsOff made.old call fault
+        (S.told tools.old) (S.told tools.new)) }
+{
+    let Some(call) = call else {
+        return Ok(None);
+    };
+    let place = make_once(alloc, call, made, tools)?;
+    Ok(Some(place))
 }

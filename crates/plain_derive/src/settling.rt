@@ -29,8 +29,11 @@ pub fn settle<R: Results>(
     requires fits { Fits graph.now node.now }
     requires stepped { node.now.steps ≢ [] }
     requires seen { AreSeen graph.now node.now (R.results seen.now) }
-    requires called { IsOutcomeFor graph.now node.now (R.results seen.now) (option_map (λ o. o.now) outcome) }
-    ensures { IfOk result (λ view. (texts : Texts) → Settles graph.now texts node.now (R.results seen.now) (option_map (λ o. o.now) outcome.entry) view) }
+    requires called { let given = option_map (λ o. o.now) outcome in
+        IsOutcomeFor graph.now node.now (R.results seen.now) given }
+    ensures { let given = option_map (λ o. o.now) outcome.entry in
+        IfOk result (λ view. (texts : Texts) →
+        Settles graph.now texts node.now (R.results seen.now) given view) }
 {
     let needed = needs(alloc, graph, plans, node, seen)?;
     let own = own_view(alloc, graph, node, outcome)?;
@@ -59,7 +62,10 @@ fn own_view(
     outcome: Option<&Outcome>,
 ) -> Result<View, Memory>
     requires { HasOneOutput (option_map (λ o. o.now) outcome) }
-    ensures { let own = outcome_own (label_of_node graph.now node.now) false [] (option_map (λ o. o.now) outcome.entry) in IfOk result (λ view. view ≡ record { value = own.value; status = own.status; messages = own.messages }) }
+    ensures { let given = option_map (λ o. o.now) outcome.entry in
+        let own = outcome_own (label_of_node graph.now node.now) false [] given in
+        IfOk result (λ view. view ≡
+        record { value = own.value; status = own.status; messages = own.messages }) }
 {
     let Some(outcome) = outcome else {
         return Ok(View {

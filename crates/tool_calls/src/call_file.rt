@@ -59,7 +59,8 @@ fn write_out(name: &[u8], out: &mut Bytes) -> Result<(), Memory>
 }
 
 fn write_params(params: &[ParamValue], out: &mut Bytes) -> Result<(), Memory>
-    ensures { OnOk result (out.new ≡ out.old ++ flat_map with_lf (map meaning.param_line params.now)) }
+    ensures { OnOk result (out.new ≡ out.old ++
+        flat_map with_lf (map meaning.param_line params.now)) }
 {
     for param in params {
         write_param(param, out)?;

@@ -7,7 +7,8 @@ use object_values::{Bytes, Memory, Raw};
 use std::alloc::Global;
 use std::collections::HashMap;
 
-/// What a job left, with the bodies of its files by their names. Of several files of one name the first counts.
+/// What a job left, with the bodies of its files by their names. Of several files of one name the
+/// first counts.
 #[derive(Drop)]
 pub(crate) struct Left<'a> {
     pub(crate) raw: &'a Raw,
@@ -30,7 +31,8 @@ impl<'a> Left<'a> {
 
     /// The body of the first file of that name.
     pub(crate) fn body(&self, name: &[u8]) -> Option<&Bytes>
-        ensures { option_map (λ body. body.now) result ≡ meaning.file_in name.now self.now.raw.now.files }
+        ensures { option_map (λ body. body.now) result ≡
+            meaning.file_in name.now self.now.raw.now.files }
     {
         self.bodies.get(&name).copied()
     }

@@ -12,7 +12,9 @@ use std::alloc::Global;
 
 // The messages of the tool, at this level.
 fn lines_of(alloc: Global, level: Status, left: &Left) -> Result<Seq<OwnLine>, Memory>
-    ensures { IfOk result (λ lines. lines ≡ map (meaning.at_level level) (meaning.message_lines (meaning.warnings_of left.now.raw.now))) }
+    ensures { let warnings = meaning.warnings_of left.now.raw.now in
+        IfOk result (λ lines. lines ≡
+        map (meaning.at_level level) (meaning.message_lines warnings)) }
 {
     match left.body(WARNINGS) {
         Some(warnings) => own_lines(alloc, level, warnings.as_slice()),
@@ -28,7 +30,9 @@ fn ended_well(
     status: Status,
     mut lines: Seq<OwnLine>,
 ) -> Result<Outcome, Memory>
-    ensures { IfOk result (λ outcome. outcome ≡ meaning.ended_well call.now left.now.raw.now status lines (meaning.output_faults left.now.raw.now call.now.outs)) }
+    ensures { let faults = meaning.output_faults left.now.raw.now call.now.outs in
+        IfOk result (λ outcome. outcome ≡
+        meaning.ended_well call.now left.now.raw.now status lines faults) }
 {
     let names = call.outs.as_slice();
     let messages = lines.len();
@@ -49,7 +53,9 @@ fn ended_well(
 
 // The outcome of a tool that failed, with a message on how it ended.
 fn ended_badly(alloc: Global, left: &Left, how: Bytes) -> Result<Outcome, Memory>
-    ensures { IfOk result (λ outcome. outcome ≡ meaning.ended_badly (meaning.message_lines (meaning.warnings_of left.now.raw.now)) how) }
+    ensures { let warnings = meaning.warnings_of left.now.raw.now in
+        IfOk result (λ outcome. outcome ≡
+        meaning.ended_badly (meaning.message_lines warnings) how) }
 {
     let mut lines = lines_of(alloc, Status::Abort, left)?;
     lines.push(OwnLine {
@@ -64,7 +70,9 @@ fn ended_badly(alloc: Global, left: &Left, how: Bytes) -> Result<Outcome, Memory
 }
 
 fn exit_outcome(alloc: Global, call: &Call, left: &Left, status: u8) -> Result<Outcome, Memory>
-    ensures { IfOk result (λ outcome. outcome ≡ meaning.exit_outcome call.now left.now.raw.now (meaning.message_lines (meaning.warnings_of left.now.raw.now)) status) }
+    ensures { let lines = meaning.message_lines (meaning.warnings_of left.now.raw.now) in
+        IfOk result (λ outcome. outcome ≡
+        meaning.exit_outcome call.now left.now.raw.now lines status) }
 {
     match status {
         0 => {

@@ -18,7 +18,9 @@ fn put_fault(
     body: Option<&Bytes>,
     lines: &mut Seq<OwnLine>,
 ) -> Result<(), Memory>
-    ensures { OnOk result (lines.new ≡ lines.old ++ map (meaning.at_level Abort) (meaning.output_fault name.now (option_map (λ body. body.now) body.entry))) }
+    ensures { let there = option_map (λ body. body.now) body.entry in
+        let faults = meaning.output_fault name.now there in
+        OnOk result (lines.new ≡ lines.old ++ map (meaning.at_level Abort) faults) }
 {
     let mut text = Bytes::new(alloc);
     match body {
@@ -46,7 +48,8 @@ pub(crate) fn put_faults(
     names: &[Bytes],
     lines: &mut Seq<OwnLine>,
 ) -> Result<(), Memory>
-    ensures { OnOk result (lines.new ≡ lines.old ++ map (meaning.at_level Abort) (meaning.output_faults left.now.raw.now names.now)) }
+    ensures { let faults = meaning.output_faults left.now.raw.now names.now in
+        OnOk result (lines.new ≡ lines.old ++ map (meaning.at_level Abort) faults) }
 {
     for name in names {
         let file = out_file(alloc, name.as_slice())?;
@@ -72,7 +75,8 @@ fn output_of(alloc: Global, left: &Left, name: &Bytes) -> Result<Part, Memory>
 
 /// The outputs in their order. One that is missing is empty.
 pub(crate) fn outputs_of(alloc: Global, left: &Left, names: &[Bytes]) -> Result<Seq<Part>, Memory>
-    ensures { IfOk result (λ outputs. outputs ≡ map (meaning.output_of left.now.raw.now) names.now) }
+    ensures { IfOk result (λ outputs. outputs ≡
+        map (meaning.output_of left.now.raw.now) names.now) }
 {
     let mut outputs = Seq::new(alloc);
     for name in names {

@@ -26,7 +26,9 @@ fn put_line(
     line: &[u8],
     lines: &mut Seq<OwnLine>,
 ) -> Result<(), Memory>
-    ensures { OnOk result (lines.new ≡ lines.old ++ map (λ text. meaning.at_level level (take message_length text)) (filter meaning.has_byte (line.now ∷ []))) }
+    ensures { OnOk result (lines.new ≡ lines.old ++
+        map (λ text. meaning.at_level level (take message_length text))
+        (filter meaning.has_byte (line.now ∷ []))) }
 {
     if line.is_empty() {
         return Ok(());
@@ -44,7 +46,8 @@ pub(crate) fn own_lines(
     level: Status,
     warnings: &[u8],
 ) -> Result<Seq<OwnLine>, Memory>
-    ensures { IfOk result (λ lines. lines ≡ map (meaning.at_level level) (meaning.message_lines warnings.now)) }
+    ensures { IfOk result (λ lines. lines ≡
+        map (meaning.at_level level) (meaning.message_lines warnings.now)) }
 {
     let mut lines = Seq::new(alloc);
     let mut rest = warnings;

@@ -1,0 +1,13 @@
+//! Laws of what a derivation made. Each is the contract of a function with an empty body.
+ghost use Rattle.plain_derive.specs.Laws.{StartsAreFew, MadeCountsNone, GivenUpIsCounted};
+
+/// No more tools are started than the node has steps.
+pub fn starts_are_few()
+    ensures { StartsAreFew }
+{}
+
+/// Faults are counted where a derivation was given up for one, and nowhere else.
+pub fn faults_are_counted()
+    ensures made { MadeCountsNone }
+    ensures given_up { GivenUpIsCounted }
+{}
