@@ -6,6 +6,7 @@ ghost use Rattle.meaning_nodes.specs.Nodes.{Fits};
 ghost use Rattle.plain_derive.specs.Built.{IsBuiltGraph};
 ghost use Rattle.odin_answers.specs.Requests.{request_text};
 ghost use Rattle.odin_answers.specs.Answers.{Replies, IsReply, MayHaveBegun};
+ghost use Rattle.path_planner.specs.Ends.{plans_of};
 
 use crate::node::{Asked, node_asked};
 use crate::reply::{
@@ -32,7 +33,7 @@ fn answer_node<S: Spawner>(
     out: &mut Bytes,
 ) -> Result<(), Memory>
     requires built { IsBuiltGraph graph.now }
-    requires made { plans.now ≡ graph.now }
+    requires made { plans.now ≡ plans_of graph.now }
     requires fits { Fits graph.now node.now }
     requires idle { (S.told tools.old).running ≡ [] }
     ensures ok { OnOk result ((text : Text) → Asks graph.now text node.now →
@@ -66,7 +67,7 @@ pub fn answer_ask<S: Spawner>(
     out: &mut Bytes,
 ) -> Result<(), Memory>
     requires built { IsBuiltGraph graph.now }
-    requires made { plans.now ≡ graph.now }
+    requires made { plans.now ≡ plans_of graph.now }
     requires idle { (S.told tools.old).running ≡ [] }
     ensures ok { OnOk result (Replies (λ reply. IsReply graph.now (S.told tools.old).answer
         sources.now.texts (request_text request.now) reply
@@ -92,7 +93,7 @@ pub fn answer_plan(
     request: &Request,
     out: &mut Bytes,
 ) -> Result<(), Memory>
-    requires made { plans.now ≡ graph.now }
+    requires made { plans.now ≡ plans_of graph.now }
     ensures { OnOk result (Replies (Plan graph.now (request_text request.now)) out.old out.new) }
 {
     match node_asked(alloc, graph, plans, request)? {

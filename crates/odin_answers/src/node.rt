@@ -2,6 +2,7 @@
 ghost use Rattle.std.specs.Prelude.{◌≡◌, map, IfOk};
 ghost use Rattle.meaning_nodes.specs.NodeOf.{node_of};
 ghost use Rattle.odin_answers.specs.Requests.{request_text, IsRequest, expression_of, asked_answer, FitsIfNode};
+ghost use Rattle.path_planner.specs.Ends.{plans_of};
 
 use crate::request::Request;
 use object_values::{Bytes, Memory, Node, Seq, Step};
@@ -36,7 +37,7 @@ pub(crate) fn node_asked(
     plans: &Plans,
     request: &Request,
 ) -> Result<Asked, Memory>
-    requires made { plans.now ≡ graph.now }
+    requires made { plans.now ≡ plans_of graph.now }
     ensures node { let answer = node_of graph.now (expression_of request.now) in
         IfOk result (λ asked. answer ≡ asked_answer asked) }
     ensures fits { IfOk result (FitsIfNode graph.now) }

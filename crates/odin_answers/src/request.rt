@@ -7,7 +7,7 @@ ghost use Rattle.odin_answers.specs.Requests.{request_text, IsRequest, IsRequest
 use dg_tokens::is_id;
 use object_values::{Bytes, Memory};
 use odin_bytes::Name;
-use odin_words::{cut_at, read_name};
+use odin_bytes::{cut_at, read_name};
 use std::alloc::Global;
 use std::marker::Model;
 
@@ -53,7 +53,7 @@ impl TypeName {
 }
 
 /// A source, and the type to go on to if one is named.
-#[derive(Debug, PartialEq, Eq, Drop)]
+#[derive(PartialEq, Eq, Drop)]
 pub struct Request {
     pub(crate) source: Name,
     pub(crate) to: Option<TypeName>,

@@ -8,7 +8,7 @@ use std::alloc::Global;
 use toy_tools::toy;
 
 /// A job with what it leaves.
-#[derive(Debug, PartialEq, Eq, Drop)]
+#[derive(PartialEq, Eq, Drop)]
 pub struct JobRaw {
     pub job: Job,
     pub raw: Raw,
@@ -24,7 +24,7 @@ impl Copied for JobRaw {
 }
 
 /// What jobs leave: that of the first pair with the job, or the other one where there is none; or what the toy tools make of them.
-#[derive(Debug, PartialEq, Eq, Drop)]
+#[derive(PartialEq, Eq, Drop)]
 pub enum Answers {
     Pairs(Seq<JobRaw>, Raw),
     Toys,

@@ -9,7 +9,7 @@ use Rattle.std.specs.Prelude.{Option, Some, None, IfSome, MatchOption}
 use Rattle.meaning_texts.specs.Classes.{IsName, IsId}
 use Rattle.meaning_run.specs.Items.{HasNo, cr_dropped}
 use Rattle.meaning_run.proofs.ItemLemmas.{same_cut}
-use Rattle.odin_words.proofs.NameLemmas.{has_no}
+use Rattle.odin_bytes.proofs.Lemmas.{has_no}
 use Rattle.odin_shell.specs.declared.command.Command.{Command}
 use Rattle.odin_shell.specs.declared.command.Command.TheVariants.{Put, Ask, Plan, Nothing, Bad}
 use Rattle.odin_answers.specs.declared.request.Request.{Request}

@@ -14,7 +14,7 @@ use Rattle.object_values.specs.declared.graph.Make.{Make}
 use Rattle.object_values.specs.declared.graph.Make.TheVariants.{Tool, Read, Each, Pack}
 use Rattle.meaning_graph.specs.Graphs.{Text, Graph}
 use Rattle.meaning_graph_text.specs.Places.{BeginsOnLine}
-use Rattle.meaning_graph_text.proofs.Faults.{one_graph, one_line, each_begins}
+use Rattle.meaning_graph_text.proofs.Lemmas.{one_graph, one_line, each_begins}
 use Rattle.plain_derive.specs.Built.{IsOfOneInput}
 use Rattle.dg_reader.specs.Files.{IsRead, Refuses}
 use Rattle.dg_reader.proofs.RefusalLemmas.{not_refused, refused_by_one, read_or_refused}

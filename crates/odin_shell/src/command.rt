@@ -5,7 +5,7 @@ ghost use Rattle.odin_shell.specs.Commands.{IsPut, IsRequestBehind, Spells, take
 use object_values::Memory;
 use odin_answers::{Request, read_request};
 use odin_bytes::{Name, read_number};
-use odin_words::{cut_at, read_name};
+use odin_bytes::{cut_at, read_name};
 use std::alloc::Global;
 
 /// A command of a session.

@@ -24,13 +24,14 @@ pub(crate) struct Deriver {
 impl Model for Deriver {
     ghost use Rattle.std.specs.Prelude.{◌≡◌, List};
     ghost use Rattle.plain_derive.specs.Built.{IsBuiltGraph};
+    ghost use Rattle.path_planner.specs.Ends.{plans_of};
     ghost use Rattle.object_values.specs.declared.graph.Decl.{Decl};
 
     ghost Value = { List Decl };
 
     ghost view = { λ d. d.graph };
 
-    ghost invariant = { λ d. (d.plans ≡ d.graph) × IsBuiltGraph d.graph };
+    ghost invariant = { λ d. (d.plans ≡ plans_of d.graph) × IsBuiltGraph d.graph };
 }
 
 impl Deriver {

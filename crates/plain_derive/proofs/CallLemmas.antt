@@ -11,15 +11,15 @@ use Rattle.odin_outside.specs.declared.events.ToolEvent.TheVariants.{Ended}
 use Rattle.odin_outside.specs.Spawned.{Spawned}
 use Rattle.meaning_texts.specs.Limits.{height_limit}
 use Rattle.meaning_graph.specs.Graphs.{Graph}
-use Rattle.meaning_graph.specs.Members.{IsIn}
-use Rattle.meaning_graph.proofs.Members.{in_either}
+use Rattle.meaning_texts.specs.Lists.{IsIn}
+use Rattle.meaning_texts.proofs.Lemmas.{in_either}
 use Rattle.meaning_nodes.specs.Nodes.{Fits, base_of, stepped}
 use Rattle.meaning_tasks.specs.Needs.{Results}
 use Rattle.meaning_tasks.specs.Calls.{CallOf}
 use Rattle.meaning_derive.specs.Derive.{Sources, Outcomes, derive, derived}
 use Rattle.meaning_derive.specs.Chains.{IsNeed, LeadsOn, Chain, IsMet}
 use Rattle.meaning_derive.specs.Calls.{IsCallFrom}
-use Rattle.meaning_derive.proofs.Steps.{grows_to}
+use Rattle.meaning_derive.proofs.Lemmas.{grows_to}
 use Rattle.plain_derive.specs.declared.derived.Derived.{Derived}
 use Rattle.plain_derive.specs.declared.made.Made.{Made}
 use Rattle.plain_derive.specs.declared.fault.PlainFault.{PlainFault}

@@ -4,9 +4,9 @@ use Rattle.std.proofs.lemmas.List.{length-take}
 use Rattle.object_values.specs.declared.nodes.Step.{Step}
 use Rattle.object_values.specs.declared.nodes.Node.{Node}
 use Rattle.meaning_graph.specs.Graphs.{Graph}
-use Rattle.meaning_graph.specs.Members.{IsIn}
+use Rattle.meaning_texts.specs.Lists.{IsIn}
 use Rattle.meaning_nodes.specs.Nodes.{Fits, base_of, before_last, last_step}
-use Rattle.meaning_nodes.proofs.Made.{base_fits}
+use Rattle.meaning_nodes.proofs.Lemmas.{base_fits}
 use Rattle.meaning_tasks.specs.Needs.{Results, values_of, elements_of}
 use Rattle.meaning_derive.specs.Chains.{IsNeed, LeadsOn, Chain, AreDifferent, IsDeep}
 use Rattle.plain_derive.specs.Built.{IsBuiltGraph}

@@ -10,14 +10,14 @@ use Rattle.object_values.specs.declared.calls.Outcome.{Outcome}
 use Rattle.odin_outside.specs.Spawned.{Table, Spawned}
 use Rattle.meaning_texts.specs.Limits.{height_limit}
 use Rattle.meaning_graph.specs.Graphs.{Graph}
-use Rattle.meaning_graph.proofs.Members.{in_right}
+use Rattle.meaning_texts.proofs.Lemmas.{in_right}
 use Rattle.meaning_nodes.specs.Nodes.{Fits, base_of, stepped}
 use Rattle.meaning_tasks.specs.Calls.{CallOf}
 use Rattle.meaning_tasks.specs.Settle.{Texts, Settles}
 use Rattle.meaning_derive.specs.Derive.{Sources, text_of, Outcomes, outcome_for, derive}
 use Rattle.meaning_derive.specs.Chains.{IsDeep}
 use Rattle.meaning_derive.specs.Derive.{derived}
-use Rattle.meaning_derive.proofs.Steps.{grows_to}
+use Rattle.meaning_derive.proofs.Lemmas.{grows_to}
 use Rattle.plain_derive.specs.declared.derived.Derived.{Derived}
 use Rattle.plain_derive.specs.declared.fault.PlainFault.{PlainFault}
 use Rattle.plain_derive.specs.declared.fault.PlainFault.TheVariants.{Memory}

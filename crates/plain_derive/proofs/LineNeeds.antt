@@ -14,8 +14,9 @@ use Rattle.object_values.specs.declared.calls.CallPart.{CallPart}
 use Rattle.object_values.specs.declared.calls.Call.{Call}
 use Rattle.object_values.specs.declared.calls.Outcome.{Outcome}
 use Rattle.meaning_graph.specs.Graphs.{Text, Graph}
-use Rattle.meaning_graph.specs.Members.{IsIn}
-use Rattle.meaning_graph.proofs.Members.{same_some, cond_true}
+use Rattle.meaning_texts.specs.Lists.{IsIn}
+use Rattle.meaning_texts.proofs.Lemmas.{same_some}
+use Rattle.std.proofs.lemmas.Bool.{cond-true}
 use Rattle.meaning_nodes.specs.Nodes.{Fits, source_node, base_of, last_step}
 use Rattle.meaning_nodes.specs.Values.{inherit}
 use Rattle.meaning_nodes.specs.Labels.{label_of}
@@ -24,7 +25,7 @@ use Rattle.meaning_tasks.specs.Tasks.{Task, given, tooled, task_of}
 use Rattle.meaning_tasks.specs.Needs.{Results, Known, values_of, where_valued, elements_of, own_lines, other_lines, ranked_needs, needs_of, ReachedNames, Needs}
 use Rattle.meaning_tasks.specs.Calls.{all_valued, node_parts, call_of, CallOf}
 use Rattle.meaning_tasks.specs.Settle.{Texts, outcome_own, own_of, worst_of, messages_of, settled, settle, Settles}
-use Rattle.meaning_tasks.proofs.Sorted.{names_sorted}
+use Rattle.meaning_tasks.proofs.Lemmas.{names_sorted}
 use Rattle.plain_derive.specs.Lines.{line_task}
 use Rattle.plain_derive.specs.Built.{IsBuiltGraph}
 use Rattle.plain_derive.specs.Seen.{FitsCall, IsOutcomeFor, HasOneOutput}
@@ -207,7 +208,7 @@ module _ (g : Graph) (n : Node) (seen : Results) (built : IsBuiltGraph g) (fits 
 
   gated : (outcome : Option Outcome) → (n.steps ≡ [] → ⊥) → IsOutcomeFor g n seen outcome → (let own = outcome_own (label_of g n) false [] outcome in cond base_valued own.value None ≡ own.value)
   gated None some h = none_gated base_valued
-  gated (Some o) some h = cond_true base_valued _ None (is_run o some h).valued
+  gated (Some o) some h = cond-true base_valued _ None (is_run o some h).valued
 
   pub steps_settle : (texts : Texts) (outcome : Option Outcome) (view : View) → (n.steps ≡ [] → ⊥) → IsOutcomeFor g n seen outcome
       → (let own = outcome_own (label_of g n) false [] outcome in let needs = base_of n ∷ elements_of (values_of seen (base_of n)) in

@@ -1,7 +1,7 @@
 -- The nodes of a line, by places, and the calls of its first ones.
 use Rattle.std.proofs.Common.{◌≡◌, ◌+◌, ◌<◌, ◌≤◌, ℕ, zero, suc, List, [], ◌∷◌, ◌++◌, ap, ◌∙◌, refl, inl, inr, length, take, slice_get, arith, append_assoc}
 use Rattle.std.specs.Prelude.{nat_le, Some}
-use Rattle.std.proofs.lemmas.Bool.{cases_lt, le-leb, lt-leb}
+use Rattle.std.proofs.lemmas.Bool.{cases_lt, le-leb, lt-leb, cond-true, cond-false}
 use Rattle.std.proofs.lemmas.List.{take_more, take_all}
 use Rattle.std.proofs.lemmas.Option.{slice_get_within, get_or_from_slice_get}
 use Rattle.object_values.specs.declared.nodes.Step.{Step}
@@ -9,7 +9,6 @@ use Rattle.object_values.specs.declared.nodes.Node.{Node}
 use Rattle.object_values.specs.declared.calls.Call.{Call}
 use Rattle.odin_outside.specs.declared.events.ToolEvent.TheVariants.{Ended}
 use Rattle.odin_outside.specs.Spawned.{Spawned}
-use Rattle.meaning_graph.proofs.Members.{cond_true, cond_false}
 use Rattle.meaning_nodes.specs.Nodes.{stepped}
 use Rattle.meaning_texts.specs.Limits.{height_limit}
 use Rattle.plain_derive.specs.Logs.{closed, nodes_on, line_of, after_calls}
@@ -27,10 +26,10 @@ length-on n [] = refl
 length-on n (s ∷ steps) = ap suc (length-on (stepped n s) steps)
 
 line_shallow : (n : Node) → length n.steps < 64 → line_of n ≡ nodes_on (front n 0) n.steps
-line_shallow n few = cond_false (nat_le height_limit (length n.steps)) [] (nodes_on (front n 0) n.steps) (lt-leb 64 (length n.steps) few)
+line_shallow n few = cond-false (nat_le height_limit (length n.steps)) [] (nodes_on (front n 0) n.steps) (lt-leb 64 (length n.steps) few)
 
 pub line_deep : (n : Node) → 64 ≤ length n.steps → line_of n ≡ []
-line_deep n deep = cond_true (nat_le height_limit (length n.steps)) [] (nodes_on (front n 0) n.steps) (le-leb 64 (length n.steps) deep)
+line_deep n deep = cond-true (nat_le height_limit (length n.steps)) [] (nodes_on (front n 0) n.steps) (le-leb 64 (length n.steps) deep)
 
 pub line_got : (n : Node) (i : ℕ) → length n.steps < 64 → i < length n.steps → slice_get (line_of n) i ≡ Some (front n (suc i))
 line_got n i few inside = ap (λ l. slice_get l i) (line_shallow n few) ∙ on_got (front n 0) n.steps i inside

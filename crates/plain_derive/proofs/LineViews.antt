@@ -15,21 +15,21 @@ use Rattle.object_values.specs.declared.calls.Outcome.{Outcome}
 use Rattle.object_values.specs.contracts.nodes.NodePartialEq.TheImpl.{ghosts as node_eq}
 use Rattle.object_values.specs.Exact.{node_exact}
 use Rattle.meaning_graph.specs.Graphs.{Text, Graph}
-use Rattle.meaning_graph.specs.Members.{IsIn}
+use Rattle.meaning_texts.specs.Lists.{IsIn}
 use Rattle.meaning_graph.specs.Suffixes.{source_type}
-use Rattle.meaning_graph.proofs.Members.{in_all, all_in, in_left, cond_true}
+use Rattle.meaning_texts.proofs.Lemmas.{in_all, all_in, in_left}
+use Rattle.std.proofs.lemmas.Bool.{cond-true}
 use Rattle.meaning_nodes.specs.Labels.{label_of}
-use Rattle.meaning_nodes.specs.Nodes.{Fits, base_of, before_last, last_step, stepped, type_after, reached_type, IsStepOfClass}
+use Rattle.meaning_nodes.specs.Nodes.{Fits, base_of, before_last, last_step, stepped, type_after, reached_type, HasKeyOfClass}
 use Rattle.meaning_nodes.specs.Values.{inherit}
-use Rattle.meaning_nodes.proofs.Made.{type_after-append}
+use Rattle.meaning_nodes.proofs.Lemmas.{type_after-append}
 use Rattle.meaning_tasks.specs.Tasks.{task_of, given}
 use Rattle.meaning_tasks.specs.Needs.{Results, values_of, elements_of, needs_of, ranked_needs, Needs}
 use Rattle.meaning_tasks.specs.Calls.{CallOf}
 use Rattle.meaning_tasks.specs.Settle.{Texts, at_status, outcome_own, given_own, own_of, settled, Settles}
-use Rattle.meaning_tasks.proofs.Local.{local}
+use Rattle.meaning_tasks.proofs.Lemmas.{local}
 use Rattle.meaning_derive.specs.Derive.{Sources, text_of, Outcomes, outcome_for, derive}
-use Rattle.meaning_derive.proofs.Steps.{SameResults, same_values, settle_moves}
-use Rattle.meaning_derive.proofs.Heights.{from_settled}
+use Rattle.meaning_derive.proofs.Lemmas.{SameResults, same_values, settle_moves, from_settled}
 use Rattle.plain_derive.specs.Built.{IsBuiltGraph}
 use Rattle.plain_derive.specs.Seen.{AreSeen, only}
 use Rattle.plain_derive.specs.Deriving.{HasNoElements}
@@ -66,7 +66,7 @@ unfolding reached_type
 front_fits g n i f = record {
   source = f.source;
   params = f.params;
-  keys = all_in IsStepOfClass (take i n.steps) (λ s h. in_all IsStepOfClass n.steps f.keys s (subst (λ l. IsIn s l) whole (in_left s (take i n.steps) (drop i n.steps) h)));
+  keys = all_in HasKeyOfClass (take i n.steps) (λ s h. in_all HasKeyOfClass n.steps f.keys s (subst (λ l. IsIn s l) whole (in_left s (take i n.steps) (drop i n.steps) h)));
   typed = by_type (type_after g (Some (source_type g n.source)) (take i n.steps)) (ap is_some (sym (type_after-append g (Some (source_type g n.source)) (take i n.steps) (drop i n.steps)) ∙ ap (type_after g (Some (source_type g n.source))) whole) ∙ f.typed);
 }
   where
@@ -80,7 +80,7 @@ front_fits g n i f = record {
 -- ---- one step
 
 pub only_here : (n : Node) (view : View) → only n view n ≡ Some view
-only_here n view = cond_true (node_eq.eq n n) (Some view) None ((node_exact n n).1 refl)
+only_here n view = cond-true (node_eq.eq n n) (Some view) None ((node_exact n n).1 refl)
 
 no_elements : (seen : Results) (n : Node) (view : View) → seen n ≡ Some view → HasNoElements view → elements_of (values_of seen n) ≡ []
 no_elements seen n view e none = ap (λ o. elements_of (option_map (λ (v : View). v.value) o)) e ∙ none

@@ -9,11 +9,12 @@ use Rattle.object_values.specs.contracts.calls.CallPartialEq.TheImpl.{ghosts as 
 use Rattle.object_values.specs.Exact.{call_exact}
 use Rattle.odin_outside.specs.declared.events.ToolEvent.TheVariants.{Ended}
 use Rattle.odin_outside.specs.Spawned.{Table, Spawned}
-use Rattle.meaning_graph.specs.Members.{IsIn}
-use Rattle.meaning_graph.proofs.Members.{passes_or_fails, cond_true, cond_false, same_some, some_is_none, in_left, in_either, in_map}
+use Rattle.meaning_texts.specs.Lists.{IsIn}
+use Rattle.std.proofs.lemmas.Bool.{cases_Bool, cond-true, cond-false}
+use Rattle.meaning_texts.proofs.Lemmas.{same_some, some_is_none, in_left, in_either, in_map}
 use Rattle.meaning_calls.specs.Jobs.{job_of}
-use Rattle.meaning_calls.specs.Outcomes.{Fits}
-use Rattle.meaning_calls.proofs.Fitting.{fits}
+use Rattle.meaning_calls.specs.Outcomes.{OutcomeFits}
+use Rattle.meaning_calls.proofs.Lemmas.{fits}
 use Rattle.meaning_derive.specs.Derive.{Outcomes}
 use Rattle.meaning_derive.specs.Given.{table_outcomes}
 use Rattle.plain_derive.specs.declared.made.Made.{Made}
@@ -28,27 +29,27 @@ outcomes_in (m ∷ more) call = cond (call_eq.eq m.call call) (Some m.outcome) (
 -- one that has an outcome was made
 found_in : (made : List Made) (call : Call) (outcome : Outcome) → outcomes_in made call ≡ Some outcome → IsIn (record { call = call; outcome = outcome }) made
 found_in [] call outcome is = some_is_none (outcomes_in [] call) outcome is refl
-found_in (m ∷ more) call outcome is = elim (passes_or_fails (call_eq.eq m.call call)) [
+found_in (m ∷ more) call outcome is = elim (cases_Bool (call_eq.eq m.call call)) [
   | inl same ↦
-      let here : m.outcome ≡ outcome = same_some (sym (cond_true (call_eq.eq m.call call) (Some m.outcome) (outcomes_in more call) same) ∙ is) in
+      let here : m.outcome ≡ outcome = same_some (sym (cond-true (call_eq.eq m.call call) (Some m.outcome) (outcomes_in more call) same) ∙ is) in
       let there : m.call ≡ call = (call_exact m.call call).0 same in
       inl (λ i. record { call = sym there i; outcome = sym here i })
-  | inr other ↦ inr (found_in more call outcome (sym (cond_false (call_eq.eq m.call call) (Some m.outcome) (outcomes_in more call) other) ∙ is))
+  | inr other ↦ inr (found_in more call outcome (sym (cond-false (call_eq.eq m.call call) (Some m.outcome) (outcomes_in more call) other) ∙ is))
 ]
 
 -- a first call more takes no outcome away, and has its own
 after_more : (made : List Made) (call : Call) (outcome other : Outcome) (m : Call) → outcomes_in made m ≡ Some other → outcomes_in (made ++ (record { call = call; outcome = outcome }) ∷ []) m ≡ Some other
 after_more [] call outcome other m is = some_is_none (outcomes_in [] m) other is refl
-after_more (x ∷ more) call outcome other m is = elim (passes_or_fails (call_eq.eq x.call m)) [
-  | inl same ↦ cond_true (call_eq.eq x.call m) (Some x.outcome) _ same ∙ sym (cond_true (call_eq.eq x.call m) (Some x.outcome) (outcomes_in more m) same) ∙ is
-  | inr differs ↦ cond_false (call_eq.eq x.call m) (Some x.outcome) _ differs ∙ after_more more call outcome other m (sym (cond_false (call_eq.eq x.call m) (Some x.outcome) (outcomes_in more m) differs) ∙ is)
+after_more (x ∷ more) call outcome other m is = elim (cases_Bool (call_eq.eq x.call m)) [
+  | inl same ↦ cond-true (call_eq.eq x.call m) (Some x.outcome) _ same ∙ sym (cond-true (call_eq.eq x.call m) (Some x.outcome) (outcomes_in more m) same) ∙ is
+  | inr differs ↦ cond-false (call_eq.eq x.call m) (Some x.outcome) _ differs ∙ after_more more call outcome other m (sym (cond-false (call_eq.eq x.call m) (Some x.outcome) (outcomes_in more m) differs) ∙ is)
 ]
 
 at_more : (made : List Made) (call : Call) (outcome : Outcome) → (IsIn call (calls_of made) → ⊥) → outcomes_in (made ++ (record { call = call; outcome = outcome }) ∷ []) call ≡ Some outcome
-at_more [] call outcome first = cond_true (call_eq.eq call call) (Some outcome) None ((call_exact call call).1 refl)
-at_more (x ∷ more) call outcome first = elim (passes_or_fails (call_eq.eq x.call call)) [
+at_more [] call outcome first = cond-true (call_eq.eq call call) (Some outcome) None ((call_exact call call).1 refl)
+at_more (x ∷ more) call outcome first = elim (cases_Bool (call_eq.eq x.call call)) [
   | inl same ↦ absurd (first (inl (sym ((call_exact x.call call).0 same))))
-  | inr differs ↦ cond_false (call_eq.eq x.call call) (Some x.outcome) _ differs ∙ at_more more call outcome (λ k. first (inr k))
+  | inr differs ↦ cond-false (call_eq.eq x.call call) (Some x.outcome) _ differs ∙ at_more more call outcome (λ k. first (inr k))
 ]
 
 module _ (answer : Option Table) (made : List Made) (call : Call) (outcome : Outcome) where
@@ -92,7 +93,7 @@ go_by None made each agree = record {
 }
 go_by (Some table) made each agree = record {
   outcomes = table_outcomes table;
-  given = record { fit = λ call o is. subst (Fits call) (same_some is) (fits call (table (job_of call))); told = λ t e. ap table_outcomes (same_some e) };
+  given = record { fit = λ call o is. subst (OutcomeFits call) (same_some is) (fits call (table (job_of call))); told = λ t e. ap table_outcomes (same_some e) };
   agree = λ m i. (each m i).told table refl;
 }
 

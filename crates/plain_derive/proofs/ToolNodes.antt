@@ -16,11 +16,11 @@ use Rattle.object_values.specs.declared.graph.MakerDecl.{MakerDecl}
 use Rattle.object_values.specs.declared.graph.Decl.{Decl}
 use Rattle.object_values.specs.declared.graph.Decl.TheVariants.{ObjectType, Suffix, Param, Maker as MakerOf}
 use Rattle.meaning_graph.specs.Graphs.{Text, Graph, as_type, as_maker, types, makers, kind_of, kind_named, type_named}
-use Rattle.meaning_graph.specs.Members.{IsIn}
+use Rattle.meaning_texts.specs.Lists.{IsIn}
 use Rattle.meaning_graph.specs.Paths.{made_of}
-use Rattle.meaning_graph.proofs.Members.{in_all, from_chosen, same_some, some_is_none}
+use Rattle.meaning_texts.proofs.Lemmas.{in_all, from_chosen, same_some, some_is_none}
 use Rattle.meaning_nodes.specs.Nodes.{Fits, base_of, last_step, step_type, picked_type}
-use Rattle.meaning_nodes.proofs.Made.{base_fits}
+use Rattle.meaning_nodes.proofs.Lemmas.{base_fits}
 use Rattle.meaning_tasks.specs.Tasks.{Task, given, tooled, parts_of, is_compound, extra_node, scan_node, tool_task, make_task, maker_task, step_task, task_of}
 use Rattle.plain_derive.specs.Built.{IsOfOneInput, IsBuiltMake, IsBuilt, IsBuiltGraph}
 use Rattle.plain_derive.specs.Lines.{line_task}

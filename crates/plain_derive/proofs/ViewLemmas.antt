@@ -12,12 +12,12 @@ use Rattle.object_values.specs.declared.views.View.{View}
 use Rattle.object_values.specs.declared.calls.Outcome.{Outcome}
 use Rattle.meaning_nodes.specs.Values.{rank, worst, inherit}
 use Rattle.meaning_graph.specs.Graphs.{Graph}
-use Rattle.meaning_graph.specs.Members.{IsIn}
-use Rattle.meaning_graph.proofs.Members.{all_in}
+use Rattle.meaning_texts.specs.Lists.{IsIn}
+use Rattle.meaning_texts.proofs.Lemmas.{all_in}
 use Rattle.meaning_nodes.specs.Labels.{label_of}
 use Rattle.meaning_nodes.specs.Nodes.{Fits, base_of}
 use Rattle.meaning_tasks.specs.Needs.{Results, Needs, values_of, elements_of}
-use Rattle.meaning_tasks.proofs.Local.{one_list_of_needs}
+use Rattle.meaning_tasks.proofs.Lemmas.{one_list_of_needs}
 use Rattle.meaning_tasks.specs.Settle.{Texts, outcome_own, status_in, messages_in, worst_of, messages_of, Settles}
 use Rattle.object_rules.specs.Inheriting.{Inherits}
 use Rattle.object_rules.proofs.Once.{inherit_all}

@@ -10,6 +10,8 @@ use Rattle.meaning_nodes.specs.Nodes.{Fits, stepped}
 use Rattle.meaning_tasks.specs.Needs.{Results, elements_of}
 use Rattle.meaning_tasks.specs.Calls.{CallOf}
 use Rattle.meaning_derive.specs.Derive.{Sources, Outcomes, derive}
+use Rattle.path_planner.specs.declared.route.Ends.{Ends}
+use Rattle.path_planner.specs.Ends.{plans_of}
 use Rattle.plain_derive.specs.declared.derived.Derived.{Derived}
 use Rattle.plain_derive.specs.declared.fault.PlainFault.{PlainFault}
 use Rattle.plain_derive.specs.declared.made.Made.{Made}
@@ -23,9 +25,9 @@ abbrev pub HasNoElements : View → Type 0
 HasNoElements view = elements_of (Some view.value) ≡ []
 
 -- The node one step on fits the graph, and the base is no list with elements.
-pub record CanStep (g plans : Graph) (base : Derived) (step : Step) : Type 0 where
+pub record CanStep (g : Graph) (plans : List Ends) (base : Derived) (step : Step) : Type 0 where
   pub built : IsBuiltGraph g
-  pub planned : plans ≡ g
+  pub planned : plans ≡ plans_of g
   pub fits : Fits g (stepped base.node step)
   pub simple : HasNoElements base.view
 

@@ -11,7 +11,7 @@ use Rattle.odin_outside.specs.Spawned.{Table, Spawned, begun, noted, Fails}
 use Rattle.meaning_texts.specs.Limits.{height_limit}
 use Rattle.meaning_calls.specs.Jobs.{job_of}
 use Rattle.meaning_graph.specs.Graphs.{Graph}
-use Rattle.meaning_graph.specs.Members.{IsIn}
+use Rattle.meaning_texts.specs.Lists.{IsIn}
 use Rattle.meaning_nodes.specs.Nodes.{stepped}
 use Rattle.meaning_tasks.specs.Needs.{Results}
 use Rattle.meaning_tasks.specs.Calls.{CallOf}

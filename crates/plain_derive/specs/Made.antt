@@ -3,15 +3,15 @@ use Rattle.std.specs.Prelude.{◌≡◌, ℕ, List, map, slice_get, Option, Some
 use Rattle.object_values.specs.declared.calls.Call.{Call}
 use Rattle.object_values.specs.declared.calls.Outcome.{Outcome}
 use Rattle.odin_outside.specs.Spawned.{Table}
-use Rattle.meaning_graph.specs.Members.{IsIn}
-use Rattle.meaning_calls.specs.Outcomes.{Fits}
+use Rattle.meaning_texts.specs.Lists.{IsIn}
+use Rattle.meaning_calls.specs.Outcomes.{OutcomeFits}
 use Rattle.meaning_derive.specs.Derive.{Outcomes}
 use Rattle.meaning_derive.specs.Given.{OutcomesFit, table_outcomes}
 use Rattle.plain_derive.specs.declared.made.Made.{Made}
 
 -- An outcome of the call: it fits, and where the answers to jobs are told it follows from them.
 pub record IsOutcomeOf (answer : Option Table) (call : Call) (outcome : Outcome) : Type 0 where
-  pub fits : Fits call outcome
+  pub fits : OutcomeFits call outcome
   pub told : (table : Table) → answer ≡ Some table → table_outcomes table call ≡ Some outcome
 
 -- ---- the calls that were made so far

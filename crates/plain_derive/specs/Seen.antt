@@ -7,8 +7,8 @@ use Rattle.object_values.specs.declared.views.View.{View}
 use Rattle.object_values.specs.declared.calls.Call.{Call}
 use Rattle.object_values.specs.declared.calls.Outcome.{Outcome}
 use Rattle.meaning_graph.specs.Graphs.{Graph}
-use Rattle.meaning_graph.specs.Members.{IsIn}
-use Rattle.meaning_calls.specs.Outcomes.{Fits}
+use Rattle.meaning_texts.specs.Lists.{IsIn}
+use Rattle.meaning_calls.specs.Outcomes.{OutcomeFits}
 use Rattle.meaning_tasks.specs.Needs.{Results, Needs}
 use Rattle.meaning_tasks.specs.Calls.{CallOf}
 
@@ -23,7 +23,7 @@ abbrev pub FitsCall : Option Call → Option Outcome → Type 0
 FitsCall None None = ⊤
 FitsCall None (Some outcome) = ⊥
 FitsCall (Some call) None = ⊥
-FitsCall (Some call) (Some outcome) = Fits call outcome
+FitsCall (Some call) (Some outcome) = OutcomeFits call outcome
 
 -- The outcome is one of the node's call, and there is none where no tool is run.
 pub record IsOutcomeFor (g : Graph) (n : Node) (seen : Results) (outcome : Option Outcome) : Type 0 where

@@ -7,6 +7,7 @@ ghost use Rattle.meaning_tasks.specs.Needs.{values_of, elements_of};
 ghost use Rattle.meaning_tasks.specs.Calls.{CallOf, all_valued, node_parts, simple_part, compound_part, text_in};
 ghost use Rattle.plain_derive.specs.Built.{IsBuiltGraph};
 ghost use Rattle.plain_derive.specs.Seen.{AreSeen};
+ghost use Rattle.path_planner.specs.Ends.{plans_of};
 
 use crate::nodes::{base_of, last_tool};
 use crate::results::Results;
@@ -25,7 +26,7 @@ pub fn call_for<R: Results>(
     seen: &R,
 ) -> Result<Option<Call>, Memory>
     requires built { IsBuiltGraph graph.now }
-    requires made { plans.now ≡ graph.now }
+    requires made { plans.now ≡ plans_of graph.now }
     requires fits { Fits graph.now node.now }
     requires seen { AreSeen graph.now node.now (R.results seen.now) }
     ensures { IfOk result (CallOf graph.now node.now (R.results seen.now)) }

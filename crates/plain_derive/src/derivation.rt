@@ -6,6 +6,7 @@ ghost use Rattle.plain_derive.specs.Built.{IsBuiltGraph};
 ghost use Rattle.plain_derive.specs.Deriving.{HasNoElements, CanStep, IsNext, HasCalled, GivesUp};
 ghost use Rattle.plain_derive.specs.Logs.{HasDerived, HasGivenUp, ComeToRest};
 ghost use Rattle.plain_derive.specs.Made.{HaveOutcomes};
+ghost use Rattle.path_planner.specs.Ends.{plans_of};
 
 use crate::calling::call_for;
 use crate::deep::{HEIGHT_LIMIT, deep_chain};
@@ -34,7 +35,7 @@ pub fn derive_plain<S: Spawner>(
     tools: &mut S,
 ) -> Result<Found, PlainFault>
     requires built { IsBuiltGraph graph.now }
-    requires made { plans.now ≡ graph.now }
+    requires made { plans.now ≡ plans_of graph.now }
     requires fits { Fits graph.now node.now }
     requires idle { (S.told tools.old).running ≡ [] }
     ensures found { IfOk result (HasDerived graph.now sources.now.texts node.now

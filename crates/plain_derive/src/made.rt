@@ -1,6 +1,6 @@
 // The calls that a derivation has made, each once.
 ghost use Rattle.std.specs.Prelude.{◌≡◌, IfSome, IfNone, option_map};
-ghost use Rattle.meaning_graph.specs.Members.{IsIn};
+ghost use Rattle.meaning_texts.specs.Lists.{IsIn};
 ghost use Rattle.plain_derive.specs.Made.{calls_of, IsMadeAt, outcome_at};
 
 use object_values::{Call, Outcome};

@@ -3,6 +3,7 @@ ghost use Rattle.std.specs.Prelude.{◌≡◌, IfOk, option_map};
 ghost use Rattle.meaning_nodes.specs.Nodes.{Fits};
 ghost use Rattle.meaning_tasks.specs.Needs.{Needs, elements_of};
 ghost use Rattle.plain_derive.specs.Built.{IsBuiltGraph};
+ghost use Rattle.path_planner.specs.Ends.{plans_of};
 
 use crate::nodes::base_of;
 use crate::results::Results;
@@ -20,7 +21,7 @@ pub fn needs<R: Results>(
     seen: &R,
 ) -> Result<Seq<Node>, Memory>
     requires built { IsBuiltGraph graph.now }
-    requires made { plans.now ≡ graph.now }
+    requires made { plans.now ≡ plans_of graph.now }
     requires fits { Fits graph.now node.now }
     ensures { IfOk result (Needs graph.now node.now (R.results seen.now)) }
 {

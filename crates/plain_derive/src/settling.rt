@@ -5,6 +5,7 @@ ghost use Rattle.meaning_nodes.specs.Nodes.{Fits};
 ghost use Rattle.meaning_tasks.specs.Settle.{Texts, outcome_own, labelled, Settles};
 ghost use Rattle.plain_derive.specs.Built.{IsBuiltGraph};
 ghost use Rattle.plain_derive.specs.Seen.{AreSeen, HasOneOutput, IsOutcomeFor};
+ghost use Rattle.path_planner.specs.Ends.{plans_of};
 
 use crate::needing::needs;
 use crate::results::Results;
@@ -25,7 +26,7 @@ pub fn settle<R: Results>(
     outcome: Option<&Outcome>,
 ) -> Result<View, Memory>
     requires built { IsBuiltGraph graph.now }
-    requires made { plans.now ≡ graph.now }
+    requires made { plans.now ≡ plans_of graph.now }
     requires fits { Fits graph.now node.now }
     requires stepped { node.now.steps ≢ [] }
     requires seen { AreSeen graph.now node.now (R.results seen.now) }

@@ -5,7 +5,7 @@ ghost use Rattle.meaning_texts.specs.Lines.{without_cr};
 ghost use Rattle.meaning_calls.specs.Outcomes as meaning;
 
 use object_values::{Bytes, Memory, OwnLine, Seq, Status};
-use odin_lines::first_line;
+use odin_bytes::first_line;
 use std::alloc::Global;
 
 // How many lines count, and how many bytes of each.

@@ -4,7 +4,7 @@ ghost use Rattle.meaning_texts.specs.Lines.{with_lf};
 ghost use Rattle.toy_tools.specs.Inputs.{lines};
 
 use object_values::{Bytes, Memory};
-use odin_lines::first_line;
+use odin_bytes::first_line;
 
 /// The first line without its LF, and what stands behind it. An empty text has none.
 pub(crate) fn next_line(text: &[u8]) -> Option<(&[u8], &[u8])>

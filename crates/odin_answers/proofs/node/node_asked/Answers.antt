@@ -4,7 +4,7 @@ use Rattle.meaning_graph.specs.Graphs.{types, type_named}
 use Rattle.meaning_graph.specs.Suffixes.{source_type}
 use Rattle.meaning_graph.specs.Paths.{chosen_path}
 use Rattle.meaning_nodes.specs.NodeOf.{is_node, node_of}
-use Rattle.meaning_nodes.proofs.Made.{made_fits}
+use Rattle.meaning_nodes.proofs.Lemmas.{made_fits}
 use Rattle.odin_answers.specs.Requests.{request_text, expression_of}
 use Rattle.odin_answers.proofs.RequestLemmas.{is_canonical}
 use Rattle.odin_answers.proofs.NodeLemmas.{source_within, alone, unknown, no_way, led, as_made}

@@ -1,5 +1,5 @@
 use Rattle.std.proofs.Common.{take}
-use Rattle.meaning_graph.specs.Members.{IsIn}
+use Rattle.meaning_texts.specs.Lists.{IsIn}
 use Rattle.plain_derive.specs.Made.{calls_of}
 use Rattle.plain_derive.proofs.made.place_of.Given as goal
 

@@ -2,7 +2,7 @@ use Rattle.std.proofs.Common.{rules, ◌∙◌, ◌∷◌, ap, arith}
 use Rattle.std.proofs.lemmas.List.{take_all}
 use Rattle.std.specs.Prelude.{option_map}
 use Rattle.object_values.specs.declared.views.View.{View}
-use Rattle.meaning_graph.proofs.Members.{never_both}
+use Rattle.meaning_texts.proofs.Lemmas.{never_both}
 use Rattle.meaning_tasks.specs.Needs.{elements_of}
 use Rattle.meaning_nodes.specs.Nodes.{base_of}
 use Rattle.plain_derive.proofs.LineNeeds.{source_needs, steps_needs}

@@ -2,7 +2,7 @@ use Rattle.std.proofs.Common.{sym, ◌∙◌, subst, List, ℕ}
 use Rattle.std.proofs.lemmas.Bool.Decides.{not_from_Decides}
 use Rattle.meaning_texts.specs.Classes.{IsId}
 use Rattle.meaning_texts.specs.Tests.{is_id}
-use Rattle.meaning_texts.proofs.Words.{id_decides}
+use Rattle.meaning_texts.proofs.Lemmas.{id_decides}
 use Rattle.odin_answers.proofs.request.TypeName.read.Goals as goal
 
 pub returns-then-not-is_id : goal.returns-then-not-is_id
