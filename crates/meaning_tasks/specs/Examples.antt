@@ -71,7 +71,8 @@ pub record References : Type 0 where
       ∷ fault_of_units (codes "line 3: unknown type") ∷ fault_of_units (codes "line 4: no path")
       ∷ [])
 
--- a line has the parameters of the reading node, then its own; those of the reading node may be undeclared
+-- a line has the parameters of the reading node, then its own; those of the reading node may be
+-- undeclared
 pub record LineParameters : Type 0 where
   pub sorted : read_as (with_params (parameter (codes "zz") ∷ []) units) (codes "a.c+debug")
       ≡ fine
@@ -149,7 +150,8 @@ aborted_header =
 abbrev pub object_needs : List Text → List Entry → List Text
 object_needs listed entries = need_texts c_units listed entries (object_of (codes "a.c"))
 
--- the scan nodes by name, that of the own source first, and then the reached sources: an include loop is no circularity, and an absent header is a need
+-- the scan nodes by name, that of the own source first, and then the reached sources: an include
+-- loop is no circularity, and an absent header is a need
 pub record Closures : Type 0 where
   pub include_loop : object_needs (codes "a.c" ∷ codes "a.h" ∷ codes "b.h" ∷ []) loop
       ≡ codes "a.c" ∷ codes "a.c:inc" ∷ codes "a.h:inc" ∷ codes "b.h:inc" ∷ codes "a.h"
