@@ -1,4 +1,5 @@
--- The answer to a text that asks for an object, and to one that asks for the steps to it, as relations to replies.
+-- The answer to a text that asks for an object, and to one that asks for the steps to it, as
+-- relations to replies.
 use Rattle.std.specs.Prelude.{◌≡◌, ℕ, List, Some}
 use Rattle.object_values.specs.declared.nodes.Node.{Node}
 use Rattle.object_values.specs.declared.expressions.Expression.{Expression}

@@ -1,4 +1,5 @@
--- What the worked examples stand on: views of nodes by their texts, and what a node settles to from them.
+-- What the worked examples stand on: views of nodes by their texts, and what a node settles to from
+-- them.
 use Rattle.std.specs.Prelude.{cond, List, [], ◌∷◌, Option, Some, None, bytes_eq, codes}
 use Rattle.object_values.specs.declared.messages.Status.{Status}
 use Rattle.object_values.specs.declared.messages.Status.TheVariants.{Ok, Warning, Abort}

@@ -21,7 +21,8 @@ linked entries outcome =
     settled_reply c_units entries
     (at_steps (codes "m.sm") (Maker 2 ∷ Maker 3 ∷ Maker 4 ∷ [])) outcome []
 
--- an absent header adds neither status nor messages, a warning is inherited, and an object at `Abort` stops what is made of it
+-- an absent header adds neither status nor messages, a warning is inherited, and an object at
+-- `Abort` stops what is made of it
 pub record Tools : Type 0 where
   pub absent_header : compiled
       (simple_at (codes "a.c") (codes "include x.h\nx=1\n")
@@ -85,7 +86,8 @@ abbrev pub two_objects : Entry
 two_objects =
     listed_at (codes "m.sm:units:objs") (object_of (codes "a.c") ∷ object_of (codes "b.c") ∷ [])
 
--- an element gives its value, its status and its messages, and one at `Abort` has no message of the pick's own
+-- an element gives its value, its status and its messages, and one at `Abort` has no message of the
+-- pick's own
 pub record Elements : Type 0 where
   pub second : element (codes "2") (two_objects ∷ simple_at (codes "b.c:o") (codes "y=2\n") ∷ [])
       ≡ codes "object ok simple 4\ny=2\n\nmessages 0\n"

@@ -127,7 +127,8 @@ pub record EndsOfATool : Type 0 where
       ≡ made Abort
       (line Abort (codes "a") ∷ line Abort (codes "tool cc ended with status 255") ∷ []) []
 
--- what the tool leaves beside its end: lines keep the level of the end where an output is missing, the first file of a name counts, and a CR without an LF is a line
+-- what the tool leaves beside its end: lines keep the level of the end where an output is missing,
+-- the first file of a name counts, and a CR without an LF is a line
 pub record FilesOfATool : Type 0 where
   pub levels : outcome_of (cc_call []) (left_by (Exit 1) (file (codes "warnings") (codes "a") ∷ []))
       ≡ made Abort (line Error (codes "a") ∷ line Abort (codes "no output o") ∷ []) []

@@ -1,4 +1,5 @@
--- Calls that are well formed, and the job of a call: the words, the files that the tool finds, and those that it leaves.
+-- Calls that are well formed, and the job of a call: the words, the files that the tool finds, and
+-- those that it leaves.
 use Rattle.std.specs.Prelude.{◌≢◌, ℕ, ◌+◌, ◌<◌, ◌≤◌, List, [], ◌∷◌, ◌++◌, length, map, Option, Some, None, IfSome, codes, decimal}
 use Rattle.std.specs.List.{flat_map, All}
 use Rattle.object_values.specs.declared.nodes.ParamValue.{ParamValue}

@@ -1,4 +1,5 @@
--- The outcome of a call, from the end of the tool and the files that it left; and the outcomes that fit a call.
+-- The outcome of a call, from the end of the tool and the files that it left; and the outcomes that
+-- fit a call.
 use Rattle.std.specs.Prelude.{◌≡◌, ◌≢◌, ℕ, suc, zero, ◌≤◌, ◌⊎◌, Bool, not, nat_lt, List, [], ◌∷◌, ◌++◌, length, map, take, filter, Option, Some, None, unwrap_or, codes, decimal, bytes_eq, if◌then◌else◌}
 use Rattle.std.specs.List.{flat_map, All}
 use Rattle.object_values.specs.declared.messages.Status.{Status}

@@ -34,7 +34,8 @@ DeriveIsMapOverFitting =
     (g : Graph) → IsSpellable g → Checked g → (s : Sources) → AreSources s → (outcomes : Outcomes)
     → OutcomesFit outcomes → (h : ℕ) → IsMapOverFitting g (derive g s outcomes h)
 
--- The calls that are met from a node that fits are well formed, and so are those at which its derivation stops.
+-- The calls that are met from a node that fits are well formed, and so are those at which its
+-- derivation stops.
 abbrev pub CallsWellFormed : Type 0
 CallsWellFormed =
     (g : Graph) → IsSpellable g → Checked g → (s : Sources) → AreSources s → (outcomes : Outcomes)

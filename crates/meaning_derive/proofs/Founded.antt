@@ -18,7 +18,7 @@ use Rattle.meaning_tasks.proofs.Lemmas.{local, one_list}
 use Rattle.meaning_derive.specs.Derive.{Sources, Outcomes, names_for, derive, derived, IsFounded}
 use Rattle.meaning_derive.specs.Chains.{IsNeed, LeadsOn, Chain, AreDifferent, IsCircular, IsRefusal, IsMet}
 use Rattle.meaning_derive.specs.Calls.{Runs, IsFrontier}
-use Rattle.meaning_derive.specs.Laws.{IsFoundedOrChained}
+use Rattle.meaning_derive.specs.Laws.{IsFoundedOrChained, EndOf, at_result, at_call, at_chain}
 use Rattle.meaning_derive.proofs.Steps.{SameResults, same_values, grows_to}
 use Rattle.meaning_derive.proofs.Present.{names_reached, needs_listed}
 use Rattle.meaning_derive.proofs.Heights.{at, needs, need_below, need_at_limit, missing_or_stopped, IsMissing, IsStopped}
@@ -204,12 +204,12 @@ module _ (g : Graph) (s : Sources) (outcomes : Outcomes) where
       ]
 
   -- A result, a call at which the derivation stops, or a chain.
-  pub result_call_or_chain : (n : Node) → IsFounded g s outcomes n ⊎ (((call : Call) × IsFrontier g s outcomes n call) ⊎ ((chain : List Node) × IsRefusal g (derived g s outcomes) n chain))
+  pub result_call_or_chain : (n : Node) → EndOf g s outcomes n
   result_call_or_chain n = elim (some_or_none (all n)) [
-    | inl v ↦ inl (ap is_some v.1)
+    | inl v ↦ at_result (ap is_some v.1)
     | inr e ↦ elim (dig height_limit [] n n (omega arith) (refl, tt) e) [
-      | inl f ↦ inr (inl f)
-      | inr r ↦ inr (inr (refusal_of g all n r.0 r.1 r.2))
+      | inl f ↦ at_call f.0 f.1
+      | inr r ↦ (let c = refusal_of g all n r.0 r.1 r.2 in at_chain c.0 c.1)
     ]
   ]
 
@@ -218,8 +218,8 @@ module _ (g : Graph) (s : Sources) (outcomes : Outcomes) where
   founded_or_chained total n = record {
     none = no_chain n;
     one = elim (result_call_or_chain n) [
-      | inl f ↦ inl f
-      | inr (inl f) ↦ let o = value_of_some (outcomes f.0) (total f.0) in some_is_none (outcomes f.0) o.0 o.1 f.1.outside
-      | inr (inr c) ↦ inr c
+      | at_result f ↦ inl f
+      | at_call call f ↦ (let o = value_of_some (outcomes call) (total call) in some_is_none (outcomes call) o.0 o.1 f.outside)
+      | at_chain chain c ↦ inr (chain, c)
     ];
   }

@@ -22,7 +22,8 @@ Sources = map.FinMap name_cmp Text
 abbrev pub text_of : Sources → Text → Option Text
 text_of s name = map.get s name
 
--- The outcome of each call that has one. With the outcomes of a table derivation is Derive, with those of a set P of calls it is DeriveP.
+-- The outcome of each call that has one. With the outcomes of a table derivation is Derive, with
+-- those of a set P of calls it is DeriveP.
 abbrev pub Outcomes : Type 0
 Outcomes = Call → Option Outcome
 
@@ -41,7 +42,8 @@ names_for g s n seen =
     reached_names (map.keys s) (own_lines (task_of g n) (values_of seen))
     (other_lines (task_of g n) (values_of seen))
 
--- the view of a node all of whose needs have results and whose call, if there is one, has an outcome
+-- the view of a node all of whose needs have results and whose call, if there is one, has an
+-- outcome
 abbrev pub settle_if_known : Graph → Sources → Outcomes → Node → Results → List Text → Option View
 settle_if_known g s outcomes n seen names =
     cond (all_known seen (needs_of (task_of g n) (values_of seen) names))

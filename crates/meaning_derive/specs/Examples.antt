@@ -7,7 +7,8 @@ use Rattle.meaning_tasks.specs.Needs.{Results, values_of}
 use Rattle.meaning_derive.specs.Chains.{IsCircular}
 use Rattle.meaning_derive.specs.Samples.{objs, exe, back, back_again, lines, joined}
 
--- A program whose unit is made of the program, where the list of objects is known and nothing further on.
+-- A program whose unit is made of the program, where the list of objects is known and nothing
+-- further on.
 pub record MadeOfItself : Type 0 where
   pub chain : (seen : Results) → values_of seen objs ≡ Some (Some (Listed (back_again ∷ [])))
       → seen back ≡ None

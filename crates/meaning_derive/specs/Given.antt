@@ -1,4 +1,5 @@
--- What derivation is given: sources as they may be, and outcomes that fit their calls, of a table of tools or kept ones.
+-- What derivation is given: sources as they may be, and outcomes that fit their calls, of a table
+-- of tools or kept ones.
 use Rattle.std.specs.Prelude.{◌≡◌, ◌≤◌, length, Some}
 use Rattle.object_values.specs.declared.calls.Call.{Call}
 use Rattle.object_values.specs.declared.calls.Outcome.{Outcome}

@@ -41,7 +41,8 @@ CallsAreEnough =
     → ((call : Call) → IsCallFrom g (derived g s outcomes) n call → kept call ≡ outcomes call)
     → (view : View) → derived g s outcomes n ≡ Some view → derived g s kept n ≡ Some view
 
--- What a result one height up says: the needs, all with results, the call, its outcome, and the view that the node settles to.
+-- What a result one height up says: the needs, all with results, the call, its outcome, and the
+-- view that the node settles to.
 pub record IsSettled (g : Graph) (s : Sources) (outcomes : Outcomes) (h : ℕ) (n : Node)
     (view : View) : Type 0 where
   pub needs : List Node
@@ -53,20 +54,28 @@ pub record IsSettled (g : Graph) (s : Sources) (outcomes : Outcomes) (h : ℕ) (
   pub given : outcome_for outcomes call ≡ Some outcome
   pub settles : Settles g (text_of s) n (derive g s outcomes h) outcome view
 
--- Derivation goes by the relation Needs: there is a result one height up exactly where each need has one, and the call, if there is one, has an outcome; and it is what the node settles to.
+-- Derivation goes by the relation Needs: there is a result one height up exactly where each need
+-- has one, and the call, if there is one, has an outcome; and it is what the node settles to.
 abbrev pub DeriveByNeeds : Type 0
 DeriveByNeeds =
     (g : Graph) (s : Sources) (outcomes : Outcomes) (h : ℕ) (n : Node) (view : View)
     → (derive g s outcomes (suc h) n ≡ Some view) ↔ IsSettled g s outcomes h n view
 
--- Each node has a list of needs, and so a call or none, at each height.
+-- The node has a list of needs, and a call or none.
+pub record HasNeeds (g : Graph) (seen : Results) (n : Node) : Type 0 where
+  pub needs : List Node
+  pub listed : Needs g n seen needs
+  pub call : Option Call
+  pub called : CallOf g n seen call
+
+-- Each node has needs at each height.
 abbrev pub NeedsAreThere : Type 0
 NeedsAreThere =
     (g : Graph) (s : Sources) (outcomes : Outcomes) (h : ℕ) (n : Node)
-    → ((needs : List Node) × Needs g n (derive g s outcomes h) needs) ×
-    ((call : Option Call) × CallOf g n (derive g s outcomes h) call)
+    → HasNeeds g (derive g s outcomes h) n
 
--- A node is founded exactly where it has no circular and no deep chain, where each call has an outcome.
+-- A node is founded exactly where it has no circular and no deep chain, where each call has an
+-- outcome.
 pub record IsFoundedOrChained (g : Graph) (s : Sources) (outcomes : Outcomes)
     (n : Node) : Type 0 where
   pub none : IsFounded g s outcomes n → (chain : List Node)
@@ -79,13 +88,17 @@ FoundedOrChained =
     (g : Graph) (s : Sources) (outcomes : Outcomes) → ((call : Call) → IsSome (outcomes call))
     → (n : Node) → IsFoundedOrChained g s outcomes n
 
--- Whatever outcomes there are, a node has a result, or a call at which its derivation stops, or a chain; and never a result and a chain.
+-- How a derivation ends: with a result, at a call that has no outcome, or at a chain.
+pub data EndOf (g : Graph) (s : Sources) (outcomes : Outcomes) (n : Node) : Type 0 where
+  at_result : IsFounded g s outcomes n → EndOf g s outcomes n
+  at_call : (call : Call) → IsFrontier g s outcomes n call → EndOf g s outcomes n
+  at_chain : (chain : List Node) → IsRefusal g (derived g s outcomes) n chain → EndOf g s outcomes n
+
+-- Whatever outcomes there are, the derivation of a node ends in one of these ways, and never with a
+-- result and at a chain.
 abbrev pub ResultCallOrChain : Type 0
 ResultCallOrChain =
-    (g : Graph) (s : Sources) (outcomes : Outcomes) (n : Node)
-    → IsFounded g s outcomes n
-    ⊎ (((call : Call) × IsFrontier g s outcomes n call) ⊎ ((chain : List Node)
-    × IsRefusal g (derived g s outcomes) n chain))
+    (g : Graph) (s : Sources) (outcomes : Outcomes) (n : Node) → EndOf g s outcomes n
 
 abbrev pub NoResultAndChain : Type 0
 NoResultAndChain =
@@ -122,7 +135,8 @@ SettlesAgain =
     → (call : Option Call) (outcome : Option Outcome) → CallOf g n seen call
     → outcome_for outcomes call ≡ Some outcome → Settles g (text_of s) n seen outcome view
 
--- Heights go by the needs: each need of a node of height h + 1 has a height of at most h, and one has just h, unless h is 0 and there are none.
+-- Heights go by the needs: each need of a node of height h + 1 has a height of at most h, and one
+-- has just h, unless h is 0 and there are none.
 pub record IsOneAbove (g : Graph) (s : Sources) (outcomes : Outcomes) (n : Node)
     (h : ℕ) : Type 0 where
   pub each : (m : Node) → IsNeed g (derived g s outcomes) n m

@@ -1,4 +1,5 @@
--- A derivation graph as the list of its declarations: types and makers by number, and what a name stands for. A name means its first declaration.
+-- A derivation graph as the list of its declarations: types and makers by number, and what a name
+-- stands for. A name means its first declaration.
 use Rattle.std.specs.Prelude.{ℕ, Bool, List, [], ◌∷◌, Option, Some, None, bytes_eq, filter_map, slice_get, position, codes, option_map, option_and_then}
 use Rattle.std.specs.List.{list_any}
 use Rattle.object_values.specs.declared.graph.Kind.{Kind}

@@ -10,7 +10,8 @@ use Rattle.meaning_graph.specs.Paths.{Chosen, HasNoPath, chosen_path}
 abbrev pub IsAIsReachability : Type 0
 IsAIsReachability = (g : Graph) (a b : ℕ) → IsTrue (is_a g a b) ↔ IsA g a b
 
--- The computed suffix is the longest one, and there is none exactly where no declared suffix ends the name.
+-- The computed suffix is the longest one, and there is none exactly where no declared suffix ends
+-- the name.
 abbrev pub SuffixIsLongest : Type 0
 SuffixIsLongest =
     (g : Graph) (name : Text)

@@ -20,7 +20,8 @@ abbrev pub Path : Graph → ℕ → ℕ → List ℕ → Type 0
 Path g a b [] = IsA g a b
 Path g a b (k ∷ ks) = (to : ℕ) × Makes g a k to × Path g to b ks
 
--- A path, and every other one is longer, or as long and greater in maker numbers at the first difference.
+-- A path, and every other one is longer, or as long and greater in maker numbers at the first
+-- difference.
 pub record Chosen (g : Graph) (a b : ℕ) (p : List ℕ) : Type 0 where
   pub path : Path g a b p
   pub least : (q : List ℕ) → Path g a b q → (q ≡ p) ⊎ ComesBefore p q

@@ -23,7 +23,8 @@ abbrev pub or_later : Option SuffixDecl → Option SuffixDecl → Option SuffixD
 or_later None later = later
 or_later (Some s) later = Some s
 
--- the declaration of the name itself as a suffix, or else that of the longest suffix of the name without its first byte
+-- the declaration of the name itself as a suffix, or else that of the longest suffix of the name
+-- without its first byte
 abbrev pub suffix_of : Graph → Text → Option SuffixDecl
 suffix_of g [] = find (λ d. bytes_eq d.suffix []) (suffixes g)
 suffix_of g (b ∷ name) =

@@ -1,4 +1,5 @@
--- The faults of declarations: six tests at each, and the first fault of a list. A name means its first declaration.
+-- The faults of declarations: six tests at each, and the first fault of a list. A name means its
+-- first declaration.
 use Rattle.std.specs.Prelude.{◌≡◌, ℕ, ◌+◌, ◌-◌, ◌<◌, ◌≤◌, ◌⊎◌, Bool, true, false, not, ◌&&◌, ◌||◌, nat_lt, IsTrue, List, [], ◌∷◌, ◌++◌, map, take, Option, Some, None, is_some, bytes_eq, slice_get}
 use Rattle.std.specs.List.{list_any, list_all, filter_map, find}
 use Rattle.std.specs.Option.{option_map_or, option_to_list}
@@ -63,7 +64,8 @@ abbrev pub part_names : Kind → List Text
 part_names (Compound parts) = map (λ (part : PartDecl). part.name) parts
 part_names other = []
 
--- The name is declared before in the same space, `text` being there from the start, or a part or a used parameter stands twice.
+-- The name is declared before in the same space, `text` being there from the start, or a part or a
+-- used parameter stands twice.
 abbrev pub doubles_name : Graph → Decl → Bool
 doubles_name before (ObjectType t) =
     list_any (λ (u : TypeDecl). bytes_eq u.name t.name) (types before)
@@ -123,7 +125,8 @@ is_list g name = option_map_or is_list_kind (kind_named g name) false
 abbrev pub is_compound : Graph → Text → Bool
 is_compound g name = option_map_or is_compound_kind (kind_named g name) false
 
--- the supertype of a list of this type is a list, and the elements of the one are the elements of the other; an element type that is nowhere declared is a fault of the supertype alone
+-- the supertype of a list of this type is a list, and the elements of the one are the elements of
+-- the other; an element type that is nowhere declared is a fault of the supertype alone
 abbrev pub fits_list : Graph → Text → Option Kind → Bool
 fits_list g of (Some (ListOf super_of)) = not (is_known g super_of) || is_a_named g of super_of
 fits_list g of other = false

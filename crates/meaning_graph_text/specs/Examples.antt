@@ -41,7 +41,8 @@ pub record OtherSpellings : Type 0 where
       (simple (codes "t") ∷ declared (codes "u") Simple (codes "t" ∷ []) ∷ [])
   pub empty : GraphText [] []
 
--- a missing semicolon, a text that ends too early, a string that isn't closed, and one behind `with` that is no name
+-- a missing semicolon, a text that ends too early, a string that isn't closed, and one behind
+-- `with` that is no name
 pub record SyntaxFaults : Type 0 where
   pub missing : IsSyntaxFault (codes "type c simple\ntype d simple;") 2 1
   pub ends_early : IsSyntaxFault (codes "type c simple ") 1 15

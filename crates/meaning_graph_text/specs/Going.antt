@@ -22,7 +22,8 @@ accepts name_string (string s) = is_name s
 accepts open_mark opening = true
 accepts class token = false
 
--- where tokens may stop, or go on in several ways: between declarations, before a kind, behind a kind, and so on
+-- where tokens may stop, or go on in several ways: between declarations, before a kind, behind a
+-- kind, and so on
 pub data Stage : Type 0 where
   between : Stage
   kind : Stage

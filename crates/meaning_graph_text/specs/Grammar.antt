@@ -1,4 +1,5 @@
--- The grammar of graph files: the tokens of each declaration, the lists that have a spelling, and the texts of a list.
+-- The grammar of graph files: the tokens of each declaration, the lists that have a spelling, and
+-- the texts of a list.
 use Rattle.std.specs.Prelude.{◌≡◌, ℕ, ◌<◌, List, [], ◌∷◌, ◌++◌, length, Option, Some, None, IfSome, codes, ⊤}
 use Rattle.std.specs.List.{flat_map, All}
 use Rattle.object_values.specs.declared.graph.PartDecl.{PartDecl}

@@ -13,13 +13,15 @@ use Rattle.meaning_graph_text.specs.Stopping.{syntax_stop, front_of}
 use Rattle.meaning_graph_text.specs.Spelling.{graph_spelling}
 use Rattle.meaning_graph_text.specs.Checks.{IsANamed, is_a_named, Checked, FirstFault, first_fault, FaultAt}
 
--- The computed token is the one with which a text begins, with what follows it, and no other one is.
+-- The computed token is the one with which a text begins, with what follows it, and no other one
+-- is.
 abbrev pub TokenIsAtFront : Type 0
 TokenIsAtFront =
     (text : List ℕ) (t : Token) (rest : List ℕ)
     → (token_at text ≡ Some (taken t rest)) ↔ BeginsWith text t rest
 
--- What stands behind a gap: the text has no tokens before it, and it begins with neither a blank nor a comment.
+-- What stands behind a gap: the text has no tokens before it, and it begins with neither a blank
+-- nor a comment.
 pub record IsBehindGap (text rest : List ℕ) : Type 0 where
   pub gap : Tokens text [] rest
   pub past : IsTrue (is_past_gap rest)
@@ -79,11 +81,13 @@ FirstFaultIsOne =
     (g : Graph) (number other : ℕ) (fault second : GraphFault) → FirstFault g number fault
     → FirstFault g other second → SameFault number other fault second
 
--- The test on two names holds exactly where supertypes lead from the type of the one to the type of the other.
+-- The test on two names holds exactly where supertypes lead from the type of the one to the type of
+-- the other.
 abbrev pub NamedIsReachability : Type 0
 NamedIsReachability = (g : Graph) (a b : Text) → IsTrue (is_a_named g a b) ↔ IsANamed g a b
 
--- The computed test holds of the tokens that can go on to a graph, of as many as a graph file may have.
+-- The computed test holds of the tokens that can go on to a graph, of as many as a graph file may
+-- have.
 abbrev pub GoingIsTested : Type 0
 GoingIsTested =
     (tokens : List Token) → length tokens ≤ graph_limit

@@ -5,7 +5,8 @@ use Rattle.meaning_texts.specs.Classes.{is_name_byte}
 use Rattle.meaning_texts.specs.Tests.{is_name, is_string_text}
 use Rattle.meaning_graph_text.specs.Tokens.{Token, word, string, semicolon, comma, opening, closing, is_blank}
 
--- the text from the first byte that begins neither a blank nor a comment, inside a comment where the flag is set
+-- the text from the first byte that begins neither a blank nor a comment, inside a comment where
+-- the flag is set
 abbrev pub past_gap : Bool → List ℕ → List ℕ
 past_gap inside [] = []
 past_gap false (b ∷ rest) =

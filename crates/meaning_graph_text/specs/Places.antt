@@ -20,7 +20,8 @@ pub record IsFrontOfGraph (tokens : List Token) : Type 0 where
   pub spelled : HasSpelling decls
   pub is : tokens ++ more ≡ graph_tokens decls
 
--- The tokens before the place can go on, and what begins there is no token with which they can: or the text ends there too early.
+-- The tokens before the place can go on, and what begins there is no token with which they can: or
+-- the text ends there too early.
 pub record IsSyntaxFault (text : List ℕ) (line column : ℕ) : Type 0 where
   pub front : List ℕ
   pub rest : List ℕ

@@ -18,7 +18,8 @@ abbrev pub stop_at : (Expected → List ℕ → Option (List ℕ)) → Expected 
 stop_at go e rest None = Some rest
 stop_at go e rest (Some k) = stop_by go rest k (step e.must e.stage k.token)
 
--- what is left where the text stops, with so many tokens at most; nothing where it is one of a graph
+-- what is left where the text stops, with so many tokens at most; nothing where it is one of a
+-- graph
 abbrev pub stop_from : ℕ → Expected → List ℕ → Option (List ℕ)
 stop_from n e [] = cond (is_done e.must e.stage) None (Some [])
 stop_from zero e (b ∷ rest) = Some (b ∷ rest)

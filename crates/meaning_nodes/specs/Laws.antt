@@ -30,7 +30,8 @@ abbrev pub OnwardFits : Type 0
 OnwardFits =
     (g : Graph) (n m : Node) (to : ℕ) → Fits g n → onward g n to ≡ Some m → IsLedTo g n to m
 
--- A key is the number of an element where it is written so, without leading zeros, from 1 and below the bound.
+-- A key is the number of an element where it is written so, without leading zeros, from 1 and below
+-- the bound.
 pub record IsNumberOf (key : Text) (k : ℕ) : Type 0 where
   pub written : key ≡ decimal k
   pub some : 0 < k

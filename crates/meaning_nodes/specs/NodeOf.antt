@@ -1,4 +1,5 @@
--- The node of an expression, or the first refusal: an unknown parameter, then step by step an unknown type or a step that can't be made.
+-- The node of an expression, or the first refusal: an unknown parameter, then step by step an
+-- unknown type or a step that can't be made.
 use Rattle.std.specs.Prelude.{ℕ, ◌+◌, cond, not, List, [], ◌∷◌, Option, Some, None, is_some, find}
 use Rattle.object_values.specs.declared.nodes.ParamValue.{ParamValue}
 use Rattle.object_values.specs.declared.nodes.Step.TheVariants.{Pick as PickKey}

@@ -90,7 +90,8 @@ abbrev pub HasKeyOfClass : Step → Type 0
 HasKeyOfClass (Maker k) = ⊤
 HasKeyOfClass (Pick key) = IsKey key
 
--- Its names, values and keys are of their classes, and each step can be applied to the type before it.
+-- Its names, values and keys are of their classes, and each step can be applied to the type before
+-- it.
 pub record Fits (g : Graph) (n : Node) : Type 0 where
   pub source : IsName n.source
   pub params : All IsParamOfClass n.params

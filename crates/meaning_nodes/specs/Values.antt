@@ -18,7 +18,8 @@ pub data Picked : Type 0 where
   element : Node → Picked
   body : Text → Picked
 
--- What a key picks: element K from 1 of a list, or the part of that name of a compound, and nothing else.
+-- What a key picks: element K from 1 of a list, or the part of that name of a compound, and nothing
+-- else.
 abbrev pub pick : Value → Text → Option Picked
 pick (Simple text) key = None
 pick (Listed elements) key =

@@ -74,7 +74,8 @@ missing_extras extras = flat_map (λ e. e.missing) extras
 abbrev pub all_valued : Known → List Node → Bool
 all_valued known nodes = list_all (λ n. has_value (known n)) nodes
 
--- The call, and none where no tool is run: a tool isn't run where an extra has no path, or where a need but a reached source has no value.
+-- The call, and none where no tool is run: a tool isn't run where an extra has no path, or where a
+-- need but a reached source has no value.
 abbrev pub call_of : Graph → Task → Known → List Text → Option Call
 call_of g (tooled t) known names =
     cond

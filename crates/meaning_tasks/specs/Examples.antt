@@ -68,9 +68,11 @@ pub record References : Type 0 where
   pub others : read_as units (codes "a.c+opt\n#\na.c:zz\nm.sm")
       ≡ aborted
       (fault_of_units (codes "line 1: unknown parameter")
-      ∷ fault_of_units (codes "line 3: unknown type") ∷ fault_of_units (codes "line 4: no path") ∷ [])
+      ∷ fault_of_units (codes "line 3: unknown type") ∷ fault_of_units (codes "line 4: no path")
+      ∷ [])
 
--- a line has the parameters of the reading node, then its own; those of the reading node may be undeclared
+-- a line has the parameters of the reading node, then its own; those of the reading node may be
+-- undeclared
 pub record LineParameters : Type 0 where
   pub sorted : read_as (with_params (parameter (codes "zz") ∷ []) units) (codes "a.c+debug")
       ≡ fine
@@ -113,6 +115,17 @@ loop =
     ∷ simple_entry (codes "b.h") (codes "include a.h\n")
     ∷ simple_entry (codes "b.h:inc") (codes "a.h\n") ∷ []
 
+-- headers that include one another, one behind the other
+abbrev pub chain : List Entry
+chain =
+    simple_entry (codes "a.c") (codes "include a.h\n")
+    ∷ simple_entry (codes "a.c:inc") (codes "a.h\n")
+    ∷ simple_entry (codes "a.h") (codes "include b.h\n")
+    ∷ simple_entry (codes "a.h:inc") (codes "b.h\n")
+    ∷ simple_entry (codes "b.h") (codes "include c.h\n")
+    ∷ simple_entry (codes "b.h:inc") (codes "c.h\n")
+    ∷ simple_entry (codes "c.h") [] ∷ simple_entry (codes "c.h:inc") [] ∷ []
+
 -- a header that isn't there
 abbrev pub absent : List Entry
 absent =
@@ -137,11 +150,16 @@ aborted_header =
 abbrev pub object_needs : List Text → List Entry → List Text
 object_needs listed entries = need_texts c_units listed entries (object_of (codes "a.c"))
 
--- the scan nodes by name, that of the own source first, and then the reached sources: an include loop is no circularity, and an absent header is a need
+-- the scan nodes by name, that of the own source first, and then the reached sources: an include
+-- loop is no circularity, and an absent header is a need
 pub record Closures : Type 0 where
   pub include_loop : object_needs (codes "a.c" ∷ codes "a.h" ∷ codes "b.h" ∷ []) loop
       ≡ codes "a.c" ∷ codes "a.c:inc" ∷ codes "a.h:inc" ∷ codes "b.h:inc" ∷ codes "a.h"
       ∷ codes "b.h" ∷ []
+  pub headers_of_headers : object_needs
+      (codes "a.c" ∷ codes "a.h" ∷ codes "b.h" ∷ codes "c.h" ∷ []) chain
+      ≡ codes "a.c" ∷ codes "a.c:inc" ∷ codes "a.h:inc" ∷ codes "b.h:inc" ∷ codes "c.h:inc"
+      ∷ codes "a.h" ∷ codes "b.h" ∷ codes "c.h" ∷ []
   pub absent_header : object_needs (codes "a.c" ∷ []) absent
       ≡ codes "a.c" ∷ codes "a.c:inc" ∷ codes "x.h" ∷ []
   pub own_source_again : object_needs (codes "a.c" ∷ codes "a.h" ∷ []) source_again
@@ -210,7 +228,9 @@ pub record Slots : Type 0 where
       (at_steps (codes "a.c") (Maker 7 ∷ []))
       ≡ Some
       (call_part 0 (codes "a.c") (Some (codes "x=1\n"))
-      ∷ call_part 1 (codes "a.c:o") (Some (codes "x=2\n")) ∷ call_part 2 (codes "lic.h") (Some (codes "L\n")) ∷ call_part 3 (codes "a.h") (Some (codes "y=2\n")) ∷ [])
+      ∷ call_part 1 (codes "a.c:o") (Some (codes "x=2\n"))
+      ∷ call_part 2 (codes "lic.h") (Some (codes "L\n"))
+      ∷ call_part 3 (codes "a.h") (Some (codes "y=2\n")) ∷ [])
   pub absent_header : parts_of_call c_units (codes "a.c" ∷ []) absent (object_of (codes "a.c"))
       ≡ Some
       (call_part 0 (codes "a.c") (Some (codes "include x.h\n")) ∷ call_part 1 (codes "x.h") None

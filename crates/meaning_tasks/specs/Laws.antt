@@ -36,7 +36,8 @@ NeedsGrow =
     (g : Graph) (n : Node) (seen more : Results) (needs others : List Node) → Grows seen more
     → Needs g n seen needs → Needs g n more others → (m : Node) → IsIn m needs → IsIn m others
 
--- With the same reached names all is the same under both maps: needs, call, what the node itself gives, and the settled value.
+-- With the same reached names all is the same under both maps: needs, call, what the node itself
+-- gives, and the settled value.
 pub record IsSameUnder (g : Graph) (n : Node) (seen other : Results)
     (names : List Text) : Type 0 where
   pub reached : ReachedNames g n other names

@@ -30,7 +30,8 @@ IsOfKind g (CompoundKind declared) (Compound parts) =
     map (λ p. p.name) parts ≡ map (λ p. p.name) declared
 IsOfKind g kind value = ⊥
 
--- A view of a node that fits: it has a value exactly where its status isn't `Abort`, and one of the node's kind.
+-- A view of a node that fits: it has a value exactly where its status isn't `Abort`, and one of the
+-- node's kind.
 pub record IsResultOf (g : Graph) (n : Node) (view : View) : Type 0 where
   pub fits : Fits g n
   pub valued : (view.value ≡ None) ↔ (view.status ≡ Abort)

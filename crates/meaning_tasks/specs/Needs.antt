@@ -16,7 +16,8 @@ use Rattle.meaning_tasks.specs.Tasks.{Task, given, picked, mapped, packed, toole
 abbrev pub Results : Type 0
 Results = Node → Option View
 
--- What is known of each node: nothing, or that it has no value, or its value. Needs and calls go by this alone.
+-- What is known of each node: nothing, or that it has no value, or its value. Needs and calls go by
+-- this alone.
 abbrev pub Known : Type 0
 Known = Node → Option (Option Value)
 

@@ -7,7 +7,8 @@ use Rattle.meaning_texts.specs.Expressions.{name_cmp}
 use Rattle.meaning_texts.specs.Lists.{IsIn}
 use Rattle.meaning_graph.specs.Graphs.{Text}
 
--- A chain of lines leads to the name: the first is one of the own lines, each further one is one of the name before it.
+-- A chain of lines leads to the name: the first is one of the own lines, each further one is one of
+-- the name before it.
 pub data Reached (own : List Text) (lines : Text → List Text) : Text → Type 0 where
   by_own : (x : Text) → IsIn x own → Reached own lines x
   by_line : (x y : Text) → Reached own lines x → IsIn y (lines x) → Reached own lines y

@@ -79,7 +79,8 @@ outcome_own label makes_compound missing None = aborted missing
 outcome_own label makes_compound missing (Some o) =
     at_status o.status (made_value makes_compound o.outputs) (map (labelled label) o.lines)
 
--- What the node itself gives: by the sources, by what is known of its needs, and by the outcome of its call.
+-- What the node itself gives: by the sources, by what is known of its needs, and by the outcome of
+-- its call.
 abbrev pub own_of : Text → Texts → Task → Known → Option Outcome → Own
 own_of label texts (given name) known outcome = given_own label name (texts name)
 own_of label texts (picked base key) known outcome = picked_own label known key (known base)
@@ -108,7 +109,8 @@ worst_of seen own (n ∷ needs) = worst (status_in (seen n)) (worst_of seen own 
 abbrev pub messages_of : Results → List Node → List Message
 messages_of seen needs = flat_map (λ n. messages_in (seen n)) needs
 
--- The view from what the node itself gives and from its needs but the reached sources. It has a value where all these have.
+-- The view from what the node itself gives and from its needs but the reached sources. It has a
+-- value where all these have.
 abbrev pub settled : Results → Own → List Node → View
 settled seen own ranked = record {
   value = cond (all_valued (values_of seen) ranked) own.value None;

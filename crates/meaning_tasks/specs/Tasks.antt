@@ -1,4 +1,5 @@
--- The task of a node: what its last step asks for, by the graph and the node alone, whatever results there are.
+-- The task of a node: what its last step asks for, by the graph and the node alone, whatever
+-- results there are.
 use Rattle.std.specs.Prelude.{Bool, true, false, cond, List, [], ◌∷◌, ◌++◌, map, filter, filter_map, flat_map, Option, Some, None, bytes_eq, slice_get, codes}
 use Rattle.std.specs.List.{list_any}
 use Rattle.object_values.specs.declared.messages.Status.{Status}
@@ -131,7 +132,8 @@ pub record ExtraNode : Type 0 where
   pub node : Option Node
   pub missing : List Message
 
--- What runs a tool: the base, the extras, the scan node of a name where there is a path to the scan type, and the outputs.
+-- What runs a tool: the base, the extras, the scan node of a name where there is a path to the scan
+-- type, and the outputs.
 pub record ToolTask : Type 0 where
   pub base : Node
   pub name : Text

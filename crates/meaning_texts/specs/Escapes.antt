@@ -1,4 +1,5 @@
--- Escaped text: printable bytes stand as they are, but for `\`, which is written twice; every other byte is `\x` and two digits.
+-- Escaped text: printable bytes stand as they are, but for `\`, which is written twice; every other
+-- byte is `\x` and two digits.
 use Rattle.std.specs.Prelude.{ℕ, ◌+◌, ◌/◌, ◌%◌, Bool, nat_lt, nat_le, ◌==◌, ◌&&◌, List, [], ◌∷◌, if◌then◌else◌}
 use Rattle.std.specs.List.{flat_map}
 

@@ -42,7 +42,8 @@ sorted =
     (param (codes "a") [] ∷ param (codes "b") (codes "2") ∷ param (codes "b") (codes "1") ∷ [])
     (Pick (codes "1") ∷ [])
 
--- the names are sorted, the values of one name stay in their order, and a value that was there before is dropped
+-- the names are sorted, the values of one name stay in their order, and a value that was there
+-- before is dropped
 pub record SortedParams : Type 0 where
   pub read : ExpressionText (codes "a+b=2+a+b=1+b=2%1") sorted
 
@@ -61,7 +62,8 @@ pub record FaultPlaces : Type 0 where
   -- what begins wrongly isn't too long
   pub wrong_first : IsFaultPlace (63 ∷ replicate 1000 32) 1
 
--- the byte that can't go on: a digit, a space or nothing where a letter must stand, and a letter behind a space
+-- the byte that can't go on: a digit, a space or nothing where a letter must stand, and a letter
+-- behind a space
 pub record MoreFaultPlaces : Type 0 where
   pub digit : IsFaultPlace (codes "a.c:1") 5
   pub inside : IsFaultPlace (codes "a.c +=b") 6
@@ -76,7 +78,8 @@ pub record LongWords : Type 0 where
   pub id : IsFaultPlace (codes "a:" ++ replicate 256 97) 258
   pub key : IsFaultPlace (codes "a%" ++ replicate 256 49) 258
 
--- a name, an identifier and a key of 255 bytes, a text of 1,000 bytes, and a key that begins with a digit
+-- a name, an identifier and a key of 255 bytes, a text of 1,000 bytes, and a key that begins with a
+-- digit
 pub record LongestTexts : Type 0 where
   pub name : ExpressionText (replicate 255 97) (bare (replicate 255 97))
   pub id : ExpressionText (codes "a:" ++ replicate 255 97)
@@ -93,7 +96,8 @@ pub record Values : Type 0 where
   pub equals : HasValue (codes "a+b=c=") (codes "c=")
   pub delete : IsFaultPlace (codes "a+b=" ++ 127 ∷ []) 5
 
--- The second line is none. A comment and an empty line are counted and passed over, and a CR at the end of a line is dropped.
+-- The second line is none. A comment and an empty line are counted and passed over, and a CR at the
+-- end of a line is dropped.
 pub record ReferenceLists : Type 0 where
   pub bad : references (codes "a.c\n?\n") ≡ These (Good 1 (bare (codes "a.c")) ∷ Bad 2 ∷ [])
   pub passed : references (codes "#a" ++ 13 ∷ 10 ∷ 13 ∷ 10 ∷ codes "b.c:o" ++ 13 ∷ [])

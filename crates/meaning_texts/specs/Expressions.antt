@@ -1,4 +1,5 @@
--- Expressions: their grammar as a relation on whole texts, the place of a fault, and the canonical spelling.
+-- Expressions: their grammar as a relation on whole texts, the place of a fault, and the canonical
+-- spelling.
 use Rattle.std.specs.Prelude.{◌≡◌, ℕ, ◌+◌, ◌<◌, ◌≤◌, List, [], ◌∷◌, ◌++◌, length, take, map, filter, replicate, bytes_eq}
 use Rattle.std.specs.List.{flat_map, All}
 use Rattle.std.specs.List.Sorted.{IsSortedByKey}
@@ -15,7 +16,8 @@ use Rattle.meaning_texts.specs.Limits.{expression_limit}
 
 -- ---- the grammar
 
--- What stands behind the name: spaces and items, with the parameters and the steps in the order in which they are written.
+-- What stands behind the name: spaces and items, with the parameters and the steps in the order in
+-- which they are written.
 pub data Items : List ℕ → List ParamValue → List ExprStep → Type 0 where
   no_more : Items [] [] []
   space : (rest : List ℕ) (ps : List ParamValue) (ss : List ExprStep) → Items rest ps ss
@@ -54,7 +56,8 @@ abbrev pub values_of : List ℕ → List ParamValue → List (List ℕ)
 values_of name params =
     map (λ (p : ParamValue). p.value) (filter (λ (p : ParamValue). bytes_eq p.param name) params)
 
--- The parameters as an expression keeps them: sorted by name, and for each name its values in order, a value that was there before dropped.
+-- The parameters as an expression keeps them: sorted by name, and for each name its values in
+-- order, a value that was there before dropped.
 pub record AreKeptAs (written kept : List ParamValue) : Type 0 where
   pub sorted : IsSortedByKey (λ (p : ParamValue). p.param) name_cmp kept
   pub values : (name : List ℕ) → values_of name kept ≡ once bytes_eq (values_of name written)

@@ -1,4 +1,5 @@
--- The expression of a text, computed: the text is cut at its marks, and each piece is read by itself.
+-- The expression of a text, computed: the text is cut at its marks, and each piece is read by
+-- itself.
 use Rattle.std.specs.Prelude.{ℕ, Bool, ◌||◌, ◌&&◌, nat_le, ◌==◌, List, [], ◌∷◌, length, Option, Some, None, bytes_eq, if◌then◌else◌}
 use Rattle.std.specs.Option.{option_map, option_and_then}
 use Rattle.std.specs.Ordering.{is_lt}

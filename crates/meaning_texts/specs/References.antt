@@ -23,7 +23,8 @@ pub data ReadsAs (number : ℕ) (text : List ℕ) : Line → Type 0 where
   good : (e : Expression) → ExpressionText text e → ReadsAs number text (Good number e)
   bad : ((e : Expression) → ExpressionText text e → ⊥) → ReadsAs number text (Bad number)
 
--- The lines that aren't passed over read so, one for one and in order; all are numbered, from this number on.
+-- The lines that aren't passed over read so, one for one and in order; all are numbered, from this
+-- number on.
 pub data ReadAs : ℕ → List (List ℕ) → List Line → Type 0 where
   no_more : (number : ℕ) → ReadAs number [] []
   passed : (number : ℕ) (text : List ℕ) (texts : List (List ℕ)) (lines : List Line)

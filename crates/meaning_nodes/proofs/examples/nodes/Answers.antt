@@ -10,4 +10,4 @@ use Rattle.meaning_nodes.proofs.examples.nodes.Goals as goal
 
 pub returns : goal.returns
 unfolding digits expression_of kept_params source_type is_a chosen_path reached_type node_of
-returns c = record { two_ways = refl; whole = refl; keeps_its_type = refl; picked = refl }
+returns c = record { two_ways = refl; whole = refl; in_two = refl; keeps_its_type = refl; picked = refl }

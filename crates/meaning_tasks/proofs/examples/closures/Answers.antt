@@ -14,4 +14,4 @@ use Rattle.meaning_tasks.proofs.examples.closures.Goals as goal
 
 pub returns : goal.returns
 unfolding digits expression_of kept_params references scanned_names lines_of source_type is_a chosen_path reached_type node_of task_of reached_names
-returns c = record { include_loop = refl; absent_header = refl; own_source_again = refl; header_aborted = refl }
+returns c = record { include_loop = refl; headers_of_headers = refl; absent_header = refl; own_source_again = refl; header_aborted = refl }
