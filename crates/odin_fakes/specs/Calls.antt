@@ -1,5 +1,6 @@
 -- The calls of a file in memory, and what they make of it.
-use Rattle.std.specs.Prelude.{◌≡◌, ◌⊎◌, ℕ, ◌+◌, ◌-◌, ◌≤◌, ⊤, min, List, [], ◌∷◌, ◌++◌, length, take, drop}
+use Rattle.std.specs.Prelude.{◌≡◌, ◌⊎◌, ℕ, ◌+◌, ◌-◌, ◌≤◌, ⊤, min, Vec, List, [], ◌∷◌, ◌++◌, length, take, drop}
+use Rattle.std.specs.declared.alloc.Global.{Global}
 use Rattle.odin_outside.specs.Disk.{Pending, IsCrashImage, Torn, Cut, synced_at, wrote, cut_to}
 
 -- a write of these bytes at this offset, a cut to this size, a sync, or a call that changes nothing
@@ -13,9 +14,9 @@ pub data Call : Type 0 where
 abbrev pub written : List ℕ → ℕ → List ℕ → List ℕ
 written image at bytes = take at image ++ bytes ++ drop (at + length bytes) image
 
--- the image is that with these bytes at this offset, if that lies within it
-abbrev pub IsWrittenIn : List ℕ → ℕ → List ℕ → List ℕ → Type 0
-IsWrittenIn old at bytes new = at ≤ length old → new ≡ written old at bytes
+-- the image in memory is that with these bytes at this offset, if that lies within it
+abbrev pub Holds : Vec ℕ Global → ℕ → List ℕ → Vec ℕ Global → Type 0
+Holds old at bytes new = at ≤ length old.items → new.items ≡ written old.items at bytes
 
 -- what a call makes of an image
 abbrev pub changed : Call → List ℕ → List ℕ

@@ -1,6 +1,7 @@
 -- The calls of a file as they are kept: a write by its offset and the number of its bytes, which stand in one list with those of the
 -- other writes.
-use Rattle.std.specs.Prelude.{◌≡◌, ◌⊎◌, ℕ, ◌+◌, List, [], ◌∷◌, ◌++◌, ⊤, take, drop}
+use Rattle.std.specs.Prelude.{◌≡◌, ◌⊎◌, ℕ, ◌+◌, List, [], ◌∷◌, ◌++◌, ⊤, Vec, take, drop}
+use Rattle.std.specs.declared.alloc.Global.{Global}
 use Rattle.odin_fakes.specs.declared.disk.Entry.{Entry}
 use Rattle.odin_fakes.specs.declared.disk.Entry.TheVariants as entry
 use Rattle.odin_outside.specs.Disk.{IsCrashImage}
@@ -56,23 +57,24 @@ IsPending entry.Look = ⊤
 abbrev pub IsUnfinished : List Entry → List Entry → Type 0
 IsUnfinished entries before = (before ≡ entries) ⊎ (entries ≡ before ++ entry.Sync ∷ [])
 
--- what a read gives after these calls, what a crash after them may leave, and what a stop within the last of them may leave
-abbrev pub IsImageOf : List ℕ → List Entry → List ℕ → List ℕ → Type 0
-IsImageOf first entries written image = image ≡ image_after first (calls_of entries written)
+-- A list in memory is what a read gives after these calls, what a crash after them may leave, or what a stop within the last of them may
+-- leave.
+abbrev pub IsImageOf : List ℕ → List Entry → List ℕ → Vec ℕ Global → Type 0
+IsImageOf first entries written image = image.items ≡ image_after first (calls_of entries written)
 
-abbrev pub IsCrashOf : List ℕ → List Entry → List ℕ → List ℕ → Type 0
-IsCrashOf first entries written image = IsCrashImage (pending_after first (calls_of entries written)) image
+abbrev pub IsCrashOf : List ℕ → List Entry → List ℕ → Vec ℕ Global → Type 0
+IsCrashOf first entries written image = IsCrashImage (pending_after first (calls_of entries written)) image.items
 
-abbrev pub IsStopOf : List ℕ → List Entry → List ℕ → List ℕ → Type 0
-IsStopOf first entries written image = LeftWithin first (calls_of entries written) image
+abbrev pub IsStopOf : List ℕ → List Entry → List ℕ → Vec ℕ Global → Type 0
+IsStopOf first entries written image = LeftWithin first (calls_of entries written) image.items
 
 -- likewise of the first calls up to a number
-abbrev pub IsImageAt : ℕ → List ℕ → List Entry → List ℕ → List ℕ → Type 0
-IsImageAt moment first entries written image = image ≡ image_after first (calls_until moment (calls_of entries written))
+abbrev pub SeenAt : ℕ → List ℕ → List Entry → List ℕ → Vec ℕ Global → Type 0
+SeenAt moment first entries written image = image.items ≡ image_after first (calls_until moment (calls_of entries written))
 
-abbrev pub IsStopAt : ℕ → List ℕ → List Entry → List ℕ → List ℕ → Type 0
-IsStopAt moment first entries written image = LeftWithin first (calls_until moment (calls_of entries written)) image
+abbrev pub StopAt : ℕ → List ℕ → List Entry → List ℕ → Vec ℕ Global → Type 0
+StopAt moment first entries written image = LeftWithin first (calls_until moment (calls_of entries written)) image.items
 
 -- what the whole call makes of an image that it fits into
-abbrev pub IsDone : Entry → List ℕ → List ℕ → List ℕ → Type 0
-IsDone kept bytes old new = FitsIn (call_of kept bytes) old → new ≡ changed (call_of kept bytes) old
+abbrev pub IsDone : Entry → List ℕ → Vec ℕ Global → Vec ℕ Global → Type 0
+IsDone kept bytes old new = FitsIn (call_of kept bytes) old.items → new.items ≡ changed (call_of kept bytes) old.items

@@ -2,7 +2,7 @@
 ghost use Rattle.std.specs.Prelude.{◌≡◌, ◌≤◌, All, length, take, drop, IfOk, OnOk};
 ghost use Rattle.odin_fakes.specs.Calls.{AreWithin, TornBy};
 ghost use Rattle.odin_fakes.specs.Choices.{IsWhole};
-ghost use Rattle.odin_fakes.specs.Entries.{IsCrashOf, IsDone, IsImageAt, IsImageOf, IsPending, IsStopAt, IsStopOf, IsUnfinished, call_of, count_of, calls_of};
+ghost use Rattle.odin_fakes.specs.Entries.{IsCrashOf, IsDone, IsImageOf, IsPending, IsStopOf, IsUnfinished, SeenAt, StopAt, call_of, count_of, calls_of};
 
 use crate::choice::Choice;
 use crate::disk::Entry;
@@ -38,7 +38,7 @@ fn tear(
     choice: &mut Choice,
 ) -> Result<(), Memory>
     ensures torn { OnOk result (TornBy (call_of entry bytes.now) image.old.items image.new.items) }
-    ensures whole { IsWhole choice.old → OnOk result (IsDone entry bytes.now image.old.items image.new.items) }
+    ensures whole { IsWhole choice.old → OnOk result (IsDone entry bytes.now image.old image.new) }
     ensures stays { IsWhole choice.old → IsWhole choice.new }
 {
     match entry {
@@ -59,8 +59,8 @@ fn torn(
 ) -> Result<Vec<u8>, Memory>
     requires within { AreWithin first.now (calls_of entries.now written.now) }
     requires unsynced { All IsPending (drop pending entries.now) }
-    ensures left { IfOk result (λ image. IsCrashOf first.now entries.now written.now image.items) }
-    ensures whole { IsWhole choice → IfOk result (λ left. IsImageOf first.now entries.now written.now left.items) }
+    ensures left { IfOk result (IsCrashOf first.now entries.now written.now) }
+    ensures whole { IsWhole choice → IfOk result (IsImageOf first.now entries.now written.now) }
 {
     let mut choice = choice;
     let mut whole = Choice::new(0);
@@ -112,8 +112,8 @@ fn within_last(
     choice: Choice,
 ) -> Result<Vec<u8>, Memory>
     requires { AreWithin first.now (calls_of entries.now written.now) }
-    ensures left { IfOk result (λ image. IsStopOf first.now entries.now written.now image.items) }
-    ensures whole { IsWhole choice → IfOk result (λ left. IsImageOf first.now entries.now written.now left.items) }
+    ensures left { IfOk result (IsStopOf first.now entries.now written.now) }
+    ensures whole { IsWhole choice → IfOk result (IsImageOf first.now entries.now written.now) }
 {
     let before = unfinished(entries);
     torn(alloc, first, before, written, pending_from(before), choice)
@@ -130,8 +130,8 @@ pub fn stopped(
 ) -> Result<Vec<u8>, Memory>
     requires within { AreWithin first.now (calls_of entries.now written.now) }
     requires moment { moment ≤ length entries.now }
-    ensures left { IfOk result (λ left. IsStopAt moment first.now entries.now written.now left.items) }
-    ensures whole { IsWhole choice → IfOk result (λ left. IsImageAt moment first.now entries.now written.now left.items) }
+    ensures left { IfOk result (StopAt moment first.now entries.now written.now) }
+    ensures whole { IsWhole choice → IfOk result (SeenAt moment first.now entries.now written.now) }
 {
     within_last(alloc, first, &entries[..moment], written, choice)
 }

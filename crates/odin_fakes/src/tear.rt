@@ -1,7 +1,7 @@
 // Images that a stop in the middle of a write or a cut may leave.
 ghost use Rattle.std.specs.Prelude.{◌≡◌, max, length, take, IfOk, OnOk};
 ghost use Rattle.odin_outside.specs.Disk.{Torn, Cut};
-ghost use Rattle.odin_fakes.specs.Calls.{IsWrittenIn};
+ghost use Rattle.odin_fakes.specs.Calls.{Holds};
 ghost use Rattle.odin_fakes.specs.Choices.{IsWhole};
 
 use crate::choice::Choice;
@@ -24,7 +24,7 @@ fn pad(alloc: Global, image: &mut Vec<u8>, size: usize) -> Result<(), Memory>
 // Writes bytes at an offset, with zeros before them where the image ends before it.
 fn place(alloc: Global, image: &mut Vec<u8>, start: usize, bytes: &[u8]) -> Result<(), Memory>
     ensures torn { OnOk result (Torn start (length bytes.now) image.old.items image.new.items) }
-    ensures whole { OnOk result (IsWrittenIn image.old.items start bytes.now image.new.items) }
+    ensures whole { OnOk result (Holds image.old start bytes.now image.new) }
 {
     pad(alloc, image, start)?;
     overwrite(image, start, bytes)?;
@@ -122,7 +122,7 @@ pub fn tear_write(
     choice: &mut Choice,
 ) -> Result<(), Memory>
     ensures torn { OnOk result (Torn start (length bytes.now) image.old.items image.new.items) }
-    ensures whole { IsWhole choice.old → OnOk result (IsWrittenIn image.old.items start bytes.now image.new.items) }
+    ensures whole { IsWhole choice.old → OnOk result (Holds image.old start bytes.now image.new) }
     ensures stays { IsWhole choice.old → IsWhole choice.new }
 {
     let half = bytes.len() / 2;

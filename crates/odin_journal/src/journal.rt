@@ -68,7 +68,8 @@ impl Journal {
         payload: &[u8],
     ) -> Result<(), JournalFault>
         requires { IsReady self.old (D.size_of disk.old) }
-        ensures added { OnOk result (AddsTo self.old self.new payload.now (D.told disk.old) (D.told disk.new)) }
+        ensures added { OnOk result
+            (AddsTo self.old self.new payload.now (D.told disk.old) (D.told disk.new)) }
         ensures any_moment { LeavesAdded self.old payload.now (D.told disk.old) (D.told disk.new) }
         ensures full { IsFull self.old.end (length payload.now) result }
         ensures same { IsRefused result → (disk.new ≡ disk.old) × (self.new ≡ self.old) }

@@ -42,8 +42,28 @@ warned line = if begins_with (codes "//!") line then with_lf (behind (codes "//!
 abbrev pub of_all_lines : (List ℕ → List ℕ) → List FileBody → List ℕ
 of_all_lines each files = flat_map (λ input. flat_map each (lines input)) (inputs files)
 
+-- what a text gives, and the inputs among files
+abbrev pub compiled_text : List ℕ → List ℕ
+compiled_text text = flat_map compiled (lines text)
+
+abbrev pub warned_text : List ℕ → List ℕ
+warned_text text = flat_map warned (lines text)
+
+abbrev pub compiled_files : List FileBody → List ℕ
+compiled_files files = of_all_lines compiled files
+
+-- what a file gives, if it is an input
+abbrev pub compiled_file : FileBody → List ℕ
+compiled_file file = of_all_lines compiled (file ∷ [])
+
+abbrev pub warned_file : FileBody → List ℕ
+warned_file file = of_all_lines warned (file ∷ [])
+
+abbrev pub debug_of : List FileBody → List ℕ
+debug_of files = debug_line (lines_in (codes "call") files)
+
 abbrev pub cc_output : List FileBody → List ℕ
-cc_output files = debug_line (lines_in (codes "call") files) ++ of_all_lines compiled files
+cc_output files = debug_of files ++ compiled_files files
 
 abbrev pub cc_warnings : List FileBody → List ℕ
 cc_warnings files = of_all_lines warned files

@@ -1,5 +1,5 @@
 -- What a toy tool leaves of a job.
-use Rattle.std.specs.Prelude.{ℕ, ◌-◌, List, [], ◌∷◌, length, Option, Some, None, bytes_eq, codes, slice_get, if◌then◌else◌}
+use Rattle.std.specs.Prelude.{ℕ, ◌-◌, List, [], ◌∷◌, ◌++◌, length, Option, Some, None, bytes_eq, codes, slice_get, if◌then◌else◌}
 use Rattle.object_values.specs.declared.jobs.End.{End}
 use Rattle.object_values.specs.declared.jobs.End.TheVariants.{Exit}
 use Rattle.object_values.specs.declared.jobs.FileBody.{FileBody}
@@ -15,6 +15,10 @@ output_name outs = slice_get outs (length outs - 1)
 abbrev pub output_file : Option (List ℕ) → List ℕ → List FileBody
 output_file None body = []
 output_file (Some name) body = record { name = name; body = body } ∷ []
+
+-- and is added to what a tool leaves
+abbrev pub with_output : Job → List ℕ → Raw → Raw
+with_output job output raw = record raw { files = raw.files ++ output_file (output_name job.outs) output }
 
 -- the file of warnings, and then the output
 abbrev pub left : End → List ℕ → List FileBody → Raw

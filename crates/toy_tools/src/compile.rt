@@ -1,7 +1,7 @@
 // What `cc` makes of its inputs: an object and warnings.
-ghost use Rattle.std.specs.Prelude.{◌≡◌, ◌++◌, ◌∷◌, [], codes, OnOk};
-ghost use Rattle.std.specs.List.{flat_map, list_any};
-ghost use Rattle.toy_tools.specs.Inputs.{lines, lines_in, begins_with};
+ghost use Rattle.std.specs.Prelude.{◌≡◌, ◌++◌, codes, OnOk};
+ghost use Rattle.std.specs.List.{list_any};
+ghost use Rattle.toy_tools.specs.Inputs.{lines, begins_with};
 ghost use Rattle.toy_tools.specs.Programs as meaning;
 
 use crate::inputs::{body_of, is_input_name};
@@ -31,8 +31,8 @@ fn put_warned(line: &[u8], warnings: &mut Bytes) -> Result<(), Memory>
 }
 
 fn compile_text(text: &[u8], object: &mut Bytes, warnings: &mut Bytes) -> Result<(), Memory>
-    ensures object { OnOk result (object.new ≡ object.old ++ flat_map meaning.compiled (lines text.now)) }
-    ensures warnings { OnOk result (warnings.new ≡ warnings.old ++ flat_map meaning.warned (lines text.now)) }
+    ensures object { OnOk result (object.new ≡ object.old ++ meaning.compiled_text text.now) }
+    ensures warnings { OnOk result (warnings.new ≡ warnings.old ++ meaning.warned_text text.now) }
 {
     let mut rest = text;
     'lines: while let Some((line, behind)) = next_line(rest) {
@@ -45,8 +45,8 @@ fn compile_text(text: &[u8], object: &mut Bytes, warnings: &mut Bytes) -> Result
 
 // Compiles the file, if it is an input.
 fn compile_file(file: &FileBody, object: &mut Bytes, warnings: &mut Bytes) -> Result<(), Memory>
-    ensures object { OnOk result (object.new ≡ object.old ++ meaning.of_all_lines meaning.compiled (file.now ∷ [])) }
-    ensures warnings { OnOk result (warnings.new ≡ warnings.old ++ meaning.of_all_lines meaning.warned (file.now ∷ [])) }
+    ensures object { OnOk result (object.new ≡ object.old ++ meaning.compiled_file file.now) }
+    ensures warnings { OnOk result (warnings.new ≡ warnings.old ++ meaning.warned_file file.now) }
 {
     if is_input_name(file.name.as_slice()) {
         compile_text(file.body.as_slice(), object, warnings)
@@ -60,8 +60,8 @@ pub(crate) fn compile_files(
     object: &mut Bytes,
     warnings: &mut Bytes,
 ) -> Result<(), Memory>
-    ensures object { OnOk result (object.new ≡ object.old ++ meaning.of_all_lines meaning.compiled files.now) }
-    ensures warnings { OnOk result (warnings.new ≡ warnings.old ++ meaning.of_all_lines meaning.warned files.now) }
+    ensures object { OnOk result (object.new ≡ object.old ++ meaning.compiled_files files.now) }
+    ensures warnings { OnOk result (warnings.new ≡ warnings.old ++ meaning.cc_warnings files.now) }
 {
     for file in files {
         compile_file(file, object, warnings)?;
@@ -84,7 +84,7 @@ fn has_debug(call: &[u8]) -> bool
 }
 
 pub(crate) fn put_debug(files: &[FileBody], object: &mut Bytes) -> Result<(), Memory>
-    ensures { OnOk result (object.new ≡ object.old ++ meaning.debug_line (lines_in (codes "call") files.now)) }
+    ensures { OnOk result (object.new ≡ object.old ++ meaning.debug_of files.now) }
 {
     if has_debug(body_of(files, b"call")) {
         put_line(b"debug", object)

@@ -1,5 +1,5 @@
 // What a tool leaves: its warnings, and its output.
-ghost use Rattle.std.specs.Prelude.{◌≡◌, ◌++◌, [], IfOk, OnOk};
+ghost use Rattle.std.specs.Prelude.{◌≡◌, [], IfOk, OnOk};
 ghost use Rattle.toy_tools.specs.Toys as meaning;
 
 use object_values::{Bytes, Copied, End, FileBody, Job, Memory, Raw, Seq};
@@ -23,7 +23,7 @@ pub(crate) fn put_output(
     output: Bytes,
     raw: &mut Raw,
 ) -> Result<(), Memory>
-    ensures { OnOk result (raw.new ≡ record raw.old { files = raw.old.files ++ meaning.output_file (meaning.output_name job.now.outs) output }) }
+    ensures { OnOk result (raw.new ≡ meaning.with_output job.now output raw.old) }
 {
     let Some(name) = job.outs.as_slice().last() else {
         return Ok(());
