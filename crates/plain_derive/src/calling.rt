@@ -10,7 +10,7 @@ ghost use Rattle.plain_derive.specs.Seen.{AreSeen};
 
 use crate::nodes::{base_of, last_tool};
 use crate::results::Results;
-use node_names::label_of;
+use odin_nodes::label_of;
 use object_values::{Bytes, Call, CallPart, Copied, Memory, Node, Part, Seq, Value, View};
 use path_planner::Plans;
 use std::alloc::Global;

@@ -8,8 +8,7 @@ ghost use Rattle.plain_derive.specs.Seen.{AreSeen, HasOneOutput, IsOutcomeFor};
 
 use crate::needing::needs;
 use crate::results::Results;
-use node_names::label_of;
-use object_rules::{Inherited, worst};
+use odin_nodes::{Inherited, label_of, worst};
 use object_values::{Copied, Memory, Message, Node, Outcome, Seq, Status, Value, View};
 use path_planner::Plans;
 use std::alloc::Global;

@@ -4,8 +4,8 @@ use Rattle.std.proofs.lemmas.List.{take_all}
 use Rattle.object_values.specs.declared.messages.Message.{Message}
 use Rattle.object_values.specs.declared.views.View.{View}
 use Rattle.meaning_nodes.specs.Values.{inherit}
-use Rattle.object_rules.proofs.Once.{inherit_all}
-use Rattle.object_rules.proofs.inherited.inherit.Goals as goal
+use Rattle.odin_nodes.proofs.Once.{inherit_all}
+use Rattle.odin_nodes.proofs.inherited.inherit.Goals as goal
 
 abbrev messages_in : List View → List Message
 messages_in views = flat_map (λ view. view.messages) views

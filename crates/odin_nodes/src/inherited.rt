@@ -2,7 +2,7 @@
 // to a limit.
 ghost use Rattle.std.specs.Prelude.{◌≡◌, [], ◌∷◌, flat_map, IfOk, OnOk};
 ghost use Rattle.meaning_nodes.specs.Values.{inherit};
-ghost use Rattle.object_rules.specs.Inheriting.{Inherits};
+ghost use Rattle.odin_nodes.specs.Inheriting.{Inherits};
 
 use indexmap::IndexSet;
 use object_values::{Copied, Memory, Message, Seq, View};
@@ -21,7 +21,7 @@ pub struct Inherited {
 impl Model for Inherited {
     ghost use Rattle.std.specs.Prelude.{List};
     ghost use Rattle.object_values.specs.declared.messages.Message.{Message};
-    ghost use Rattle.object_rules.specs.Inheriting.{AreFew};
+    ghost use Rattle.odin_nodes.specs.Inheriting.{AreFew};
 
     ghost Value = { List Message };
 

@@ -1,10 +1,10 @@
 use Rattle.std.proofs.Common.{ap, ◌∙◌, sym, subst, rules, arith, ◌≡◌, ◌≤◌, length, List, ◌∷◌, ◌++◌, []}
 use Rattle.meaning_nodes.specs.Values.{inherit}
 use Rattle.object_values.specs.declared.messages.Message.{Message}
-use Rattle.object_rules.specs.Inheriting.{AreFew}
-use Rattle.object_rules.proofs.Once.{inherits_full, inherits_same, inherits_new}
-use Rattle.object_rules.proofs.inherited.Inherited.push.Goals as goal
-use Rattle.object_rules.proofs.inherited.Inherited.push.Goals.{then-len-ge-LIMIT-via-then-len-ge-LIMIT, then-len-ge-LIMIT-via-else-len-ge-LIMIT+then-contains}
+use Rattle.odin_nodes.specs.Inheriting.{AreFew}
+use Rattle.odin_nodes.proofs.Once.{inherits_full, inherits_same, inherits_new}
+use Rattle.odin_nodes.proofs.inherited.Inherited.push.Goals as goal
+use Rattle.odin_nodes.proofs.inherited.Inherited.push.Goals.{then-len-ge-LIMIT-via-then-len-ge-LIMIT, then-len-ge-LIMIT-via-else-len-ge-LIMIT+then-contains}
 
 full : (messages : List Message) (m : Message) → AreFew messages → 1000 ≤ length messages → (more : List Message) → inherit messages more ≡ inherit messages (m ∷ more)
 full messages m few long more = inherits_full messages more few long ∙ sym (inherits_full messages (m ∷ more) few long)

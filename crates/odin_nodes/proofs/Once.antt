@@ -11,7 +11,7 @@ use Rattle.object_values.specs.declared.messages.Status.TheVariants.{Ok, Warning
 use Rattle.object_values.specs.declared.messages.Message.{Message}
 use Rattle.object_values.specs.contracts.messages.MessagePartialEq.TheImpl.{ghosts as message_eq}
 use Rattle.object_values.specs.Exact.{message_exact}
-use Rattle.object_rules.specs.Inheriting.{AreFew}
+use Rattle.odin_nodes.specs.Inheriting.{AreFew}
 use Rattle.meaning_nodes.specs.Values.{rank, is_message, once, inherit}
 
 -- ---- filters
