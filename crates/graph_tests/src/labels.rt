@@ -1,6 +1,6 @@
 // Labels and texts of nodes over a small graph.
 use dg_reader::read_graph;
-use node_names::{label_of, node_text};
+use odin_nodes::{label_of, node_text};
 use object_values::{Bytes, Memory, Node, ParamValue, Seq, Step};
 use std::alloc::Global;
 use std::test::Fail;

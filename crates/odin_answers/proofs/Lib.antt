@@ -2,3 +2,4 @@ mod AnswerLemmas
 mod Joins
 mod NodeLemmas
 mod RequestLemmas
+pub mod CountLemmas

@@ -11,7 +11,7 @@ ghost use Rattle.path_planner.specs.Ends.{plans_of};
 
 use crate::nodes::{base_of, last_tool};
 use crate::results::Results;
-use node_names::label_of;
+use odin_nodes::label_of;
 use object_values::{Bytes, Call, CallPart, Copied, Memory, Node, Part, Seq, Value, View};
 use path_planner::Plans;
 use std::alloc::Global;

@@ -21,6 +21,6 @@ pub use derivation::derive_plain;
 pub use fault::PlainFault;
 pub use found::Found;
 pub use needing::needs;
-pub use node_names::{label_of, node_text};
+pub use odin_nodes::{label_of, node_text};
 pub use results::Results;
 pub use settling::settle;

@@ -9,8 +9,7 @@ ghost use Rattle.path_planner.specs.Ends.{plans_of};
 
 use crate::needing::needs;
 use crate::results::Results;
-use node_names::label_of;
-use object_rules::{Inherited, worst};
+use odin_nodes::{Inherited, label_of, worst};
 use object_values::{Copied, Memory, Message, Node, Outcome, Seq, Status, Value, View};
 use path_planner::Plans;
 use std::alloc::Global;

@@ -1,6 +1,6 @@
 // Messages that are inherited, on small tables.
 use super::texts::Text;
-use object_rules::{inherit, worst};
+use odin_nodes::{inherit, worst};
 use object_values::{Bytes, Memory, Message, Seq, Status, View};
 use std::alloc::Global;
 use std::test::Fail;

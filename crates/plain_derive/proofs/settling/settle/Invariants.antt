@@ -1,6 +1,6 @@
 use Rattle.std.proofs.Common.{◌≡◌, [], take, drop}
 use Rattle.meaning_tasks.specs.Settle.{worst_of, messages_of}
-use Rattle.object_rules.specs.Inheriting.{Inherits}
+use Rattle.odin_nodes.specs.Inheriting.{Inherits}
 use Rattle.plain_derive.proofs.settling.settle.Given as goal
 
 abbrev pub invariant-loop-need : goal.invariant-loop-need

@@ -1,6 +1,0 @@
-use Rattle.std.proofs.Common.{take}
-use Rattle.object_rules.specs.Inheriting.{Inherits}
-use Rattle.object_rules.proofs.inherited.Inherited.add.Given as goal
-
-abbrev pub invariant-loop-message : goal.invariant-loop-message
-invariant-loop-message l = Inherits l.fn.self (take l.message-index l.messages) l.self

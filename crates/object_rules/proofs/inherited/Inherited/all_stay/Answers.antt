@@ -1,8 +1,0 @@
-use Rattle.std.proofs.Common.{subst, List}
-use Rattle.object_values.specs.declared.messages.Message.{Message}
-use Rattle.object_rules.specs.Inheriting.{AreFew}
-use Rattle.object_rules.proofs.Once.{inherits_none}
-use Rattle.object_rules.proofs.inherited.Inherited.all_stay.Goals as goal
-
-pub returns : goal.returns
-returns c = inherits_none c.args.self.now (subst (λ (messages : List Message). AreFew messages) c.self.view_is c.self.invariant)
