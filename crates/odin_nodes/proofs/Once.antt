@@ -1,4 +1,4 @@
--- Messages each once: what stays the same where a message stands there already, and where there are as many as may be.
+-- Messages each messages_once: what stays the same where a message stands there already, and where there are as many as may be.
 use Rattle.std.proofs.Common.{◌≡◌, ◌≤◌, Bool, true, false, not, List, [], ◌∷◌, ◌++◌, length, take, ap, sym, ◌∙◌, refl, rules}
 use Rattle.std.specs.Prelude.{filter, Decides, ◌==◌}
 use Rattle.std.specs.List.{list_any, IsDistinct, AllByRecursion}
@@ -12,7 +12,7 @@ use Rattle.object_values.specs.declared.messages.Message.{Message}
 use Rattle.object_values.specs.contracts.messages.MessagePartialEq.TheImpl.{ghosts as message_eq}
 use Rattle.object_values.specs.Exact.{message_exact}
 use Rattle.odin_nodes.specs.Inheriting.{AreFew}
-use Rattle.meaning_nodes.specs.Values.{rank, is_message, once, inherit}
+use Rattle.meaning_nodes.specs.Values.{rank, is_message, messages_once, inherit}
 
 -- ---- filters
 
@@ -61,7 +61,7 @@ is_message_exact x y = search (rules, bytes_decides x.label y.label, rank_exact 
 pub same_test : (x y : Message) → message_eq.eq x y ≡ is_message x y
 same_test x y = same_from_decides (message_eq.eq x y) (is_message x y) (message_exact x y) (is_message_exact x y)
 
--- ---- messages each once
+-- ---- messages each messages_once
 
 -- those unlike m
 abbrev unlike : Message → List Message → List Message
@@ -78,22 +78,22 @@ head_at m k xs ys true eb e = grind rules
 head_at m k xs ys false eb e = grind rules
 
 -- among those unlike m, m itself counts nowhere
-without_itself : (m : Message) (before rest : List Message) → unlike m (once (before ++ m ∷ rest)) ≡ unlike m (once (before ++ rest))
-without_itself m [] rest = alone m (once rest) (is_message m m) refl
+without_itself : (m : Message) (before rest : List Message) → unlike m (messages_once (before ++ m ∷ rest)) ≡ unlike m (messages_once (before ++ rest))
+without_itself m [] rest = alone m (messages_once rest) (is_message m m) refl
   where
     alone : (m : Message) (zs : List Message) (b : Bool) → is_message m m ≡ b → unlike m (m ∷ unlike m zs) ≡ unlike m zs
     alone m zs true e = grind (rules, filter-twice (λ other. not (is_message m other)) zs)
     alone m zs false e = absurd (grind (rules, (is_message_exact m m).1 refl))
 without_itself m (k ∷ before) rest =
-    head_at m k (unlike k (once (before ++ m ∷ rest))) (unlike k (once (before ++ rest))) (is_message m k) refl
-    (swapped m k (once (before ++ m ∷ rest)) (once (before ++ rest)) (without_itself m before rest))
+    head_at m k (unlike k (messages_once (before ++ m ∷ rest))) (unlike k (messages_once (before ++ rest))) (is_message m k) refl
+    (swapped m k (messages_once (before ++ m ∷ rest)) (messages_once (before ++ rest)) (without_itself m before rest))
 
-stands_behind : (k : Message) (before rest : List Message) (m : Message) (b : Bool) → message_eq.eq m k ≡ b → (list_any (message_eq.eq m) before ≡ true → once (before ++ m ∷ rest) ≡ once (before ++ rest)) → list_any (message_eq.eq m) (k ∷ before) ≡ true → once ((k ∷ before) ++ m ∷ rest) ≡ once ((k ∷ before) ++ rest)
+stands_behind : (k : Message) (before rest : List Message) (m : Message) (b : Bool) → message_eq.eq m k ≡ b → (list_any (message_eq.eq m) before ≡ true → messages_once (before ++ m ∷ rest) ≡ messages_once (before ++ rest)) → list_any (message_eq.eq m) (k ∷ before) ≡ true → messages_once ((k ∷ before) ++ m ∷ rest) ≡ messages_once ((k ∷ before) ++ rest)
 stands_behind k before rest m true e behind there = grind (rules, without_itself m before rest, (message_exact m k).0 e)
 stands_behind k before rest m false e behind there = grind (rules, behind (grind rules))
 
 -- one that stands there already adds nothing
-pub there_already : (before rest : List Message) (m : Message) → list_any (message_eq.eq m) before ≡ true → once (before ++ m ∷ rest) ≡ once (before ++ rest)
+pub there_already : (before rest : List Message) (m : Message) → list_any (message_eq.eq m) before ≡ true → messages_once (before ++ m ∷ rest) ≡ messages_once (before ++ rest)
 there_already [] rest m there = absurd (grind rules)
 there_already (k ∷ before) rest m there = stands_behind k before rest m (message_eq.eq m k) refl (there_already before rest m) there
 
@@ -109,10 +109,10 @@ all_unlike k (x ∷ xs) apart = apart_at k x xs [] apart.0 (all_unlike k xs apar
 
 -- what comes behind different messages
 abbrev pub behind : List Message → List Message → List Message
-behind [] more = once more
+behind [] more = messages_once more
 behind (k ∷ messages) more = unlike k (behind messages more)
 
-pub once_behind : (messages more : List Message) → IsDistinct message_eq.eq messages → once (messages ++ more) ≡ messages ++ behind messages more
+pub once_behind : (messages more : List Message) → IsDistinct message_eq.eq messages → messages_once (messages ++ more) ≡ messages ++ behind messages more
 unfolding IsDistinct
 once_behind [] more distinct = refl
 once_behind (k ∷ messages) more distinct =
@@ -145,7 +145,7 @@ inherits_full messages more few full =
 
 pub inherits_new : (messages more : List Message) (m : Message) → inherit (messages ++ m ∷ []) more ≡ inherit messages (m ∷ more)
 unfolding inherit
-inherits_new messages more m = ap (λ xs. take 1000 (once xs)) (append_assoc messages (m ∷ []) more)
+inherits_new messages more m = ap (λ xs. take 1000 (messages_once xs)) (append_assoc messages (m ∷ []) more)
 
 pub inherits_same : (messages more : List Message) (m : Message) → list_any (message_eq.eq m) messages ≡ true → inherit messages more ≡ inherit messages (m ∷ more)
 unfolding inherit
