@@ -1,8 +1,9 @@
 -- Worked examples of replies: views, refusals and plans as they are printed.
-use Rattle.std.specs.Prelude.{◌≡◌, [], ◌∷◌, Some, codes}
+use Rattle.std.specs.Prelude.{◌≡◌, List, [], ◌∷◌, Some, codes}
 use Rattle.object_values.specs.declared.messages.Status.TheVariants.{Error, Abort}
 use Rattle.object_values.specs.declared.nodes.Step.TheVariants.{Maker, Pick}
 use Rattle.object_values.specs.declared.views.Value.TheVariants.{Simple, List as Listed, Compound}
+use Rattle.object_values.specs.declared.views.Part.{Part}
 use Rattle.object_values.specs.declared.views.View.{View}
 use Rattle.meaning_graph.specs.Graphs.{Text}
 use Rattle.meaning_graph.specs.Samples.{two_ways, c_units, c_units_back, joined_texts}
@@ -14,13 +15,16 @@ use Rattle.meaning_answers.specs.Samples.{good, warned, part, aborted_view, mess
 abbrev pub IsPrinted : View → Text → Type 0
 IsPrinted view text = object_reply c_units view ≡ text
 
+abbrev pub two_parts : List Part
+two_parts = part (codes "prog") (codes "x=1\n") ∷ part (codes "src") (codes "a.c\n") ∷ []
+
 -- objects of each kind
 pub record Objects : Type 0 where
   pub empty : IsPrinted (good (Simple [])) (codes "object ok simple 0\n\nmessages 0\n")
   pub listed : IsPrinted (good (Listed (object_of (codes "a.c") ∷ object_of (codes "b.c") ∷ [])))
       (codes "object ok list 2\na.c:o\nb.c:o\nmessages 0\n")
   pub compound : IsPrinted
-      (good (Compound (part (codes "prog") (codes "x=1\n") ∷ part (codes "src") (codes "a.c\n") ∷ [])))
+      (good (Compound two_parts))
       (codes "object ok compound 2\nprog 4\nx=1\n\nsrc 4\na.c\n\nmessages 0\n")
   pub failed : IsPrinted
       (record { value = Some (Simple (codes "x=1\n")); status = Error; messages = [] })

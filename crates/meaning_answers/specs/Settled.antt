@@ -1,5 +1,5 @@
 -- Worked examples of what nodes settle to from the results of their needs, as it is printed.
-use Rattle.std.specs.Prelude.{◌≡◌, List, [], ◌∷◌, Option, None, codes}
+use Rattle.std.specs.Prelude.{◌≡◌, List, [], ◌∷◌, ◌++◌, Option, None, codes}
 use Rattle.object_values.specs.declared.nodes.Step.TheVariants.{Maker, Pick}
 use Rattle.object_values.specs.declared.calls.Outcome.{Outcome}
 use Rattle.meaning_graph.specs.Graphs.{Text}
@@ -26,7 +26,8 @@ linked entries outcome =
 pub record Tools : Type 0 where
   pub absent_header : compiled
       (simple_at (codes "a.c") (codes "include x.h\nx=1\n")
-      ∷ simple_at (codes "a.c:inc") (codes "x.h\n") ∷ aborted_at (codes "x.h") (codes "x.h") (codes "no source x.h") ∷ [])
+      ∷ simple_at (codes "a.c:inc") (codes "x.h\n")
+      ∷ aborted_at (codes "x.h") (codes "x.h") (codes "no source x.h") ∷ [])
       (made_by (codes "o") (codes "x=1\n")) (codes "x.h" ∷ [])
       ≡ codes "object ok simple 4\nx=1\n\nmessages 0\n"
   pub inherited : linked
@@ -43,7 +44,8 @@ pub record Tools : Type 0 where
       (listed_at (codes "m.sm:units:objs") (object_of (codes "a.c") ∷ [])
       ∷ warned_at (codes "a.c:o") (codes "x=1\n") (codes "old") ∷ [])
       (ended_by (codes "tool ld ended by a signal"))
-      ≡ codes "object abort none 0\nmessages 2\nwarning a.c:o old\nabort m.sm:units:objs:exe tool ld ended by a signal\n"
+      ≡ codes "object abort none 0\nmessages 2\nwarning a.c:o old\n"
+      ++ codes "abort m.sm:units:objs:exe tool ld ended by a signal\n"
   pub ended : compiled
       (simple_at (codes "a.c") (codes "!signal\n") ∷ simple_at (codes "a.c:inc") [] ∷ [])
       (ended_by (codes "tool cc ended by a signal")) []
@@ -114,4 +116,5 @@ pub record Packs : Type 0 where
       ∷ simple_at (codes "m.sm") (codes "a.c\n") ∷ [])
       ≡ codes "object abort none 0\nmessages 1\nabort a.c no source a.c\n"
   pub no_path : settled_reply kits [] (at_steps (codes "a.c") (Maker 5 ∷ [])) None []
-      ≡ codes "object abort none 0\nmessages 2\nabort a.c:kit no path exe\nabort a.c:kit no path sm\n"
+      ≡ codes "object abort none 0\nmessages 2\n"
+      ++ codes "abort a.c:kit no path exe\nabort a.c:kit no path sm\n"

@@ -2,6 +2,7 @@
 use Rattle.std.specs.Prelude.{◌≡◌, ℕ, ◌++◌, List, [], ◌∷◌, length, replicate, Option, Some, None, codes}
 use Rattle.object_values.specs.declared.messages.Status.{Status}
 use Rattle.object_values.specs.declared.messages.Status.TheVariants.{Ok, Warning, Error, Abort}
+use Rattle.object_values.specs.declared.nodes.ParamValue.{ParamValue}
 use Rattle.object_values.specs.declared.views.Part.{Part}
 use Rattle.object_values.specs.declared.calls.CallPart.{CallPart}
 use Rattle.object_values.specs.declared.calls.Call.{Call}
@@ -67,21 +68,27 @@ absent_files =
     (codes "odin 1\ntool cc 1\npart 0 i1 a.c\npart 1 - x.h\npart 2 i3 b.h\nout out.o\n")
     ∷ file (codes "i1") (codes "x=1\n") ∷ file (codes "i3") [] ∷ []
 
+abbrev pub value_of_d : List ℕ → ParamValue
+value_of_d value = record { param = codes "d"; value = value }
+
 -- a tool with parameters and two outputs
 abbrev pub params_call : Call
 params_call = record {
   tool = codes "t";
   version = codes "2.0";
   words = codes "a b" ∷ [];
-  params = record { param = codes "d"; value = [] } ∷ record { param = codes "d"; value = codes "x" } ∷ [];
+  params = value_of_d [] ∷ value_of_d (codes "x") ∷ [];
   parts = [];
   outs = codes "p" ∷ codes "q" ∷ [];
 }
 
+abbrev pub params_text : List ℕ
+params_text = codes "odin 1\ntool t 2.0\nparam d \nparam d x\nout out.p\nout out.q\n"
+
 abbrev pub params_job : Job
 params_job = record {
   words = codes "a b" ∷ [];
-  files = file (codes "call") (codes "odin 1\ntool t 2.0\nparam d \nparam d x\nout out.p\nout out.q\n") ∷ [];
+  files = file (codes "call") params_text ∷ [];
   outs = codes "warnings" ∷ codes "out.p" ∷ codes "out.q" ∷ [];
 }
 

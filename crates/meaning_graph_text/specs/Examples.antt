@@ -18,15 +18,19 @@ use Rattle.meaning_graph_text.specs.Checks.{FaultAt, first_fault, has_fault}
 -- the graph of units, as it is written
 abbrev pub c_units_text : List ℕ
 c_units_text =
-    codes "type hdr simple;\ntype c simple is hdr;\ntype sm simple;\ntype inc simple;\ntype o simple;\ntype exe simple;\ntype units list of c;\ntype objs list of o;\n"
+    codes "type hdr simple;\ntype c simple is hdr;\ntype sm simple;\ntype inc simple;\n"
+    ++ codes "type o simple;\ntype exe simple;\ntype units list of c;\ntype objs list of o;\n"
     ++ codes "suffix .h hdr;\nsuffix .c c;\nsuffix .sm sm;\nparam debug;\n"
-    ++ codes "tool scan 1 from hdr to inc run \"scan\";\ntool cc 1 from c to o run \"cc\" uses debug closure inc;\n"
-    ++ codes "read rd from sm to units;\neach comp from units to objs;\ntool ld 1 from objs to exe run \"ld\";\n"
+    ++ codes "tool scan 1 from hdr to inc run \"scan\";\n"
+    ++ codes "tool cc 1 from c to o run \"cc\" uses debug closure inc;\n"
+    ++ codes "read rd from sm to units;\neach comp from units to objs;\n"
+    ++ codes "tool ld 1 from objs to exe run \"ld\";\n"
 
 -- what the graph of kits adds
 abbrev pub kits_lines : List ℕ
 kits_lines =
-    codes "type kit compound (prog exe, src sm);\ntype txt simple;\npack pk from sm to kit;\ntool doc 1 from c to txt run \"ld\" also o with \"lic.h\";\n"
+    codes "type kit compound (prog exe, src sm);\ntype txt simple;\npack pk from sm to kit;\n"
+    ++ codes "tool doc 1 from c to txt run \"ld\" also o with \"lic.h\";\n"
 
 -- canonical spellings, which read as what they spell
 pub record CanonicalGraphs : Type 0 where

@@ -6,6 +6,7 @@ use Rattle.object_values.specs.declared.nodes.Step.TheVariants.{Maker}
 use Rattle.object_values.specs.declared.nodes.Node.{Node}
 use Rattle.object_values.specs.declared.views.Value.{Value}
 use Rattle.object_values.specs.declared.views.Value.TheVariants.{Simple, List as Listed, Compound}
+use Rattle.object_values.specs.declared.calls.CallPart.{CallPart}
 use Rattle.object_values.specs.declared.calls.Call.{Call}
 use Rattle.object_values.specs.declared.graph.Extra.TheVariants.{Also, With}
 use Rattle.meaning_graph.specs.Graphs.{Text, Graph}
@@ -52,6 +53,10 @@ debug_at value = record { param = codes "debug"; value = value }
 
 -- ---- references
 
+-- one reference, to a.c with these parameters
+abbrev pub one_unit : List ParamValue → Own
+one_unit params = fine (Listed (with_params params (source_of (codes "a.c")) ∷ []))
+
 -- what the reference list of a node of units reads as
 abbrev pub read_as : Node → Text → Own
 read_as n text = read_own c_units n (codes "c") (Simple text)
@@ -75,11 +80,9 @@ pub record References : Type 0 where
 -- undeclared
 pub record LineParameters : Type 0 where
   pub sorted : read_as (with_params (parameter (codes "zz") ∷ []) units) (codes "a.c+debug")
-      ≡ fine
-      (Listed (with_params (parameter (codes "debug") ∷ parameter (codes "zz") ∷ []) (source_of (codes "a.c")) ∷ []))
+      ≡ one_unit (parameter (codes "debug") ∷ parameter (codes "zz") ∷ [])
   pub values : read_as (with_params (debug_at (codes "1") ∷ []) units) (codes "a.c+debug=2")
-      ≡ fine
-      (Listed (with_params (debug_at (codes "1") ∷ debug_at (codes "2") ∷ []) (source_of (codes "a.c")) ∷ []))
+      ≡ one_unit (debug_at (codes "1") ∷ debug_at (codes "2") ∷ [])
 
 -- what the elements of a list of units are led on to
 abbrev pub led_to_objects : List Node → Own
@@ -192,6 +195,11 @@ debugged_needs =
     ∷ simple_entry (codes "a.c+debug+opt:inc") (codes "a.h\n")
     ∷ simple_entry (codes "a.h") (codes "y=2\n") ∷ simple_entry (codes "a.h+debug+opt:inc") [] ∷ []
 
+abbrev pub debugged_parts : List CallPart
+debugged_parts =
+    call_part 0 (codes "a.c") (Some (codes "include a.h\n"))
+    ∷ call_part 1 (codes "a.h") (Some (codes "y=2\n")) ∷ []
+
 -- the tool uses `debug` alone
 abbrev pub debugged_call : Call
 debugged_call = record {
@@ -199,7 +207,7 @@ debugged_call = record {
   version = codes "1";
   words = codes "cc" ∷ [];
   params = parameter (codes "debug") ∷ [];
-  parts = call_part 0 (codes "a.c") (Some (codes "include a.h\n")) ∷ call_part 1 (codes "a.h") (Some (codes "y=2\n")) ∷ [];
+  parts = debugged_parts;
   outs = codes "o" ∷ [];
 }
 
@@ -222,6 +230,11 @@ both_needs =
     ∷ simple_entry (codes "a.c:inc") (codes "a.h\n") ∷ simple_entry (codes "a.h") (codes "y=2\n")
     ∷ simple_entry (codes "a.h:inc") [] ∷ []
 
+-- m.sm:units:objs with two elements
+abbrev pub two_objects : Entry
+two_objects =
+    listed_entry (codes "m.sm:units:objs") (object_of (codes "a.c") ∷ object_of (codes "b.c") ∷ [])
+
 -- slot 0 is the base, the extras follow one by one, and the reached sources stand behind them
 pub record Slots : Type 0 where
   pub extras_and_closure : parts_of_call with_both (codes "a.c" ∷ codes "a.h" ∷ []) both_needs
@@ -237,8 +250,8 @@ pub record Slots : Type 0 where
       ∷ [])
   -- each element of the base by its own label
   pub elements : parts_of_call c_units []
-      (listed_entry (codes "m.sm:units:objs") (object_of (codes "a.c") ∷ object_of (codes "b.c")
-      ∷ []) ∷ simple_entry (codes "a.c:o") (codes "x=1\n") ∷ simple_entry (codes "b.c:o") (codes "y=2\n") ∷ []) program
+      (two_objects ∷ simple_entry (codes "a.c:o") (codes "x=1\n")
+      ∷ simple_entry (codes "b.c:o") (codes "y=2\n") ∷ []) program
       ≡ Some
       (call_part 0 (codes "a.c:o") (Some (codes "x=1\n"))
       ∷ call_part 0 (codes "b.c:o") (Some (codes "y=2\n")) ∷ [])
