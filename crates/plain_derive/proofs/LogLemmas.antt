@@ -1,6 +1,5 @@
 -- Starts and faults over the calls of a derivation.
-use Rattle.std.proofs.Common.{◌≡◌, ◌≤◌, ◌<◌, ◌+◌, ℕ, zero, suc, List, [], ◌∷◌, ◌++◌, inl, inr, sym, ap, ◌∙◌, subst, refl, length, min, arith}
-use Rattle.std.proofs.lemmas.Bool.{cases_lt}
+use Rattle.std.proofs.Common.{◌≡◌, ◌≤◌, ◌+◌, List, [], ◌∷◌, ◌++◌, inl, inr, sym, ap, ◌∙◌, subst, refl, length, min, arith}
 use Rattle.std.proofs.lemmas.List.{length-append}
 use Rattle.object_values.specs.declared.nodes.Node.{Node}
 use Rattle.object_values.specs.declared.calls.Call.{Call}
@@ -13,7 +12,7 @@ use Rattle.meaning_derive.specs.Derive.{Sources, Outcomes}
 use Rattle.plain_derive.specs.declared.fault.PlainFault.{PlainFault}
 use Rattle.plain_derive.specs.declared.fault.PlainFault.TheVariants.{Spawn, Memory}
 use Rattle.plain_derive.specs.Laws.{CountedFor}
-use Rattle.plain_derive.specs.Logs.{closed, IsCut, IsWanted, line_of, AreCalls, no_node, without, again, first, after_calls, HasMade, HasBegun}
+use Rattle.plain_derive.specs.Logs.{closed, IsCut, line_of, AreCalls, no_node, without, again, first, after_calls, HasMade, HasBegun}
 use Rattle.plain_derive.proofs.LineNodes.{length-line}
 
 more : (xs : List Node) (n : Node) → length (xs ++ n ∷ []) ≡ length xs + 1
