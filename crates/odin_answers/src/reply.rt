@@ -4,9 +4,9 @@ ghost use Rattle.meaning_texts.specs.Lines.{with_lf};
 ghost use Rattle.odin_answers.specs.Answers.{refused_tool_start};
 ghost use Rattle.meaning_answers.specs.Replies.{counted, status_word, part_reply, nodes_reply, value_reply, message_reply, object_reply, refused_type, refused_path, refused_circular, refused_deep, step_reply, plan_reply};
 
-use odin_nodes::node_text;
 use object_values::{Bytes, Memory, Message, Node, Part, Status, Step, Value, View};
 use odin_bytes::{escape, write_number};
+use odin_nodes::node_text;
 use std::alloc::Global;
 use type_graph::Graph;
 

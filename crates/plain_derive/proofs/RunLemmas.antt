@@ -8,18 +8,16 @@ use Rattle.object_values.specs.declared.jobs.Raw.{Raw}
 use Rattle.odin_outside.specs.declared.events.Running.{Running}
 use Rattle.odin_outside.specs.declared.events.ToolEvent.{ToolEvent}
 use Rattle.odin_outside.specs.declared.events.ToolEvent.TheVariants.{Ended, Lost}
-use Rattle.odin_outside.specs.declared.spawner.StartFault.{StartFault}
-use Rattle.odin_outside.specs.declared.spawner.StartFault.TheVariants as start
 use Rattle.odin_outside.specs.declared.spawner.FinishFault.{FinishFault}
 use Rattle.odin_outside.specs.declared.spawner.FinishFault.TheVariants.{Failed, Memory}
 use Rattle.meaning_calls.specs.Jobs.{job_of}
 use Rattle.meaning_calls.specs.Outcomes.{outcome_of}
 use Rattle.meaning_derive.specs.Given.{table_outcomes}
 use Rattle.plain_derive.specs.declared.fault.PlainFault.{PlainFault}
-use Rattle.plain_derive.specs.Faults.{of_start, of_finish}
+use Rattle.plain_derive.specs.Faults.{of_finish}
 use Rattle.plain_derive.specs.Logs.{started, closed, HasLost, IsCut}
 use Rattle.odin_outside.specs.Causes.{IsCounted}
-use Rattle.odin_outside.specs.Spawned.{Table, Spawned, IsRunning, IsLeastFree, begun, noted, Fails, Stops, Ends, Loses, Leaves}
+use Rattle.odin_outside.specs.Spawned.{Table, Spawned, IsRunning, IsLeastFree, begun, noted, Stops, Ends, Loses, Leaves}
 
 record IsAlone {A : Type 0} (x y : A) (before after : List A) : Type 0 where
   same : x ≡ y
@@ -57,10 +55,6 @@ left old mid new slot ended job raw idle start ends table told =
     let s = stopped old mid new slot ended job ends.job (Ended ended) mid.faults idle start ends.stops in
     let answer : mid.answer ≡ Some table = ap (λ (z : Spawned). z.answer) start ∙ told in
     subst (λ o. Leaves o ends.job raw) answer ends.leaves ∙ ap table (sym s.same)
-
--- one that was started alone runs
-pub one_runs : (old mid : Spawned) (slot : ℕ) (job : Job) → old.running ≡ [] → mid ≡ begun old slot job → mid.running ≡ (record { slot = slot; job = job }) ∷ []
-one_runs old mid slot job idle start = ap (λ (z : Spawned). z.running) start ∙ ap (λ l. l ++ (record { slot = slot; job = job }) ∷ []) idle
 
 -- the outcome is that of the table
 pub outcome_told : (old mid new : Spawned) (slot ended : ℕ) (call : Call) (job : Job) (raw : Raw) (outcome : Outcome) → old.running ≡ [] → mid ≡ begun old slot job → Ends mid ended raw new → job ≡ job_of call → outcome ≡ outcome_of call raw
@@ -115,14 +109,6 @@ module _ (old mid new : Spawned) (slot : ℕ) (job : Job) (call : Call) (idle : 
   pub cut_told : (fault : FinishFault) → ((s : ℕ) → IsEnd fault (Failed s) → Loses mid s new) → (IsEnd fault Memory → new ≡ mid) → IsCut (of_finish fault) call old new
   cut_told (Failed ended) lost same = inr (lost_told ended (lost ended refl))
   cut_told Memory lost same = inr (inl (same refl ∙ started_is))
-
--- the fault is this one, as the answer of `start` says it
-abbrev pub IsStart : StartFault → StartFault → Type 0
-IsStart fault other = ◌≡◌ {A = Result ℕ StartFault} (Err fault) (Err other)
-
-pub not_started : (call : Call) (old new : Spawned) (fault : StartFault) → (IsStart fault start.Failed → Fails old new) → (IsStart fault start.Memory → new ≡ old) → IsCut (of_start fault) call old new
-not_started call old new start.Failed failed same = inl (failed refl)
-not_started call old new start.Memory failed same = inl (same refl)
 
 -- What was given up is so at the fault that is answered.
 pub cut_at : {T : Type 0} (r : Result T PlainFault) (call : Call) (old new : Spawned) (fault : PlainFault) → r ≡ Err fault → IsCut fault call old new → IfErr r (λ f. IsCut f call old new)

@@ -22,7 +22,7 @@ use Rattle.meaning_tasks.specs.Settle.{Texts, outcome_own, status_in, messages_i
 use Rattle.odin_nodes.specs.Inheriting.{Inherits}
 use Rattle.odin_nodes.proofs.Once.{inherit_all}
 use Rattle.plain_derive.specs.Built.{IsBuiltGraph}
-use Rattle.plain_derive.specs.Seen.{AreSeen, IsOutcomeFor}
+use Rattle.plain_derive.specs.Seen.{AreKnown, AreSeen, IsOutcomeFor}
 use Rattle.plain_derive.proofs.LineNeeds.{needs_of_steps, steps_settle}
 
 -- the status of a rank
@@ -83,28 +83,35 @@ pub mapped : {A : Type 0} (f : A → View) (o : Option A) → option_map (λ v. 
 mapped f None = refl
 mapped f (Some x) = refl
 
--- a need that stands in the list has a result
-pub need_seen : (g : Graph) (n : Node) (seen : Results) (needed : List Node) (i : ℕ) (need : Node) → AreSeen g n seen → Needs g n seen needed → i < length needed → need ≡ get_or needed i need → None ≡ seen need → ⊥
-need_seen g n seen needed i need all listed below is none =
-    let here : IsIn (get_or needed i need) needed = all_in (λ m. IsIn m needed) needed (λ m h. h) i need below in
-    let same : needed ≡ all.needs = one_list_of_needs g n seen needed all.needs listed all.listed in
-    let some : IsSome (seen need) = all.known need (subst (λ l. IsIn need l) same (subst (λ m. IsIn m needed) (sym is) here)) in
-    let absent : is_some (seen need) ≡ false = ap is_some (sym none) in cc
+-- a node of the list has a result
+pub known_seen : (seen : Results) (nodes : List Node) (i : ℕ) (m : Node) → AreKnown seen nodes → i < length nodes → m ≡ get_or nodes i m → None ≡ seen m → ⊥
+known_seen seen nodes i m known below is none =
+    let here : IsIn (get_or nodes i m) nodes = all_in (λ m. IsIn m nodes) nodes (λ m h. h) i m below in
+    let some : IsSome (seen m) = known m (subst (λ m. IsIn m nodes) (sym is) here) in
+    let absent : is_some (seen m) ≡ false = ap is_some (sym none) in cc
+
+-- any list of its needs is known
+pub needs_known : (g : Graph) (n : Node) (seen : Results) (needed : List Node) → AreSeen g n seen → Needs g n seen needed → AreKnown seen needed
+needs_known g n seen needed all listed m i = all.known m (subst (λ l. IsIn m l) (one_list_of_needs g n seen needed all.needs listed all.listed) i)
 
 pub inherits_next : (done messages more old new : List Message) → more ≡ done ++ messages → Inherits [] done old → Inherits old messages new → Inherits [] more new
 inherits_next done messages more old new is before after rest =
     after rest ∙ before (messages ++ rest) ∙ ap (inherit []) (sym (append_assoc done messages rest) ∙ ap (λ l. l ++ rest) (sym is))
 
--- What is taken over from all needs, and then the own part, is what the node settles to.
-pub settles_from : (g : Graph) (n : Node) (seen : Results) → IsBuiltGraph g → Fits g n → (texts : Texts) (outcome : Option Outcome) (view own : View) (needed : List Node) (i : ℕ) (before after : List Message)
+pub worst_end : (seen : Results) (own status : Status) (needs : List Node) (i : ℕ) → length needs ≤ i → worst_of seen own needs ≡ worst_of seen status (drop i needs) → status ≡ worst_of seen own needs
+worst_end seen own status needs i all so = sym (so ∙ ap (worst_of seen status) (drop_all i needs all))
+
+pub messages_end : (seen : Results) (needs : List Node) (i : ℕ) (before own messages : List Message) → length needs ≤ i → Inherits [] (messages_of seen (take i needs)) before → messages ≡ inherit before own → messages ≡ inherit (messages_of seen needs) own
+messages_end seen needs i before own messages all so is =
+    is ∙ so own ∙ ap (λ l. inherit [] (messages_of seen l ++ own)) (take_all i needs all) ∙ inherit_all (messages_of seen needs) own
+
+-- What is taken over from the needs, and the own part, are what the node settles to.
+pub settles_from : (g : Graph) (n : Node) (seen : Results) → IsBuiltGraph g → Fits g n → (texts : Texts) (outcome : Option Outcome) (view own : View) (needed : List Node)
     → n.steps ≢ [] → IsOutcomeFor g n seen outcome → Needs g n seen needed
     → (let o = outcome_own (label_of g n) false [] outcome in own ≡ record { value = o.value; status = o.status; messages = o.messages })
-    → length needed ≤ i → worst_of seen own.status needed ≡ worst_of seen view.status (drop i needed) → Inherits [] (messages_of seen (take i needed)) before → after ≡ inherit before own.messages
-    → view.value ≡ own.value → view.messages ≡ after → Settles g texts n seen outcome view
-settles_from g n seen built fits texts outcome view own needed i before after some called listed own_is all worst_so messages_so add value messages =
+    → view.value ≡ own.value → view.status ≡ worst_of seen own.status needed → view.messages ≡ inherit (messages_of seen needed) own.messages → Settles g texts n seen outcome view
+settles_from g n seen built fits texts outcome view own needed some called listed own_is value status messages =
     let needs : needed ≡ base_of n ∷ elements_of (values_of seen (base_of n)) = needs_of_steps g n seen built fits needed some listed in
-    let status : worst_of seen own.status needed ≡ view.status = worst_so ∙ ap (worst_of seen view.status) (drop_all i needed all) in
     steps_settle g n seen built fits texts outcome view some called (value ∙ ap (λ (v : View). v.value) own_is)
-    (sym status ∙ (λ k. worst_of seen (ap (λ (v : View). v.status) own_is k) (needs k)))
-    (messages ∙ add ∙ messages_so own.messages ∙ ap (λ l. inherit [] (messages_of seen l ++ own.messages)) (take_all i needed all) ∙ inherit_all (messages_of seen needed) own.messages
-    ∙ (λ k. inherit (messages_of seen (needs k)) (ap (λ (v : View). v.messages) own_is k)))
+    (status ∙ (λ k. worst_of seen (ap (λ (v : View). v.status) own_is k) (needs k)))
+    (messages ∙ (λ k. inherit (messages_of seen (needs k)) (ap (λ (v : View). v.messages) own_is k)))

@@ -12,11 +12,15 @@ use Rattle.meaning_calls.specs.Outcomes.{OutcomeFits}
 use Rattle.meaning_tasks.specs.Needs.{Results, Needs}
 use Rattle.meaning_tasks.specs.Calls.{CallOf}
 
+-- these nodes have results
+abbrev pub AreKnown : Results → List Node → Type 0
+AreKnown seen nodes = (m : Node) → IsIn m nodes → IsSome (seen m)
+
 -- All needs of the node have results.
 pub record AreSeen (g : Graph) (n : Node) (seen : Results) : Type 0 where
   pub needs : List Node
   pub listed : Needs g n seen needs
-  pub known : (m : Node) → IsIn m needs → IsSome (seen m)
+  pub known : AreKnown seen needs
 
 -- an outcome is there exactly where a call is, and fits it
 abbrev pub FitsCall : Option Call → Option Outcome → Type 0

@@ -11,8 +11,8 @@ ghost use Rattle.path_planner.specs.Ends.{plans_of};
 
 use crate::nodes::{base_of, last_tool};
 use crate::results::Results;
-use odin_nodes::label_of;
 use object_values::{Bytes, Call, CallPart, Copied, Memory, Node, Part, Seq, Value, View};
+use odin_nodes::label_of;
 use path_planner::Plans;
 use std::alloc::Global;
 use type_graph::Graph;

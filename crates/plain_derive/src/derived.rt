@@ -6,9 +6,9 @@ ghost use Rattle.meaning_nodes.specs.Values.{inherit};
 ghost use Rattle.meaning_tasks.specs.Settle.{given_own};
 
 use crate::results::Results;
-use odin_nodes::label_of;
 use object_sources::Sources;
 use object_values::{Bytes, Copied, Memory, Message, Node, Seq, Status, Value, View};
+use odin_nodes::label_of;
 use std::alloc::Global;
 use type_graph::Graph;
 

@@ -2,15 +2,16 @@
 ghost use Rattle.std.specs.Prelude.{◌≡◌, ◌≢◌, [], false, IfOk, option_map, take, drop};
 ghost use Rattle.meaning_nodes.specs.Labels.{label_of as label_of_node};
 ghost use Rattle.meaning_nodes.specs.Nodes.{Fits};
-ghost use Rattle.meaning_tasks.specs.Settle.{Texts, outcome_own, labelled, Settles};
+ghost use Rattle.meaning_nodes.specs.Values.{inherit};
+ghost use Rattle.meaning_tasks.specs.Settle.{Texts, outcome_own, labelled, worst_of, messages_of, Settles};
 ghost use Rattle.plain_derive.specs.Built.{IsBuiltGraph};
-ghost use Rattle.plain_derive.specs.Seen.{AreSeen, HasOneOutput, IsOutcomeFor};
+ghost use Rattle.plain_derive.specs.Seen.{AreKnown, AreSeen, HasOneOutput, IsOutcomeFor};
 ghost use Rattle.path_planner.specs.Ends.{plans_of};
 
 use crate::needing::needs;
 use crate::results::Results;
-use odin_nodes::{Inherited, label_of, worst};
 use object_values::{Copied, Memory, Message, Node, Outcome, Seq, Status, Value, View};
+use odin_nodes::{Inherited, label_of, worst};
 use path_planner::Plans;
 use std::alloc::Global;
 use type_graph::Graph;
@@ -37,21 +38,51 @@ pub fn settle<R: Results>(
 {
     let needed = needs(alloc, graph, plans, node, seen)?;
     let own = own_view(alloc, graph, node, outcome)?;
-    let mut status = own.status;
-    let mut messages = Inherited::new(alloc);
-    for need in needed.as_slice() {
+    let status = worst_status(needed.as_slice(), seen, own.status);
+    let messages = all_messages(alloc, needed.as_slice(), seen, own.messages.as_slice())?;
+    Ok(View {
+        value: own.value,
+        status,
+        messages,
+    })
+}
+
+// The worst status of the needs and the own one.
+fn worst_status<R: Results>(needs: &[Node], seen: &R, own: Status) -> Status
+    requires { AreKnown (R.results seen.now) needs.now }
+    ensures { result ≡ worst_of (R.results seen.now) own needs.now }
+{
+    let mut status = own;
+    for need in needs {
         let Some(view) = seen.find(need) else {
             unreachable!();
         };
         status = worst(view.status, status);
+    }
+    status
+}
+
+// The messages of the needs and then the own ones.
+fn all_messages<R: Results>(
+    alloc: Global,
+    needs: &[Node],
+    seen: &R,
+    own: &[Message],
+) -> Result<Seq<Message>, Memory>
+    requires { AreKnown (R.results seen.now) needs.now }
+    ensures { let taken = messages_of (R.results seen.now) needs.now in
+        IfOk result (λ messages. messages ≡ inherit taken own.now) }
+{
+    let mut messages = Inherited::new(alloc);
+    for need in needs {
+        let Some(view) = seen.find(need) else {
+            unreachable!();
+        };
         messages.add(alloc, view.messages.as_slice())?;
     }
-    messages.add(alloc, own.messages.as_slice())?;
-    Ok(View {
-        value: own.value,
-        status,
-        messages: messages.into_messages(alloc)?,
-    })
+    messages.add(alloc, own)?;
+    let all = messages.into_messages(alloc)?;
+    Ok(all)
 }
 
 // What the node itself gives: value, status and messages.

@@ -1,29 +1,21 @@
-use Rattle.std.proofs.Common.{◌++◌, ◌∙◌, sym, subst, ap, refl, arith}
+use Rattle.std.proofs.Common.{◌∙◌, sym, subst, ap, refl}
 use Rattle.meaning_nodes.specs.Values.{inherit}
-use Rattle.meaning_tasks.specs.Needs.{Needs}
+use Rattle.meaning_tasks.specs.Settle.{worst_of, messages_of}
+use Rattle.plain_derive.specs.Seen.{AreKnown}
 use Rattle.plain_derive.proofs.LineNeeds.{one_output}
-use Rattle.plain_derive.proofs.ViewLemmas.{need_seen, worst_next, messages_next, inherits_next, settles_from}
+use Rattle.plain_derive.proofs.ViewLemmas.{needs_known, settles_from}
 use Rattle.plain_derive.proofs.settling.settle.Goals as goal
 
 pub own_view-requires : goal.own_view-requires
 own_view-requires g c = one_output _ _ _ c.requires.built c.requires.fits _ c.requires.stepped c.requires.called
 
-pub unreachable-requires : goal.unreachable-requires
-unreachable-requires g c =
-    let listed = subst (Needs c.args.graph.now c.args.node.now (g.R.Results.results c.args.seen.now)) (sym c.as_slice-need-items.ensures) c.in_ok-needed.ensures in
-    need_seen _ _ _ _ c.loop-need.need-index _ c.requires.seen listed c.loop-need-test.true c.need-item.is c.in_default.ensures
+pub worst_status-status-requires : goal.worst_status-status-requires
+worst_status-status-requires g c = subst (AreKnown (g.R.Results.results c.args.seen.now)) (sym c.as_slice.ensures) (needs_known _ _ _ _ c.requires.seen c.in_ok-needed.ensures)
 
-pub loop-need-preserved : goal.loop-need-preserved
-loop-need-preserved g c =
-    let found = sym c.in-Some.ensures in
-    let more = messages_next (g.R.Results.results c.args.seen.now) c.in_ok-own.own.status c.as_slice-need-items.result.now c.loop-need.status c.loop-need.need-index _ c.in-Some.view.now c.loop-need-test.true c.need-item.is found in
-    record {
-      worst_so = worst_next (g.R.Results.results c.args.seen.now) c.in_ok-own.own.status c.as_slice-need-items.result.now c.loop-need.status c.loop-need.need-index _ c.in-Some.view.now c.loop-need-test.true c.need-item.is found _ c.worst-status.ensures c.loop-need.invariant.worst_so;
-      messages_so = inherits_next _ _ _ _ _ more c.loop-need.invariant.messages_so (λ rest. c.in_ok-add.ensures.more rest ∙ ap (λ l. inherit c.loop-need.messages (l ++ rest)) c.as_slice.ensures);
-    }
+pub all_messages-requires : goal.all_messages-requires
+all_messages-requires g c = subst (AreKnown (g.R.Results.results c.args.seen.now)) (sym c.as_slice-2.ensures) (needs_known _ _ _ _ c.requires.seen c.in_ok-needed.ensures)
 
 pub returns : goal.returns
-returns g c = λ texts.
-    let listed = subst (Needs c.args.graph.now c.args.node.now (g.R.Results.results c.args.seen.now)) (sym c.as_slice-need-items.ensures) c.in_ok-needed.ensures in
-    settles_from _ _ _ c.requires.built c.requires.fits texts _ _ c.in_ok-own.own _ c.loop-need.need-index c.loop-need.messages _ c.requires.stepped c.requires.called listed c.in_ok-own.ensures
-    (omega arith) c.loop-need.invariant.worst_so c.loop-need.invariant.messages_so (c.in_ok-add-2.ensures.ok ∙ ap (inherit c.loop-need.messages) c.as_slice-2.ensures) refl c.in_ok-into_messages.ensures
+returns g c = λ texts. settles_from _ _ _ c.requires.built c.requires.fits texts _ _ c.in_ok-own.own c.in_ok-needed.needed c.requires.stepped c.requires.called c.in_ok-needed.ensures c.in_ok-own.ensures refl
+    (c.worst_status-status.ensures ∙ ap (worst_of (g.R.Results.results c.args.seen.now) c.in_ok-own.own.status) c.as_slice.ensures)
+    (c.in_ok-messages.ensures ∙ (λ i. inherit (messages_of (g.R.Results.results c.args.seen.now) (c.as_slice-2.ensures i)) (c.as_slice-3.ensures i)))
