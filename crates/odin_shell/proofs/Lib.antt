@@ -1,8 +1,8 @@
 mod CommandLemmas
 mod CountLemmas
+mod CutLemmas
 mod GraphLemmas
 mod HeldLemmas
-mod OpenLemmas
 mod OpenedLemmas
 mod ServeLemmas
 mod SessionLemmas

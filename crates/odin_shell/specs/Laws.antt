@@ -36,4 +36,4 @@ refused_starts (reply ∷ replies) = (if bytes_eq reply refused_tool_start then 
 
 -- There are at most as many of them as the count of the tools' faults rose, a count that stands still at the end of its type.
 abbrev pub RefusalsAreCounted : Type 0
-RefusalsAreCounted = (g : Graph) (table : Option Table) (first state : State) (items : List Item) (replies : List (List ℕ)) → Transcript commands (machine g table) first items replies state → min (first.faults + refused_starts replies) last_count ≤ state.faults
+RefusalsAreCounted = (g : Graph) (table : Option Table) (first state : State) (items : List Item) (replies : List (List ℕ)) → Transcript commands (machine g table) first items replies state → min (first.tools.faults + refused_starts replies) last_count ≤ state.tools.faults

@@ -40,12 +40,6 @@ fault_line (Syntax line column) = with_lf (codes "graph: line " ++ decimal line 
 fault_line (Check line fault) = at_line line (fault_words fault)
 fault_line Memory = []
 
--- less than all of a line stands behind what was written before
-pub record IsPartOf (line : Text) (before after : Option Text) : Type 0 where
-  pub count : ℕ
-  pub proper : count < length line
-  pub is : after ≡ appended before (take count line)
-
 -- ---- graphs
 
 -- A run is built for this declaration: derivation is, and it is no `param`, since no request can give one yet.
@@ -83,24 +77,8 @@ abbrev pub IsOpened : Option Text → Opened → Type 0
 IsOpened given (opened.Ready g) = ReadsAs given g
 IsOpened given (opened.Refused line) = IsRefused given line
 
--- ---- what the tree gives
-
--- It holds of the graph that the file of the words is one of, where the tree tells its files, or of some graph.
-pub record Over (files : Option Files) (words : List Text) (P : Graph → Type 0) : Type 0 where
-  pub name : Text
-  pub named : graph_word words ≡ Some name
+-- what the tree gives of the file of this name is opened so
+pub record Opens (files : Option Files) (name : Text) (o : Opened) : Type 0 where
   pub given : Option Text
-  pub is_given : IsGiven files name given
-  pub graph : Graph
-  pub reads : ReadsAs given graph
-  pub holds : P graph
-
--- It holds of the last line by which the file of the words is refused.
-pub record OverRefused (files : Option Files) (words : List Text) (P : Text → Type 0) : Type 0 where
-  pub name : Text
-  pub named : graph_word words ≡ Some name
-  pub given : Option Text
-  pub is_given : IsGiven files name given
-  pub line : Text
-  pub refused : IsRefused given line
-  pub holds : P line
+  pub is : IsGiven files name given
+  pub opened : IsOpened given o
