@@ -1,12 +1,11 @@
 -- Replies to requests, from what was found and what the tools did.
-use Rattle.std.proofs.Common.{◌≡◌, ◌⊎◌, ◌≤◌, ◌<◌, ℕ, ◌+◌, List, [], ◌∷◌, ◌++◌, length, refl, sym, ap, subst, inl, inr, arith}
-use Rattle.std.specs.Prelude.{Option, Some, None, IfSome, Result, Ok, IfOk}
+use Rattle.std.proofs.Common.{◌≡◌, ◌≢◌, ◌⊎◌, ◌≤◌, ◌<◌, ◌+◌, List, [], ◌∷◌, ◌++◌, length, refl, sym, ap, ◌∙◌, subst, inl, inr, arith}
+use Rattle.std.specs.Prelude.{Option, Some, None, IfSome, Result, Ok, Err, IfOk, IfErr}
 use Rattle.std.proofs.lemmas.Bool.{cases_lt}
-use Rattle.std.proofs.lemmas.List.{take_all}
 use Rattle.object_values.specs.declared.nodes.Node.{Node}
 use Rattle.object_values.specs.declared.nodes.Step.{Step}
 use Rattle.object_values.specs.declared.views.View.{View}
-use Rattle.odin_outside.specs.Causes.{Rose}
+use Rattle.odin_outside.specs.Causes.{Rose, HasCauseBut}
 use Rattle.odin_outside.specs.Spawned.{Table, Spawned}
 use Rattle.meaning_texts.specs.Limits.{height_limit}
 use Rattle.meaning_graph.specs.Graphs.{Text, Graph}
@@ -17,10 +16,12 @@ use Rattle.meaning_answers.specs.Replies.{object_reply, refused_circular, refuse
 use Rattle.plain_derive.specs.declared.found.Found.{Found}
 use Rattle.plain_derive.specs.declared.found.Found.TheVariants as found
 use Rattle.plain_derive.specs.declared.fault.PlainFault.{PlainFault}
+use Rattle.plain_derive.specs.declared.fault.PlainFault.TheVariants as faults
 use Rattle.plain_derive.specs.Founds as founds
 use Rattle.plain_derive.specs.Founds.{IsFound, IsTooDeep}
-use Rattle.plain_derive.specs.Logs.{HasMade, HasBegun, AreCalls, line_of}
-use Rattle.odin_answers.specs.Answers.{IsAnswerByForm, IsAnswer, AreMade, AreBegun, IsReply, refused_tool_start, Replies}
+use Rattle.plain_derive.specs.Logs.{HasMade, HasBegun}
+use Rattle.plain_derive.proofs.BegunLemmas.{made_is_begun}
+use Rattle.odin_answers.specs.Answers.{IsAnswerByForm, IsAnswer, AreMade, CountedFor, AreBegun, IsReply, refused_tool_start, Replies}
 
 -- ---- what is found
 
@@ -85,51 +86,53 @@ refuses g (Some t) s text reply is = Answer.refused text reply is
 
 -- ---- what the tools did
 
-pub are_made : (g : Graph) (table : Option Table) (s : Sources) (n : Node) (before now : Spawned) → IfSome table (λ t. HasMade g s t n before now) → now.starts ≤ before.starts + length n.steps → ((height_limit ≤ length n.steps) ⊎ (n.steps ≡ []) → now ≡ before) → now.running ≡ []
-    → AreMade g table s n before now
-are_made g table s n before now made few untouched idle = record { made = made; few = few; untouched = untouched; idle = idle }
+module _ (g : Graph) (table : Option Table) (s : Sources) (n : Node) (before now : Spawned) where
+  pub are_made : (r : Result Found PlainFault) (f : Found) → r ≡ Ok f → IfSome table (λ t. HasMade g s t n before now) → now.starts ≤ before.starts + length n.steps → ((height_limit ≤ length n.steps) ⊎ (n.steps ≡ []) → now ≡ before)
+      → (r ≢ Err faults.Memory → now.running ≡ []) → HasCauseBut faults.Memory before.faults now.faults r → AreMade g table s n before now
+  are_made r f is made few untouched idle cause = record {
+    made = made;
+    few = few;
+    untouched = untouched;
+    idle = idle (λ e. let no : Ok f ≡ Err faults.Memory = sym is ∙ e in cc);
+    counted = (subst (λ x. HasCauseBut faults.Memory before.faults now.faults x) is cause).ok;
+  }
 
-pub cut_off : (g : Graph) (table : Option Table) (s : Sources) (n : Node) (before now : Spawned) → IfSome table (λ t. HasBegun g s t n before now) → now.starts ≤ before.starts + length n.steps → ((height_limit ≤ length n.steps) ⊎ (n.steps ≡ []) → now ≡ before) → length now.running ≤ 1
-    → AreBegun g table s n before now
-cut_off g table s n before now begun few untouched one = record { begun = begun; few = few; untouched = untouched; one = one }
+  pub cut_off : (r : Result Found PlainFault) (fault : PlainFault) → r ≡ Err fault → IfSome table (λ t. HasBegun g s t n fault before now) → now.starts ≤ before.starts + length n.steps → ((height_limit ≤ length n.steps) ⊎ (n.steps ≡ []) → now ≡ before)
+      → length now.running ≤ 1 → HasCauseBut faults.Memory before.faults now.faults r → AreBegun g table s n fault before now
+  cut_off r fault is begun few untouched one cause = record { begun = begun; few = few; untouched = untouched; one = one; counted = counted_for fault is }
+    where
+      counted_for : (f : PlainFault) → r ≡ Err f → CountedFor f before.faults now.faults
+      counted_for faults.Memory e = cause.wanted e
+      counted_for faults.Spawn e = record { later = cause.later; rose = subst (λ x. IfErr x (λ f. f ≢ faults.Memory → Rose before.faults now.faults)) e cause.failed (λ same. cc) }
 
--- what was made was begun
-made_begun : (g : Graph) (s : Sources) (t : Table) (n : Node) (before now : Spawned) → HasMade g s t n before now → HasBegun g s t n before now
-made_begun g s t n before now made = record {
-  count = length (line_of n);
-  calls = made.calls;
-  are = subst (λ (nodes : List Node). AreCalls g (derived g s (table_outcomes t)) nodes made.calls) (sym (take_all (length (line_of n)) (line_of n) (omega arith))) made.are;
-  from = made.from;
-  cut = inl made.now_is;
-}
+  begun_if : (o : Option Table) → IfSome o (λ t. HasMade g s t n before now) → IfSome o (λ t. HasBegun g s t n faults.Memory before now)
+  begun_if None made = tt
+  begun_if (Some t) made = made_is_begun g s t n before now made
 
-begun_if : (g : Graph) (table : Option Table) (s : Sources) (n : Node) (before now : Spawned) → IfSome table (λ t. HasMade g s t n before now) → IfSome table (λ t. HasBegun g s t n before now)
-begun_if g None s n before now made = tt
-begun_if g (Some t) s n before now made = made_begun g s t n before now made
+  -- where none runs at most one does
+  idle_one : now.running ≡ [] → length now.running ≤ 1
+  idle_one idle = let none : length now.running ≡ 0 = ap length idle in omega arith
 
--- where none runs at most one does
-pub idle_one : (now : Spawned) → now.running ≡ [] → length now.running ≤ 1
-idle_one now idle = let none : length now.running ≡ 0 = ap length idle in omega arith
-
-pub are_begun : (g : Graph) (table : Option Table) (s : Sources) (n : Node) (before now : Spawned) → AreMade g table s n before now → AreBegun g table s n before now
-are_begun g table s n before now made = record { begun = begun_if g table s n before now made.made; few = made.few; untouched = made.untouched; one = idle_one now made.idle }
+  -- what was made was begun
+  pub are_begun : AreMade g table s n before now → AreBegun g table s n faults.Memory before now
+  are_begun made = record { begun = begun_if table made.made; few = made.few; untouched = made.untouched; one = idle_one made.idle; counted = made.counted }
 
 -- ---- replies
 
 -- the reply to a text behind what was there
-abbrev pub Replied : Graph → Option Table → Sources → Text → Spawned → ℕ → Spawned → ℕ → Text → Text → Type 0
-Replied g table s text before faults now faults' old new = Replies (λ reply. IsReply g table s text reply before faults now faults') old new
+abbrev pub Replied : Graph → Option Table → Sources → Text → Spawned → Spawned → Text → Text → Type 0
+Replied g table s text before now old new = Replies (λ reply. IsReply g table s text reply before now) old new
 
-pub shown : (g : Graph) (table : Option Table) (s : Sources) (text : Text) (n : Node) (f : Found) (before : Spawned) (faults : ℕ) (now : Spawned) (faults' : ℕ) (old new : Text)
-    → Asks g text n → IsFoundOf g table s n f → AreMade g table s n before now → faults ≤ faults' → new ≡ old ++ found_reply g f → Replied g table s text before faults now faults' old new
-shown g table s text n f before faults now faults' old new asks is made later behind =
-    record { reply = found_reply g f; behind = behind; holds = inl (record { answer = answers g table s text n f asks is; did = inr (record { node = n; asks = asks; made = made; later = later }) }) }
+pub shown : (g : Graph) (table : Option Table) (s : Sources) (text : Text) (n : Node) (f : Found) (before now : Spawned) (old new : Text)
+    → Asks g text n → IsFoundOf g table s n f → AreMade g table s n before now → new ≡ old ++ found_reply g f → Replied g table s text before now old new
+shown g table s text n f before now old new asks is made behind =
+    record { reply = found_reply g f; behind = behind; holds = inl (record { answer = answers g table s text n f asks is; did = inr (record { node = n; asks = asks; made = made }) }) }
 
-pub refused : (g : Graph) (table : Option Table) (s : Sources) (text reply : Text) (before : Spawned) (faults : ℕ) (old new : Text) → Refused g text reply → new ≡ old ++ reply → Replied g table s text before faults before faults old new
-refused g table s text reply before faults old new is behind =
-    record { reply = reply; behind = behind; holds = inl (record { answer = refuses g table s text reply is; did = inl (record { refused = is; told = refl; counted = refl }) }) }
+pub refused : (g : Graph) (table : Option Table) (s : Sources) (text reply : Text) (before : Spawned) (old new : Text) → Refused g text reply → new ≡ old ++ reply → Replied g table s text before before old new
+refused g table s text reply before old new is behind =
+    record { reply = reply; behind = behind; holds = inl (record { answer = refuses g table s text reply is; did = inl (record { refused = is; told = refl }) }) }
 
-pub start_refused : (g : Graph) (table : Option Table) (s : Sources) (text : Text) (n : Node) (before : Spawned) (faults : ℕ) (now : Spawned) (faults' : ℕ) (old new : Text)
-    → Asks g text n → Rose faults faults' → AreBegun g table s n before now → now.running ≡ [] → new ≡ old ++ refused_tool_start → Replied g table s text before faults now faults' old new
-start_refused g table s text n before faults now faults' old new asks rose begun idle behind =
-    record { reply = refused_tool_start; behind = behind; holds = inr (record { node = n; asks = asks; is = refl; rose = rose; begun = begun; idle = idle }) }
+pub start_refused : (g : Graph) (table : Option Table) (s : Sources) (text : Text) (n : Node) (fault : PlainFault) (before now : Spawned) (old new : Text)
+    → Asks g text n → fault ≡ faults.Spawn → AreBegun g table s n fault before now → now.running ≡ [] → new ≡ old ++ refused_tool_start → Replied g table s text before now old new
+start_refused g table s text n fault before now old new asks is begun idle behind =
+    record { reply = refused_tool_start; behind = behind; holds = inr (record { node = n; asks = asks; is = refl; begun = subst (λ f. AreBegun g table s n f before now) is begun; idle = idle }) }

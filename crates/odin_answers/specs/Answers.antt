@@ -2,7 +2,7 @@
 use Rattle.std.specs.Prelude.{◌≡◌, ◌⊎◌, ℕ, ◌+◌, ◌<◌, ◌≤◌, [], ◌++◌, List, length, Option, Some, None, IfSome, codes}
 use Rattle.object_values.specs.declared.nodes.Node.{Node}
 use Rattle.object_values.specs.declared.views.View.{View}
-use Rattle.odin_outside.specs.Causes.{Rose}
+use Rattle.odin_outside.specs.Causes.{IsCounted}
 use Rattle.odin_outside.specs.Spawned.{Table, Spawned}
 use Rattle.meaning_texts.specs.Limits.{height_limit}
 use Rattle.meaning_texts.specs.Lines.{with_lf}
@@ -12,6 +12,8 @@ use Rattle.meaning_derive.specs.Chains.{IsDeep}
 use Rattle.meaning_derive.specs.Given.{table_outcomes}
 use Rattle.meaning_answers.specs.Answers.{Refused, Asks, Answer}
 use Rattle.meaning_answers.specs.Replies.{object_reply, refused_deep}
+use Rattle.plain_derive.specs.declared.fault.PlainFault.{PlainFault}
+use Rattle.plain_derive.specs.declared.fault.PlainFault.TheVariants.{Spawn, Memory}
 use Rattle.plain_derive.specs.Logs.{HasMade, HasBegun}
 
 -- A reply that is an answer by its form. The view of a source is the one that is derived, and the chain of a node that is too deep is
@@ -36,53 +38,64 @@ pub record AreMade (g : Graph) (table : Option Table) (s : Sources) (n : Node) (
   pub few : now.starts ≤ before.starts + length n.steps
   pub untouched : (height_limit ≤ length n.steps) ⊎ (n.steps ≡ []) → now ≡ before
   pub idle : now.running ≡ []
+  pub counted : now.faults ≡ before.faults
 
--- The first ones of these calls were made, and the next one may have been given up, so that at most one tool runs.
-pub record AreBegun (g : Graph) (table : Option Table) (s : Sources) (n : Node) (before now : Spawned) : Type 0 where
-  pub begun : IfSome table (λ t. HasBegun g s t n before now)
+-- how the count of faults goes on: want of memory is no fault
+abbrev pub CountedFor : PlainFault → ℕ → ℕ → Type 0
+CountedFor Memory before now = now ≡ before
+CountedFor Spawn before now = IsCounted before now
+
+-- The first ones of these calls were made, and the next one may have been given up for the fault, so that at most one tool runs.
+pub record AreBegun (g : Graph) (table : Option Table) (s : Sources) (n : Node) (fault : PlainFault) (before now : Spawned) : Type 0 where
+  pub begun : IfSome table (λ t. HasBegun g s t n fault before now)
+  pub counted : CountedFor fault before.faults now.faults
   pub few : now.starts ≤ before.starts + length n.steps
   pub untouched : (height_limit ≤ length n.steps) ⊎ (n.steps ≡ []) → now ≡ before
   pub one : length now.running ≤ 1
 
 -- For a text that is refused nothing is done.
-pub record IsLeftAlone (g : Graph) (text reply : Text) (before : Spawned) (faults : ℕ) (now : Spawned) (faults' : ℕ) : Type 0 where
+pub record IsLeftAlone (g : Graph) (text reply : Text) (before now : Spawned) : Type 0 where
   pub refused : Refused g text reply
   pub told : now ≡ before
-  pub counted : faults' ≡ faults
 
 -- For a text of a node its derivation is made.
-pub record IsDerived (g : Graph) (table : Option Table) (s : Sources) (text : Text) (before : Spawned) (faults : ℕ) (now : Spawned) (faults' : ℕ) : Type 0 where
+pub record IsDerived (g : Graph) (table : Option Table) (s : Sources) (text : Text) (before now : Spawned) : Type 0 where
   pub node : Node
   pub asks : Asks g text node
   pub made : AreMade g table s node before now
-  pub later : faults ≤ faults'
 
--- The text has no reply: nothing was done, or the derivation of its node was begun.
+-- The derivation of the text's node was begun, and given up for the fault.
+pub record IsBegun (g : Graph) (table : Option Table) (s : Sources) (text : Text) (before now : Spawned) : Type 0 where
+  pub node : Node
+  pub asks : Asks g text node
+  pub fault : PlainFault
+  pub begun : AreBegun g table s node fault before now
+
+-- The text has no reply, since memory was wanting: nothing was done, or the derivation of its node was begun.
 abbrev pub MayHaveBegun : Graph → Option Table → Sources → Text → Spawned → Spawned → Type 0
-MayHaveBegun g table s text before now = (now ≡ before) ⊎ ((n : Node) × Asks g text n × AreBegun g table s n before now)
+MayHaveBegun g table s text before now = (now ≡ before) ⊎ IsBegun g table s text before now
 
 -- ---- replies
 
--- The answer, and what the tools did for it: what they are told to have done before and now, and the counts of their faults.
-pub record HasAnswer (g : Graph) (table : Option Table) (s : Sources) (text reply : Text) (before : Spawned) (faults : ℕ) (now : Spawned) (faults' : ℕ) : Type 0 where
+-- The answer, and what the tools did for it, as it is told before and now.
+pub record HasAnswer (g : Graph) (table : Option Table) (s : Sources) (text reply : Text) (before now : Spawned) : Type 0 where
   pub answer : IsAnswer g table s text reply
-  pub did : IsLeftAlone g text reply before faults now faults' ⊎ IsDerived g table s text before faults now faults'
+  pub did : IsLeftAlone g text reply before now ⊎ IsDerived g table s text before now
 
 abbrev pub refused_tool_start : Text
 refused_tool_start = with_lf (codes "refused tool start")
 
 -- A tool of the derivation was not started, or its end was lost: the count of faults rose. The text is one of a node.
-pub record IsStartRefused (g : Graph) (table : Option Table) (s : Sources) (text reply : Text) (before : Spawned) (faults : ℕ) (now : Spawned) (faults' : ℕ) : Type 0 where
+pub record IsStartRefused (g : Graph) (table : Option Table) (s : Sources) (text reply : Text) (before now : Spawned) : Type 0 where
   pub node : Node
   pub asks : Asks g text node
   pub is : reply ≡ refused_tool_start
-  pub rose : Rose faults faults'
-  pub begun : AreBegun g table s node before now
+  pub begun : AreBegun g table s node Spawn before now
   pub idle : now.running ≡ []
 
 -- The answer, or that a tool was not started.
-abbrev pub IsReply : Graph → Option Table → Sources → Text → Text → Spawned → ℕ → Spawned → ℕ → Type 0
-IsReply g table s text reply before faults now faults' = HasAnswer g table s text reply before faults now faults' ⊎ IsStartRefused g table s text reply before faults now faults'
+abbrev pub IsReply : Graph → Option Table → Sources → Text → Text → Spawned → Spawned → Type 0
+IsReply g table s text reply before now = HasAnswer g table s text reply before now ⊎ IsStartRefused g table s text reply before now
 
 -- the reply stands behind what was there
 pub record Replies (P : Text → Type 0) (old new : Text) : Type 0 where

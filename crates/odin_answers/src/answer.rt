@@ -5,7 +5,7 @@ ghost use Rattle.meaning_answers.specs.Answers.{Asks, Plan};
 ghost use Rattle.meaning_nodes.specs.Nodes.{Fits};
 ghost use Rattle.plain_derive.specs.Built.{IsBuiltGraph};
 ghost use Rattle.odin_answers.specs.Requests.{request_text};
-ghost use Rattle.odin_answers.specs.Answers.{Replies, IsReply, AreBegun, MayHaveBegun};
+ghost use Rattle.odin_answers.specs.Answers.{Replies, IsReply, IsBegun, MayHaveBegun};
 
 use crate::node::{Asked, node_asked};
 use crate::reply::{
@@ -35,12 +35,11 @@ fn answer_node<S: Spawner>(
     requires made { plans.now ≡ graph.now }
     requires fits { Fits graph.now node.now }
     requires idle { (S.told tools.old).running ≡ [] }
-    ensures ok { OnOk result ((text : Text) → Asks graph.now text node.now → Replies (λ reply. IsReply graph.now (S.told tools.old).answer sources.now.texts text reply (S.told tools.old) (S.faults tools.old) (S.told tools.new) (S.faults tools.new)) out.old out.new) }
-    ensures begun { OnErr result (AreBegun graph.now (S.told tools.old).answer sources.now.texts node.now (S.told tools.old) (S.told tools.new)) }
+    ensures ok { OnOk result ((text : Text) → Asks graph.now text node.now → Replies (λ reply. IsReply graph.now (S.told tools.old).answer sources.now.texts text reply (S.told tools.old) (S.told tools.new)) out.old out.new) }
+    ensures begun { OnErr result ((text : Text) → Asks graph.now text node.now → IsBegun graph.now (S.told tools.old).answer sources.now.texts text (S.told tools.old) (S.told tools.new)) }
     ensures idle { OnOk result ((S.told tools.new).running ≡ []) }
     ensures one { length (S.told tools.new).running ≤ 1 }
     ensures answer { (S.told tools.new).answer ≡ (S.told tools.old).answer }
-    ensures later { S.faults tools.old ≤ S.faults tools.new }
 {
     match derive_plain(alloc, graph, plans, sources, node, tools) {
         Ok(Found::Answer(view)) => write_object(alloc, graph, &view, out),
@@ -64,12 +63,11 @@ pub fn answer_ask<S: Spawner>(
     requires built { IsBuiltGraph graph.now }
     requires made { plans.now ≡ graph.now }
     requires idle { (S.told tools.old).running ≡ [] }
-    ensures ok { OnOk result (Replies (λ reply. IsReply graph.now (S.told tools.old).answer sources.now.texts (request_text request.now) reply (S.told tools.old) (S.faults tools.old) (S.told tools.new) (S.faults tools.new)) out.old out.new) }
+    ensures ok { OnOk result (Replies (λ reply. IsReply graph.now (S.told tools.old).answer sources.now.texts (request_text request.now) reply (S.told tools.old) (S.told tools.new)) out.old out.new) }
     ensures begun { OnErr result (MayHaveBegun graph.now (S.told tools.old).answer sources.now.texts (request_text request.now) (S.told tools.old) (S.told tools.new)) }
     ensures idle { OnOk result ((S.told tools.new).running ≡ []) }
     ensures one { length (S.told tools.new).running ≤ 1 }
     ensures answer { (S.told tools.new).answer ≡ (S.told tools.old).answer }
-    ensures later { S.faults tools.old ≤ S.faults tools.new }
 {
     match node_asked(alloc, graph, plans, request)? {
         Asked::Node(node) => answer_node(alloc, graph, plans, sources, &node, tools, out),

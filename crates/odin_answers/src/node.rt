@@ -10,7 +10,7 @@ use std::alloc::Global;
 use type_graph::Graph;
 
 /// The node, or why there is none: the name of a type that is nowhere declared, or the number of a step to which no path leads.
-#[derive(Debug, PartialEq, Eq, Hash, Drop)]
+#[derive(Drop)]
 pub(crate) enum Asked {
     Node(Node),
     UnknownType(Bytes),

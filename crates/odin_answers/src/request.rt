@@ -12,7 +12,7 @@ use std::alloc::Global;
 use std::marker::Model;
 
 /// The name of a type: an ID.
-#[derive(Debug, PartialEq, Eq, PartialOrd, Ord, Hash, Drop)]
+#[derive(Debug, PartialEq, Eq, PartialOrd, Ord, Drop)]
 pub struct TypeName {
     text: Bytes,
 }
@@ -53,7 +53,7 @@ impl TypeName {
 }
 
 /// A source, and the type to go on to if one is named.
-#[derive(Debug, PartialEq, Eq, Hash, Drop)]
+#[derive(Debug, PartialEq, Eq, Drop)]
 pub struct Request {
     pub(crate) source: Name,
     pub(crate) to: Option<TypeName>,

@@ -1,12 +1,11 @@
 -- The calls along a line are those of the derivation of its node.
-use Rattle.std.proofs.Common.{◌≡◌, ◌≢◌, ◌+◌, ◌-◌, ◌<◌, ◌≤◌, ℕ, zero, suc, List, [], ◌∷◌, ◌++◌, inl, inr, sym, ap, ◌∙◌, subst, refl, is_some, length, take, min, arith}
+use Rattle.std.proofs.Common.{◌≡◌, ◌≢◌, ◌+◌, ◌-◌, ◌<◌, ◌≤◌, ℕ, zero, suc, List, [], ◌∷◌, ◌++◌, inl, inr, sym, ap, ◌∙◌, subst, refl, is_some, length, take, arith}
 use Rattle.std.specs.Prelude.{Option, Some, None, IfSome}
 use Rattle.std.proofs.lemmas.List.{take_all, length-take-le}
 use Rattle.object_values.specs.declared.nodes.Node.{Node}
 use Rattle.object_values.specs.declared.views.View.{View}
 use Rattle.object_values.specs.declared.calls.Call.{Call}
 use Rattle.odin_outside.specs.declared.events.ToolEvent.TheVariants.{Ended}
-use Rattle.odin_outside.specs.Causes.{last_count}
 use Rattle.odin_outside.specs.Spawned.{Table, Spawned}
 use Rattle.meaning_texts.specs.Limits.{height_limit}
 use Rattle.meaning_graph.specs.Graphs.{Graph}
@@ -20,6 +19,8 @@ use Rattle.meaning_derive.specs.Given.{table_outcomes}
 use Rattle.meaning_derive.specs.Chains.{IsNeed, LeadsOn, Chain, IsMet}
 use Rattle.meaning_derive.specs.Calls.{IsCallFrom}
 use Rattle.meaning_derive.proofs.Steps.{grows_to}
+use Rattle.plain_derive.specs.declared.fault.PlainFault.{PlainFault}
+use Rattle.plain_derive.specs.declared.fault.PlainFault.TheVariants.{Memory}
 use Rattle.plain_derive.specs.Built.{IsBuiltGraph}
 use Rattle.plain_derive.specs.Seen.{only}
 use Rattle.plain_derive.specs.Deriving.{HasNoElements}
@@ -136,9 +137,9 @@ module _ (g : Graph) (n : Node) (built : IsBuiltGraph g) (fits : Fits g n) where
           now_is = now_is ∙ ap (λ b. closed b call (Ended 0)) made.now_is ∙ sym (calls_next before made.calls call);
         }
 
-    pub cut_next : (before mid now : Spawned) → HasMadeFirst g s table n i before mid → GivesUp g node (only base below) mid now → HasBegun g s table n before now
-    cut_next before mid now made (inl same) = record { count = i; calls = made.calls; are = made.are; from = made.from; cut = inl (same ∙ made.now_is) }
-    cut_next before mid now made (inr c) = record {
+    pub cut_next : (fault : PlainFault) (before mid now : Spawned) → HasMadeFirst g s table n i before mid → GivesUp g node (only base below) fault mid now → HasBegun g s table n fault before now
+    cut_next fault before mid now made (inl wanted) = record { count = i; calls = made.calls; are = made.are; from = made.from; cut = inl (record { memory = wanted.memory; same = wanted.same ∙ made.now_is }) }
+    cut_next fault before mid now made (inr c) = record {
       count = i;
       calls = made.calls;
       are = made.are;
@@ -149,7 +150,7 @@ module _ (g : Graph) (n : Node) (built : IsBuiltGraph g) (fits : Fits g n) where
         place = line_got n i few inside;
         called = above (Some c.call) c.called;
         from = is_from c.call c.called;
-        cut = subst (λ b. IsCut c.call b now) made.now_is c.cut;
+        cut = subst (λ b. IsCut fault c.call b now) made.now_is c.cut;
       });
     }
 
@@ -158,8 +159,8 @@ module _ (g : Graph) (n : Node) (built : IsBuiltGraph g) (fits : Fits g n) where
 pub made_none : (g : Graph) (s : Sources) (table : Table) (n : Node) (told : Spawned) → HasMadeFirst g s table n 0 told told
 made_none g s table n told = record { calls = []; are = no_node; from = λ call h. absurd h; now_is = refl }
 
-pub begun_none : (g : Graph) (s : Sources) (table : Table) (n : Node) (told : Spawned) → HasBegun g s table n told told
-begun_none g s table n told = record { count = 0; calls = []; are = no_node; from = λ call h. absurd h; cut = inl refl }
+pub begun_none : (g : Graph) (s : Sources) (table : Table) (n : Node) (told : Spawned) → HasBegun g s table n Memory told told
+begun_none g s table n told = record { count = 0; calls = []; are = no_node; from = λ call h. absurd h; cut = inl (record { memory = refl; same = refl }) }
 
 pub made_deep : (g : Graph) (s : Sources) (table : Table) (n : Node) (told : Spawned) → 64 ≤ length n.steps → HasMade g s table n told told
 made_deep g s table n told deep = record { calls = []; are = subst (λ nodes. AreCalls g (derived g s (table_outcomes table)) nodes []) (sym (line_deep n deep)) no_node; from = λ call h. absurd h; now_is = refl }
@@ -173,16 +174,6 @@ made_all g s table n i before now few all made = record {
 }
 
 -- ---- what is told of the tools, whatever the graph
-
-pub called_few : (g : Graph) (n : Node) (seen : Results) (before now : Spawned) → HasCalled g n seen before now → now.starts ≤ before.starts + 1
-called_few g n seen before now made = by_call made.call made.now_is
-  where
-    closed_few : now.starts ≡ min (before.starts + 1) last_count → now.starts ≤ before.starts + 1
-    closed_few e = omega (arith, e)
-
-    by_call : (o : Option Call) → now ≡ after_call before o → now.starts ≤ before.starts + 1
-    by_call None e = let same : now.starts ≡ before.starts = ap (λ (z : Spawned). z.starts) e in omega (arith, same)
-    by_call (Some call) e = closed_few (ap (λ (z : Spawned). z.starts) e)
 
 pub told_all : {P : Table → Type 0} (answer : Option Table) → ((table : Table) → answer ≡ Some table → P table) → IfSome answer P
 told_all None each = tt

@@ -1,5 +1,6 @@
 pub mod BegunLemmas
 pub mod CallLemmas
+pub mod CutLemmas
 pub mod DeepLemmas
 pub mod FoundLemmas
 pub mod LineNeeds

@@ -1,6 +1,6 @@
 -- One child program that runs alone.
 use Rattle.std.proofs.Common.{◌≡◌, ℕ, zero, suc, List, [], ◌∷◌, ◌++◌, inl, inr, sym, ap, ◌∙◌, subst, refl, arith}
-use Rattle.std.specs.Prelude.{Some, Result, Ok, Err, OnErr}
+use Rattle.std.specs.Prelude.{Some, Result, Err, IfErr}
 use Rattle.object_values.specs.declared.calls.Call.{Call}
 use Rattle.object_values.specs.declared.calls.Outcome.{Outcome}
 use Rattle.object_values.specs.declared.jobs.Job.{Job}
@@ -8,15 +8,18 @@ use Rattle.object_values.specs.declared.jobs.Raw.{Raw}
 use Rattle.odin_outside.specs.declared.events.Running.{Running}
 use Rattle.odin_outside.specs.declared.events.ToolEvent.{ToolEvent}
 use Rattle.odin_outside.specs.declared.events.ToolEvent.TheVariants.{Ended, Lost}
+use Rattle.odin_outside.specs.declared.spawner.StartFault.{StartFault}
+use Rattle.odin_outside.specs.declared.spawner.StartFault.TheVariants as start
 use Rattle.odin_outside.specs.declared.spawner.FinishFault.{FinishFault}
 use Rattle.odin_outside.specs.declared.spawner.FinishFault.TheVariants.{Failed, Memory}
 use Rattle.meaning_calls.specs.Jobs.{job_of}
 use Rattle.meaning_calls.specs.Outcomes.{outcome_of}
 use Rattle.meaning_derive.specs.Given.{table_outcomes}
-use Rattle.plain_derive.specs.declared.fault.PlainFault.TheVariants.{Memory as PlainMemory}
-use Rattle.plain_derive.specs.Faults.{of_finish}
-use Rattle.plain_derive.specs.Logs.{started, closed, IsCut}
-use Rattle.odin_outside.specs.Spawned.{Table, Spawned, IsRunning, IsLeastFree, begun, noted, Stops, Ends, Loses, Leaves}
+use Rattle.plain_derive.specs.declared.fault.PlainFault.{PlainFault}
+use Rattle.plain_derive.specs.Faults.{of_start, of_finish}
+use Rattle.plain_derive.specs.Logs.{started, closed, HasLost, IsCut}
+use Rattle.odin_outside.specs.Causes.{IsCounted}
+use Rattle.odin_outside.specs.Spawned.{Table, Spawned, IsRunning, IsLeastFree, begun, noted, Fails, Stops, Ends, Loses, Leaves}
 
 record IsAlone {A : Type 0} (x y : A) (before after : List A) : Type 0 where
   same : x ≡ y
@@ -29,14 +32,14 @@ alone x y (z ∷ []) after e = cc
 alone x y (z ∷ w ∷ before) after e = cc
 
 -- What one that was started alone leaves when it stops.
-pub record IsStopped (old : Spawned) (slot ended : ℕ) (job ran : Job) (event : ToolEvent) (new : Spawned) : Type 0 where
+pub record IsStopped (old : Spawned) (slot ended : ℕ) (job ran : Job) (new : Spawned) : Type 0 where
   pub same : job ≡ ran
   pub here : slot ≡ ended
   pub idle : new.running ≡ []
   pub answer : new.answer ≡ old.answer
 
-pub stopped : (old mid new : Spawned) (slot ended : ℕ) (job ran : Job) (event : ToolEvent) → old.running ≡ [] → mid ≡ begun old slot job → Stops mid ended ran event new → IsStopped old slot ended job ran event new
-stopped old mid new slot ended job ran event idle start stops =
+pub stopped : (old mid new : Spawned) (slot ended : ℕ) (job ran : Job) (event : ToolEvent) (faults : ℕ) → old.running ≡ [] → mid ≡ begun old slot job → Stops mid ended ran event faults new → IsStopped old slot ended job ran new
+stopped old mid new slot ended job ran event faults idle start stops =
     let tool : Running = record { slot = slot; job = job } in
     let other : Running = record { slot = ended; job = ran } in
     let one : tool ∷ [] ≡ stops.before ++ other ∷ stops.after = ap (λ l. l ++ tool ∷ []) (sym idle) ∙ sym (ap (λ (z : Spawned). z.running) start) ∙ stops.ran in
@@ -51,39 +54,13 @@ stopped old mid new slot ended job ran event idle start stops =
 -- what it left is the answer to its job
 pub left : (old mid new : Spawned) (slot ended : ℕ) (job : Job) (raw : Raw) → old.running ≡ [] → mid ≡ begun old slot job → Ends mid ended raw new → (table : Table) → old.answer ≡ Some table → raw ≡ table job
 left old mid new slot ended job raw idle start ends table told =
-    let s = stopped old mid new slot ended job ends.job (Ended ended) idle start ends.stops in
+    let s = stopped old mid new slot ended job ends.job (Ended ended) mid.faults idle start ends.stops in
     let answer : mid.answer ≡ Some table = ap (λ (z : Spawned). z.answer) start ∙ told in
     subst (λ o. Leaves o ends.job raw) answer ends.leaves ∙ ap table (sym s.same)
 
 -- one that was started alone runs
 pub one_runs : (old mid : Spawned) (slot : ℕ) (job : Job) → old.running ≡ [] → mid ≡ begun old slot job → mid.running ≡ (record { slot = slot; job = job }) ∷ []
 one_runs old mid slot job idle start = ap (λ (z : Spawned). z.running) start ∙ ap (λ l. l ++ (record { slot = slot; job = job }) ∷ []) idle
-
--- ---- where the end was not given
-
--- the fault is this one, as the answer of `finish` says it
-abbrev pub IsEnd : FinishFault → FinishFault → Type 0
-IsEnd fault other = ◌≡◌ {A = Result (ℕ × Raw) FinishFault} (Err fault) (Err other)
-
-module _ (old mid new : Spawned) (slot : ℕ) (job : Job) (fault : FinishFault) (idle : old.running ≡ []) (start : mid ≡ begun old slot job)
-    (lost : (s : ℕ) → IsEnd fault (Failed s) → Loses mid s new) (same : IsEnd fault Memory → new ≡ mid) where
-  is_end : {other : FinishFault} → fault ≡ other → IsEnd fault other
-  is_end e = ap (λ f. Err f) e
-
-  pub fault_answer : new.answer ≡ old.answer
-  fault_answer = by_fault fault refl
-    where
-      by_fault : (f : FinishFault) → fault ≡ f → new.answer ≡ old.answer
-      by_fault (Failed s) e = let l = lost s (is_end e) in (stopped old mid new slot s job l.job (Lost s) idle start l.stops).answer
-      by_fault Memory e = ap (λ (z : Spawned). z.answer) (same (is_end e) ∙ start)
-
-  -- nothing runs, unless memory was wanting
-  pub fault_idle : (of_finish fault ≡ PlainMemory → ⊥) → new.running ≡ []
-  fault_idle differs = by_fault fault refl
-    where
-      by_fault : (f : FinishFault) → fault ≡ f → new.running ≡ []
-      by_fault (Failed s) e = let l = lost s (is_end e) in (stopped old mid new slot s job l.job (Lost s) idle start l.stops).idle
-      by_fault Memory e = absurd (differs (ap of_finish e))
 
 -- the outcome is that of the table
 pub outcome_told : (old mid new : Spawned) (slot ended : ℕ) (call : Call) (job : Job) (raw : Raw) (outcome : Outcome) → old.running ≡ [] → mid ≡ begun old slot job → Ends mid ended raw new → job ≡ job_of call → outcome ≡ outcome_of call raw
@@ -101,29 +78,52 @@ pub first_slot : (running : List Running) (slot : ℕ) → running ≡ [] → Is
 first_slot running zero idle free = refl
 first_slot running (suc slot) idle free = let none : IsRunning [] 0 = subst (λ l. IsRunning l 0) idle (free.least 0 (omega arith)) in absurd (no_running 0 none)
 
+-- the fault is this one, as the answer of `finish` says it
+abbrev pub IsEnd : FinishFault → FinishFault → Type 0
+IsEnd fault other = ◌≡◌ {A = Result (ℕ × Raw) FinishFault} (Err fault) (Err other)
+
 module _ (old mid new : Spawned) (slot : ℕ) (job : Job) (call : Call) (idle : old.running ≡ []) (free : IsLeastFree old.running slot) (start : mid ≡ begun old slot job) (job_is : job ≡ job_of call) where
   started_is : mid ≡ started old call
   started_is = let first = first_slot old.running slot idle free in start ∙ (λ i. begun old (first i) (job_is i))
 
   -- When it stops, nothing else happens.
-  closed_is : (ended : ℕ) (ran : Job) (event : ToolEvent) → Stops mid ended ran event new → new ≡ closed old call event
-  closed_is ended ran event stops =
-      let s = stopped old mid new slot ended job ran event idle start stops in
+  closed_is : (ended : ℕ) (ran : Job) (event : ToolEvent) (faults : ℕ) → Stops mid ended ran event faults new → new ≡ record (closed old call event) { faults = faults }
+  closed_is ended ran event faults stops =
+      let s = stopped old mid new slot ended job ran event faults idle start stops in
       let none : stops.before ++ stops.after ≡ [] = sym (ap (λ (z : Spawned). z.running) stops.is) ∙ s.idle in
-      stops.is ∙ ap (λ l. record mid { running = l; log = noted mid.log event }) none ∙ ap (λ (z : Spawned). record z { running = []; log = noted z.log event }) started_is
+      stops.is ∙ ap (λ l. record mid { running = l; log = noted mid.log event; faults = faults }) none ∙ ap (λ (z : Spawned). record z { running = []; log = noted z.log event; faults = faults }) started_is
 
-  ended_first : (ended : ℕ) (ran : Job) (event : ToolEvent) → Stops mid ended ran event new → ended ≡ 0
-  ended_first ended ran event stops = let s = stopped old mid new slot ended job ran event idle start stops in sym s.here ∙ first_slot old.running slot idle free
+  ended_first : (ended : ℕ) (ran : Job) (event : ToolEvent) (faults : ℕ) → Stops mid ended ran event faults new → ended ≡ 0
+  ended_first ended ran event faults stops = let s = stopped old mid new slot ended job ran event faults idle start stops in sym s.here ∙ first_slot old.running slot idle free
+
+  same_faults : mid.faults ≡ old.faults
+  same_faults = ap (λ (z : Spawned). z.faults) start
 
   pub made_told : (ended : ℕ) (raw : Raw) → Ends mid ended raw new → new ≡ closed old call (Ended 0)
-  made_told ended raw ends = closed_is ended ends.job (Ended ended) ends.stops ∙ ap (λ k. closed old call (Ended k)) (ended_first ended ends.job (Ended ended) ends.stops)
+  made_told ended raw ends =
+      let first = ended_first ended ends.job (Ended ended) mid.faults ends.stops in
+      closed_is ended ends.job (Ended ended) mid.faults ends.stops ∙ (λ i. record (closed old call (Ended (first i))) { faults = same_faults i })
 
-  pub cut_told : (fault : FinishFault) → ((s : ℕ) → IsEnd fault (Failed s) → Loses mid s new) → (IsEnd fault Memory → new ≡ mid) → IsCut call old new
-  cut_told (Failed ended) lost same =
-      let l = lost ended refl in
-      inr (inr (inl (closed_is ended l.job (Lost ended) l.stops ∙ ap (λ k. closed old call (Lost k)) (ended_first ended l.job (Lost ended) l.stops))))
+  lost_told : (ended : ℕ) → Loses mid ended new → HasLost call old new
+  lost_told ended l =
+      let first = ended_first ended l.job (Lost ended) new.faults l.stops in
+      record {
+        counted = subst (λ n. IsCounted n new.faults) same_faults l.counted;
+        is = closed_is ended l.job (Lost ended) new.faults l.stops ∙ ap (λ k. record (closed old call (Lost k)) { faults = new.faults }) first;
+      }
+
+  pub cut_told : (fault : FinishFault) → ((s : ℕ) → IsEnd fault (Failed s) → Loses mid s new) → (IsEnd fault Memory → new ≡ mid) → IsCut (of_finish fault) call old new
+  cut_told (Failed ended) lost same = inr (lost_told ended (lost ended refl))
   cut_told Memory lost same = inr (inl (same refl ∙ started_is))
 
-pub on_err : {T E P : Type 0} (r : Result T E) → P → OnErr r P
-on_err (Ok x) p = tt
-on_err (Err e) p = p
+-- the fault is this one, as the answer of `start` says it
+abbrev pub IsStart : StartFault → StartFault → Type 0
+IsStart fault other = ◌≡◌ {A = Result ℕ StartFault} (Err fault) (Err other)
+
+pub not_started : (call : Call) (old new : Spawned) (fault : StartFault) → (IsStart fault start.Failed → Fails old new) → (IsStart fault start.Memory → new ≡ old) → IsCut (of_start fault) call old new
+not_started call old new start.Failed failed same = inl (failed refl)
+not_started call old new start.Memory failed same = inl (same refl)
+
+-- What was given up is so at the fault that is answered.
+pub cut_at : {T : Type 0} (r : Result T PlainFault) (call : Call) (old new : Spawned) (fault : PlainFault) → r ≡ Err fault → IsCut fault call old new → IfErr r (λ f. IsCut f call old new)
+cut_at r call old new fault is cut = subst (λ x. IfErr x (λ f. IsCut f call old new)) (sym is) cut

@@ -1,9 +1,9 @@
 // Derivation of a node from the sources, with nothing kept.
-ghost use Rattle.std.specs.Prelude.{◌≡◌, ◌≢◌, ◌<◌, ◌≤◌, ◌+◌, ◌⊎◌, [], length, Some, IfOk, IfSome, OnErr};
+ghost use Rattle.std.specs.Prelude.{◌≡◌, ◌≢◌, ◌<◌, ◌≤◌, ◌+◌, ◌⊎◌, [], length, Some, IfOk, IfSome, IfErr};
 ghost use Rattle.meaning_derive.specs.Derive.{Outcomes, derive};
 ghost use Rattle.meaning_derive.specs.Given.{table_outcomes};
 ghost use Rattle.meaning_nodes.specs.Nodes.{Fits, stepped};
-ghost use Rattle.odin_outside.specs.Causes.{Rose};
+ghost use Rattle.odin_outside.specs.Causes.{HasCauseBut};
 ghost use Rattle.plain_derive.specs.Built.{IsBuiltGraph};
 ghost use Rattle.plain_derive.specs.Deriving.{HasNoElements, IsViewAbove};
 ghost use Rattle.plain_derive.specs.Founds.{IsFound, IsAnswer, IsTooDeep};
@@ -48,10 +48,9 @@ pub fn derive_plain<S: Spawner>(
     ensures idle { result ≢ Err PlainFault.Memory → (S.told tools.new).running ≡ [] }
     ensures one { length (S.told tools.new).running ≤ 1 }
     ensures answer { (S.told tools.new).answer ≡ (S.told tools.old).answer }
-    ensures later { S.faults tools.old ≤ S.faults tools.new }
-    ensures cause { result ≡ Err PlainFault.Spawn → Rose (S.faults tools.old) (S.faults tools.new) }
+    ensures cause { HasCauseBut PlainFault.Memory (S.told tools.old).faults (S.told tools.new).faults result }
     ensures made { IfOk result (λ found. IfSome (S.told tools.old).answer (λ table. HasMade graph.now sources.now.texts table node.now (S.told tools.old) (S.told tools.new))) }
-    ensures begun { OnErr result (IfSome (S.told tools.old).answer (λ table. HasBegun graph.now sources.now.texts table node.now (S.told tools.old) (S.told tools.new))) }
+    ensures begun { IfErr result (λ fault. IfSome (S.told tools.old).answer (λ table. HasBegun graph.now sources.now.texts table node.now fault (S.told tools.old) (S.told tools.new))) }
 {
     if node.steps.len() >= HEIGHT_LIMIT {
         let chain = deep_chain(alloc, node)?;
@@ -103,12 +102,8 @@ fn derive_step<S: Spawner>(
     ensures node { IfOk result (λ derived. derived.node ≡ stepped base.now.node step.now) }
     ensures simple { IfOk result (λ derived. HasNoElements derived.view) }
     ensures view { IfOk result (λ derived. IsViewAbove graph.now (S.told tools.old).answer base.now.node base.now.view derived.node derived.view) }
-    ensures idle { result ≢ Err PlainFault.Memory → (S.told tools.new).running ≡ [] }
-    ensures answer { (S.told tools.new).answer ≡ (S.told tools.old).answer }
-    ensures later { S.faults tools.old ≤ S.faults tools.new }
-    ensures cause { result ≡ Err PlainFault.Spawn → Rose (S.faults tools.old) (S.faults tools.new) }
     ensures made { IfOk result (λ derived. HasCalled graph.now derived.node (only base.now.node base.now.view) (S.told tools.old) (S.told tools.new)) }
-    ensures cut { OnErr result (GivesUp graph.now (stepped base.now.node step.now) (only base.now.node base.now.view) (S.told tools.old) (S.told tools.new)) }
+    ensures cut { IfErr result (λ fault. GivesUp graph.now (stepped base.now.node step.now) (only base.now.node base.now.view) fault (S.told tools.old) (S.told tools.new)) }
 {
     let node = stepped(alloc, &base.node, step)?;
     let call = call_for(alloc, graph, plans, &node, base)?;

@@ -1,10 +1,9 @@
 // One call, run while nothing else runs.
-ghost use Rattle.std.specs.Prelude.{◌≡◌, ◌≢◌, ◌≤◌, [], Some, IfOk, OnErr};
+ghost use Rattle.std.specs.Prelude.{◌≡◌, [], Some, IfOk, IfErr};
 ghost use Rattle.meaning_calls.specs.Outcomes.{Fits};
 ghost use Rattle.meaning_derive.specs.Derive.{outcome_for};
 ghost use Rattle.meaning_derive.specs.Given.{table_outcomes};
 ghost use Rattle.odin_outside.specs.declared.events.ToolEvent.TheVariants.{Ended};
-ghost use Rattle.odin_outside.specs.Causes.{Rose};
 ghost use Rattle.odin_outside.specs.Spawned.{Table};
 ghost use Rattle.plain_derive.specs.Logs.{closed, after_call, IsCut, CutOff};
 ghost use Rattle.plain_derive.specs.Seen.{FitsCall};
@@ -20,12 +19,8 @@ fn run_call<S: Spawner>(alloc: Global, call: &Call, tools: &mut S) -> Result<Out
     requires { (S.told tools.old).running ≡ [] }
     ensures fits { IfOk result (Fits call.now) }
     ensures outcome { IfOk result (λ outcome. (table : Table) → (S.told tools.old).answer ≡ Some table → table_outcomes table call.now ≡ Some outcome) }
-    ensures idle { result ≢ Err PlainFault.Memory → (S.told tools.new).running ≡ [] }
-    ensures answer { (S.told tools.new).answer ≡ (S.told tools.old).answer }
-    ensures later { S.faults tools.old ≤ S.faults tools.new }
-    ensures cause { result ≡ Err PlainFault.Spawn → Rose (S.faults tools.old) (S.faults tools.new) }
     ensures made { IfOk result (λ outcome. S.told tools.new ≡ closed (S.told tools.old) call.now (Ended 0)) }
-    ensures cut { OnErr result (IsCut call.now (S.told tools.old) (S.told tools.new)) }
+    ensures cut { IfErr result (λ fault. IsCut fault call.now (S.told tools.old) (S.told tools.new)) }
 {
     let job = job_of(alloc, call)?;
     tools.start(alloc, &job)?;
@@ -43,12 +38,8 @@ pub(crate) fn run_if_called<S: Spawner>(
     requires { (S.told tools.old).running ≡ [] }
     ensures fits { IfOk result (FitsCall call.now) }
     ensures outcome { IfOk result (λ outcome. (table : Table) → (S.told tools.old).answer ≡ Some table → outcome_for (table_outcomes table) call.now ≡ Some outcome) }
-    ensures idle { result ≢ Err PlainFault.Memory → (S.told tools.new).running ≡ [] }
-    ensures answer { (S.told tools.new).answer ≡ (S.told tools.old).answer }
-    ensures later { S.faults tools.old ≤ S.faults tools.new }
-    ensures cause { result ≡ Err PlainFault.Spawn → Rose (S.faults tools.old) (S.faults tools.new) }
     ensures made { IfOk result (λ outcome. S.told tools.new ≡ after_call (S.told tools.old) call.now) }
-    ensures cut { OnErr result (CutOff call.now (S.told tools.old) (S.told tools.new)) }
+    ensures cut { IfErr result (λ fault. CutOff fault call.now (S.told tools.old) (S.told tools.new)) }
 {
     match call {
         None => Ok(None),

@@ -36,7 +36,7 @@ returns-in_default-2-clause-node c =
     (ap (type_named c.args.graph.now) (sym c.as_slice.ensures.bytes) ∙ (sym c.type_named.ensures ∙ c.in-Some-type_named.is))
     (sym c.in_default-2.is ∙ (c.in_ok-path.ensures.ok ∙ ap (λ (t : ℕ). chosen_path c.args.graph.now t c.in-Some-type_named.to) (c.source_type-from.ensures ∙ ap (source_type c.args.graph.now) c.as_slice-name.ensures.bytes)))
 
-led_on : (c : goal.After-drop-path-inside-2) → node_of c.args.graph.now (expression_of c.args.request.now) ≡ is_node (record { source = c.in_ok-source.source; params = c.new-2.result; steps = c.in_ok-steps.steps })
+led_on : (c : goal.After-drop-path-2) → node_of c.args.graph.now (expression_of c.args.request.now) ≡ is_node (record { source = c.in_ok-source.source; params = c.new-2.result; steps = c.in_ok-steps.steps })
 led_on c =
     led c.args.graph.now c.args.request.now c.in-Some.id c.in-Some-type_named.to c.in-Some-2.path c.in_ok-source.source c.in-Some.is
     (ap (type_named c.args.graph.now) (sym c.as_slice.ensures.bytes) ∙ (sym c.type_named.ensures ∙ c.in-Some-type_named.is))

@@ -1,10 +1,13 @@
 use Rattle.std.proofs.Common.{◌≡◌, ◌∙◌, ◌<◌, inl, inr, subst, refl, ap, length, arith}
+use Rattle.std.specs.Prelude.{Err}
+use Rattle.std.proofs.lemmas.Result.{err_from_is_err_and}
 use Rattle.plain_derive.proofs.FoundLemmas.{next_front, next_fits, deep_found, deep_always, source_found, answer_found, next_view}
 use Rattle.meaning_nodes.specs.Nodes.{stepped}
 use Rattle.meaning_derive.specs.Given.{table_outcomes}
-use Rattle.plain_derive.proofs.CallLemmas.{made_next, cut_next, made_none, begun_none, made_deep, made_all, called_few, told_all}
+use Rattle.plain_derive.proofs.CallLemmas.{made_next, cut_next, made_none, begun_none, made_deep, made_all, told_all}
+use Rattle.plain_derive.proofs.CutLemmas.{called_calm, gives_up_stopped, stopped_cause}
 use Rattle.plain_derive.proofs.LineViews.{front}
-use Rattle.plain_derive.proofs.RunLemmas.{on_err}
+use Rattle.plain_derive.proofs.BegunLemmas.{begun_at}
 use Rattle.plain_derive.proofs.derivation.derive_plain.Goals as goal
 
 pub returns-then-len-ge-HEIGHT_LIMIT-clause-ok : goal.returns-then-len-ge-HEIGHT_LIMIT-clause-ok
@@ -30,7 +33,7 @@ loop-step-init g c = record {
   untouched = λ e. refl;
   source = λ e outcomes. c.in_ok-base.ensures.view outcomes;
   few = omega arith;
-  later = omega arith;
+  faults = refl;
 }
 
 pub loop-step-preserved : goal.loop-step-preserved
@@ -38,16 +41,16 @@ loop-step-preserved g c = record {
   node = c.in_ok-base-2.ensures.node ∙ next_front c.args.node.now _ _ c.loop-step.step-index _ c.as_slice-step-items.ensures c.loop-step-test.true c.step-item.is c.loop-step.invariant.node;
   simple = c.in_ok-base-2.ensures.simple;
   view = next_view _ _ _ _ _ _ _ _ c.loop-step.step-index c.loop-step.invariant.answer c.loop-step.invariant.view c.in_ok-base-2.ensures.view;
-  idle = c.in_ok-base-2.ensures.idle (λ e. cc);
-  answer = c.in_ok-base-2.ensures.answer ∙ c.loop-step.invariant.answer;
+  idle = (called_calm _ _ _ _ _ c.in_ok-base-2.ensures.made).idle c.loop-step.invariant.idle;
+  answer = (called_calm _ _ _ _ _ c.in_ok-base-2.ensures.made).answer ∙ c.loop-step.invariant.answer;
   untouched = λ e. absurd (omega (arith, e));
   source = λ e. absurd (omega (arith, e));
-  few = omega (arith, c.loop-step.invariant.few, called_few _ _ _ _ _ c.in_ok-base-2.ensures.made);
+  few = omega (arith, c.loop-step.invariant.few, (called_calm _ _ _ _ _ c.in_ok-base-2.ensures.made).few);
   made = λ table told. made_next c.args.graph.now c.args.node.now c.requires.built c.requires.fits c.args.sources.now.texts table c.loop-step.step-index c.loop-step.base.node c.in_ok-base-2.base.node c.loop-step.base.view
       (subst (λ l. c.loop-step.step-index < length l) c.as_slice-step-items.ensures c.loop-step-test.true) (omega arith) c.loop-step.invariant.node
       (c.in_ok-base-2.ensures.node ∙ next_front c.args.node.now _ _ c.loop-step.step-index _ c.as_slice-step-items.ensures c.loop-step-test.true c.step-item.is c.loop-step.invariant.node)
       c.loop-step.invariant.simple (c.loop-step.invariant.view table told) _ _ _ (c.loop-step.invariant.made table told) c.in_ok-base-2.ensures.made;
-  later = omega (arith, c.loop-step.invariant.later, c.in_ok-base-2.ensures.later);
+  faults = (called_calm _ _ _ _ _ c.in_ok-base-2.ensures.made).faults ∙ c.loop-step.invariant.faults;
 }
 
 pub returns-clause-ok : goal.returns-clause-ok
@@ -74,14 +77,16 @@ pub returns-clause-few : goal.returns-clause-few
 returns-clause-few g c = omega (arith, c.loop-step.invariant.few, ap length c.as_slice-step-items.ensures)
 
 pub returns-in_err-chain-clause-begun : goal.returns-in_err-chain-clause-begun
-returns-in_err-chain-clause-begun g c = on_err _ (told_all _ (λ table told. begun_none _ _ table _ _))
+returns-in_err-chain-clause-begun g c = let given = err_from_is_err_and _ c.from_residual.ensures.1 in begun_at _ _ _ _ _ _ _ _ (given.1 ∙ ap (λ f. Err f) given.2) (told_all _ (λ table told. begun_none _ _ table _ _))
 
 pub returns-in_err-base-clause-begun : goal.returns-in_err-base-clause-begun
-returns-in_err-base-clause-begun g c = on_err _ (told_all _ (λ table told. begun_none _ _ table _ _))
+returns-in_err-base-clause-begun g c = let given = err_from_is_err_and _ c.from_residual-in_err-base.ensures.1 in begun_at _ _ _ _ _ _ _ _ (given.1 ∙ ap (λ f. Err f) given.2) (told_all _ (λ table told. begun_none _ _ table _ _))
 
 pub returns-in_err-base-2-clause-begun : goal.returns-in_err-base-2-clause-begun
-returns-in_err-base-2-clause-begun g c = on_err _ (told_all _ (λ table told.
+returns-in_err-base-2-clause-begun g c =
+    let given = err_from_is_err_and _ c.from_residual-in_err-base-2.ensures.1 in
+    begun_at _ _ _ _ _ _ _ _ (given.1 ∙ ap (λ f. Err f) given.2) (told_all _ (λ table told.
     cut_next c.args.graph.now c.args.node.now c.requires.built c.requires.fits c.args.sources.now.texts table c.loop-step.step-index c.loop-step.base.node (stepped c.loop-step.base.node c.step-item.result) c.loop-step.base.view
     (subst (λ l. c.loop-step.step-index < length l) c.as_slice-step-items.ensures c.loop-step-test.true) (omega arith) c.loop-step.invariant.node
     (next_front c.args.node.now _ _ c.loop-step.step-index _ c.as_slice-step-items.ensures c.loop-step-test.true c.step-item.is c.loop-step.invariant.node)
-    c.loop-step.invariant.simple (c.loop-step.invariant.view table told) _ _ _ (c.loop-step.invariant.made table told) c.in_err-base-2.ensures.cut))
+    c.loop-step.invariant.simple (c.loop-step.invariant.view table told) _ _ _ _ (c.loop-step.invariant.made table told) c.in_err-base-2.ensures.cut))

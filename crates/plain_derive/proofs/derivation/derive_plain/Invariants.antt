@@ -19,5 +19,5 @@ invariant-loop-step g l = record {
   untouched : l.step-index ≡ 0 → g.S.Spawner.told l.tools ≡ g.S.Spawner.told l.fn.tools;
   source : l.step-index ≡ 0 → (outcomes : Outcomes) → derive l.graph l.sources.texts outcomes 1 l.base.node ≡ Some l.base.view;
   few : (g.S.Spawner.told l.tools).starts ≤ (g.S.Spawner.told l.fn.tools).starts + l.step-index;
-  later : g.S.Spawner.faults l.fn.tools ≤ g.S.Spawner.faults l.tools;
+  faults : (g.S.Spawner.told l.tools).faults ≡ (g.S.Spawner.told l.fn.tools).faults;
 }
