@@ -1,2 +1,4 @@
+mod Answering
+mod Ending
 mod Replaying
 mod Scan

@@ -1,6 +1,5 @@
 -- What is known of an input in memory.
 use Rattle.std.specs.Prelude.{ℕ, List, length, drop, min}
-use Rattle.fail_plan.specs.Plan.{Plan}
 
 -- the bytes that are left, and how many are given at most at once
 pub record Input : Type 0 where
@@ -14,8 +13,3 @@ given count input = record input { left = drop count input.left }
 -- how many bytes a read into so much room gives: the least of what is left, the room and the piece
 abbrev pub given_count : Input → ℕ → ℕ
 given_count input room = min (min (length input.left) room) input.piece
-
--- an input whose calls fail by plan
-pub record FailingInput : Type 0 where
-  pub inner : Input
-  pub plan : Plan

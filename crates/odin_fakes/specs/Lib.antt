@@ -5,4 +5,6 @@ pub mod Entry
 pub mod File
 pub mod Input
 pub mod Output
+pub mod Plan
+pub mod Tools
 pub mod Trees

@@ -1,7 +1,6 @@
 -- What is known of an output in memory.
-use Rattle.std.specs.Prelude.{ℕ, ◌+◌, ◌-◌, List, ◌++◌, length, min}
-use Rattle.odin_outside.specs.Causes.{last_count}
-use Rattle.fail_plan.specs.Plan.{Plan}
+use Rattle.std.specs.Prelude.{ℕ, ◌-◌, List, ◌++◌, length, min}
+use Rattle.odin_outside.specs.Causes.{once_more}
 
 -- the bytes that were taken, how many are taken at most at once, for how many there is still room, and how many writes have failed
 pub record Output : Type 0 where
@@ -20,9 +19,4 @@ taken_count output offered = min (min offered output.piece) output.room
 
 -- after a write that failed
 abbrev pub refused : Output → Output
-refused output = record output { faults = min (output.faults + 1) last_count }
-
--- an output whose calls fail by plan
-pub record FailingOutput : Type 0 where
-  pub inner : Output
-  pub plan : Plan
+refused output = record output { faults = once_more output.faults }

@@ -1,19 +1,23 @@
--- What is known of files in memory whose reads fail by plan.
-use Rattle.std.specs.Prelude.{ℕ, List, refl}
+-- What is known of files in memory, and how often they were asked for one.
+use Rattle.std.specs.Prelude.{ℕ, refl}
 use Rattle.std.specs.Coded.{Coded, code_by, coded×, coded_ℕ, coded_list}
 use Rattle.std.specs.FinMap.{code}
+use Rattle.odin_outside.specs.Causes.{once_more}
 use Rattle.odin_outside.specs.Files.{Files}
-use Rattle.fail_plan.specs.Plan.{Plan}
 
-pub record FailingTree : Type 0 where
-  pub inner : Files
-  pub plan : Plan
+pub record FileTree : Type 0 where
+  pub files : Files
+  pub reads : ℕ
 
--- such a tree is stored as its files and the parts of its plan
-abbrev pub tree_code : Coded FailingTree
+-- after a read
+abbrev pub asked : FileTree → FileTree
+asked tree = record tree { reads = once_more tree.reads }
+
+-- such files are stored with that count
+abbrev pub tree_code : Coded FileTree
 tree_code =
-    code_by (Files × (List ℕ × (ℕ × ℕ)))
-    (coded× (code (coded_list coded_ℕ) (coded_list coded_ℕ)) (coded× (coded_list coded_ℕ) (coded× coded_ℕ coded_ℕ)))
-    (λ tree. (tree.inner, (tree.plan.fails, (tree.plan.calls, tree.plan.faults))))
-    (λ parts. record { inner = parts.0; plan = record { fails = parts.1.0; calls = parts.1.1.0; faults = parts.1.1.1 } })
+    code_by (Files × ℕ)
+    (coded× (code (coded_list coded_ℕ) (coded_list coded_ℕ)) coded_ℕ)
+    (λ tree. (tree.files, tree.reads))
+    (λ parts. record { files = parts.0; reads = parts.1 })
     (λ _. refl)

@@ -10,7 +10,7 @@ use std::alloc::{AllocError, Global};
 use std::marker::Model;
 
 /// A call: a write at an offset of so many bytes, a cut to a size, a sync, or one that changes nothing.
-#[derive(Clone, Copy, Debug, PartialEq, Eq, Hash)]
+#[derive(Clone, Copy)]
 pub enum Entry {
     Write(u64, usize),
     Cut(u64),
@@ -20,7 +20,6 @@ pub enum Entry {
 
 /// A file that is kept in memory, with each call. It has room for so many written bytes and so many calls, and a call fails exactly
 /// where it passes that room.
-#[derive(Drop)]
 pub struct MemDisk {
     first: Bytes,
     image: Vec<u8>,
@@ -47,6 +46,27 @@ impl Model for MemDisk {
         × (length d.entries.items + d.room ≤ vec_capacity d.entries)
         × AreWithin d.first (calls_of (reverse d.entries.items) d.written.items) };
 }
+
+impl Drop for MemDisk {
+    fn drop(self) {
+        let MemDisk {
+            first,
+            image,
+            entries,
+            written,
+            bytes: _,
+            room: _,
+            faults: _,
+        } = self;
+        drop(first);
+        drop(image);
+        drop(entries);
+        drop(written);
+    }
+}
+
+/// A file in memory, as `MemDisk`, that also gives what crashes may leave.
+pub type CrashDisk = MemDisk;
 
 /// Writes bytes over an image and behind it. It takes no memory where the image has room for them.
 pub fn overwrite(image: &mut Vec<u8>, start: usize, bytes: &[u8]) -> Result<(), AllocError>
@@ -94,14 +114,16 @@ impl MemDisk {
     }
 
     /// How many calls there were.
-    pub(crate) fn calls(&self) -> usize
+    pub fn calls(&self) -> usize
         ensures { result ≡ length self.now.calls }
     {
         self.entries.len()
     }
 
-    /// What a stop within a call may leave, by its number. `choice` picks it; 0 picks what a read gives after the call.
-    pub(crate) fn stopped(&self, alloc: Global, moment: usize, choice: u64) -> Result<Bytes, Memory>
+    /// What a stop within a call may leave, by its number; 0 is the time before the first. The last digit of the choice in base 8 says
+    /// how the last write or cut is torn, the digit before it the one before, and so on; where it is 0, none is: 0 picks what a read
+    /// gives after the call, and 1 what it gives before, where that call is a write or a cut.
+    pub fn crash(&self, alloc: Global, moment: u32, choice: u64) -> Result<Bytes, Memory>
         requires { moment ≤ length self.now.calls }
         ensures left { IfOk result (LeftWithin self.now.first (calls_until moment self.now.calls)) }
         ensures whole { choice ≡ 0 → IfOk result (λ image. image ≡ image_after self.now.first (calls_until moment self.now.calls)) }
@@ -111,7 +133,7 @@ impl MemDisk {
             self.first.as_slice(),
             &self.entries,
             &self.written,
-            moment,
+            moment as usize,
             choice,
         )?;
         Ok(Bytes::from_vec(image))
@@ -147,7 +169,7 @@ impl MemDisk {
 
 impl Disk for MemDisk {
     ghost use Rattle.std.specs.Prelude.{◌≡◌, refl, length};
-    ghost use Rattle.odin_fakes.specs.File.{image_of, after_call, refused, told_of};
+    ghost use Rattle.odin_fakes.specs.File.{image_of, after_call, refused, HasNoRoom, told_of};
     ghost use Rattle.odin_fakes.specs.Calls.{Wrote, WasCut, Synced, Looked};
     ghost use Rattle.odin_fakes.specs.DiskLaws.{image_is_left, left_now, left_only};
 
@@ -194,7 +216,7 @@ impl Disk for MemDisk {
     fn write_at(&mut self, at: u64, bytes: &[u8]) -> Result<(), Failed>
         requires inside { at ≤ length (image_of self.old) }
         requires end { at + length bytes.now ≤ 2 ^ 30 }
-        ensures fails { IsErr result ↔ ((self.old.room ≡ 0) ⊎ (self.old.bytes < length bytes.now)) }
+        ensures fails { IsErr result ↔ HasNoRoom (length bytes.now) self.old }
         ensures ok { OnOk result (self.new ≡ after_call (Wrote at bytes.now) (length bytes.now) self.old) }
         ensures err { OnErr result (self.new ≡ refused self.old) }
         ensures cause { HasCause self.old.faults self.new.faults result }

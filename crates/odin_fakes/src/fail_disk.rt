@@ -1,52 +1,30 @@
-// A file in memory that fails at chosen calls.
-ghost use Rattle.std.specs.Prelude.{◌≡◌, ◌↔◌, ◌⊎◌, ◌<◌, ◌+◌, ◌^◌, ◌≤◌, length, take, drop, IfOk, IsErr, OnOk, OnErr};
-ghost use Rattle.odin_outside.specs.Causes.{HasCause};
-ghost use Rattle.fail_plan.specs.Plan.{FailsNext};
+// A file in memory that fails by plan.
+ghost use Rattle.std.specs.Prelude.{◌≡◌, ◌+◌, ◌^◌, ◌≤◌, length, take, drop, IfOk, OnOk, OnErr};
+ghost use Rattle.odin_outside.specs.Causes.{HasCause, once_more};
 
 use crate::disk::MemDisk;
-use fail_plan::FailPlan;
-use object_values::Seq;
+use crate::plan::{FailPlan, Failing};
 use odin_outside::{Disk, Failed};
-use std::marker::Model;
 
-/// A file in memory that fails at chosen calls, and where what it wraps fails. A call that fails by plan leaves what it wraps as it
-/// was.
-#[derive(Drop)]
-pub struct FailDisk {
-    inner: MemDisk,
-    plan: FailPlan,
-}
+/// A file in memory that fails by plan, and where it has no room.
+pub type FailDisk = Failing<MemDisk>;
 
-impl Model for FailDisk {
-    ghost use Rattle.odin_fakes.specs.File.{FailingFile};
-
-    ghost Value = { FailingFile };
-
-    ghost view = { λ d. record { inner = d.inner; plan = d.plan } };
-}
-
-impl FailDisk {
-    /// `fails` holds the numbers of the calls that fail, counted from 1.
-    pub fn new(inner: MemDisk, fails: Seq<u32>) -> Self
-        ensures { result ≡ record { inner = inner; plan = record { fails = fails; calls = 0; faults = 0 } } }
-    {
-        FailDisk {
-            inner,
-            plan: FailPlan::new(fails),
-        }
+// Counts a fault of the file.
+fn counted<T>(plan: &mut FailPlan, done: Result<T, Failed>) -> Result<T, Failed>
+    ensures same { result ≡ done }
+    ensures ok { OnOk result (plan.new ≡ plan.old) }
+    ensures err { OnErr result (plan.new ≡ record plan.old { faults = once_more plan.old.faults }) }
+    ensures cause { HasCause plan.old.faults plan.new.faults done }
+{
+    if done.is_err() {
+        plan.count_fault();
     }
-
-    /// What it wraps.
-    pub fn inner(&self) -> &MemDisk
-        ensures { result.now ≡ self.now.inner }
-    {
-        &self.inner
-    }
+    done
 }
 
-impl Disk for FailDisk {
+impl Disk for Failing<MemDisk> {
     ghost use Rattle.std.specs.Prelude.{◌≡◌, refl, length};
-    ghost use Rattle.odin_fakes.specs.File.{image_of, went, stopped_by_plan, stopped_by_file, told_of};
+    ghost use Rattle.odin_fakes.specs.File.{image_of, went, HasNoRoom, Stops, told_of};
     ghost use Rattle.odin_fakes.specs.Calls.{Wrote, WasCut, Synced, Looked};
     ghost use Rattle.odin_fakes.specs.DiskLaws.{image_is_left, left_now, left_only};
 
@@ -65,103 +43,53 @@ impl Disk for FailDisk {
     ghost only_now = { λ d c follows left. left_only d.inner.first d.inner.calls c left };
 
     fn size(&mut self) -> Result<u64, Failed>
-        ensures fails { IsErr result ↔ (FailsNext self.old.plan ⊎ (self.old.inner.room ≡ 0)) }
         ensures size { IfOk result (λ n. n ≡ length (image_of self.old.inner)) }
         ensures ok { OnOk result (self.new ≡ went Looked 0 self.old) }
-        ensures by_plan { FailsNext self.old.plan → self.new ≡ stopped_by_plan self.old }
-        ensures no_room { ¬ FailsNext self.old.plan → (self.old.inner.room ≡ 0) → self.new ≡ stopped_by_file self.old }
-        ensures err { OnErr result ((self.new ≡ stopped_by_plan self.old) ⊎ (self.new ≡ stopped_by_file self.old)) }
+        ensures stops { Stops (self.old.inner.room ≡ 0) self.old self.new result }
         ensures cause { HasCause self.old.plan.faults self.new.plan.faults result }
     {
-        if self.plan.fails_next() {
-            self.plan.count_fault();
-            return Err(Failed);
-        }
-        let done = self.inner.size();
-        if done.is_err() {
-            self.plan.count_fault();
-        }
-        done
+        self.plan.call()?;
+        counted(&mut self.plan, self.inner.size())
     }
 
     fn read(&mut self, at: u64, into: &mut [u8]) -> Result<(), Failed>
         requires { at + length into.old ≤ length (image_of self.old.inner) }
-        ensures fails { IsErr result ↔ (FailsNext self.old.plan ⊎ (self.old.inner.room ≡ 0)) }
         ensures bytes { OnOk result (into.new ≡ take (length into.old) (drop at (image_of self.old.inner))) }
         ensures ok { OnOk result (self.new ≡ went Looked 0 self.old) }
-        ensures by_plan { FailsNext self.old.plan → self.new ≡ stopped_by_plan self.old }
-        ensures no_room { ¬ FailsNext self.old.plan → (self.old.inner.room ≡ 0) → self.new ≡ stopped_by_file self.old }
-        ensures err { OnErr result ((self.new ≡ stopped_by_plan self.old) ⊎ (self.new ≡ stopped_by_file self.old)) }
+        ensures stops { Stops (self.old.inner.room ≡ 0) self.old self.new result }
         ensures cause { HasCause self.old.plan.faults self.new.plan.faults result }
     {
-        if self.plan.fails_next() {
-            self.plan.count_fault();
-            return Err(Failed);
-        }
-        let done = self.inner.read(at, into);
-        if done.is_err() {
-            self.plan.count_fault();
-        }
-        done
+        self.plan.call()?;
+        counted(&mut self.plan, self.inner.read(at, into))
     }
 
     fn write_at(&mut self, at: u64, bytes: &[u8]) -> Result<(), Failed>
         requires inside { at ≤ length (image_of self.old.inner) }
         requires end { at + length bytes.now ≤ 2 ^ 30 }
-        ensures fails { IsErr result ↔ (FailsNext self.old.plan ⊎ ((self.old.inner.room ≡ 0) ⊎ (self.old.inner.bytes < length bytes.now))) }
         ensures ok { OnOk result (self.new ≡ went (Wrote at bytes.now) (length bytes.now) self.old) }
-        ensures by_plan { FailsNext self.old.plan → self.new ≡ stopped_by_plan self.old }
-        ensures no_room { ¬ FailsNext self.old.plan → ((self.old.inner.room ≡ 0) ⊎ (self.old.inner.bytes < length bytes.now)) → self.new ≡ stopped_by_file self.old }
-        ensures err { OnErr result ((self.new ≡ stopped_by_plan self.old) ⊎ (self.new ≡ stopped_by_file self.old)) }
+        ensures stops { Stops (HasNoRoom (length bytes.now) self.old.inner) self.old self.new result }
         ensures cause { HasCause self.old.plan.faults self.new.plan.faults result }
     {
-        if self.plan.fails_next() {
-            self.plan.count_fault();
-            return Err(Failed);
-        }
-        let done = self.inner.write_at(at, bytes);
-        if done.is_err() {
-            self.plan.count_fault();
-        }
-        done
+        self.plan.call()?;
+        counted(&mut self.plan, self.inner.write_at(at, bytes))
     }
 
     fn cut(&mut self, size: u64) -> Result<(), Failed>
         requires { size ≤ length (image_of self.old.inner) }
-        ensures fails { IsErr result ↔ (FailsNext self.old.plan ⊎ (self.old.inner.room ≡ 0)) }
         ensures ok { OnOk result (self.new ≡ went (WasCut size) 0 self.old) }
-        ensures by_plan { FailsNext self.old.plan → self.new ≡ stopped_by_plan self.old }
-        ensures no_room { ¬ FailsNext self.old.plan → (self.old.inner.room ≡ 0) → self.new ≡ stopped_by_file self.old }
-        ensures err { OnErr result ((self.new ≡ stopped_by_plan self.old) ⊎ (self.new ≡ stopped_by_file self.old)) }
+        ensures stops { Stops (self.old.inner.room ≡ 0) self.old self.new result }
         ensures cause { HasCause self.old.plan.faults self.new.plan.faults result }
     {
-        if self.plan.fails_next() {
-            self.plan.count_fault();
-            return Err(Failed);
-        }
-        let done = self.inner.cut(size);
-        if done.is_err() {
-            self.plan.count_fault();
-        }
-        done
+        self.plan.call()?;
+        counted(&mut self.plan, self.inner.cut(size))
     }
 
     fn sync(&mut self) -> Result<(), Failed>
-        ensures fails { IsErr result ↔ (FailsNext self.old.plan ⊎ (self.old.inner.room ≡ 0)) }
         ensures ok { OnOk result (self.new ≡ went Synced 0 self.old) }
-        ensures by_plan { FailsNext self.old.plan → self.new ≡ stopped_by_plan self.old }
-        ensures no_room { ¬ FailsNext self.old.plan → (self.old.inner.room ≡ 0) → self.new ≡ stopped_by_file self.old }
-        ensures err { OnErr result ((self.new ≡ stopped_by_plan self.old) ⊎ (self.new ≡ stopped_by_file self.old)) }
+        ensures stops { Stops (self.old.inner.room ≡ 0) self.old self.new result }
         ensures cause { HasCause self.old.plan.faults self.new.plan.faults result }
     {
-        if self.plan.fails_next() {
-            self.plan.count_fault();
-            return Err(Failed);
-        }
-        let done = self.inner.sync();
-        if done.is_err() {
-            self.plan.count_fault();
-        }
-        done
+        self.plan.call()?;
+        counted(&mut self.plan, self.inner.sync())
     }
 }

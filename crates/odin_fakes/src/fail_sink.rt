@@ -1,50 +1,17 @@
-// Output that fails at chosen calls.
+// Output that fails by plan.
 ghost use Rattle.std.specs.Prelude.{◌≡◌, ◌↔◌, ◌⊎◌, ◌<◌, length, take, Some, IfOk, IsErr, OnErr};
 ghost use Rattle.odin_outside.specs.Causes.{HasCause};
 ghost use Rattle.odin_fakes.specs.Output.{refused, taken_count, took};
-ghost use Rattle.fail_plan.specs.Plan.{FailsNext, called, failed};
+ghost use Rattle.odin_fakes.specs.Plan.{FailsNext, called, failed};
 
+use crate::plan::Failing;
 use crate::sink::MemSink;
-use fail_plan::FailPlan;
-use object_values::Seq;
 use odin_outside::{Failed, Sink};
-use std::marker::Model;
 
-/// Output that fails at chosen calls, and where what it wraps fails. A call that fails by plan leaves what it wraps as it was.
-#[derive(Drop)]
-pub struct FailSink {
-    inner: MemSink,
-    plan: FailPlan,
-}
+/// Output that fails by plan, and where no room is left.
+pub type FailSink = Failing<MemSink>;
 
-impl Model for FailSink {
-    ghost use Rattle.odin_fakes.specs.Output.{FailingOutput};
-
-    ghost Value = { FailingOutput };
-
-    ghost view = { λ s. record { inner = s.inner; plan = s.plan } };
-}
-
-impl FailSink {
-    /// `fails` holds the numbers of the calls that fail, counted from 1.
-    pub fn new(inner: MemSink, fails: Seq<u32>) -> Self
-        ensures { result ≡ record { inner = inner; plan = record { fails = fails; calls = 0; faults = 0 } } }
-    {
-        FailSink {
-            inner,
-            plan: FailPlan::new(fails),
-        }
-    }
-
-    /// What it wraps.
-    pub fn inner(&self) -> &MemSink
-        ensures { result.now ≡ self.now.inner }
-    {
-        &self.inner
-    }
-}
-
-impl Sink for FailSink {
+impl Sink for Failing<MemSink> {
     ghost taken = { λ s. Some s.inner.taken };
 
     ghost faults = { λ s. s.plan.faults };
@@ -60,10 +27,7 @@ impl Sink for FailSink {
         ensures same { OnErr result (self.new.inner.taken ≡ self.old.inner.taken) }
         ensures cause { HasCause self.old.plan.faults self.new.plan.faults result }
     {
-        if self.plan.fails_next() {
-            self.plan.count_fault();
-            return Err(Failed);
-        }
+        self.plan.call()?;
         let taken = self.inner.write(bytes);
         if taken.is_err() {
             self.plan.count_fault();

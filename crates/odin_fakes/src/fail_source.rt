@@ -1,50 +1,17 @@
-// Input that fails at chosen calls.
+// Input that fails by plan.
 ghost use Rattle.std.specs.Prelude.{◌≡◌, ◌↔◌, ◌<◌, [], length, take, Some, IfOk, IsErr, OnErr};
 ghost use Rattle.odin_outside.specs.Causes.{HasCause};
 ghost use Rattle.odin_fakes.specs.Input.{given, given_count};
-ghost use Rattle.fail_plan.specs.Plan.{FailsNext, called, failed};
+ghost use Rattle.odin_fakes.specs.Plan.{FailsNext, called, failed};
 
+use crate::plan::Failing;
 use crate::source::MemSource;
-use fail_plan::FailPlan;
-use object_values::Seq;
 use odin_outside::{Failed, Source};
-use std::marker::Model;
 
-/// Input that fails at chosen calls. Such a call leaves what it wraps as it was.
-#[derive(Drop)]
-pub struct FailSource {
-    inner: MemSource,
-    plan: FailPlan,
-}
+/// Input that fails by plan.
+pub type FailSource = Failing<MemSource>;
 
-impl Model for FailSource {
-    ghost use Rattle.odin_fakes.specs.Input.{FailingInput};
-
-    ghost Value = { FailingInput };
-
-    ghost view = { λ s. record { inner = s.inner; plan = s.plan } };
-}
-
-impl FailSource {
-    /// `fails` holds the numbers of the calls that fail, counted from 1.
-    pub fn new(inner: MemSource, fails: Seq<u32>) -> Self
-        ensures { result ≡ record { inner = inner; plan = record { fails = fails; calls = 0; faults = 0 } } }
-    {
-        FailSource {
-            inner,
-            plan: FailPlan::new(fails),
-        }
-    }
-
-    /// What it wraps.
-    pub fn inner(&self) -> &MemSource
-        ensures { result.now ≡ self.now.inner }
-    {
-        &self.inner
-    }
-}
-
-impl Source for FailSource {
+impl Source for Failing<MemSource> {
     ghost left = { λ s. Some s.inner.left };
 
     ghost faults = { λ s. s.plan.faults };
@@ -59,10 +26,7 @@ impl Source for FailSource {
         ensures err { OnErr result (self.new ≡ record self.old { plan = failed self.old.plan }) }
         ensures cause { HasCause self.old.plan.faults self.new.plan.faults result }
     {
-        if self.plan.fails_next() {
-            self.plan.count_fault();
-            return Err(Failed);
-        }
+        self.plan.call()?;
         self.inner.read(into)
     }
 }

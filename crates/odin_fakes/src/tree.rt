@@ -3,8 +3,9 @@ ghost use Rattle.std.specs.Prelude.{◌≡◌, ◌≢◌, Some, map, IfOk};
 ghost use Rattle.std.specs.FinMap.{from_entries};
 ghost use Rattle.odin_outside.specs.Files.{given_of};
 ghost use Rattle.odin_fakes.specs.Entry.{entry_of};
+ghost use Rattle.odin_fakes.specs.Trees.{asked};
 
-use object_values::{Bytes, Seq};
+use object_values::{Bytes, Memory, Seq};
 use odin_outside::{FileBody, Tree, TreeFault};
 use std::alloc::Global;
 use std::marker::Model;
@@ -13,43 +14,42 @@ use std::marker::Model;
 const LIMIT: usize = 16_777_217;
 
 /// Files that stand in memory. It never fails.
-#[derive(Drop)]
 pub struct MemTree {
     files: Seq<FileBody>,
+    reads: u64,
 }
 
 impl Model for MemTree {
     ghost use Rattle.std.specs.Prelude.{map};
-    ghost use Rattle.std.specs.Coded.{coded_ℕ, coded_list};
-    ghost use Rattle.std.specs.FinMap.{from_entries, code};
-    ghost use Rattle.odin_outside.specs.Files.{Files};
+    ghost use Rattle.std.specs.FinMap.{from_entries};
     ghost use Rattle.odin_fakes.specs.Entry.{entry_of};
+    ghost use Rattle.odin_fakes.specs.Trees.{FileTree, tree_code};
 
-    ghost Value = { Files };
+    ghost Value = { FileTree };
 
-    ghost coded = { code (coded_list coded_ℕ) (coded_list coded_ℕ) };
+    ghost coded = { tree_code };
 
-    ghost view = { λ t. from_entries (map entry_of t.files) };
+    ghost view = { λ t. record { files = from_entries (map entry_of t.files); reads = t.reads } };
+}
+
+impl Drop for MemTree {
+    fn drop(self) {
+        let MemTree { files, reads: _ } = self;
+        drop(files);
+    }
 }
 
 impl MemTree {
     /// Of several files of one name the first one counts.
     pub fn new(files: Seq<FileBody>) -> Self
-        ensures { result ≡ from_entries (map entry_of files) }
+        ensures { result ≡ record { files = from_entries (map entry_of files); reads = 0 } }
     {
-        MemTree { files }
+        MemTree { files, reads: 0 }
     }
-}
 
-impl Tree for MemTree {
-    ghost files = { λ t. Some t };
-
-    ghost faults = { λ _. 0 };
-
-    fn read(&mut self, alloc: Global, name: &[u8]) -> Result<Option<Bytes>, TreeFault>
-        ensures ok { IfOk result (λ answer. answer ≡ given_of self.old name.now) }
-        ensures only { result ≢ Err TreeFault.Failed }
-        ensures same { self.new ≡ self.old }
+    // The file of a name, cut at the limit.
+    fn find(&self, alloc: Global, name: &[u8]) -> Result<Option<Bytes>, Memory>
+        ensures { IfOk result (λ answer. answer ≡ given_of self.now.files name.now) }
     {
         for file in self.files.as_slice() {
             if file.name.as_slice() == name {
@@ -59,5 +59,22 @@ impl Tree for MemTree {
             }
         }
         Ok(None)
+    }
+}
+
+impl Tree for MemTree {
+    ghost files = { λ t. Some t.files };
+
+    ghost faults = { λ _. 0 };
+
+    ghost reads = { λ t. t.reads };
+
+    fn read(&mut self, alloc: Global, name: &[u8]) -> Result<Option<Bytes>, TreeFault>
+        ensures ok { IfOk result (λ answer. answer ≡ given_of self.old.files name.now) }
+        ensures only { result ≢ Err TreeFault.Failed }
+        ensures counted { self.new ≡ asked self.old }
+    {
+        self.reads = self.reads.saturating_add(1);
+        Ok(self.find(alloc, name)?)
     }
 }

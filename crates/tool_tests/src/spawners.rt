@@ -1,6 +1,6 @@
 // Starts and ends on small tables.
 use super::texts::{Text, put_texts};
-use fake_tools::{FailTools, JobRaw, TableTools};
+use odin_fakes::{FailTools, JobRaw, TableTools};
 use object_values::{Memory, Seq};
 use odin_outside::{End, FinishFault, Job, Raw, Spawner, StartFault, ToolEvent};
 use std::alloc::Global;
