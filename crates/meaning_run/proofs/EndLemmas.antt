@@ -1,7 +1,6 @@
 -- From how far the reading has come to what the run leaves, for any machine.
 use Rattle.std.proofs.Common.{◌≡◌, ℕ, ◌+◌, ◌<◌, ◌≤◌, List, [], ◌∷◌, ◌++◌, take, length, Option, Some, None, IfSome, ap, sym, refl, ◌∙◌, subst, arith, inl}
 use Rattle.std.proofs.lemmas.List.{length-append}
-use Rattle.std.specs.List.{concat}
 use Rattle.odin_outside.specs.Told.{prepended}
 use Rattle.meaning_run.specs.Items as items
 use Rattle.meaning_run.specs.Items.{Language, Item, all_bytes, last_item}
@@ -101,7 +100,7 @@ module _ {Command Held Code State Told : Type 0} (lang : Language Command) (Keep
 
   -- where a line settles how many bytes its command takes, an input that was answered whole doesn't end inside a command
   module _ (once : (a b : Command) (line : List ℕ) → lang.Spells a line → lang.Spells b line → lang.takes a ≡ lang.takes b) where
-    last_answer : (old : State) (served : List Item) (item : Item) (replies : List (List ℕ)) (new : State) → machines.Transcript lang m old (served ++ item ∷ []) replies new
+    last_answer : (old : State) (served : List Item) (item : Item) (replies : List (List ℕ)) (new : State) → machines.Transcript lang m.Step old (served ++ item ∷ []) replies new
         → (command : Command) × items.IsItem lang item command
     last_answer old [] item [] new run = absurd run
     last_answer old [] item (r ∷ replies) new run = let a = run.1 in (a.command, a.item_is)

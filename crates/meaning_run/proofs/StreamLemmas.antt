@@ -1,5 +1,5 @@
 -- The session of any machine: how it goes on, where it stops, and how its input ends.
-use Rattle.std.proofs.Common.{◌≡◌, ℕ, ◌≤◌, false, List, [], ◌∷◌, ◌++◌, length, take, Option, ap, sym, refl, ◌∙◌, subst, arith, inl, inr}
+use Rattle.std.proofs.Common.{◌≡◌, ℕ, ◌≤◌, false, List, [], ◌∷◌, ◌++◌, length, Option, ap, sym, refl, ◌∙◌, subst, inl, inr}
 use Rattle.std.proofs.lemmas.List.{append_assoc}
 use Rattle.std.specs.List.{concat}
 use Rattle.meaning_run.specs.Objects.{took, TookPart}
@@ -18,11 +18,11 @@ module _ {Command Held Code State Told : Type 0} (lang : Language Command) (Keep
   SoFar = streams.SoFar lang Keeps m
 
   abbrev Transcript : State → List Item → List (List ℕ) → State → Type 0
-  Transcript = machines.Transcript lang m
+  Transcript = machines.Transcript lang m.Step
 
   Transcript-more : (old : State) (served : List Item) (replies : List (List ℕ)) (mid : State) (item : Item) (reply : List ℕ) (new : State)
-      → Transcript old served replies mid → machines.AnswersItem lang m mid item reply new → Transcript old (served ++ item ∷ []) (replies ++ reply ∷ []) new
-  Transcript-more old [] [] mid item reply new run answer = (new, subst (λ s. machines.AnswersItem lang m s item reply new) run answer, refl)
+      → Transcript old served replies mid → machines.AnswersItem lang m.Step mid item reply new → Transcript old (served ++ item ∷ []) (replies ++ reply ∷ []) new
+  Transcript-more old [] [] mid item reply new run answer = (new, subst (λ s. machines.AnswersItem lang m.Step s item reply new) run answer, refl)
   Transcript-more old [] (r ∷ replies) mid item reply new run answer = absurd run
   Transcript-more old (x ∷ served) [] mid item reply new run answer = absurd run
   Transcript-more old (x ∷ served) (r ∷ replies) mid item reply new run answer =
@@ -70,7 +70,7 @@ module _ {Command Held Code State Told : Type 0} (lang : Language Command) (Keep
   GoesOn-item bytes told told' code code' held held' command body whole on clear served first start text s =
       let w = whole s.part s.keeps in
       let v = served first start s.state s.fits in
-      let answer : machines.AnswersItem lang m s.state w.item v.reply v.new = record { command = command; item_is = w.item_is; step = subst (λ b. m.Step s.state command b v.reply v.new) (sym w.body_is) v.step } in
+      let answer : machines.AnswersItem lang m.Step s.state w.item v.reply v.new = record { command = command; item_is = w.item_is; step = subst (λ b. m.Step s.state command b v.reply v.new) (sym w.body_is) v.step } in
       record {
         served = s.served ++ w.item ∷ [];
         part = [];
@@ -203,7 +203,7 @@ module _ {Command Held Code State Told : Type 0} (lang : Language Command) (Keep
         → streams.FinishesWhole lang Keeps m told code held told'
     Finishes-line told told' code code' held command body whole empty served first start text left short spent s =
         let v = served first start s.state s.fits in
-        let answer : machines.AnswersItem lang m s.state (last_item s.part) v.reply v.new =
+        let answer : machines.AnswersItem lang m.Step s.state (last_item s.part) v.reply v.new =
         record { command = command; item_is = whole s.part s.keeps; step = subst (λ b. m.Step s.state command b v.reply v.new) empty v.step } in
         record {
           served = s.served;

@@ -33,7 +33,7 @@ module _ {Command Code State Told : Type 0} (lang : Language Command) (m : Machi
   pub record RepliesTo (first : State) (start told : Told) (items : List Item) : Type 0 where
     pub replies : List (List ℕ)
     pub state : State
-    pub run : Transcript lang m first items replies state
+    pub run : Transcript lang m.Step first items replies state
     pub wrote : m.sink told ≡ took (m.sink start) (concat replies)
     pub exit : m.AtExit first start state state told
 
@@ -85,7 +85,7 @@ module _ {Command Code State Told : Type 0} (lang : Language Command) (m : Machi
     pub on : AllGoOn lang served
     pub replies : List (List ℕ)
     pub state : State
-    pub run : Transcript lang m first served replies state
+    pub run : Transcript lang m.Step first served replies state
     pub furthest : State
     pub may : (furthest ≡ state) ⊎ ((item : Item) × StandsAt read left (all_bytes served) item × ItemMayLeave lang m state item furthest)
     pub wrote : m.sink told ≡ took (m.sink start) (concat replies)
@@ -99,10 +99,10 @@ module _ {Command Code State Told : Type 0} (lang : Language Command) (m : Machi
     pub stands : StandsAt read left (all_bytes served) item
     pub replies : List (List ℕ)
     pub state : State
-    pub run : Transcript lang m first served replies state
+    pub run : Transcript lang m.Step first served replies state
     pub reply : List ℕ
     pub new : State
-    pub answer : AnswersItem lang m state item reply new
+    pub answer : AnswersItem lang m.Step state item reply new
     pub wrote : TookPart reply (took (m.sink start) (concat replies)) (m.sink told)
     pub exit : m.AtExit first start state new told
 

@@ -22,18 +22,12 @@ pub data Halt : Type 0 where
   before_reply : Halt
   within_reply : Halt
 
-module _ {Command Code State Told : Type 0} (lang : Language Command) (m : Machine Command Code State Told) where
+module _ {Command State : Type 0} (lang : Language Command) (Step : State → Command → List ℕ → List ℕ → State → Type 0) where
   -- the reply to an item, and the next state
   pub record AnswersItem (old : State) (item : Item) (reply : List ℕ) (new : State) : Type 0 where
     pub command : Command
     pub item_is : IsItem lang item command
-    pub step : m.Step old command item.body reply new
-
-  -- what an item without its reply may leave
-  pub record ItemMayLeave (old : State) (item : Item) (furthest : State) : Type 0 where
-    pub command : Command
-    pub item_is : IsItem lang item command
-    pub may : m.MayLeave old command item.body furthest
+    pub step : Step old command item.body reply new
 
   -- one reply to each item, in order
   abbrev pub Transcript : State → List Item → List (List ℕ) → State → Type 0
@@ -41,6 +35,13 @@ module _ {Command Code State Told : Type 0} (lang : Language Command) (m : Machi
   Transcript old (item ∷ items) (reply ∷ replies) new = (mid : State) × AnswersItem old item reply mid × Transcript mid items replies new
   Transcript old [] (reply ∷ replies) new = ⊥
   Transcript old (item ∷ items) [] new = ⊥
+
+module _ {Command Code State Told : Type 0} (lang : Language Command) (m : Machine Command Code State Told) where
+  -- what an item without its reply may leave
+  pub record ItemMayLeave (old : State) (item : Item) (furthest : State) : Type 0 where
+    pub command : Command
+    pub item_is : IsItem lang item command
+    pub may : m.MayLeave old command item.body furthest
 
   -- A command was served whole: its reply was taken, and no fault of the sink was counted.
   pub record ServesWhole (first : State) (start : Told) (state : State) (command : Command) (body : List ℕ) (before : Told) (code : Code) (after : Told) : Type 0 where

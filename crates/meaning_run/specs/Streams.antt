@@ -33,7 +33,7 @@ module _ {Command Held Code State Told : Type 0} (lang : Language Command) (Keep
     pub on : AllGoOn lang served
     pub replies : List (List ℕ)
     pub state : State
-    pub run : Transcript lang m first served replies state
+    pub run : Transcript lang m.Step first served replies state
     pub wrote : m.sink told ≡ took (m.sink start) (concat replies)
     pub fits : m.Invariant first start code state told
     pub keeps : Keeps held part

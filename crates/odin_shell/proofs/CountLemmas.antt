@@ -1,10 +1,10 @@
 -- Replies that say that a tool was not started: no other reply is like them, and there are no more than faults.
-use Rattle.std.proofs.Common.{◌≡◌, ◌≢◌, ◌⊎◌, ℕ, ◌+◌, ◌≤◌, min, Bool, true, false, List, [], ◌∷◌, get_or, ap, sym, refl, ◌∙◌, arith, inl, inr}
+use Rattle.std.proofs.Common.{◌≡◌, ◌≢◌, ℕ, ◌+◌, ◌≤◌, min, Bool, true, false, List, [], ◌∷◌, get_or, ap, sym, refl, ◌∙◌, arith, inl, inr}
 use Rattle.std.specs.Prelude.{Option, Some, None, if◌then◌else◌}
 use Rattle.std.specs.Str.{bytes_eq}
 use Rattle.std.proofs.lemmas.Slice.Eq.{bytes_eq-Decides}
 use Rattle.odin_outside.specs.Causes.{last_count}
-use Rattle.odin_outside.specs.Spawned.{Table, Spawned}
+use Rattle.odin_outside.specs.Spawned.{Table}
 use Rattle.object_values.specs.declared.views.View.{View}
 use Rattle.meaning_graph.specs.Graphs.{Text, Graph}
 use Rattle.meaning_derive.specs.Derive.{Sources}
@@ -12,11 +12,11 @@ use Rattle.meaning_answers.specs.Answers.{Refused, Answer, Plan}
 use Rattle.meaning_answers.specs.Replies.{object_reply}
 use Rattle.meaning_run.specs.Items.{Item}
 use Rattle.meaning_run.specs.Machines.{Transcript}
-use Rattle.odin_answers.specs.Answers.{IsAnswerByForm, IsAnswer, IsLeftAlone, IsDerived, refused_tool_start}
+use Rattle.odin_answers.specs.Answers.{IsAnswerByForm, IsAnswer, refused_tool_start}
 use Rattle.odin_shell.specs.declared.command.Command.{Command}
 use Rattle.odin_shell.specs.declared.command.Command.TheVariants as command
 use Rattle.odin_shell.specs.Commands.{commands}
-use Rattle.odin_shell.specs.Machine.{State, Step, machine}
+use Rattle.odin_shell.specs.Machine.{State, Step}
 use Rattle.odin_shell.specs.Laws.{refused_starts}
 use Rattle.odin_shell.proofs.ServeLemmas.{reply_later}
 
@@ -91,7 +91,7 @@ counted g table old command.Bad body reply new step =
 both : (f a r m s : ℕ) → min (f + a) last_count ≤ m → min (m + r) last_count ≤ s → min (f + (a + r)) last_count ≤ s
 both f a r m s first rest = omega arith
 
-pub counts : (g : Graph) (table : Option Table) (first state : State) (items : List Item) (replies : List (List ℕ)) → Transcript commands (machine g table) first items replies state → min (first.tools.faults + refused_starts replies) last_count ≤ state.tools.faults
+pub counts : (g : Graph) (table : Option Table) (first state : State) (items : List Item) (replies : List (List ℕ)) → Transcript commands (Step g table) first items replies state → min (first.tools.faults + refused_starts replies) last_count ≤ state.tools.faults
 counts g table first state [] [] run = let same : state.tools.faults ≡ first.tools.faults = ap (λ (s : State). s.tools.faults) run in omega arith
 counts g table first state [] (reply ∷ replies) run = absurd run
 counts g table first state (item ∷ items) [] run = absurd run

@@ -1,5 +1,5 @@
 -- What is held of a command, as bytes come: it grows, or is made a whole command.
-use Rattle.std.proofs.Common.{◌≡◌, ℕ, ◌+◌, ◌-◌, ◌<◌, min, true, List, [], ◌∷◌, ◌++◌, take, length, get_or, Option, Some, None, ap, sym, refl, ◌∙◌, subst}
+use Rattle.std.proofs.Common.{◌≡◌, ℕ, ◌+◌, ◌-◌, ◌<◌, min, true, List, [], ◌∷◌, ◌++◌, take, length, get_or, Option, Some, None, ap, sym, ◌∙◌, subst}
 use Rattle.std.proofs.Math.Nat.{le_refl}
 use Rattle.std.proofs.lemmas.List.{append_assoc, take_more, take_all}
 use Rattle.std.specs.Option.{is_some}
@@ -47,7 +47,7 @@ line_begun line line' put put' command none clear spelled some is part k =
 
 -- some bytes and then others
 takes_after : (a b : List ℕ) (old mid new : Cutter) (whole : Option Whole) → Extends commands Keeps a old mid → Takes b mid whole new → Takes (a ++ b) old whole new
-takes_after a b old mid new None f g part k = subst (λ t. Keeps new t) (append_assoc part a b) (g (part ++ a) (f part k))
+takes_after a b old mid new None f g = λ part k. subst (λ t. Keeps new t) (append_assoc part a b) (g (part ++ a) (f part k))
 takes_after a b old mid new (Some whole) f g = (
   λ part k.
       let w = g.0 (part ++ a) (f part k) in

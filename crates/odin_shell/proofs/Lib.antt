@@ -4,5 +4,6 @@ mod CutLemmas
 mod GraphLemmas
 mod HeldLemmas
 mod OpenedLemmas
+mod RunLemmas
 mod ServeLemmas
 mod SessionLemmas

@@ -1,5 +1,5 @@
 -- A command served: its change, its reply, and where it stops.
-use Rattle.std.proofs.Common.{◌≡◌, ◌≢◌, ℕ, ◌<◌, ◌≤◌, Bool, true, false, Result, Ok, Err, IfErr, IsErrAnd, OnOk, OnErr, inl, inr, List, [], ◌++◌, take, length, Option, Some, ap, sym, refl, ◌∙◌, subst, arith}
+use Rattle.std.proofs.Common.{◌≡◌, ◌≢◌, ℕ, ◌≤◌, Bool, true, false, Result, Ok, Err, IfErr, IsErrAnd, OnOk, OnErr, inl, inr, List, [], ◌++◌, length, Option, Some, ap, sym, refl, ◌∙◌, subst, arith}
 use Rattle.std.specs.FinMap as map
 use Rattle.std.specs.Str.{bytes_eq}
 use Rattle.std.proofs.lemmas.Slice.Eq.{bytes_eq-Decides}
@@ -10,15 +10,12 @@ use Rattle.object_sources.specs.Gets.{put_here, put_other}
 use Rattle.meaning_texts.specs.Classes.{IsName}
 use Rattle.meaning_texts.specs.Limits.{body_limit}
 use Rattle.meaning_run.specs.Items.{Item, IsItem}
-use Rattle.meaning_run.specs.Machines as machines
-use Rattle.meaning_run.specs.Machines.{before_reply, within_reply}
 use Rattle.odin_shell.specs.declared.command.Command.{Command}
 use Rattle.odin_shell.specs.declared.command.Command.TheVariants.{Put, Ask, Plan, Nothing, Bad}
 use Rattle.odin_shell.specs.declared.serve.Stop.{Stop}
 use Rattle.odin_shell.specs.declared.serve.Stop.TheVariants.{Memory, Output}
 use Rattle.odin_shell.specs.Commands.{commands}
 use Rattle.odin_outside.specs.Spawned.{Table, Spawned}
-use Rattle.object_values.specs.declared.memory.Memory.{Memory as Want}
 use Rattle.plain_derive.specs.declared.fault.PlainFault.{PlainFault}
 use Rattle.plain_derive.specs.declared.fault.PlainFault.TheVariants.{Spawn, Memory as Wanted}
 use Rattle.odin_answers.specs.Answers.{IsReply, MayHaveBegun, Replies, CountedFor}
@@ -26,7 +23,7 @@ use Rattle.meaning_derive.specs.Derive.{Sources}
 use Rattle.meaning_graph.specs.Graphs.{Graph}
 use Rattle.meaning_derive.specs.Given.{IsSource, AreSources}
 use Rattle.odin_shell.specs.declared.cutter.Whole.{Whole}
-use Rattle.odin_shell.specs.Machine.{State, holding, Told, Belongs, machine, Step, MayLeave, ToolsStay, halt_of, IsAnswered}
+use Rattle.odin_shell.specs.Machine.{State, holding, Told, Belongs, Step, MayLeave, ToolsStay, IsAnswered}
 use Rattle.odin_shell.specs.Sessions.{Serves, StopsServing}
 
 -- where none runs at most one does
@@ -82,14 +79,11 @@ begun_later g table s text before now (inl same) = let faults = ap (λ (t : Spaw
 begun_later g table s text before now (inr begun) = counted_later begun.fault before.faults now.faults begun.begun.counted
 
 -- and so it doesn't in an ask, whatever comes of it
-pub ask_stays : {r : Result Unit Want} (g : Graph) (table : Option Table) (s : Sources) (text out out' : Text) (before now : Spawned)
+pub ask_stays : {T E : Type 0} (r : Result T E) (g : Graph) (table : Option Table) (s : Sources) (text out out' : Text) (before now : Spawned)
     → OnOk r (Replies (λ reply. IsReply g table s text reply before now) out out') → OnErr r (MayHaveBegun g table s text before now)
     → now.answer ≡ before.answer → length now.running ≤ 1 → ToolsStay before.answer before now
-ask_stays {r = r} g table s text out out' before now ok err answers few = record { answers = answers; few = few; later = by r ok err }
-  where
-    by : (r : Result Unit Want) → OnOk r (Replies (λ reply. IsReply g table s text reply before now) out out') → OnErr r (MayHaveBegun g table s text before now) → before.faults ≤ now.faults
-    by (Ok v) ok err = reply_later g table s text ok.reply before now ok.holds
-    by (Err e) ok err = begun_later g table s text before now err
+ask_stays (Ok v) g table s text out out' before now ok err answers few = record { answers = answers; few = few; later = reply_later g table s text ok.reply before now ok.holds }
+ask_stays (Err e) g table s text out out' before now ok err answers few = record { answers = answers; few = few; later = begun_later g table s text before now err }
 
 module _ {Disk : Type 0} (g : Graph) (old new : Texts) (whole : Whole) (out out' given : List ℕ) (before after : Told Disk) where
   pub serves : out ≡ [] → given ≡ out' → IsAnswered g before.tools.answer (holding old before.tools) whole.command whole.body out out' (holding new after.tools)

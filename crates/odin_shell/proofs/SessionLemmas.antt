@@ -1,12 +1,12 @@
 -- A session of these commands: it goes on through bytes, and stops, by what its cutter makes of them.
-use Rattle.std.proofs.Common.{◌≡◌, ◌≢◌, ℕ, ◌+◌, ◌-◌, ◌<◌, ◌≤◌, List, [], ◌++◌, take, drop, length, Option, Some, None, ap, sym, refl, ◌∙◌, subst}
-use Rattle.std.proofs.lemmas.List.{take-append-drop}
+use Rattle.std.proofs.Common.{◌≡◌, ◌≢◌, ℕ, ◌+◌, ◌-◌, ◌≤◌, List, [], ◌++◌, take, drop, length, Option, Some, None, ap, sym, refl, ◌∙◌, subst, arith}
+use Rattle.std.proofs.lemmas.List.{take-append-drop, take_all}
 use Rattle.std.proofs.Math.Nat.{le_refl}
 use Rattle.std.proofs.Math.Seq.{take-add}
 use Rattle.object_sources.specs.Texts.{Texts, no_texts}
 use Rattle.odin_outside.specs.Spawned.{Table, Spawned}
 use Rattle.meaning_graph.specs.Graphs.{Graph}
-use Rattle.meaning_run.specs.Machines.{Machine, before_reply}
+use Rattle.meaning_run.specs.Machines.{Machine}
 use Rattle.meaning_run.specs.Endings.{HasRead, EndsStopped}
 use Rattle.meaning_run.specs.Streams as streams
 use Rattle.meaning_run.proofs.StreamLemmas as stream
@@ -16,16 +16,17 @@ use Rattle.odin_shell.specs.declared.command.Command.{Command}
 use Rattle.odin_shell.specs.declared.cutter.Cutter.{Cutter}
 use Rattle.odin_shell.specs.declared.cutter.Whole.{Whole}
 use Rattle.odin_shell.specs.declared.serve.Stop.{Stop}
-use Rattle.odin_shell.specs.declared.serve.Stop.TheVariants as stop
-use Rattle.odin_shell.specs.declared.session.Session.{Session}
+use Rattle.odin_shell.specs.declared.serve.Stop.TheVariants.{Memory, Output}
 use Rattle.odin_shell.specs.Commands.{commands}
 use Rattle.odin_shell.specs.Held.{Keeps}
 use Rattle.odin_shell.specs.Cuts.{Takes, IsLast}
+use Rattle.odin_shell.specs.declared.ending.Ending.{Ending}
 use Rattle.odin_shell.specs.Endings.{ending_of}
 use Rattle.odin_shell.specs.Objects.{SourceTold}
 use Rattle.odin_shell.specs.Machine.{State, at_first, Told, machine as machine_of, halt_of}
-use Rattle.odin_shell.specs.Sessions.{Rests, Halts, Serves, StopsServing, Goes, StopsIn, Finishes, StopsAtEnd, Reads}
+use Rattle.odin_shell.specs.Sessions.{Rests, Halts, Serves, StopsServing}
 use Rattle.odin_shell.specs.Run.{SessionEnds}
+use Rattle.odin_shell.proofs.ServeLemmas.{idle_one}
 
 -- what fits between two commands is kept at an exit
 pub rests : {Disk : Type 0} (g : Graph) (table : Option Table) (first : State) (start : Told Disk) (code : Texts) (state : State) (told : Told Disk) → (machine_of g table).Invariant first start code state told → (machine_of g table).AtExit first start state state told
@@ -52,7 +53,7 @@ module _ {Disk : Type 0} (g : Graph) where
 
   -- memory was wanted before a command was made whole
   pub part_stops : (bytes : List ℕ) (told : Told Disk) (texts : Texts) (held : Cutter)
-      → Halts (λ table. streams.StopsOn commands Keeps (machine table) (halt_of stop.Memory) bytes told texts held told) stop.Memory told.tools
+      → Halts (λ table. streams.StopsOn commands Keeps (machine table) (halt_of Memory) bytes told texts held told) Memory told.tools
   part_stops bytes told texts held = record { idle = λ other. absurd (other refl); over = λ table. stream.StopsOn-part commands Keeps (machine table) (rests g table) bytes told texts held }
 
   -- the serving of the command stopped
@@ -66,26 +67,37 @@ module _ {Disk : Type 0} (g : Graph) where
   }
 
   -- no bytes of a piece
-  pub none_goes : (piece : List ℕ) (told : Told Disk) (session : Session) → told.tools.running ≡ [] → Goes g (take 0 piece) told session told session
-  none_goes piece told session idle = record { idle = idle; over = λ table. stream.GoesOn-none commands Keeps (machine table) told session.sources.texts session.cutter }
+  pub none_goes : (piece : List ℕ) (told : Told Disk) (texts : Texts) (held : Cutter) → told.tools.running ≡ [] → Rests (λ table. streams.GoesOn commands Keeps (machine table) (take 0 piece) told texts held told texts held) told.tools
+  none_goes piece told texts held idle = record { idle = idle; over = λ table. stream.GoesOn-none commands Keeps (machine table) told texts held }
 
   -- the next bytes of a piece, behind those that were taken
-  pub piece_goes : (piece : List ℕ) (at n : ℕ) (told told' told'' : Told Disk) (session session' session'' : Session)
-      → Goes g (take at piece) told session told' session' → Goes g (take n (take (length piece - at) (drop at piece))) told' session' told'' session'' → Goes g (take (at + n) piece) told session told'' session''
-  piece_goes piece at n told told' told'' session session' session'' first second = record {
+  pub piece_goes : (piece : List ℕ) (at n : ℕ) (told told' told'' : Told Disk) (texts texts' texts'' : Texts) (held held' held'' : Cutter)
+      → Rests (λ table. streams.GoesOn commands Keeps (machine table) (take at piece) told texts held told' texts' held') told'.tools
+      → Rests (λ table. streams.GoesOn commands Keeps (machine table) (take n (take (length piece - at) (drop at piece))) told' texts' held' told'' texts'' held'') told''.tools
+      → Rests (λ table. streams.GoesOn commands Keeps (machine table) (take (at + n) piece) told texts held told'' texts'' held'') told''.tools
+  piece_goes piece at n told told' told'' texts texts' texts'' held held' held'' first second = record {
     idle = second.idle;
-    over = λ table. subst (λ t. streams.GoesOn commands Keeps (machine table) t told session.sources.texts session.cutter told'' session''.sources.texts session''.cutter)
-        (ap (λ t. take at piece ++ take n t) (rest_is piece at) ∙ sym (take-add at n piece))
-        (stream.GoesOn-append commands Keeps (machine table) (take at piece) _ told told' told'' session.sources.texts session'.sources.texts session''.sources.texts session.cutter session'.cutter session''.cutter (first.over table) (second.over table));
+    over = λ table. subst (λ t. streams.GoesOn commands Keeps (machine table) t told texts held told'' texts'' held'') (ap (λ t. take at piece ++ take n t) (rest_is piece at) ∙ sym (take-add at n piece))
+        (stream.GoesOn-append commands Keeps (machine table) (take at piece) _ told told' told'' texts texts' texts'' held held' held'' (first.over table) (second.over table));
   }
 
-  pub piece_stops : (stop : Stop) (piece : List ℕ) (at : ℕ) (told told' told'' : Told Disk) (session session' : Session)
-      → Goes g (take at piece) told session told' session' → StopsIn g stop (take (length piece - at) (drop at piece)) told' session' told'' → StopsIn g stop piece told session told''
-  piece_stops stop piece at told told' told'' session session' goes stops = record {
+  -- all of a piece
+  pub all_goes : (piece : List ℕ) (at : ℕ) (told told' : Told Disk) (texts texts' : Texts) (held held' : Cutter) → at ≤ length piece → length piece ≤ at
+      → Rests (λ table. streams.GoesOn commands Keeps (machine table) (take at piece) told texts held told' texts' held') told'.tools
+      → Rests (λ table. streams.GoesOn commands Keeps (machine table) piece told texts held told' texts' held') told'.tools
+  all_goes piece at told told' texts texts' held held' within all goes = record {
+    idle = goes.idle;
+    over = λ table. subst (λ t. streams.GoesOn commands Keeps (machine table) t told texts held told' texts' held') (take_all at piece all) (goes.over table);
+  }
+
+  pub piece_stops : (stop : Stop) (piece : List ℕ) (at : ℕ) (told told' told'' : Told Disk) (texts texts' : Texts) (held held' : Cutter)
+      → Rests (λ table. streams.GoesOn commands Keeps (machine table) (take at piece) told texts held told' texts' held') told'.tools
+      → Halts (λ table. streams.StopsOn commands Keeps (machine table) (halt_of stop) (take (length piece - at) (drop at piece)) told' texts' held' told'') stop told''.tools
+      → Halts (λ table. streams.StopsOn commands Keeps (machine table) (halt_of stop) piece told texts held told'') stop told''.tools
+  piece_stops stop piece at told told' told'' texts texts' held held' goes stops = record {
     idle = stops.idle;
-    over = λ table. subst (λ t. streams.StopsOn commands Keeps (machine table) (halt_of stop) t told session.sources.texts session.cutter told'')
-        (ap (λ t. take at piece ++ t) (rest_is piece at) ∙ take-append-drop at piece)
-        (stream.StopsOn-after commands Keeps (machine table) (halt_of stop) (take at piece) _ told told' told'' session.sources.texts session'.sources.texts session.cutter session'.cutter (goes.over table) (stops.over table));
+    over = λ table. subst (λ t. streams.StopsOn commands Keeps (machine table) (halt_of stop) t told texts held told'') (ap (λ t. take at piece ++ t) (rest_is piece at) ∙ take-append-drop at piece)
+        (stream.StopsOn-after commands Keeps (machine table) (halt_of stop) (take at piece) _ told told' told'' texts texts' held held' (goes.over table) (stops.over table));
   }
 
   -- the end of the input
@@ -99,7 +111,7 @@ module _ {Disk : Type 0} (g : Graph) where
     over = λ table. stream.Finishes-line commands Keeps (machine table) (rests g table) told told' texts texts' held whole.command whole.body last.0 last.1 (served.over table);
   }
 
-  pub part_stops_at_end : (told : Told Disk) (texts : Texts) (held : Cutter) → Halts (λ table. streams.StopsAtEnd commands Keeps (machine table) (halt_of stop.Memory) told texts held told) stop.Memory told.tools
+  pub part_stops_at_end : (told : Told Disk) (texts : Texts) (held : Cutter) → Halts (λ table. streams.StopsAtEnd commands Keeps (machine table) (halt_of Memory) told texts held told) Memory told.tools
   part_stops_at_end told texts held = record { idle = λ other. absurd (other refl); over = λ table. stream.StopsAtEnd-part commands Keeps (machine table) (rests g table) told texts held }
 
   pub line_stops_at_end : (stop : Stop) (told told' : Told Disk) (texts : Texts) (held : Cutter) (whole : Whole) → IsLast held (Some whole) → StopsServing g stop texts whole told told'
@@ -110,13 +122,17 @@ module _ {Disk : Type 0} (g : Graph) where
   }
 
   -- before the first byte
-  pub reads_none : (start : Told Disk) (left : Option (List ℕ)) (session : Session) → length start.tools.running ≤ 1 → start.tools.running ≡ [] → session.sources.texts ≡ no_texts → Keeps session.cutter [] → Reads g start left left 0 start session
-  reads_none start left session few idle sources keeps =
-      Reading-none commands Keeps (machine start.tools.answer) (at_first start.tools) start start session.sources.texts session.cutter left refl
-      (record { sources = sources; tools = refl; stay = record { answers = refl; later = le_refl start.tools.faults; few = few }; idle = idle; disk = refl }) keeps
+  pub reads_none : (start : Told Disk) (left : Option (List ℕ)) (texts : Texts) (held : Cutter) → start.tools.running ≡ [] → texts ≡ no_texts → Keeps held []
+      → streams.Reading commands Keeps (machine start.tools.answer) (at_first start.tools) start left left 0 start texts held
+  reads_none start left texts held idle sources keeps =
+      Reading-none commands Keeps (machine start.tools.answer) (at_first start.tools) start start texts held left refl
+      (record { sources = sources; tools = refl; stay = record { answers = refl; later = le_refl start.tools.faults; few = idle_one start.tools idle }; idle = idle; disk = refl }) keeps
 
   -- the run ends where the serving stopped
-  pub stopped_ends : (stop : Stop) (input left : SourceTold) (start now : Told Disk) → HasRead (EndsStopped commands (machine start.tools.answer) (halt_of stop) (at_first start.tools) start now) input.left left.left
-      → left.faults ≡ input.faults → (stop ≢ stop.Memory → now.tools.running ≡ []) → SessionEnds g input left start now (ending_of stop)
-  stopped_ends stop.Memory input left start now read same idle = record { leaves = read; read = same; idle = λ other. absurd (other refl) }
-  stopped_ends stop.Output input left start now read same idle = record { leaves = read; read = same; idle = λ other. idle (λ e. cc) }
+  pub stopped_ends : (stop : Stop) (ending : Ending) (input left : SourceTold) (start now : Told Disk) → ending ≡ ending_of stop
+      → HasRead (EndsStopped commands (machine start.tools.answer) (halt_of stop) (at_first start.tools) start now) input.left left.left
+      → left.faults ≡ input.faults → (stop ≢ Memory → now.tools.running ≡ []) → SessionEnds g input left start now ending
+  stopped_ends Memory ending input left start now is read same idle =
+      subst (λ (e : Ending). SessionEnds g input left start now e) (sym is) (record { leaves = read; read = same; idle = λ other. absurd (other refl) })
+  stopped_ends Output ending input left start now is read same idle =
+      subst (λ (e : Ending). SessionEnds g input left start now e) (sym is) (record { leaves = read; read = same; idle = λ other. idle (λ e. cc) })

@@ -9,7 +9,7 @@ use Rattle.meaning_run.specs.Machines.{Transcript}
 use Rattle.odin_answers.specs.Answers.{refused_tool_start}
 use Rattle.odin_shell.specs.declared.command.Command.{Command}
 use Rattle.odin_shell.specs.Commands.{commands}
-use Rattle.odin_shell.specs.Machine.{State, Step, machine}
+use Rattle.odin_shell.specs.Machine.{State, Step}
 use Rattle.odin_shell.specs.declared.graph.Opened.{Opened}
 use Rattle.odin_shell.specs.Opened.{IsOpened}
 
@@ -36,4 +36,4 @@ refused_starts (reply ∷ replies) = (if bytes_eq reply refused_tool_start then 
 
 -- There are at most as many of them as the count of the tools' faults rose, a count that stands still at the end of its type.
 abbrev pub RefusalsAreCounted : Type 0
-RefusalsAreCounted = (g : Graph) (table : Option Table) (first state : State) (items : List Item) (replies : List (List ℕ)) → Transcript commands (machine g table) first items replies state → min (first.tools.faults + refused_starts replies) last_count ≤ state.tools.faults
+RefusalsAreCounted = (g : Graph) (table : Option Table) (first state : State) (items : List Item) (replies : List (List ℕ)) → Transcript commands (Step g table) first items replies state → min (first.tools.faults + refused_starts replies) last_count ≤ state.tools.faults

@@ -1,12 +1,11 @@
 -- The graph that a run works by, from what the tree gives of its file, and the last line where there is none.
-use Rattle.std.specs.Prelude.{◌≡◌, ◌≢◌, ℕ, ◌-◌, ◌<◌, List, [], ◌++◌, length, take, Option, Some, None, All, slice_get, codes}
+use Rattle.std.specs.Prelude.{◌≡◌, ◌≢◌, ℕ, ◌-◌, ◌<◌, [], ◌++◌, take, Option, Some, None, All, slice_get, codes}
 use Rattle.std.specs.Fmt.{decimal}
 use Rattle.object_values.specs.declared.graph.Decl.{Decl}
 use Rattle.object_values.specs.declared.graph.Decl.TheVariants.{ObjectType, Suffix, Param, Maker}
 use Rattle.object_values.specs.declared.graph.GraphFault.{GraphFault}
 use Rattle.object_values.specs.declared.graph.GraphFault.TheVariants.{UnknownType, DoubleName, SupertypeLoop, WrongKind, TooMany, UnknownParam}
 use Rattle.odin_outside.specs.Files.{Files, IsGiven}
-use Rattle.odin_outside.specs.Told.{appended}
 use Rattle.meaning_texts.specs.Lines.{with_lf}
 use Rattle.meaning_graph.specs.Graphs.{Text, Graph}
 use Rattle.meaning_graph_text.specs.Places.{BeginsOnLine}
@@ -16,7 +15,6 @@ use Rattle.dg_reader.specs.Files.{IsRead, Refuses}
 use Rattle.plain_derive.specs.Built.{IsBuilt}
 use Rattle.odin_shell.specs.declared.graph.Opened.{Opened}
 use Rattle.odin_shell.specs.declared.graph.Opened.TheVariants as opened
-use Rattle.odin_shell.specs.Words.{graph_word}
 
 -- ---- last lines
 

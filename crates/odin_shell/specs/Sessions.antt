@@ -7,7 +7,7 @@ use Rattle.meaning_run.specs.Machines as machines
 use Rattle.meaning_run.specs.Streams as streams
 use Rattle.odin_shell.specs.declared.cutter.Whole.{Whole}
 use Rattle.odin_shell.specs.declared.serve.Stop.{Stop}
-use Rattle.odin_shell.specs.declared.serve.Stop.TheVariants as stop
+use Rattle.odin_shell.specs.declared.serve.Stop.TheVariants.{Memory}
 use Rattle.odin_shell.specs.declared.session.Finish.{Finish}
 use Rattle.odin_shell.specs.declared.session.Finish.TheVariants as finish
 use Rattle.odin_shell.specs.declared.session.Session.{Session}
@@ -23,7 +23,7 @@ pub record Rests (P : Option Table → Type 0) (tools : Spawned) : Type 0 where
 -- It holds over each table, and none of the tools runs, but for want of memory, where one may.
 pub record Halts (P : Option Table → Type 0) (stop : Stop) (tools : Spawned) : Type 0 where
   pub over : (table : Option Table) → P table
-  pub idle : stop ≢ stop.Memory → tools.running ≡ []
+  pub idle : stop ≢ Memory → tools.running ≡ []
 
 module _ {Disk : Type 0} (g : Graph) where
   -- a command is served

@@ -60,14 +60,10 @@ impl Deriver {
         out: &mut Bytes,
     ) -> Result<(), Memory>
         requires idle { (S.told tools.old).running ≡ [] }
-        ensures ok {
-            OnOk result (Replies (λ reply. IsReply self.now (S.told tools.old).answer sources.now.texts
-                (request_text request.now) reply (S.told tools.old) (S.told tools.new)) out.old out.new)
-        }
-        ensures begun {
-            OnErr result (MayHaveBegun self.now (S.told tools.old).answer sources.now.texts
-                (request_text request.now) (S.told tools.old) (S.told tools.new))
-        }
+        ensures ok { OnOk result (Replies (λ reply. IsReply self.now (S.told tools.old).answer sources.now.texts
+            (request_text request.now) reply (S.told tools.old) (S.told tools.new)) out.old out.new) }
+        ensures begun { OnErr result (MayHaveBegun self.now (S.told tools.old).answer sources.now.texts
+            (request_text request.now) (S.told tools.old) (S.told tools.new)) }
         ensures idle { OnOk result ((S.told tools.new).running ≡ []) }
         ensures stay { ToolsStay (S.told tools.old).answer (S.told tools.old) (S.told tools.new) }
     {

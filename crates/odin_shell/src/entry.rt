@@ -29,10 +29,8 @@ fn graph_named(words: &[String]) -> Option<&str>
 
 /// Writes a last line where an ending is due.
 fn end_with<O: Sink>(output: &mut O, line: &[u8], due: Ending) -> Ending
-    ensures {
-        let sink = sink_of O.taken O.faults in
-        LastLine line.now due (sink output.old) (sink output.new) result
-    }
+    ensures { let sink = sink_of O.taken O.faults in
+        LastLine line.now due (sink output.old) (sink output.new) result }
 {
     match write_whole(output, line) {
         Ok(()) => due,
@@ -51,12 +49,10 @@ fn serve_graph<I: Source, O: Sink, S: Spawner, D: Disk>(
 ) -> Ending
     requires built { IsBuiltGraph graph }
     requires idle { (S.told tools.old).running ≡ [] }
-    ensures {
-        let source = source_of I.left I.faults in
+    ensures { let source = source_of I.left I.faults in
         let before = told_of O.taken O.faults S.told output.old tools.old disk.old in
         let after = told_of O.taken O.faults S.told output.new tools.new disk.new in
-        SessionEnds graph (source input.old) (source input.new) before after result
-    }
+        SessionEnds graph (source input.old) (source input.new) before after result }
 {
     match Deriver::new(alloc, graph) {
         Ok(deriver) => serve_input(alloc, &deriver, input, output, tools, disk),
@@ -75,12 +71,10 @@ fn run_words<I: Source, O: Sink, T: Tree, D: Disk, S: Spawner>(
     tools: &mut S,
 ) -> Ending
     requires { (S.told tools.old).running ≡ [] }
-    ensures {
-        let means = meaning I.left I.faults O.taken O.faults T.files T.faults T.reads S.told in
+    ensures { let means = meaning I.left I.faults O.taken O.faults T.files T.faults T.reads S.told in
         let before = outside input.old output.old tree.old tools.old disk.old in
         let after = outside input.new output.new tree.new tools.new disk.new in
-        EndsAs means (map string_bytes words.now) before after result
-    }
+        EndsAs means (map string_bytes words.now) before after result }
 {
     let Some(name) = graph_named(words) else {
         return end_with(output, USAGE, Ending::Usage);
@@ -107,12 +101,10 @@ pub fn run<I: Source, O: Sink, T: Tree, D: Disk, S: Spawner>(
     requires { (S.told tools.old).running ≡ [] }
 
     // By the status: what was read and written, what the tools did, and which count of faults rose.
-    ensures ends {
-        let means = meaning I.left I.faults O.taken O.faults T.files T.faults T.reads S.told in
+    ensures ends { let means = meaning I.left I.faults O.taken O.faults T.files T.faults T.reads S.told in
         let before = outside input.old output.old tree.old tools.old disk.old in
         let after = outside input.new output.new tree.new tools.new disk.new in
-        RunEnds means (map string_bytes words.now) before after result
-    }
+        RunEnds means (map string_bytes words.now) before after result }
 
     // The tree keeps its files and the tools their answers, no tool runs on but for want of memory, and nothing is kept on the disk yet.
     ensures tree { T.files tree.new ≡ T.files tree.old }

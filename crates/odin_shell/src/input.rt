@@ -53,12 +53,10 @@ fn serve_pieces<I: Source, O: Sink, S: Spawner, D: Disk>(
 ) -> Ending
     requires some { 0 < length buffer.old }
     requires idle { (S.told tools.old).running ≡ [] }
-    ensures {
-        let source = source_of I.left I.faults in
+    ensures { let source = source_of I.left I.faults in
         let before = told_of O.taken O.faults S.told output.old tools.old disk.old in
         let after = told_of O.taken O.faults S.told output.new tools.new disk.new in
-        SessionEnds deriver.now (source input.old) (source input.new) before after result
-    }
+        SessionEnds deriver.now (source input.old) (source input.new) before after result }
 {
     let mut session = Session::new(alloc);
     let mut count: usize = 0;
@@ -91,12 +89,10 @@ pub(crate) fn serve_input<I: Source, O: Sink, S: Spawner, D: Disk>(
     disk: &mut D,
 ) -> Ending
     requires { (S.told tools.old).running ≡ [] }
-    ensures {
-        let source = source_of I.left I.faults in
+    ensures { let source = source_of I.left I.faults in
         let before = told_of O.taken O.faults S.told output.old tools.old disk.old in
         let after = told_of O.taken O.faults S.told output.new tools.new disk.new in
-        SessionEnds deriver.now (source input.old) (source input.new) before after result
-    }
+        SessionEnds deriver.now (source input.old) (source input.new) before after result }
 {
     match make_buffer(alloc) {
         Ok(mut buffer) => serve_pieces(alloc, deriver, &mut buffer, input, output, tools, disk),

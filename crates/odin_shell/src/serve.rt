@@ -77,16 +77,12 @@ fn answer<S: Spawner>(
     out: &mut Bytes,
 ) -> Result<(), Memory>
     requires idle { (S.told tools.old).running ≡ [] }
-    ensures ok {
-        let old = holding sources.old.texts (S.told tools.old) in
+    ensures ok { let old = holding sources.old.texts (S.told tools.old) in
         let new = holding sources.new.texts (S.told tools.new) in
-        OnOk result (IsAnswered deriver.now old.tools.answer old whole.command whole.body out.old out.new new)
-    }
-    ensures err {
-        let old = holding sources.old.texts (S.told tools.old) in
+        OnOk result (IsAnswered deriver.now old.tools.answer old whole.command whole.body out.old out.new new) }
+    ensures err { let old = holding sources.old.texts (S.told tools.old) in
         let new = holding sources.new.texts (S.told tools.new) in
-        OnErr result (MayLeave deriver.now old.tools.answer old whole.command whole.body new)
-    }
+        OnErr result (MayLeave deriver.now old.tools.answer old whole.command whole.body new) }
     ensures idle { OnOk result ((S.told tools.new).running ≡ []) }
     ensures stay { ToolsStay (S.told tools.old).answer (S.told tools.old) (S.told tools.new) }
 {
@@ -117,16 +113,12 @@ pub(crate) fn serve_command<O: Sink, S: Spawner, D: Disk>(
     disk: &mut D,
 ) -> Result<(), Stop>
     requires idle { (S.told tools.old).running ≡ [] }
-    ensures ok {
-        let before = told_of O.taken O.faults S.told output.old tools.old disk.old in
+    ensures ok { let before = told_of O.taken O.faults S.told output.old tools.old disk.old in
         let after = told_of O.taken O.faults S.told output.new tools.new disk.new in
-        OnOk result (Serves deriver.now sources.old.texts sources.new.texts whole before after)
-    }
-    ensures err {
-        let before = told_of O.taken O.faults S.told output.old tools.old disk.old in
+        OnOk result (Serves deriver.now sources.old.texts sources.new.texts whole before after) }
+    ensures err { let before = told_of O.taken O.faults S.told output.old tools.old disk.old in
         let after = told_of O.taken O.faults S.told output.new tools.new disk.new in
-        IfErr result (λ stop. StopsServing deriver.now stop sources.old.texts whole before after)
-    }
+        IfErr result (λ stop. StopsServing deriver.now stop sources.old.texts whole before after) }
 {
     let mut reply = Bytes::new(alloc);
     answer(alloc, deriver, sources, whole, tools, &mut reply)?;

@@ -57,21 +57,25 @@ impl Session {
     ) -> Result<usize, Stop>
         requires some { 0 < length piece.now }
         requires idle { (S.told tools.old).running ≡ [] }
-        ensures ok {
-            let before = told_of O.taken O.faults S.told output.old tools.old disk.old in
+        ensures ok { let before = told_of O.taken O.faults S.told output.old tools.old disk.old in
             let after = told_of O.taken O.faults S.told output.new tools.new disk.new in
-            IfOk result (λ n. Goes deriver.now (take n piece.now) before self.old after self.new)
-        }
+            IfOk result (λ n. Goes deriver.now (take n piece.now) before self.old after self.new) }
         ensures front { IfOk result (λ n. (0 < n) × (n ≤ length piece.now)) }
-        ensures err {
-            let before = told_of O.taken O.faults S.told output.old tools.old disk.old in
+        ensures err { let before = told_of O.taken O.faults S.told output.old tools.old disk.old in
             let after = told_of O.taken O.faults S.told output.new tools.new disk.new in
-            IfErr result (λ stop. StopsIn deriver.now stop piece.now before self.old after)
-        }
+            IfErr result (λ stop. StopsIn deriver.now stop piece.now before self.old after) }
     {
         let Front { count, whole } = self.cutter.take(alloc, piece)?;
         if let Some(whole) = whole {
-            serve_command(alloc, deriver, &mut self.sources, whole, output, tools, disk)?;
+            serve_command(
+                alloc,
+                deriver,
+                &mut self.sources,
+                whole,
+                output,
+                tools,
+                disk,
+            )?;
         }
         Ok(count)
     }
@@ -87,16 +91,12 @@ impl Session {
         disk: &mut D,
     ) -> Result<(), Stop>
         requires { (S.told tools.old).running ≡ [] }
-        ensures ok {
-            let before = told_of O.taken O.faults S.told output.old tools.old disk.old in
+        ensures ok { let before = told_of O.taken O.faults S.told output.old tools.old disk.old in
             let after = told_of O.taken O.faults S.told output.new tools.new disk.new in
-            OnOk result (Goes deriver.now piece.now before self.old after self.new)
-        }
-        ensures err {
-            let before = told_of O.taken O.faults S.told output.old tools.old disk.old in
+            OnOk result (Goes deriver.now piece.now before self.old after self.new) }
+        ensures err { let before = told_of O.taken O.faults S.told output.old tools.old disk.old in
             let after = told_of O.taken O.faults S.told output.new tools.new disk.new in
-            IfErr result (λ stop. StopsIn deriver.now stop piece.now before self.old after)
-        }
+            IfErr result (λ stop. StopsIn deriver.now stop piece.now before self.old after) }
     {
         let mut at = 0;
         while at < piece.len() {
@@ -115,21 +115,25 @@ impl Session {
         disk: &mut D,
     ) -> Result<Finish, Stop>
         requires { (S.told tools.old).running ≡ [] }
-        ensures ok {
-            let before = told_of O.taken O.faults S.told output.old tools.old disk.old in
+        ensures ok { let before = told_of O.taken O.faults S.told output.old tools.old disk.old in
             let after = told_of O.taken O.faults S.told output.new tools.new disk.new in
-            IfOk result (λ finish. Finishes deriver.now finish before self after)
-        }
-        ensures err {
-            let before = told_of O.taken O.faults S.told output.old tools.old disk.old in
+            IfOk result (λ finish. Finishes deriver.now finish before self after) }
+        ensures err { let before = told_of O.taken O.faults S.told output.old tools.old disk.old in
             let after = told_of O.taken O.faults S.told output.new tools.new disk.new in
-            IfErr result (λ stop. StopsAtEnd deriver.now stop before self after)
-        }
+            IfErr result (λ stop. StopsAtEnd deriver.now stop before self after) }
     {
         let Some(whole) = self.cutter.last(alloc)? else {
             return Ok(Finish::CutShort);
         };
-        serve_command(alloc, deriver, &mut self.sources, whole, output, tools, disk)?;
+        serve_command(
+            alloc,
+            deriver,
+            &mut self.sources,
+            whole,
+            output,
+            tools,
+            disk,
+        )?;
         Ok(Finish::Whole)
     }
 }

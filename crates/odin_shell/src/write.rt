@@ -7,14 +7,10 @@ use odin_outside::{Failed, Sink};
 
 /// Writes all of these bytes. An `Err` leaves a part of them written, and not all.
 pub(crate) fn write_whole<O: Sink>(output: &mut O, bytes: &[u8]) -> Result<(), Failed>
-    ensures ok {
-        let sink = sink_of O.taken O.faults in
-        OnOk result (sink output.new ≡ took (sink output.old) bytes.now)
-    }
-    ensures err {
-        let sink = sink_of O.taken O.faults in
-        OnErr result (TookPart bytes.now (sink output.old) (sink output.new))
-    }
+    ensures ok { let sink = sink_of O.taken O.faults in
+        OnOk result (sink output.new ≡ took (sink output.old) bytes.now) }
+    ensures err { let sink = sink_of O.taken O.faults in
+        OnErr result (TookPart bytes.now (sink output.old) (sink output.new)) }
 {
     let mut at = 0;
     while at < bytes.len() {
