@@ -3,6 +3,7 @@ mod CountLemmas
 mod CutLemmas
 mod GraphLemmas
 mod HeldLemmas
+mod OnceLemmas
 mod OpenedLemmas
 mod RunLemmas
 mod ServeLemmas

@@ -8,7 +8,7 @@ use Rattle.meaning_run.specs.Items.{Item, IsItem, OneCut}
 use Rattle.meaning_run.specs.Machines.{Transcript}
 use Rattle.odin_answers.specs.Answers.{refused_tool_start}
 use Rattle.odin_shell.specs.declared.command.Command.{Command}
-use Rattle.odin_shell.specs.Commands.{commands}
+use Rattle.odin_shell.specs.Commands.{commands, Spells}
 use Rattle.odin_shell.specs.Machine.{State, Step}
 use Rattle.odin_shell.specs.declared.graph.Opened.{Opened}
 use Rattle.odin_shell.specs.Opened.{IsOpened}
@@ -16,6 +16,10 @@ use Rattle.odin_shell.specs.Opened.{IsOpened}
 -- an input is cut in one way only into commands and less than a command
 abbrev pub InputIsCutOnce : Type 0
 InputIsCutOnce = OneCut commands
+
+-- a line is one command
+abbrev pub LineIsOneCommand : Type 0
+LineIsOneCommand = (a b : Command) (line : List ℕ) → Spells a line → Spells b line → b ≡ a
 
 -- behind each command the sources are names with texts that are not too long
 abbrev pub SourcesStay : Type 0

@@ -60,10 +60,14 @@ impl Deriver {
         out: &mut Bytes,
     ) -> Result<(), Memory>
         requires idle { (S.told tools.old).running ≡ [] }
-        ensures ok { OnOk result (Replies (λ reply. IsReply self.now (S.told tools.old).answer sources.now.texts
-            (request_text request.now) reply (S.told tools.old) (S.told tools.new)) out.old out.new) }
-        ensures begun { OnErr result (MayHaveBegun self.now (S.told tools.old).answer sources.now.texts
-            (request_text request.now) (S.told tools.old) (S.told tools.new)) }
+        ensures ok { let before = S.told tools.old in
+            let text = request_text request.now in
+            OnOk result (Replies (λ reply. IsReply self.now before.answer sources.now.texts
+            text reply before (S.told tools.new)) out.old out.new) }
+        ensures begun { let before = S.told tools.old in
+            let text = request_text request.now in
+            OnErr result (MayHaveBegun self.now before.answer sources.now.texts
+            text before (S.told tools.new)) }
         ensures idle { OnOk result ((S.told tools.new).running ≡ []) }
         ensures stay { ToolsStay (S.told tools.old).answer (S.told tools.old) (S.told tools.new) }
     {

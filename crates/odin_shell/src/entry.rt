@@ -71,7 +71,8 @@ fn run_words<I: Source, O: Sink, T: Tree, D: Disk, S: Spawner>(
     tools: &mut S,
 ) -> Ending
     requires { (S.told tools.old).running ≡ [] }
-    ensures { let means = meaning I.left I.faults O.taken O.faults T.files T.faults T.reads S.told in
+    ensures { let means =
+        meaning I.left I.faults O.taken O.faults T.files T.faults T.reads S.told in
         let before = outside input.old output.old tree.old tools.old disk.old in
         let after = outside input.new output.new tree.new tools.new disk.new in
         EndsAs means (map string_bytes words.now) before after result }
@@ -101,7 +102,8 @@ pub fn run<I: Source, O: Sink, T: Tree, D: Disk, S: Spawner>(
     requires { (S.told tools.old).running ≡ [] }
 
     // By the status: what was read and written, what the tools did, and which count of faults rose.
-    ensures ends { let means = meaning I.left I.faults O.taken O.faults T.files T.faults T.reads S.told in
+    ensures ends { let means =
+        meaning I.left I.faults O.taken O.faults T.files T.faults T.reads S.told in
         let before = outside input.old output.old tree.old tools.old disk.old in
         let after = outside input.new output.new tree.new tools.new disk.new in
         RunEnds means (map string_bytes words.now) before after result }

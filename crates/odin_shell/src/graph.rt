@@ -123,7 +123,9 @@ fn first_not_built(declared: &[Decl]) -> Option<usize>
 // The last line on the first declaration that a run isn't built for yet.
 fn not_yet_line(alloc: Global, file: &GraphFile, text: &[u8]) -> Result<Option<Bytes>, Memory>
     requires { IsFile text.now file.now }
-    ensures { IfOk result (λ line. MatchOption line (IsServedGraph file.now.graph) (IsRefused (Some text.now))) }
+    ensures { IfOk result (λ line. MatchOption line
+        (IsServedGraph file.now.graph)
+        (IsRefused (Some text.now))) }
 {
     file.graph.checked();
     let Some(number) = first_not_built(file.graph.decls()) else {
@@ -135,7 +137,9 @@ fn not_yet_line(alloc: Global, file: &GraphFile, text: &[u8]) -> Result<Option<B
 
 // The graph, where no line refuses it.
 fn opened_by(graph: Graph, line: Option<Bytes>) -> Opened
-    ensures { MatchOption line (result ≡ Opened.Ready graph) (λ line. result ≡ Opened.Refused line) }
+    ensures { MatchOption line
+        (result ≡ Opened.Ready graph)
+        (λ line. result ≡ Opened.Refused line) }
 {
     match line {
         Some(line) => Opened::Refused(line),

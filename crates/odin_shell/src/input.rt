@@ -25,7 +25,8 @@ fn read_piece<I: Source>(input: &mut I, buffer: &mut [u8], most: usize) -> Resul
     requires room { 0 < length buffer.old }
     ensures most { IfOk result (λ n. n ≤ most) }
     ensures bound { IfOk result (λ n. n ≤ length buffer.new) }
-    ensures bytes { IfOk result (λ n. I.left input.old ≡ prepended (take n buffer.new) (I.left input.new)) }
+    ensures bytes { IfOk result (λ n.
+        I.left input.old ≡ prepended (take n buffer.new) (I.left input.new)) }
     ensures end { IfOk result (λ n. n ≡ 0 → IsSpent (I.left input.new)) }
     ensures err { OnErr result (I.left input.new ≡ I.left input.old) }
     ensures cause { HasCause (I.faults input.old) (I.faults input.new) result }
