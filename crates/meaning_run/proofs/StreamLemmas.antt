@@ -1,8 +1,8 @@
 -- The session of any machine: how it goes on, where it stops, and how its input ends.
-use Rattle.std.proofs.Common.{◌≡◌, ℕ, ◌≤◌, false, List, [], ◌∷◌, ◌++◌, length, take, Option, ap, sym, refl, ◌∙◌, subst, arith, inl, inr}
+use Rattle.std.proofs.Common.{◌≡◌, ℕ, ◌≤◌, false, List, [], ◌∷◌, ◌++◌, length, Option, ap, sym, refl, ◌∙◌, subst, inl, inr}
 use Rattle.std.proofs.lemmas.List.{append_assoc}
 use Rattle.std.specs.List.{concat}
-use Rattle.odin_outside.specs.Told.{appended}
+use Rattle.meaning_run.specs.Objects.{took, TookPart}
 use Rattle.meaning_run.specs.Items as items
 use Rattle.meaning_run.specs.Items.{Language, Item, item_bytes, all_bytes, last_item}
 use Rattle.meaning_run.specs.Machines as machines
@@ -11,32 +11,32 @@ use Rattle.meaning_run.specs.Endings as endings
 use Rattle.meaning_run.specs.Endings.{StandsAt, IsSpent, input_limit}
 use Rattle.meaning_run.specs.Streams as streams
 use Rattle.meaning_run.proofs.ItemLemmas.{nil_right, all_bytes-more, concat-more, AllGoOn-more}
-use Rattle.meaning_run.proofs.ToldLemmas.{appended-appended, appended_none}
+use Rattle.meaning_run.proofs.ToldLemmas.{took-took, took_none}
 
 module _ {Command Held Code State Told : Type 0} (lang : Language Command) (Keeps : Held → List ℕ → Type 0) (m : Machine Command Code State Told) where
   abbrev SoFar : State → Told → List ℕ → Told → Code → Held → Type 0
   SoFar = streams.SoFar lang Keeps m
 
   abbrev Transcript : State → List Item → List (List ℕ) → State → Type 0
-  Transcript = machines.Transcript lang m
+  Transcript = machines.Transcript lang m.Step
 
   Transcript-more : (old : State) (served : List Item) (replies : List (List ℕ)) (mid : State) (item : Item) (reply : List ℕ) (new : State)
-      → Transcript old served replies mid → machines.Answers lang m mid item reply new → Transcript old (served ++ item ∷ []) (replies ++ reply ∷ []) new
-  Transcript-more old [] [] mid item reply new run answer = (new, subst (λ s. machines.Answers lang m s item reply new) run answer, refl)
+      → Transcript old served replies mid → machines.AnswersItem lang m.Step mid item reply new → Transcript old (served ++ item ∷ []) (replies ++ reply ∷ []) new
+  Transcript-more old [] [] mid item reply new run answer = (new, subst (λ s. machines.AnswersItem lang m.Step s item reply new) run answer, refl)
   Transcript-more old [] (r ∷ replies) mid item reply new run answer = absurd run
   Transcript-more old (x ∷ served) [] mid item reply new run answer = absurd run
   Transcript-more old (x ∷ served) (r ∷ replies) mid item reply new run answer =
       (run.0, run.1, Transcript-more run.0 served replies mid item reply new run.2 answer)
 
   -- before the first byte
-  pub SoFar-none : (first : State) (start told : Told) (code : Code) (held : Held) → m.taken told ≡ m.taken start → m.Fits first start code first told → Keeps held []
+  pub SoFar-none : (first : State) (start told : Told) (code : Code) (held : Held) → m.sink told ≡ m.sink start → m.Invariant first start code first told → Keeps held []
       → SoFar first start [] told code held
   SoFar-none first start told code held same fits keeps =
-      record { served = []; part = []; cuts = refl; on = tt; replies = []; state = first; run = refl; wrote = same ∙ appended_none (m.taken start); fits = fits; keeps = keeps }
+      record { served = []; part = []; cuts = refl; on = tt; replies = []; state = first; run = refl; wrote = same ∙ took_none (m.sink start); fits = fits; keeps = keeps }
 
   -- bytes that belong to the part behind the whole items
   pub GoesOn-part : (bytes : List ℕ) (told : Told) (code : Code) (held held' : Held)
-      → ((part : List ℕ) → Keeps held part → Keeps held' (part ++ bytes))
+      → streams.Extends lang Keeps bytes held held'
       → streams.GoesOn lang Keeps m bytes told code held told code held'
   GoesOn-part bytes told code held held' more first start text s = record {
     served = s.served;
@@ -62,104 +62,88 @@ module _ {Command Held Code State Told : Type 0} (lang : Language Command) (Keep
   GoesOn-append a b told told' told'' code code' code'' held held' held'' f g first start text s =
       subst (λ t. SoFar first start t told'' code'' held'') (append_assoc text a b) (g first start (text ++ a) (f first start text s))
 
-  -- the bytes make a whole item of this command with these bytes behind its line, out of whatever part the session holds
-  abbrev pub Completes : List ℕ → Held → Command → List ℕ → Type 0
-  Completes bytes held command body = (part : List ℕ) → Keeps held part → (item : Item) × (part ++ bytes ≡ item_bytes item) × items.IsItem lang item command × (item.body ≡ body)
-
   -- bytes that make an item whole, which is answered
   pub GoesOn-item : (bytes : List ℕ) (told told' : Told) (code code' : Code) (held held' : Held) (command : Command) (body : List ℕ)
-      → Completes bytes held command body → lang.ends command ≡ false → ((part : List ℕ) → Keeps held part → Keeps held' [])
+      → streams.Completes lang Keeps bytes held command body → lang.ends_run command ≡ false → ((part : List ℕ) → Keeps held part → Keeps held' [])
       → machines.Serves lang m code code' command body told told'
       → streams.GoesOn lang Keeps m bytes told code held told' code' held'
   GoesOn-item bytes told told' code code' held held' command body whole on clear served first start text s =
       let w = whole s.part s.keeps in
       let v = served first start s.state s.fits in
-      let answer : machines.Answers lang m s.state w.0 v.reply v.new = record { command = command; item_is = w.2; step = subst (λ b. m.Step s.state command b v.reply v.new) (sym w.3) v.step } in
+      let answer : machines.AnswersItem lang m.Step s.state w.item v.reply v.new = record { command = command; item_is = w.item_is; step = subst (λ b. m.Step s.state command b v.reply v.new) (sym w.body_is) v.step } in
       record {
-        served = s.served ++ w.0 ∷ [];
+        served = s.served ++ w.item ∷ [];
         part = [];
-        cuts = ap (λ t. t ++ bytes) s.cuts ∙ append_assoc (all_bytes s.served) s.part bytes ∙ ap (λ r. all_bytes s.served ++ r) w.1 ∙ sym (all_bytes-more s.served w.0) ∙ sym (nil_right (all_bytes (s.served ++ w.0 ∷ [])));
-        on = AllGoOn-more lang s.served w.0 s.on (record { command = command; item_is = w.2; on = on });
+        cuts = ap (λ t. t ++ bytes) s.cuts ∙ append_assoc (all_bytes s.served) s.part bytes ∙ ap (λ r. all_bytes s.served ++ r) w.bytes_are ∙ sym (all_bytes-more s.served w.item) ∙ sym (nil_right (all_bytes (s.served ++ w.item ∷ [])));
+        on = AllGoOn-more lang s.served w.item s.on (record { command = command; item_is = w.item_is; on = on });
         replies = s.replies ++ v.reply ∷ [];
         state = v.new;
-        run = Transcript-more first s.served s.replies s.state w.0 v.reply v.new s.run answer;
-        wrote = v.wrote ∙ ap (λ t. appended t v.reply) s.wrote ∙ appended-appended (m.taken start) (concat s.replies) v.reply ∙ ap (appended (m.taken start)) (sym (concat-more s.replies v.reply));
+        run = Transcript-more first s.served s.replies s.state w.item v.reply v.new s.run answer;
+        wrote = v.wrote ∙ ap (λ t. took t v.reply) s.wrote ∙ took-took (m.sink start) (concat s.replies) v.reply ∙ ap (took (m.sink start)) (sym (concat-more s.replies v.reply));
         fits = v.fits;
         keeps = clear s.part s.keeps;
       }
 
   broken : (first : State) (start told told' : Told) (read : List ℕ) (left : Option (List ℕ)) (code : Code) (held : Held) (s : SoFar first start read told code held) → (text rest : List ℕ)
-      → length text ≤ input_limit → text ≡ all_bytes s.served ++ rest → (item : Item) (command : Command) (body : List ℕ) → StandsAt text left (all_bytes s.served) item
+      → text ≡ all_bytes s.served ++ rest → (item : Item) (command : Command) (body : List ℕ) → StandsAt text left (all_bytes s.served) item
       → items.IsItem lang item command → item.body ≡ body → machines.StopsBefore lang m first start s.state command body told told'
-      → streams.Wrote lang Keeps m (endings.IsBroken lang m first start told') text left start told'
-  broken first start told told' read left code held s text rest within cuts item command body stands item_is body_is b = (
-    concat s.replies,
-    b.wrote ∙ s.wrote,
-    record {
-      served = s.served;
-      rest = rest;
-      cuts = cuts;
-      on = s.on;
-      replies = s.replies;
-      state = s.state;
-      run = s.run;
-      furthest = b.furthest;
-      may = inr (item, stands, record { command = command; item_is = item_is; breaks = subst (λ x. m.Breaks s.state command x b.furthest) (sym body_is) b.may });
-      is = refl;
-      kept = b.kept;
-      within = within;
-    },
-  )
+      → endings.EndsBeforeReply lang m first start told' text left
+  broken first start told told' read left code held s text rest cuts item command body stands item_is body_is b = record {
+    served = s.served;
+    rest = rest;
+    cuts = cuts;
+    on = s.on;
+    replies = s.replies;
+    state = s.state;
+    run = s.run;
+    furthest = b.furthest;
+    may = inr (item, stands, record { command = command; item_is = item_is; may = subst (λ x. m.MayLeave s.state command x b.furthest) (sym body_is) b.may });
+    wrote = b.wrote ∙ s.wrote;
+    exit = b.exit;
+  }
 
   cut_off : (first : State) (start told told' : Told) (read : List ℕ) (left : Option (List ℕ)) (code : Code) (held : Held) (s : SoFar first start read told code held) → (text rest : List ℕ)
-      → length text ≤ input_limit → text ≡ all_bytes s.served ++ rest → (item : Item) (command : Command) (body : List ℕ) → StandsAt text left (all_bytes s.served) item
+      → text ≡ all_bytes s.served ++ rest → (item : Item) (command : Command) (body : List ℕ) → StandsAt text left (all_bytes s.served) item
       → items.IsItem lang item command → item.body ≡ body → machines.StopsWithin lang m first start s.state command body told told'
-      → streams.Wrote lang Keeps m (endings.IsCutOff lang m first start told') text left start told'
-  cut_off first start told told' read left code held s text rest within cuts item command body stands item_is body_is cut = (
-    concat s.replies ++ take cut.count cut.reply,
-    cut.wrote ∙ ap (λ t. appended t (take cut.count cut.reply)) s.wrote ∙ appended-appended (m.taken start) (concat s.replies) (take cut.count cut.reply),
-    record {
-      served = s.served;
-      on = s.on;
-      item = item;
-      stands = stands;
-      replies = s.replies;
-      state = s.state;
-      run = s.run;
-      reply = cut.reply;
-      new = cut.new;
-      answer = record { command = command; item_is = item_is; step = subst (λ b. m.Step s.state command b cut.reply cut.new) (sym body_is) cut.step };
-      count = cut.count;
-      proper = cut.proper;
-      is = refl;
-      kept = cut.kept;
-      within = within;
-    },
-  )
+      → endings.EndsWithinReply lang m first start told' text left
+  cut_off first start told told' read left code held s text rest cuts item command body stands item_is body_is cut = record {
+    served = s.served;
+    on = s.on;
+    item = item;
+    stands = stands;
+    replies = s.replies;
+    state = s.state;
+    run = s.run;
+    reply = cut.reply;
+    new = cut.new;
+    answer = record { command = command; item_is = item_is; step = subst (λ b. m.Step s.state command b cut.reply cut.new) (sym body_is) cut.step };
+    wrote = subst (λ before. TookPart cut.reply before (m.sink told')) s.wrote cut.wrote;
+    exit = cut.exit;
+  }
 
   stopped : (halt : Halt) (first : State) (start told told' : Told) (read : List ℕ) (left : Option (List ℕ)) (code : Code) (held : Held) (s : SoFar first start read told code held) → (text rest : List ℕ)
-      → length text ≤ input_limit → text ≡ all_bytes s.served ++ rest → (item : Item) (command : Command) (body : List ℕ) → StandsAt text left (all_bytes s.served) item
+      → text ≡ all_bytes s.served ++ rest → (item : Item) (command : Command) (body : List ℕ) → StandsAt text left (all_bytes s.served) item
       → items.IsItem lang item command → item.body ≡ body → machines.StoppedBy lang m halt first start s.state command body told told'
-      → streams.Wrote lang Keeps m (endings.IsStopped lang m halt first start told') text left start told'
+      → endings.EndsStopped lang m halt first start told' text left
   stopped before_reply = broken
   stopped within_reply = cut_off
 
   -- bytes that make an item whole, whose serving stops
   pub StopsOn-item : (halt : Halt) (bytes : List ℕ) (told told' : Told) (code : Code) (held : Held) (command : Command) (body : List ℕ)
-      → Completes bytes held command body → machines.StopsServing lang m halt code command body told told'
+      → streams.Completes lang Keeps bytes held command body → machines.StopsServing lang m halt code command body told told'
       → streams.StopsOn lang Keeps m halt bytes told code held told'
   StopsOn-item halt bytes told told' code held command body whole stops first start text more left within s =
       let w = whole s.part s.keeps in
       let cuts : text ++ (bytes ++ more) ≡ all_bytes s.served ++ (s.part ++ (bytes ++ more)) = ap (λ t. t ++ (bytes ++ more)) s.cuts ∙ append_assoc (all_bytes s.served) s.part (bytes ++ more) in
-      stopped halt first start told told' text left code held s (text ++ (bytes ++ more)) (s.part ++ (bytes ++ more)) within cuts w.0 command body
-      (inl (more, cuts ∙ ap (λ r. all_bytes s.served ++ r) (sym (append_assoc s.part bytes more) ∙ ap (λ r. r ++ more) w.1)))
-      w.2 w.3 (stops first start s.state s.fits)
+      stopped halt first start told told' text left code held s (text ++ (bytes ++ more)) (s.part ++ (bytes ++ more)) cuts w.item command body
+      (inl (more, cuts ∙ ap (λ r. all_bytes s.served ++ r) (sym (append_assoc s.part bytes more) ∙ ap (λ r. r ++ more) w.bytes_are)))
+      w.item_is w.body_is (stops first start s.state s.fits)
 
   -- it stops before the end of the bytes
   pub StopsOn-more : (halt : Halt) (a b : List ℕ) (told told' : Told) (code : Code) (held : Held) → streams.StopsOn lang Keeps m halt a told code held told'
       → streams.StopsOn lang Keeps m halt (a ++ b) told code held told'
   StopsOn-more halt a b told told' code held f first start text more left within s =
-      subst (λ t. streams.Wrote lang Keeps m (endings.IsStopped lang m halt first start told') (text ++ t) left start told') (sym (append_assoc a b more))
+      subst (λ t. endings.EndsStopped lang m halt first start told' (text ++ t) left) (sym (append_assoc a b more))
       (f first start text (b ++ more) left (subst (λ t. length (text ++ t) ≤ input_limit) (append_assoc a b more) within) s)
 
   -- it goes on through some bytes and stops on the next
@@ -168,7 +152,7 @@ module _ {Command Held Code State Told : Type 0} (lang : Language Command) (Keep
       → streams.StopsOn lang Keeps m halt (a ++ b) told code held told''
   StopsOn-after halt a b told told' told'' code code' held held' f g first start text more left within s =
       let same : (text ++ a) ++ (b ++ more) ≡ text ++ ((a ++ b) ++ more) = append_assoc text a (b ++ more) ∙ ap (λ r. text ++ r) (sym (append_assoc a b more)) in
-      subst (λ t. streams.Wrote lang Keeps m (endings.IsStopped lang m halt first start told'') t left start told'') same
+      subst (λ t. endings.EndsStopped lang m halt first start told'' t left) same
       (g first start (text ++ a) more left (subst (λ t. length t ≤ input_limit) (sym same) within) (f first start text s))
 
   -- the end of the input behind a last line
@@ -176,51 +160,42 @@ module _ {Command Held Code State Told : Type 0} (lang : Language Command) (Keep
       → ((part : List ℕ) → Keeps held part → items.IsItem lang (last_item part) command) → body ≡ [] → machines.StopsServing lang m halt code command body told told'
       → streams.StopsAtEnd lang Keeps m halt told code held told'
   StopsAtEnd-line halt told told' code held command body whole empty stops first start text left short spent s =
-      stopped halt first start told told' text left code held s text s.part (omega arith) s.cuts (last_item s.part) command body (inr (s.cuts, refl, spent)) (whole s.part s.keeps) (sym empty) (stops first start s.state s.fits)
+      stopped halt first start told told' text left code held s text s.part s.cuts (last_item s.part) command body (inr (s.cuts, refl, spent)) (whole s.part s.keeps) (sym empty) (stops first start s.state s.fits)
 
   -- what is promised between two commands is promised at an exit
-  module _ (rests : (first : State) (start : Told) (code : Code) (state : State) (told : Told) → m.Fits first start code state told → m.Kept first start state state told) where
-    pub replied : (first : State) (start told : Told) (text : List ℕ) (code : Code) (held : Held) (s : SoFar first start text told code held) → endings.RepliesTo lang m first start told s.served (concat s.replies)
-    replied first start told text code held s = record { replies = s.replies; state = s.state; run = s.run; is = refl; kept = rests first start code s.state told s.fits }
+  module _ (rests : (first : State) (start : Told) (code : Code) (state : State) (told : Told) → m.Invariant first start code state told → m.AtExit first start state state told) where
+    pub replied : (first : State) (start told : Told) (text : List ℕ) (code : Code) (held : Held) (s : SoFar first start text told code held) → endings.RepliesTo lang m first start told s.served
+    replied first start told text code held s = record { replies = s.replies; state = s.state; run = s.run; wrote = s.wrote; exit = rests first start code s.state told s.fits }
 
     -- it stops within a part of an item
-    unbroken : (first : State) (start told : Told) (code : Code) (text more : List ℕ) (left : Option (List ℕ)) (held : Held) → length (text ++ more) ≤ input_limit → SoFar first start text told code held
-        → streams.Wrote lang Keeps m (endings.IsBroken lang m first start told) (text ++ more) left start told
-    unbroken first start told code text more left held within s = (
-      concat s.replies,
-      s.wrote,
-      record {
-        served = s.served;
-        rest = s.part ++ more;
-        cuts = ap (λ t. t ++ more) s.cuts ∙ append_assoc (all_bytes s.served) s.part more;
-        on = s.on;
-        replies = s.replies;
-        state = s.state;
-        run = s.run;
-        furthest = s.state;
-        may = inl refl;
-        is = refl;
-        kept = rests first start code s.state told s.fits;
-        within = within;
-      },
-    )
+    unbroken : (first : State) (start told : Told) (code : Code) (text more : List ℕ) (left : Option (List ℕ)) (held : Held) → SoFar first start text told code held
+        → endings.EndsBeforeReply lang m first start told (text ++ more) left
+    unbroken first start told code text more left held s = record {
+      served = s.served;
+      rest = s.part ++ more;
+      cuts = ap (λ t. t ++ more) s.cuts ∙ append_assoc (all_bytes s.served) s.part more;
+      on = s.on;
+      replies = s.replies;
+      state = s.state;
+      run = s.run;
+      furthest = s.state;
+      may = inl refl;
+      wrote = s.wrote;
+      exit = rests first start code s.state told s.fits;
+    }
 
     pub StopsOn-part : (bytes : List ℕ) (told : Told) (code : Code) (held : Held) → streams.StopsOn lang Keeps m before_reply bytes told code held told
-    StopsOn-part bytes told code held first start text more left within s = unbroken first start told code text (bytes ++ more) left held within s
+    StopsOn-part bytes told code held first start text more left within s = unbroken first start told code text (bytes ++ more) left held s
 
     pub StopsAtEnd-part : (told : Told) (code : Code) (held : Held) → streams.StopsAtEnd lang Keeps m before_reply told code held told
     StopsAtEnd-part told code held first start text left short spent s =
-        subst (λ t. streams.Wrote lang Keeps m (endings.IsBroken lang m first start told) t left start told) (nil_right text)
-        (unbroken first start told code text [] left held (subst (λ t. length t ≤ input_limit) (sym (nil_right text)) (omega arith)) s)
+        subst (λ t. endings.EndsBeforeReply lang m first start told t left) (nil_right text) (unbroken first start told code text [] left held s)
 
     -- the input ends inside a command
-    pub Finishes-short : (told : Told) (code : Code) (held : Held) → ((part : List ℕ) → Keeps held part → items.IsCutShort lang part)
-        → streams.FinishesShort lang Keeps m told code held told
-    Finishes-short told code held inside first start text left short spent s = (
-      concat s.replies,
-      s.wrote,
-      record { served = s.served; part = s.part; cuts = s.cuts; on = s.on; inside = inside s.part s.keeps; replied = replied first start told text code held s; short = short; spent = spent },
-    )
+    pub Finishes-cut_short : (told : Told) (code : Code) (held : Held) → ((part : List ℕ) → Keeps held part → items.IsCutShort lang part)
+        → streams.FinishesCutShort lang Keeps m told code held told
+    Finishes-cut_short told code held inside first start text left short spent s =
+        record { served = s.served; part = s.part; cuts = s.cuts; on = s.on; inside = inside s.part s.keeps; replied = replied first start told text code held s; short = short; spent = spent }
 
     -- the input ends behind a last line, which is answered
     pub Finishes-line : (told told' : Told) (code code' : Code) (held : Held) (command : Command) (body : List ℕ)
@@ -228,23 +203,20 @@ module _ {Command Held Code State Told : Type 0} (lang : Language Command) (Keep
         → streams.FinishesWhole lang Keeps m told code held told'
     Finishes-line told told' code code' held command body whole empty served first start text left short spent s =
         let v = served first start s.state s.fits in
-        let answer : machines.Answers lang m s.state (last_item s.part) v.reply v.new =
-        record { command = command; item_is = whole s.part s.keeps; step = subst (λ b. m.Step s.state command b v.reply v.new) empty v.step } in (
-          concat (s.replies ++ v.reply ∷ []),
-          v.wrote ∙ ap (λ t. appended t v.reply) s.wrote ∙ appended-appended (m.taken start) (concat s.replies) v.reply ∙ ap (appended (m.taken start)) (sym (concat-more s.replies v.reply)),
-          record {
-            served = s.served;
-            last = s.part;
-            cuts = s.cuts;
-            on = s.on;
-            replied = record {
-              replies = s.replies ++ v.reply ∷ [];
-              state = v.new;
-              run = Transcript-more first s.served s.replies s.state (last_item s.part) v.reply v.new s.run answer;
-              is = refl;
-              kept = rests first start code' v.new told' v.fits;
-            };
-            short = short;
-            spent = spent;
-          },
-        )
+        let answer : machines.AnswersItem lang m.Step s.state (last_item s.part) v.reply v.new =
+        record { command = command; item_is = whole s.part s.keeps; step = subst (λ b. m.Step s.state command b v.reply v.new) empty v.step } in
+        record {
+          served = s.served;
+          last = s.part;
+          cuts = s.cuts;
+          on = s.on;
+          replied = record {
+            replies = s.replies ++ v.reply ∷ [];
+            state = v.new;
+            run = Transcript-more first s.served s.replies s.state (last_item s.part) v.reply v.new s.run answer;
+            wrote = v.wrote ∙ ap (λ t. took t v.reply) s.wrote ∙ took-took (m.sink start) (concat s.replies) v.reply ∙ ap (took (m.sink start)) (sym (concat-more s.replies v.reply));
+            exit = rests first start code' v.new told' v.fits;
+          };
+          short = short;
+          spent = spent;
+        }

@@ -4,6 +4,7 @@ use Rattle.std.proofs.lemmas.List.{append_assoc}
 use Rattle.std.proofs.Math.Seq.{take-add}
 use Rattle.std.proofs.lemmas.Grind.{common_steps}
 use Rattle.odin_outside.specs.Told.{appended, prepended}
+use Rattle.meaning_run.specs.Objects.{SinkTold, took}
 
 pub appended-appended : (start : Option (List ℕ)) (a b : List ℕ) → appended (appended start a) b ≡ appended start (a ++ b)
 appended-appended None a b = refl
@@ -12,6 +13,16 @@ appended-appended (Some had) a b = ap Some (append_assoc had a b)
 pub appended_none : (start : Option (List ℕ)) → start ≡ appended start []
 appended_none None = refl
 appended_none (Some had) = ap Some (grind (arith, common_steps))
+
+-- one text was taken and then another
+pub took-took : (start : SinkTold) (a b : List ℕ) → took (took start a) b ≡ took start (a ++ b)
+took-took start a b = ap (λ taken. record { taken = taken; faults = start.faults }) (appended-appended start.taken a b)
+
+pub took_is : (before now : SinkTold) (bytes : List ℕ) → now.taken ≡ appended before.taken bytes → now.faults ≡ before.faults → now ≡ took before bytes
+took_is before now bytes taken faults = λ i. record { taken = taken i; faults = faults i }
+
+pub took_none : (start : SinkTold) → start ≡ took start []
+took_none start = ap (λ taken. record { taken = taken; faults = start.faults }) (appended_none start.taken)
 
 pub prepended-prepended : (a b : List ℕ) (left : Option (List ℕ)) → prepended a (prepended b left) ≡ prepended (a ++ b) left
 prepended-prepended a b None = refl

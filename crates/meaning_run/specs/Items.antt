@@ -22,8 +22,8 @@ pub record Language (Command : Type 0) : Type 1 where
   pub Spells : Command → List ℕ → Type 0
   -- how many bytes behind its line belong to the command
   pub takes : Command → ℕ
-  -- whether the session ends behind the command
-  pub ends : Command → Bool
+  -- whether the run ends behind the command
+  pub ends_run : Command → Bool
 
 -- a command's line without its LF, and the bytes behind it that belong to the command
 pub record Item : Type 0 where
@@ -52,7 +52,7 @@ module _ {Command : Type 0} (lang : Language Command) where
   pub record GoesOnAt (item : Item) : Type 0 where
     pub command : Command
     pub item_is : IsItem item command
-    pub on : lang.ends command ≡ false
+    pub on : lang.ends_run command ≡ false
 
   -- the session goes on behind each of them
   abbrev pub AllGoOn : List Item → Type 0

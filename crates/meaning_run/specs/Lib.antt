@@ -1,3 +1,4 @@
+pub mod Objects
 pub mod Items
 pub mod Machines
 pub mod Endings

@@ -2,12 +2,28 @@
 -- so that steps compose.
 use Rattle.std.specs.Prelude.{◌≡◌, ℕ, ◌<◌, ◌≤◌, List, ◌++◌, length, Option}
 use Rattle.std.specs.List.{concat}
-use Rattle.odin_outside.specs.Told.{appended, prepended}
-use Rattle.meaning_run.specs.Items.{Language, Item, all_bytes, AllGoOn}
+use Rattle.odin_outside.specs.Told.{prepended}
+use Rattle.meaning_run.specs.Objects.{took}
+use Rattle.meaning_run.specs.Items.{Language, Item, item_bytes, all_bytes, AllGoOn, IsItem}
 use Rattle.meaning_run.specs.Machines.{Machine, Transcript, Halt}
-use Rattle.meaning_run.specs.Endings.{input_limit, IsSpent, IsWhole, IsShort, IsStopped}
+use Rattle.meaning_run.specs.Endings.{input_limit, IsSpent, EndsWhole, EndsCutShort, EndsStopped}
 
 -- Held is what the session holds of an item that is not whole yet, and Keeps says of which bytes.
+module _ {Command Held : Type 0} (lang : Language Command) (Keeps : Held → List ℕ → Type 0) where
+  -- the bytes belong to the part of an item that is held
+  abbrev pub Extends : List ℕ → Held → Held → Type 0
+  Extends bytes held held' = (part : List ℕ) → Keeps held part → Keeps held' (part ++ bytes)
+
+  -- the bytes make the part that is held an item, of this command and with these bytes behind its line
+  pub record IsMadeWhole (part bytes : List ℕ) (command : Command) (body : List ℕ) : Type 0 where
+    pub item : Item
+    pub bytes_are : part ++ bytes ≡ item_bytes item
+    pub item_is : IsItem lang item command
+    pub body_is : item.body ≡ body
+
+  abbrev pub Completes : List ℕ → Held → Command → List ℕ → Type 0
+  Completes bytes held command body = (part : List ℕ) → Keeps held part → IsMadeWhole part bytes command body
+
 module _ {Command Held Code State Told : Type 0} (lang : Language Command) (Keeps : Held → List ℕ → Type 0) (m : Machine Command Code State Told) where
   -- these bytes have come, and the whole items in them are answered
   pub record SoFar (first : State) (start : Told) (text : List ℕ) (told : Told) (code : Code) (held : Held) : Type 0 where
@@ -17,9 +33,9 @@ module _ {Command Held Code State Told : Type 0} (lang : Language Command) (Keep
     pub on : AllGoOn lang served
     pub replies : List (List ℕ)
     pub state : State
-    pub run : Transcript lang m first served replies state
-    pub wrote : m.taken told ≡ appended (m.taken start) (concat replies)
-    pub fits : m.Fits first start code state told
+    pub run : Transcript lang m.Step first served replies state
+    pub wrote : m.sink told ≡ took (m.sink start) (concat replies)
+    pub fits : m.Invariant first start code state told
     pub keeps : Keeps held part
 
   -- the bytes take the session from one to the other, whatever came before
@@ -27,31 +43,27 @@ module _ {Command Held Code State Told : Type 0} (lang : Language Command) (Keep
   GoesOn bytes told code held told' code' held' =
       (first : State) (start : Told) (text : List ℕ) → SoFar first start text told code held → SoFar first start (text ++ bytes) told' code' held'
 
-  -- of what was read, and of what the sink had and has
-  abbrev pub Wrote : (List ℕ → Option (List ℕ) → List ℕ → Type 0) → List ℕ → Option (List ℕ) → Told → Told → Type 0
-  Wrote P read left start told = (output : List ℕ) × (m.taken told ≡ appended (m.taken start) output) × P read left output
-
   -- on its way through the bytes it stops, whatever came before and whatever was read behind them, as far as may be read
   abbrev pub StopsOn : Halt → List ℕ → Told → Code → Held → Told → Type 0
   StopsOn halt bytes told code held told' =
       (first : State) (start : Told) (text more : List ℕ) (left : Option (List ℕ)) → length (text ++ (bytes ++ more)) ≤ input_limit → SoFar first start text told code held
-      → Wrote (IsStopped lang m halt first start told') (text ++ (bytes ++ more)) left start told'
+      → EndsStopped lang m halt first start told' (text ++ (bytes ++ more)) left
 
   -- the input ends, and all of it is answered, or it ends inside a command
-  abbrev pub FinishesBy : (State → Told → Told → List ℕ → Option (List ℕ) → List ℕ → Type 0) → Told → Code → Held → Told → Type 0
-  FinishesBy P told code held told' =
+  abbrev pub FinishesBy : (State → Told → Told → List ℕ → Option (List ℕ) → Type 0) → Told → Code → Held → Told → Type 0
+  FinishesBy EndsSo told code held told' =
       (first : State) (start : Told) (text : List ℕ) (left : Option (List ℕ)) → length text < input_limit → IsSpent left → SoFar first start text told code held
-      → Wrote (P first start told') text left start told'
+      → EndsSo first start told' text left
 
   abbrev pub FinishesWhole : Told → Code → Held → Told → Type 0
-  FinishesWhole = FinishesBy (IsWhole lang m)
+  FinishesWhole = FinishesBy (EndsWhole lang m)
 
-  abbrev pub FinishesShort : Told → Code → Held → Told → Type 0
-  FinishesShort = FinishesBy (IsShort lang m)
+  abbrev pub FinishesCutShort : Told → Code → Held → Told → Type 0
+  FinishesCutShort = FinishesBy (EndsCutShort lang m)
 
   -- the input ends, and the answer to its last line stops
   abbrev pub StopsAtEnd : Halt → Told → Code → Held → Told → Type 0
-  StopsAtEnd halt = FinishesBy (IsStopped lang m halt)
+  StopsAtEnd halt = FinishesBy (EndsStopped lang m halt)
 
   -- how far the reading has come: from the input these bytes were taken, and so many
   pub record Reading (first : State) (start : Told) (input left : Option (List ℕ)) (count : ℕ) (told : Told) (code : Code) (held : Held) : Type 0 where

@@ -6,6 +6,8 @@ mod faults;
 mod rows;
 #[cfg(test)]
 mod runs;
+#[cfg(test)]
+mod serving;
 mod streams;
 #[cfg(test)]
 mod tests;

@@ -31,7 +31,8 @@ pub fn sink(alloc: Global, room: usize, piece: usize) -> Result<MemSink, Memory>
     Ok(output)
 }
 
-fn owned(alloc: Global, words: &[&str]) -> Result<Vec<String>, Memory> {
+/// Words that are owned.
+pub fn owned(alloc: Global, words: &[&str]) -> Result<Vec<String>, Memory> {
     let mut owned = Vec::new(alloc);
     for word in words {
         owned.push(String::from_str(alloc, word)?)?;

@@ -1,5 +1,7 @@
-// Standard input and output. They tell nothing of their contents.
-ghost use Rattle.std.specs.Prelude.{◌≡◌, None};
+// Standard input and output. They tell nothing of their contents, and what std's reader and writer tell goes through them as it is.
+ghost use Rattle.std.specs.Prelude.{◌≡◌, ◌<◌, ◌≤◌, None, length, IfOk};
+ghost use Rattle.std.specs.Io.KnownBytes.{ReadConsumes, WriteAppends};
+ghost use Rattle.odin_outside.specs.Causes.{HasCause};
 
 use odin_outside::{Failed, Sink, Source};
 use std::io::{Read, Write};
@@ -24,7 +26,13 @@ impl<R: Read + Drop> Source for InputSource<R> {
 
     ghost faults = { λ s. s.faults };
 
-    fn read(&mut self, into: &mut [u8]) -> Result<usize, Failed> {
+    fn read(&mut self, into: &mut [u8]) -> Result<usize, Failed>
+        requires { 0 < length into.old }
+        ensures bound { IfOk result (λ n. n ≤ length into.new) }
+        ensures cause { HasCause self.old.faults self.new.faults result }
+        ensures carried { let left = R.remaining self.old.inner in
+            ReadConsumes left (R.remaining self.new.inner) result into.new }
+    {
         match self.inner.read(into) {
             Ok(count) => Ok(count),
             Err(_) => {
@@ -55,7 +63,13 @@ impl<W: Write + Drop> Sink for OutputSink<W> {
 
     ghost faults = { λ s. s.faults };
 
-    fn write(&mut self, bytes: &[u8]) -> Result<usize, Failed> {
+    fn write(&mut self, bytes: &[u8]) -> Result<usize, Failed>
+        requires { 0 < length bytes.now }
+        ensures bound { IfOk result (λ n. (0 < n) × (n ≤ length bytes.now)) }
+        ensures cause { HasCause self.old.faults self.new.faults result }
+        ensures carried { let taken = W.contents self.old.inner in
+            WriteAppends taken (W.contents self.new.inner) result bytes.now }
+    {
         if let Ok(count) = self.inner.write(bytes)
             && count > 0
         {

@@ -21,7 +21,7 @@ fn outcome(alloc: Global, text: &[u8], piece: usize) -> Result<(u8, Vec<u8>), Me
 }
 
 // An input, the status, and the output.
-const ROWS: [(&[u8], u8, &[u8]); 12] = [
+const ROWS: [(&[u8], u8, &[u8]); 13] = [
     (b"", 0, b""),
     (
         b"put a.c 0\nask a.c\n",
@@ -60,6 +60,11 @@ const ROWS: [(&[u8], u8, &[u8]); 12] = [
         b"\n\r\nfrob\r\nask a.c\r\r\n",
         0,
         b"refused command\nrefused command\n",
+    ),
+    (
+        b"put a?c 3\nxyz\nask a?c\n",
+        0,
+        b"refused command\nrefused command\nrefused command\n",
     ),
     (
         b"put a.c 0 \nput  a.c 0\nask \nPUT a.c 0\nask a?c\n",
@@ -217,10 +222,17 @@ fn tells_the_faults_of_statuses(rt: HostRuntime) -> Result<(), Fail> {
     Ok(())
 }
 
-// The status and the output where a read fails, in pieces of 7.
-fn failing_read(alloc: Global, text: &[u8], number: u32) -> Result<(u8, Vec<u8>), Memory> {
+// The status and the output where a read fails, in such pieces.
+fn failing_read(
+    alloc: Global,
+    text: &[u8],
+    piece: usize,
+    number: u32,
+) -> Result<(u8, Vec<u8>), Memory>
+    requires { 0 < piece }
+{
     let fails = only(alloc, number)?;
-    let mut input = FailSource::new(source(alloc, text, 7)?, fails);
+    let mut input = FailSource::new(source(alloc, text, piece)?, fails);
     let mut output = sink(alloc, 10_000, 7)?;
     let status = status_with(alloc, &["odin", "g0"], &mut input, &mut output)?;
     with_taken(alloc, status, output.taken())
@@ -243,7 +255,7 @@ const FIRST_REPLIES: &[u8] = b"put a.c 0\nobject ok simple 0\n\nmessages 0\n";
 fn stops_at_each_failing_read(rt: HostRuntime) -> Result<(), Fail> {
     // The number of the read that fails, the status, and how many bytes of the replies are written.
     for (number, end, count) in [(1, 6, 0), (2, 6, 0), (3, 6, 10), (4, 6, 41), (5, 0, 41)] {
-        let (status, output) = failing_read(rt.alloc(), FIRST_RUN, number)?;
+        let (status, output) = failing_read(rt.alloc(), FIRST_RUN, 7, number)?;
         assert_eq!(rt; status, end);
         assert!(rt; output.as_slice() == &FIRST_REPLIES[..count]);
     }
@@ -284,11 +296,11 @@ fn put_three(text: &mut Vec<u8>) -> Result<(), Memory> {
 fn stops_at_each_failing_read_of_long_puts(rt: HostRuntime) -> Result<(), Fail> {
     let mut text = Vec::new(rt.alloc());
     put_three(&mut text)?;
-    // The 2,150th read gives the end of the input, so each one before it has given 7 bytes of the 15,039.
-    for number in 1..2152u32 {
-        let read = (7 * (number - 1)).min(15_039);
-        let (status, output) = failing_read(rt.alloc(), text.as_slice(), number)?;
-        assert_eq!(rt; status, if number == 2151 { 0 } else { 6 });
+    // The 23rd read gives the end of the input, so each one before it has given 700 bytes of the 15,039.
+    for number in 1..25u32 {
+        let read = (700 * (number - 1)).min(15_039);
+        let (status, output) = failing_read(rt.alloc(), text.as_slice(), 700, number)?;
+        assert_eq!(rt; status, if number == 24 { 0 } else { 6 });
         assert!(rt; output.as_slice() == &PUT_REPLIES[..13 * (read / 5013) as usize]);
     }
     Ok(())

@@ -46,11 +46,11 @@ behind word line text front None none = λ request p. none request (subst (λ (t
 behind word line text front (Some request) is = record { rest = text; is = front; requests = is }
 
 -- a line that begins with another byte is no `put`
-put_no_request : (line name : List ℕ) (count first : ℕ) (word : List ℕ) (request : Request) → IsPut line name count → IsRequestBehind (first ∷ word) line request → first ≢ 112 → ⊥
+pub put_no_request : (line name : List ℕ) (count first : ℕ) (word : List ℕ) (request : Request) → IsPut line name count → IsRequestBehind (first ∷ word) line request → first ≢ 112 → ⊥
 put_no_request line name count first word request p q other = let same : first ≡ 112 = ap (λ l. get_or l 0 0) (sym q.is ∙ p.is) in other same
 
 -- the second byte tells a `plan` from a `put`
-put_is_no_plan : (line name : List ℕ) (count : ℕ) (request : Request) → IsPut line name count → IsPlan line request → ⊥
+pub put_is_no_plan : (line name : List ℕ) (count : ℕ) (request : Request) → IsPut line name count → IsPlan line request → ⊥
 put_is_no_plan line name count request p q = let same : ◌≡◌ {A = ℕ} 108 117 = ap (λ l. get_or l 1 0) (sym q.is ∙ p.is) in absurd (omega arith)
 
 -- a line that is no `put` takes no bytes as any command

@@ -1,10 +1,10 @@
 -- Replies that say that a tool was not started: no other reply is like them, and there are no more than faults.
-use Rattle.std.proofs.Common.{◌≡◌, ◌≢◌, ◌⊎◌, ℕ, ◌+◌, ◌≤◌, min, Bool, true, false, List, [], ◌∷◌, get_or, ap, sym, refl, ◌∙◌, arith, inl, inr}
+use Rattle.std.proofs.Common.{◌≡◌, ◌≢◌, ℕ, ◌+◌, ◌≤◌, min, Bool, true, false, List, [], ◌∷◌, get_or, ap, sym, refl, ◌∙◌, arith, inl, inr}
 use Rattle.std.specs.Prelude.{Option, Some, None, if◌then◌else◌}
 use Rattle.std.specs.Str.{bytes_eq}
 use Rattle.std.proofs.lemmas.Slice.Eq.{bytes_eq-Decides}
 use Rattle.odin_outside.specs.Causes.{last_count}
-use Rattle.odin_outside.specs.Spawned.{Table, Spawned}
+use Rattle.odin_outside.specs.Spawned.{Table}
 use Rattle.object_values.specs.declared.views.View.{View}
 use Rattle.meaning_graph.specs.Graphs.{Text, Graph}
 use Rattle.meaning_derive.specs.Derive.{Sources}
@@ -12,12 +12,13 @@ use Rattle.meaning_answers.specs.Answers.{Refused, Answer, Plan}
 use Rattle.meaning_answers.specs.Replies.{object_reply}
 use Rattle.meaning_run.specs.Items.{Item}
 use Rattle.meaning_run.specs.Machines.{Transcript}
-use Rattle.odin_answers.specs.Answers.{IsAnswerByForm, IsAnswer, IsLeftAlone, IsDerived, refused_tool_start}
+use Rattle.odin_answers.specs.Answers.{IsAnswerByForm, IsAnswer, refused_tool_start}
 use Rattle.odin_shell.specs.declared.command.Command.{Command}
 use Rattle.odin_shell.specs.declared.command.Command.TheVariants as command
 use Rattle.odin_shell.specs.Commands.{commands}
-use Rattle.odin_shell.specs.Machine.{State, Step, machine}
+use Rattle.odin_shell.specs.Machine.{State, Step}
 use Rattle.odin_shell.specs.Laws.{refused_starts}
+use Rattle.odin_shell.proofs.ServeLemmas.{reply_later}
 
 -- ---- other replies
 
@@ -69,36 +70,32 @@ at_most_one false = omega arith
 uncounted : (reply : Text) (before now : ℕ) → reply ≢ refused_tool_start → before ≤ now → min (before + one_if (bytes_eq reply refused_tool_start)) last_count ≤ now
 uncounted reply before now other later = let none = not_one reply (bytes_eq reply refused_tool_start) refl other in omega arith
 
--- no answer lets the count fall
-later : (g : Graph) (table : Option Table) (s : Sources) (text reply : Text) (before : Spawned) (faults : ℕ) (now : Spawned) (faults' : ℕ) → IsLeftAlone g text reply before faults now faults' ⊎ IsDerived g table s text before faults now faults' → faults ≤ faults'
-later g table s text reply before faults now faults' (inl alone) = let same = alone.counted in omega arith
-later g table s text reply before faults now faults' (inr derived) = derived.later
-
 counted : (g : Graph) (table : Option Table) (old : State) (c : Command) (body : List ℕ) (reply : Text) (new : State) → Step g table old c body reply new
-    → min (old.faults + one_if (bytes_eq reply refused_tool_start)) last_count ≤ new.faults
+    → min (old.tools.faults + one_if (bytes_eq reply refused_tool_start)) last_count ≤ new.tools.faults
 counted g table old (command.Put name count) body reply new step =
-    let same : new.faults ≡ old.faults = ap (λ (s : State). s.faults) step.1 in
-    uncounted reply old.faults new.faults (λ e. other_at reply 0 112 (ap (λ (t : Text). get_or t 0 0) step.0) (λ z. omega arith) e) (omega arith)
-counted g table old (command.Ask request) body reply new (inl answered, same) = uncounted reply old.faults new.faults (answer_other g table old.texts _ reply answered.answer) (later g table old.texts _ reply old.tools old.faults new.tools new.faults answered.did)
-counted g table old (command.Ask request) body reply new (inr refused, same) = let rose = refused.rose in let few = at_most_one (bytes_eq reply refused_tool_start) in omega arith
+    let same : new.tools.faults ≡ old.tools.faults = ap (λ (s : State). s.tools.faults) step.1 in
+    uncounted reply old.tools.faults new.tools.faults (λ e. other_at reply 0 112 (ap (λ (t : Text). get_or t 0 0) step.0) (λ z. omega arith) e) (omega arith)
+counted g table old (command.Ask request) body reply new (inl answered, same) =
+    uncounted reply old.tools.faults new.tools.faults (answer_other g table old.texts _ reply answered.answer) (reply_later g table old.texts _ reply old.tools new.tools (inl answered))
+counted g table old (command.Ask request) body reply new (inr refused, same) = let rose = refused.begun.counted.rose in let few = at_most_one (bytes_eq reply refused_tool_start) in omega arith
 counted g table old (command.Plan request) body reply new step =
-    let same : new.faults ≡ old.faults = ap (λ (s : State). s.faults) step.1 in
-    uncounted reply old.faults new.faults (plan_other g _ reply step.0) (omega arith)
+    let same : new.tools.faults ≡ old.tools.faults = ap (λ (s : State). s.tools.faults) step.1 in
+    uncounted reply old.tools.faults new.tools.faults (plan_other g _ reply step.0) (omega arith)
 counted g table old command.Nothing body reply new step =
-    let same : new.faults ≡ old.faults = ap (λ (s : State). s.faults) step.1 in
-    uncounted reply old.faults new.faults (λ e. other_at reply 0 0 (ap (λ (t : Text). get_or t 0 0) step.0) (λ z. omega arith) e) (omega arith)
+    let same : new.tools.faults ≡ old.tools.faults = ap (λ (s : State). s.tools.faults) step.1 in
+    uncounted reply old.tools.faults new.tools.faults (λ e. other_at reply 0 0 (ap (λ (t : Text). get_or t 0 0) step.0) (λ z. omega arith) e) (omega arith)
 counted g table old command.Bad body reply new step =
-    let same : new.faults ≡ old.faults = ap (λ (s : State). s.faults) step.1 in
-    uncounted reply old.faults new.faults (λ e. other_at reply 8 99 (ap (λ (t : Text). get_or t 8 0) step.0) (λ z. omega arith) e) (omega arith)
+    let same : new.tools.faults ≡ old.tools.faults = ap (λ (s : State). s.tools.faults) step.1 in
+    uncounted reply old.tools.faults new.tools.faults (λ e. other_at reply 8 99 (ap (λ (t : Text). get_or t 8 0) step.0) (λ z. omega arith) e) (omega arith)
 
 both : (f a r m s : ℕ) → min (f + a) last_count ≤ m → min (m + r) last_count ≤ s → min (f + (a + r)) last_count ≤ s
 both f a r m s first rest = omega arith
 
-pub counts : (g : Graph) (table : Option Table) (first state : State) (items : List Item) (replies : List (List ℕ)) → Transcript commands (machine g table) first items replies state → min (first.faults + refused_starts replies) last_count ≤ state.faults
-counts g table first state [] [] run = let same : state.faults ≡ first.faults = ap (λ (s : State). s.faults) run in omega arith
+pub counts : (g : Graph) (table : Option Table) (first state : State) (items : List Item) (replies : List (List ℕ)) → Transcript commands (Step g table) first items replies state → min (first.tools.faults + refused_starts replies) last_count ≤ state.tools.faults
+counts g table first state [] [] run = let same : state.tools.faults ≡ first.tools.faults = ap (λ (s : State). s.tools.faults) run in omega arith
 counts g table first state [] (reply ∷ replies) run = absurd run
 counts g table first state (item ∷ items) [] run = absurd run
 counts g table first state (item ∷ items) (reply ∷ replies) run =
-    both first.faults (one_if (bytes_eq reply refused_tool_start)) (refused_starts replies) run.0.faults state.faults
+    both first.tools.faults (one_if (bytes_eq reply refused_tool_start)) (refused_starts replies) run.0.tools.faults state.tools.faults
     (counted g table first run.1.command item.body reply run.0 run.1.step)
     (counts g table run.0 state items replies run.2)

@@ -4,13 +4,15 @@ use Rattle.std.proofs.lemmas.List.{append_assoc, length-append, length-take, tak
 use Rattle.std.proofs.lemmas.Bool.{cases_lt}
 use Rattle.std.specs.Option.{is_some}
 use Rattle.meaning_run.specs.Items as items
+use Rattle.meaning_run.specs.Streams as streams
 use Rattle.meaning_run.specs.Items.{Item, HasNo, HasNoLf, item_bytes, last_item, cr_dropped}
 use Rattle.meaning_run.proofs.ItemLemmas.{HasNo-append}
 use Rattle.odin_shell.specs.declared.command.Command.{Command}
 use Rattle.odin_shell.specs.declared.command.Command.TheVariants.{Put, Ask, Plan, Nothing, Bad}
 use Rattle.odin_shell.specs.declared.pending.Pending.{Pending}
 use Rattle.odin_shell.specs.Commands.{commands, Spells, takes}
-use Rattle.odin_shell.specs.Held.{Held, held_length, KeepsPart, Keeps, IsNew, IsPendingOf}
+use Rattle.odin_shell.specs.declared.cutter.Cutter.{Cutter}
+use Rattle.odin_shell.specs.Held.{held_length, KeepsPart, Keeps, IsNew, IsPendingOf}
 use Rattle.odin_shell.proofs.CommandLemmas.{Spells-held}
 
 -- the first bytes of one text and then another
@@ -44,9 +46,13 @@ Keeps-line line line' part bytes room room_is is no_lf k =
 
 -- the LF of a line whose command takes no bytes
 pub Keeps-ended : (line part : List ℕ) (command : Command) → Spells command (cr_dropped line) → takes command ≡ 0 → KeepsPart line None part
-    → (item : Item) × (part ++ 10 ∷ [] ≡ item_bytes item) × items.IsItem commands item command × (item.body ≡ [])
-Keeps-ended line part command s none k =
-    (record { line = part; body = [] }, refl, record { no_lf = k.0; spelled = Spells-held command line part k.1 s; size = sym none }, refl)
+    → streams.IsMadeWhole commands Keeps part (10 ∷ []) command []
+Keeps-ended line part command s none k = record {
+  item = record { line = part; body = [] };
+  bytes_are = refl;
+  item_is = record { no_lf = k.0; spelled = Spells-held command line part k.1 s; size = sym none };
+  body_is = refl;
+}
 
 -- the LF of a line whose command takes bytes
 begin : (line part name : List ℕ) (count : ℕ) (put : Pending) → Spells (Put name count) (cr_dropped line) → 0 < count → IsNew name count put → KeepsPart line None part
@@ -99,22 +105,23 @@ Keeps-text line part bytes put put' name text missing k =
 
 -- the last bytes of a text
 pub Keeps-last : (line part bytes : List ℕ) (put : Pending) → length bytes ≡ put.missing → KeepsPart line (Some put) part
-    → (item : Item) × (part ++ bytes ≡ item_bytes item) × items.IsItem commands item (Put put.name (length (put.text ++ bytes))) × (item.body ≡ put.text ++ bytes)
+    → streams.IsMadeWhole commands Keeps part bytes (Put put.name (length (put.text ++ bytes))) (put.text ++ bytes)
 Keeps-last line part bytes put last k =
     let begun = k.1.begun in
-    let same : length put.text + put.missing ≡ length (put.text ++ bytes) = omega (arith, length-append put.text bytes) in (
-      record { line = begun.line; body = begun.body ++ bytes },
-      ap (λ t. t ++ bytes) begun.is ∙ append_assoc begun.line (10 ∷ begun.body) bytes,
-      record {
+    let same : length put.text + put.missing ≡ length (put.text ++ bytes) = omega (arith, length-append put.text bytes) in
+    record {
+      item = record { line = begun.line; body = begun.body ++ bytes };
+      bytes_are = ap (λ t. t ++ bytes) begun.is ∙ append_assoc begun.line (10 ∷ begun.body) bytes;
+      item_is = record {
         no_lf = begun.no_lf;
         spelled = subst (λ n. Spells (Put put.name n) (cr_dropped begun.line)) same begun.spelled;
         size = ap (λ t. length (t ++ bytes)) k.1.text;
-      },
-      ap (λ t. t ++ bytes) k.1.text,
-    )
+      };
+      body_is = ap (λ t. t ++ bytes) k.1.text;
+    }
 
 -- what is held is less than an item
-pub Keeps-less : (held : Held) (part : List ℕ) → Keeps held part → items.IsPart commands part
+pub Keeps-less : (held : Cutter) (part : List ℕ) → Keeps held part → items.IsPart commands part
 Keeps-less held part k = by held.line held.put k
   where
     by : (line : List ℕ) (put : Option Pending) → KeepsPart line put part → items.IsPart commands part

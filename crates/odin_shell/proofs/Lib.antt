@@ -1,8 +1,10 @@
 mod CommandLemmas
 mod CountLemmas
+mod CutLemmas
 mod GraphLemmas
 mod HeldLemmas
-mod OpenLemmas
+mod OnceLemmas
 mod OpenedLemmas
+mod RunLemmas
 mod ServeLemmas
 mod SessionLemmas

@@ -1,26 +1,30 @@
 -- A command served: its change, its reply, and where it stops.
-use Rattle.std.proofs.Common.{◌≡◌, ◌≢◌, ℕ, ◌<◌, ◌≤◌, Bool, true, false, Result, IfErr, IsErrAnd, List, [], ◌++◌, take, length, Option, Some, ap, sym, refl, ◌∙◌, subst, arith}
+use Rattle.std.proofs.Common.{◌≡◌, ◌≢◌, ℕ, ◌≤◌, Bool, true, false, Result, Ok, Err, IfErr, IsErrAnd, OnOk, OnErr, inl, inr, List, [], ◌++◌, length, Option, Some, ap, sym, refl, ◌∙◌, subst, arith}
 use Rattle.std.specs.FinMap as map
 use Rattle.std.specs.Str.{bytes_eq}
 use Rattle.std.proofs.lemmas.Slice.Eq.{bytes_eq-Decides}
 use Rattle.std.proofs.lemmas.Result.{err_from_is_err_and}
-use Rattle.odin_outside.specs.Told.{appended}
+use Rattle.meaning_run.specs.Objects.{took, TookPart}
 use Rattle.object_sources.specs.Texts.{Text, Texts}
 use Rattle.object_sources.specs.Gets.{put_here, put_other}
 use Rattle.meaning_texts.specs.Classes.{IsName}
 use Rattle.meaning_texts.specs.Limits.{body_limit}
 use Rattle.meaning_run.specs.Items.{Item, IsItem}
-use Rattle.meaning_run.specs.Machines as machines
-use Rattle.meaning_run.specs.Machines.{before_reply, within_reply}
 use Rattle.odin_shell.specs.declared.command.Command.{Command}
 use Rattle.odin_shell.specs.declared.command.Command.TheVariants.{Put, Ask, Plan, Nothing, Bad}
 use Rattle.odin_shell.specs.declared.serve.Stop.{Stop}
 use Rattle.odin_shell.specs.declared.serve.Stop.TheVariants.{Memory, Output}
 use Rattle.odin_shell.specs.Commands.{commands}
 use Rattle.odin_outside.specs.Spawned.{Table, Spawned}
+use Rattle.plain_derive.specs.declared.fault.PlainFault.{PlainFault}
+use Rattle.plain_derive.specs.declared.fault.PlainFault.TheVariants.{Spawn, Memory as Wanted}
+use Rattle.odin_answers.specs.Answers.{IsReply, MayHaveBegun, Replies, CountedFor}
+use Rattle.meaning_derive.specs.Derive.{Sources}
 use Rattle.meaning_graph.specs.Graphs.{Graph}
 use Rattle.meaning_derive.specs.Given.{IsSource, AreSources}
-use Rattle.odin_shell.specs.Machine.{State, holding, Told, Belongs, machine, Step, Breaks, halt_of, IsAnswered}
+use Rattle.odin_shell.specs.declared.cutter.Whole.{Whole}
+use Rattle.odin_shell.specs.Machine.{State, holding, Told, Belongs, Step, MayLeave, ToolsStay, IsAnswered}
+use Rattle.odin_shell.specs.Sessions.{Serves, StopsServing}
 
 -- where none runs at most one does
 pub idle_one : (tools : Spawned) → tools.running ≡ [] → length tools.running ≤ 1
@@ -37,62 +41,94 @@ reply_is : (reply out out' given : List ℕ) → out ≡ [] → given ≡ out' �
 reply_is reply out out' given none is bytes = is ∙ bytes ∙ ap (λ o. o ++ reply) none
 
 -- what the code holds and what is told of the tools is the state
-state_is : (table : Option Table) (code : Texts) (state : State) (told : Told) → Belongs table code state told → holding code told.tools told.faults ≡ state
-state_is table code state told belongs = λ i. record { texts = belongs.sources i; tools = belongs.tools i; faults = belongs.faults i }
+state_is : {Disk : Type 0} (table : Option Table) (start : Told Disk) (code : Texts) (state : State) (told : Told Disk) → Belongs table start code state told → holding code told.tools ≡ state
+state_is table start code state told belongs = λ i. record { texts = belongs.sources i; tools = belongs.tools i }
 
 -- the step of an answer is one from the state
-stepped : (g : Graph) (table : Option Table) (old : Texts) (before : Told) (state new : State) (command : Command) (body reply : List ℕ) → Belongs table old state before
-    → Step g before.tools.answer (holding old before.tools before.faults) command body reply new → Step g table state command body reply new
-stepped g table old before state new command body reply belongs step =
-    subst (λ (t : Option Table). Step g t state command body reply new) belongs.answers
-    (subst (λ (s : State). Step g before.tools.answer s command body reply new) (state_is table old state before belongs) step)
+stepped : {Disk : Type 0} (g : Graph) (table : Option Table) (start : Told Disk) (old : Texts) (before : Told Disk) (state new : State) (command : Command) (body reply : List ℕ) → Belongs table start old state before
+    → Step g before.tools.answer (holding old before.tools) command body reply new → Step g table state command body reply new
+stepped g table start old before state new command body reply belongs step =
+    subst (λ (t : Option Table). Step g t state command body reply new) belongs.stay.answers
+    (subst (λ (s : State). Step g before.tools.answer s command body reply new) (state_is table start old state before belongs) step)
 
 -- and so is what is left without one
-broken : (g : Graph) (table : Option Table) (old : Texts) (before : Told) (state new : State) (command : Command) (body : List ℕ) → Belongs table old state before
-    → Breaks g before.tools.answer (holding old before.tools before.faults) command body new → Breaks g table state command body new
-broken g table old before state new command body belongs breaks =
-    subst (λ (t : Option Table). Breaks g t state command body new) belongs.answers
-    (subst (λ (s : State). Breaks g before.tools.answer s command body new) (state_is table old state before belongs) breaks)
+broken : {Disk : Type 0} (g : Graph) (table : Option Table) (start : Told Disk) (old : Texts) (before : Told Disk) (state new : State) (command : Command) (body : List ℕ) → Belongs table start old state before
+    → MayLeave g before.tools.answer (holding old before.tools) command body new → MayLeave g table state command body new
+broken g table start old before state new command body belongs may =
+    subst (λ (t : Option Table). MayLeave g t state command body new) belongs.stay.answers
+    (subst (λ (s : State). MayLeave g before.tools.answer s command body new) (state_is table start old state before belongs) may)
 
-pub Serves-whole : (g : Graph) (table : Option Table) (old new : Texts) (command : Command) (body out out' given : List ℕ) (before after : Told)
-    → out ≡ [] → given ≡ out' → IsAnswered g before.tools.answer (holding old before.tools before.faults) command body out out' (holding new after.tools after.faults) → after.sink ≡ appended before.sink given → after.tools.running ≡ [] → after.tools.answer ≡ before.tools.answer
-    → machines.Serves commands (machine g table) old new command body before after
-Serves-whole g table old new command body out out' given before after none is a wrote idle stays first start state fits =
-    record {
+-- what stays in two calls stays in both
+pub stay_on : {table : Option Table} {a b c : Spawned} → ToolsStay table a b → ToolsStay b.answer b c → ToolsStay table a c
+stay_on first second = let l = first.later in let m = second.later in record { answers = second.answers ∙ first.answers; few = second.few; later = omega arith }
+
+-- no answer lets the count of faults fall
+pub reply_later : (g : Graph) (table : Option Table) (s : Sources) (text reply : Text) (before now : Spawned) → IsReply g table s text reply before now → before.faults ≤ now.faults
+reply_later g table s text reply before now (inl answered) = elim answered.did [
+  | inl alone ↦ let same = ap (λ (t : Spawned). t.faults) alone.told in omega arith
+  | inr derived ↦ let same = derived.made.counted in omega arith
+]
+reply_later g table s text reply before now (inr refused) = refused.begun.counted.later
+
+counted_later : (fault : PlainFault) (before now : ℕ) → CountedFor fault before now → before ≤ now
+counted_later Wanted before now same = omega arith
+counted_later Spawn before now counted = counted.later
+
+begun_later : (g : Graph) (table : Option Table) (s : Sources) (text : Text) (before now : Spawned) → MayHaveBegun g table s text before now → before.faults ≤ now.faults
+begun_later g table s text before now (inl same) = let faults = ap (λ (t : Spawned). t.faults) same in omega arith
+begun_later g table s text before now (inr begun) = counted_later begun.fault before.faults now.faults begun.begun.counted
+
+-- and so it doesn't in an ask, whatever comes of it
+pub ask_stays : {T E : Type 0} (r : Result T E) (g : Graph) (table : Option Table) (s : Sources) (text out out' : Text) (before now : Spawned)
+    → OnOk r (Replies (λ reply. IsReply g table s text reply before now) out out') → OnErr r (MayHaveBegun g table s text before now)
+    → now.answer ≡ before.answer → length now.running ≤ 1 → ToolsStay before.answer before now
+ask_stays (Ok v) g table s text out out' before now ok err answers few = record { answers = answers; few = few; later = reply_later g table s text ok.reply before now ok.holds }
+ask_stays (Err e) g table s text out out' before now ok err answers few = record { answers = answers; few = few; later = begun_later g table s text before now err }
+
+module _ {Disk : Type 0} (g : Graph) (old new : Texts) (whole : Whole) (out out' given : List ℕ) (before after : Told Disk) where
+  pub serves : out ≡ [] → given ≡ out' → IsAnswered g before.tools.answer (holding old before.tools) whole.command whole.body out out' (holding new after.tools)
+      → after.sink ≡ took before.sink given → ToolsStay before.tools.answer before.tools after.tools → after.tools.running ≡ [] → after.disk ≡ before.disk → Serves g old new whole before after
+  serves none is a wrote stay idle disk = record {
+    idle = idle;
+    over = λ table first start state fits. record {
       reply = a.reply;
-      new = holding new after.tools after.faults;
-      step = stepped g table old before state (holding new after.tools after.faults) command body a.reply fits a.step;
-      wrote = wrote ∙ ap (appended before.sink) (reply_is a.reply out out' given none is a.bytes);
-      fits = record { sources = refl; tools = refl; faults = refl; answers = stays ∙ fits.answers; idle = idle };
-    }
+      new = holding new after.tools;
+      step = stepped g table start old before state (holding new after.tools) whole.command whole.body a.reply fits a.step;
+      wrote = wrote ∙ ap (took before.sink) (reply_is a.reply out out' given none is a.bytes);
+      fits = record { sources = refl; tools = refl; stay = stay_on fits.stay stay; idle = idle; disk = disk ∙ fits.disk };
+    };
+  }
 
-pub Stops-reply : (g : Graph) (table : Option Table) (old new : Texts) (command : Command) (body out out' given : List ℕ) (before after : Told) (count : ℕ)
-    → out ≡ [] → given ≡ out' → IsAnswered g before.tools.answer (holding old before.tools before.faults) command body out out' (holding new after.tools after.faults) → count < length given → after.sink ≡ appended before.sink (take count given) → before.faults ≤ after.faults
-    → machines.StopsServing commands (machine g table) (halt_of Output) old command body before after
-Stops-reply g table old new command body out out' given before after count none is a proper wrote later first start state fits =
-    let same = reply_is a.reply out out' given none is a.bytes in
-    let faults = fits.faults in
-    record {
-      reply = a.reply;
-      new = holding new after.tools after.faults;
-      step = stepped g table old before state (holding new after.tools after.faults) command body a.reply fits a.step;
-      count = count;
-      proper = subst (λ r. count < length r) same proper;
-      wrote = wrote ∙ ap (λ r. appended before.sink (take count r)) same;
-      kept = record { tools = refl; faults = refl; acknowledged = omega arith };
-    }
+  pub stops_reply : out ≡ [] → given ≡ out' → IsAnswered g before.tools.answer (holding old before.tools) whole.command whole.body out out' (holding new after.tools)
+      → TookPart given before.sink after.sink → ToolsStay before.tools.answer before.tools after.tools → after.tools.running ≡ [] → after.disk ≡ before.disk → StopsServing g Output old whole before after
+  stops_reply none is a wrote stay idle disk = record {
+    idle = λ other. idle;
+    over = λ table first start state fits.
+        let later = stay.later in
+        let tools : before.tools.faults ≡ state.tools.faults = ap (λ (t : Spawned). t.faults) fits.tools in
+        record {
+          reply = a.reply;
+          new = holding new after.tools;
+          step = stepped g table start old before state (holding new after.tools) whole.command whole.body a.reply fits a.step;
+          wrote = subst (λ r. TookPart r before.sink after.sink) (reply_is a.reply out out' given none is a.bytes) wrote;
+          exit = record { tools = refl; counted = omega arith; stay = stay_on fits.stay stay; disk = disk ∙ fits.disk };
+        };
+  }
 
-pub Stops-answer : (g : Graph) (table : Option Table) (old new : Texts) (command : Command) (body : List ℕ) (before after : Told)
-    → Breaks g before.tools.answer (holding old before.tools before.faults) command body (holding new after.tools after.faults) → after.sink ≡ before.sink → before.faults ≤ after.faults
-    → machines.StopsServing commands (machine g table) (halt_of Memory) old command body before after
-Stops-answer g table old new command body before after breaks same later first start state fits =
-    let faults = fits.faults in
-    record {
-      furthest = holding new after.tools after.faults;
-      may = broken g table old before state (holding new after.tools after.faults) command body fits breaks;
-      wrote = same;
-      kept = record { tools = refl; faults = refl; acknowledged = omega arith };
-    }
+  pub stops_answer : MayLeave g before.tools.answer (holding old before.tools) whole.command whole.body (holding new after.tools)
+      → after.sink ≡ before.sink → ToolsStay before.tools.answer before.tools after.tools → after.disk ≡ before.disk → StopsServing g Memory old whole before after
+  stops_answer may same stay disk = record {
+    idle = λ other. absurd (other refl);
+    over = λ table first start state fits.
+        let later = stay.later in
+        let tools : before.tools.faults ≡ state.tools.faults = ap (λ (t : Spawned). t.faults) fits.tools in
+        record {
+          furthest = holding new after.tools;
+          may = broken g table start old before state (holding new after.tools) whole.command whole.body fits may;
+          wrote = same;
+          exit = record { tools = refl; counted = omega arith; stay = stay_on fits.stay stay; disk = disk ∙ fits.disk };
+        };
+  }
 
 -- behind each command the sources are names with texts that are not too long
 put_stays : (old : Texts) (name text : Text) → AreSources old → IsName name → length text ≤ body_limit → AreSources (map.insert old name text)

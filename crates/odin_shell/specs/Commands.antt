@@ -47,11 +47,8 @@ Spells Bad line = IsBad line
 -- how many bytes behind its line belong to the command
 abbrev pub takes : Command → ℕ
 takes (Put name count) = count
-takes (Ask request) = 0
-takes (Plan request) = 0
-takes Nothing = 0
-takes Bad = 0
+takes other = 0
 
 -- the commands of a session, behind each of which it goes on
 abbrev pub commands : Language Command
-commands = record { Spells = Spells; takes = takes; ends = λ command. false }
+commands = record { Spells = Spells; takes = takes; ends_run = λ command. false }

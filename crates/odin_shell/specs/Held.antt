@@ -1,15 +1,11 @@
--- What a session holds of an item that is not whole yet.
+-- What is held of an item that is not whole yet.
 use Rattle.std.specs.Prelude.{◌≡◌, ℕ, ◌+◌, List, [], length, take, Option, Some, None, IsSomeAnd}
 use Rattle.meaning_run.specs.Items.{HasNoLf, IsBegun}
 use Rattle.odin_shell.specs.declared.command.Command.{Command}
-use Rattle.odin_shell.specs.declared.command.Command.TheVariants.{Put, Ask, Plan, Nothing, Bad}
+use Rattle.odin_shell.specs.declared.command.Command.TheVariants.{Put}
 use Rattle.odin_shell.specs.declared.pending.Pending.{Pending}
+use Rattle.odin_shell.specs.declared.cutter.Cutter.{Cutter}
 use Rattle.odin_shell.specs.Commands.{commands}
-
--- the first bytes of a line, and a `put` whose line was read and whose bytes are not all there
-pub record Held : Type 0 where
-  pub line : List ℕ
-  pub put : Option Pending
 
 -- how many bytes of a line are held: more than the longest command and its CR have
 abbrev pub held_length : ℕ
@@ -25,7 +21,7 @@ abbrev pub KeepsPart : List ℕ → Option Pending → List ℕ → Type 0
 KeepsPart line None part = HasNoLf part × (line ≡ take held_length part)
 KeepsPart line (Some put) part = (line ≡ []) × IsPending put part
 
-abbrev pub Keeps : Held → List ℕ → Type 0
+abbrev pub Keeps : Cutter → List ℕ → Type 0
 Keeps held part = KeepsPart held.line held.put part
 
 -- a `put` of this name before the first of so many bytes
@@ -37,7 +33,4 @@ pub record IsNew (name : List ℕ) (count : ℕ) (put : Pending) : Type 0 where
 -- a command that takes bytes, before the first of them
 abbrev pub IsPendingOf : Command → Option Pending → Type 0
 IsPendingOf (Put name count) put = IsSomeAnd put (IsNew name count)
-IsPendingOf (Ask request) put = put ≡ None
-IsPendingOf (Plan request) put = put ≡ None
-IsPendingOf Nothing put = put ≡ None
-IsPendingOf Bad put = put ≡ None
+IsPendingOf other put = put ≡ None

@@ -8,14 +8,18 @@ use Rattle.meaning_run.specs.Items.{Item, IsItem, OneCut}
 use Rattle.meaning_run.specs.Machines.{Transcript}
 use Rattle.odin_answers.specs.Answers.{refused_tool_start}
 use Rattle.odin_shell.specs.declared.command.Command.{Command}
-use Rattle.odin_shell.specs.Commands.{commands}
-use Rattle.odin_shell.specs.Machine.{State, Step, machine}
+use Rattle.odin_shell.specs.Commands.{commands, Spells}
+use Rattle.odin_shell.specs.Machine.{State, Step}
 use Rattle.odin_shell.specs.declared.graph.Opened.{Opened}
 use Rattle.odin_shell.specs.Opened.{IsOpened}
 
 -- an input is cut in one way only into commands and less than a command
 abbrev pub InputIsCutOnce : Type 0
 InputIsCutOnce = OneCut commands
+
+-- a line is one command
+abbrev pub LineIsOneCommand : Type 0
+LineIsOneCommand = (a b : Command) (line : List ℕ) → Spells a line → Spells b line → b ≡ a
 
 -- behind each command the sources are names with texts that are not too long
 abbrev pub SourcesStay : Type 0
@@ -36,4 +40,4 @@ refused_starts (reply ∷ replies) = (if bytes_eq reply refused_tool_start then 
 
 -- There are at most as many of them as the count of the tools' faults rose, a count that stands still at the end of its type.
 abbrev pub RefusalsAreCounted : Type 0
-RefusalsAreCounted = (g : Graph) (table : Option Table) (first state : State) (items : List Item) (replies : List (List ℕ)) → Transcript commands (machine g table) first items replies state → min (first.faults + refused_starts replies) last_count ≤ state.faults
+RefusalsAreCounted = (g : Graph) (table : Option Table) (first state : State) (items : List Item) (replies : List (List ℕ)) → Transcript commands (Step g table) first items replies state → min (first.tools.faults + refused_starts replies) last_count ≤ state.tools.faults

@@ -1,8 +1,12 @@
-pub mod Commands
-pub mod Replies
-pub mod Held
-pub mod Machine
-pub mod Sessions
+pub mod Run
+pub mod Endings
+pub mod Objects
 pub mod Words
 pub mod Opened
+pub mod Commands
+pub mod Held
+pub mod Cuts
+pub mod Machine
+pub mod Sessions
+pub mod Replies
 pub mod Laws

@@ -1,12 +1,11 @@
 -- The graph that a run works by, from what the tree gives of its file, and the last line where there is none.
-use Rattle.std.specs.Prelude.{◌≡◌, ◌≢◌, ℕ, ◌-◌, ◌<◌, List, [], ◌++◌, length, take, Option, Some, None, All, slice_get, codes}
+use Rattle.std.specs.Prelude.{◌≡◌, ◌≢◌, ℕ, ◌-◌, ◌<◌, [], ◌++◌, take, Option, Some, None, All, slice_get, codes}
 use Rattle.std.specs.Fmt.{decimal}
 use Rattle.object_values.specs.declared.graph.Decl.{Decl}
 use Rattle.object_values.specs.declared.graph.Decl.TheVariants.{ObjectType, Suffix, Param, Maker}
 use Rattle.object_values.specs.declared.graph.GraphFault.{GraphFault}
 use Rattle.object_values.specs.declared.graph.GraphFault.TheVariants.{UnknownType, DoubleName, SupertypeLoop, WrongKind, TooMany, UnknownParam}
 use Rattle.odin_outside.specs.Files.{Files, IsGiven}
-use Rattle.odin_outside.specs.Told.{appended}
 use Rattle.meaning_texts.specs.Lines.{with_lf}
 use Rattle.meaning_graph.specs.Graphs.{Text, Graph}
 use Rattle.meaning_graph_text.specs.Places.{BeginsOnLine}
@@ -16,7 +15,6 @@ use Rattle.dg_reader.specs.Files.{IsRead, Refuses}
 use Rattle.plain_derive.specs.Built.{IsBuilt}
 use Rattle.odin_shell.specs.declared.graph.Opened.{Opened}
 use Rattle.odin_shell.specs.declared.graph.Opened.TheVariants as opened
-use Rattle.odin_shell.specs.Words.{graph_word}
 
 -- ---- last lines
 
@@ -39,12 +37,6 @@ fault_line TooLong = with_lf (codes "graph: too long")
 fault_line (Syntax line column) = with_lf (codes "graph: line " ++ decimal line ++ codes " column " ++ decimal column ++ codes ": syntax")
 fault_line (Check line fault) = at_line line (fault_words fault)
 fault_line Memory = []
-
--- less than all of a line stands behind what was written before
-pub record IsPartOf (line : Text) (before after : Option Text) : Type 0 where
-  pub count : ℕ
-  pub proper : count < length line
-  pub is : after ≡ appended before (take count line)
 
 -- ---- graphs
 
@@ -83,24 +75,8 @@ abbrev pub IsOpened : Option Text → Opened → Type 0
 IsOpened given (opened.Ready g) = ReadsAs given g
 IsOpened given (opened.Refused line) = IsRefused given line
 
--- ---- what the tree gives
-
--- It holds of the graph that the file of the words is one of, where the tree tells its files, or of some graph.
-pub record Over (files : Option Files) (words : List Text) (P : Graph → Type 0) : Type 0 where
-  pub name : Text
-  pub named : graph_word words ≡ Some name
+-- what the tree gives of the file of this name is opened so
+pub record Opens (files : Option Files) (name : Text) (o : Opened) : Type 0 where
   pub given : Option Text
-  pub is_given : IsGiven files name given
-  pub graph : Graph
-  pub reads : ReadsAs given graph
-  pub holds : P graph
-
--- It holds of the last line by which the file of the words is refused.
-pub record OverRefused (files : Option Files) (words : List Text) (P : Text → Type 0) : Type 0 where
-  pub name : Text
-  pub named : graph_word words ≡ Some name
-  pub given : Option Text
-  pub is_given : IsGiven files name given
-  pub line : Text
-  pub refused : IsRefused given line
-  pub holds : P line
+  pub is : IsGiven files name given
+  pub opened : IsOpened given o

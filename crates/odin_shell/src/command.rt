@@ -35,7 +35,9 @@ const TEXT_LIMIT: u64 = 16_777_216;
 
 /// The name and the number in `put NAME LEN`.
 fn put_parts(alloc: Global, line: &[u8]) -> Result<Option<(Name, u64)>, Memory>
-    ensures { IfOk result (λ parts. MatchOption parts ((name : List ℕ) (count : ℕ) → ¬ IsPut line.now name count) (λ parts. IsPut line.now parts.0 parts.1)) }
+    ensures { IfOk result (λ parts. MatchOption parts
+        ((name : List ℕ) (count : ℕ) → ¬ IsPut line.now name count)
+        (λ parts. IsPut line.now parts.0 parts.1)) }
 {
     let Some(rest) = line.strip_prefix(b"put ") else {
         return Ok(None);
@@ -57,7 +59,9 @@ fn put_parts(alloc: Global, line: &[u8]) -> Result<Option<(Name, u64)>, Memory>
 
 /// The request behind a word and its space.
 fn request_behind(alloc: Global, word: &[u8], line: &[u8]) -> Result<Option<Request>, Memory>
-    ensures { IfOk result (λ request. MatchOption request ((request : Request) → ¬ IsRequestBehind word.now line.now request) (IsRequestBehind word.now line.now)) }
+    ensures { IfOk result (λ request. MatchOption request
+        ((request : Request) → ¬ IsRequestBehind word.now line.now request)
+        (IsRequestBehind word.now line.now)) }
 {
     let Some(text) = line.strip_prefix(word) else {
         return Ok(None);

@@ -1,9 +1,10 @@
 // A graph that objects can be derived by, with its paths.
-ghost use Rattle.std.specs.Prelude.{◌≡◌, ◌≤◌, [], length, IfOk, OnOk, OnErr};
+ghost use Rattle.std.specs.Prelude.{◌≡◌, [], IfOk, OnOk, OnErr};
 ghost use Rattle.plain_derive.specs.Built.{IsBuiltGraph};
 ghost use Rattle.meaning_answers.specs.Answers.{Plan};
 ghost use Rattle.odin_answers.specs.Requests.{request_text};
 ghost use Rattle.odin_answers.specs.Answers.{Replies, IsReply, MayHaveBegun};
+ghost use Rattle.odin_shell.specs.Machine.{ToolsStay};
 
 use object_sources::Sources;
 use object_values::{Bytes, Memory};
@@ -15,10 +16,17 @@ use std::marker::Model;
 use type_graph::Graph;
 
 /// A graph that objects can be derived by, with its paths.
-#[derive(Drop)]
 pub(crate) struct Deriver {
     graph: Graph,
     plans: Plans,
+}
+
+impl Drop for Deriver {
+    fn drop(self) {
+        let Deriver { graph, plans } = self;
+        drop(graph);
+        drop(plans);
+    }
 }
 
 impl Model for Deriver {
@@ -53,12 +61,16 @@ impl Deriver {
         out: &mut Bytes,
     ) -> Result<(), Memory>
         requires idle { (S.told tools.old).running ≡ [] }
-        ensures ok { OnOk result (Replies (λ reply. IsReply self.now (S.told tools.old).answer sources.now.texts (request_text request.now) reply (S.told tools.old) (S.faults tools.old) (S.told tools.new) (S.faults tools.new)) out.old out.new) }
-        ensures begun { OnErr result (MayHaveBegun self.now (S.told tools.old).answer sources.now.texts (request_text request.now) (S.told tools.old) (S.told tools.new)) }
+        ensures ok { let before = S.told tools.old in
+            let text = request_text request.now in
+            OnOk result (Replies (λ reply. IsReply self.now before.answer sources.now.texts
+            text reply before (S.told tools.new)) out.old out.new) }
+        ensures begun { let before = S.told tools.old in
+            let text = request_text request.now in
+            OnErr result (MayHaveBegun self.now before.answer sources.now.texts
+            text before (S.told tools.new)) }
         ensures idle { OnOk result ((S.told tools.new).running ≡ []) }
-        ensures one { length (S.told tools.new).running ≤ 1 }
-        ensures answer { (S.told tools.new).answer ≡ (S.told tools.old).answer }
-        ensures later { S.faults tools.old ≤ S.faults tools.new }
+        ensures stay { ToolsStay (S.told tools.old).answer (S.told tools.old) (S.told tools.new) }
     {
         answer_ask(
             alloc,

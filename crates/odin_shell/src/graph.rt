@@ -1,9 +1,8 @@
 // The graph that a run works by.
 ghost use Rattle.std.specs.Prelude.{◌≡◌, ◌≢◌, ◌≤◌, ◌++◌, ℕ, List, Option, Some, None, IsTrue, ◌↔◌, IfOk, OnOk, MatchOption, IsErr};
-ghost use Rattle.odin_outside.specs.Causes.{Rose};
-ghost use Rattle.odin_outside.specs.Files.{IsGiven};
+ghost use Rattle.odin_outside.specs.Causes.{HasCauseBut, once_more};
 ghost use Rattle.meaning_graph.specs.Graphs.{Text};
-ghost use Rattle.odin_shell.specs.Opened.{fault_words, no_file_line, at_line, fault_line, IsServed, IsServedGraph, IsFirstNotBuilt, IsRefused, IsOpened};
+ghost use Rattle.odin_shell.specs.Opened.{fault_words, no_file_line, at_line, fault_line, IsServed, IsServedGraph, IsFirstNotBuilt, IsRefused, IsOpened, Opens};
 ghost use Rattle.dg_reader.specs.Files.{IsFile};
 
 use dg_reader::{GraphFile, ReadFault, read_graph_file};
@@ -21,7 +20,7 @@ pub(crate) enum Opened {
 }
 
 /// Why the file of the graph was not read.
-#[derive(Clone, Copy, Debug, PartialEq, Eq)]
+#[derive(Clone, Copy)]
 pub(crate) enum OpenFault {
     Tree,
     Memory,
@@ -124,7 +123,9 @@ fn first_not_built(declared: &[Decl]) -> Option<usize>
 // The last line on the first declaration that a run isn't built for yet.
 fn not_yet_line(alloc: Global, file: &GraphFile, text: &[u8]) -> Result<Option<Bytes>, Memory>
     requires { IsFile text.now file.now }
-    ensures { IfOk result (λ line. MatchOption line (IsServedGraph file.now.graph) (IsRefused (Some text.now))) }
+    ensures { IfOk result (λ line. MatchOption line
+        (IsServedGraph file.now.graph)
+        (IsRefused (Some text.now))) }
 {
     file.graph.checked();
     let Some(number) = first_not_built(file.graph.decls()) else {
@@ -136,7 +137,9 @@ fn not_yet_line(alloc: Global, file: &GraphFile, text: &[u8]) -> Result<Option<B
 
 // The graph, where no line refuses it.
 fn opened_by(graph: Graph, line: Option<Bytes>) -> Opened
-    ensures { MatchOption line (result ≡ Opened.Ready graph) (λ line. result ≡ Opened.Refused line) }
+    ensures { MatchOption line
+        (result ≡ Opened.Ready graph)
+        (λ line. result ≡ Opened.Refused line) }
 {
     match line {
         Some(line) => Opened::Refused(line),
@@ -174,10 +177,10 @@ pub(crate) fn open_graph<T: Tree>(
     tree: &mut T,
     name: &[u8],
 ) -> Result<Opened, OpenFault>
-    ensures ok { IfOk result (λ opened. (given : Option Text) × IsGiven (T.files tree.old) name.now given × IsOpened given opened) }
+    ensures ok { IfOk result (Opens (T.files tree.old) name.now) }
     ensures kept { T.files tree.new ≡ T.files tree.old }
-    ensures later { T.faults tree.old ≤ T.faults tree.new }
-    ensures cause { result ≡ Err OpenFault.Tree → Rose (T.faults tree.old) (T.faults tree.new) }
+    ensures once { T.reads tree.new ≡ once_more (T.reads tree.old) }
+    ensures cause { HasCauseBut OpenFault.Memory (T.faults tree.old) (T.faults tree.new) result }
 {
     match tree.read(alloc, name) {
         Ok(given) => Ok(read_given(alloc, &given)?),

@@ -1,9 +1,14 @@
 // Laws over inputs and sessions.
-ghost use Rattle.odin_shell.specs.Laws.{InputIsCutOnce, SourcesStay, EachIsOpened, OpenedIsOne, RefusalsAreCounted};
+ghost use Rattle.odin_shell.specs.Laws.{InputIsCutOnce, LineIsOneCommand, SourcesStay, EachIsOpened, OpenedIsOne, RefusalsAreCounted};
 
 /// An input is cut into commands in one way only.
 pub fn input_is_cut_once()
     ensures { InputIsCutOnce }
+{}
+
+/// A line is one command.
+pub fn line_is_one_command()
+    ensures { LineIsOneCommand }
 {}
 
 /// The sources of a session are always names with texts of at most 16,777,216 bytes.

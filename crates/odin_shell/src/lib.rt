@@ -2,7 +2,9 @@
 #![tactic(auto)]
 
 mod command;
+mod cutter;
 mod deriver;
+mod ending;
 mod entry;
 mod graph;
 mod input;

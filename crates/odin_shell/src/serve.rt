@@ -1,26 +1,38 @@
 // One command: its change, and then its reply.
-ghost use Rattle.std.specs.Prelude.{◌≡◌, ◌≤◌, ◌++◌, [], Option, OnOk, OnErr, IfErr, IsErrOf};
-ghost use Rattle.odin_outside.specs.Causes.{Rose};
-ghost use Rattle.odin_outside.specs.Spawned.{Table};
-ghost use Rattle.meaning_run.specs.Machines.{Serves, StopsServing};
-ghost use Rattle.odin_shell.specs.Commands.{commands};
+ghost use Rattle.std.specs.Prelude.{◌≡◌, ◌++◌, [], OnOk, OnErr, IfErr};
 ghost use Rattle.odin_shell.specs.Replies.{put_reply};
-ghost use Rattle.odin_shell.specs.Machine.{machine, holding, telling, halt_of, IsAnswered, Breaks, ToolsStay};
+ghost use Rattle.odin_shell.specs.Endings.{ending_of};
+ghost use Rattle.odin_shell.specs.Objects.{told_of};
+ghost use Rattle.odin_shell.specs.Machine.{holding, IsAnswered, MayLeave, ToolsStay};
+ghost use Rattle.odin_shell.specs.Sessions.{Serves, StopsServing};
 
 use crate::command::Command;
+use crate::cutter::Whole;
 use crate::deriver::Deriver;
+use crate::ending::Ending;
 use crate::write::write_whole;
 use object_sources::Sources;
 use object_values::{Bytes, Memory};
 use odin_bytes::write_number;
-use odin_outside::{Failed, Sink, Spawner};
+use odin_outside::{Disk, Failed, Sink, Spawner};
 use std::alloc::Global;
 
 /// Why serving stopped.
-#[derive(Clone, Copy, Debug, PartialEq, Eq)]
+#[derive(Clone, Copy)]
 pub(crate) enum Stop {
     Memory,
     Output,
+}
+
+impl Stop {
+    pub(crate) fn ending(self) -> Ending
+        ensures { result ≡ ending_of self }
+    {
+        match self {
+            Stop::Memory => Ending::Memory,
+            Stop::Output => Ending::Output,
+        }
+    }
 }
 
 impl From<Memory> for Stop {
@@ -60,17 +72,21 @@ fn answer<S: Spawner>(
     alloc: Global,
     deriver: &Deriver,
     sources: &mut Sources,
+    whole: Whole,
     tools: &mut S,
-    command: Command,
-    body: Bytes,
     out: &mut Bytes,
 ) -> Result<(), Memory>
     requires idle { (S.told tools.old).running ≡ [] }
-    ensures ok { OnOk result (IsAnswered deriver.now (S.told tools.old).answer (holding sources.old.texts (S.told tools.old) (S.faults tools.old)) command body out.old out.new (holding sources.new.texts (S.told tools.new) (S.faults tools.new))) }
-    ensures err { OnErr result (Breaks deriver.now (S.told tools.old).answer (holding sources.old.texts (S.told tools.old) (S.faults tools.old)) command body (holding sources.new.texts (S.told tools.new) (S.faults tools.new))) }
+    ensures ok { let old = holding sources.old.texts (S.told tools.old) in
+        let new = holding sources.new.texts (S.told tools.new) in
+        OnOk result (IsAnswered deriver.now old.tools.answer old whole.command whole.body out.old out.new new) }
+    ensures err { let old = holding sources.old.texts (S.told tools.old) in
+        let new = holding sources.new.texts (S.told tools.new) in
+        OnErr result (MayLeave deriver.now old.tools.answer old whole.command whole.body new) }
     ensures idle { OnOk result ((S.told tools.new).running ≡ []) }
-    ensures tools { ToolsStay (S.told tools.old) (S.faults tools.old) (S.told tools.new) (S.faults tools.new) }
+    ensures stay { ToolsStay (S.told tools.old).answer (S.told tools.old) (S.told tools.new) }
 {
+    let Whole { command, body } = whole;
     match command {
         Command::Put(name, count) => {
             write_put(name.as_slice(), count, out)?;
@@ -85,26 +101,27 @@ fn answer<S: Spawner>(
     }
 }
 
-/// Serves one command. The reply is made whole before its first byte is written. After want of memory one tool may still run.
-pub(crate) fn serve_command<O: Sink, S: Spawner>(
+/// Serves a command: its change, and then its reply, which is taken whole.
+#[tactic(auto, using(crate::proofs::ServeLemmas::idle_one))]
+pub(crate) fn serve_command<O: Sink, S: Spawner, D: Disk>(
     alloc: Global,
     deriver: &Deriver,
     sources: &mut Sources,
-    tools: &mut S,
+    whole: Whole,
     output: &mut O,
-    command: Command,
-    body: Bytes,
+    tools: &mut S,
+    disk: &mut D,
 ) -> Result<(), Stop>
     requires idle { (S.told tools.old).running ≡ [] }
-    ensures ok { OnOk result ((table : Option Table) → Serves commands (machine deriver.now table) sources.old.texts sources.new.texts command body (telling (O.taken output.old) (S.told tools.old) (S.faults tools.old)) (telling (O.taken output.new) (S.told tools.new) (S.faults tools.new))) }
-    ensures err { IfErr result (λ stop. (table : Option Table) → StopsServing commands (machine deriver.now table) (halt_of stop) sources.old.texts command body (telling (O.taken output.old) (S.told tools.old) (S.faults tools.old)) (telling (O.taken output.new) (S.told tools.new) (S.faults tools.new))) }
-    ensures idle { ¬ IsErrOf result Stop.Memory → (S.told tools.new).running ≡ [] }
-    ensures tools { ToolsStay (S.told tools.old) (S.faults tools.old) (S.told tools.new) (S.faults tools.new) }
-    ensures later { O.faults output.old ≤ O.faults output.new }
-    ensures cause { IsErrOf result Stop.Output → Rose (O.faults output.old) (O.faults output.new) }
+    ensures ok { let before = told_of O.taken O.faults S.told output.old tools.old disk.old in
+        let after = told_of O.taken O.faults S.told output.new tools.new disk.new in
+        OnOk result (Serves deriver.now sources.old.texts sources.new.texts whole before after) }
+    ensures err { let before = told_of O.taken O.faults S.told output.old tools.old disk.old in
+        let after = told_of O.taken O.faults S.told output.new tools.new disk.new in
+        IfErr result (λ stop. StopsServing deriver.now stop sources.old.texts whole before after) }
 {
     let mut reply = Bytes::new(alloc);
-    answer(alloc, deriver, sources, tools, command, body, &mut reply)?;
+    answer(alloc, deriver, sources, whole, tools, &mut reply)?;
     write_whole(output, reply.as_slice())?;
     Ok(())
 }

@@ -1,5 +1,19 @@
-use Rattle.odin_shell.proofs.GraphLemmas.{all_derivable}
+use Rattle.std.proofs.Common.{ap, ◌∙◌}
+use Rattle.odin_shell.specs.Endings.{status_of}
+use Rattle.odin_shell.proofs.RunLemmas.{run_ends, files_kept, disk_kept, tools_stay, tools_idle}
 use Rattle.odin_shell.proofs.entry.run.Goals as goal
 
-pub serve_graph-requires-clause-built : goal.serve_graph-requires-clause-built
-serve_graph-requires-clause-built g c = let opened = rw c.in-Ok-Ready.field-0-is at c.in-Ok-Ready.ensures.ok in all_derivable c.in-Ok-Ready.graph opened.2.built
+pub returns-clause-ends : goal.returns-clause-ends
+returns-clause-ends g c = run_ends _ _ _ _ c.run_words.result _ c.status.ensures c.run_words.ensures
+
+pub returns-clause-tree : goal.returns-clause-tree
+returns-clause-tree g c = files_kept _ _ _ _ c.run_words.result c.run_words.ensures
+
+pub returns-clause-tools : goal.returns-clause-tools
+returns-clause-tools g c = tools_stay _ _ _ _ c.run_words.result c.requires c.run_words.ensures
+
+pub returns-clause-idle : goal.returns-clause-idle
+returns-clause-idle g c = λ other. tools_idle _ _ _ _ c.run_words.result c.requires (λ e. other (c.status.ensures ∙ ap status_of e)) c.run_words.ensures
+
+pub returns-clause-disk : goal.returns-clause-disk
+returns-clause-disk g c = disk_kept _ _ _ _ c.run_words.result c.run_words.ensures

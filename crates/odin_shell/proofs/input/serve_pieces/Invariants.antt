@@ -1,16 +1,13 @@
-use Rattle.std.proofs.Common.{◌≡◌, ◌-◌, ◌≤◌, []}
-use Rattle.odin_shell.specs.Machine.{telling, ToolsStay}
+use Rattle.std.proofs.Common.{◌≡◌, ◌-◌, ◌≤◌}
+use Rattle.odin_shell.specs.Objects.{told_of}
 use Rattle.odin_shell.specs.Sessions.{Reads}
 use Rattle.odin_shell.proofs.input.serve_pieces.Given as goal
 
 abbrev pub invariant-loop-count : goal.invariant-loop-count
 invariant-loop-count g l = record {
-  reading : Reads l.deriver (telling (g.O.Sink.taken l.initial.output) (g.S.Spawner.told l.initial.tools) (g.S.Spawner.faults l.initial.tools)) (g.I.Source.left l.initial.input) (g.I.Source.left l.input) l.count (telling (g.O.Sink.taken l.output) (g.S.Spawner.told l.tools) (g.S.Spawner.faults l.tools)) l.session;
+  reading : Reads l.deriver (told_of g.O.Sink.taken g.O.Sink.faults g.S.Spawner.told l.initial.output l.initial.tools l.initial.disk) (g.I.Source.left l.initial.input) (g.I.Source.left l.input) l.count (told_of g.O.Sink.taken g.O.Sink.faults g.S.Spawner.told l.output l.tools l.disk) l.session;
   within : l.count ≤ 1073741824;
-  later_in : g.I.Source.faults l.initial.input ≤ g.I.Source.faults l.input;
-  later_out : g.O.Sink.faults l.initial.output ≤ g.O.Sink.faults l.output;
-  tools : ToolsStay (g.S.Spawner.told l.initial.tools) (g.S.Spawner.faults l.initial.tools) (g.S.Spawner.told l.tools) (g.S.Spawner.faults l.tools);
-  idle : (g.S.Spawner.told l.tools).running ≡ [];
+  counted : g.I.Source.faults l.input ≡ g.I.Source.faults l.initial.input;
 }
 
 abbrev pub decreases-loop-count : goal.decreases-loop-count

@@ -1,15 +1,12 @@
-use Rattle.std.proofs.Common.{◌≡◌, ◌-◌, ◌≤◌, [], length, take}
-use Rattle.odin_shell.specs.Machine.{telling, ToolsStay}
+use Rattle.std.proofs.Common.{◌-◌, ◌≤◌, length, take}
+use Rattle.odin_shell.specs.Objects.{told_of}
 use Rattle.odin_shell.specs.Sessions.{Goes}
 use Rattle.odin_shell.proofs.session.Session.take_piece.Given as goal
 
 abbrev pub invariant-loop-at : goal.invariant-loop-at
 invariant-loop-at g l = record {
   within : l.at ≤ length l.piece;
-  goes : Goes l.deriver (take l.at l.piece) (telling (g.O.Sink.taken l.initial.output) (g.S.Spawner.told l.initial.tools) (g.S.Spawner.faults l.initial.tools)) l.initial.self (telling (g.O.Sink.taken l.output) (g.S.Spawner.told l.tools) (g.S.Spawner.faults l.tools)) l.self;
-  later : g.O.Sink.faults l.initial.output ≤ g.O.Sink.faults l.output;
-  tools : ToolsStay (g.S.Spawner.told l.initial.tools) (g.S.Spawner.faults l.initial.tools) (g.S.Spawner.told l.tools) (g.S.Spawner.faults l.tools);
-  idle : (g.S.Spawner.told l.tools).running ≡ [];
+  goes : Goes l.deriver (take l.at l.piece) (told_of g.O.Sink.taken g.O.Sink.faults g.S.Spawner.told l.initial.output l.initial.tools l.initial.disk) l.initial.self (told_of g.O.Sink.taken g.O.Sink.faults g.S.Spawner.told l.output l.tools l.disk) l.self;
 }
 
 abbrev pub decreases-loop-at : goal.decreases-loop-at

@@ -1,0 +1,55 @@
+-- The objects of the outside that a run works on, and what they tell.
+use Rattle.std.specs.Prelude.{ℕ, List, Option}
+use Rattle.odin_outside.specs.Files.{Files}
+use Rattle.odin_outside.specs.Spawned.{Spawned}
+use Rattle.meaning_run.specs.Objects.{SinkTold}
+use Rattle.odin_shell.specs.Machine.{Told}
+
+-- what is left of an input, where it tells that, and the count of its faults
+pub record SourceTold : Type 0 where
+  pub left : Option (List ℕ)
+  pub faults : ℕ
+
+abbrev pub source_of : {I : Type 0} → (I → Option (List ℕ)) → (I → ℕ) → I → SourceTold
+source_of left faults input = record { left = left input; faults = faults input }
+
+abbrev pub sink_of : {O : Type 0} → (O → Option (List ℕ)) → (O → ℕ) → O → SinkTold
+sink_of taken faults output = record { taken = taken output; faults = faults output }
+
+-- what is told of all that a session works on, but for its input
+abbrev pub told_of : {O S D : Type 0} → (O → Option (List ℕ)) → (O → ℕ) → (S → Spawned) → O → S → D → Told D
+told_of taken faults told output tools disk = record { sink = sink_of taken faults output; tools = told tools; disk = disk }
+
+-- all the objects, at one moment
+pub record Outside (I O T S D : Type 0) : Type 0 where
+  pub input : I
+  pub output : O
+  pub tree : T
+  pub tools : S
+  pub disk : D
+
+abbrev pub outside : {I O T S D : Type 0} → I → O → T → S → D → Outside I O T S D
+outside input output tree tools disk = record { input = input; output = output; tree = tree; tools = tools; disk = disk }
+
+-- what each of them tells
+pub record Meaning (I O T S : Type 0) : Type 0 where
+  pub left : I → Option (List ℕ)
+  pub input_faults : I → ℕ
+  pub taken : O → Option (List ℕ)
+  pub output_faults : O → ℕ
+  pub files : T → Option Files
+  pub tree_faults : T → ℕ
+  pub reads : T → ℕ
+  pub spawned : S → Spawned
+
+abbrev pub meaning : {I O T S : Type 0} → (I → Option (List ℕ)) → (I → ℕ) → (O → Option (List ℕ)) → (O → ℕ) → (T → Option Files) → (T → ℕ) → (T → ℕ) → (S → Spawned) → Meaning I O T S
+meaning left input_faults taken output_faults files tree_faults reads spawned = record {
+  left = left;
+  input_faults = input_faults;
+  taken = taken;
+  output_faults = output_faults;
+  files = files;
+  tree_faults = tree_faults;
+  reads = reads;
+  spawned = spawned;
+}
