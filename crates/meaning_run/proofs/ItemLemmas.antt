@@ -1,51 +1,12 @@
--- Texts without a byte, and how an input is cut into items.
-use Rattle.std.proofs.Common.{◌≡◌, ◌≢◌, ℕ, zero, suc, ◌+◌, ◌<◌, List, [], ◌∷◌, ◌++◌, length, take, drop, get_or, ap, sym, refl, ◌∙◌, subst, arith, add-one, inl, inr}
-use Rattle.std.proofs.lemmas.List.{append_assoc, length-append, take-append-drop}
-use Rattle.std.proofs.Math.Seq.{drop-cons}
+-- How an input is cut into items.
+use Rattle.std.proofs.Common.{◌≡◌, ℕ, List, [], ◌∷◌, ◌++◌, length, ap, sym, refl, ◌∙◌, subst, arith, inl, inr}
+use Rattle.std.proofs.lemmas.List.{append_assoc, length-append}
 use Rattle.std.specs.List.{concat}
 use Rattle.meaning_run.specs.Items as items
-use Rattle.meaning_run.specs.Items.{HasNo, HasNoLf, Language, Item, item_bytes, all_bytes, last_item, cr_dropped}
-
-pub HasNo-append : (d : ℕ) (xs ys : List ℕ) → HasNo d xs → HasNo d ys → HasNo d (xs ++ ys)
-HasNo-append d [] ys h k = k
-HasNo-append d (x ∷ xs) ys h k = (h.0, HasNo-append d xs ys h.1 k)
-
-pub HasNo-more : (d : ℕ) (xs : List ℕ) (b : ℕ) → HasNo d xs → b ≢ d → HasNo d (xs ++ b ∷ [])
-HasNo-more d xs b h ne = HasNo-append d xs (b ∷ []) h (ne, tt)
-
--- a text in which the byte stands isn't one in which it doesn't
-pub HasNo-split : (d : ℕ) (xs ys : List ℕ) → HasNo d (xs ++ d ∷ ys) → ⊥
-HasNo-split d [] ys h = h.0 refl
-HasNo-split d (x ∷ xs) ys h = HasNo-split d xs ys h.1
-
--- no place has the byte
-pub HasNo-places : (d : ℕ) (xs : List ℕ) → ((k : ℕ) → k < length xs → get_or xs k 0 ≢ d) → HasNo d xs
-HasNo-places d [] h = tt
-HasNo-places d (x ∷ xs) h = (h 0 (omega arith), HasNo-places d xs (λ k lt. h (suc k) (omega arith)))
-
--- no place below this one has the byte
-pub HasNo-take : (d : ℕ) (xs : List ℕ) (i : ℕ) → ((k : ℕ) → k < i → k < length xs → get_or xs k 0 ≢ d) → HasNo d (take i xs)
-HasNo-take d xs zero h = tt
-HasNo-take d [] (suc i) h = tt
-HasNo-take d (x ∷ xs) (suc i) h = (h 0 (omega arith) (omega arith), HasNo-take d xs i (λ k lt in_xs. h (suc k) (omega arith) (omega arith)))
-
--- two cuts of one text at the first such byte are one
-pub same_cut : (d : ℕ) (xs ys vs ws : List ℕ) → HasNo d xs → HasNo d ys → xs ++ d ∷ vs ≡ ys ++ d ∷ ws → (xs ≡ ys) × (vs ≡ ws)
-same_cut d [] [] vs ws nx ny e = (refl, cc)
-same_cut d [] (y ∷ ys) vs ws nx ny e = let z : y ≡ d = cc in absurd (ny.0 z)
-same_cut d (x ∷ xs) [] vs ws nx ny e = let z : x ≡ d = cc in absurd (nx.0 z)
-same_cut d (x ∷ xs) (y ∷ ys) vs ws nx ny e =
-    let heads : x ≡ y = cc in
-    let rest : xs ++ d ∷ vs ≡ ys ++ d ∷ ws = cc in
-    let r = same_cut d xs ys vs ws nx.1 ny.1 rest in
-    ((λ i. heads i ∷ r.0 i), r.1)
-
--- what stands before a place, the byte there, and what stands behind it
-pub cut_at : (xs : List ℕ) (i : ℕ) → i < length xs → take i xs ++ get_or xs i 0 ∷ drop (i + 1) xs ≡ xs
-cut_at xs i h = rw (add-one, sym (drop-cons xs i 0 h)) (take-append-drop i xs)
-
-pub cut_there : (d : ℕ) (xs : List ℕ) (i : ℕ) → i < length xs → get_or xs i 0 ≡ d → xs ≡ take i xs ++ d ∷ drop (i + 1) xs
-cut_there d xs i h e = sym (ap (λ b. take i xs ++ b ∷ drop (i + 1) xs) (sym e) ∙ cut_at xs i h)
+use Rattle.meaning_texts.specs.Lists.{HasNo}
+use Rattle.meaning_texts.specs.Lines.{without_cr}
+use Rattle.meaning_texts.proofs.Lemmas.{HasNo-split, same_cut}
+use Rattle.meaning_run.specs.Items.{Language, Item, item_bytes, all_bytes, last_item}
 
 pub nil_right : {A : Type 0} (xs : List A) → xs ++ [] ≡ xs
 nil_right [] = refl
@@ -88,7 +49,7 @@ module _ {Command : Type 0} (lang : Language Command) where
     item_no_part item command rest part i e (inl no_lf) = HasNo-split 10 item.line (item.body ++ rest) (subst (λ t. HasNo 10 t) (sym e ∙ item_first item rest) no_lf)
     item_no_part item command rest part i e (inr (command', begun)) =
         let cut = same_cut 10 item.line begun.line (item.body ++ rest) begun.body i.no_lf begun.no_lf (sym (item_first item rest) ∙ e ∙ begun.is) in
-        let same = once command command' (cr_dropped item.line) i.spelled (subst (λ l. lang.Spells command' (cr_dropped l)) (sym cut.0) begun.spelled) in
+        let same = once command command' (without_cr item.line) i.spelled (subst (λ l. lang.Spells command' (without_cr l)) (sym cut.0) begun.spelled) in
         let size = i.size in
         let missing = begun.missing in
         let long = length-append item.body rest in
@@ -99,7 +60,7 @@ module _ {Command : Type 0} (lang : Language Command) where
         → item_bytes item ++ rest ≡ item_bytes item' ++ rest' → (item ≡ item') × (rest ≡ rest')
     same_item item item' command command' rest rest' i j e =
         let cut = same_cut 10 item.line item'.line (item.body ++ rest) (item'.body ++ rest') i.no_lf j.no_lf (sym (item_first item rest) ∙ e ∙ item_first item' rest') in
-        let same = once command command' (cr_dropped item.line) i.spelled (subst (λ l. lang.Spells command' (cr_dropped l)) (sym cut.0) j.spelled) in
+        let same = once command command' (without_cr item.line) i.spelled (subst (λ l. lang.Spells command' (without_cr l)) (sym cut.0) j.spelled) in
         let front = same_front item.body item'.body rest rest' (i.size ∙ same ∙ sym j.size) cut.1 in
         ((λ k. record { line = cut.0 k; body = front.0 k }), front.1)
 
@@ -128,7 +89,7 @@ module _ {Command : Type 0} (lang : Language Command) where
         elim short.where_it_ends [
           | inl begun ↦ HasNo-split 10 begun.line begun.body (subst (λ t. HasNo 10 t) begun.is is.no_lf)
           | inr line ↦
-              let same = once short.command command (cr_dropped last) line.spelled is.spelled in
+              let same = once short.command command (without_cr last) line.spelled is.spelled in
               let size = is.size in
               let some = line.takes_some in
               absurd (omega arith)

@@ -1,4 +1,5 @@
-pub mod ItemLemmas
-pub mod ToldLemmas
-pub mod StreamLemmas
-pub mod EndLemmas
+mod ItemLemmas
+mod ToldLemmas
+mod StreamLemmas
+mod EndLemmas
+pub mod Lemmas

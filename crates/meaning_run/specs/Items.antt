@@ -2,19 +2,8 @@
 --
 -- The bytes behind a `put` belong to it whatever they are, so an input is not cut into lines first: where an item ends depends on the
 -- command that its line spells.
-use Rattle.std.specs.Prelude.{◌≡◌, ◌≢◌, ◌⊎◌, ℕ, ◌<◌, ◌-◌, ◌==◌, Bool, false, if◌then◌else◌, List, [], ◌∷◌, ◌++◌, length, take, slice_index}
-
--- the byte stands nowhere in the text
-abbrev pub HasNo : ℕ → List ℕ → Type 0
-HasNo byte [] = Unit {0}
-HasNo byte (b ∷ rest) = (b ≢ byte) × HasNo byte rest
-
-abbrev pub HasNoLf : List ℕ → Type 0
-HasNoLf = HasNo 10
-
--- the line without one CR at its end
-abbrev pub cr_dropped : List ℕ → List ℕ
-cr_dropped line = if slice_index line (length line - 1) == 13 then take (length line - 1) line else line
+use Rattle.std.specs.Prelude.{◌≡◌, ◌⊎◌, ℕ, ◌<◌, Bool, false, List, [], ◌∷◌, ◌++◌, length}
+use Rattle.meaning_texts.specs.Lines.{HasNoLf, without_cr}
 
 -- the commands of a program
 pub record Language (Command : Type 0) : Type 1 where
@@ -45,7 +34,7 @@ module _ {Command : Type 0} (lang : Language Command) where
   -- the item is this command
   pub record IsItem (item : Item) (command : Command) : Type 0 where
     pub no_lf : HasNoLf item.line
-    pub spelled : lang.Spells command (cr_dropped item.line)
+    pub spelled : lang.Spells command (without_cr item.line)
     pub size : length item.body ≡ lang.takes command
 
   -- the item is some command behind which the session goes on
@@ -64,7 +53,7 @@ module _ {Command : Type 0} (lang : Language Command) where
     pub line : List ℕ
     pub body : List ℕ
     pub no_lf : HasNoLf line
-    pub spelled : lang.Spells command (cr_dropped line)
+    pub spelled : lang.Spells command (without_cr line)
     pub missing : length body < lang.takes command
     pub is : part ≡ line ++ 10 ∷ body
 
@@ -75,7 +64,7 @@ module _ {Command : Type 0} (lang : Language Command) where
   -- a last line whose command takes bytes
   pub record IsUnended (part : List ℕ) (command : Command) : Type 0 where
     pub no_lf : HasNoLf part
-    pub spelled : lang.Spells command (cr_dropped part)
+    pub spelled : lang.Spells command (without_cr part)
     pub takes_some : 0 < lang.takes command
 
   -- the end of an input inside a command: its bytes are not all there

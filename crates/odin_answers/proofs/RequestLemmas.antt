@@ -10,8 +10,8 @@ use Rattle.meaning_graph.specs.Graphs.{Text, Graph}
 use Rattle.meaning_nodes.specs.NodeOf.{is_node, unknown_type, no_path, node_of}
 use Rattle.meaning_answers.specs.Answers.{Refused, Asks}
 use Rattle.meaning_answers.specs.Replies.{refused_type, refused_path}
-use Rattle.meaning_run.specs.Items.{HasNo}
-use Rattle.meaning_run.proofs.ItemLemmas.{same_cut, HasNo-split}
+use Rattle.meaning_texts.specs.Lists.{HasNo}
+use Rattle.meaning_texts.proofs.Lemmas.{same_cut, HasNo-split}
 use Rattle.odin_bytes.proofs.Lemmas.{has_no}
 use Rattle.odin_answers.specs.declared.request.Request.{Request}
 use Rattle.odin_answers.specs.Requests.{text_with, IsRequest, steps_to, expression_of}

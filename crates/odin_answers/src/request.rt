@@ -1,25 +1,30 @@
 // What a request names.
 ghost use Rattle.std.specs.Prelude.{◌≡◌, IfOk, MatchOption};
-ghost use Rattle.meaning_run.specs.Items.{HasNo};
+ghost use Rattle.meaning_texts.specs.Lists.{HasNo};
 ghost use Rattle.meaning_texts.specs.Classes.{IsId};
 ghost use Rattle.odin_answers.specs.Requests.{request_text, IsRequest, IsRequestOf, IsTypeName};
 
-use dg_tokens::is_id;
 use object_values::{Bytes, Memory};
-use odin_bytes::Name;
-use odin_bytes::{cut_at, read_name};
+use odin_bytes::{Name, cut_at, is_id, read_name};
 use std::alloc::Global;
 use std::marker::Model;
 
 /// The name of a type: an ID.
-#[derive(Debug, PartialEq, Eq, PartialOrd, Ord, Drop)]
+#[derive(PartialEq, Eq)]
 pub struct TypeName {
     text: Bytes,
 }
 
+impl Drop for TypeName {
+    fn drop(self) {
+        let TypeName { text } = self;
+        drop(text);
+    }
+}
+
 impl Model for TypeName {
     ghost use Rattle.std.specs.Prelude.{List, ℕ};
-    ghost use Rattle.meaning_run.specs.Items.{HasNo};
+    ghost use Rattle.meaning_texts.specs.Lists.{HasNo};
     ghost use Rattle.meaning_texts.specs.Classes.{IsId};
 
     ghost Value = { List ℕ };

@@ -7,8 +7,9 @@ use Rattle.std.proofs.lemmas.List.{append_assoc, append_cancel_left, length-appe
 use Rattle.std.proofs.lemmas.Bool.{cases_lt}
 use Rattle.std.specs.Prelude.{Option, Some, None, IfSome, MatchOption}
 use Rattle.meaning_texts.specs.Classes.{IsName, IsId}
-use Rattle.meaning_run.specs.Items.{HasNo, cr_dropped}
-use Rattle.meaning_run.proofs.ItemLemmas.{same_cut}
+use Rattle.meaning_texts.specs.Lists.{HasNo}
+use Rattle.meaning_texts.specs.Lines.{without_cr}
+use Rattle.meaning_texts.proofs.Lemmas.{same_cut}
 use Rattle.odin_bytes.proofs.Lemmas.{has_no}
 use Rattle.odin_shell.specs.declared.command.Command.{Command}
 use Rattle.odin_shell.specs.declared.command.Command.TheVariants.{Put, Ask, Plan, Nothing, Bad}
@@ -107,7 +108,7 @@ bad_of_long (Plan request) line h s = let l = request_short (codes "plan ") line
 bad_of_long Nothing line h s = let z : length line ≡ 0 = ap length s in absurd (omega arith)
 bad_of_long Bad line h s = refl
 
-cr_dropped_long : (line : List ℕ) → length line ≤ length (cr_dropped line) + 1
+cr_dropped_long : (line : List ℕ) → length line ≤ length (without_cr line) + 1
 cr_dropped_long line =
     elim (nat_eq (slice_index line (length line - 1)) 13) as (λ b. length line ≤ length (cond b (take (length line - 1) line) line) + 1) [
       | true ↦ omega (arith, length-take (length line - 1) line)
@@ -118,13 +119,13 @@ respelled : (command : Command) (a b : List ℕ) → 520 < length a → 520 < le
 respelled command a b ha hb s = subst (λ c. Spells c b) (sym (bad_of_long command a ha s)) (long_is_bad b hb)
 
 -- of a long line the first bytes serve: either way it is a bad command
-pub Spells-held : (command : Command) (held part : List ℕ) → held ≡ take held_length part → Spells command (cr_dropped held) → Spells command (cr_dropped part)
+pub Spells-held : (command : Command) (held part : List ℕ) → held ≡ take held_length part → Spells command (without_cr held) → Spells command (without_cr part)
 Spells-held command held part e s =
     elim (cases_lt 1026 (length part)) [
-      | inr le ↦ subst (λ l. Spells command (cr_dropped l)) (e ∙ take_all 1026 part le) s
+      | inr le ↦ subst (λ l. Spells command (without_cr l)) (e ∙ take_all 1026 part le) s
       | inl gt ↦
           let n : length held ≡ 1026 = ap length e ∙ length-take 1026 part ∙ omega arith in
           let p = cr_dropped_long part in
           let k = cr_dropped_long held in
-          respelled command (cr_dropped held) (cr_dropped part) (omega arith) (omega arith) s
+          respelled command (without_cr held) (without_cr part) (omega arith) (omega arith) s
     ]

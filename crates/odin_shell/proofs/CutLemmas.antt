@@ -3,7 +3,7 @@ use Rattle.std.proofs.Common.{◌≡◌, ℕ, ◌+◌, ◌-◌, ◌<◌, min, tr
 use Rattle.std.proofs.Math.Nat.{le_refl}
 use Rattle.std.proofs.lemmas.List.{append_assoc, take_more, take_all}
 use Rattle.std.specs.Option.{is_some}
-use Rattle.meaning_run.specs.Items.{HasNoLf, cr_dropped}
+use Rattle.meaning_texts.specs.Lines.{HasNoLf, without_cr}
 use Rattle.meaning_run.specs.Streams.{Extends, Completes}
 use Rattle.odin_shell.specs.declared.command.Command.{Command}
 use Rattle.odin_shell.specs.declared.command.Command.TheVariants.{Put}
@@ -32,7 +32,7 @@ pub text_ended : (bytes line body : List ℕ) (put : Pending) (size : ℕ) → l
 text_ended bytes line body put size last body_is size_is part k = rw (size_is, body_is) (Keeps-last line part bytes put last k)
 
 -- the LF of a line whose command takes no bytes
-pub line_ended : (line line' : List ℕ) (put : Option Pending) (command : Command) (body : List ℕ) → put ≡ None → line' ≡ [] → Spells command (cr_dropped line) → takes command ≡ 0 → body ≡ []
+pub line_ended : (line line' : List ℕ) (put : Option Pending) (command : Command) (body : List ℕ) → put ≡ None → line' ≡ [] → Spells command (without_cr line) → takes command ≡ 0 → body ≡ []
     → Completes commands Keeps (10 ∷ []) (record { line = line; put = put }) command body × Clears (record { line = line; put = put }) (record { line = line'; put = put })
 line_ended line line' put command body none clear spelled no_bytes empty = (
   λ part k. rw empty (Keeps-ended line part command spelled no_bytes (subst (λ p. KeepsPart line p part) none k)),
@@ -40,7 +40,7 @@ line_ended line line' put command body none clear spelled no_bytes empty = (
 )
 
 -- the LF of a line whose command takes bytes
-pub line_begun : (line line' : List ℕ) (put put' : Option Pending) (command : Command) → put ≡ None → line' ≡ [] → Spells command (cr_dropped line) → 0 < takes command → IsPendingOf command put'
+pub line_begun : (line line' : List ℕ) (put put' : Option Pending) (command : Command) → put ≡ None → line' ≡ [] → Spells command (without_cr line) → 0 < takes command → IsPendingOf command put'
     → Extends commands Keeps (10 ∷ []) (record { line = line; put = put }) (record { line = line'; put = put' })
 line_begun line line' put put' command none clear spelled some is part k =
     subst (λ l. KeepsPart l put' (part ++ 10 ∷ [])) (sym clear) (Keeps-begun line part command put' spelled some is (subst (λ p. KeepsPart line p part) none k))
@@ -70,9 +70,9 @@ all_held piece size old new all f = subst (λ t. Extends commands Keeps t old ne
 pub last_pending : (line : List ℕ) (put : Option Pending) → is_some put ≡ true → IsLast (record { line = line; put = put }) None
 last_pending line put some part k = Keeps-pending line part put some k
 
-pub last_begun : (line : List ℕ) (put : Option Pending) (command : Command) → put ≡ None → Spells command (cr_dropped line) → 0 < takes command → IsLast (record { line = line; put = put }) None
+pub last_begun : (line : List ℕ) (put : Option Pending) (command : Command) → put ≡ None → Spells command (without_cr line) → 0 < takes command → IsLast (record { line = line; put = put }) None
 last_begun line put command none spelled some part k = Keeps-unended line part put command none spelled some k
 
-pub last_line : (line : List ℕ) (put : Option Pending) (command : Command) (body : List ℕ) → put ≡ None → Spells command (cr_dropped line) → takes command ≡ 0 → body ≡ []
+pub last_line : (line : List ℕ) (put : Option Pending) (command : Command) (body : List ℕ) → put ≡ None → Spells command (without_cr line) → takes command ≡ 0 → body ≡ []
     → IsLast (record { line = line; put = put }) (Some (record { command = command; body = body }))
 last_line line put command body none spelled no_bytes empty = (λ part k. Keeps-last_line line part put command none spelled no_bytes k, empty)

@@ -5,8 +5,10 @@ use Rattle.std.proofs.lemmas.Bool.{cases_lt}
 use Rattle.std.specs.Option.{is_some}
 use Rattle.meaning_run.specs.Items as items
 use Rattle.meaning_run.specs.Streams as streams
-use Rattle.meaning_run.specs.Items.{Item, HasNo, HasNoLf, item_bytes, last_item, cr_dropped}
-use Rattle.meaning_run.proofs.ItemLemmas.{HasNo-append}
+use Rattle.meaning_run.specs.Items.{Item, item_bytes, last_item}
+use Rattle.meaning_texts.specs.Lists.{HasNo}
+use Rattle.meaning_texts.specs.Lines.{HasNoLf, without_cr}
+use Rattle.meaning_texts.proofs.Lemmas.{HasNo-append}
 use Rattle.odin_shell.specs.declared.command.Command.{Command}
 use Rattle.odin_shell.specs.declared.command.Command.TheVariants.{Put, Ask, Plan, Nothing, Bad}
 use Rattle.odin_shell.specs.declared.pending.Pending.{Pending}
@@ -45,7 +47,7 @@ Keeps-line line line' part bytes room room_is is no_lf k =
     )
 
 -- the LF of a line whose command takes no bytes
-pub Keeps-ended : (line part : List ℕ) (command : Command) → Spells command (cr_dropped line) → takes command ≡ 0 → KeepsPart line None part
+pub Keeps-ended : (line part : List ℕ) (command : Command) → Spells command (without_cr line) → takes command ≡ 0 → KeepsPart line None part
     → streams.IsMadeWhole commands Keeps part (10 ∷ []) command []
 Keeps-ended line part command s none k = record {
   item = record { line = part; body = [] };
@@ -55,12 +57,12 @@ Keeps-ended line part command s none k = record {
 }
 
 -- the LF of a line whose command takes bytes
-begin : (line part name : List ℕ) (count : ℕ) (put : Pending) → Spells (Put name count) (cr_dropped line) → 0 < count → IsNew name count put → KeepsPart line None part
+begin : (line part name : List ℕ) (count : ℕ) (put : Pending) → Spells (Put name count) (without_cr line) → 0 < count → IsNew name count put → KeepsPart line None part
     → KeepsPart [] (Some put) (part ++ 10 ∷ [])
 begin line part name count put s some is k =
     let all : count ≡ length put.text + put.missing = sym is.lacking ∙ sym (zero-add put.missing) ∙ ap (λ t. length t + put.missing) (sym is.empty) in
-    let spelled : Spells (Put put.name (length put.text + put.missing)) (cr_dropped part) =
-    subst (λ n. Spells (Put put.name n) (cr_dropped part)) all (subst (λ n. Spells (Put n count) (cr_dropped part)) (sym is.named) (Spells-held (Put name count) line part k.1 s)) in
+    let spelled : Spells (Put put.name (length put.text + put.missing)) (without_cr part) =
+    subst (λ n. Spells (Put put.name n) (without_cr part)) all (subst (λ n. Spells (Put n count) (without_cr part)) (sym is.named) (Spells-held (Put name count) line part k.1 s)) in
     let lacking = is.lacking in (
       refl,
       record {
@@ -69,7 +71,7 @@ begin line part name count put s some is k =
       },
     )
 
-pub Keeps-begun : (line part : List ℕ) (command : Command) (put : Option Pending) → Spells command (cr_dropped line) → 0 < takes command → IsPendingOf command put → KeepsPart line None part
+pub Keeps-begun : (line part : List ℕ) (command : Command) (put : Option Pending) → Spells command (without_cr line) → 0 < takes command → IsPendingOf command put → KeepsPart line None part
     → KeepsPart [] put (part ++ 10 ∷ [])
 Keeps-begun line part (Put name count) (Some put) s some is k = begin line part name count put s some is k
 Keeps-begun line part (Put name count) None s some is k = absurd is
@@ -85,8 +87,8 @@ Keeps-text line part bytes put put' name text missing k =
     let begun = k.1.begun in
     let size : length put'.text ≡ length put.text + length bytes = ap length text ∙ length-append put.text bytes in
     let same : length put.text + put.missing ≡ length put'.text + put'.missing = omega arith in
-    let spelled : Spells (Put put'.name (length put'.text + put'.missing)) (cr_dropped begun.line) =
-    subst (λ n. Spells (Put put'.name n) (cr_dropped begun.line)) same (subst (λ n. Spells (Put n (length put.text + put.missing)) (cr_dropped begun.line)) (sym name) begun.spelled) in
+    let spelled : Spells (Put put'.name (length put'.text + put'.missing)) (without_cr begun.line) =
+    subst (λ n. Spells (Put put'.name n) (without_cr begun.line)) same (subst (λ n. Spells (Put n (length put.text + put.missing)) (without_cr begun.line)) (sym name) begun.spelled) in
     let body : begun.body ++ bytes ≡ put'.text = ap (λ t. t ++ bytes) k.1.text ∙ sym text in
     let some = put'.lacks in (
       k.0,
@@ -114,7 +116,7 @@ Keeps-last line part bytes put last k =
       bytes_are = ap (λ t. t ++ bytes) begun.is ∙ append_assoc begun.line (10 ∷ begun.body) bytes;
       item_is = record {
         no_lf = begun.no_lf;
-        spelled = subst (λ n. Spells (Put put.name n) (cr_dropped begun.line)) same begun.spelled;
+        spelled = subst (λ n. Spells (Put put.name n) (without_cr begun.line)) same begun.spelled;
         size = ap (λ t. length (t ++ bytes)) k.1.text;
       };
       body_is = ap (λ t. t ++ bytes) k.1.text;
@@ -129,14 +131,14 @@ Keeps-less held part k = by held.line held.put k
     by line (Some put) k = inr (Put put.name (length put.text + put.missing), k.1.begun)
 
 -- the end of the input behind a line whose command takes no bytes
-pub Keeps-last_line : (line part : List ℕ) (put : Option Pending) (command : Command) → put ≡ None → Spells command (cr_dropped line) → takes command ≡ 0 → KeepsPart line put part
+pub Keeps-last_line : (line part : List ℕ) (put : Option Pending) (command : Command) → put ≡ None → Spells command (without_cr line) → takes command ≡ 0 → KeepsPart line put part
     → items.IsItem commands (last_item part) command
 Keeps-last_line line part put command e s none k =
     let held = subst (λ p. KeepsPart line p part) e k in
     record { no_lf = held.0; spelled = Spells-held command line part held.1 s; size = sym none }
 
 -- the end of the input inside a command
-pub Keeps-unended : (line part : List ℕ) (put : Option Pending) (command : Command) → put ≡ None → Spells command (cr_dropped line) → 0 < takes command → KeepsPart line put part
+pub Keeps-unended : (line part : List ℕ) (put : Option Pending) (command : Command) → put ≡ None → Spells command (without_cr line) → 0 < takes command → KeepsPart line put part
     → items.IsCutShort commands part
 Keeps-unended line part put command e s some k =
     let held = subst (λ p. KeepsPart line p part) e k in

@@ -3,9 +3,9 @@ use Rattle.std.proofs.Common.{◌≡◌, ℕ, List, ◌∷◌, ◌++◌, get_or,
 use Rattle.std.specs.Prelude.{Option, Some, None}
 use Rattle.std.proofs.lemmas.List.{append_assoc, append_cancel_left}
 use Rattle.std.specs.Fmt.{decimal}
-use Rattle.meaning_run.specs.Items.{HasNo}
-use Rattle.meaning_run.proofs.ItemLemmas.{same_cut, HasNo-split}
-use Rattle.odin_words.proofs.NameLemmas.{has_no}
+use Rattle.meaning_texts.specs.Lists.{HasNo}
+use Rattle.meaning_texts.proofs.Lemmas.{same_cut, HasNo-split}
+use Rattle.odin_bytes.proofs.Lemmas.{has_no}
 use Rattle.odin_answers.specs.declared.request.Request.{Request}
 use Rattle.odin_answers.specs.Requests.{text_with, IsRequest}
 use Rattle.odin_shell.specs.declared.command.Command.{Command}

@@ -6,7 +6,7 @@ use Rattle.odin_outside.specs.Causes.{once_more}
 use Rattle.odin_outside.specs.Spawned.{Spawned}
 use Rattle.meaning_graph.specs.Graphs.{Text, Graph}
 use Rattle.meaning_run.specs.Objects.{SinkTold}
-use Rattle.meaning_run.proofs.EndLemmas.{HasRead-none, not_inside, is_inside, is_long}
+use Rattle.meaning_run.proofs.Lemmas.{HasRead-none, not_inside, is_inside, is_long}
 use Rattle.odin_shell.specs.declared.ending.Ending.{Ending}
 use Rattle.odin_shell.specs.declared.ending.Ending.TheVariants.{Whole, CutShort, BadGraph, Memory, Output, Input, Usage, TooLong}
 use Rattle.odin_shell.specs.declared.graph.Opened.{Opened}

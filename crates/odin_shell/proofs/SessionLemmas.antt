@@ -9,9 +9,9 @@ use Rattle.meaning_graph.specs.Graphs.{Graph}
 use Rattle.meaning_run.specs.Machines.{Machine}
 use Rattle.meaning_run.specs.Endings.{HasRead, EndsStopped}
 use Rattle.meaning_run.specs.Streams as streams
-use Rattle.meaning_run.proofs.StreamLemmas as stream
-use Rattle.meaning_run.proofs.ToldLemmas.{rest_is}
-use Rattle.meaning_run.proofs.EndLemmas.{Reading-none}
+use Rattle.meaning_run.proofs.Lemmas as stream
+use Rattle.meaning_run.proofs.Lemmas.{rest_is}
+use Rattle.meaning_run.proofs.Lemmas.{Reading-none}
 use Rattle.odin_shell.specs.declared.command.Command.{Command}
 use Rattle.odin_shell.specs.declared.cutter.Cutter.{Cutter}
 use Rattle.odin_shell.specs.declared.cutter.Whole.{Whole}

@@ -1,6 +1,7 @@
 -- What is held of an item that is not whole yet.
 use Rattle.std.specs.Prelude.{◌≡◌, ℕ, ◌+◌, List, [], length, take, Option, Some, None, IsSomeAnd}
-use Rattle.meaning_run.specs.Items.{HasNoLf, IsBegun}
+use Rattle.meaning_texts.specs.Lines.{HasNoLf}
+use Rattle.meaning_run.specs.Items.{IsBegun}
 use Rattle.odin_shell.specs.declared.command.Command.{Command}
 use Rattle.odin_shell.specs.declared.command.Command.TheVariants.{Put}
 use Rattle.odin_shell.specs.declared.pending.Pending.{Pending}

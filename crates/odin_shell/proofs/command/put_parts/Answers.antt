@@ -3,8 +3,8 @@ use Rattle.std.specs.Fmt.{decimal}
 use Rattle.std.proofs.lemmas.Bool.Decides.{Decides-eqb}
 use Rattle.std.proofs.lemmas.Slice.Eq.{strip_prefix_is}
 use Rattle.meaning_texts.specs.Classes.{IsName}
-use Rattle.meaning_run.specs.Items.{HasNo}
-use Rattle.meaning_run.proofs.ItemLemmas.{HasNo-split}
+use Rattle.meaning_texts.specs.Lists.{HasNo}
+use Rattle.meaning_texts.proofs.Lemmas.{HasNo-split}
 use Rattle.odin_shell.proofs.CommandLemmas.{put_rest, put_is, decimal_once}
 use Rattle.odin_shell.proofs.command.put_parts.Goals as goal
 

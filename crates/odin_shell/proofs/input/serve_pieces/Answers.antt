@@ -1,7 +1,7 @@
 use Rattle.std.proofs.Common.{◌≡◌, ◌≤◌, ◌+◌, refl, ◌∙◌, arith, rules}
 use Rattle.std.proofs.lemmas.List.{length-take-le}
 use Rattle.meaning_run.specs.Endings.{EndsWhole, EndsCutShort, EndsStopped, input_limit}
-use Rattle.meaning_run.proofs.EndLemmas.{Reading-more, HasRead-finish, HasRead-piece, HasRead-unread, HasRead-limit}
+use Rattle.meaning_run.proofs.Lemmas.{Reading-more, HasRead-finish, HasRead-piece, HasRead-unread, HasRead-limit}
 use Rattle.odin_shell.specs.Commands.{commands}
 use Rattle.odin_shell.specs.Held.{Keeps}
 use Rattle.odin_shell.specs.Machine.{machine, halt_of}

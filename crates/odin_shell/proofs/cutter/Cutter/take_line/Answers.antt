@@ -1,6 +1,6 @@
 use Rattle.std.proofs.Common.{arith}
 use Rattle.std.proofs.lemmas.Bool.Decides.{Decides-eqb}
-use Rattle.meaning_run.proofs.ItemLemmas.{HasNo-places, HasNo-take}
+use Rattle.meaning_texts.proofs.Lemmas.{HasNo-places, HasNo-take}
 use Rattle.odin_shell.proofs.cutter.Cutter.take_line.Goals as goal
 
 pub hold-requires-clause-no_lf : goal.hold-requires-clause-no_lf
