@@ -1,8 +1,6 @@
 -- One token of a text, and readings put together.
-use Rattle.std.proofs.Common.{◌≡◌, ℕ, ◌+◌, ◌<◌, ◌≤◌, Bool, true, false, ◌||◌, List, [], ◌∷◌, ◌++◌, length, Option, Some, None, refl, sym, ap, ◌∙◌, subst, inl, inr, arith, length-append}
-use Rattle.std.specs.Prelude.{nat_eq}
-use Rattle.std.proofs.lemmas.Bool.{cases_Bool, or_from, not_from_false}
-use Rattle.meaning_graph_text.specs.Tokens.{Token, is_blank, BeginsWith, a_word, a_string, a_semicolon, a_comma, an_opening, a_closing, Tokens, no_more, blank, comment, one, is_past_gap}
+use Rattle.std.proofs.Common.{◌≡◌, ℕ, ◌<◌, ◌≤◌, true, false, List, [], ◌∷◌, ◌++◌, length, Option, Some, None, refl, sym, ap, ◌∙◌, subst, arith}
+use Rattle.meaning_graph_text.specs.Tokens.{Token, BeginsWith, Tokens, no_more, one, is_past_gap}
 use Rattle.meaning_graph_text.specs.Lexing.{past_gap, Taken, taken, token_at}
 use Rattle.meaning_graph_text.specs.Going.{Class, accepts}
 use Rattle.meaning_graph_text.proofs.Lemmas.{begins_told, begins_from, gap_read, tokens_append, past_is_past, gap_shorter, begins_shorter}
