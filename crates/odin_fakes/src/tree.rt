@@ -5,13 +5,13 @@ ghost use Rattle.odin_outside.specs.Files.{given_of};
 ghost use Rattle.odin_fakes.specs.Entry.{entry_of};
 ghost use Rattle.odin_fakes.specs.Trees.{asked};
 
-use object_values::{Bytes, Memory, Seq};
+use object_values::{BODY_LIMIT, Bytes, Memory, Seq};
 use odin_outside::{FileBody, Tree, TreeFault};
 use std::alloc::Global;
 use std::marker::Model;
 
-/// How many bytes of a file are given at most.
-const LIMIT: usize = 16_777_217;
+/// How many bytes of a file are given at most: one more than a text may have, so that a longer one shows.
+const LIMIT: usize = BODY_LIMIT + 1;
 
 /// Files that stand in memory. It never fails.
 pub struct MemTree {

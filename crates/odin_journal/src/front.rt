@@ -9,10 +9,8 @@ ghost use Rattle.odin_journal.specs.Rest.{ClearsNew, MakesCleared, MakesNew, Sta
 
 use crate::fault::JournalFault;
 use crate::writes::write_synced;
+use object_values::STORE_LIMIT;
 use odin_outside::{Disk, Failed};
-
-/// The longest store file.
-pub const FILE_LIMIT: u64 = 1_073_741_824;
 
 /// The size of a front, behind which the records of a new store start.
 pub const FRONT_SIZE: u64 = 64;
@@ -39,7 +37,7 @@ pub fn look<D: Disk>(disk: &mut D) -> Result<Looked, JournalFault>
     ensures cause { IsCause (D.faults disk.old) (D.faults disk.new) result }
 {
     let size = disk.size()?;
-    if size > FILE_LIMIT {
+    if size > STORE_LIMIT {
         return Err(JournalFault::NotOurs(0));
     }
     if size <= 1 {

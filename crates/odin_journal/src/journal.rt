@@ -7,10 +7,10 @@ ghost use Rattle.odin_journal.specs.Moments.{Works};
 ghost use Rattle.odin_journal.specs.Rest.{AddsBytes, AddsTo, IsLeft, IsReady, KeepsOrAddsBytes, KeepsRecords, LeavesAdded, OnlyReads, OpensGate, OpensQuiet};
 
 use crate::fault::JournalFault;
-use crate::front::{FILE_LIMIT, FRONT_SIZE, look, make_new};
+use crate::front::{FRONT_SIZE, look, make_new};
 use crate::reads::read_store;
 use crate::writes::write_synced;
-use object_values::{Bytes, Memory, Seq};
+use object_values::{Bytes, Memory, STORE_LIMIT, Seq};
 use odin_bytes::{put_bytes, put_u8};
 use odin_outside::{Disk, Failed};
 use std::alloc::Global;
@@ -78,7 +78,7 @@ impl Journal {
         ensures cause { IsCause (D.faults disk.old) (D.faults disk.new) result }
     {
         let length = payload.len() as u64;
-        if self.end > FILE_LIMIT - 6 || length > FILE_LIMIT - 6 - self.end {
+        if self.end > STORE_LIMIT - 6 || length > STORE_LIMIT - 6 - self.end {
             return Err(JournalFault::Full(self.end, length));
         }
         let bytes = behind_gate(alloc, payload)?;

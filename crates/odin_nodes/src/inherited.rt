@@ -5,12 +5,9 @@ ghost use Rattle.meaning_nodes.specs.Values.{inherit};
 ghost use Rattle.odin_nodes.specs.Inheriting.{Inherits};
 
 use indexmap::IndexSet;
-use object_values::{Copied, Memory, Message, Seq, View};
+use object_values::{Copied, MESSAGE_LIMIT, Memory, Message, Seq, View};
 use std::alloc::Global;
 use std::marker::Model;
-
-/// How many messages an object has at most.
-const LIMIT: usize = 1_000;
 
 /// Messages in the order in which they came, each once, and no more than 1,000.
 #[derive(Drop)]
@@ -50,7 +47,7 @@ impl Inherited {
     fn push(&mut self, alloc: Global, message: &Message) -> Result<(), Memory>
         ensures { OnOk result (Inherits self.old (message.now ∷ []) self.new) }
     {
-        if self.messages.len() >= LIMIT || self.messages.contains(message) {
+        if self.messages.len() >= MESSAGE_LIMIT || self.messages.contains(message) {
             return Ok(());
         }
         self.messages.insert(message.copy(alloc)?)?;

@@ -3,11 +3,8 @@ ghost use Rattle.std.specs.Prelude.{◌≡◌, ◌≤◌, length, IfOk};
 ghost use Rattle.plain_derive.specs.Deep.{bases};
 
 use crate::nodes::base_of;
-use object_values::{Copied, Memory, Node, Seq};
+use object_values::{Copied, HEIGHT_LIMIT, Memory, Node, Seq};
 use std::alloc::Global;
-
-/// The greatest height at which a node is founded.
-pub(crate) const HEIGHT_LIMIT: usize = 64;
 
 /// The node and the bases below it, one node more than may be.
 pub(crate) fn deep_chain(alloc: Global, node: &Node) -> Result<Seq<Node>, Memory>

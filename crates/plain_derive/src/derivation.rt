@@ -9,7 +9,7 @@ ghost use Rattle.plain_derive.specs.Made.{HaveOutcomes};
 ghost use Rattle.path_planner.specs.Ends.{plans_of};
 
 use crate::calling::call_for;
-use crate::deep::{HEIGHT_LIMIT, deep_chain};
+use crate::deep::deep_chain;
 use crate::derived::{Derived, source_view};
 use crate::fault::PlainFault;
 use crate::found::Found;
@@ -18,7 +18,7 @@ use crate::nodes::stepped;
 use crate::running::make_if_called;
 use crate::settling::settle;
 use object_sources::Sources;
-use object_values::{Copied, Memory, Node, Seq, Step};
+use object_values::{Copied, HEIGHT_LIMIT, Memory, Node, Seq, Step};
 use odin_outside::Spawner;
 use path_planner::Plans;
 use std::alloc::Global;

@@ -1,3 +1,2 @@
-pub mod CountedLines
-pub mod LineEnds
-pub mod Numbered
+mod CountedLines
+mod Numbered

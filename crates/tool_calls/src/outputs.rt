@@ -5,11 +5,8 @@ ghost use Rattle.meaning_calls.specs.Outcomes as meaning;
 
 use crate::file_names::out_file;
 use crate::left::Left;
-use object_values::{Bytes, Copied, Memory, OwnLine, Part, Seq, Status};
+use object_values::{BODY_LIMIT, Bytes, Copied, Memory, OwnLine, Part, Seq, Status};
 use std::alloc::Global;
-
-// The longest output.
-const OUTPUT_LIMIT: usize = 16_777_216;
 
 // Adds what is wrong with the output, if anything is.
 fn put_fault(
@@ -28,7 +25,7 @@ fn put_fault(
             text.extend_from_slice(b"no output ")?;
             text.extend_from_slice(name)?;
         }
-        Some(body) if body.len() > OUTPUT_LIMIT => {
+        Some(body) if body.len() > BODY_LIMIT => {
             text.extend_from_slice(b"output ")?;
             text.extend_from_slice(name)?;
             text.extend_from_slice(b" too long")?;

@@ -1,23 +1,11 @@
 // The messages that a tool leaves in its file `warnings`.
 ghost use Rattle.std.specs.Prelude.{◌≡◌, ◌++◌, take, map, filter, OnOk, IfOk, [], ◌∷◌};
 ghost use Rattle.meaning_texts.specs.Limits.{message_length};
-ghost use Rattle.meaning_texts.specs.Lines.{without_cr};
 ghost use Rattle.meaning_calls.specs.Outcomes as meaning;
 
-use object_values::{Bytes, Memory, OwnLine, Seq, Status};
-use odin_bytes::first_line;
+use object_values::{Bytes, MESSAGE_LENGTH, MESSAGE_LIMIT, Memory, OwnLine, Seq, Status};
+use odin_bytes::{drop_cr, first_line};
 use std::alloc::Global;
-
-// How many lines count, and how many bytes of each.
-const LINE_COUNT: usize = 1_000;
-
-const LINE_LENGTH: usize = 1_000;
-
-fn drop_cr(line: &[u8]) -> &[u8]
-    ensures { result.now ≡ without_cr line.now }
-{
-    line.strip_suffix(b"\r").unwrap_or(line)
-}
 
 // Adds the line, if it isn't empty.
 fn put_line(
@@ -33,7 +21,7 @@ fn put_line(
     if line.is_empty() {
         return Ok(());
     }
-    let length = LINE_LENGTH.min(line.len());
+    let length = MESSAGE_LENGTH.min(line.len());
     lines.push(OwnLine {
         level,
         text: Bytes::from_slice(alloc, &line[..length])?,
@@ -51,7 +39,7 @@ pub(crate) fn own_lines(
 {
     let mut lines = Seq::new(alloc);
     let mut rest = warnings;
-    'lines: while lines.len() < LINE_COUNT {
+    'lines: while lines.len() < MESSAGE_LIMIT {
         let Some((line, behind)) = first_line(rest) else {
             put_line(alloc, level, rest, &mut lines)?;
             return Ok(lines);
