@@ -108,12 +108,10 @@ bad_of_long (Plan request) line h s = let l = request_short (codes "plan ") line
 bad_of_long Nothing line h s = let z : length line ≡ 0 = ap length s in absurd (omega arith)
 bad_of_long Bad line h s = refl
 
-cr_dropped_long : (line : List ℕ) → length line ≤ length (without_cr line) + 1
-cr_dropped_long line =
-    elim (nat_eq (slice_index line (length line - 1)) 13) as (λ b. length line ≤ length (cond b (take (length line - 1) line) line) + 1) [
-      | true ↦ omega (arith, length-take (length line - 1) line)
-      | false ↦ omega arith
-    ]
+without_cr_long : (line : List ℕ) → length line ≤ length (without_cr line) + 1
+without_cr_long [] = omega arith
+without_cr_long (b ∷ []) = elim (nat_eq b 13) as (λ t. 1 ≤ length (cond t [] (b ∷ [])) + 1) [ | true ↦ omega arith | false ↦ omega arith ]
+without_cr_long (b ∷ c ∷ rest) = omega (arith, without_cr_long (c ∷ rest))
 
 respelled : (command : Command) (a b : List ℕ) → 520 < length a → 520 < length b → Spells command a → Spells command b
 respelled command a b ha hb s = subst (λ c. Spells c b) (sym (bad_of_long command a ha s)) (long_is_bad b hb)
@@ -125,7 +123,7 @@ Spells-held command held part e s =
       | inr le ↦ subst (λ l. Spells command (without_cr l)) (e ∙ take_all 1026 part le) s
       | inl gt ↦
           let n : length held ≡ 1026 = ap length e ∙ length-take 1026 part ∙ omega arith in
-          let p = cr_dropped_long part in
-          let k = cr_dropped_long held in
+          let p = without_cr_long part in
+          let k = without_cr_long held in
           respelled command (without_cr held) (without_cr part) (omega arith) (omega arith) s
     ]

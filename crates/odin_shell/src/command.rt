@@ -2,10 +2,9 @@
 ghost use Rattle.std.specs.Prelude.{◌≡◌, ◌↔◌, ◌<◌, IsTrue, ℕ, List, IfOk, MatchOption};
 ghost use Rattle.odin_shell.specs.Commands.{IsPut, IsRequestBehind, Spells, takes};
 
-use object_values::Memory;
+use object_values::{BODY_LIMIT, Memory};
 use odin_answers::{Request, read_request};
-use odin_bytes::{Name, read_number};
-use odin_bytes::{cut_at, read_name};
+use odin_bytes::{Name, cut_at, read_name, read_number};
 use std::alloc::Global;
 
 /// A command of a session.
@@ -31,7 +30,7 @@ impl Command {
 }
 
 // The longest text of a source.
-const TEXT_LIMIT: u64 = 16_777_216;
+const TEXT_LIMIT: u64 = BODY_LIMIT as u64;
 
 /// The name and the number in `put NAME LEN`.
 fn put_parts(alloc: Global, line: &[u8]) -> Result<Option<(Name, u64)>, Memory>

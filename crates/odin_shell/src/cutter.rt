@@ -7,10 +7,10 @@ ghost use Rattle.odin_shell.specs.Held.{Keeps, IsPendingOf};
 ghost use Rattle.odin_shell.specs.Cuts.{Takes, Cuts, IsLast};
 
 use crate::command::{Command, read_command};
-use crate::line::drop_cr;
 use crate::pending::Pending;
 use memchr::memchr;
 use object_values::{Bytes, Memory};
+use odin_bytes::drop_cr;
 use std::alloc::Global;
 
 // How many bytes of a line are held: more than the longest command and its CR have.

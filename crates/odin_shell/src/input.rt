@@ -9,12 +9,9 @@ ghost use Rattle.odin_shell.specs.Run.{SessionEnds};
 use crate::deriver::Deriver;
 use crate::ending::Ending;
 use crate::session::{Finish, Session};
-use object_values::Memory;
+use object_values::{INPUT_LIMIT, Memory};
 use odin_outside::{Disk, Failed, Sink, Source, Spawner};
 use std::alloc::Global;
-
-// How many bytes of an input are read at most.
-const LIMIT: usize = 1_073_741_824;
 
 // How many bytes are read at once, at most.
 const PIECE: usize = 65_536;
@@ -61,8 +58,8 @@ fn serve_pieces<I: Source, O: Sink, S: Spawner, D: Disk>(
 {
     let mut session = Session::new(alloc);
     let mut count: usize = 0;
-    while count < LIMIT {
-        let Ok(size) = read_piece(input, buffer, LIMIT - count) else {
+    while count < INPUT_LIMIT {
+        let Ok(size) = read_piece(input, buffer, INPUT_LIMIT - count) else {
             return Ending::Input;
         };
         if size == 0 {

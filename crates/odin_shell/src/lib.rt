@@ -9,7 +9,6 @@ mod entry;
 mod graph;
 mod input;
 pub mod laws;
-mod line;
 mod pending;
 mod serve;
 mod session;

@@ -11,12 +11,12 @@ use Rattle.odin_shell.proofs.command.put_parts.Goals as goal
 pub returns-in_default-cut_at : goal.returns-in_default-cut_at
 returns-in_default-cut_at c = λ name count p.
     let front = strip_prefix_is Decides-eqb c.args.line.now (codes "put ") (Some c.in-Some.rest) c.in-Some.ensures.cases in
-    HasNo-split 32 name (decimal count) (subst (λ t. HasNo 32 t) (put_rest c.args.line.now c.in-Some.rest.now name count front p) c.in_default-cut_at.ensures)
+    HasNo-split 32 name (decimal count) (subst (λ t. HasNo 32 t) (put_rest c.args.line.now c.in-Some.rest.now name count front p) c.in_default-cut_at.ensures.none)
 
 pub returns-in_default-read_number : goal.returns-in_default-read_number
 returns-in_default-read_number c = λ name count p.
     let front = strip_prefix_is Decides-eqb c.args.line.now (codes "put ") (Some c.in-Some.rest) c.in-Some.ensures.cases in
-    let same = put_is c.in-Some.rest.now _ _ name count c.in-Some-cut_at.ensures.0 c.in-Some-cut_at.ensures.1 p.named (put_rest c.args.line.now c.in-Some.rest.now name count front p) in
+    let same = put_is c.in-Some.rest.now _ _ name count c.in-Some-cut_at.ensures.some.0 c.in-Some-cut_at.ensures.some.1 p.named (put_rest c.args.line.now c.in-Some.rest.now name count front p) in
     let short : count ≤ 16777216 = p.short in
     let few : count < 2 ^ 64 = omega arith in
     c.in_default-read_number.ensures.none count few same.1
@@ -24,7 +24,7 @@ returns-in_default-read_number c = λ name count p.
 pub returns-then-count-gt-TEXT_LIMIT : goal.returns-then-count-gt-TEXT_LIMIT
 returns-then-count-gt-TEXT_LIMIT c = λ name count p.
     let front = strip_prefix_is Decides-eqb c.args.line.now (codes "put ") (Some c.in-Some.rest) c.in-Some.ensures.cases in
-    let same = put_is c.in-Some.rest.now _ _ name count c.in-Some-cut_at.ensures.0 c.in-Some-cut_at.ensures.1 p.named (put_rest c.args.line.now c.in-Some.rest.now name count front p) in
+    let same = put_is c.in-Some.rest.now _ _ name count c.in-Some-cut_at.ensures.some.0 c.in-Some-cut_at.ensures.some.1 p.named (put_rest c.args.line.now c.in-Some.rest.now name count front p) in
     let short : count ≤ 16777216 = p.short in
     let few : count < 2 ^ 64 = omega arith in
     let read : c.in-Some-read_number.count < 2 ^ 64 = c.in-Some-read_number.ensures.small in
@@ -35,7 +35,7 @@ returns-then-count-gt-TEXT_LIMIT c = λ name count p.
 pub returns-in_default-2 : goal.returns-in_default-2
 returns-in_default-2 c = λ name count p.
     let front = strip_prefix_is Decides-eqb c.args.line.now (codes "put ") (Some c.in-Some.rest) c.in-Some.ensures.cases in
-    let same = put_is c.in-Some.rest.now _ _ name count c.in-Some-cut_at.ensures.0 c.in-Some-cut_at.ensures.1 p.named (put_rest c.args.line.now c.in-Some.rest.now name count front p) in
+    let same = put_is c.in-Some.rest.now _ _ name count c.in-Some-cut_at.ensures.some.0 c.in-Some-cut_at.ensures.some.1 p.named (put_rest c.args.line.now c.in-Some.rest.now name count front p) in
     let named : IsName c.in-Some-cut_at.word.now = subst (λ t. IsName t) (sym same.0) p.named in
     let none = rw c.in_default-2.is at c.in_ok-name.ensures in
     none named
