@@ -110,7 +110,7 @@ bad_of_long Bad line h s = refl
 
 without_cr_long : (line : List ℕ) → length line ≤ length (without_cr line) + 1
 without_cr_long [] = omega arith
-without_cr_long (b ∷ []) = elim (nat_eq b 13) as (λ t. 1 ≤ length (cond t [] (b ∷ [])) + 1) [ | true ↦ omega arith | false ↦ omega arith ]
+without_cr_long (b ∷ []) = elim (nat_eq b 13) as (λ t. 1 ≤ length (cond t [] (b ∷ [])) + 1) [ true ↦ omega arith | false ↦ omega arith ]
 without_cr_long (b ∷ c ∷ rest) = omega (arith, without_cr_long (c ∷ rest))
 
 respelled : (command : Command) (a b : List ℕ) → 520 < length a → 520 < length b → Spells command a → Spells command b
