@@ -12,8 +12,7 @@ use Rattle.plain_derive.specs.declared.fault.PlainFault.{PlainFault}
 use Rattle.plain_derive.specs.declared.fault.PlainFault.TheVariants as faults
 use Rattle.plain_derive.specs.Founds.{IsFound}
 use Rattle.plain_derive.specs.Logs.{HasDerived, HasGivenUp}
-use Rattle.plain_derive.proofs.BegunLemmas.{made_is_begun}
-use Rattle.plain_derive.proofs.MadeLemmas.{go_by}
+use Rattle.plain_derive.proofs.Lemmas.{made_is_begun, go_by}
 use Rattle.odin_answers.specs.Answers.{IsBegun, MayHaveBegun, IsReply, refused_tool_start, Replies}
 
 abbrev pub found_reply : Graph → Found → Text

@@ -8,7 +8,7 @@ use Rattle.meaning_derive.specs.Derive.{Sources}
 use Rattle.plain_derive.specs.declared.fault.PlainFault.{PlainFault}
 use Rattle.plain_derive.specs.declared.fault.PlainFault.TheVariants.{Spawn, Memory}
 use Rattle.plain_derive.specs.Laws.{CountedFor}
-use Rattle.plain_derive.proofs.LogLemmas.{uncounted, given_up_counted}
+use Rattle.plain_derive.proofs.Lemmas.{uncounted, given_up_counted}
 use Rattle.odin_answers.specs.Answers.{HasAnswer, IsStartRefused, MayHaveBegun}
 
 pub answer_uncounted : (g : Graph) (table : Option Table) (s : Sources) (text reply : Text) (before now : Spawned) → HasAnswer g table s text reply before now → now.faults ≡ before.faults

@@ -1,5 +1,7 @@
 mod AnswerLemmas
+mod CountLemmas
 mod Joins
 mod NodeLemmas
+mod OnceLemmas
 mod RequestLemmas
-pub mod CountLemmas
+pub mod Lemmas

@@ -1,9 +1,10 @@
--- What follows from replies: how the count of the tools' faults goes on.
-use Rattle.std.specs.Prelude.{◌≡◌, ◌≤◌, Option}
+-- What follows from replies: how the count of the tools' faults goes on, and that an answer is one.
+use Rattle.std.specs.Prelude.{◌≡◌, ◌≤◌, Option, Some}
 use Rattle.odin_outside.specs.Causes.{IsCounted}
 use Rattle.odin_outside.specs.Spawned.{Table, Spawned}
 use Rattle.meaning_graph.specs.Graphs.{Text, Graph}
 use Rattle.meaning_derive.specs.Derive.{Sources}
+use Rattle.plain_derive.specs.Built.{IsBuiltGraph}
 use Rattle.odin_answers.specs.Answers.{HasAnswer, IsStartRefused, MayHaveBegun}
 
 -- An answer leaves it as it was.
@@ -17,3 +18,7 @@ RefusalsAreCounted = (g : Graph) (table : Option Table) (s : Sources) (text repl
 -- Without a reply it never falls.
 abbrev pub NoneIsTakenBack : Type 0
 NoneIsTakenBack = (g : Graph) (table : Option Table) (s : Sources) (text : Text) (before now : Spawned) → MayHaveBegun g table s text before now → before.faults ≤ now.faults
+
+-- Over a graph that derivation is built for, where a table is told, a text has one answer from the same sources, whenever it is asked for.
+abbrev pub AnswerIsOne : Type 0
+AnswerIsOne = (g : Graph) → IsBuiltGraph g → (table : Table) (s : Sources) (text reply other : Text) (before now before' now' : Spawned) → HasAnswer g (Some table) s text reply before now → HasAnswer g (Some table) s text other before' now' → other ≡ reply

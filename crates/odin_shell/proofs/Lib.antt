@@ -8,3 +8,4 @@ mod OpenedLemmas
 mod RunLemmas
 mod ServeLemmas
 mod SessionLemmas
+mod TranscriptLemmas

@@ -1,5 +1,5 @@
 -- What holds of every input and of every session.
-use Rattle.std.specs.Prelude.{◌≡◌, ℕ, ◌+◌, ◌≤◌, min, List, [], ◌∷◌, bytes_eq, if◌then◌else◌, Option}
+use Rattle.std.specs.Prelude.{◌≡◌, ℕ, ◌+◌, ◌<◌, ◌≤◌, min, List, [], ◌∷◌, bytes_eq, if◌then◌else◌, Option, Some}
 use Rattle.odin_outside.specs.Causes.{last_count}
 use Rattle.odin_outside.specs.Spawned.{Table}
 use Rattle.meaning_graph.specs.Graphs.{Text, Graph}
@@ -11,7 +11,7 @@ use Rattle.odin_shell.specs.declared.command.Command.{Command}
 use Rattle.odin_shell.specs.Commands.{commands, Spells}
 use Rattle.odin_shell.specs.Machine.{State, Step}
 use Rattle.odin_shell.specs.declared.graph.Opened.{Opened}
-use Rattle.odin_shell.specs.Opened.{IsOpened}
+use Rattle.odin_shell.specs.Opened.{IsServedGraph, IsOpened}
 
 -- an input is cut in one way only into commands and less than a command
 abbrev pub InputIsCutOnce : Type 0
@@ -41,3 +41,20 @@ refused_starts (reply ∷ replies) = (if bytes_eq reply refused_tool_start then 
 -- There are at most as many of them as the count of the tools' faults rose, a count that stands still at the end of its type.
 abbrev pub RefusalsAreCounted : Type 0
 RefusalsAreCounted = (g : Graph) (table : Option Table) (first state : State) (items : List Item) (replies : List (List ℕ)) → Transcript commands (Step g table) first items replies state → min (first.tools.faults + refused_starts replies) last_count ≤ state.tools.faults
+
+-- From the one state to the other no fault of the tools was counted. A count that stands at its last number may hide one.
+pub record CountsNone (first last : State) : Type 0 where
+  pub same : last.tools.faults ≡ first.tools.faults
+  pub below : first.tools.faults < last_count
+
+-- the same replies, and the same sources in the end
+pub record AreSame (one other : List (List ℕ)) (last last' : State) : Type 0 where
+  pub replies : other ≡ one
+  pub texts : last'.texts ≡ last.texts
+
+-- Over a graph that a run is built for, where a table is told and no fault of the tools is counted, an input has one transcript: what is
+-- replied follows from the items and from the sources at the start alone.
+abbrev pub TranscriptIsOne : Type 0
+TranscriptIsOne = (g : Graph) → IsServedGraph g → (table : Table) (items : List Item) (first first' last last' : State) (replies replies' : List (List ℕ)) → first'.texts ≡ first.texts
+    → Transcript commands (Step g (Some table)) first items replies last → Transcript commands (Step g (Some table)) first' items replies' last'
+    → CountsNone first last → CountsNone first' last' → AreSame replies replies' last last'

@@ -1,5 +1,5 @@
 // Laws over inputs and sessions.
-ghost use Rattle.odin_shell.specs.Laws.{InputIsCutOnce, LineIsOneCommand, SourcesStay, EachIsOpened, OpenedIsOne, RefusalsAreCounted};
+ghost use Rattle.odin_shell.specs.Laws.{InputIsCutOnce, LineIsOneCommand, SourcesStay, EachIsOpened, OpenedIsOne, RefusalsAreCounted, TranscriptIsOne};
 
 /// An input is cut into commands in one way only.
 pub fn input_is_cut_once()
@@ -29,4 +29,9 @@ pub fn each_file_is_opened()
 /// A graph file is opened in one way only: by one graph, or by one last line. So 2 excludes every session over it.
 pub fn opened_is_one()
     ensures { OpenedIsOne }
+{}
+
+/// Where the tools answer by a table and no fault of theirs is counted, an input has one transcript.
+pub fn transcript_is_one()
+    ensures { TranscriptIsOne }
 {}

@@ -14,14 +14,14 @@ use Rattle.plain_derive.specs.Deep.{bases}
 use Rattle.plain_derive.proofs.StepLemmas.{before_taken}
 use Rattle.plain_derive.proofs.LineNeeds.{steps_needs}
 
-length-before : (steps : List Step) → length (before_last steps) ≡ length steps - 1
+pub length-before : (steps : List Step) → length (before_last steps) ≡ length steps - 1
 length-before steps = ap length (sym (before_taken steps)) ∙ length-take (length steps - 1) steps ∙ (let e : Rattle.std.specs.Prelude.min (length steps - 1) (length steps) ≡ length steps - 1 = omega arith in e)
 
 pub bases_one : (n : Node) → bases n 0 ≡ n ∷ []
 unfolding bases
 bases_one n = refl
 
-bases_more : (n : Node) (k : ℕ) → bases n (suc k) ≡ n ∷ bases (base_of n) k
+pub bases_more : (n : Node) (k : ℕ) → bases n (suc k) ≡ n ∷ bases (base_of n) k
 unfolding bases
 bases_more n k = refl
 
@@ -63,7 +63,7 @@ no_longer zero n m (inr h) = absurd h
 no_longer (suc k) n m (inl e) = let same : length m.steps ≡ length n.steps = ap (λ (z : Node). length z.steps) e in omega arith
 no_longer (suc k) n m (inr h) = let shorter = no_longer k (base_of n) m h in let less = length-before n.steps in omega arith
 
-differ : (k : ℕ) (n : Node) → k ≤ length n.steps → AreDifferent (bases n k)
+pub differ : (k : ℕ) (n : Node) → k ≤ length n.steps → AreDifferent (bases n k)
 unfolding bases
 differ zero n few = (λ h. h, tt)
 differ (suc k) n few =
@@ -71,7 +71,7 @@ differ (suc k) n few =
     (λ h. let shorter = no_longer k (base_of n) n h in omega arith, differ k (base_of n) (omega arith))
 
 module _ (g : Graph) (built : IsBuiltGraph g) where
-  base_fits_too : (n : Node) → Fits g n → 0 < length n.steps → Fits g (base_of n)
+  pub base_fits_too : (n : Node) → Fits g n → 0 < length n.steps → Fits g (base_of n)
   base_fits_too n f some = let l = some_last n.steps some in (base_fits g n l.0 f l.1).fits
 
   pub base_need : (seen : Results) (n : Node) → Fits g n → 0 < length n.steps → IsNeed g seen n (base_of n)

@@ -1,15 +1,17 @@
-pub mod BegunLemmas
-pub mod CallLemmas
-pub mod CutLemmas
-pub mod DeepLemmas
-pub mod FoundLemmas
-pub mod LineNeeds
-pub mod LineNodes
-pub mod LineViews
-pub mod LogLemmas
-pub mod MadeLemmas
-pub mod RunLemmas
-pub mod SourceLemmas
-pub mod StepLemmas
-pub mod ToolNodes
-pub mod ViewLemmas
+mod BegunLemmas
+mod CallLemmas
+mod ChainLemmas
+mod CutLemmas
+mod DeepLemmas
+mod FoundLemmas
+mod LineNeeds
+mod LineNodes
+mod LineViews
+mod LogLemmas
+mod MadeLemmas
+mod RunLemmas
+mod SourceLemmas
+mod StepLemmas
+mod ToolNodes
+mod ViewLemmas
+pub mod Lemmas

@@ -1,5 +1,5 @@
-//! Laws of what a derivation made. Each is the contract of a function with an empty body.
-ghost use Rattle.plain_derive.specs.Laws.{StartsAreFew, MadeCountsNone, GivenUpIsCounted};
+//! Laws of what a derivation made, and of chains. Each is the contract of a function with an empty body.
+ghost use Rattle.plain_derive.specs.Laws.{StartsAreFew, MadeCountsNone, GivenUpIsCounted, NoneIsCircular, DeepChainIsOne};
 
 /// No more tools are started than the node has steps.
 pub fn starts_are_few()
@@ -10,4 +10,10 @@ pub fn starts_are_few()
 pub fn faults_are_counted()
     ensures made { MadeCountsNone }
     ensures given_up { GivenUpIsCounted }
+{}
+
+/// Over a graph that derivation is built for, a node is refused for one chain at most: its bases.
+pub fn chain_is_one()
+    ensures circular { NoneIsCircular }
+    ensures deep { DeepChainIsOne }
 {}

@@ -1,0 +1,5 @@
+-- The lemmas that other crates may cite.
+-- The count of the tools' faults over replies.
+pub use Rattle.odin_answers.proofs.CountLemmas.{answer_uncounted, refusal_counted, begun_later}
+-- A text has one answer.
+pub use Rattle.odin_answers.proofs.OnceLemmas.{one_reply}
