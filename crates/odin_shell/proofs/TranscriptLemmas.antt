@@ -1,17 +1,17 @@
 -- Where no fault of the tools is counted, an input has one transcript.
-use Rattle.std.proofs.Common.{◌≡◌, ℕ, ◌+◌, ◌<◌, ◌≤◌, min, List, [], ◌∷◌, ap, sym, refl, ◌∙◌, subst, arith, inl, inr}
+use Rattle.std.proofs.Common.{◌≡◌, ℕ, ◌<◌, ◌≤◌, List, [], ◌∷◌, ap, sym, refl, ◌∙◌, subst, arith, inl, inr}
 use Rattle.std.specs.Prelude.{Some}
 use Rattle.std.specs.FinMap.{insert}
 use Rattle.object_sources.specs.Texts.{Texts}
 use Rattle.odin_outside.specs.Causes.{last_count, IsCounted}
-use Rattle.odin_outside.specs.Spawned.{Table, Spawned}
+use Rattle.odin_outside.specs.Spawned.{Table}
 use Rattle.meaning_texts.specs.Lines.{without_cr}
 use Rattle.meaning_graph.specs.Graphs.{Text, Graph}
 use Rattle.meaning_answers.proofs.Lemmas.{one_plan}
 use Rattle.meaning_run.specs.Items.{Item}
 use Rattle.meaning_run.specs.Machines.{Transcript, AnswersItem}
 use Rattle.plain_derive.specs.Built.{IsBuiltGraph}
-use Rattle.odin_answers.specs.Answers.{IsReply, HasAnswer, IsStartRefused}
+use Rattle.odin_answers.specs.Answers.{IsReply, HasAnswer}
 use Rattle.odin_answers.proofs.Lemmas.{answer_uncounted, refusal_counted, one_reply}
 use Rattle.odin_shell.specs.declared.command.Command.{Command}
 use Rattle.odin_shell.specs.declared.command.Command.TheVariants.{Put, Ask, Plan, Nothing, Bad}
