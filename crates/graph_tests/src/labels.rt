@@ -1,7 +1,7 @@
 // Labels and texts of nodes over a small graph.
 use dg_reader::read_graph;
-use odin_nodes::{label_of, node_text};
 use object_values::{Bytes, Memory, Node, ParamValue, Seq, Step};
+use odin_nodes::{label_of, node_text};
 use std::alloc::Global;
 use std::test::Fail;
 use type_graph::Graph;

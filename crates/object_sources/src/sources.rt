@@ -67,7 +67,7 @@ impl Sources {
 
     /// The name and the text at a place, from 0, in the order of the names.
     pub fn at(&self, place: usize) -> Option<(&Bytes, &Bytes)>
-        ensures { option_map (λ pair. (pair.0.now, pair.1.now)) result ≡ entry_at self.now.texts place }
+        ensures { option_map (λ p. (p.0.now, p.1.now)) result ≡ entry_at self.now.texts place }
     {
         let (name, text) = self.pairs.get(place)?;
         Some((name, text))

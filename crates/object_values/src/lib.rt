@@ -18,8 +18,8 @@ pub use graph::{
 };
 pub use jobs::{End, FileBody, Job, Raw};
 pub use limits::{
-    BODY_LIMIT, DECLARATION_LIMIT, GRAPH_LIMIT, HEIGHT_LIMIT, INPUT_LIMIT, MESSAGE_LENGTH, MESSAGE_LIMIT,
-    STORE_LIMIT, WORD_LIMIT,
+    BODY_LIMIT, DECLARATION_LIMIT, GRAPH_LIMIT, HEIGHT_LIMIT, INPUT_LIMIT, MESSAGE_LENGTH,
+    MESSAGE_LIMIT, STORE_LIMIT, WORD_LIMIT,
 };
 pub use messages::{Message, Status};
 pub use nodes::{Node, ParamValue, Step};

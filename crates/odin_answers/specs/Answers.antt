@@ -1,5 +1,5 @@
 -- The replies to requests, and what the tools did for them.
-use Rattle.std.specs.Prelude.{◌≡◌, ◌⊎◌, ◌++◌, Option, codes}
+use Rattle.std.specs.Prelude.{◌≡◌, ◌⊎◌, ◌≤◌, ◌++◌, length, Option, codes}
 use Rattle.object_values.specs.declared.nodes.Node.{Node}
 use Rattle.odin_outside.specs.Spawned.{Table, Spawned}
 use Rattle.meaning_texts.specs.Lines.{with_lf}
@@ -35,6 +35,11 @@ pub record IsBegun (g : Graph) (table : Option Table) (s : Sources) (text : Text
 -- The text has no reply, since memory was wanting: nothing was done, or the derivation of its node was begun.
 abbrev pub MayHaveBegun : Graph → Option Table → Sources → Text → Spawned → Spawned → Type 0
 MayHaveBegun g table s text before now = (now ≡ before) ⊎ ((fault : PlainFault) × IsBegun g table s text fault before now)
+
+-- The tools answer as before, and at most one of them runs.
+pub record AreFew (before now : Spawned) : Type 0 where
+  pub answer : now.answer ≡ before.answer
+  pub one : length now.running ≤ 1
 
 -- ---- replies
 

@@ -5,7 +5,7 @@ ghost use Rattle.meaning_answers.specs.Answers.{Asks, Plan};
 ghost use Rattle.meaning_nodes.specs.Nodes.{Fits};
 ghost use Rattle.plain_derive.specs.Built.{IsBuiltGraph};
 ghost use Rattle.odin_answers.specs.Requests.{request_text};
-ghost use Rattle.odin_answers.specs.Answers.{Replies, IsReply, MayHaveBegun};
+ghost use Rattle.odin_answers.specs.Answers.{AreFew, Replies, IsReply, MayHaveBegun};
 ghost use Rattle.path_planner.specs.Ends.{plans_of};
 
 use crate::node::{Asked, node_asked};
@@ -43,8 +43,7 @@ fn answer_node<S: Spawner>(
         MayHaveBegun graph.now (S.told tools.old).answer sources.now.texts
         text (S.told tools.old) (S.told tools.new)) }
     ensures idle { OnOk result ((S.told tools.new).running ≡ []) }
-    ensures one { length (S.told tools.new).running ≤ 1 }
-    ensures answer { (S.told tools.new).answer ≡ (S.told tools.old).answer }
+    ensures few { AreFew (S.told tools.old) (S.told tools.new) }
 {
     match derive_plain(alloc, graph, plans, sources, node, tools) {
         Ok(Found::Answer(view)) => write_object(alloc, graph, &view, out),

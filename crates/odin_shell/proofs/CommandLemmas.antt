@@ -1,5 +1,5 @@
 -- Words and numbers of a line, and that a line is one command so far as the bytes behind it go.
-use Rattle.std.proofs.Common.{◌≡◌, ◌≢◌, ℕ, ◌+◌, ◌-◌, ◌<◌, ◌≤◌, ◌^◌, List, [], ◌∷◌, ◌++◌, length, take, get_or, codes, ap, sym, refl, ◌∙◌, subst, arith, true, false, cond, nat_eq, slice_index, inl, inr}
+use Rattle.std.proofs.Common.{◌≡◌, ◌≢◌, ℕ, ◌+◌, ◌<◌, ◌≤◌, ◌^◌, List, [], ◌∷◌, ◌++◌, length, take, get_or, codes, ap, sym, refl, ◌∙◌, subst, arith, true, false, cond, nat_eq, inl, inr}
 use Rattle.std.specs.Fmt.{decimal}
 use Rattle.std.specs.Str.Parse.{digits_value}
 use Rattle.std.proofs.lemmas.Fmt.{decimal_is_IsNumeral, length-decimal-le}
@@ -110,7 +110,7 @@ bad_of_long Bad line h s = refl
 
 without_cr_long : (line : List ℕ) → length line ≤ length (without_cr line) + 1
 without_cr_long [] = omega arith
-without_cr_long (b ∷ []) = elim (nat_eq b 13) as (λ t. 1 ≤ length (cond t [] (b ∷ [])) + 1) [ | true ↦ omega arith | false ↦ omega arith ]
+without_cr_long (b ∷ []) = elim (nat_eq b 13) as (λ t. 1 ≤ length (cond t [] (b ∷ [])) + 1) [ true ↦ omega arith | false ↦ omega arith ]
 without_cr_long (b ∷ c ∷ rest) = omega (arith, without_cr_long (c ∷ rest))
 
 respelled : (command : Command) (a b : List ℕ) → 520 < length a → 520 < length b → Spells command a → Spells command b

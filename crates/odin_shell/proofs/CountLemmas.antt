@@ -1,18 +1,19 @@
 -- Replies that say that a tool was not started: no other reply is like them, and there are no more than faults.
 use Rattle.std.proofs.Common.{◌≡◌, ◌≢◌, ℕ, ◌+◌, ◌≤◌, min, Bool, true, false, List, [], ◌∷◌, get_or, ap, sym, refl, ◌∙◌, arith, inl, inr}
-use Rattle.std.specs.Prelude.{Option, Some, None, if◌then◌else◌}
+use Rattle.std.specs.Prelude.{Option, if◌then◌else◌}
 use Rattle.std.specs.Str.{bytes_eq}
 use Rattle.std.proofs.lemmas.Slice.Eq.{bytes_eq-Decides}
 use Rattle.odin_outside.specs.Causes.{last_count}
 use Rattle.odin_outside.specs.Spawned.{Table}
 use Rattle.object_values.specs.declared.views.View.{View}
 use Rattle.meaning_graph.specs.Graphs.{Text, Graph}
-use Rattle.meaning_derive.specs.Derive.{Sources}
+use Rattle.meaning_derive.specs.Derive.{Sources, Outcomes}
 use Rattle.meaning_answers.specs.Answers.{Refused, Answer, Plan}
 use Rattle.meaning_answers.specs.Replies.{object_reply}
 use Rattle.meaning_run.specs.Items.{Item}
 use Rattle.meaning_run.specs.Machines.{Transcript}
-use Rattle.odin_answers.specs.Answers.{IsAnswerByForm, IsAnswer, refused_tool_start}
+use Rattle.odin_answers.specs.Answers.{refused_tool_start}
+use Rattle.odin_answers.proofs.Lemmas.{refusal_counted}
 use Rattle.odin_shell.specs.declared.command.Command.{Command}
 use Rattle.odin_shell.specs.declared.command.Command.TheVariants as command
 use Rattle.odin_shell.specs.Commands.{commands}
@@ -36,18 +37,11 @@ refused_other g text reply (Refused.param _ e name is none) = other_at reply 8 1
 refused_other g text reply (Refused.type _ e name is none) = other_at reply 9 121 refl (λ e. omega arith)
 refused_other g text reply (Refused.path _ e step is none) = other_at reply 8 112 refl (λ e. omega arith)
 
-form_other : (g : Graph) (s : Sources) (text reply : Text) → IsAnswerByForm g s text reply → reply ≢ refused_tool_start
-form_other g s text reply (IsAnswerByForm.refused _ _ is) = refused_other g text reply is
-form_other g s text reply (IsAnswerByForm.source _ n view asks none is) = other_at reply 0 111 (object_at g view) (λ e. omega arith)
-form_other g s text reply (IsAnswerByForm.object _ n view asks some low) = other_at reply 0 111 (object_at g view) (λ e. omega arith)
-form_other g s text reply (IsAnswerByForm.deep _ n chain asks high is) = other_at reply 8 100 refl (λ e. omega arith)
-
-answer_other : (g : Graph) (table : Option Table) (s : Sources) (text reply : Text) → IsAnswer g table s text reply → reply ≢ refused_tool_start
-answer_other g None s text reply is = form_other g s text reply is
-answer_other g (Some t) s text reply (Answer.refused _ _ is) = refused_other g text reply is
-answer_other g (Some t) s text reply (Answer.object _ n view asks is) = other_at reply 0 111 (object_at g view) (λ e. omega arith)
-answer_other g (Some t) s text reply (Answer.circular _ n chain asks is) = other_at reply 8 99 refl (λ e. omega arith)
-answer_other g (Some t) s text reply (Answer.deep _ n chain asks is) = other_at reply 8 100 refl (λ e. omega arith)
+answer_other : (g : Graph) (s : Sources) (outcomes : Outcomes) (text reply : Text) → Answer g s outcomes text reply → reply ≢ refused_tool_start
+answer_other g s outcomes text reply (Answer.refused _ _ is) = refused_other g text reply is
+answer_other g s outcomes text reply (Answer.object _ n view asks is) = other_at reply 0 111 (object_at g view) (λ e. omega arith)
+answer_other g s outcomes text reply (Answer.circular _ n chain asks is) = other_at reply 8 99 refl (λ e. omega arith)
+answer_other g s outcomes text reply (Answer.deep _ n chain asks is) = other_at reply 8 100 refl (λ e. omega arith)
 
 plan_other : (g : Graph) (text reply : Text) → Plan g text reply → reply ≢ refused_tool_start
 plan_other g text reply (Plan.refused_plan _ _ is) = refused_other g text reply is
@@ -70,14 +64,14 @@ at_most_one false = omega arith
 uncounted : (reply : Text) (before now : ℕ) → reply ≢ refused_tool_start → before ≤ now → min (before + one_if (bytes_eq reply refused_tool_start)) last_count ≤ now
 uncounted reply before now other later = let none = not_one reply (bytes_eq reply refused_tool_start) refl other in omega arith
 
-counted : (g : Graph) (table : Option Table) (old : State) (c : Command) (body : List ℕ) (reply : Text) (new : State) → Step g table old c body reply new
+pub counted : (g : Graph) (table : Option Table) (old : State) (c : Command) (body : List ℕ) (reply : Text) (new : State) → Step g table old c body reply new
     → min (old.tools.faults + one_if (bytes_eq reply refused_tool_start)) last_count ≤ new.tools.faults
 counted g table old (command.Put name count) body reply new step =
     let same : new.tools.faults ≡ old.tools.faults = ap (λ (s : State). s.tools.faults) step.1 in
     uncounted reply old.tools.faults new.tools.faults (λ e. other_at reply 0 112 (ap (λ (t : Text). get_or t 0 0) step.0) (λ z. omega arith) e) (omega arith)
 counted g table old (command.Ask request) body reply new (inl answered, same) =
-    uncounted reply old.tools.faults new.tools.faults (answer_other g table old.texts _ reply answered.answer) (reply_later g table old.texts _ reply old.tools new.tools (inl answered))
-counted g table old (command.Ask request) body reply new (inr refused, same) = let rose = refused.begun.counted.rose in let few = at_most_one (bytes_eq reply refused_tool_start) in omega arith
+    uncounted reply old.tools.faults new.tools.faults (answer_other g old.texts answered.outcomes _ reply answered.answer) (reply_later g table old.texts _ reply old.tools new.tools (inl answered))
+counted g table old (command.Ask request) body reply new (inr refused, same) = let counted = refusal_counted g table old.texts _ reply old.tools new.tools refused in let rose = counted.rose in let few = at_most_one (bytes_eq reply refused_tool_start) in omega arith
 counted g table old (command.Plan request) body reply new step =
     let same : new.tools.faults ≡ old.tools.faults = ap (λ (s : State). s.tools.faults) step.1 in
     uncounted reply old.tools.faults new.tools.faults (plan_other g _ reply step.0) (omega arith)

@@ -6,7 +6,6 @@ use Rattle.std.specs.Option.{is_some}
 use Rattle.meaning_run.specs.Items as items
 use Rattle.meaning_run.specs.Streams as streams
 use Rattle.meaning_run.specs.Items.{Item, item_bytes, last_item}
-use Rattle.meaning_texts.specs.Lists.{HasNo}
 use Rattle.meaning_texts.specs.Lines.{HasNoLf, without_cr}
 use Rattle.meaning_texts.proofs.Lemmas.{HasNo-append}
 use Rattle.odin_shell.specs.declared.command.Command.{Command}

@@ -17,7 +17,7 @@ use Rattle.meaning_graph_text.specs.Places.{BeginsOnLine}
 use Rattle.meaning_graph_text.proofs.Lemmas.{one_graph, one_line, each_begins}
 use Rattle.plain_derive.specs.Built.{IsOfOneInput}
 use Rattle.dg_reader.specs.Files.{IsRead, Refuses}
-use Rattle.dg_reader.proofs.RefusalLemmas.{not_refused, refused_by_one, read_or_refused}
+use Rattle.dg_reader.proofs.Lemmas.{not_refused, refused_by_one, read_or_refused}
 use Rattle.odin_shell.specs.declared.graph.Opened.{Opened}
 use Rattle.odin_shell.specs.declared.graph.Opened.TheVariants as opened
 use Rattle.odin_shell.specs.Opened.{at_line, fault_line, no_file_line, IsServed, IsServedGraph, IsFirstNotBuilt, IsRefused, no_file, not_read, not_yet, IsOpened}

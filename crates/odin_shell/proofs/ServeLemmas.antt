@@ -16,9 +16,8 @@ use Rattle.odin_shell.specs.declared.serve.Stop.{Stop}
 use Rattle.odin_shell.specs.declared.serve.Stop.TheVariants.{Memory, Output}
 use Rattle.odin_shell.specs.Commands.{commands}
 use Rattle.odin_outside.specs.Spawned.{Table, Spawned}
-use Rattle.plain_derive.specs.declared.fault.PlainFault.{PlainFault}
-use Rattle.plain_derive.specs.declared.fault.PlainFault.TheVariants.{Spawn, Memory as Wanted}
-use Rattle.odin_answers.specs.Answers.{IsReply, MayHaveBegun, Replies, CountedFor}
+use Rattle.odin_answers.specs.Answers.{IsReply, MayHaveBegun, Replies}
+use Rattle.odin_answers.proofs.Lemmas.{answer_uncounted, refusal_counted, begun_later}
 use Rattle.meaning_derive.specs.Derive.{Sources}
 use Rattle.meaning_graph.specs.Graphs.{Graph}
 use Rattle.meaning_derive.specs.Given.{IsSource, AreSources}
@@ -62,21 +61,10 @@ broken g table start old before state new command body belongs may =
 pub stay_on : {table : Option Table} {a b c : Spawned} → ToolsStay table a b → ToolsStay b.answer b c → ToolsStay table a c
 stay_on first second = let l = first.later in let m = second.later in record { answers = second.answers ∙ first.answers; few = second.few; later = omega arith }
 
--- no answer lets the count of faults fall
+-- no reply lets the count of faults fall
 pub reply_later : (g : Graph) (table : Option Table) (s : Sources) (text reply : Text) (before now : Spawned) → IsReply g table s text reply before now → before.faults ≤ now.faults
-reply_later g table s text reply before now (inl answered) = elim answered.did [
-  | inl alone ↦ let same = ap (λ (t : Spawned). t.faults) alone.told in omega arith
-  | inr derived ↦ let same = derived.made.counted in omega arith
-]
-reply_later g table s text reply before now (inr refused) = refused.begun.counted.later
-
-counted_later : (fault : PlainFault) (before now : ℕ) → CountedFor fault before now → before ≤ now
-counted_later Wanted before now same = omega arith
-counted_later Spawn before now counted = counted.later
-
-begun_later : (g : Graph) (table : Option Table) (s : Sources) (text : Text) (before now : Spawned) → MayHaveBegun g table s text before now → before.faults ≤ now.faults
-begun_later g table s text before now (inl same) = let faults = ap (λ (t : Spawned). t.faults) same in omega arith
-begun_later g table s text before now (inr begun) = counted_later begun.fault before.faults now.faults begun.begun.counted
+reply_later g table s text reply before now (inl answered) = let same = answer_uncounted g table s text reply before now answered in omega (arith, same)
+reply_later g table s text reply before now (inr refused) = let counted = refusal_counted g table s text reply before now refused in counted.later
 
 -- and so it doesn't in an ask, whatever comes of it
 pub ask_stays : {T E : Type 0} (r : Result T E) (g : Graph) (table : Option Table) (s : Sources) (text out out' : Text) (before now : Spawned)

@@ -1,5 +1,5 @@
 -- Where no fault of the tools is counted, items have one transcript at most.
-use Rattle.std.proofs.Common.{◌≡◌, ℕ, ◌<◌, ◌≤◌, List, [], ◌∷◌, ap, sym, refl, ◌∙◌, subst, arith, inl, inr}
+use Rattle.std.proofs.Common.{◌≡◌, ℕ, ◌<◌, ◌+◌, ◌≤◌, min, List, [], ◌∷◌, ap, sym, refl, ◌∙◌, subst, arith, inl, inr}
 use Rattle.std.specs.Prelude.{Some}
 use Rattle.std.specs.FinMap.{insert}
 use Rattle.object_sources.specs.Texts.{Texts}
@@ -13,41 +13,27 @@ use Rattle.meaning_run.specs.Machines.{Transcript, AnswersItem}
 use Rattle.plain_derive.specs.Built.{IsBuiltGraph}
 use Rattle.odin_answers.specs.Requests.{request_text}
 use Rattle.odin_answers.specs.Answers.{IsReply, HasAnswer}
-use Rattle.odin_answers.proofs.Lemmas.{answer_uncounted, refusal_counted, one_reply}
+use Rattle.odin_answers.proofs.Lemmas.{refusal_counted, one_reply}
 use Rattle.odin_shell.specs.declared.command.Command.{Command}
 use Rattle.odin_shell.specs.declared.command.Command.TheVariants.{Put, Ask, Plan, Nothing, Bad}
 use Rattle.odin_shell.specs.Commands.{commands}
 use Rattle.odin_shell.specs.Machine.{State, Step}
 use Rattle.odin_shell.specs.Opened.{IsServedGraph}
 use Rattle.odin_shell.specs.Laws.{CountsNone, AreSame}
+use Rattle.odin_shell.proofs.CountLemmas.{counted, counts}
 use Rattle.odin_shell.proofs.GraphLemmas.{all_derivable}
 use Rattle.odin_shell.proofs.OnceLemmas.{one_command}
 
 -- ---- counts
 
--- no step lets the count of faults fall
-step_later : (g : Graph) (table : Table) (old : State) (c : Command) (body reply : List ℕ) (new : State) → Step g (Some table) old c body reply new → old.tools.faults ≤ new.tools.faults
-step_later g table old (Put name count) body reply new step = let same : new.tools.faults ≡ old.tools.faults = ap (λ (s : State). s.tools.faults) step.1 in omega (arith, same)
-step_later g table old (Ask request) body reply new (inl answered, same) = let none = answer_uncounted g (Some table) old.texts _ reply old.tools new.tools answered in omega (arith, none)
-step_later g table old (Ask request) body reply new (inr refused, same) = (refusal_counted g (Some table) old.texts _ reply old.tools new.tools refused).later
-step_later g table old (Plan request) body reply new step = let same : new.tools.faults ≡ old.tools.faults = ap (λ (s : State). s.tools.faults) step.1 in omega (arith, same)
-step_later g table old Nothing body reply new step = let same : new.tools.faults ≡ old.tools.faults = ap (λ (s : State). s.tools.faults) step.1 in omega (arith, same)
-step_later g table old Bad body reply new step = let same : new.tools.faults ≡ old.tools.faults = ap (λ (s : State). s.tools.faults) step.1 in omega (arith, same)
+-- a count that is at the end what it was is so on the way
+alike : (first mid last more rest : ℕ) → min (first + more) last_count ≤ mid → min (mid + rest) last_count ≤ last → last ≡ first → first < last_count → mid ≡ first
+alike first mid last more rest begins goes same below = omega (arith, begins, goes, same, below)
 
-later : (g : Graph) (table : Table) (first last : State) (items : List Item) (replies : List (List ℕ)) → Transcript commands (Step g (Some table)) first items replies last → first.tools.faults ≤ last.tools.faults
-later g table first last [] [] run = let same : last.tools.faults ≡ first.tools.faults = ap (λ (s : State). s.tools.faults) run in omega (arith, same)
-later g table first last [] (reply ∷ replies) run = absurd run
-later g table first last (item ∷ items) [] run = absurd run
-later g table first last (item ∷ items) (reply ∷ replies) run =
-    let one = step_later g table first run.1.command item.body reply run.0 run.1.step in
-    let more = later g table run.0 last items replies run.2 in
-    omega (arith, one, more)
-
-between : (a b c : State) → a.tools.faults ≤ b.tools.faults → b.tools.faults ≤ c.tools.faults → CountsNone a c → CountsNone a b × CountsNone b c
-between a b c first rest none =
-    let same = none.same in
-    let below = none.below in
-    (record { same = omega (arith, first, rest, same); below = below }, record { same = omega (arith, first, rest, same); below = omega (arith, first, rest, same, below) })
+between : (first mid last : State) (more rest : ℕ) → min (first.tools.faults + more) last_count ≤ mid.tools.faults → min (mid.tools.faults + rest) last_count ≤ last.tools.faults → CountsNone first last → CountsNone first mid × CountsNone mid last
+between first mid last more rest begins goes none =
+    let same : mid.tools.faults ≡ first.tools.faults = alike first.tools.faults mid.tools.faults last.tools.faults more rest begins goes none.same none.below in
+    (record { same = same; below = none.below }, record { same = none.same ∙ sym same; below = subst (λ k. k < last_count) (sym same) none.below })
 
 not_counted : (before now : ℕ) → now ≡ before → before < last_count → IsCounted before now → ⊥
 not_counted before now same below counted = let rose = counted.rose in absurd (omega (arith, same, below, rose))
@@ -111,8 +97,8 @@ module _ (g : Graph) (built : IsBuiltGraph g) (table : Table) where
   once (item ∷ items) [] other first last first' last' same run run' none none' = absurd run
   once (item ∷ items) (reply ∷ one) [] first last first' last' same run run' none none' = absurd run'
   once (item ∷ items) (reply ∷ one) (reply' ∷ other) first last first' last' same run run' none none' =
-      let here = between first run.0 last (step_later g table first run.1.command item.body reply run.0 run.1.step) (later g table run.0 last items one run.2) none in
-      let here' = between first' run'.0 last' (step_later g table first' run'.1.command item.body reply' run'.0 run'.1.step) (later g table run'.0 last' items other run'.2) none' in
+      let here = between first run.0 last _ _ (counted g (Some table) first run.1.command item.body reply run.0 run.1.step) (counts g (Some table) run.0 last items one run.2) none in
+      let here' = between first' run'.0 last' _ _ (counted g (Some table) first' run'.1.command item.body reply' run'.0 run'.1.step) (counts g (Some table) run'.0 last' items other run'.2) none' in
       let step = one_item g built table first run.0 first' run'.0 same here.0 here'.0 item reply reply' run.1 run'.1 in
       let rest = once items one other run.0 last run'.0 last' step.texts run.2 run'.2 here.1 here'.1 in
       record { replies = λ i. step.is i ∷ rest.replies i; texts = rest.texts; tools = λ (e : first'.tools ≡ first.tools). rest.tools (step.tools e) }

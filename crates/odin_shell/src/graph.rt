@@ -155,7 +155,7 @@ fn read_text(alloc: Global, text: &[u8]) -> Result<Opened, Memory>
         Ok(file) => {
             file.graph.checked();
             let line = not_yet_line(alloc, &file, text)?;
-            Ok(opened_by(file.graph, line))
+            Ok(opened_by(file.into_graph(), line))
         }
         Err(fault) => Ok(Opened::Refused(line_of_fault(alloc, fault)?)),
     }

@@ -1,5 +1,6 @@
 -- The lengths of the shortest paths to a type.
 use Rattle.std.specs.Prelude.{◌≡◌, ◌+◌, ◌<◌, ◌≤◌, ℕ, true, cond, List, Option, Some, None, length, slice_get, slice_index_or}
+use Rattle.std.specs.Option.{option_or}
 use Rattle.meaning_graph.specs.Graphs.{Graph, types}
 use Rattle.meaning_graph.specs.Types.{is_a}
 use Rattle.meaning_graph.specs.Paths.{Makes, Path}
@@ -13,6 +14,10 @@ near_at near a = slice_index_or near a None
 -- the distance, where the one type is the other
 abbrev pub distance_if : Graph → ℕ → ℕ → ℕ → Option ℕ
 distance_if g a of distance = cond (is_a g a of) (Some distance) None
+
+-- Each type that is this one, and has no distance yet, has this one.
+abbrev pub Marks : Graph → ℕ → ℕ → List (Option ℕ) → List (Option ℕ) → Type 0
+Marks g of distance old new = (a : ℕ) → a < length old → near_at new a ≡ option_or (near_at old a) (distance_if g a of distance)
 
 -- The distances are those of the shortest paths, where there are any of the length at most.
 pub record IsNear (g : Graph) (to level : ℕ) (near : List (Option ℕ)) : Type 0 where

@@ -1,10 +1,10 @@
 // How many makers a path from each type has, at least.
 ghost use Rattle.std.specs.Prelude.{◌≡◌, ◌<◌, ◌+◌, ℕ, Some, IfOk, length, nat_eq, slice_get};
 ghost use Rattle.std.specs.List.{list_any};
-ghost use Rattle.std.specs.Option.{option_eq, option_or};
+ghost use Rattle.std.specs.Option.{option_eq};
 ghost use Rattle.meaning_graph.specs.Graphs.{types};
 ghost use Rattle.path_planner.specs.Ends.{ends_in, AreTypes};
-ghost use Rattle.path_planner.specs.Near.{near_at, distance_if, Widens, IsBetween, IsAllNear};
+ghost use Rattle.path_planner.specs.Near.{Marks, Widens, IsBetween, IsAllNear};
 
 use crate::route::Ends;
 use object_values::{Memory, Seq};
@@ -77,8 +77,7 @@ fn widen_by(near: &mut [Option<usize>], graph: &Graph, maker: Ends, level: usize
 fn mark(near: &mut [Option<usize>], graph: &Graph, of: u32, distance: usize)
     requires sized { length near.old ≡ length (types graph.now) }
     requires of { of < length (types graph.now) }
-    ensures { (a : ℕ) → a < length near.old
-        → near_at near.new a ≡ option_or (near_at near.old a) (distance_if graph.now a of distance) }
+    ensures { Marks graph.now of distance near.old near.new }
 {
     for a in 0..graph.type_count() {
         let place = a as usize;

@@ -20,7 +20,7 @@ use Rattle.meaning_tasks.specs.Needs.{Results, Needs, values_of, elements_of}
 use Rattle.meaning_tasks.proofs.Lemmas.{one_list_of_needs}
 use Rattle.meaning_tasks.specs.Settle.{Texts, outcome_own, status_in, messages_in, worst_of, messages_of, Settles}
 use Rattle.odin_nodes.specs.Inheriting.{Inherits}
-use Rattle.odin_nodes.proofs.Once.{inherit_all}
+use Rattle.odin_nodes.proofs.Lemmas.{inherit_all}
 use Rattle.plain_derive.specs.Built.{IsBuiltGraph}
 use Rattle.plain_derive.specs.Seen.{AreKnown, AreSeen, IsOutcomeFor}
 use Rattle.plain_derive.proofs.LineNeeds.{needs_of_steps, steps_settle}

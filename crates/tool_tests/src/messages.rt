@@ -1,7 +1,7 @@
 // Messages that are inherited, on small tables.
 use super::texts::Text;
-use odin_nodes::{inherit, worst};
 use object_values::{Bytes, Memory, Message, Seq, Status, View};
+use odin_nodes::{inherit, worst};
 use std::alloc::Global;
 use std::test::Fail;
 

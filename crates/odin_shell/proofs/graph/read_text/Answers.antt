@@ -15,4 +15,4 @@ returns-in_ok-line_of_fault-in-Err c =
 pub returns-in_ok-line-in-Ok : goal.returns-in_ok-line-in-Ok
 returns-in_ok-line-in-Ok c =
     let read : IsRead c.args.text.now c.in-Ok.file.graph = record { short = c.in-Ok.ensures.ok.short; spelled = c.in-Ok.ensures.ok.spelled; checked = c.checked.ensures } in
-    opened_one c.args.text.now c.in-Ok.file.graph c.in_ok-line-in-Ok.line _ read c.in_ok-line-in-Ok.ensures c.opened_by.ensures
+    opened_one c.args.text.now c.in-Ok.file.graph c.in_ok-line-in-Ok.line _ read c.in_ok-line-in-Ok.ensures (rw c.into_graph.ensures at c.opened_by.ensures)
