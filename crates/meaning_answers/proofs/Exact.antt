@@ -16,13 +16,13 @@ use Rattle.meaning_answers.specs.Answers.{Refused, expression, param, type, path
 use Rattle.meaning_answers.specs.Laws.{ShowsChain, circular_chain, deep_chain, BothShowChains}
 
 -- a text of a node isn't refused
-not_refused : (g : Graph) (text reply : Text) (n : Node) → Asks g text n → Refused g text reply → ⊥
+pub not_refused : (g : Graph) (text reply : Text) (n : Node) → Asks g text n → Refused g text reply → ⊥
 not_refused g text reply n a (expression t place f) = no_expression t place a.expression f a.is
 not_refused g text reply n a (param t e name x q) = let same : a.expression ≡ e = one_expression t e a.expression x a.is in let bad : is_node n ≡ unknown_param name = sym a.node ∙ ap (node_of g) same ∙ q in cc
 not_refused g text reply n a (type t e name x q) = let same : a.expression ≡ e = one_expression t e a.expression x a.is in let bad : is_node n ≡ unknown_type name = sym a.node ∙ ap (node_of g) same ∙ q in cc
 not_refused g text reply n a (path t e step x q) = let same : a.expression ≡ e = one_expression t e a.expression x a.is in let bad : is_node n ≡ no_path step = sym a.node ∙ ap (node_of g) same ∙ q in cc
 
-one_node : (g : Graph) (text : Text) (n m : Node) → Asks g text n → Asks g text m → m ≡ n
+pub one_node : (g : Graph) (text : Text) (n m : Node) → Asks g text n → Asks g text m → m ≡ n
 one_node g text n m a b = let same : b.expression ≡ a.expression = one_expression text a.expression b.expression a.is b.is in let nodes : is_node m ≡ is_node n = sym b.node ∙ ap (node_of g) same ∙ a.node in cc
 
 pub founded_shown : (g : Graph) (s : Sources) (outcomes : Outcomes) (text reply : Text) (n : Node) (view : View) → Asks g text n → derived g s outcomes n ≡ Some view → Answer g s outcomes text reply → reply ≡ object_reply g view

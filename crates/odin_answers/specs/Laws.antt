@@ -19,6 +19,17 @@ RefusalsAreCounted = (g : Graph) (table : Option Table) (s : Sources) (text repl
 abbrev pub NoneIsTakenBack : Type 0
 NoneIsTakenBack = (g : Graph) (table : Option Table) (s : Sources) (text : Text) (before now : Spawned) → MayHaveBegun g table s text before now → before.faults ≤ now.faults
 
--- Over a graph that derivation is built for, where a table is told, a text has one answer from the same sources, whenever it is asked for.
+-- The replies are the same, and so is what is told of the tools in the end where it was the same
+-- before.
+pub record SameAnswers (one other : Text) (before now before' now' : Spawned) : Type 0 where
+  pub reply : other ≡ one
+  pub told : before' ≡ before → now' ≡ now
+
+-- Over a graph that derivation is built for, where a table is told, a text has one answer from the
+-- same sources, whenever it is asked for.
 abbrev pub AnswerIsOne : Type 0
-AnswerIsOne = (g : Graph) → IsBuiltGraph g → (table : Table) (s : Sources) (text reply other : Text) (before now before' now' : Spawned) → HasAnswer g (Some table) s text reply before now → HasAnswer g (Some table) s text other before' now' → other ≡ reply
+AnswerIsOne =
+    (g : Graph) → IsBuiltGraph g → (table : Table) (s : Sources) (text reply other : Text)
+    (before now before' now' : Spawned) → HasAnswer g (Some table) s text reply before now
+    → HasAnswer g (Some table) s text other before' now'
+    → SameAnswers reply other before now before' now'

@@ -1,4 +1,4 @@
--- Where no fault of the tools is counted, an input has one transcript.
+-- Where no fault of the tools is counted, items have one transcript at most.
 use Rattle.std.proofs.Common.{◌≡◌, ℕ, ◌<◌, ◌≤◌, List, [], ◌∷◌, ap, sym, refl, ◌∙◌, subst, arith, inl, inr}
 use Rattle.std.specs.Prelude.{Some}
 use Rattle.std.specs.FinMap.{insert}
@@ -11,6 +11,7 @@ use Rattle.meaning_answers.proofs.Lemmas.{one_plan}
 use Rattle.meaning_run.specs.Items.{Item}
 use Rattle.meaning_run.specs.Machines.{Transcript, AnswersItem}
 use Rattle.plain_derive.specs.Built.{IsBuiltGraph}
+use Rattle.odin_answers.specs.Requests.{request_text}
 use Rattle.odin_answers.specs.Answers.{IsReply, HasAnswer}
 use Rattle.odin_answers.proofs.Lemmas.{answer_uncounted, refusal_counted, one_reply}
 use Rattle.odin_shell.specs.declared.command.Command.{Command}
@@ -58,52 +59,65 @@ answered : (g : Graph) (table : Table) (old new : State) (text reply : Text) →
 answered g table old new text reply none (inl is) = is
 answered g table old new text reply none (inr refused) = absurd (not_counted old.tools.faults new.tools.faults none.same none.below (refusal_counted g (Some table) old.texts text reply old.tools new.tools refused))
 
+-- what is the same behind one command
+record IsSame (reply reply' : Text) (old new old' new' : State) : Type 0 where
+  is : reply' ≡ reply
+  texts : new'.texts ≡ new.texts
+  tools : old'.tools ≡ old.tools → new'.tools ≡ new.tools
+
+module _ (g : Graph) (built : IsBuiltGraph g) (table : Table) (old new old' new' : State) (same : old'.texts ≡ old.texts) where
+  unchanged : (reply reply' : Text) → reply' ≡ reply → new ≡ old → new' ≡ old' → IsSame reply reply' old new old' new'
+  unchanged reply reply' is stays stays' = record {
+    is = is;
+    texts = ap (λ (s : State). s.texts) stays' ∙ same ∙ sym (ap (λ (s : State). s.texts) stays);
+    tools = λ (e : old'.tools ≡ old.tools). ap (λ (s : State). s.tools) stays' ∙ e ∙ sym (ap (λ (s : State). s.tools) stays);
+  }
+
+  asked : (text reply reply' : Text) → HasAnswer g (Some table) old.texts text reply old.tools new.tools → HasAnswer g (Some table) old'.texts text reply' old'.tools new'.tools → new.texts ≡ old.texts → new'.texts ≡ old'.texts → IsSame reply reply' old new old' new'
+  asked text reply reply' a b stays stays' =
+      let one = one_reply g built table old.texts text reply reply' old.tools new.tools old'.tools new'.tools a (subst (λ (t : Texts). HasAnswer g (Some table) t text reply' old'.tools new'.tools) same b) in
+      record { is = one.reply; texts = stays' ∙ same ∙ sym stays; tools = one.told }
+
+  module _ (none : CountsNone old new) (none' : CountsNone old' new') where
+    one_step : (c : Command) (body reply reply' : List ℕ) → Step g (Some table) old c body reply new → Step g (Some table) old' c body reply' new' → IsSame reply reply' old new old' new'
+    one_step (Put name count) body reply reply' step step' = record {
+      is = step'.0 ∙ sym step.0;
+      texts = ap (λ (s : State). s.texts) step'.1 ∙ ap (λ (t : Texts). insert t name body) same ∙ sym (ap (λ (s : State). s.texts) step.1);
+      tools = λ (e : old'.tools ≡ old.tools). ap (λ (s : State). s.tools) step'.1 ∙ e ∙ sym (ap (λ (s : State). s.tools) step.1);
+    }
+    one_step (Ask request) body reply reply' step step' =
+        asked (request_text request) reply reply' (answered g table old new (request_text request) reply none step.0) (answered g table old' new' (request_text request) reply' none' step'.0) step.1 step'.1
+    one_step (Plan request) body reply reply' step step' = unchanged reply reply' (one_plan g (request_text request) reply reply' step.0 step'.0) step.1 step'.1
+    one_step Nothing body reply reply' step step' = unchanged reply reply' (step'.0 ∙ sym step.0) step.1 step'.1
+    one_step Bad body reply reply' step step' = unchanged reply reply' (step'.0 ∙ sym step.0) step.1 step'.1
+
+    -- an item is one command
+    one_item : (item : Item) (reply reply' : List ℕ) → AnswersItem commands (Step g (Some table)) old item reply new → AnswersItem commands (Step g (Some table)) old' item reply' new' → IsSame reply reply' old new old' new'
+    one_item item reply reply' a b =
+        let command : b.command ≡ a.command = one_command a.command b.command (without_cr item.line) a.item_is.spelled b.item_is.spelled in
+        one_step a.command item.body reply reply' a.step (subst (λ (c : Command). Step g (Some table) old' c item.body reply' new') command b.step)
+
+-- ---- a transcript
+
 module _ (g : Graph) (built : IsBuiltGraph g) (table : Table) where
-  ask_once : (old old' new new' : State) (text reply reply' : Text) → old'.texts ≡ old.texts → CountsNone old new → CountsNone old' new'
-      → IsReply g (Some table) old.texts text reply old.tools new.tools → IsReply g (Some table) old'.texts text reply' old'.tools new'.tools → reply' ≡ reply
-  ask_once old old' new new' text reply reply' same none none' is is' =
-      one_reply g built table old.texts text reply reply' old.tools new.tools old'.tools new'.tools (answered g table old new text reply none is)
-      (subst (λ (t : Texts). HasAnswer g (Some table) t text reply' old'.tools new'.tools) same (answered g table old' new' text reply' none' is'))
+  once : (items : List Item) (one other : List (List ℕ)) (first last first' last' : State) → first'.texts ≡ first.texts
+      → Transcript commands (Step g (Some table)) first items one last → Transcript commands (Step g (Some table)) first' items other last'
+      → CountsNone first last → CountsNone first' last' → AreSame one other first last first' last'
+  once [] [] [] first last first' last' same run run' none none' =
+      let end = unchanged g built table first last first' last' same [] [] refl run run' in
+      record { replies = refl; texts = end.texts; tools = end.tools }
+  once [] (reply ∷ one) other first last first' last' same run run' none none' = absurd run
+  once [] [] (reply ∷ other) first last first' last' same run run' none none' = absurd run'
+  once (item ∷ items) [] other first last first' last' same run run' none none' = absurd run
+  once (item ∷ items) (reply ∷ one) [] first last first' last' same run run' none none' = absurd run'
+  once (item ∷ items) (reply ∷ one) (reply' ∷ other) first last first' last' same run run' none none' =
+      let here = between first run.0 last (step_later g table first run.1.command item.body reply run.0 run.1.step) (later g table run.0 last items one run.2) none in
+      let here' = between first' run'.0 last' (step_later g table first' run'.1.command item.body reply' run'.0 run'.1.step) (later g table run'.0 last' items other run'.2) none' in
+      let step = one_item g built table first run.0 first' run'.0 same here.0 here'.0 item reply reply' run.1 run'.1 in
+      let rest = once items one other run.0 last run'.0 last' step.texts run.2 run'.2 here.1 here'.1 in
+      record { replies = λ i. step.is i ∷ rest.replies i; texts = rest.texts; tools = λ (e : first'.tools ≡ first.tools). rest.tools (step.tools e) }
 
-  unchanged : (old old' new new' : State) → old'.texts ≡ old.texts → new ≡ old → new' ≡ old' → new'.texts ≡ new.texts
-  unchanged old old' new new' same is is' = ap (λ (s : State). s.texts) is' ∙ same ∙ sym (ap (λ (s : State). s.texts) is)
-
-  one_step : (c : Command) (body : List ℕ) (old old' new new' : State) (reply reply' : List ℕ) → old'.texts ≡ old.texts → CountsNone old new → CountsNone old' new'
-      → Step g (Some table) old c body reply new → Step g (Some table) old' c body reply' new' → (reply' ≡ reply) × (new'.texts ≡ new.texts)
-  one_step (Put name count) body old old' new new' reply reply' same none none' step step' =
-      (step'.0 ∙ sym step.0, ap (λ (s : State). s.texts) step'.1 ∙ ap (λ (t : Texts). insert t name body) same ∙ sym (ap (λ (s : State). s.texts) step.1))
-  one_step (Ask request) body old old' new new' reply reply' same none none' step step' =
-      (ask_once old old' new new' _ reply reply' same none none' step.0 step'.0, step'.1 ∙ same ∙ sym step.1)
-  one_step (Plan request) body old old' new new' reply reply' same none none' step step' =
-      (one_plan g _ reply reply' step.0 step'.0, unchanged old old' new new' same step.1 step'.1)
-  one_step Nothing body old old' new new' reply reply' same none none' step step' = (step'.0 ∙ sym step.0, unchanged old old' new new' same step.1 step'.1)
-  one_step Bad body old old' new new' reply reply' same none none' step step' = (step'.0 ∙ sym step.0, unchanged old old' new new' same step.1 step'.1)
-
-  -- an item is one command
-  one_item : (item : Item) (old old' new new' : State) (reply reply' : List ℕ) → old'.texts ≡ old.texts → CountsNone old new → CountsNone old' new'
-      → AnswersItem commands (Step g (Some table)) old item reply new → AnswersItem commands (Step g (Some table)) old' item reply' new' → (reply' ≡ reply) × (new'.texts ≡ new.texts)
-  one_item item old old' new new' reply reply' same none none' a b =
-      let command : b.command ≡ a.command = one_command a.command b.command (without_cr item.line) a.item_is.spelled b.item_is.spelled in
-      one_step a.command item.body old old' new new' reply reply' same none none' a.step (subst (λ (c : Command). Step g (Some table) old' c item.body reply' new') command b.step)
-
-  -- ---- a transcript
-
-  once : (items : List Item) (first first' last last' : State) (replies replies' : List (List ℕ)) → first'.texts ≡ first.texts
-      → Transcript commands (Step g (Some table)) first items replies last → Transcript commands (Step g (Some table)) first' items replies' last'
-      → CountsNone first last → CountsNone first' last' → AreSame replies replies' last last'
-  once [] first first' last last' [] [] same run run' none none' = record { replies = refl; texts = unchanged first first' last last' same run run' }
-  once [] first first' last last' (reply ∷ replies) replies' same run run' none none' = absurd run
-  once [] first first' last last' [] (reply ∷ replies') same run run' none none' = absurd run'
-  once (item ∷ items) first first' last last' [] replies' same run run' none none' = absurd run
-  once (item ∷ items) first first' last last' (reply ∷ replies) [] same run run' none none' = absurd run'
-  once (item ∷ items) first first' last last' (reply ∷ replies) (reply' ∷ replies') same run run' none none' =
-      let here = between first run.0 last (step_later g table first run.1.command item.body reply run.0 run.1.step) (later g table run.0 last items replies run.2) none in
-      let here' = between first' run'.0 last' (step_later g table first' run'.1.command item.body reply' run'.0 run'.1.step) (later g table run'.0 last' items replies' run'.2) none' in
-      let one = one_item item first first' run.0 run'.0 reply reply' same here.0 here'.0 run.1 run'.1 in
-      let rest = once items run.0 run'.0 last last' replies replies' one.1 run.2 run'.2 here.1 here'.1 in
-      record { replies = λ i. one.0 i ∷ rest.replies i; texts = rest.texts }
-
-pub one_transcript : (g : Graph) → IsServedGraph g → (table : Table) (items : List Item) (first first' last last' : State) (replies replies' : List (List ℕ)) → first'.texts ≡ first.texts
-    → Transcript commands (Step g (Some table)) first items replies last → Transcript commands (Step g (Some table)) first' items replies' last'
-    → CountsNone first last → CountsNone first' last' → AreSame replies replies' last last'
-one_transcript g served = once g (all_derivable g served)
+pub one_transcript : (g : Graph) → IsServedGraph g → (table : Table) (items : List Item) (one other : List (List ℕ)) (first last first' last' : State) → first'.texts ≡ first.texts
+    → Transcript commands (Step g (Some table)) first items one last → CountsNone first last
+    → Transcript commands (Step g (Some table)) first' items other last' → CountsNone first' last' → AreSame one other first last first' last'
+one_transcript g served table items one other first last first' last' same run none run' none' = once g (all_derivable g served) table items one other first last first' last' same run run' none none'

@@ -42,19 +42,26 @@ refused_starts (reply ∷ replies) = (if bytes_eq reply refused_tool_start then 
 abbrev pub RefusalsAreCounted : Type 0
 RefusalsAreCounted = (g : Graph) (table : Option Table) (first state : State) (items : List Item) (replies : List (List ℕ)) → Transcript commands (Step g table) first items replies state → min (first.tools.faults + refused_starts replies) last_count ≤ state.tools.faults
 
--- From the one state to the other no fault of the tools was counted. A count that stands at its last number may hide one.
+-- From the one state to the other no fault of the tools was counted. A count at its last number may
+-- hide one.
 pub record CountsNone (first last : State) : Type 0 where
   pub same : last.tools.faults ≡ first.tools.faults
   pub below : first.tools.faults < last_count
 
--- the same replies, and the same sources in the end
-pub record AreSame (one other : List (List ℕ)) (last last' : State) : Type 0 where
+-- The replies are the same, and so are the sources in the end, and what is told of the tools where it
+-- was the same at the start.
+pub record AreSame (one other : List (List ℕ)) (first last first' last' : State) : Type 0 where
   pub replies : other ≡ one
   pub texts : last'.texts ≡ last.texts
+  pub tools : first'.tools ≡ first.tools → last'.tools ≡ last.tools
 
--- Over a graph that a run is built for, where a table is told and no fault of the tools is counted, an input has one transcript: what is
--- replied follows from the items and from the sources at the start alone.
+-- Over a graph that a run is built for, where a table is told and no fault of the tools is counted,
+-- items have one transcript at most: what is replied follows from them and from the sources at the
+-- start alone.
 abbrev pub TranscriptIsOne : Type 0
-TranscriptIsOne = (g : Graph) → IsServedGraph g → (table : Table) (items : List Item) (first first' last last' : State) (replies replies' : List (List ℕ)) → first'.texts ≡ first.texts
-    → Transcript commands (Step g (Some table)) first items replies last → Transcript commands (Step g (Some table)) first' items replies' last'
-    → CountsNone first last → CountsNone first' last' → AreSame replies replies' last last'
+TranscriptIsOne =
+    (g : Graph) → IsServedGraph g → (table : Table) (items : List Item)
+    (one other : List (List ℕ)) (first last first' last' : State) → first'.texts ≡ first.texts
+    → Transcript commands (Step g (Some table)) first items one last → CountsNone first last
+    → Transcript commands (Step g (Some table)) first' items other last' → CountsNone first' last'
+    → AreSame one other first last first' last'

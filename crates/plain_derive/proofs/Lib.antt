@@ -9,6 +9,7 @@ mod LineNodes
 mod LineViews
 mod LogLemmas
 mod MadeLemmas
+mod OnceLemmas
 mod RunLemmas
 mod SourceLemmas
 mod StepLemmas

@@ -31,10 +31,21 @@ CountedFor Spawn before now = IsCounted before.faults now.faults
 abbrev pub GivenUpIsCounted : Type 0
 GivenUpIsCounted = (g : Graph) (s : Sources) (outcomes : Outcomes) (n : Node) (fault : PlainFault) (before now : Spawned) → HasBegun g s outcomes n fault before now → CountedFor fault before now
 
+-- What it left follows from what was told before: its calls are one list.
+abbrev pub MadeIsOne : Type 0
+MadeIsOne =
+    (g : Graph) (s : Sources) (outcomes : Outcomes) (n : Node) (before now other : Spawned)
+    → HasMade g s outcomes n before now → HasMade g s outcomes n before other → other ≡ now
+
 -- No node of a graph that derivation is built for has a circular chain: each need has one step fewer.
 abbrev pub NoneIsCircular : Type 0
-NoneIsCircular = (g : Graph) → IsBuiltGraph g → (s : Sources) (outcomes : Outcomes) (n : Node) (chain : List Node) → Fits g n → IsCircular g (derived g s outcomes) n chain → ⊥
+NoneIsCircular =
+    (g : Graph) → IsBuiltGraph g → (s : Sources) (outcomes : Outcomes) (n : Node)
+    (chain : List Node) → Fits g n → ¬ IsCircular g (derived g s outcomes) n chain
 
 -- And the one chain for which a node is too deep is itself with its bases.
 abbrev pub DeepChainIsOne : Type 0
-DeepChainIsOne = (g : Graph) → IsBuiltGraph g → (s : Sources) (outcomes : Outcomes) (n : Node) (chain : List Node) → Fits g n → IsDeep g (derived g s outcomes) n chain → chain ≡ bases n height_limit
+DeepChainIsOne =
+    (g : Graph) → IsBuiltGraph g → (s : Sources) (outcomes : Outcomes) (n : Node)
+    (chain : List Node) → Fits g n → IsDeep g (derived g s outcomes) n chain
+    → chain ≡ bases n height_limit
