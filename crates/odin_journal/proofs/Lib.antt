@@ -1,6 +1,6 @@
-mod AppendLemmas
-mod FrontLemmas
-mod MomentLemmas
-mod OpenLemmas
-mod ReadLemmas
-mod StartLemmas
+pub mod AppendLemmas
+pub mod FrontLemmas
+pub mod MomentLemmas
+pub mod OpenLemmas
+pub mod ReadLemmas
+pub mod StartLemmas

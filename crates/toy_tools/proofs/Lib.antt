@@ -1,2 +1,2 @@
-mod LineLemmas
-mod NumberLemmas
+pub mod LineLemmas
+pub mod NumberLemmas
