@@ -1,0 +1,10 @@
+//! The commands of a session and the replies to them: their types, what each is spelled, and laws over that. There is no code here that runs.
+#![tactic(auto)]
+
+pub mod commands;
+pub mod examples;
+pub mod laws;
+pub mod replies;
+
+pub use commands::Command;
+pub use replies::{Reply, ShownBody};
