@@ -1,3 +1,4 @@
 mod Words
 mod Forms
 mod Exact
+pub mod Lemmas

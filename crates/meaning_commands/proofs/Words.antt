@@ -1,5 +1,5 @@
 -- Numbers, spaces and first bytes of a line.
-use Rattle.std.proofs.Common.{◌≡◌, ◌≢◌, ℕ, ◌<◌, ◌^◌, Bool, true, false, not, ◌&&◌, List, [], ◌∷◌, ◌++◌, sym, ap, ◌∙◌, subst, refl, cond, arith}
+use Rattle.std.proofs.Common.{◌≡◌, ◌≢◌, ℕ, ◌<◌, ◌^◌, Bool, true, false, not, ◌&&◌, List, [], ◌∷◌, ◌++◌, ◌⊎◌, inl, inr, sym, ap, ◌∙◌, subst, refl, cond, arith}
 use Rattle.std.specs.Prelude.{Option, Some, None, nat_lt, ◌==◌, bytes_eq}
 use Rattle.std.specs.List.{list_all}
 use Rattle.std.specs.Fmt.{decimal}
@@ -9,7 +9,7 @@ use Rattle.std.proofs.lemmas.Bool.{and_parts, and_from, ltb-true, lt-ltb, cond-t
 use Rattle.std.proofs.lemmas.Option.{cond_some}
 use Rattle.std.proofs.lemmas.Slice.Eq.{bytes_eq-Decides}
 use Rattle.meaning_texts.specs.Lists.{HasNo, is_empty}
-use Rattle.meaning_texts.proofs.Lemmas.{same_some}
+use Rattle.meaning_texts.proofs.Lemmas.{same_some, some_or_none}
 use Rattle.meaning_commands.specs.Commands.{IsArgument}
 use Rattle.meaning_commands.specs.Reading.{number_of, before_space, behind_space, behind, is_argument}
 
@@ -86,3 +86,25 @@ is_behind (b ∷ word) [] rest h = cc
 is_behind (b ∷ word) (c ∷ line) rest h =
     let p = cond_so _ (behind word line) rest h in
     ap (λ d. d ∷ line) (sym (eqb-true b c p.0)) ∙ ap (λ l. b ∷ l) (is_behind word line rest p.1)
+
+pub none_behind : (word line : List ℕ) → ((rest : List ℕ) → line ≢ word ++ rest) → behind word line ≡ None
+none_behind [] line none = absurd (none line refl)
+none_behind (b ∷ word) [] none = refl
+none_behind (b ∷ word) (c ∷ line) none = (elim (b == c) as (λ t. (b == c) ≡ t → cond t (behind word line) None ≡ None) [
+  | true ↦ λ e. none_behind word line (λ rest same. none rest (ap (λ d. d ∷ line) (sym (eqb-true b c e)) ∙ ap (λ l. b ∷ l) same))
+  | false ↦ λ e. refl
+]) refl
+
+pub behind_front : (word rest : List ℕ) → behind word (word ++ rest) ≡ Some rest
+behind_front [] rest = refl
+behind_front (b ∷ word) rest = cond-true (b == b) (behind word (word ++ rest)) None (eq-eqb b b refl) ∙ behind_front word rest
+
+pub none_number : (text : List ℕ) → ((n : ℕ) → n < 2 ^ 64 → text ≢ decimal n) → number_of text ≡ None
+none_number text none = elim (some_or_none (number_of text)) [
+  | inl p ↦ let q = is_number text p.0 p.1 in absurd (none p.0 q.0 q.1)
+  | inr e ↦ e
+]
+
+pub none_space : (text : List ℕ) → HasNo 32 text → behind_space text ≡ None
+none_space [] h = refl
+none_space (b ∷ text) h = cond-false (b == 32) (Some text) _ (ne_eqb b 32 h.0) ∙ none_space text h.1

@@ -48,9 +48,14 @@ abbrev pub messages_text : List Message → List ℕ
 messages_text messages =
     with_lf (counted (codes "messages") (length messages)) ++ flat_map message_text messages
 
+-- the object, and then its messages
+abbrev pub object_text : Status → ShownBody → List Message → List ℕ
+object_text status body messages =
+    codes "object " ++ ((status_word status ++ codes " ") ++ (body_text body ++ messages_text messages))
+
 -- ---- replies
 
-unfoldable pub reply_text : Reply → List ℕ
+abbrev pub reply_text : Reply → List ℕ
 reply_text (reply.Put name count) = with_lf (counted (codes "put " ++ name) count)
 reply_text (reply.Took name count) = with_lf (counted (codes "took " ++ name) count)
 reply_text (reply.NoFile name) = with_lf (codes "no file " ++ name)
@@ -71,5 +76,4 @@ reply_text (reply.RefusedPath step) = with_lf (counted (codes "refused path") st
 reply_text (reply.RefusedCircular lines) = counted_lines (codes "refused circular") lines
 reply_text (reply.RefusedDeep lines) = counted_lines (codes "refused deep") lines
 reply_text reply.RefusedToolStart = with_lf (codes "refused tool start")
-reply_text (reply.Shown status body messages) =
-    codes "object " ++ status_word status ++ codes " " ++ body_text body ++ messages_text messages
+reply_text (reply.Shown status body messages) = object_text status body messages

@@ -1,0 +1,10 @@
+use Rattle.std.proofs.Common.{◌∙◌, ap, ◌++◌}
+use Rattle.meaning_texts.specs.Lines.{with_lf}
+use Rattle.meaning_commands.specs.Replies.{counted}
+use Rattle.odin_commands.proofs.Written.{adds_behind}
+use Rattle.odin_commands.proofs.objects.write_part.Goals as goal
+
+pub returns : goal.returns
+returns c =
+    let count = rw (c.as_slice.ensures, c.len.ensures) at c.in_ok-write_counted.ensures in
+    adds_behind c.write_line.result c.args.out.now c.write_counted.new.out c.write_line.new.out _ _ count (rw c.as_slice-2.ensures at c.write_line.ensures)

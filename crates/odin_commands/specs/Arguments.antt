@@ -1,0 +1,26 @@
+-- What stands in the place of a name, and the commands by their first words.
+use Rattle.std.specs.Prelude.{ℕ, List, [], ◌∷◌, Option, if◌then◌else◌, codes}
+use Rattle.meaning_texts.specs.Tests.{is_name}
+use Rattle.meaning_commands.specs.declared.commands.Command.{Command}
+use Rattle.meaning_commands.specs.declared.commands.Command.TheVariants.{Take, Remove, Sources, Kept, Quit}
+use Rattle.meaning_commands.specs.Reading.{is_argument, naming, alone, first_of}
+use Rattle.odin_commands.specs.declared.read.Argument.{Argument}
+use Rattle.odin_commands.specs.declared.read.Argument.TheVariants.{Name, Other, NoWord}
+
+abbrev pub argument_of : List ℕ → Argument
+argument_of word = if is_argument word then (if is_name word then Name word else Other) else NoWord
+
+-- the command behind `take `, and behind `drop `
+abbrev pub taken : List ℕ → Option Command
+taken word = naming (Take word) 0 word
+
+abbrev pub dropped : List ℕ → Option Command
+dropped word = naming (Remove word) 0 word
+
+-- the command that is a word alone
+abbrev pub single_word : List ℕ → Option Command
+single_word line = first_of (
+    alone (codes "sources") Sources line
+    ∷ alone (codes "kept") Kept line
+    ∷ alone (codes "quit") Quit line
+    ∷ [])
