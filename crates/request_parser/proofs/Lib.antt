@@ -1,1 +1,7 @@
+mod KeptLemmas
+mod ListLemmas
+mod ReadLemmas
+mod RunLemmas
+mod StopLemmas
+mod TextLemmas
 mod WriteLemmas
