@@ -1,4 +1,5 @@
 mod KeptLemmas
+mod LineLemmas
 mod ListLemmas
 mod ReadLemmas
 mod RunLemmas

@@ -1,8 +1,8 @@
 -- Runs of a class, and the words that they are.
-use Rattle.std.proofs.Common.{◌≡◌, ℕ, zero, suc, ◌+◌, ◌<◌, ◌≤◌, Bool, true, false, not, ◌&&◌, List, [], ◌∷◌, ◌++◌, length, take, drop, get_or, position, Option, Some, None, refl, sym, ap, subst, ◌∙◌, inl, inr, arith, append-nil, take-append-drop}
+use Rattle.std.proofs.Common.{◌≡◌, ◌↔◌, IsTrue, ℕ, zero, suc, ◌+◌, ◌<◌, ◌≤◌, Bool, true, false, not, ◌&&◌, List, [], ◌∷◌, ◌++◌, length, take, drop, get_or, position, Option, Some, None, refl, sym, ap, subst, ◌∙◌, inl, inr, arith, append-nil, take-append-drop}
 use Rattle.std.specs.Prelude.{nat_eq, nat_lt}
 use Rattle.std.specs.List.{list_all, position_or_len}
-use Rattle.std.proofs.lemmas.Bool.{cases_Bool, both_ways, and_parts, and_from, ltb-false, not-false}
+use Rattle.std.proofs.lemmas.Bool.{cases_Bool, cases_lt, both_ways, and_parts, and_from, ltb-false, not-false}
 use Rattle.std.proofs.lemmas.List.Sums.{list_all-from_AllPass, AllPass-from_list_all, fails_before_first}
 use Rattle.meaning_texts.specs.Classes.{is_letter, is_name_byte, is_key_byte, begins_with_letter, IsName, IsId, IsKey}
 use Rattle.meaning_texts.specs.Limits.{word_limit}
@@ -161,6 +161,12 @@ pub a_word : (w : Wanted) (run text rest : List ℕ) → TakesRun (has (class_of
 a_word w run text rest t b short = record { is = t.is; of = word_from w run (record { begins = b; short = short; each = t.each }); past = t.past }
 
 -- ---- a word that is too long
+
+pub not_short : (short : Bool) (run : List ℕ) → IsTrue short ↔ (length run ≤ word_limit) → short ≡ false → word_limit < length run
+not_short short run is none = elim (cases_lt word_limit (length run)) [
+  | inl l ↦ l
+  | inr l ↦ absurd (both_ways short none (is.1 l))
+]
 
 all_front : (test : ℕ → Bool) (run rest : List ℕ) (n : ℕ) → list_all test run ≡ true → n ≤ length run → list_all test (take n (run ++ rest)) ≡ true
 all_front test run rest zero e le = refl

@@ -1,6 +1,7 @@
 // A place in the text of an expression, from which bytes are taken.
 ghost use Rattle.std.specs.Prelude.{◌≡◌, ◌↔◌, ◌≤◌, [], length, take, drop, position, not, true, IsTrue, IfOk, IfErr};
 ghost use Rattle.std.specs.List.{list_all};
+ghost use Rattle.meaning_texts.specs.Limits.{word_limit};
 ghost use Rattle.request_parser.specs.Runs.{has, IsPast, TakesRun, Skips, TakesWord, HaltsBefore};
 
 use crate::bytes::{Class, Wanted};
@@ -98,12 +99,19 @@ impl<'t> Cursor<'t> {
             self.rest = start;
             return Err(Stop::Unexpected);
         }
-        if run.len() > WORD_LIMIT {
+        if !is_short(run) {
             self.rest = &start[WORD_LIMIT..];
             return Err(Stop::Unexpected);
         }
         Ok(Bytes::from_slice(self.alloc, run)?)
     }
+}
+
+// Whether a run isn't too long for a word.
+fn is_short(run: &[u8]) -> bool
+    ensures { IsTrue result ↔ (length run.now ≤ word_limit) }
+{
+    run.len() <= WORD_LIMIT
 }
 
 // How many bytes of the class stand at the front.

@@ -1,5 +1,5 @@
 // An expression, read from its text.
-ghost use Rattle.std.specs.Prelude.{take, IfOk, IfErr};
+ghost use Rattle.std.specs.Prelude.{◌≡◌, ◌≤◌, ◌+◌, ◌-◌, length, take, IfOk, IfErr};
 ghost use Rattle.meaning_texts.specs.Limits.{expression_limit};
 ghost use Rattle.meaning_texts.specs.Expressions.{ExpressionText};
 ghost use Rattle.request_parser.specs.Reads.{HaltsIn, IsText, IsWrittenAs};
@@ -24,11 +24,19 @@ pub fn read_expression(alloc: Global, text: &[u8]) -> Result<Expression, Express
     match cursor.expression() {
         Ok(expression) => within_limit(text, expression),
         Err(Stop::Unexpected) => {
-            let place = counted.len() - cursor.left() + 1;
-            Err(ExpressionFault::BadAt(place as u32))
+            Err(ExpressionFault::BadAt(place_before(cursor.left(), counted)))
         }
         Err(Stop::Memory) => Err(ExpressionFault::Memory),
     }
+}
+
+// The place, from 1, that stands before the last so many bytes.
+fn place_before(left: usize, counted: &[u8]) -> u32
+    requires within { left ≤ length counted.now }
+    requires short { length counted.now ≤ expression_limit }
+    ensures { result ≡ length counted.now - left + 1 }
+{
+    (counted.len() - left + 1) as u32
 }
 
 // The expression, unless the text goes on behind the bytes that it was read from.

@@ -9,4 +9,4 @@ within_limit-requires c = first_read c.args.text.now c.min.result c.in-Ok.expres
 pub returns-in-Err-Unexpected-clause-err : goal.returns-in-Err-Unexpected-clause-err
 returns-in-Err-Unexpected-clause-err c =
     let h : HaltsAt IsText c.new-cursor.result c.expression.new.self = subst (λ s. Halts s IsText c.new-cursor.result c.expression.new.self) c.in-Err-Unexpected.field-0-is c.in-Err-Unexpected.ensures.err in
-    fault_first c.args.text.now c.expression.new.self c.min.result c.left.result c.min.ensures c.left.ensures (subst (λ t. HaltsAt IsText t c.expression.new.self) c.new-cursor.ensures h)
+    rw c.place_before.ensures (fault_first c.args.text.now c.expression.new.self c.min.result c.left.result c.min.ensures c.left.ensures (subst (λ t. HaltsAt IsText t c.expression.new.self) c.new-cursor.ensures h))
