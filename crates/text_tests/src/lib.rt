@@ -1,8 +1,10 @@
-//! Worked rows of bytes, sources, names, numbers, escapes, fields and lines. It holds tests alone.
+//! Worked rows of bytes, sources, names, numbers, escapes, fields, lines, expressions and lists of references. It holds tests alone.
 #![tactic(auto)]
 
 #[cfg(test)]
 mod escapes;
+#[cfg(test)]
+mod expressions;
 #[cfg(test)]
 mod fields;
 #[cfg(test)]
@@ -11,6 +13,8 @@ mod lines;
 mod names;
 #[cfg(test)]
 mod numbers;
+#[cfg(test)]
+mod references;
 #[cfg(test)]
 mod seqs;
 #[cfg(test)]

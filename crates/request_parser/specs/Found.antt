@@ -1,0 +1,17 @@
+-- The items that were found so far.
+use Rattle.std.specs.Prelude.{◌≡◌, List, [], ◌∷◌, ◌++◌}
+use Rattle.object_values.specs.declared.nodes.ParamValue.{ParamValue}
+use Rattle.object_values.specs.declared.expressions.ExprStep.{ExprStep}
+use Rattle.request_parser.specs.Kept.{KeepsOne}
+use Rattle.request_parser.specs.declared.items.Item.{Item}
+use Rattle.request_parser.specs.declared.items.Item.TheVariants.{Param, Step}
+use Rattle.request_parser.specs.declared.items.Found.{Found}
+
+pub record IsEmpty (found : Found) : Type 0 where
+  pub no_params : found.params.items ≡ []
+  pub no_steps : found.steps ≡ []
+
+-- The item was put behind those before.
+abbrev pub Puts : Item → Found → Found → Type 0
+Puts (Param p) old new = KeepsOne p old.params.items new.params.items × (new.steps ≡ old.steps)
+Puts (Step s) old new = (new.params.items ≡ old.params.items) × (new.steps ≡ old.steps ++ s ∷ [])

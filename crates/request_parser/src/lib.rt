@@ -1,0 +1,17 @@
+//! Expressions, read and written, and lists of references.
+#![tactic(auto)]
+
+mod bytes;
+mod cursor;
+mod fault;
+mod items;
+mod kept;
+mod lines;
+mod read;
+mod write;
+
+pub use fault::ExpressionFault;
+pub use lines::read_lines;
+pub use object_values::{ExprStep, Expression, Line, Lines};
+pub use read::read_expression;
+pub use write::write_expression;

@@ -1,0 +1,69 @@
+// The lines of a reference list.
+ghost use Rattle.std.specs.Prelude.{◌≡◌, ◌<◌, ◌∷◌, [], length, IfOk, IfSome, IfNone};
+ghost use Rattle.meaning_texts.specs.Reading.{expression_of};
+ghost use Rattle.meaning_texts.specs.Lines.{lines_of};
+ghost use Rattle.meaning_texts.specs.References.{is_passed_over, read_line, ReferenceList};
+
+use crate::fault::ExpressionFault;
+use crate::read::read_expression;
+use object_values::{Line, Lines, Memory, Seq};
+use odin_bytes::{drop_cr, first_line};
+use std::alloc::Global;
+
+// The most lines of a reference list that aren't passed over.
+const REFERENCE_LIMIT: usize = 10_000;
+
+/// The lines of a reference list. Where there are too many, reading stops at the first that is.
+pub fn read_lines(alloc: Global, text: &[u8]) -> Result<Lines, Memory>
+    ensures { IfOk result (ReferenceList text.now) }
+{
+    let mut lines = Seq::new(alloc);
+    let mut number = 0;
+    let mut rest = text;
+    'lines: while let Some((line, behind)) = next_line(rest) {
+        number += 1;
+        rest = behind;
+        if !is_passed_over(line) {
+            if lines.len() == REFERENCE_LIMIT {
+                return Ok(Lines::TooMany);
+            }
+            lines.push(read_line(alloc, number, line)?)?;
+        }
+    }
+    Ok(Lines::These(lines))
+}
+
+// The first line without its end, and what stands behind that.
+fn next_line(text: &[u8]) -> Option<(&[u8], &[u8])>
+    ensures some { IfSome result (λ cut. lines_of text.now ≡ cut.0.now ∷ lines_of cut.1.now) }
+    ensures shorter { IfSome result (λ cut. length cut.1.now < length text.now) }
+    ensures none { IfNone result (lines_of text.now ≡ []) }
+{
+    if text.is_empty() {
+        return None;
+    }
+    match first_line(text) {
+        Some((line, behind)) => Some((drop_cr(line), behind)),
+        None => Some((drop_cr(text), &[])),
+    }
+}
+
+fn is_passed_over(line: &[u8]) -> bool
+    ensures { result ≡ is_passed_over line.now }
+{
+    match line.first() {
+        Some(byte) => *byte == b'#',
+        None => true,
+    }
+}
+
+// What the line of this number, which isn't passed over, says.
+fn read_line(alloc: Global, number: u64, text: &[u8]) -> Result<Line, Memory>
+    ensures { IfOk result (λ line. line ≡ read_line number (expression_of text.now)) }
+{
+    match read_expression(alloc, text) {
+        Ok(expression) => Ok(Line::Good(number, expression)),
+        Err(ExpressionFault::BadAt(_)) => Ok(Line::Bad(number)),
+        Err(ExpressionFault::Memory) => Err(Memory),
+    }
+}
