@@ -14,8 +14,8 @@ use Rattle.object_values.specs.declared.graph.Decl.{Decl}
 use Rattle.object_values.specs.declared.graph.Decl.TheVariants.{ObjectType, Suffix, Param, Maker}
 use Rattle.meaning_texts.specs.Classes.{IsId, IsWord}
 use Rattle.meaning_graph_text.specs.Tokens.{Token, word, semicolon, opening, closing, Tokens}
-use Rattle.meaning_graph_text.specs.Grammar.{optional_tokens, part_tokens, kind_tokens, string_tokens, extra_tokens, closure_tokens, decl_tokens}
-use Rattle.meaning_graph_text.specs.Going.{Class, keyword, identifier, any_word, any_string, open_mark, Stage, kind, supers, parts, ending, strings, extras, Expected, expect, start, step_at, way, tool_front}
+use Rattle.meaning_graph_text.specs.Grammar.{optional_tokens, part_tokens, kind_tokens, string_tokens, extra_tokens, closure_tokens, decl_tokens, IsSpellableDecl, IsInGrammar}
+use Rattle.meaning_graph_text.specs.Going.{Class, keyword, identifier, any_word, any_string, open_mark, Stage, between, kind, supers, parts, ending, strings, extras, Expected, expect, start, step_at, way, tool_front}
 use Rattle.dg_reader.specs.declared.cursor.Wanted.TheVariants.{Id, Word}
 use Rattle.dg_reader.specs.Walks.{Takes, HasNone, Finds, Leads}
 use Rattle.dg_reader.specs.Reads.{ReadsParts, ReadsStrings, ReadsExtras, HasNoExtra, ReadsSupers, ReadsUses, ReadsClosure, ReadsWay, way_classes, ReadsKind, ReadsTool, ReadsHead, HeadBehind, KindBehind, plain_keyword, ReadsDecl}
@@ -122,38 +122,25 @@ plain_tokens first name from to whole text mid rest k f r = takes_cons whole (wo
 inside : (x y : List ℕ) → ◌≡◌ {A = Option (List ℕ)} (Some x) (Some y) → x ≡ y
 inside x y e = cc
 
-plain_by : (make : Make) (name from to first text mid rest : List ℕ) → plain_keyword make ≡ Some first → Finds Id name text mid → ReadsWay from to mid rest → (whole : List ℕ) → Takes whole (word first) text → ReadsHead (Maker (record { name = name; make = make; from = from; to = to })) whole rest
-plain_by (Tool tool) name from to first text mid rest e f r whole k = let n : ⊥ = cc in absurd n
-plain_by Read name from to first text mid rest e f r whole k =
-    let same : first ≡ codes "read" = sym (inside (codes "read") first e) in
-    let first_is : Takes whole (word (codes "read")) text = subst (λ w. Takes whole (word w) text) same k in
-    record {
-      spelled = λ _. record { name = id_found name text mid f; make = tt; from = r.from_id; to = r.to_id };
-      grammar = tt;
-      tokens = plain_tokens (codes "read") name from to whole text mid rest first_is f r;
-      leads = λ place h. leads_step start (expect way ending) whole (word (codes "read")) text first_is refl place (plain_leads name from to text mid rest f r place h);
-    }
-plain_by Each name from to first text mid rest e f r whole k =
-    let same : first ≡ codes "each" = sym (inside (codes "each") first e) in
-    let first_is : Takes whole (word (codes "each")) text = subst (λ w. Takes whole (word w) text) same k in
-    record {
-      spelled = λ _. record { name = id_found name text mid f; make = tt; from = r.from_id; to = r.to_id };
-      grammar = tt;
-      tokens = plain_tokens (codes "each") name from to whole text mid rest first_is f r;
-      leads = λ place h. leads_step start (expect way ending) whole (word (codes "each")) text first_is refl place (plain_leads name from to text mid rest f r place h);
-    }
-plain_by Pack name from to first text mid rest e f r whole k =
-    let same : first ≡ codes "pack" = sym (inside (codes "pack") first e) in
-    let first_is : Takes whole (word (codes "pack")) text = subst (λ w. Takes whole (word w) text) same k in
-    record {
-      spelled = λ _. record { name = id_found name text mid f; make = tt; from = r.from_id; to = r.to_id };
-      grammar = tt;
-      tokens = plain_tokens (codes "pack") name from to whole text mid rest first_is f r;
-      leads = λ place h. leads_step start (expect way ending) whole (word (codes "pack")) text first_is refl place (plain_leads name from to text mid rest f r place h);
-    }
+-- a declaration of a keyword, a name and a way
+plain_by : (d : Decl) (first name from to text mid rest : List ℕ) → (IsId name → IsId from → IsId to → IsSpellableDecl d) → IsInGrammar d
+    → decl_tokens d ≡ word first ∷ word name ∷ word (codes "from") ∷ word from ∷ word (codes "to") ∷ word to ∷ []
+    → step_at between (word first) ≡ Some (expect way ending) → Finds Id name text mid → ReadsWay from to mid rest → HeadBehind first d text rest
+plain_by d first name from to text mid rest spelled grammar are goes f r = λ whole k. record {
+  spelled = λ _. spelled (id_found name text mid f) r.from_id r.to_id;
+  grammar = grammar;
+  tokens = subst (λ ts. Tokens whole ts rest) (sym are) (plain_tokens first name from to whole text mid rest k f r);
+  leads = λ place h. leads_step start (expect way ending) whole (word first) text k goes place (plain_leads name from to text mid rest f r place h);
+}
 
-pub plain_read : (make : Make) (name from to text mid rest : List ℕ) → Finds Id name text mid → ReadsWay from to mid rest → (first : List ℕ) → plain_keyword make ≡ Some first → HeadBehind first (Maker (record { name = name; make = make; from = from; to = to })) text rest
-plain_read make name from to text mid rest f r first e = plain_by make name from to first text mid rest e f r
+abbrev plain_maker : Make → List ℕ → List ℕ → List ℕ → Decl
+plain_maker make name from to = Maker (record { name = name; make = make; from = from; to = to })
+
+pub plain_read : (make : Make) (name from to text mid rest : List ℕ) → Finds Id name text mid → ReadsWay from to mid rest → (first : List ℕ) → plain_keyword make ≡ Some first → HeadBehind first (plain_maker make name from to) text rest
+plain_read (Tool tool) name from to text mid rest f r first e = let n : ⊥ = cc in absurd n
+plain_read Read name from to text mid rest f r first e = subst (λ w. HeadBehind w (plain_maker Read name from to) text rest) (inside (codes "read") first e) (plain_by (plain_maker Read name from to) (codes "read") name from to text mid rest (λ n a b. record { name = n; make = tt; from = a; to = b }) tt refl refl f r)
+plain_read Each name from to text mid rest f r first e = subst (λ w. HeadBehind w (plain_maker Each name from to) text rest) (inside (codes "each") first e) (plain_by (plain_maker Each name from to) (codes "each") name from to text mid rest (λ n a b. record { name = n; make = tt; from = a; to = b }) tt refl refl f r)
+plain_read Pack name from to text mid rest f r first e = subst (λ w. HeadBehind w (plain_maker Pack name from to) text rest) (inside (codes "pack") first e) (plain_by (plain_maker Pack name from to) (codes "pack") name from to text mid rest (λ n a b. record { name = n; make = tt; from = a; to = b }) tt refl refl f r)
 
 -- ---- tools
 

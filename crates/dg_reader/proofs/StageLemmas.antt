@@ -35,17 +35,22 @@ supers_ending text none place s = same_stops supers ending text place same (not_
     same opening left b = refl
     same closing left b = refl
 
--- and behind supertypes, where no comma follows
-pub super_ids_ending : (text : List ℕ) → IsNotAt comma text → Leads (expect [] super_ids) text (expect [] ending) text
-super_ids_ending text none place s = same_stops super_ids ending text place same (not_start super_ids (λ e. cc)) s
+-- where no comma follows, a stage whose other tokens have the meaning of another leads there
+behind_ids : (l m : Stage) (text : List ℕ) → (l ≡ between → ⊥) → ((w : List ℕ) → step_at l (word w) ≡ step_at m (word w)) → ((s : List ℕ) → step_at l (string s) ≡ step_at m (string s))
+    → step_at l semicolon ≡ step_at m semicolon → step_at l opening ≡ step_at m opening → step_at l closing ≡ step_at m closing → IsNotAt comma text → Leads (expect [] l) text (expect [] m) text
+behind_ids l m text n words texts ends opens closes none place s = same_stops l m text place same (not_start l n) s
   where
-    same : (t : Token) (left : List ℕ) → BeginsWith text t left → step_at super_ids t ≡ step_at ending t
-    same (word w) left b = refl
-    same (string s) left b = refl
-    same semicolon left b = refl
+    same : (t : Token) (left : List ℕ) → BeginsWith text t left → step_at l t ≡ step_at m t
+    same (word w) left b = words w
+    same (string s) left b = texts s
+    same semicolon left b = ends
     same comma left b = absurd (none left b)
-    same opening left b = refl
-    same closing left b = refl
+    same opening left b = opens
+    same closing left b = closes
+
+-- and behind supertypes
+pub super_ids_ending : (text : List ℕ) → IsNotAt comma text → Leads (expect [] super_ids) text (expect [] ending) text
+super_ids_ending text none = behind_ids super_ids ending text (λ e. cc) (λ w. refl) (λ s. refl) refl refl refl none
 
 -- ---- the options of a tool
 
@@ -61,15 +66,7 @@ strings_extras text none no_uses place s = same_stops strings extras text place 
     same closing left b = refl
 
 pub used_ids_extras : (text : List ℕ) → IsNotAt comma text → Leads (expect [] used_ids) text (expect [] extras) text
-used_ids_extras text none place s = same_stops used_ids extras text place same (not_start used_ids (λ e. cc)) s
-  where
-    same : (t : Token) (left : List ℕ) → BeginsWith text t left → step_at used_ids t ≡ step_at extras t
-    same (word w) left b = refl
-    same (string s) left b = refl
-    same semicolon left b = refl
-    same comma left b = absurd (none left b)
-    same opening left b = refl
-    same closing left b = refl
+used_ids_extras text none = behind_ids used_ids extras text (λ e. cc) (λ w. refl) (λ s. refl) refl refl refl none
 
 pub extras_ending : (text : List ℕ) → HasNoExtra text → IsNotAt (word (codes "closure")) text → Leads (expect [] extras) text (expect [] ending) text
 extras_ending text none no_closure place s = same_stops extras ending text place same (not_start extras (λ e. cc)) s

@@ -78,6 +78,7 @@ impl<'t> Cursor<'t> {
         }
     }
 
+    /// The allocator, which no contract speaks of: whatever it is, the same is read.
     pub(crate) fn alloc(&self) -> Global {
         self.alloc
     }

@@ -5,7 +5,6 @@ use Rattle.odin_outside.specs.Spawned.{Spawned}
 use Rattle.meaning_graph.specs.Graphs.{Text, Graph}
 use Rattle.meaning_derive.specs.Derive.{Sources, Outcomes}
 use Rattle.meaning_answers.specs.Answers.{Refused, Asks, Answer}
-use Rattle.meaning_answers.specs.Replies.{object_reply, refused_circular, refused_deep}
 use Rattle.plain_derive.specs.declared.found.Found.{Found}
 use Rattle.plain_derive.specs.declared.found.Found.TheVariants as found
 use Rattle.plain_derive.specs.declared.fault.PlainFault.{PlainFault}
@@ -13,12 +12,7 @@ use Rattle.plain_derive.specs.declared.fault.PlainFault.TheVariants as faults
 use Rattle.plain_derive.specs.Founds.{IsFound}
 use Rattle.plain_derive.specs.Logs.{HasDerived, HasGivenUp}
 use Rattle.plain_derive.proofs.Lemmas.{made_is_begun, go_by}
-use Rattle.odin_answers.specs.Answers.{IsBegun, MayHaveBegun, IsReply, refused_tool_start, Replies}
-
-abbrev pub found_reply : Graph → Found → Text
-found_reply g (found.Answer view) = object_reply g view
-found_reply g (found.Circular chain) = refused_circular g chain
-found_reply g (found.Deep chain) = refused_deep g chain
+use Rattle.odin_answers.specs.Answers.{IsBegun, MayHaveBegun, IsReply, found_reply, refused_tool_start, Replies}
 
 answers : (g : Graph) (s : Sources) (outcomes : Outcomes) (text : Text) (n : Node) (f : Found) → Asks g text n → IsFound g s outcomes n f → Answer g s outcomes text (found_reply g f)
 answers g s outcomes text n (found.Answer view) asks is = Answer.object text n view asks is
@@ -28,10 +22,6 @@ answers g s outcomes text n (found.Deep chain) asks is = Answer.deep text n chai
 -- the reply to a text behind what was there
 abbrev pub Replied : Graph → Sources → Text → Spawned → Spawned → Text → Text → Type 0
 Replied g s text before now old new = Replies (λ reply. IsReply g before.answer s text reply before now) old new
-
--- what was found is this
-pub derived_at : (g : Graph) (s : Sources) (n : Node) (before now : Spawned) (f other : Found) → f ≡ other → HasDerived g s n before now f → HasDerived g s n before now other
-derived_at g s n before now f other is derived = subst (HasDerived g s n before now) is derived
 
 module _ (g : Graph) (s : Sources) (text : Text) (before now : Spawned) where
   pub shown : (n : Node) (f : Found) (old new : Text) → Asks g text n → HasDerived g s n before now f → new ≡ old ++ found_reply g f → Replied g s text before now old new

@@ -6,6 +6,9 @@ use Rattle.meaning_texts.specs.Lines.{with_lf}
 use Rattle.meaning_graph.specs.Graphs.{Text, Graph}
 use Rattle.meaning_derive.specs.Derive.{Sources, Outcomes}
 use Rattle.meaning_answers.specs.Answers.{Refused, Asks, Answer}
+use Rattle.meaning_answers.specs.Replies.{object_reply, refused_circular, refused_deep}
+use Rattle.plain_derive.specs.declared.found.Found.{Found}
+use Rattle.plain_derive.specs.declared.found.Found.TheVariants as found
 use Rattle.plain_derive.specs.declared.fault.PlainFault.{PlainFault}
 use Rattle.plain_derive.specs.declared.fault.PlainFault.TheVariants.{Spawn}
 use Rattle.plain_derive.specs.Logs.{HasMade, HasBegun}
@@ -50,6 +53,12 @@ pub record HasAnswer (g : Graph) (table : Option Table) (s : Sources) (text repl
   pub given : AreGivenBy table outcomes
   pub answer : Answer g s outcomes text reply
   pub did : IsLeftAlone g text reply before now ⊎ IsDerived g s outcomes text before now
+
+-- what is found of a node, as it is shown
+abbrev pub found_reply : Graph → Found → Text
+found_reply g (found.Answer view) = object_reply g view
+found_reply g (found.Circular chain) = refused_circular g chain
+found_reply g (found.Deep chain) = refused_deep g chain
 
 abbrev pub refused_tool_start : Text
 refused_tool_start = with_lf (codes "refused tool start")

@@ -10,15 +10,14 @@ ghost use Rattle.path_planner.specs.Ends.{plans_of};
 
 use crate::node::{Asked, node_asked};
 use crate::reply::{
-    write_circular, write_deep, write_no_path, write_object, write_plan, write_start_refused,
-    write_unknown_type,
+    write_found, write_no_path, write_plan, write_start_refused, write_unknown_type,
 };
 use crate::request::Request;
 use object_sources::Sources;
 use object_values::{Bytes, Memory, Node};
 use odin_outside::Spawner;
 use path_planner::Plans;
-use plain_derive::{Found, PlainFault, derive_plain};
+use plain_derive::{PlainFault, derive_plain};
 use std::alloc::Global;
 use type_graph::Graph;
 
@@ -46,9 +45,7 @@ fn answer_node<S: Spawner>(
     ensures few { AreFew (S.told tools.old) (S.told tools.new) }
 {
     match derive_plain(alloc, graph, plans, sources, node, tools) {
-        Ok(Found::Answer(view)) => write_object(alloc, graph, &view, out),
-        Ok(Found::Circular(chain)) => write_circular(alloc, graph, chain.as_slice(), out),
-        Ok(Found::Deep(chain)) => write_deep(alloc, graph, chain.as_slice(), out),
+        Ok(found) => write_found(alloc, graph, &found, out),
         Err(PlainFault::Spawn) => write_start_refused(out),
         Err(PlainFault::Memory) => Err(Memory),
     }
@@ -77,10 +74,11 @@ pub fn answer_ask<S: Spawner>(
     ensures one { length (S.told tools.new).running ≤ 1 }
     ensures answer { (S.told tools.new).answer ≡ (S.told tools.old).answer }
 {
-    match node_asked(alloc, graph, plans, request)? {
-        Asked::Node(node) => answer_node(alloc, graph, plans, sources, &node, tools, out),
+    let asked = node_asked(alloc, graph, plans, request)?;
+    match &asked {
+        Asked::Node(node) => answer_node(alloc, graph, plans, sources, node, tools, out),
         Asked::UnknownType(name) => write_unknown_type(name.as_slice(), out),
-        Asked::NoPath(step) => write_no_path(step, out),
+        Asked::NoPath(step) => write_no_path(*step, out),
     }
 }
 
@@ -95,9 +93,10 @@ pub fn answer_plan(
     requires made { plans.now ≡ plans_of graph.now }
     ensures { OnOk result (Replies (Plan graph.now (request_text request.now)) out.old out.new) }
 {
-    match node_asked(alloc, graph, plans, request)? {
-        Asked::Node(node) => write_plan(graph, &node, out),
+    let asked = node_asked(alloc, graph, plans, request)?;
+    match &asked {
+        Asked::Node(node) => write_plan(graph, node, out),
         Asked::UnknownType(name) => write_unknown_type(name.as_slice(), out),
-        Asked::NoPath(step) => write_no_path(step, out),
+        Asked::NoPath(step) => write_no_path(*step, out),
     }
 }

@@ -12,11 +12,20 @@ use type_graph::Graph;
 
 /// The node, or why there is none: the name of a type that is nowhere declared, or the number of a
 /// step to which no path leads.
-#[derive(Drop)]
 pub(crate) enum Asked {
     Node(Node),
     UnknownType(Bytes),
     NoPath(u32),
+}
+
+impl Drop for Asked {
+    fn drop(self) {
+        match self {
+            Asked::Node(node) => drop(node),
+            Asked::UnknownType(name) => drop(name),
+            Asked::NoPath(_) => {}
+        }
+    }
 }
 
 // The steps along makers.

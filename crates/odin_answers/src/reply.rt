@@ -1,12 +1,13 @@
 // The bytes of replies, each written behind what is there.
 ghost use Rattle.std.specs.Prelude.{◌≡◌, ◌++◌, List, OnOk, flat_map};
 ghost use Rattle.meaning_texts.specs.Lines.{with_lf};
-ghost use Rattle.odin_answers.specs.Answers.{refused_tool_start};
+ghost use Rattle.odin_answers.specs.Answers.{found_reply, refused_tool_start};
 ghost use Rattle.meaning_answers.specs.Replies.{counted, status_word, part_reply, nodes_reply, value_reply, message_reply, object_reply, refused_type, refused_path, refused_circular, refused_deep, step_reply, plan_reply};
 
 use object_values::{Bytes, Memory, Message, Node, Part, Status, Step, Value, View};
 use odin_bytes::{escape, write_number};
 use odin_nodes::node_text;
+use plain_derive::Found;
 use std::alloc::Global;
 use type_graph::Graph;
 
@@ -111,13 +112,8 @@ fn write_messages(messages: &[Message], out: &mut Bytes) -> Result<(), Memory>
 // The room that most replies to an `ask` fit in.
 const USUAL_ROOM: usize = 96;
 
-/// The reply that shows an object.
-pub(crate) fn write_object(
-    alloc: Global,
-    graph: &Graph,
-    view: &View,
-    out: &mut Bytes,
-) -> Result<(), Memory>
+// The reply that shows an object.
+fn write_object(alloc: Global, graph: &Graph, view: &View, out: &mut Bytes) -> Result<(), Memory>
     ensures { OnOk result (out.new ≡ out.old ++ object_reply graph.now view.now) }
 {
     out.reserve_exact(USUAL_ROOM)?;
@@ -129,8 +125,8 @@ pub(crate) fn write_object(
     write_messages(view.messages.as_slice(), out)
 }
 
-/// The refusal with a circular chain.
-pub(crate) fn write_circular(
+// The refusal with a circular chain.
+fn write_circular(
     alloc: Global,
     graph: &Graph,
     chain: &[Node],
@@ -142,17 +138,28 @@ pub(crate) fn write_circular(
     write_nodes(alloc, graph, chain, out)
 }
 
-/// The refusal with a chain that is too deep.
-pub(crate) fn write_deep(
-    alloc: Global,
-    graph: &Graph,
-    chain: &[Node],
-    out: &mut Bytes,
-) -> Result<(), Memory>
+// The refusal with a chain that is too deep.
+fn write_deep(alloc: Global, graph: &Graph, chain: &[Node], out: &mut Bytes) -> Result<(), Memory>
     ensures { OnOk result (out.new ≡ out.old ++ refused_deep graph.now chain.now) }
 {
     write_counted(b"refused deep", chain.len(), out)?;
     write_nodes(alloc, graph, chain, out)
+}
+
+/// The reply that shows what is found of a node.
+pub(crate) fn write_found(
+    alloc: Global,
+    graph: &Graph,
+    found: &Found,
+    out: &mut Bytes,
+) -> Result<(), Memory>
+    ensures { OnOk result (out.new ≡ out.old ++ found_reply graph.now found.now) }
+{
+    match found {
+        Found::Answer(view) => write_object(alloc, graph, view, out),
+        Found::Circular(chain) => write_circular(alloc, graph, chain.as_slice(), out),
+        Found::Deep(chain) => write_deep(alloc, graph, chain.as_slice(), out),
+    }
 }
 
 /// The refusal of a type that is nowhere declared.

@@ -25,5 +25,5 @@ pub past : (pairs : List JobRaw) (other : Raw) (job : Job) (at : ℕ) → length
 past pairs other job at end = at_drop_all (λ rest. answer_among rest other job) pairs at end
 
 -- a copy of one value is one of its equal
-pub copied_along : {X E : Type 0} (result : Result X E) (a b : X) → a ≡ b → IfOk result (λ copy. copy ≡ a) → IfOk result (λ copy. copy ≡ b)
-copied_along {X = X} result a b e copied = subst (λ (x : X). IfOk result (λ copy. copy ≡ x)) e copied
+pub copied_along : {X E : Type 0} (result : Result X E) (a b : X) → IfOk result (λ copy. copy ≡ a) → a ≡ b → IfOk result (λ copy. copy ≡ b)
+copied_along {X = X} result a b copied e = subst (λ (x : X). IfOk result (λ copy. copy ≡ x)) e copied

@@ -1,5 +1,5 @@
 // Tools whose answers stand in memory.
-ghost use Rattle.std.specs.Prelude.{◌≡◌, ◌≢◌, ◌↔◌, ◌<◌, length, IsTrue, IfOk, IfSome, OnOk, OnErr, ℕ};
+ghost use Rattle.std.specs.Prelude.{◌≡◌, ◌≢◌, ◌↔◌, ◌<◌, ◌++◌, ◌∷◌, [], length, IsTrue, IfOk, IfSome, OnOk, OnErr, ℕ};
 ghost use Rattle.odin_outside.specs.Spawned.{IsRunning, IsLeastFree, Ends};
 
 use crate::answers::{Answers, JobRaw};
@@ -61,6 +61,16 @@ fn least_free(running: &[Running]) -> Option<u32>
         }
     }
     None
+}
+
+// Notes the start of a job in a slot.
+fn note_start(alloc: Global, log: &mut Vec<ToolEvent>, slot: u32, job: &Job) -> Result<(), Memory>
+    ensures ok { OnOk result (log.new.items ≡ log.old.items ++ ToolEvent.Began slot job.now ∷ []) }
+    ensures err { OnErr result (log.new.items ≡ log.old.items) }
+{
+    let noted = job.copy(alloc)?;
+    log.push(ToolEvent::Began(slot, noted))?;
+    Ok(())
 }
 
 impl TableTools {
@@ -152,12 +162,9 @@ impl Spawner for TableTools {
         let Some(slot) = least_free(&self.running) else {
             return Err(StartFault::Memory);
         };
-        let kept = job.copy(alloc)?;
-        let noted = job.copy(alloc)?;
         self.running.reserve(1).map_err(|_| StartFault::Memory)?;
-        self.log
-            .push(ToolEvent::Began(slot, noted))
-            .map_err(|_| StartFault::Memory)?;
+        let kept = job.copy(alloc)?;
+        note_start(alloc, &mut self.log, slot, job)?;
         self.running
             .push(Running { slot, job: kept })
             .map_err(|_| StartFault::Memory)?;

@@ -1,6 +1,6 @@
 -- What a write behind the end of a store, or at its end, leaves of the store.
 use Rattle.std.proofs.Common.{◌≡◌, ◌≢◌, ◌⊎◌, inl, inr, ℕ, suc, ◌+◌, ◌-◌, ◌<◌, ◌≤◌, ◌^◌, ◌%◌, ◌==◌, min, if◌then◌else◌, List, [], ◌∷◌, ◌++◌, take, drop, length, get_or, slice_index, slice_range, sym, ap, subst, ◌∙◌, arith, append_assoc, length-append, length-drop}
-use Rattle.std.proofs.lemmas.List.{drop-take, get_or-take, get_or-drop, take-take, take_all, take-append-le, length-take-le}
+use Rattle.std.proofs.lemmas.List.{drop-take, get_or-take, get_or-drop, take-take, take_all, take-append-le, take_min, length-take-le}
 use Rattle.std.proofs.Math.Seq.{take-append_seam, drop-append_seam, get_or-append_seam}
 use Rattle.std.proofs.lemmas.Bool.{cases_eq}
 use Rattle.odin_bytes.specs.Fields.{bytes_field}
@@ -112,11 +112,12 @@ torn_agree at n image c le torn =
     record { same = ap (λ k. take k c) least ∙ torn.before; within = omega (arith, torn.no_shorter) }
 
 -- the closed gate at the end stands in each outcome of a write behind it
-pub torn_store : (image c : List ℕ) (records : List (List ℕ)) (end n : ℕ) → IsStore image records end → end + 1 + n ≤ 2 ^ 30 → Torn (end + 1) n image c → IsStore c records end
-torn_store image c records end n store room torn =
+pub torn_store : (image c : List ℕ) (records : List (List ℕ)) (end at n : ℕ) → IsStore image records end → Torn at n image c → end < at → at + n ≤ 2 ^ 30 → IsStore c records end
+torn_store image c records end at n store torn behind_end room =
     let inside = store.closed.within in
     let short = store.written.within in
-    let agree = torn_agree (end + 1) n image c (omega arith) torn in
+    let whole : Agree (min at (length image)) image c = record { same = torn.before ∙ sym (take_min at image); within = omega (arith, torn.no_shorter) } in
+    let agree = agree_less (end + 1) (min at (length image)) image c (omega arith) whole in
     closed_store image c records end store (agree_less end (end + 1) image c (omega arith) agree) (omega (arith, agree.within)) (omega (arith, torn.no_longer))
     (subst (λ b. b ≢ 1) (sym (agree_index (end + 1) image c agree end (omega arith))) store.closed.other)
 

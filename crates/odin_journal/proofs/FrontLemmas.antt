@@ -7,9 +7,9 @@ use Rattle.meaning_store.specs.Images.{IsNew, IsStore, Stored}
 use Rattle.odin_journal.specs.Rest.{Clears, Makes}
 use Rattle.odin_journal.proofs.AppendLemmas.{agree_index, torn_agree, torn_gate_back, torn_gate_size}
 
--- what is written behind the byte at 0
+-- what is written behind the byte at 0: the front of a new store without its first byte
 abbrev pub blank : List ℕ
-blank = 68 ∷ 73 ∷ 78 ∷ 83 ∷ 84 ∷ 79 ∷ 49 ∷ 0 ∷ 0 ∷ 0 ∷ 0 ∷ 0 ∷ 0 ∷ 0 ∷ 0 ∷ 0 ∷ 0 ∷ 0 ∷ 0 ∷ 0 ∷ 0 ∷ 0 ∷ 64 ∷ 0 ∷ 0 ∷ 0 ∷ 0 ∷ 0 ∷ 0 ∷ 0 ∷ 0 ∷ 0 ∷ 0 ∷ 0 ∷ 0 ∷ 0 ∷ 0 ∷ 0 ∷ 0 ∷ 0 ∷ 0 ∷ 0 ∷ 0 ∷ 0 ∷ 0 ∷ 0 ∷ 0 ∷ 0 ∷ 0 ∷ 0 ∷ 0 ∷ 0 ∷ 0 ∷ 0 ∷ 0 ∷ 0 ∷ 0 ∷ 0 ∷ 0 ∷ 0 ∷ 0 ∷ 0 ∷ 0 ∷ 0 ∷ []
+blank = drop 1 new_front
 
 -- a file of at most one byte stays so while its first byte is written
 pub torn_first : (image c : List ℕ) → length image ≤ 1 → Torn 0 1 image c → IsNew c

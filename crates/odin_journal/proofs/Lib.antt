@@ -1,6 +1,6 @@
-pub mod AppendLemmas
-pub mod FrontLemmas
-pub mod MomentLemmas
-pub mod OpenLemmas
-pub mod ReadLemmas
-pub mod StartLemmas
+mod AppendLemmas
+mod FrontLemmas
+mod MomentLemmas
+mod OpenLemmas
+mod ReadLemmas
+mod StartLemmas

@@ -1,15 +1,23 @@
 -- What is known of a disk that is only read.
-use Rattle.std.proofs.Common.{◌≡◌, ℕ, List, Result, Ok, Err, OnOk, refl, sym, ◌∙◌}
+use Rattle.std.proofs.Common.{◌≡◌, ℕ, List, Result, Ok, Err, OnOk, OnErr, sym, ◌∙◌}
 use Rattle.odin_outside.specs.Disk.{Telling, MayLeave, Goes, IsQuiet, same_pending}
-use Rattle.odin_outside.specs.Moments.{follows_on, one_call, no_call, then, after_look}
+use Rattle.odin_outside.specs.Moments.{follows_on, one_call, then, after_look}
 use Rattle.odin_journal.specs.Moments.{Untouched}
 
 pub on_ok_two : {T E P Q R : Type 0} (r : Result T E) → (P → Q → R) → OnOk r P → OnOk r Q → OnOk r R
 on_ok_two (Ok x) f p q = f p q
 on_ok_two (Err e) f p q = tt
 
-pub untouched_start : (disk : Telling) → ((c : List ℕ) → disk.left_since disk.moment c → MayLeave disk c) → IsQuiet disk → Untouched disk disk
-untouched_start disk only_now quiet = record { quiet = quiet; same = refl; leaves = no_call disk (λ image. image ≡ disk.seen) (λ c left. quiet.only c (only_now c left)) quiet.only }
+-- what one result says at `Ok`, another says that isn't `Ok` where it is an error
+pub on_ok_from : {T E U F : Type 0} (r : Result T E) (s : Result U F) (P : Type 0) → OnErr r (OnOk s ⊥) → OnOk r P → OnOk s P
+on_ok_from (Ok x) (Ok y) P none p = p
+on_ok_from (Ok x) (Err f) P none p = tt
+on_ok_from (Err e) (Ok y) P none p = absurd none
+on_ok_from (Err e) (Err f) P none p = tt
+
+pub same_result : {T E : Type 0} (r : Result T E) → OnErr r (OnOk r ⊥)
+same_result (Ok x) = tt
+same_result (Err e) = tt
 
 pub untouched_on : (old mid new : Telling) → Untouched old mid → Untouched mid new → Untouched old new
 untouched_on old mid new first second = record {

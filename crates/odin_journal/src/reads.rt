@@ -62,6 +62,7 @@ pub fn read_record<D: Disk>(
     if size - gate < 6 + length as u64 {
         return Err(JournalFault::NotOurs(gate));
     }
+    drop(head);
     Ok(Some(read_bytes(alloc, disk, gate + 5, length as u64)?))
 }
 

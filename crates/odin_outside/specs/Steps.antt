@@ -264,15 +264,10 @@ torn_same at n image =
       no_longer = omega arith;
     }
 
--- a range within another, and two steps in one range
+-- a range within another
 pub torn_wider : (at n low m : ℕ) (old new : List ℕ) → low ≤ at → at + n ≤ low + m → Torn at n old new → Torn low m old new
 torn_wider at n low m old new le high torn = torn_at_places low m old new torn.no_shorter (omega (arith, torn.no_longer)) (λ k lt outside.
     torn-outside at n old new k torn lt (elim outside [ inl below ↦ inl (omega arith) | inr above ↦ inr (omega arith) ]))
-
-pub torn_twice : (at n : ℕ) (old middle new : List ℕ) → Torn at n old middle → Torn at n middle new → Torn at n old new
-torn_twice at n old middle new first second = torn_at_places at n old new (omega (arith, first.no_shorter, second.no_shorter)) (omega (arith, first.no_longer, second.no_longer)) (λ k lt outside.
-    let within : k < length middle = omega (arith, first.no_shorter) in
-    torn-outside at n middle new k second within outside ∙ torn-outside at n old middle k first lt outside)
 
 -- a whole cut is a step of a cut
 pub taken_cut : (size : ℕ) (image : List ℕ) → Cut size image (take size image)
@@ -284,10 +279,6 @@ taken_cut size image =
       no_shorter = omega arith;
       no_longer = omega arith;
     }
-
--- and so is none at all
-pub cut_same : (size : ℕ) (image : List ℕ) → Cut size image image
-cut_same size image = record { front = sym (take_min size image); no_shorter = omega arith; no_longer = omega arith }
 
 -- after a sync a crash leaves the image at it
 pub synced_only : (image c : List ℕ) → IsCrashImage (synced_at image) c → c ≡ image

@@ -208,13 +208,13 @@ module _ (g : Graph) (to : ℕ) (near : List (Option ℕ)) where
   edge_numbered a e h = let m = edge_makes g a e.0 e.1 h in taken_numbered a m.taken m.fits (named_below g m.maker.from m.taken m.takes)
 
   -- no shortest path is longer than there are types
-  pub far_enough : IsNear g to (length (types g)) near → IsAllNear g to near
-  far_enough w = record { sized = w.sized; sound = w.sound; least = w.least; complete = all }
+  pub far_enough : (level : ℕ) → length (types g) ≤ level → IsNear g to level near → IsAllNear g to near
+  far_enough level all_levels w = record { sized = w.sized; sound = w.sound; least = w.least; complete = all }
     where
       all : (a : ℕ) (p : List ℕ) → a < length (types g) → Path g a to p → (n : ℕ) × (near_at near a ≡ Some n)
       all a p below r =
           let s = short_route (maker_edges g) (λ c. is_a g c to) (numbers g) edge_numbered p a (path_route p a r) in
-          w.complete a s.0 below (route_path s.0 a s.1) (omega (arith, s.2, length-below (length (types g))))
+          w.complete a s.0 below (route_path s.0 a s.1) (omega (arith, s.2, length-below (length (types g)), all_levels))
 
 -- ---- marks, type by type
 

@@ -1,7 +1,7 @@
 // How many makers a path from each type has, at least.
-ghost use Rattle.std.specs.Prelude.{◌≡◌, ◌<◌, ◌+◌, ℕ, Some, IfOk, length, nat_eq, slice_get};
+ghost use Rattle.std.specs.Prelude.{◌≡◌, ◌<◌, ◌+◌, ℕ, Some, None, IfOk, cond, length, nat_eq, slice_get};
 ghost use Rattle.std.specs.List.{list_any};
-ghost use Rattle.std.specs.Option.{option_eq};
+ghost use Rattle.std.specs.Option.{option_eq, option_or};
 ghost use Rattle.meaning_graph.specs.Graphs.{types};
 ghost use Rattle.path_planner.specs.Ends.{ends_in, AreTypes};
 ghost use Rattle.path_planner.specs.Near.{Marks, Widens, IsBetween, IsAllNear};
@@ -81,6 +81,13 @@ fn mark(near: &mut [Option<usize>], graph: &Graph, of: u32, distance: usize)
 {
     for a in 0..graph.type_count() {
         let place = a as usize;
-        near[place] = near[place].or(graph.is_a(a, of).then_some(distance));
+        near[place] = known_or(near[place], graph.is_a(a, of), distance);
     }
+}
+
+// The known distance, or else this one, where the type is the one that is reached.
+fn known_or(known: Option<usize>, is_reached: bool, distance: usize) -> Option<usize>
+    ensures { result ≡ option_or known (cond is_reached (Some distance) None) }
+{
+    known.or(is_reached.then_some(distance))
 }

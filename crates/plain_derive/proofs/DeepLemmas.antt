@@ -1,5 +1,5 @@
 -- The bases below a node make a chain.
-use Rattle.std.proofs.Common.{◌≡◌, ◌+◌, ◌-◌, ◌<◌, ◌≤◌, ℕ, zero, suc, List, [], ◌∷◌, ◌++◌, inl, inr, sym, ap, ◌∙◌, subst, refl, length, arith, append_assoc}
+use Rattle.std.proofs.Common.{◌≡◌, ◌+◌, ◌-◌, ◌<◌, ◌≤◌, ℕ, zero, suc, List, [], ◌∷◌, ◌++◌, inl, inr, sym, ap, ◌∙◌, subst, refl, length, length-append, arith, append_assoc}
 use Rattle.std.proofs.lemmas.List.{length-take}
 use Rattle.object_values.specs.declared.nodes.Step.{Step}
 use Rattle.object_values.specs.declared.nodes.Node.{Node}
@@ -26,13 +26,14 @@ unfolding bases
 bases_more n k = refl
 
 -- one node goes from what is to come to what is there
-pub bases_next : (chain whole : List Node) (last base : Node) (i : ℕ) → i < 64 → base ≡ base_of last → chain ++ bases last (64 - i) ≡ whole → (chain ++ last ∷ []) ++ bases base (64 - (i + 1)) ≡ whole
-bases_next chain whole last base i below is so =
-    let more : suc (64 - (i + 1)) ≡ 64 - i = omega arith in
-    append_assoc chain (last ∷ []) (bases base (64 - (i + 1))) ∙ ap (λ b. chain ++ last ∷ bases b (64 - (i + 1))) is ∙ ap (λ l. chain ++ l) (sym (bases_more last (64 - (i + 1)))) ∙ ap (λ k. chain ++ bases last k) more ∙ so
+pub bases_next : (chain whole longer : List Node) (last base : Node) → length chain < 64 → base ≡ base_of last → longer ≡ chain ++ last ∷ [] → chain ++ bases last (64 - length chain) ≡ whole → longer ++ bases base (64 - length longer) ≡ whole
+bases_next chain whole longer last base below is more so =
+    let count : length longer ≡ length chain + 1 = ap length more ∙ length-append chain (last ∷ []) in
+    let rest : suc (64 - length longer) ≡ 64 - length chain = omega arith in
+    ap (λ l. l ++ bases base (64 - length longer)) more ∙ append_assoc chain (last ∷ []) (bases base (64 - length longer)) ∙ ap (λ b. chain ++ last ∷ bases b (64 - length longer)) is ∙ ap (λ l. chain ++ l) (sym (bases_more last (64 - length longer))) ∙ ap (λ k. chain ++ bases last k) rest ∙ so
 
-pub bases_last : (chain whole : List Node) (last : Node) (i : ℕ) → 64 ≤ i → chain ++ bases last (64 - i) ≡ whole → chain ++ last ∷ [] ≡ whole
-bases_last chain whole last i all so = let none : 0 ≡ 64 - i = omega arith in ap (λ l. chain ++ l) (sym (bases_one last)) ∙ ap (λ k. chain ++ bases last k) none ∙ so
+pub bases_last : (chain whole : List Node) (last : Node) → 64 ≤ length chain → chain ++ bases last (64 - length chain) ≡ whole → chain ++ last ∷ [] ≡ whole
+bases_last chain whole last all so = let none : 0 ≡ 64 - length chain = omega arith in ap (λ l. chain ++ l) (sym (bases_one last)) ∙ ap (λ k. chain ++ bases last k) none ∙ so
 
 -- ---- the chain
 

@@ -108,7 +108,7 @@ impl Seq<u8> {
         })
     }
 
-    /// Makes room for just so many bytes more.
+    /// Makes room for just so many bytes more. That is a hint: contracts see the bytes alone, so no clause tells of the room.
     pub fn reserve_exact(&mut self, more: usize) -> Result<(), Memory>
         ensures { self.new ≡ self.old }
     {

@@ -1,2 +1,2 @@
-pub mod LineLemmas
-pub mod NumberLemmas
+mod LineLemmas
+mod NumberLemmas

@@ -1,4 +1,4 @@
-use Rattle.std.proofs.Common.{subst}
+use Rattle.std.proofs.Common.{subst, rules}
 use Rattle.meaning_graph_text.specs.Going.{start}
 use Rattle.dg_reader.specs.Walks.{StopsAt, Halts}
 use Rattle.dg_reader.proofs.FaultLemmas.{fault_at}
@@ -19,7 +19,8 @@ overflow_sub-text c =
 pub returns-in-Err-Unexpected-clause-err : goal.returns-in-Err-Unexpected-clause-err
 returns-in-Err-Unexpected-clause-err c =
     let s : StopsAt start c.decls.cursor c.decl.new.self = subst (λ stop. Halts stop start c.decls.cursor c.decl.new.self) c.in-Err-Unexpected.field-0-is c.in-Err-Unexpected.ensures.err in
-    rw (c.syntax_fault.ensures, c.left-in-Err-Unexpected.ensures) (c.requires, (fault_at c.args.text.now c.decls.decls c.decls.cursor c.decl.new.self c.requires c.decls.invariant.spelled c.decls.invariant.tokens c.decls.invariant.past s).1)
+    let fault = fault_at c.args.text.now c.decls.decls c.decls.cursor c.decl.new.self c.requires c.decls.invariant.spelled c.decls.invariant.tokens c.decls.invariant.past s in
+    rw (c.syntax_fault.ensures, c.left-in-Err-Unexpected.ensures) (c.requires, search (rules, fault.1))
 
 pub decls-smaller : goal.decls-smaller
 decls-smaller c = decl_shorter c.in-Ok.decl c.decls.cursor c.decl.new.self c.in-Ok.ensures.ok

@@ -1,4 +1,4 @@
-use Rattle.std.proofs.Common.{length, ap, arith}
+use Rattle.std.proofs.Common.{length, ap, arith, rules}
 use Rattle.dg_reader.proofs.FileLemmas.{fault_within, check_refused}
 use Rattle.dg_reader.proofs.read.read_graph_file.Goals as goal
 
@@ -19,4 +19,4 @@ pub returns-in-Err-Graph-clause-err : goal.returns-in-Err-Graph-clause-err
 returns-in-Err-Graph-clause-err c =
     let first = rw c.in-Err-Graph.field-0-is at c.in-Err-Graph.ensures.err in
     let r = check_refused _ c.in_ok-decls.field-0.starts c.args.text.now c.in-Err-Graph.number c.in-Err-Graph.fault c.in_ok-decls.ensures.ok first in
-    rw (c.check_fault.ensures, c.as_slice.ensures) (c.if-text-gt-GRAPH_LIMIT.false, r.1)
+    rw (c.check_fault.ensures, c.as_slice.ensures) (search rules, r.1)

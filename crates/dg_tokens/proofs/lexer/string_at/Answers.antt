@@ -1,4 +1,4 @@
-use Rattle.std.proofs.Common.{◌≡◌, ◌<◌, ◌-◌, ◌+◌, length, take, drop, sym, ◌∙◌, arith}
+use Rattle.std.proofs.Common.{sym, ◌∙◌, arith}
 use Rattle.std.proofs.lemmas.Bool.Decides.{Decides-eqb}
 use Rattle.std.proofs.lemmas.Grind.{common_steps}
 use Rattle.dg_tokens.proofs.LexLemmas.{QuoteAt, quote_at, no_quote, string_read, string_refused, string_open}
@@ -18,7 +18,6 @@ returns-then-not-is_string_text c =
 pub returns : goal.returns
 returns c =
     let found = rw c.in_ok-end.was at c.memchr.ensures in
-    let here : c.in_ok-end.end < length c.args.text.now = found.0.high in
-    let q : QuoteAt c.args.text.now c.in_ok-end.end = quote_at c.args.text.now c.in_ok-end.end here (λ k less e. found.0.before k (omega arith) less ((Decides-eqb _ 34).1 e)) ((Decides-eqb _ 34).0 found.1) in
-    let rest : take (length c.args.text.now - (c.in_ok-end.end + 1)) (drop (c.in_ok-end.end + 1) c.args.text.now) ≡ drop (c.in_ok-end.end + 1) c.args.text.now = grind (arith, common_steps) in
-    rw rest (sym (string_read c.args.text.now c.in_ok-end.end q (sym c.is_string_text.ensures ∙ c.if-not-is_string_text.false)))
+    let q : QuoteAt c.args.text.now c.in_ok-end.end = quote_at c.args.text.now c.in_ok-end.end found.0.high (λ k less e. found.0.before k (omega arith) less ((Decides-eqb _ 34).1 e)) ((Decides-eqb _ 34).0 found.1) in
+    let read = string_read c.args.text.now c.in_ok-end.end q (sym c.is_string_text.ensures ∙ c.if-not-is_string_text.false) in
+    grind (arith, common_steps)

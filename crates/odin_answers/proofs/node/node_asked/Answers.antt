@@ -28,7 +28,7 @@ returns-in_default-type_named-clause-node c =
     (c.in_ok-from_slice.ensures ∙ c.as_slice-in_default-type_named.ensures.bytes)
 
 pub plan-requires-clause-from : goal.plan-requires-clause-from
-plan-requires-clause-from c = subst (λ (t : ℕ). t < length (types c.args.graph.now)) (sym c.source_type-from.ensures) (source_within c.args.graph.now c.as_slice-name.result.now)
+plan-requires-clause-from c = subst (λ (t : ℕ). t < length (types c.args.graph.now)) (sym c.source_type-from.ensures) (source_within c.args.graph.now _)
 
 pub returns-in_default-2-clause-node : goal.returns-in_default-2-clause-node
 returns-in_default-2-clause-node c =

@@ -8,7 +8,8 @@ pub returns-then-eq : goal.returns-then-eq
 returns-then-eq c =
     let inside : c.loop-pair.pair-index < length c.args.pairs.now = omega arith in
     let test : job_eq.eq c.pair-item.result.job c.args.job.now ≡ true = sym c.eq.ensures ∙ c.if-eq.true in
-    copied_along c.copy.result c.pair-item.result.raw (answer_among c.args.pairs.now c.args.other.now c.args.job.now) (sym (c.loop-pair.invariant ∙ answered _ _ _ _ _ inside c.pair-item.is test)) c.copy.ensures
+    let found : answer_among c.args.pairs.now c.args.other.now c.args.job.now ≡ c.pair-item.result.raw = c.loop-pair.invariant ∙ answered _ _ _ _ _ inside c.pair-item.is test in
+    copied_along c.copy.result _ _ c.copy.ensures cc
 
 pub loop-pair-preserved : goal.loop-pair-preserved
 loop-pair-preserved c =
@@ -19,4 +20,5 @@ loop-pair-preserved c =
 pub returns : goal.returns
 returns c =
     let end : length c.args.pairs.now ≤ c.loop-pair.pair-index = omega arith in
-    copied_along c.copy-2.result c.args.other.now (answer_among c.args.pairs.now c.args.other.now c.args.job.now) (sym (c.loop-pair.invariant ∙ past _ _ _ _ end)) c.copy-2.ensures
+    let none : answer_among c.args.pairs.now c.args.other.now c.args.job.now ≡ c.args.other.now = c.loop-pair.invariant ∙ past _ _ _ _ end in
+    copied_along c.copy-2.result _ _ c.copy-2.ensures cc

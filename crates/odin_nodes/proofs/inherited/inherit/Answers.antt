@@ -16,7 +16,7 @@ returns c =
     let all : messages_in (take c.loop-need.need-index c.args.needs.now) ≡ messages_in c.args.needs.now = ap messages_in (take_all c.loop-need.need-index c.args.needs.now end) in
     let is : c.add-2.new.self ≡ inherit (messages_in c.args.needs.now) c.args.own.now =
     c.in_ok-add-2.ensures.ok
-    ∙ (c.loop-need.invariant c.args.own.now
-    ∙ (inherit_all (messages_in (take c.loop-need.need-index c.args.needs.now)) c.args.own.now
+    ∙ (c.loop-need.invariant _
+    ∙ (inherit_all (messages_in (take c.loop-need.need-index c.args.needs.now)) _
     ∙ ap (λ (messages : List Message). inherit messages c.args.own.now) all)) in
     subst (λ (m : List Message). IfOk c.into_messages.result (λ messages. messages ≡ m)) is c.into_messages.ensures

@@ -1,5 +1,5 @@
 -- Level by level, until no type is at the level.
-use Rattle.std.proofs.Common.{◌≡◌, ◌∙◌, ◌+◌, length, sym, ap, subst, arith, replicate, rules}
+use Rattle.std.proofs.Common.{◌∙◌, ◌+◌, length, sym, ap, subst, arith, replicate, rules}
 use Rattle.std.specs.Prelude.{None, Some, nat_eq}
 use Rattle.std.specs.List.{list_any}
 use Rattle.std.specs.Option.{option_eq}
@@ -25,7 +25,7 @@ loop-level-preserved c =
 
 pub returns : goal.returns
 returns c = subst (IsAllNear c.args.graph.now c.args.to) (sym c.from_vec.ensures) (elim c.loop-level-test.branch [
-  | else-loop-level-test w ↦ far_enough c.args.graph.now c.args.to c.loop-level.near.items (subst (λ n. IsNear c.args.graph.now c.args.to n c.loop-level.near.items) (let last : c.loop-level.level ≡ length (types c.args.graph.now) = omega (arith, w.loop-level-test.false, c.loop-level.auto.level-end, c.type_count-count.ensures) in last) c.loop-level.invariant)
+  | else-loop-level-test w ↦ far_enough c.args.graph.now c.args.to c.loop-level.near.items c.loop-level.level (omega (arith, w.loop-level-test.false, c.loop-level.auto.level-end, c.type_count-count.ensures)) c.loop-level.invariant
   | then-loop-level-test+then-not-any_at w ↦ none_farther c.args.graph.now c.args.to c.loop-level.near.items c.loop-level.level c.loop-level.invariant
       (none_at c.loop-level.near.items c.loop-level.level (ap (list_any (λ distance. option_eq nat_eq distance (Some c.loop-level.level))) (sym w.deref.ensures.value) ∙ sym w.any_at.ensures ∙ w.if-not-any_at.true))
 ])

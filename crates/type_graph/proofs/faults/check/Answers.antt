@@ -1,5 +1,5 @@
 -- Declaration by declaration.
-use Rattle.std.proofs.Common.{◌∙◌, ◌+◌, sym, ap, subst}
+use Rattle.std.proofs.Common.{◌∙◌, ◌+◌, sym, ap, subst, rules}
 use Rattle.std.specs.Prelude.{find}
 use Rattle.meaning_graph_text.specs.Checks.{has_fault, all_faults}
 use Rattle.type_graph.proofs.FaultLemmas.{IsClean, clean_yet, fault_here, clean_here, few_types_yet, few_suffixes_yet, few_params_yet, few_makers_yet, all_clean, few_at_end}
@@ -10,8 +10,10 @@ loop-decl-init c = clean_yet c.args.decls.now
 
 pub returns-in-Some-clause-err : goal.returns-in-Some-clause-err
 returns-in-Some-clause-err c =
+    let first =
     fault_here c.args.decls.now c.loop-decl.decl-index c.loop-decl.number c.loop-decl.before c.loop-decl.invariant c.decl-item.result c.loop-decl-test.true c.decl-item.is c.in-Some.fault
-    (sym c.in-Some.is ∙ c.in_ok-fault.ensures.fault ∙ ap (λ g. find (has_fault g (c.loop-decl.number + 1) c.decl-item.result) all_faults) c.requires)
+    (sym c.in-Some.is ∙ c.in_ok-fault.ensures.fault ∙ ap (λ g. find (has_fault g (c.loop-decl.number + 1) c.decl-item.result) all_faults) c.requires) in
+    search (rules, first)
 
 pub add-requires-clause-types : goal.add-requires-clause-types
 add-requires-clause-types c = few_types_yet c.args.decls.now c.loop-decl.decl-index c.loop-decl.number c.loop-decl.before c.loop-decl.invariant

@@ -1,4 +1,4 @@
-use Rattle.std.proofs.Common.{[], ◌∷◌}
+use Rattle.std.proofs.Common.{[], ◌∷◌, rules}
 use Rattle.meaning_graph_text.specs.Going.{identifier, open_mark, parts, expect}
 use Rattle.dg_reader.proofs.WalkLemmas.{at_stop, halts_behind, halts_here, stops_open}
 use Rattle.dg_reader.proofs.StageLemmas.{stops_parts}
@@ -18,4 +18,6 @@ returns-in_err-require-2-clause-err c =
     at_stop _ c.in_err-require-2.field-0.0 _ c.from_residual-in_err-require-2.ensures.1 (halts_here c.in_err-require-2.field-0.0 (expect (open_mark ∷ identifier ∷ identifier ∷ []) parts) c.args.self.now (expect [] parts) c.parts.new.self c.require-2.new.self (parts_lead c.in_ok-parts.parts c.args.self.now c.require.new.self c.parts.new.self c.in_ok-require.ensures.ok c.in_ok-parts.ensures.ok) (stops_parts c.parts.new.self c.in_ok-parts.ensures.end c.in_err-require-2.ensures.err.1) c.in_err-require-2.ensures.err.0)
 
 pub returns-clause-ok : goal.returns-clause-ok
-returns-clause-ok c = rw c.new.ensures (compound_read c.in_ok-parts.parts c.args.self.now c.require.new.self c.parts.new.self c.require-2.new.self c.in_ok-require.ensures.ok c.in_ok-parts.ensures.ok c.in_ok-require-2.ensures.ok)
+returns-clause-ok c =
+    let read = compound_read c.in_ok-parts.parts c.args.self.now c.require.new.self c.parts.new.self c.require-2.new.self c.in_ok-require.ensures.ok c.in_ok-parts.ensures.ok c.in_ok-require-2.ensures.ok in
+    rw c.new.ensures (search (rules, read))

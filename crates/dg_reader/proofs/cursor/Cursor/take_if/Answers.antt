@@ -1,4 +1,4 @@
-use Rattle.std.proofs.Common.{◌≡◌, Some, None, refl, sym, subst, false}
+use Rattle.std.proofs.Common.{◌≡◌, Some, None, refl, sym, subst, false, rules}
 use Rattle.meaning_graph_text.specs.Lexing.{taken, token_at, past_gap}
 use Rattle.dg_tokens.specs.Seen.{seen}
 use Rattle.dg_reader.specs.Walks.{class_of, Finds}
@@ -9,7 +9,7 @@ pub returns-in_default : goal.returns-in_default
 returns-in_default c = (refl, has_none_at c.args.self.now (class_of c.args.wanted) (subst (λ x. token_at x ≡ None) c.self.view_is (sym c.in_default.ensures)))
 
 pub returns-in_default-bytes_in : goal.returns-in_default-bytes_in
-returns-in_default-bytes_in c = (refl, has_none_other c.args.self.now c.in-Some.behind.now (class_of c.args.wanted) (seen c.in-Some.next) (subst (λ x. token_at x ≡ Some (taken (seen c.in-Some.next) c.in-Some.behind.now)) c.self.view_is (sym c.in-Some.ensures)) c.in_default-bytes_in.ensures.none)
+returns-in_default-bytes_in c = (search rules, has_none_other c.args.self.now c.in-Some.behind.now (class_of c.args.wanted) (seen c.in-Some.next) (subst (λ x. token_at x ≡ Some (taken (seen c.in-Some.next) c.in-Some.behind.now)) c.self.view_is (sym c.in-Some.ensures)) c.in_default-bytes_in.ensures.none)
 
 pub returns : goal.returns
 returns c =

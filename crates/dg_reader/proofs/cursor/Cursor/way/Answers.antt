@@ -1,4 +1,4 @@
-use Rattle.std.proofs.Common.{◌∷◌}
+use Rattle.std.proofs.Common.{◌∷◌, rules}
 use Rattle.std.specs.Prelude.{codes}
 use Rattle.meaning_graph_text.specs.Going.{keyword, identifier, expect}
 use Rattle.dg_reader.specs.Reads.{way_classes}
@@ -23,4 +23,4 @@ returns-in_err-to-clause-err c =
     at_stop _ c.in_err-to.field-0.0 _ c.from_residual-in_err-to.ensures.1 (λ more stage. halts_behind c.in_err-to.field-0.0 _ c.args.self.now (expect (identifier ∷ more) stage) c.require-2.new.self c.take-2.new.self (to_leads c.in_ok-from.from c.args.self.now c.require.new.self c.take.new.self c.require-2.new.self c.in_ok-require.ensures.ok c.in_ok-from.ensures.ok c.in_ok-require-2.ensures.ok more stage) (c.in_err-to.ensures.err more stage))
 
 pub returns-clause-ok : goal.returns-clause-ok
-returns-clause-ok c = way_read c.in_ok-from.from c.in_ok-to.to c.args.self.now c.require.new.self c.take.new.self c.require-2.new.self c.take-2.new.self c.in_ok-require.ensures.ok c.in_ok-from.ensures.ok c.in_ok-require-2.ensures.ok c.in_ok-to.ensures.ok
+returns-clause-ok c = search (rules, way_read c.in_ok-from.from c.in_ok-to.to c.args.self.now c.require.new.self c.take.new.self c.require-2.new.self c.take-2.new.self c.in_ok-require.ensures.ok c.in_ok-from.ensures.ok c.in_ok-require-2.ensures.ok c.in_ok-to.ensures.ok)

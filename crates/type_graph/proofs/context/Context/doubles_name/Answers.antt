@@ -1,5 +1,5 @@
 -- What stands before the declaration, by the counts.
-use Rattle.std.proofs.Common.{◌∙◌, ◌||◌, sym, ap, take}
+use Rattle.std.proofs.Common.{◌∙◌, ◌||◌, sym, ap, take, arith}
 use Rattle.std.proofs.lemmas.Result.{IfOk-weaker}
 use Rattle.meaning_graph_text.specs.Checks.{doubles_name, has_twice, part_names, used_params}
 use Rattle.type_graph.proofs.DoubleLemmas.{type_before, suffix_before, param_before, maker_before}
@@ -17,11 +17,15 @@ returns-else-stands_before c place counts =
 
 pub returns-in-Suffix : goal.returns-in-Suffix
 returns-in-Suffix c place counts =
-    c.stands_before-in-Suffix.ensures ∙ suffix_before c.args.self.now place c.in-Suffix.declared.suffix c.args.before.now.suffixes (ap (λ k. k.suffixes) counts) ∙ ap (doubles_name (take place c.args.self.now)) (sym c.in-Suffix.is)
+    let before = suffix_before c.args.self.now place c.in-Suffix.declared.suffix c.args.before.now.suffixes (ap (λ k. k.suffixes) counts) in
+    let named = ap (doubles_name (take place c.args.self.now)) (sym c.in-Suffix.is) in
+    grind (arith, c.stands_before-in-Suffix.ensures, before, named)
 
 pub returns-in-Param : goal.returns-in-Param
 returns-in-Param c place counts =
-    c.stands_before-in-Param.ensures ∙ param_before c.args.self.now place c.in-Param.name c.args.before.now.params (ap (λ k. k.params) counts) ∙ ap (doubles_name (take place c.args.self.now)) (sym c.in-Param.is)
+    let before = param_before c.args.self.now place c.in-Param.name c.args.before.now.params (ap (λ k. k.params) counts) in
+    let named = ap (doubles_name (take place c.args.self.now)) (sym c.in-Param.is) in
+    grind (arith, c.stands_before-in-Param.ensures, before, named)
 
 pub returns-then-stands_before-2 : goal.returns-then-stands_before-2
 returns-then-stands_before-2 c place counts =

@@ -1,5 +1,5 @@
 -- Supertypes lead back to the type by its number.
-use Rattle.std.proofs.Common.{◌∙◌, sym, ap, subst, slice_index_or, false}
+use Rattle.std.proofs.Common.{◌∙◌, sym, ap, subst, slice_index_or, false, rules}
 use Rattle.std.specs.List.{list_any}
 use Rattle.meaning_texts.specs.Lists.{IsIn}
 use Rattle.meaning_graph.specs.Graphs.{type_named}
@@ -14,9 +14,11 @@ above-requires c = λ number h.
 
 pub returns-in-Some : goal.returns-in-Some
 returns-in-Some c =
+    let loops =
     c.is_marked.ensures ∙ ap (λ l. slice_index_or l c.in-Some.number false) c.as_slice-in-Some.ensures ∙ c.in_ok-above.ensures.right c.in-Some.number
     ∙ ap (list_any (λ start. is_a c.args.self.now start c.in-Some.number)) (c.as_slice-2.ensures ∙ c.in_ok-starts.ensures ∙ ap (filter_map (type_named c.args.self.now)) c.as_slice.ensures)
-    ∙ loop_named c.args.self.now c.args.declared.now.name c.in-Some.number c.args.declared.now.supers (sym c.in-Some.ensures)
+    ∙ loop_named c.args.self.now c.args.declared.now.name c.in-Some.number c.args.declared.now.supers (sym c.in-Some.ensures) in
+    search (rules, loops)
 
 pub returns : goal.returns
 returns c = no_loop c.args.self.now c.args.declared.now.name c.args.declared.now.supers (sym c.in-None.ensures)
