@@ -1,9 +1,8 @@
 -- A parameter put in its place among those that are kept.
-use Rattle.std.proofs.Common.{◌≡◌, ℕ, suc, zero, ◌<◌, ◌≤◌, Bool, true, false, not, ◌&&◌, ◌||◌, List, [], ◌∷◌, ◌++◌, length, take, drop, get_or, position, cond, Some, None, refl, sym, ap, ap₂, subst, ◌∙◌, inl, inr, arith, add-one, append_assoc, append-nil, take-append-drop, Ordering, Less, Equal, Greater, is_lt}
+use Rattle.std.proofs.Common.{◌≡◌, ℕ, suc, zero, ◌<◌, ◌≤◌, Bool, true, false, not, ◌||◌, List, [], ◌∷◌, ◌++◌, length, take, drop, get_or, position, cond, None, refl, sym, ap, subst, ◌∙◌, inl, inr, arith, add-one, append-nil, take-append-drop, Ordering, Less, Equal, Greater, is_lt}
 use Rattle.std.specs.Prelude.{filter, bytes_eq, nat_lt}
 use Rattle.std.specs.List.{list_any, position_or_len, insert}
 use Rattle.std.specs.List.Sorted.{IsSortedBy}
-use Rattle.std.specs.Ordering.{ordering_reverse}
 use Rattle.std.specs.FinMap.{slice_cmp-IsAntisymmetric, nat_cmp-IsAntisymmetric}
 use Rattle.std.proofs.lemmas.Cmp.{nat_list_cmp_total, tied_itself}
 use Rattle.std.proofs.lemmas.Bool.{cases_Bool, both_ways, or_parts, ltb-false}

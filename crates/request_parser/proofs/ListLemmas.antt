@@ -1,18 +1,18 @@
 -- Spaces between items, and the items that were read so far.
-use Rattle.std.proofs.Common.{◌≡◌, ℕ, zero, suc, ◌<◌, ◌≤◌, Bool, true, false, List, [], ◌∷◌, ◌++◌, length, replicate, Option, Some, None, refl, sym, ap, subst, ◌∙◌, arith, append_assoc, append-nil, length-append}
+use Rattle.std.proofs.Common.{◌≡◌, ℕ, ◌≤◌, Bool, true, false, List, [], ◌∷◌, ◌++◌, length, Some, refl, ap, subst, arith, append_assoc, length-append}
 use Rattle.std.specs.Prelude.{nat_eq}
 use Rattle.std.specs.List.{list_all}
-use Rattle.std.proofs.lemmas.Bool.{both_ways, and_parts, and_from, eqb-true}
+use Rattle.std.proofs.lemmas.Bool.{both_ways, and_parts, eqb-true}
 use Rattle.object_values.specs.declared.nodes.ParamValue.{ParamValue}
 use Rattle.object_values.specs.declared.expressions.ExprStep.{ExprStep}
-use Rattle.meaning_texts.specs.Expressions.{Items, no_more, space, AreKeptAs}
+use Rattle.meaning_texts.specs.Expressions.{Items, space, AreKeptAs}
 use Rattle.request_parser.specs.declared.bytes.Class.TheVariants as class
 use Rattle.request_parser.specs.declared.items.Item.{Item}
 use Rattle.request_parser.specs.declared.items.Item.TheVariants.{Param, Step}
 use Rattle.request_parser.specs.declared.items.Found.{Found}
 use Rattle.request_parser.specs.Runs.{has, next, IsPast, TakesRun}
 use Rattle.request_parser.specs.Reads.{HaltsAt, AreItems, ReadsItem, AreRead}
-use Rattle.request_parser.specs.Found.{Puts, IsEmpty}
+use Rattle.request_parser.specs.Found.{Puts}
 use Rattle.request_parser.proofs.ReadLemmas.{halts_behind, behind_space}
 
 -- ---- spaces

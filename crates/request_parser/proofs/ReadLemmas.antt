@@ -1,8 +1,8 @@
 -- How items are read, and where a reading of them halts.
-use Rattle.std.proofs.Common.{◌≡◌, ℕ, zero, suc, ◌+◌, ◌<◌, ◌≤◌, ◌⊎◌, Bool, true, false, ◌&&◌, List, [], ◌∷◌, ◌++◌, length, replicate, Option, Some, None, refl, sym, ap, subst, ◌∙◌, inl, inr, arith, append_assoc, append-nil, length-append}
+use Rattle.std.proofs.Common.{◌≡◌, ℕ, ◌+◌, ◌<◌, ◌⊎◌, Bool, true, false, List, [], ◌∷◌, ◌++◌, length, Some, refl, sym, ap, subst, ◌∙◌, inl, inr, arith, append_assoc, append-nil, length-append}
 use Rattle.std.specs.Prelude.{nat_eq}
 use Rattle.std.specs.List.{list_all}
-use Rattle.std.proofs.lemmas.Bool.{cases_Bool, both_ways, and_parts, and_from, eq-eqb, eqb-true}
+use Rattle.std.proofs.lemmas.Bool.{both_ways, eq-eqb}
 use Rattle.std.proofs.lemmas.List.Sums.{list_all-from_AllPass}
 use Rattle.object_values.specs.declared.nodes.ParamValue.{ParamValue}
 use Rattle.object_values.specs.declared.expressions.ExprStep.{ExprStep}
@@ -11,11 +11,10 @@ use Rattle.meaning_texts.specs.Classes.{is_key_byte, is_value_byte, IsId, IsKey,
 use Rattle.meaning_texts.specs.Expressions.{Items, no_more, space, param_value, param_alone, type_step, pick_step}
 use Rattle.request_parser.specs.declared.bytes.Wanted.{Wanted}
 use Rattle.request_parser.specs.declared.bytes.Wanted.TheVariants as wanted
-use Rattle.request_parser.specs.declared.items.Item.{Item}
 use Rattle.request_parser.specs.declared.items.Item.TheVariants.{Param, Step}
-use Rattle.request_parser.specs.Runs.{has, class_of, IsOf, next, IsPast, TakesRun, TakesWord, HaltsInWord}
-use Rattle.request_parser.specs.Reads.{HaltsAt, AreItems, AreItemsBehind, HasValue, HasNoValue, TakesValue, ReadsItem, AreRead}
-use Rattle.request_parser.proofs.RunLemmas.{past_alike, next_behind, SameRun, same_run, word_parts}
+use Rattle.request_parser.specs.Runs.{has, class_of, IsOf, next, IsPast, TakesWord, HaltsInWord}
+use Rattle.request_parser.specs.Reads.{HaltsAt, AreItems, AreItemsBehind, HasValue, TakesValue, ReadsItem}
+use Rattle.request_parser.proofs.RunLemmas.{past_alike, next_behind, SameRun, same_run}
 
 -- ---- halts
 

@@ -1,10 +1,10 @@
 -- Runs of a class, and the words that they are.
-use Rattle.std.proofs.Common.{◌≡◌, ◌↔◌, IsTrue, ℕ, zero, suc, ◌+◌, ◌<◌, ◌≤◌, Bool, true, false, not, ◌&&◌, List, [], ◌∷◌, ◌++◌, length, take, drop, get_or, position, Option, Some, None, refl, sym, ap, subst, ◌∙◌, inl, inr, arith, append-nil, take-append-drop}
-use Rattle.std.specs.Prelude.{nat_eq, nat_lt}
+use Rattle.std.proofs.Common.{◌≡◌, ◌↔◌, IsTrue, ℕ, zero, suc, ◌<◌, ◌≤◌, Bool, true, false, not, List, [], ◌∷◌, ◌++◌, length, take, drop, get_or, position, Option, Some, None, refl, sym, ap, subst, ◌∙◌, inl, inr, arith, append-nil, take-append-drop}
+use Rattle.std.specs.Prelude.{nat_lt}
 use Rattle.std.specs.List.{list_all, position_or_len}
 use Rattle.std.proofs.lemmas.Bool.{cases_Bool, cases_lt, both_ways, and_parts, and_from, ltb-false, not-false}
 use Rattle.std.proofs.lemmas.List.Sums.{list_all-from_AllPass, AllPass-from_list_all, fails_before_first}
-use Rattle.meaning_texts.specs.Classes.{is_letter, is_name_byte, is_key_byte, begins_with_letter, IsName, IsId, IsKey}
+use Rattle.meaning_texts.specs.Classes.{is_name_byte, is_key_byte, begins_with_letter}
 use Rattle.meaning_texts.specs.Limits.{word_limit}
 use Rattle.request_parser.specs.declared.bytes.Wanted.{Wanted}
 use Rattle.request_parser.specs.declared.bytes.Wanted.TheVariants as wanted

@@ -1,8 +1,8 @@
 -- Whole texts: what is read of them, and where their fault is.
-use Rattle.std.proofs.Common.{◌≡◌, ℕ, zero, suc, ◌+◌, ◌-◌, ◌<◌, ◌≤◌, Bool, true, false, List, [], ◌∷◌, ◌++◌, length, min, take, drop, replicate, Some, None, refl, sym, ap, subst, ◌∙◌, inl, inr, arith, append_assoc, append-nil, length-append, length-take, length-drop, take-append-drop}
+use Rattle.std.proofs.Common.{◌≡◌, ℕ, zero, suc, ◌+◌, ◌-◌, ◌<◌, ◌≤◌, true, false, List, [], ◌∷◌, ◌++◌, length, min, take, drop, replicate, Some, refl, sym, ap, subst, ◌∙◌, inl, inr, arith, append_assoc, append-nil, length-append, length-take, length-drop, take-append-drop}
 use Rattle.std.specs.Prelude.{nat_eq}
 use Rattle.std.specs.List.{list_all}
-use Rattle.std.proofs.lemmas.Bool.{cases_Bool, cases_lt, both_ways, and_parts, and_from, eqb-true}
+use Rattle.std.proofs.lemmas.Bool.{cases_Bool, cases_lt, both_ways, and_parts, eqb-true}
 use Rattle.std.proofs.lemmas.List.{take_all, take-append-le}
 use Rattle.std.proofs.lemmas.List.Sums.{list_all-from_AllPass}
 use Rattle.object_values.specs.declared.nodes.ParamValue.{ParamValue}
@@ -16,7 +16,7 @@ use Rattle.request_parser.specs.declared.bytes.Wanted.TheVariants as wanted
 use Rattle.request_parser.specs.Runs.{has, next, IsPast, TakesRun, TakesWord, HaltsInWord}
 use Rattle.request_parser.specs.Reads.{HaltsAt, AreItems, AreRead, IsText, IsWrittenAs}
 use Rattle.request_parser.proofs.RunLemmas.{past_alike, SameRun, same_run}
-use Rattle.request_parser.proofs.ReadLemmas.{halts_behind, halts_in_word, BeginsWithWord, items_past}
+use Rattle.request_parser.proofs.ReadLemmas.{halts_behind, halts_in_word, items_past}
 
 -- ---- a name and items
 

@@ -1,5 +1,5 @@
 -- The spelling of an expression reads back.
-use Rattle.std.proofs.Common.{◌≡◌, ℕ, List, length, sym, subst}
+use Rattle.std.proofs.Common.{◌≡◌, ℕ, List, sym, subst}
 use Rattle.object_values.specs.declared.expressions.Expression.{Expression}
 use Rattle.meaning_texts.specs.Expressions.{ExpressionText, spelling}
 use Rattle.meaning_texts.proofs.Lemmas.{spells, one_expression}

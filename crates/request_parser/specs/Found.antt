@@ -1,7 +1,5 @@
 -- The items that were found so far.
-use Rattle.std.specs.Prelude.{◌≡◌, List, [], ◌∷◌, ◌++◌}
-use Rattle.object_values.specs.declared.nodes.ParamValue.{ParamValue}
-use Rattle.object_values.specs.declared.expressions.ExprStep.{ExprStep}
+use Rattle.std.specs.Prelude.{◌≡◌, [], ◌∷◌, ◌++◌}
 use Rattle.request_parser.specs.Kept.{KeepsOne}
 use Rattle.request_parser.specs.declared.items.Item.{Item}
 use Rattle.request_parser.specs.declared.items.Item.TheVariants.{Param, Step}

@@ -1,5 +1,5 @@
 -- What is read of an expression, item by item, and where a reading halts.
-use Rattle.std.specs.Prelude.{◌≡◌, ℕ, ◌<◌, ◌⊎◌, List, [], ◌∷◌, ◌++◌, length, Option, Some, ⊤}
+use Rattle.std.specs.Prelude.{◌≡◌, ℕ, ◌<◌, ◌⊎◌, List, [], ◌∷◌, ◌++◌, length, Some, ⊤}
 use Rattle.object_values.specs.declared.nodes.ParamValue.{ParamValue}
 use Rattle.object_values.specs.declared.expressions.ExprStep.{ExprStep}
 use Rattle.object_values.specs.declared.expressions.Expression.{Expression}
@@ -13,7 +13,8 @@ use Rattle.request_parser.specs.declared.items.Item.TheVariants.{Param, Step}
 
 -- ---- halts
 
--- The bytes before the place go on to a text of this kind, and with what comes there they don't.
+-- The bytes before the place go on to a text of this kind, and with what comes there they don't, or
+-- the text ends there and is none.
 pub record HaltsAt (is_text : List ℕ → Type 0) (text place : List ℕ) : Type 0 where
   pub done : List ℕ
   pub more : List ℕ
@@ -77,7 +78,9 @@ pub record AreRead (text rest : List ℕ) (kept : List ParamValue) (steps : List
 
 -- a text of the grammar, of any length
 abbrev pub IsText : List ℕ → Type 0
-IsText text = (source : List ℕ) × (params : List ParamValue) × (steps : List ExprStep) × Written text source params steps
+IsText text =
+    (source : List ℕ) × (params : List ParamValue) × (steps : List ExprStep)
+    × Written text source params steps
 
 -- The expression of a text of any length.
 pub record IsWrittenAs (text : List ℕ) (e : Expression) : Type 0 where

@@ -68,13 +68,15 @@ pub record TakesWord (wanted : Wanted) (word text rest : List ℕ) : Type 0 wher
 
 -- ---- where no word is
 
--- The bytes before the place go on to a word of the class, and with what comes there no word is read, taken at its longest.
+-- The bytes before the place go on to a word of the class, and with what comes there they are no
+-- word, taken at its longest, and a rest.
 pub record HaltsInWord (wanted : Wanted) (text place : List ℕ) : Type 0 where
   pub done : List ℕ
   pub more : List ℕ
   pub is : text ≡ done ++ place
   pub goes : IsOf wanted (done ++ more)
-  pub stops : (behind word rest : List ℕ) → next behind ≡ next place → done ++ behind ≡ word ++ rest → IsOf wanted word → IsPast (has (class_of wanted)) rest → ⊥
+  pub stops : (behind word rest : List ℕ) → next behind ≡ next place
+      → done ++ behind ≡ word ++ rest → IsOf wanted word → IsPast (has (class_of wanted)) rest → ⊥
 
 -- what a word that wasn't read says of the place; nothing at want of memory
 abbrev pub InWord : Stop → Wanted → List ℕ → List ℕ → Type 0

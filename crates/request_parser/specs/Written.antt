@@ -6,4 +6,6 @@ use Rattle.meaning_texts.specs.Expressions.{IsCanonical, ExpressionText}
 
 -- The text of a canonical expression is a text of it and of no other, where it isn't too long.
 abbrev pub ReadsBackAlone : Expression → List ℕ → Type 0
-ReadsBackAlone e text = IsCanonical e → length text ≤ expression_limit → (other : Expression) → ExpressionText text other ↔ (other ≡ e)
+ReadsBackAlone e text =
+    IsCanonical e → length text ≤ expression_limit → (other : Expression)
+    → ExpressionText text other ↔ (other ≡ e)

@@ -1,5 +1,5 @@
 // The items of an expression: its parameters and its steps.
-ghost use Rattle.std.specs.Prelude.{◌≡◌, ◌∷◌, [], Some, IfOk, IfErr, OnOk};
+ghost use Rattle.std.specs.Prelude.{◌≡◌, ◌≢◌, ◌∷◌, [], Some, IfOk, IfErr, OnOk};
 ghost use Rattle.request_parser.specs.Runs.{next};
 ghost use Rattle.request_parser.specs.Reads.{AreItems, AreItemsBehind, HaltsIn, TakesValue, ReadsItem, AreRead};
 ghost use Rattle.request_parser.specs.Found.{Puts, IsEmpty};
@@ -85,8 +85,8 @@ impl<'t> Cursor<'t> {
 
     // The item that comes next.
     fn item(&mut self) -> Result<Item, Stop>
-        requires no_space { next self.old ≡ Some 32 → ⊥ }
-        requires more { self.old ≡ [] → ⊥ }
+        requires no_space { next self.old ≢ Some 32 }
+        requires more { self.old ≢ [] }
         ensures ok { IfOk result (λ item. ReadsItem item self.old self.new) }
         ensures err { IfErr result (HaltsIn AreItems self.old self.new) }
     {

@@ -2,7 +2,6 @@
 use object_values::{Bytes, Memory};
 use request_parser::{Line, Lines, read_lines, write_expression};
 use std::alloc::Global;
-use std::test::Fail;
 
 // A list, and of each line that isn't passed over its number and how its expression is written; nothing for a bad one.
 type Row = (&'static [u8], &'static [(u64, &'static [u8])]);
@@ -29,16 +28,21 @@ fn is_line(alloc: Global, line: &Line, expected: (u64, &[u8])) -> Result<bool, M
     }
 }
 
-fn are_lines(alloc: Global, text: &[u8], expected: &[(u64, &[u8])]) -> Result<bool, Memory> {
-    let Lines::These(lines) = read_lines(alloc, text)? else {
-        return Ok(false);
-    };
-    for (line, row) in lines.as_slice().iter().zip(expected) {
+fn are_lines(alloc: Global, lines: &[Line], expected: &[(u64, &[u8])]) -> Result<bool, Memory> {
+    for (line, row) in lines.iter().zip(expected) {
         if !is_line(alloc, line, *row)? {
             return Ok(false);
         }
     }
     Ok(lines.len() == expected.len())
+}
+
+// Whether the list says these lines.
+fn says(alloc: Global, text: &[u8], expected: &[(u64, &[u8])]) -> Result<bool, Memory> {
+    match read_lines(alloc, text)? {
+        Lines::These(lines) => are_lines(alloc, lines.as_slice(), expected),
+        Lines::TooMany => Ok(false),
+    }
 }
 
 // So many lines `a`, behind one that is passed over.
@@ -50,9 +54,10 @@ fn many(alloc: Global, count: usize) -> Result<Bytes, Memory> {
     Ok(text)
 }
 
-// How many lines a list has; none where there are too many.
-fn count(alloc: Global, text: &[u8]) -> Result<Option<usize>, Memory> {
-    match read_lines(alloc, text)? {
+// How many lines a list of so many has; none where there are too many.
+fn count_of_many(alloc: Global, count: usize) -> Result<Option<usize>, Memory> {
+    let text = many(alloc, count)?;
+    match read_lines(alloc, text.as_slice())? {
         Lines::These(lines) => Ok(Some(lines.len())),
         Lines::TooMany => Ok(None),
     }
@@ -61,15 +66,12 @@ fn count(alloc: Global, text: &[u8]) -> Result<Option<usize>, Memory> {
 #[test]
 fn lines_are_numbered_and_read(rt: HostRuntime) {
     for (text, expected) in ROWS {
-        assert!(rt; are_lines(rt.alloc(), text, expected) == Ok(true));
+        assert!(rt; says(rt.alloc(), text, expected) == Ok(true));
     }
 }
 
 #[test]
-fn a_list_has_10000_lines(rt: HostRuntime) -> Result<(), Fail> {
-    let most = many(rt.alloc(), 10_000)?;
-    assert!(rt; count(rt.alloc(), most.as_slice()) == Ok(Some(10_000)));
-    let more = many(rt.alloc(), 10_001)?;
-    assert!(rt; count(rt.alloc(), more.as_slice()) == Ok(None));
-    Ok(())
+fn a_list_has_10000_lines(rt: HostRuntime) {
+    assert!(rt; count_of_many(rt.alloc(), 10_000) == Ok(Some(10_000)));
+    assert!(rt; count_of_many(rt.alloc(), 10_001) == Ok(None));
 }

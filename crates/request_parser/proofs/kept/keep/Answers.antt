@@ -1,6 +1,4 @@
-use Rattle.std.proofs.Common.{◌≡◌, true, false, sym, subst}
-use Rattle.std.specs.List.{list_any}
-use Rattle.meaning_texts.specs.Reading.{same_param}
+use Rattle.std.proofs.Common.{sym}
 use Rattle.request_parser.specs.Kept.{IsPlaceOf}
 use Rattle.request_parser.proofs.KeptLemmas.{keeps_double, keeps_new}
 use Rattle.request_parser.proofs.kept.keep.Goals as goal

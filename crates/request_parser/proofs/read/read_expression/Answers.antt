@@ -1,4 +1,4 @@
-use Rattle.std.proofs.Common.{take, subst}
+use Rattle.std.proofs.Common.{subst}
 use Rattle.request_parser.specs.Reads.{Halts, HaltsAt, IsText, IsWrittenAs}
 use Rattle.request_parser.proofs.TextLemmas.{first_read, fault_first}
 use Rattle.request_parser.proofs.read.read_expression.Goals as goal

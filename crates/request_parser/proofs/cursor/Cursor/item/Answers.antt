@@ -1,4 +1,4 @@
-use Rattle.std.proofs.Common.{◌≡◌, ◌∷◌, List, ℕ, ap, sym, ◌∙◌, subst}
+use Rattle.std.proofs.Common.{◌≡◌, ap, sym, ◌∙◌, subst}
 use Rattle.request_parser.specs.Runs.{next}
 use Rattle.request_parser.specs.Reads.{HaltsAt, AreItems}
 use Rattle.request_parser.proofs.ReadLemmas.{no_item}

@@ -1,6 +1,6 @@
-use Rattle.std.proofs.Common.{◌≡◌, ◌-◌, ◌<◌, List, ℕ, length, take, drop, sym, subst, ◌∙◌, arith, length-drop}
+use Rattle.std.proofs.Common.{◌≡◌, ◌-◌, length, take, drop, sym, ◌∙◌, arith, length-drop}
 use Rattle.std.proofs.lemmas.List.{take_all}
-use Rattle.request_parser.specs.Runs.{has, class_of, begins, TakesRun, TakesWord, HaltsInWord}
+use Rattle.request_parser.specs.Runs.{has, class_of, TakesRun}
 use Rattle.request_parser.proofs.RunLemmas.{no_word, a_word, not_short, too_long}
 use Rattle.request_parser.proofs.cursor.Cursor.word.Goals as goal
 
