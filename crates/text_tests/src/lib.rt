@@ -1,6 +1,8 @@
-//! Worked rows of bytes, sources, names, numbers, escapes, fields, lines, expressions and lists of references. It holds tests alone.
+//! Worked rows of bytes, sources, names, numbers, escapes, fields, lines, expressions, lists of references, commands and replies. It holds tests alone.
 #![tactic(auto)]
 
+#[cfg(test)]
+mod commands;
 #[cfg(test)]
 mod escapes;
 #[cfg(test)]
@@ -15,6 +17,8 @@ mod names;
 mod numbers;
 #[cfg(test)]
 mod references;
+#[cfg(test)]
+mod replies;
 #[cfg(test)]
 mod seqs;
 #[cfg(test)]
