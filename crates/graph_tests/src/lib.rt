@@ -6,6 +6,8 @@ mod checks;
 #[cfg(test)]
 mod labels;
 #[cfg(test)]
+mod nodes;
+#[cfg(test)]
 mod paths;
 #[cfg(test)]
 mod refused;

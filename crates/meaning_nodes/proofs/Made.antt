@@ -39,7 +39,7 @@ step_makes g a k to m =
     ∙ cond-true (is_a g a m.taken) (type_named g m.maker.to) None (so_is_a g a m.taken m.fits) ∙ m.makes
 
 -- the type at the end of a path
-path_type : (g : Graph) (p : List ℕ) (a b : ℕ) → Path g a b p → (c : ℕ) × (type_after g (Some a) (map Maker p) ≡ Some c) × IsA g c b
+pub path_type : (g : Graph) (p : List ℕ) (a b : ℕ) → Path g a b p → (c : ℕ) × (type_after g (Some a) (map Maker p) ≡ Some c) × IsA g c b
 path_type g [] a b w = (a, refl, w)
 path_type g (k ∷ p) a b w = let i = path_type g p w.0 b w.2 in (i.0, ap (λ o. type_after g o (map Maker p)) (step_makes g a k w.0 w.1) ∙ i.1, i.2)
 

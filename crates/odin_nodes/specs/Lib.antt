@@ -1,1 +1,4 @@
 pub mod Inheriting
+pub mod Words
+pub mod Refusals
+pub mod Making

@@ -1,0 +1,21 @@
+-- A node that is made step by step.
+use Rattle.std.specs.Prelude.{◌≡◌, [], Some}
+use Rattle.object_values.specs.declared.nodes.Node.{Node}
+use Rattle.object_values.specs.declared.expressions.Expression.{Expression}
+use Rattle.meaning_graph.specs.Graphs.{Graph}
+use Rattle.meaning_nodes.specs.Nodes.{reached_type}
+use Rattle.meaning_nodes.specs.NodeOf.{NodeAnswer, is_node}
+use Rattle.odin_nodes.specs.declared.making.Reached.{Reached}
+
+-- the source of an expression with its parameters
+abbrev pub bare : Expression → Node
+bare e = record { source = e.source; params = e.params; steps = [] }
+
+-- the type is the one to which the steps lead
+abbrev pub IsTyped : Graph → Reached → Type 0
+IsTyped g reached = reached_type g reached.node ≡ Some reached.at
+
+-- The node is what came of a step, with the type to which its steps lead.
+pub record IsMade (g : Graph) (answer : NodeAnswer) (reached : Reached) : Type 0 where
+  pub node : answer ≡ is_node reached.node
+  pub typed : IsTyped g reached

@@ -1,0 +1,197 @@
+// The node of an expression, made step by step.
+ghost use Rattle.std.specs.Prelude.{◌≡◌, ◌^◌, ◌<◌, ◌++◌, Some, length, map, IfOk, IfErr, OnOk};
+ghost use Rattle.std.specs.Option.{option_copied};
+ghost use Rattle.meaning_texts.specs.Expressions.{IsCanonical};
+ghost use Rattle.meaning_graph.specs.Graphs.{types};
+ghost use Rattle.meaning_nodes.specs.Nodes.{Fits, onward};
+ghost use Rattle.meaning_nodes.specs.NodeOf.{is_node, node_of, node_or_no_path, step_on, steps_on, unknown_in};
+ghost use Rattle.path_planner.specs.Ends.{plans_of};
+ghost use Rattle.odin_nodes.specs.Making.{bare, IsTyped, IsMade};
+ghost use Rattle.odin_nodes.specs.Refusals.{IsRefusal, IsNodeRefusal};
+
+use crate::fault::NodeFault;
+use crate::picks::picked_type;
+use crate::types::type_along;
+use object_values::{
+    Bytes, Copied, ExprStep, Expression, Memory, Node, ParamValue, Seq, Step, copy_two, when_done,
+};
+use path_planner::Plans;
+use std::alloc::Global;
+use type_graph::Graph;
+
+/// The node of an expression, by the paths of its graph. A step to a type goes along the chosen path from the type that is reached.
+pub fn node_of(
+    alloc: Global,
+    graph: &Graph,
+    plans: &Plans,
+    expression: &Expression,
+) -> Result<Node, NodeFault>
+    requires made { plans.now ≡ plans_of graph.now }
+    requires few { length expression.now.steps < 2 ^ 32 }
+    ensures ok { IfOk result (λ node. node_of graph.now expression.now ≡ is_node node) }
+    ensures fits { IfOk result (λ node. IsCanonical expression.now → Fits graph.now node) }
+    ensures err { IfErr result (IsNodeRefusal graph.now expression.now) }
+{
+    if let Some(unknown) = unknown_param(graph, expression.params.as_slice()) {
+        return Err(NodeFault::UnknownParam(unknown.param.copy(alloc)?));
+    }
+    let mut reached = Reached::start(alloc, graph, expression)?;
+    let done = reached.add_steps(alloc, graph, plans, expression.steps.as_slice());
+    when_done(done, reached.into_node())
+}
+
+// The first parameter that the graph doesn't declare.
+fn unknown_param<'a>(graph: &Graph, params: &'a [ParamValue]) -> Option<&'a ParamValue>
+    ensures { option_copied result ≡ unknown_in graph.now params.now }
+{
+    params
+        .iter()
+        .find(|param| !graph.has_param(param.param.as_slice()))
+}
+
+/// A node, and the type to which its steps lead.
+struct Reached {
+    node: Node,
+    at: u32,
+}
+
+impl Drop for Reached {
+    fn drop(self) {
+        let Reached { node, at: _ } = self;
+        drop(node);
+    }
+}
+
+impl Reached {
+    // The source of an expression with its parameters.
+    fn start(alloc: Global, graph: &Graph, expression: &Expression) -> Result<Self, Memory>
+        ensures node { IfOk result (λ reached. reached.node ≡ bare expression.now) }
+        ensures typed { IfOk result (IsTyped graph.now) }
+    {
+        let (source, params) = copy_two(alloc, &expression.source, &expression.params)?;
+        let at = graph.source_type(source.as_slice());
+        let steps = Seq::new(alloc);
+        Ok(Reached {
+            node: Node {
+                source,
+                params,
+                steps,
+            },
+            at,
+        })
+    }
+
+    fn into_node(self) -> Node
+        ensures { result ≡ self.node }
+    {
+        let Reached { node, at: _ } = self;
+        node
+    }
+
+    // All steps, one after another.
+    fn add_steps(
+        &mut self,
+        alloc: Global,
+        graph: &Graph,
+        plans: &Plans,
+        steps: &[ExprStep],
+    ) -> Result<(), NodeFault>
+        requires made { plans.now ≡ plans_of graph.now }
+        requires few { length steps.now < 2 ^ 32 }
+        requires typed { IsTyped graph.now self.old }
+        ensures ok { let answer = steps_on graph.now 1 (is_node self.old.node) steps.now in
+            OnOk result (answer ≡ is_node self.new.node) }
+        ensures err { let answer = steps_on graph.now 1 (is_node self.old.node) steps.now in
+            IfErr result (IsRefusal answer) }
+    {
+        for (before, step) in steps.iter().enumerate() {
+            self.add_step(alloc, graph, plans, before as u32 + 1, step)?;
+        }
+        Ok(())
+    }
+
+    // The step of this number.
+    fn add_step(
+        &mut self,
+        alloc: Global,
+        graph: &Graph,
+        plans: &Plans,
+        number: u32,
+        step: &ExprStep,
+    ) -> Result<(), NodeFault>
+        requires made { plans.now ≡ plans_of graph.now }
+        requires typed { IsTyped graph.now self.old }
+        ensures ok { let answer = step_on graph.now self.old.node number step.now in
+            OnOk result (IsMade graph.now answer self.new) }
+        ensures err { let answer = step_on graph.now self.old.node number step.now in
+            IfErr result (IsRefusal answer) }
+    {
+        match step {
+            ExprStep::To(name) => match graph.type_named(name.as_slice()) {
+                Some(to) => self.go_to(alloc, graph, plans, number, to),
+                None => Err(NodeFault::UnknownType(name.copy(alloc)?)),
+            },
+            ExprStep::Pick(key) => self.pick(alloc, graph, number, key),
+        }
+    }
+
+    // Along the chosen path to a type.
+    fn go_to(
+        &mut self,
+        alloc: Global,
+        graph: &Graph,
+        plans: &Plans,
+        number: u32,
+        to: u32,
+    ) -> Result<(), NodeFault>
+        requires made { plans.now ≡ plans_of graph.now }
+        requires typed { IsTyped graph.now self.old }
+        requires to { to < length (types graph.now) }
+        ensures ok { let answer = node_or_no_path number (onward graph.now self.old.node to) in
+            OnOk result (IsMade graph.now answer self.new) }
+        ensures err { let answer = node_or_no_path number (onward graph.now self.old.node to) in
+            IfErr result (IsRefusal answer) }
+    {
+        let Some(path) = plans.plan(alloc, graph, self.at, to)? else {
+            return Err(NodeFault::NoPath(number));
+        };
+        let Some(at) = type_along(graph, self.at, path.as_slice()) else {
+            // Each maker of a path takes what the one before it makes.
+            unreachable!();
+        };
+        put_makers(path.as_slice(), &mut self.node.steps)?;
+        self.at = at;
+        Ok(())
+    }
+
+    // To what a key picks.
+    fn pick(
+        &mut self,
+        alloc: Global,
+        graph: &Graph,
+        number: u32,
+        key: &Bytes,
+    ) -> Result<(), NodeFault>
+        requires typed { IsTyped graph.now self.old }
+        ensures ok { let answer = step_on graph.now self.old.node number (ExprStep.Pick key.now) in
+            OnOk result (IsMade graph.now answer self.new) }
+        ensures err { let answer = step_on graph.now self.old.node number (ExprStep.Pick key.now) in
+            IfErr result (IsRefusal answer) }
+    {
+        let Some(at) = picked_type(graph, self.at, key.as_slice()) else {
+            return Err(NodeFault::NoPath(number));
+        };
+        self.node.steps.push(Step::Pick(key.copy(alloc)?))?;
+        self.at = at;
+        Ok(())
+    }
+}
+
+fn put_makers(path: &[u32], steps: &mut Seq<Step>) -> Result<(), Memory>
+    ensures { OnOk result (steps.new ≡ steps.old ++ map Step.Maker path.now) }
+{
+    for maker in path {
+        steps.push(Step::Maker(*maker))?;
+    }
+    Ok(())
+}
