@@ -26,7 +26,7 @@ use Rattle.meaning_tasks.specs.Needs.{Results, Known, values_of, where_valued, e
 use Rattle.meaning_tasks.specs.Calls.{all_valued, node_parts, call_of, CallOf}
 use Rattle.meaning_tasks.specs.Settle.{Texts, outcome_own, own_of, worst_of, messages_of, settled, settle, Settles}
 use Rattle.meaning_tasks.proofs.Lemmas.{names_sorted}
-use Rattle.plain_derive.specs.Lines.{line_task}
+use Rattle.plain_derive.specs.Lines.{line_task, used_params}
 use Rattle.plain_derive.specs.Built.{IsBuiltGraph}
 use Rattle.plain_derive.specs.Seen.{FitsCall, IsOutcomeFor, HasOneOutput}
 use Rattle.plain_derive.proofs.ToolNodes.{IsLineTask, of_source, of_tool, IsOnLine, is_source, has_tool, on_line, line_of, tool_of_steps}
@@ -105,14 +105,14 @@ tool_ranked_are n m tool known = ap (λ l. base_of n ∷ l) (by_known (known (ba
 
 -- the call on the base
 abbrev pub line_call_of : Graph → Node → MakerDecl → ToolDecl → Known → Call
-line_call_of g n m tool known = record { tool = m.name; version = tool.version; words = tool.words; params = []; parts = node_parts g known 0 (base_of n); outs = m.to ∷ [] }
+line_call_of g n m tool known = record { tool = m.name; version = tool.version; words = tool.words; params = used_params tool.uses n.params; parts = node_parts g known 0 (base_of n); outs = m.to ∷ [] }
 
 pub tool_call_is : (g : Graph) (n : Node) (m : MakerDecl) (tool : ToolDecl) (known : Known)
     → call_of g (tooled (line_task n m tool)) known [] ≡ cond (all_valued known (base_of n ∷ elements_of (known (base_of n)))) (Some (line_call_of g n m tool known)) None
 tool_call_is g n m tool known =
     let ranked = tool_ranked_are n m tool known in
     let parts = append-nil (node_parts g known 0 (base_of n)) in
-    λ i. cond (all_valued known (ranked i)) (Some (record { tool = m.name; version = tool.version; words = tool.words; params = []; parts = parts i; outs = m.to ∷ [] })) None
+    λ i. cond (all_valued known (ranked i)) (Some (record { tool = m.name; version = tool.version; words = tool.words; params = used_params tool.uses n.params; parts = parts i; outs = m.to ∷ [] })) None
 
 -- what the node itself gives
 pub tool_own_is : (n : Node) (m : MakerDecl) (tool : ToolDecl) (label : Text) (texts : Texts) (known : Known) (o : Option Outcome) → own_of label texts (tooled (line_task n m tool)) known o ≡ outcome_own label false [] o
@@ -162,14 +162,14 @@ module _ (g : Graph) (n : Node) (seen : Results) (built : IsBuiltGraph g) (fits 
   -- The call on the base, by its fields.
   pub tool_called : (m : MakerDecl) (tool : ToolDecl) (base : Node) (call : Call) → task_of g n ≡ tooled (line_task n m tool) → base ≡ base_of n
       → Some call.parts ≡ cond (all_valued (values_of seen) (base ∷ elements_of (values_of seen base))) (Some (node_parts g (values_of seen) 0 base)) None
-      → call.tool ≡ m.name → call.version ≡ tool.version → call.words ≡ tool.words → call.params ≡ [] → call.outs ≡ m.to ∷ [] → CallOf g n seen (Some call)
+      → call.tool ≡ m.name → call.version ≡ tool.version → call.words ≡ tool.words → call.params ≡ used_params tool.uses n.params → call.outs ≡ m.to ∷ [] → CallOf g n seen (Some call)
   tool_called m tool base call task base_is e name version words params outs =
       let parts : Some call.parts ≡ cond base_valued (Some (node_parts g (values_of seen) 0 (base_of n))) None =
       e ∙ ap (λ b. cond (all_valued (values_of seen) (b ∷ elements_of (values_of seen b))) (Some (node_parts g (values_of seen) 0 b)) None) base_is in
-      let fields : Some call ≡ Some (record { tool = m.name; version = tool.version; words = tool.words; params = []; parts = call.parts; outs = m.to ∷ [] }) =
+      let fields : Some call ≡ Some (record { tool = m.name; version = tool.version; words = tool.words; params = used_params tool.uses n.params; parts = call.parts; outs = m.to ∷ [] }) =
       λ i. Some (record { tool = name i; version = version i; words = words i; params = params i; parts = call.parts; outs = outs i }) in
       call_line g n (line_of g n built fits) seen (Some call)
-      (fields ∙ some_parts base_valued _ call.parts parts (λ p. record { tool = m.name; version = tool.version; words = tool.words; params = []; parts = p; outs = m.to ∷ [] }) ∙ sym (call_is m tool task))
+      (fields ∙ some_parts base_valued _ call.parts parts (λ p. record { tool = m.name; version = tool.version; words = tool.words; params = used_params tool.uses n.params; parts = p; outs = m.to ∷ [] }) ∙ sym (call_is m tool task))
 
   -- ---- settling
 

@@ -1,8 +1,6 @@
 -- In a graph that is built, a node that fits is a source or runs a tool on its base alone.
-use Rattle.std.proofs.Common.{◌≡◌, ℕ, zero, suc, true, false, List, [], ◌∷◌, inl, inr, sym, ap, ◌∙◌, subst, refl, is_some, cond, slice_get, filter, map}
-use Rattle.std.specs.Prelude.{Option, Some, None, option_map, option_and_then, bytes_eq}
-use Rattle.std.specs.List.{list_any}
-use Rattle.object_values.specs.declared.nodes.ParamValue.{ParamValue}
+use Rattle.std.proofs.Common.{◌≡◌, ℕ, zero, suc, true, false, List, [], ◌∷◌, inl, inr, sym, ap, ◌∙◌, subst, refl, is_some, cond, slice_get, map}
+use Rattle.std.specs.Prelude.{Option, Some, None, option_map, option_and_then}
 use Rattle.object_values.specs.declared.nodes.Step.{Step}
 use Rattle.object_values.specs.declared.nodes.Step.TheVariants.{Maker, Pick}
 use Rattle.object_values.specs.declared.nodes.Node.{Node}
@@ -23,7 +21,7 @@ use Rattle.meaning_nodes.specs.Nodes.{Fits, base_of, last_step, step_type, picke
 use Rattle.meaning_nodes.proofs.Lemmas.{base_fits}
 use Rattle.meaning_tasks.specs.Tasks.{Task, given, tooled, parts_of, is_compound, extra_node, scan_node, tool_task, make_task, maker_task, step_task, task_of}
 use Rattle.plain_derive.specs.Built.{IsOfOneInput, IsBuiltMake, IsBuilt, IsBuiltGraph}
-use Rattle.plain_derive.specs.Lines.{line_task}
+use Rattle.plain_derive.specs.Lines.{line_task, used_params}
 
 -- what stands at a place is one of the list
 in_got : {A : Type 0} (xs : List A) (i : ℕ) (x : A) → slice_get xs i ≡ Some x → IsIn x xs
@@ -99,22 +97,14 @@ last_found g n s b f e = let base = base_fits g n s f e in step_found g base.typ
 
 -- ---- tasks
 
-no_params : (uses : List Text) (params : List ParamValue) → uses ≡ [] → filter (λ (p : ParamValue). list_any (bytes_eq p.param) uses) params ≡ []
-no_params uses params e = ap (λ l. filter (λ (p : ParamValue). list_any (bytes_eq p.param) l) params) e ∙ none params
-  where
-    none : (params : List ParamValue) → filter (λ (p : ParamValue). list_any (bytes_eq p.param) []) params ≡ []
-    none [] = refl
-    none (p ∷ params) = none params
-
 line_tool : (g : Graph) (n : Node) (m : MakerDecl) (tool : ToolDecl) → IsBuiltGraph g → IsOfOneInput tool → tool_task g n m tool ≡ line_task n m tool
 line_tool g n m tool b plain =
-    let params = no_params tool.uses n.params plain.uses in
     let compound = none_compound g b m.to in
     λ i. record {
       base = base_of n;
       name = m.name;
       tool = tool;
-      params = params i;
+      params = used_params tool.uses n.params;
       extras = map (extra_node g n) (plain.extras i);
       root = n.source;
       scan = scan_node g n (plain.closure i);

@@ -1,4 +1,4 @@
--- The graphs that derivation is built for so far: all types are simple, and all makers are tools with one input.
+-- The graphs that derivation is built for so far: all types are simple, and all makers are tools with one input. A tool may use parameters.
 use Rattle.std.specs.Prelude.{◌≡◌, ⊤, [], None, All}
 use Rattle.object_values.specs.declared.graph.Kind.TheVariants.{Simple}
 use Rattle.object_values.specs.declared.graph.ToolDecl.{ToolDecl}
@@ -8,9 +8,8 @@ use Rattle.object_values.specs.declared.graph.Decl.{Decl}
 use Rattle.object_values.specs.declared.graph.Decl.TheVariants.{ObjectType, Suffix, Param, Maker}
 use Rattle.meaning_graph.specs.Graphs.{Graph}
 
--- it takes nothing but its base
+-- its base is its one input
 pub record IsOfOneInput (tool : ToolDecl) : Type 0 where
-  pub uses : tool.uses ≡ []
   pub extras : tool.extras ≡ []
   pub closure : tool.closure ≡ None
 

@@ -11,6 +11,7 @@ ghost use Rattle.path_planner.specs.Ends.{plans_of};
 
 use crate::nodes::{base_of, last_tool};
 use crate::results::Results;
+use crate::used::used_params;
 use object_values::{Bytes, Call, CallPart, Copied, Memory, Node, Part, Seq, Value, View};
 use odin_nodes::label_of;
 use path_planner::Plans;
@@ -38,13 +39,14 @@ pub fn call_for<R: Results>(
     let Some(parts) = value_parts(alloc, graph, &base, seen)? else {
         return Ok(None);
     };
+    let params = used_params(alloc, node.params.as_slice(), tool.uses.as_slice())?;
     let mut outs = Seq::new(alloc);
     outs.push(maker.to.copy(alloc)?)?;
     Ok(Some(Call {
         tool: maker.name.copy(alloc)?,
         version: tool.version.copy(alloc)?,
         words: tool.words.copy(alloc)?,
-        params: Seq::new(alloc),
+        params,
         parts,
         outs,
     }))

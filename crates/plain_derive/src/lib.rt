@@ -15,6 +15,7 @@ mod nodes;
 mod results;
 mod running;
 mod settling;
+mod used;
 
 pub use calling::call_for;
 pub use derivation::derive_plain;
