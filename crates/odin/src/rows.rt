@@ -18,10 +18,13 @@ const THREE_WAYS: &[u8] =
 const C_UNITS: &[u8] =
     b"type hdr simple;\ntype c simple is hdr;\ntype sm simple;\ntype inc simple;\ntype o simple;\ntype exe simple;\ntype units list of c;\ntype objs list of o;\nsuffix .h hdr;\nsuffix .c c;\nsuffix .sm sm;\nparam debug;\ntool scan 1 from hdr to inc run \"scan\";\ntool cc 1 from c to o run \"cc\" uses debug closure inc;\nread rd from sm to units;\neach comp from units to objs;\ntool ld 1 from objs to exe run \"ld\";\n";
 
+const WITH_DEBUG: &[u8] =
+    b"type c simple;\ntype o simple;\nsuffix .c c;\nparam debug;\ntool cc 1 from c to o run \"cc\" uses debug;\n";
+
 // A graph, an input, the status, the output, and how many starts and ends of tools there were.
 type Row = (&'static [u8], &'static [u8], u8, &'static [u8], usize);
 
-const ROWS: [Row; 15] = [
+const ROWS: [Row; 16] = [
     (
         GRAPH,
         b"put a.c 4\nx=1\nask a.c:o\nask a.c:o\n",
@@ -97,11 +100,18 @@ const ROWS: [Row; 15] = [
         0,
     ),
     (
-        b"type c simple;\nparam p;",
+        b"param p;\ntype l list of text;",
         b"",
         2,
         b"graph: line 2: not yet\n",
         0,
+    ),
+    (
+        WITH_DEBUG,
+        b"put a.c 4\nx=1\nask a.c:o\n",
+        0,
+        b"put a.c 4\nobject ok simple 4\nx=1\n\nmessages 0\n",
+        2,
     ),
 ];
 

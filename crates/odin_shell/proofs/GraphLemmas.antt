@@ -5,7 +5,6 @@ use Rattle.std.proofs.lemmas.List.{take_all, take_more}
 use Rattle.std.proofs.lemmas.List.Elements.{All-append}
 use Rattle.std.proofs.lemmas.Option.{slice_get_read, slice_get_within}
 use Rattle.object_values.specs.declared.graph.Decl.{Decl}
-use Rattle.object_values.specs.declared.graph.Decl.TheVariants.{ObjectType, Suffix, Param, Maker}
 use Rattle.meaning_graph.specs.Graphs.{Text, Graph}
 use Rattle.dg_reader.specs.Files.{IsRead}
 use Rattle.plain_derive.specs.Built as derivation
@@ -41,15 +40,9 @@ first_within g number first = let less = slice_get_within g (number - 1) first.d
 
 -- ---- derivation
 
-derivable : (d : Decl) → IsServed d → derivation.IsBuilt d
-derivable (ObjectType t) served = served
-derivable (Suffix s) served = served
-derivable (Param id) served = absurd served
-derivable (Maker m) served = served
-
 -- derivation is built for a graph that a run is built for
 pub all_derivable : (g : Graph) → IsServedGraph g → derivation.IsBuiltGraph g
-all_derivable g served place d inside = derivable (get_or g place d) (served place d inside)
+all_derivable g served = served
 
 -- what is opened where a text is read: its graph, or the line that refuses it
 pub opened_one : (text : Text) (g : Graph) (line : Option Text) (found : Opened) → IsRead text g → MatchOption line (IsServedGraph g) (IsRefused (Some text)) → MatchOption line (found ≡ opened.Ready g) (λ l. found ≡ opened.Refused l) → IsOpened (Some text) found

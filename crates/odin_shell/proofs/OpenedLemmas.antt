@@ -53,14 +53,13 @@ none_first g number built first =
 abbrev Either : Type 0 → Type 0
 Either P = P ⊎ (P → ⊥)
 
-by_inputs : (tool : ToolDecl) (uses : List (List ℕ)) (extras : List Extra) (closure : Option (List ℕ)) → tool.uses ≡ uses → tool.extras ≡ extras → tool.closure ≡ closure → Either (IsOfOneInput tool)
-by_inputs tool [] [] None u e c = inl (record { uses = u; extras = e; closure = c })
-by_inputs tool (x ∷ xs) extras closure u e c = inr (λ one. let none = one.uses in cc)
-by_inputs tool [] (x ∷ xs) closure u e c = inr (λ one. let none = one.extras in cc)
-by_inputs tool [] [] (Some x) u e c = inr (λ one. let none = one.closure in cc)
+by_inputs : (tool : ToolDecl) (extras : List Extra) (closure : Option (List ℕ)) → tool.extras ≡ extras → tool.closure ≡ closure → Either (IsOfOneInput tool)
+by_inputs tool [] None e c = inl (record { extras = e; closure = c })
+by_inputs tool (x ∷ xs) closure e c = inr (λ one. let none = one.extras in cc)
+by_inputs tool [] (Some x) e c = inr (λ one. let none = one.closure in cc)
 
 make_built : (make : Make) → Either (IsServed (Maker (record { name = []; make = make; from = []; to = [] })))
-make_built (Tool tool) = by_inputs tool tool.uses tool.extras tool.closure refl refl refl
+make_built (Tool tool) = by_inputs tool tool.extras tool.closure refl refl
 make_built Read = inr (λ no. no)
 make_built Each = inr (λ no. no)
 make_built Pack = inr (λ no. no)
@@ -73,7 +72,7 @@ kind_built (Compound parts) = inr (λ e. cc)
 is_built : (d : Decl) → Either (IsServed d)
 is_built (ObjectType t) = kind_built t.kind
 is_built (Suffix s) = inl tt
-is_built (Param id) = inr (λ no. no)
+is_built (Param id) = inl tt
 is_built (Maker m) = make_built m.make
 
 abbrev Found : Graph → Type 0

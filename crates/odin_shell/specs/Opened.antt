@@ -2,7 +2,6 @@
 use Rattle.std.specs.Prelude.{◌≡◌, ◌≢◌, ℕ, ◌-◌, ◌<◌, [], ◌++◌, take, Option, Some, None, All, slice_get, codes}
 use Rattle.std.specs.Fmt.{decimal}
 use Rattle.object_values.specs.declared.graph.Decl.{Decl}
-use Rattle.object_values.specs.declared.graph.Decl.TheVariants.{ObjectType, Suffix, Param, Maker}
 use Rattle.object_values.specs.declared.graph.GraphFault.{GraphFault}
 use Rattle.object_values.specs.declared.graph.GraphFault.TheVariants.{UnknownType, DoubleName, SupertypeLoop, WrongKind, TooMany, UnknownParam}
 use Rattle.odin_outside.specs.Files.{Files, IsGiven}
@@ -40,12 +39,9 @@ fault_line Memory = []
 
 -- ---- graphs
 
--- A run is built for this declaration: derivation is, and it is no `param`, since no request can give one yet.
+-- A run is built for the declarations that derivation is built for.
 abbrev pub IsServed : Decl → Type 0
-IsServed (ObjectType t) = IsBuilt (ObjectType t)
-IsServed (Suffix s) = IsBuilt (Suffix s)
-IsServed (Param id) = ⊥
-IsServed (Maker m) = IsBuilt (Maker m)
+IsServed = IsBuilt
 
 abbrev pub IsServedGraph : Graph → Type 0
 IsServedGraph = All IsServed

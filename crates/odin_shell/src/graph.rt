@@ -96,11 +96,9 @@ fn is_built(declared: &Decl) -> bool
     match declared {
         Decl::ObjectType(object) => matches!(object.kind, Kind::Simple),
         Decl::Suffix(_) => true,
-        Decl::Param(_) => false,
+        Decl::Param(_) => true,
         Decl::Maker(maker) => match &maker.make {
-            Make::Tool(tool) => {
-                tool.uses.is_empty() && tool.extras.is_empty() && tool.closure.is_none()
-            }
+            Make::Tool(tool) => tool.extras.is_empty() && tool.closure.is_none(),
             Make::Read => false,
             Make::Each => false,
             Make::Pack => false,
