@@ -6,27 +6,28 @@ use Rattle.object_values.specs.declared.calls.Call.{Call}
 use Rattle.meaning_graph.specs.Graphs.{Text, Graph}
 use Rattle.meaning_derive.specs.Derive.{Sources, Outcomes, derived}
 use Rattle.meaning_derive.specs.Chains.{IsCircular, IsDeep}
-use Rattle.meaning_answers.specs.Replies.{object_reply, refused_circular, refused_deep}
+use Rattle.meaning_commands.specs.declared.replies.Reply.{Reply}
+use Rattle.meaning_answers.specs.Replies.{shown, refused_circular, refused_deep}
 use Rattle.meaning_answers.specs.Answers.{Refused, Asks, Answer, Plan}
 
 -- Where each call has an outcome, each text has an answer; and each text has a plan.
 abbrev pub EachIsAnswered : Type 0
 EachIsAnswered =
     (g : Graph) (s : Sources) (outcomes : Outcomes) → ((call : Call) → IsSome (outcomes call))
-    → (text : Text) → (reply : Text) × Answer g s outcomes text reply
+    → (text : Text) → (reply : Reply) × Answer g s outcomes text reply
 
 abbrev pub EachHasPlan : Type 0
-EachHasPlan = (g : Graph) (text : Text) → (reply : Text) × Plan g text reply
+EachHasPlan = (g : Graph) (text : Text) → (reply : Reply) × Plan g text reply
 
--- A node that has a result is answered by its print alone.
+-- A node that has a result is answered by that alone.
 abbrev pub FoundedIsShown : Type 0
 FoundedIsShown =
-    (g : Graph) (s : Sources) (outcomes : Outcomes) (text reply : Text) (n : Node) (view : View)
-    → Asks g text n → derived g s outcomes n ≡ Some view → Answer g s outcomes text reply
-    → reply ≡ object_reply g view
+    (g : Graph) (s : Sources) (outcomes : Outcomes) (text : Text) (reply : Reply) (n : Node)
+    (view : View) → Asks g text n → derived g s outcomes n ≡ Some view
+    → Answer g s outcomes text reply → reply ≡ shown g view
 
 -- The reply shows a chain of the node.
-pub data ShowsChain (g : Graph) (s : Sources) (outcomes : Outcomes) (n : Node) : Text → Type 0 where
+pub data ShowsChain (g : Graph) (s : Sources) (outcomes : Outcomes) (n : Node) : Reply → Type 0 where
   circular_chain : (chain : List Node) → IsCircular g (derived g s outcomes) n chain
       → ShowsChain g s outcomes n (refused_circular g chain)
   deep_chain : (chain : List Node) → IsDeep g (derived g s outcomes) n chain
@@ -35,23 +36,24 @@ pub data ShowsChain (g : Graph) (s : Sources) (outcomes : Outcomes) (n : Node) :
 -- A node that has no result is answered by a chain alone.
 abbrev pub OthersAreChained : Type 0
 OthersAreChained =
-    (g : Graph) (s : Sources) (outcomes : Outcomes) (text reply : Text) (n : Node) → Asks g text n
-    → derived g s outcomes n ≡ None → Answer g s outcomes text reply
+    (g : Graph) (s : Sources) (outcomes : Outcomes) (text : Text) (reply : Reply) (n : Node)
+    → Asks g text n → derived g s outcomes n ≡ None → Answer g s outcomes text reply
     → ShowsChain g s outcomes n reply
 
 -- A refused text has only that refusal, and a text one plan.
 abbrev pub RefusalIsOne : Type 0
 RefusalIsOne =
-    (g : Graph) (text reply other : Text) → Refused g text reply → Refused g text other
-    → other ≡ reply
+    (g : Graph) (text : Text) (reply other : Reply) → Refused g text reply
+    → Refused g text other → other ≡ reply
 
 abbrev pub PlanIsOne : Type 0
 PlanIsOne =
-    (g : Graph) (text reply other : Text) → Plan g text reply → Plan g text other → other ≡ reply
+    (g : Graph) (text : Text) (reply other : Reply) → Plan g text reply → Plan g text other
+    → other ≡ reply
 
 -- Both replies show chains of the node of the text.
-pub record BothShowChains (g : Graph) (s : Sources) (outcomes : Outcomes)
-    (text reply other : Text) : Type 0 where
+pub record BothShowChains (g : Graph) (s : Sources) (outcomes : Outcomes) (text : Text)
+    (reply other : Reply) : Type 0 where
   pub node : Node
   pub asked : Asks g text node
   pub one : ShowsChain g s outcomes node reply
@@ -60,6 +62,6 @@ pub record BothShowChains (g : Graph) (s : Sources) (outcomes : Outcomes)
 -- A text has one answer, but for the choice of the chain.
 abbrev pub AnswerIsOne : Type 0
 AnswerIsOne =
-    (g : Graph) (s : Sources) (outcomes : Outcomes) (text reply other : Text)
+    (g : Graph) (s : Sources) (outcomes : Outcomes) (text : Text) (reply other : Reply)
     → Answer g s outcomes text reply → Answer g s outcomes text other
     → (other ≡ reply) ⊎ BothShowChains g s outcomes text reply other

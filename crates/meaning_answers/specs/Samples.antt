@@ -13,10 +13,11 @@ use Rattle.object_values.specs.declared.views.View.{View}
 use Rattle.object_values.specs.declared.calls.Outcome.{Outcome}
 use Rattle.meaning_graph.specs.Graphs.{Text, Graph}
 use Rattle.meaning_nodes.specs.Labels.{node_text}
-use Rattle.meaning_nodes.specs.Samples.{at_steps}
+use Rattle.meaning_nodes.specs.Samples.{at_steps, parameter}
 use Rattle.meaning_tasks.specs.Needs.{Results}
 use Rattle.meaning_tasks.specs.Settle.{settle}
-use Rattle.meaning_answers.specs.Replies.{object_reply}
+use Rattle.meaning_commands.specs.Replies.{reply_text}
+use Rattle.meaning_answers.specs.Replies.{shown}
 
 -- ---- nodes, parts and messages
 
@@ -26,6 +27,11 @@ at_source name = at_steps name []
 -- NAME:o over c-units
 abbrev pub object_of : Text → Node
 object_of name = at_steps name (Maker 1 ∷ [])
+
+-- NAME+debug:o over c-units
+abbrev pub debugged_object : Text → Node
+debugged_object name =
+    record { source = name; params = parameter (codes "debug") ∷ []; steps = Maker 1 ∷ [] }
 
 abbrev pub part : Text → Text → Part
 part name body = record { name = name; body = body }
@@ -89,7 +95,7 @@ ended_by text =
 abbrev pub no_texts : Text → Option Text
 no_texts name = None
 
--- the print of what the node settles to, with these reached names
+-- the reply, as bytes, that shows what the node settles to, with these reached names
 abbrev pub settled_reply : Graph → List Entry → Node → Option Outcome → List Text → Text
 settled_reply g entries n outcome names =
-    object_reply g (settle g no_texts n (results_of g entries) outcome names)
+    reply_text (shown g (settle g no_texts n (results_of g entries) outcome names))

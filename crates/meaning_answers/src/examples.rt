@@ -1,17 +1,12 @@
 //! Worked examples of replies. Each is the contract of a function with an empty body.
-ghost use Rattle.meaning_answers.specs.Examples.{Objects, Messages, Refusals, ShownChains, Plans};
+ghost use Rattle.meaning_answers.specs.Examples.{Objects, Refusals, ShownChains, Plans};
 
-/// The print of objects.
+/// Objects as they are shown.
 pub fn objects()
     ensures { Objects }
 {}
 
-/// The print of messages.
-pub fn messages()
-    ensures { Messages }
-{}
-
-/// Refusals.
+/// Texts that are refused.
 pub fn refusals()
     ensures { Refusals }
 {}

@@ -1,11 +1,13 @@
--- Replies to requests, from what was found and what the tools did.
-use Rattle.std.proofs.Common.{◌≡◌, [], ◌++◌, refl, subst, inl, inr}
+-- Replies to texts, from what was found and what the tools did.
+use Rattle.std.proofs.Common.{◌≡◌, ◌≢◌, [], refl, sym, subst, inl, inr}
+use Rattle.std.specs.Prelude.{Result, Ok, Err, OnErr}
 use Rattle.object_values.specs.declared.nodes.Node.{Node}
 use Rattle.odin_outside.specs.Spawned.{Spawned}
 use Rattle.meaning_graph.specs.Graphs.{Text, Graph}
 use Rattle.meaning_derive.specs.Derive.{Sources, Outcomes}
-use Rattle.meaning_answers.specs.Answers.{Refused, Asks, Answer}
-use Rattle.meaning_answers.specs.Replies.{object_reply, refused_circular, refused_deep}
+use Rattle.meaning_commands.specs.declared.replies.Reply.{Reply}
+use Rattle.meaning_answers.specs.Replies.{plan_of}
+use Rattle.meaning_answers.specs.Answers.{Refused, Asks, Answer, Plan}
 use Rattle.plain_derive.specs.declared.found.Found.{Found}
 use Rattle.plain_derive.specs.declared.found.Found.TheVariants as found
 use Rattle.plain_derive.specs.declared.fault.PlainFault.{PlainFault}
@@ -13,54 +15,52 @@ use Rattle.plain_derive.specs.declared.fault.PlainFault.TheVariants as faults
 use Rattle.plain_derive.specs.Founds.{IsFound}
 use Rattle.plain_derive.specs.Logs.{HasDerived, HasGivenUp}
 use Rattle.plain_derive.proofs.Lemmas.{made_is_begun, go_by}
-use Rattle.odin_answers.specs.Answers.{IsBegun, MayHaveBegun, IsReply, refused_tool_start, Replies}
-
-abbrev pub found_reply : Graph → Found → Text
-found_reply g (found.Answer view) = object_reply g view
-found_reply g (found.Circular chain) = refused_circular g chain
-found_reply g (found.Deep chain) = refused_deep g chain
+use Rattle.odin_answers.specs.Answers.{IsBegun, MayHaveBegun, IsReply, RefusesStart, found_reply}
 
 answers : (g : Graph) (s : Sources) (outcomes : Outcomes) (text : Text) (n : Node) (f : Found) → Asks g text n → IsFound g s outcomes n f → Answer g s outcomes text (found_reply g f)
 answers g s outcomes text n (found.Answer view) asks is = Answer.object text n view asks is
 answers g s outcomes text n (found.Circular chain) asks is = Answer.circular text n chain asks is
 answers g s outcomes text n (found.Deep chain) asks is = Answer.deep text n chain asks is
 
--- the reply to a text behind what was there
-abbrev pub Replied : Graph → Sources → Text → Spawned → Spawned → Text → Text → Type 0
-Replied g s text before now old new = Replies (λ reply. IsReply g before.answer s text reply before now) old new
+module _ (g : Graph) (s : Sources) (before now : Spawned) (n : Node) where
+  pub replied : (f : Found) (reply : Reply) → HasDerived g s n before now f → reply ≡ found_reply g f → (text : Text) → Asks g text n → IsReply g before.answer s text reply before now
+  replied f reply derived is text asks = inl (record {
+    outcomes = derived.outcomes;
+    given = derived.given;
+    answer = subst (Answer g s derived.outcomes text) (sym is) (answers g s derived.outcomes text n f asks derived.is);
+    did = inr (record { node = n; asks = asks; made = derived.made });
+  })
 
--- what was found is this
-pub derived_at : (g : Graph) (s : Sources) (n : Node) (before now : Spawned) (f other : Found) → f ≡ other → HasDerived g s n before now f → HasDerived g s n before now other
-derived_at g s n before now f other is derived = subst (HasDerived g s n before now) is derived
+  -- an answer for whose reply memory was wanting
+  pub unreplied : (f : Found) → HasDerived g s n before now f → (text : Text) → Asks g text n → MayHaveBegun g before.answer s text before now
+  unreplied f derived text asks = inr (faults.Memory, record { outcomes = derived.outcomes; given = derived.given; node = n; asks = asks; begun = made_is_begun g s derived.outcomes n before now derived.made })
 
-module _ (g : Graph) (s : Sources) (text : Text) (before now : Spawned) where
-  pub shown : (n : Node) (f : Found) (old new : Text) → Asks g text n → HasDerived g s n before now f → new ≡ old ++ found_reply g f → Replied g s text before now old new
-  shown n f old new asks derived behind = record {
-    reply = found_reply g f;
-    behind = behind;
-    holds = inl (record {
-      outcomes = derived.outcomes;
-      given = derived.given;
-      answer = answers g s derived.outcomes text n f asks derived.is;
-      did = inr (record { node = n; asks = asks; made = derived.made });
-    });
-  }
+  begun_for : (fault : PlainFault) → HasGivenUp g s n before now fault → (text : Text) → Asks g text n → IsBegun g before.answer s text fault before now
+  begun_for fault given text asks = record { outcomes = given.outcomes; given = given.given; node = n; asks = asks; begun = given.begun }
 
-  -- an answer whose reply was not written
-  pub unshown : (n : Node) (f : Found) → Asks g text n → HasDerived g s n before now f → MayHaveBegun g before.answer s text before now
-  unshown n f asks derived = inr (faults.Memory, record { outcomes = derived.outcomes; given = derived.given; node = n; asks = asks; begun = made_is_begun g s derived.outcomes n before now derived.made })
+  pub given_up : (fault : PlainFault) → HasGivenUp g s n before now fault → (text : Text) → Asks g text n → MayHaveBegun g before.answer s text before now
+  given_up fault given text asks = inr (fault, begun_for fault given text asks)
 
-  begun_for : (n : Node) (fault : PlainFault) → Asks g text n → HasGivenUp g s n before now fault → IsBegun g before.answer s text fault before now
-  begun_for n fault asks given = record { outcomes = given.outcomes; given = given.given; node = n; asks = asks; begun = given.begun }
+  pub start_refused : (fault : PlainFault) (reply : Reply) → HasGivenUp g s n before now fault → RefusesStart fault reply → (text : Text) → Asks g text n → IsReply g before.answer s text reply before now
+  start_refused faults.Spawn reply given is text asks = inr (record { is = is; begun = begun_for faults.Spawn given text asks })
+  start_refused faults.Memory reply given never text asks = absurd never
 
-  pub given_up : (n : Node) (fault : PlainFault) → Asks g text n → HasGivenUp g s n before now fault → MayHaveBegun g before.answer s text before now
-  given_up n fault asks given = inr (fault, begun_for n fault asks given)
+-- a refused start is no want of memory
+pub is_idle : {A : Type 0} (fault : PlainFault) (reply : Reply) → RefusesStart fault reply → (◌≢◌ {A = Result Found PlainFault} (Err fault) (Err faults.Memory) → A) → A
+is_idle faults.Spawn reply is rest = rest (λ e. cc)
+is_idle faults.Memory reply never rest = absurd never
 
-  pub start_refused : (n : Node) (fault : PlainFault) (old new : Text) → Asks g text n → fault ≡ faults.Spawn → HasGivenUp g s n before now fault → new ≡ old ++ refused_tool_start → Replied g s text before now old new
-  start_refused n fault old new asks is given behind =
-      record { reply = refused_tool_start; behind = behind; holds = inr (record { is = refl; begun = subst (λ f. IsBegun g before.answer s text f before now) is (begun_for n fault asks given) }) }
-
-pub refused : (g : Graph) (s : Sources) (text reply : Text) (told : Spawned) (old new : Text) → Refused g text reply → new ≡ old ++ reply → Replied g s text told told old new
-refused g s text reply told old new is behind =
+pub refused : (g : Graph) (s : Sources) (text : Text) (reply : Reply) (told : Spawned) → Refused g text reply → IsReply g told.answer s text reply told told
+refused g s text reply told is =
     let by = go_by told.answer [] (λ m h. absurd h) (λ m h. absurd h) in
-    record { reply = reply; behind = behind; holds = inl (record { outcomes = by.outcomes; given = by.given; answer = Answer.refused text reply is; did = inl (record { refused = is; told = refl }) }) }
+    inl (record { outcomes = by.outcomes; given = by.given; answer = Answer.refused text reply is; did = inl (record { refused = is; told = refl }) })
+
+-- what holds anyway holds at `Err`
+pub on_err : {T E P : Type 0} (result : Result T E) → P → OnErr result P
+on_err (Ok x) p = tt
+on_err (Err e) p = p
+
+-- ---- plans
+
+pub planned : (g : Graph) (text : Text) (n : Node) (reply : Reply) → Asks g text n → reply ≡ plan_of g n → Plan g text reply
+planned g text n reply asks is = subst (Plan g text) (sym is) (Plan.steps text n asks)

@@ -1,7 +1,6 @@
 mod AnswerLemmas
+mod AskedLemmas
 mod CountLemmas
-mod Joins
-mod NodeLemmas
+mod Counts
 mod OnceLemmas
-mod RequestLemmas
 pub mod Lemmas

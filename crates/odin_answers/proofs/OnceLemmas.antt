@@ -9,6 +9,7 @@ use Rattle.meaning_graph.specs.Graphs.{Text, Graph}
 use Rattle.meaning_nodes.specs.Nodes.{Fits}
 use Rattle.meaning_nodes.proofs.Lemmas.{made_fits}
 use Rattle.meaning_derive.specs.Derive.{Sources, Outcomes}
+use Rattle.meaning_commands.specs.declared.replies.Reply.{Reply}
 use Rattle.meaning_answers.specs.Answers.{Asks, Answer}
 use Rattle.meaning_answers.specs.Replies.{refused_deep}
 use Rattle.meaning_answers.specs.Laws.{ShowsChain, circular_chain, deep_chain}
@@ -25,11 +26,11 @@ asked_fits g text n asks = made_fits g asks.expression n (canonical text asks.ex
 
 module _ (g : Graph) (built : IsBuiltGraph g) where
   -- A chain that is shown is that of the bases.
-  shown_chain : (s : Sources) (outcomes : Outcomes) (n : Node) (reply : Text) → Fits g n → ShowsChain g s outcomes n reply → reply ≡ refused_deep g (bases n height_limit)
+  shown_chain : (s : Sources) (outcomes : Outcomes) (n : Node) (reply : Reply) → Fits g n → ShowsChain g s outcomes n reply → reply ≡ refused_deep g (bases n height_limit)
   shown_chain s outcomes n reply fits (circular_chain chain is) = absurd (none_circular g built s outcomes n chain fits is)
   shown_chain s outcomes n reply fits (deep_chain chain is) = ap (refused_deep g) (deep_is_bases g built s outcomes n chain fits is)
 
-  answer_once : (s : Sources) (outcomes : Outcomes) (text reply other : Text) → Answer g s outcomes text reply → Answer g s outcomes text other → other ≡ reply
+  answer_once : (s : Sources) (outcomes : Outcomes) (text : Text) (reply other : Reply) → Answer g s outcomes text reply → Answer g s outcomes text other → other ≡ reply
   answer_once s outcomes text reply other a b = elim (one_answer g s outcomes text reply other a b) [
     | inl same ↦ same
     | inr both ↦
@@ -40,7 +41,7 @@ module _ (g : Graph) (built : IsBuiltGraph g) where
   -- ---- what the tools did
 
   -- It follows from what was told before, and from the text.
-  did_once : (s : Sources) (outcomes : Outcomes) (text reply other : Text) (before now now' : Spawned) → IsLeftAlone g text reply before now ⊎ IsDerived g s outcomes text before now
+  did_once : (s : Sources) (outcomes : Outcomes) (text : Text) (reply other : Reply) (before now now' : Spawned) → IsLeftAlone g text reply before now ⊎ IsDerived g s outcomes text before now
       → IsLeftAlone g text other before now' ⊎ IsDerived g s outcomes text before now' → now' ≡ now
   did_once s outcomes text reply other before now now' (inl a) (inl b) = b.told ∙ sym a.told
   did_once s outcomes text reply other before now now' (inl a) (inr b) = absurd (not_refused g text reply b.node b.asks a.refused)
@@ -50,7 +51,7 @@ module _ (g : Graph) (built : IsBuiltGraph g) where
 
   -- ---- where a table is told, by whose outcomes both go
 
-  module _ (table : Table) (s : Sources) (text reply other : Text) (before now before' now' : Spawned) (a : HasAnswer g (Some table) s text reply before now) (b : HasAnswer g (Some table) s text other before' now') where
+  module _ (table : Table) (s : Sources) (text : Text) (reply other : Reply) (before now before' now' : Spawned) (a : HasAnswer g (Some table) s text reply before now) (b : HasAnswer g (Some table) s text other before' now') where
     same_outcomes : b.outcomes ≡ a.outcomes
     same_outcomes = b.given.told table refl ∙ sym (a.given.told table refl)
 

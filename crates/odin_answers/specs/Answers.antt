@@ -1,20 +1,24 @@
--- The replies to requests, and what the tools did for them.
-use Rattle.std.specs.Prelude.{◌≡◌, ◌⊎◌, ◌≤◌, ◌++◌, length, Option, codes}
+-- The replies to texts, and what the tools did for them.
+use Rattle.std.specs.Prelude.{◌≡◌, ◌⊎◌, ◌≤◌, length, Option}
 use Rattle.object_values.specs.declared.nodes.Node.{Node}
 use Rattle.odin_outside.specs.Spawned.{Table, Spawned}
-use Rattle.meaning_texts.specs.Lines.{with_lf}
 use Rattle.meaning_graph.specs.Graphs.{Text, Graph}
 use Rattle.meaning_derive.specs.Derive.{Sources, Outcomes}
+use Rattle.meaning_commands.specs.declared.replies.Reply.{Reply}
+use Rattle.meaning_commands.specs.declared.replies.Reply.TheVariants.{RefusedToolStart}
+use Rattle.meaning_answers.specs.Replies.{shown, refused_circular, refused_deep}
 use Rattle.meaning_answers.specs.Answers.{Refused, Asks, Answer}
+use Rattle.plain_derive.specs.declared.found.Found.{Found}
+use Rattle.plain_derive.specs.declared.found.Found.TheVariants as found
 use Rattle.plain_derive.specs.declared.fault.PlainFault.{PlainFault}
-use Rattle.plain_derive.specs.declared.fault.PlainFault.TheVariants.{Spawn}
+use Rattle.plain_derive.specs.declared.fault.PlainFault.TheVariants.{Spawn, Memory}
 use Rattle.plain_derive.specs.Logs.{HasMade, HasBegun}
 use Rattle.plain_derive.specs.Made.{AreGivenBy}
 
 -- ---- what the tools did
 
 -- For a text that is refused nothing is done.
-pub record IsLeftAlone (g : Graph) (text reply : Text) (before now : Spawned) : Type 0 where
+pub record IsLeftAlone (g : Graph) (text : Text) (reply : Reply) (before now : Spawned) : Type 0 where
   pub refused : Refused g text reply
   pub told : now ≡ before
 
@@ -43,28 +47,30 @@ pub record AreFew (before now : Spawned) : Type 0 where
 
 -- ---- replies
 
+-- the reply that shows what was found
+abbrev pub found_reply : Graph → Found → Reply
+found_reply g (found.Answer view) = shown g view
+found_reply g (found.Circular chain) = refused_circular g chain
+found_reply g (found.Deep chain) = refused_deep g chain
+
+-- The reply where a derivation was given up for this fault; want of memory has no reply.
+abbrev pub RefusesStart : PlainFault → Reply → Type 0
+RefusesStart Spawn reply = reply ≡ RefusedToolStart
+RefusesStart Memory reply = ⊥
+
 -- The reply is the answer by outcomes that the tools may give, those of the table where one is told; and the tools did what it takes,
 -- by the same outcomes.
-pub record HasAnswer (g : Graph) (table : Option Table) (s : Sources) (text reply : Text) (before now : Spawned) : Type 0 where
+pub record HasAnswer (g : Graph) (table : Option Table) (s : Sources) (text : Text) (reply : Reply) (before now : Spawned) : Type 0 where
   pub outcomes : Outcomes
   pub given : AreGivenBy table outcomes
   pub answer : Answer g s outcomes text reply
   pub did : IsLeftAlone g text reply before now ⊎ IsDerived g s outcomes text before now
 
-abbrev pub refused_tool_start : Text
-refused_tool_start = with_lf (codes "refused tool start")
-
 -- A tool of the derivation was not started, or its end was lost: a fault, which was counted. The text is one of a node.
-pub record IsStartRefused (g : Graph) (table : Option Table) (s : Sources) (text reply : Text) (before now : Spawned) : Type 0 where
-  pub is : reply ≡ refused_tool_start
+pub record IsStartRefused (g : Graph) (table : Option Table) (s : Sources) (text : Text) (reply : Reply) (before now : Spawned) : Type 0 where
+  pub is : reply ≡ RefusedToolStart
   pub begun : IsBegun g table s text Spawn before now
 
 -- The answer, or that a tool was not started.
-abbrev pub IsReply : Graph → Option Table → Sources → Text → Text → Spawned → Spawned → Type 0
+abbrev pub IsReply : Graph → Option Table → Sources → Text → Reply → Spawned → Spawned → Type 0
 IsReply g table s text reply before now = HasAnswer g table s text reply before now ⊎ IsStartRefused g table s text reply before now
-
--- the reply stands behind what was there
-pub record Replies (P : Text → Type 0) (old new : Text) : Type 0 where
-  pub reply : Text
-  pub behind : new ≡ old ++ reply
-  pub holds : P reply

@@ -4,16 +4,17 @@ use Rattle.odin_outside.specs.Causes.{IsCounted}
 use Rattle.odin_outside.specs.Spawned.{Table, Spawned}
 use Rattle.meaning_graph.specs.Graphs.{Text, Graph}
 use Rattle.meaning_derive.specs.Derive.{Sources}
+use Rattle.meaning_commands.specs.declared.replies.Reply.{Reply}
 use Rattle.plain_derive.specs.Built.{IsBuiltGraph}
 use Rattle.odin_answers.specs.Answers.{HasAnswer, IsStartRefused, MayHaveBegun}
 
 -- An answer leaves it as it was.
 abbrev pub AnswersCountNone : Type 0
-AnswersCountNone = (g : Graph) (table : Option Table) (s : Sources) (text reply : Text) (before now : Spawned) → HasAnswer g table s text reply before now → now.faults ≡ before.faults
+AnswersCountNone = (g : Graph) (table : Option Table) (s : Sources) (text : Text) (reply : Reply) (before now : Spawned) → HasAnswer g table s text reply before now → now.faults ≡ before.faults
 
 -- A refused start raised it.
 abbrev pub RefusalsAreCounted : Type 0
-RefusalsAreCounted = (g : Graph) (table : Option Table) (s : Sources) (text reply : Text) (before now : Spawned) → IsStartRefused g table s text reply before now → IsCounted before.faults now.faults
+RefusalsAreCounted = (g : Graph) (table : Option Table) (s : Sources) (text : Text) (reply : Reply) (before now : Spawned) → IsStartRefused g table s text reply before now → IsCounted before.faults now.faults
 
 -- Without a reply it never falls.
 abbrev pub NoneIsTakenBack : Type 0
@@ -21,7 +22,7 @@ NoneIsTakenBack = (g : Graph) (table : Option Table) (s : Sources) (text : Text)
 
 -- The replies are the same, and so is what is told of the tools in the end where it was the same
 -- before.
-pub record SameAnswers (one other : Text) (before now before' now' : Spawned) : Type 0 where
+pub record SameAnswers (one other : Reply) (before now before' now' : Spawned) : Type 0 where
   pub reply : other ≡ one
   pub told : before' ≡ before → now' ≡ now
 
@@ -29,7 +30,7 @@ pub record SameAnswers (one other : Text) (before now before' now' : Spawned) : 
 -- same sources, whenever it is asked for.
 abbrev pub AnswerIsOne : Type 0
 AnswerIsOne =
-    (g : Graph) → IsBuiltGraph g → (table : Table) (s : Sources) (text reply other : Text)
-    (before now before' now' : Spawned) → HasAnswer g (Some table) s text reply before now
+    (g : Graph) → IsBuiltGraph g → (table : Table) (s : Sources) (text : Text)
+    (reply other : Reply) (before now before' now' : Spawned) → HasAnswer g (Some table) s text reply before now
     → HasAnswer g (Some table) s text other before' now'
     → SameAnswers reply other before now before' now'

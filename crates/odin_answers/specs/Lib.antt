@@ -1,3 +1,3 @@
-pub mod Requests
+pub mod Asked
 pub mod Answers
 pub mod Laws

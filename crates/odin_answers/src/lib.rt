@@ -1,11 +1,11 @@
-//! Requests for objects and for the steps to them, and the replies to them.
+//! Texts that ask for objects and for the steps to them, and the replies to them.
 #![tactic(auto)]
 
 mod answer;
+mod asked;
 pub mod laws;
-mod node;
-mod reply;
-mod request;
+mod plan;
+mod shown;
 
 pub use answer::{answer_ask, answer_plan};
-pub use request::{Request, read_request};
+pub use meaning_commands::{Reply, ShownBody};

@@ -10,9 +10,8 @@ use Rattle.meaning_nodes.specs.Nodes.{reached_type}
 use Rattle.meaning_nodes.specs.NodeOf.{node_of}
 use Rattle.meaning_nodes.specs.Values.{inherit}
 use Rattle.meaning_tasks.specs.Tasks.{task_of}
-use Rattle.meaning_answers.specs.Replies.{object_reply}
 use Rattle.meaning_answers.proofs.settled.missing_extras.Goals as goal
 
 pub returns : goal.returns
-unfolding digits expression_of kept_params references scanned_names lines_of source_type is_a chosen_path reached_type node_of inherit task_of object_reply
+unfolding digits expression_of kept_params references scanned_names lines_of source_type is_a chosen_path reached_type node_of inherit task_of
 returns c = record { missing = refl; base_first = refl }

@@ -1,24 +1,16 @@
-use Rattle.std.proofs.Common.{ap, ◌∙◌, refl, inl}
-use Rattle.odin_answers.specs.Requests.{request_text, asked_answer}
-use Rattle.odin_answers.proofs.Joins.{on_ok, on_err, through_err}
-use Rattle.odin_answers.proofs.RequestLemmas.{asks, refuses_type, refuses_path}
+use Rattle.std.proofs.lemmas.Result.{IfOk-weaker, on_err_weaker}
+use Rattle.odin_answers.proofs.AskedLemmas.{asks_node, is_refused}
 use Rattle.odin_answers.proofs.AnswerLemmas.{refused}
 use Rattle.odin_answers.proofs.answer.answer_ask.Goals as goal
 
+pub answer_node-requires-clause-fits : goal.answer_node-requires-clause-fits
+answer_node-requires-clause-fits g c = (asks_node c.args.graph.now c.args.text.now _ c.in-Node.node c.in-Node.is c.in_ok-node.ensures).1
+
 pub returns-in-Node-clause-ok : goal.returns-in-Node-clause-ok
-returns-in-Node-clause-ok g c = on_ok c.answer_node.result (λ answered. answered (request_text c.args.request.now) (asks c.args.graph.now _ c.args.request.now c.in-Node.node c.node_asked.ensures.request (c.in_ok-node.ensures.node ∙ ap asked_answer c.in-Node.is))) c.answer_node.ensures.ok
+returns-in-Node-clause-ok g c = IfOk-weaker c.answer_node.result _ _ (λ reply is. is c.args.text.now (asks_node c.args.graph.now c.args.text.now _ c.in-Node.node c.in-Node.is c.in_ok-node.ensures).0) c.answer_node.ensures.ok
 
 pub returns-in-Node-clause-begun : goal.returns-in-Node-clause-begun
-returns-in-Node-clause-begun g c = through_err c.answer_node.result (λ begun. begun (request_text c.args.request.now) (asks c.args.graph.now _ c.args.request.now c.in-Node.node c.node_asked.ensures.request (c.in_ok-node.ensures.node ∙ ap asked_answer c.in-Node.is))) c.answer_node.ensures.begun
+returns-in-Node-clause-begun g c = on_err_weaker c.answer_node.result (λ begun. begun c.args.text.now (asks_node c.args.graph.now c.args.text.now _ c.in-Node.node c.in-Node.is c.in_ok-node.ensures).0) c.answer_node.ensures.begun
 
-pub returns-in-UnknownType-clause-ok : goal.returns-in-UnknownType-clause-ok
-returns-in-UnknownType-clause-ok g c = on_ok c.write_unknown_type.result (λ behind. refused c.args.graph.now c.args.sources.now.texts _ _ _ c.args.out.now c.write_unknown_type.new.out (refuses_type c.args.graph.now _ c.args.request.now c.in-UnknownType.name c.node_asked.ensures.request (c.in_ok-node.ensures.node ∙ ap asked_answer c.in-UnknownType.is)) (rw c.as_slice.ensures at behind)) c.write_unknown_type.ensures
-
-pub returns-in-UnknownType-clause-begun : goal.returns-in-UnknownType-clause-begun
-returns-in-UnknownType-clause-begun g c = on_err c.write_unknown_type.result (inl refl)
-
-pub returns-in-NoPath-clause-ok : goal.returns-in-NoPath-clause-ok
-returns-in-NoPath-clause-ok g c = on_ok c.write_no_path.result (λ behind. refused c.args.graph.now c.args.sources.now.texts _ _ _ c.args.out.now c.write_no_path.new.out (refuses_path c.args.graph.now _ c.args.request.now c.in-NoPath.step c.node_asked.ensures.request (c.in_ok-node.ensures.node ∙ ap asked_answer c.in-NoPath.is)) behind) c.write_no_path.ensures
-
-pub returns-in-NoPath-clause-begun : goal.returns-in-NoPath-clause-begun
-returns-in-NoPath-clause-begun g c = on_err c.write_no_path.result (inl refl)
+pub returns-in-Refused-clause-ok : goal.returns-in-Refused-clause-ok
+returns-in-Refused-clause-ok g c = refused c.args.graph.now c.args.sources.now.texts c.args.text.now c.in-Refused.reply _ (is_refused c.args.graph.now c.args.text.now _ c.in-Refused.reply c.in-Refused.is c.in_ok-node.ensures)

@@ -1,6 +1,0 @@
-use Rattle.std.proofs.Common.{◌≡◌, take, map}
-use Rattle.object_values.specs.declared.nodes.Step.TheVariants.{Maker}
-use Rattle.odin_answers.proofs.node.maker_steps.Given as goal
-
-abbrev pub invariant-loop-maker : goal.invariant-loop-maker
-invariant-loop-maker l = l.steps ≡ map Maker (take l.maker-index l.path)
