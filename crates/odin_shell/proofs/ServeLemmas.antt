@@ -48,13 +48,16 @@ on_err (Err e) P p = p
 pub reply_begun : (g : Graph) (table : Option Table) (s : Given) (text : Text) (reply : Reply) (before now : Spawned) → IsReply g table s text reply before now → MayHaveBegun g table s text before now
 reply_begun g table s text reply before now (inl answered) = elim answered.did [
   | inl alone ↦ inl alone.told
-  | inr derived ↦ inr (fault.Memory, record {
-    outcomes = answered.outcomes;
-    given = answered.given;
-    node = derived.node;
-    asks = derived.asks;
-    begun = made_is_begun g s answered.outcomes derived.node before now derived.made;
-  })
+  | inr derived ↦ inr (
+    fault.Memory,
+    record {
+      outcomes = answered.outcomes;
+      given = answered.given;
+      node = derived.node;
+      asks = derived.asks;
+      begun = made_is_begun g s answered.outcomes derived.node before now derived.made;
+    },
+  )
 ]
 reply_begun g table s text reply before now (inr refused) = inr (fault.Spawn, refused.begun)
 

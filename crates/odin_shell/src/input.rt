@@ -100,7 +100,16 @@ pub(crate) fn serve_input<I: Source, O: Sink, T: Tree, S: Spawner, D: Disk>(
 {
     match make_buffer(alloc) {
         Ok(mut buffer) => {
-            serve_pieces(alloc, deriver, &mut buffer, input, output, tree, tools, disk)
+            serve_pieces(
+                alloc,
+                deriver,
+                &mut buffer,
+                input,
+                output,
+                tree,
+                tools,
+                disk,
+            )
         }
         Err(_) => Ending::Memory,
     }
