@@ -1,15 +1,15 @@
 -- From how far the reading has come to what the run leaves, for any machine.
-use Rattle.std.proofs.Common.{◌≡◌, ℕ, ◌+◌, ◌<◌, ◌≤◌, List, [], ◌∷◌, ◌++◌, take, length, Option, Some, None, IfSome, ap, sym, refl, ◌∙◌, subst, arith, inl}
-use Rattle.std.proofs.lemmas.List.{length-append}
+use Rattle.std.proofs.Common.{◌≡◌, ◌⊎◌, ℕ, ◌+◌, ◌-◌, ◌<◌, ◌≤◌, List, [], ◌∷◌, ◌++◌, take, length, Option, Some, None, IfSome, ap, sym, refl, ◌∙◌, subst, arith, inl, inr}
+use Rattle.std.proofs.lemmas.List.{append_assoc, length-append}
 use Rattle.odin_outside.specs.Told.{prepended}
 use Rattle.meaning_run.specs.Items as items
-use Rattle.meaning_run.specs.Items.{Language, Item, all_bytes, last_item}
+use Rattle.meaning_run.specs.Items.{Language, Item, item_bytes, all_bytes, last_item}
 use Rattle.meaning_run.specs.Machines as machines
 use Rattle.meaning_run.specs.Machines.{Machine, Halt}
 use Rattle.meaning_run.specs.Endings as endings
-use Rattle.meaning_run.specs.Endings.{IsSpent, HasRead, input_limit}
+use Rattle.meaning_run.specs.Endings.{IsSpent, IsFollowed, IsLastLine, StandsLast, HasRead, input_limit, piece_limit}
 use Rattle.meaning_run.specs.Streams as streams
-use Rattle.meaning_run.proofs.ItemLemmas.{nil_right, whole_not_inside}
+use Rattle.meaning_run.proofs.ItemLemmas.{nil_right, take-front, whole_not_inside, ends_only, said_not_inside, said_more}
 use Rattle.meaning_run.proofs.ToldLemmas.{took_none, prepended_none, prepended-prepended}
 use Rattle.meaning_run.proofs.StreamLemmas as stream
 
@@ -23,10 +23,10 @@ pub input_is : (P : List ℕ → Type 0) (input left : Option (List ℕ)) (text 
 input_is P input None text is end h = subst (λ l. IfSome l P) (sym is) tt
 input_is P input (Some rest) text is end h = subst (λ l. IfSome l P) (sym is) (subst P (sym (ap (λ r. text ++ r) end ∙ nil_right text)) h)
 
--- the input has as many bytes as were read, or more
-pub input_long : (input left : Option (List ℕ)) (text : List ℕ) → input ≡ prepended text left → input_limit ≤ length text → IfSome input (λ t. input_limit ≤ length t)
-input_long input None text is le = subst (λ l. IfSome l (λ t. input_limit ≤ length t)) (sym is) tt
-input_long input (Some rest) text is le = subst (λ l. IfSome l (λ t. input_limit ≤ length t)) (sym is) (omega (arith, length-append text rest))
+-- what is said of all that was read, and of whatever may stand behind it, is said of the input
+pub input_more : (P : List ℕ → Type 0) (input left : Option (List ℕ)) (text : List ℕ) → input ≡ prepended text left → ((more : List ℕ) → P (text ++ more)) → IfSome input P
+input_more P input None text is h = subst (λ l. IfSome l P) (sym is) tt
+input_more P input (Some rest) text is h = subst (λ l. IfSome l P) (sym is) (h rest)
 
 module _ {Command Held Code State Told : Type 0} (lang : Language Command) (Keeps : Held → List ℕ → Type 0) (m : Machine Command Code State Told) where
   pub Reading-none : (first : State) (start told : Told) (code : Code) (held : Held) (left : Option (List ℕ)) → m.sink told ≡ m.sink start → m.Invariant first start code first told → Keeps held []
@@ -55,16 +55,17 @@ module _ {Command Held Code State Told : Type 0} (lang : Language Command) (Keep
 
   -- it stopped on a piece
   pub HasRead-piece : (halt : Halt) (first : State) (start told after : Told) (input left left' : Option (List ℕ)) (count n : ℕ) (code : Code) (held : Held) (piece : List ℕ)
-      → streams.Reading lang Keeps m first start input left count told code held → left ≡ prepended piece left' → length piece ≡ n → count + n ≤ input_limit → streams.StopsOn lang Keeps m halt piece told code held after
+      → streams.Reading lang Keeps m first start input left count told code held → left ≡ prepended piece left' → length piece ≡ n → count + n ≤ input_limit → n ≤ piece_limit → streams.StopsOn lang Keeps m halt piece told code held after
       → HasRead (endings.EndsStopped lang m halt first start after) input left'
-  HasRead-piece halt first start told after input left left' count n code held piece r is few within stops =
+  HasRead-piece halt first start told after input left left' count n code held piece r is few within one stops =
       let size = r.size in
       let all : length (r.text ++ (piece ++ [])) ≤ input_limit = subst (λ t. length (r.text ++ t) ≤ input_limit) (sym (nil_right piece)) (omega (arith, length-append r.text piece)) in
+      let once : length (piece ++ []) ≤ piece_limit = subst (λ t. length t ≤ piece_limit) (sym (nil_right piece)) (omega arith) in
       record {
         read = r.text ++ piece;
         bytes = r.bytes ∙ ap (prepended r.text) is ∙ prepended-prepended r.text piece left';
         within = omega (arith, length-append r.text piece);
-        ends = subst (λ t. endings.EndsStopped lang m halt first start after (r.text ++ t) left') (nil_right piece) (stops first start r.text [] left' all r.so_far);
+        ends = subst (λ t. endings.EndsStopped lang m halt first start after (r.text ++ t) left') (nil_right piece) (stops first start r.text [] left' all once r.so_far);
       }
 
   -- it stopped before the first command
@@ -98,8 +99,11 @@ module _ {Command Held Code State Told : Type 0} (lang : Language Command) (Keep
         let size = r.size in
         record { read = r.text; bytes = r.bytes; within = omega arith; ends = record { up_to = up_to first start now r.text code held r.so_far; all = r.size } }
 
-  -- where a line settles how many bytes its command takes, an input that was answered whole doesn't end inside a command
-  module _ (once : (a b : Command) (line : List ℕ) → lang.Spells a line → lang.Spells b line → lang.takes a ≡ lang.takes b) where
+  -- where a line is one command, an input that was answered whole, or up to a word that ends the run, doesn't end inside a command
+  module _ (one : items.OneSpelled lang) where
+    abbrev EndsWell : List ℕ → Type 0
+    EndsWell text = (¬ items.EndsInside lang text) × ((length text < input_limit) ⊎ items.SaysEnd lang (take input_limit text))
+
     last_answer : (old : State) (served : List Item) (item : Item) (replies : List (List ℕ)) (new : State) → machines.Transcript lang m.Step old (served ++ item ∷ []) replies new
         → (command : Command) × items.IsItem lang item command
     last_answer old [] item [] new run = absurd run
@@ -108,19 +112,58 @@ module _ {Command Held Code State Told : Type 0} (lang : Language Command) (Keep
     last_answer old (x ∷ served) item (r ∷ replies) new run = last_answer run.0 served item replies new run.2
 
     pub not_inside : (first : State) (start now : Told) (input left : Option (List ℕ)) → HasRead (endings.EndsWhole lang m first start now) input left
-        → IfSome input (λ text. (length text < input_limit) × (¬ items.EndsInside lang text))
+        → IfSome input EndsWell
     not_inside first start now input left read =
         let f = read.ends in
         let run = f.replied.run in
         let a = last_answer first f.served (last_item f.last) f.replied.replies f.replied.state run in
-        input_is (λ t. (length t < input_limit) × (¬ items.EndsInside lang t)) input left read.read read.bytes f.spent (f.short, whole_not_inside lang once f.served f.last a.0 read.read f.on a.1 f.cuts)
+        input_is EndsWell input left read.read read.bytes f.spent (whole_not_inside lang one f.served f.last a.0 read.read f.on a.1 f.cuts, inl f.short)
+
+    -- the word with its LF
+    followed : (read : List ℕ) (served : List Item) (item : Item) → length read ≤ input_limit → items.AllGoOn lang served → items.EndsAt lang item → IsFollowed read (all_bytes served) item
+        → (more : List ℕ) → EndsWell (read ++ more)
+    followed read served item within on ends stands more =
+        let said : items.SaysEnd lang read = record { items = served; on = on; item = item; ends = ends; rest = stands.rest; cuts = stands.bytes } in
+        let front : take input_limit (read ++ more) ≡ read ++ take (input_limit - length read) more = take-front input_limit read more within in (
+          said_not_inside lang one (read ++ more) (said_more lang one read more said),
+          inr (subst (items.SaysEnd lang) (sym front) (said_more lang one read (take (input_limit - length read) more) said)),
+        )
+
+    -- the word as the last line
+    last_word : (read : List ℕ) (left : Option (List ℕ)) (served : List Item) (item : Item) → items.AllGoOn lang served → items.EndsAt lang item → IsLastLine read left (all_bytes served) item → EndsWell read
+    last_word read left served item on ends stands =
+        let same : item ≡ last_item item.line = λ i. record { line = item.line; body = stands.alone i } in
+        let item_is : items.IsItem lang (last_item item.line) ends.command = subst (λ (x : Item). items.IsItem lang x ends.command) same ends.item_is in
+        (whole_not_inside lang one served item.line ends.command read on item_is stands.bytes, inl stands.short)
+
+    word_ends : (read : List ℕ) (input left : Option (List ℕ)) (served : List Item) (item : Item) → input ≡ prepended read left → length read ≤ input_limit → items.AllGoOn lang served → items.EndsAt lang item
+        → StandsLast read left (all_bytes served) item → IfSome input EndsWell
+    word_ends read input left served item is within on ends (inl stands) = input_more EndsWell input left read is (followed read served item within on ends stands)
+    word_ends read input left served item is within on ends (inr stands) = input_is EndsWell input left read is stands.spent (last_word read left served item on ends stands)
+
+    pub at_word : (first : State) (start now : Told) (input left : Option (List ℕ)) → HasRead (endings.EndsAtWord lang m first start now) input left
+        → IfSome input EndsWell
+    at_word first start now input left read = let f = read.ends in word_ends read.read input left f.served f.item read.bytes read.within f.on f.ends f.stands
+
+    -- what was read up to the limit says nowhere that the run ends
+    limit_says : (first : State) (start now : Told) (read : List ℕ) → length read ≡ input_limit → endings.IsUpTo lang m first start now read → (more : List ℕ)
+        → (input_limit ≤ length (read ++ more)) × (¬ items.SaysEnd lang (take input_limit (read ++ more)))
+    limit_says first start now read all u more = (
+      omega (arith, length-append read more),
+      λ said.
+          let none : input_limit - length read ≡ 0 = omega arith in
+          let front : take input_limit (read ++ more) ≡ read = take-front input_limit read more (omega arith) ∙ ap (λ n. read ++ take n more) none ∙ nil_right read in
+          ends_only lang one said.items u.served said.item said.rest u.part said.on said.ends u.on u.less (sym said.cuts ∙ front ∙ u.cuts),
+    )
+
+    pub is_long : (first : State) (start now : Told) (input left : Option (List ℕ)) → HasRead (endings.EndsAtLimit lang m first start now) input left
+        → IfSome input (λ text. (input_limit ≤ length text) × (¬ items.SaysEnd lang (take input_limit text)))
+    is_long first start now input left read =
+        input_more (λ text. (input_limit ≤ length text) × (¬ items.SaysEnd lang (take input_limit text))) input left read.read read.bytes
+        (limit_says first start now read.read read.ends.all read.ends.up_to)
 
   pub is_inside : (first : State) (start now : Told) (input left : Option (List ℕ)) → HasRead (endings.EndsCutShort lang m first start now) input left
       → IfSome input (λ text. (length text < input_limit) × items.EndsInside lang text)
   is_inside first start now input left read =
       let f = read.ends in
       input_is (λ t. (length t < input_limit) × items.EndsInside lang t) input left read.read read.bytes f.spent (f.short, record { items = f.served; on = f.on; part = f.part; cuts = f.cuts; short = f.inside })
-
-  pub is_long : (first : State) (start now : Told) (input left : Option (List ℕ)) → HasRead (endings.EndsAtLimit lang m first start now) input left
-      → IfSome input (λ text. input_limit ≤ length text)
-  is_long first start now input left read = let all = read.ends.all in input_long input left read.read read.bytes (omega arith)

@@ -1,6 +1,6 @@
 -- How an input is cut into items.
-use Rattle.std.proofs.Common.{◌≡◌, ℕ, List, [], ◌∷◌, ◌++◌, length, ap, sym, refl, ◌∙◌, subst, arith, inl, inr}
-use Rattle.std.proofs.lemmas.List.{append_assoc, length-append}
+use Rattle.std.proofs.Common.{◌≡◌, ℕ, zero, suc, ◌-◌, ◌≤◌, true, false, List, [], ◌∷◌, ◌++◌, take, length, ap, sym, refl, ◌∙◌, subst, arith, inl, inr}
+use Rattle.std.proofs.lemmas.List.{append_assoc, length-append, take_all}
 use Rattle.std.specs.List.{concat}
 use Rattle.meaning_run.specs.Items as items
 use Rattle.meaning_texts.specs.Lists.{HasNo}
@@ -11,6 +11,16 @@ use Rattle.meaning_run.specs.Items.{Language, Item, item_bytes, all_bytes, last_
 pub nil_right : {A : Type 0} (xs : List A) → xs ++ [] ≡ xs
 nil_right [] = refl
 nil_right (x ∷ xs) = ap (λ r. x ∷ r) (nil_right xs)
+
+-- the first bytes of one text and then another
+pub take-append : (n : ℕ) (a b : List ℕ) → take n (a ++ b) ≡ take n a ++ take (n - length a) b
+take-append zero a b = let none : 0 - length a ≡ 0 = omega arith in ap (λ k. take k b) (sym none)
+take-append (suc n) [] b = let all : suc n - 0 ≡ suc n = omega arith in ap (λ k. take k b) (sym all)
+take-append (suc n) (x ∷ a) b = let less : suc n - length (x ∷ a) ≡ n - length a = omega arith in ap (λ t. x ∷ t) (take-append n a b ∙ ap (λ k. take n a ++ take k b) (sym less))
+
+-- no more than the first bytes, and then others
+pub take-front : (n : ℕ) (a b : List ℕ) → length a ≤ n → take n (a ++ b) ≡ a ++ take (n - length a) b
+take-front n a b few = take-append n a b ∙ ap (λ t. t ++ take (n - length a) b) (take_all n a few)
 
 -- two bodies of one length in front of two rests
 pub same_front : (a b x y : List ℕ) → length a ≡ length b → a ++ x ≡ b ++ y → (a ≡ b) × (x ≡ y)
@@ -42,8 +52,11 @@ module _ {Command : Type 0} (lang : Language Command) where
   pub part_of_short : (part : List ℕ) → items.IsCutShort lang part → items.IsPart lang part
   part_of_short part short = elim short.where_it_ends [ inl begun ↦ inr (short.command, begun) | inr line ↦ inl line.no_lf ]
 
-  -- where a line settles how many bytes its command takes
-  module _ (once : (a b : Command) (line : List ℕ) → lang.Spells a line → lang.Spells b line → lang.takes a ≡ lang.takes b) where
+  -- where a line is one command
+  module _ (one : items.OneSpelled lang) where
+    once : (a b : Command) (line : List ℕ) → lang.Spells a line → lang.Spells b line → lang.takes a ≡ lang.takes b
+    once a b line p q = sym (ap lang.takes (one a b line p q))
+
     -- what begins with an item is not less than one
     item_no_part : (item : Item) (command : Command) (rest part : List ℕ) → items.IsItem lang item command → item_bytes item ++ rest ≡ part → items.IsPart lang part → ⊥
     item_no_part item command rest part i e (inl no_lf) = HasNo-split 10 item.line (item.body ++ rest) (subst (λ t. HasNo 10 t) (sym e ∙ item_first item rest) no_lf)
@@ -94,3 +107,48 @@ module _ {Command : Type 0} (lang : Language Command) where
               let some = line.takes_some in
               absurd (omega arith)
         ]
+
+    -- one item is no command on which the session goes on and one that ends the run
+    not_both : (item x : Item) → item ≡ x → items.EndsAt lang item → items.GoesOnAt lang x → ⊥
+    not_both item x same ends goes =
+        let spelled = subst (λ (i : Item). lang.Spells goes.command (without_cr i.line)) (sym same) goes.item_is.spelled in
+        let command : goes.command ≡ ends.command = one ends.command goes.command (without_cr item.line) ends.item_is.spelled spelled in
+        let clash : true ≡ false = sym ends.ends ∙ ap lang.ends_run (sym command) ∙ goes.on in
+        cc
+
+    -- what says that the run ends is not cut into items on which it goes on and less than one
+    pub ends_only : (before others : List Item) (item : Item) (rest part : List ℕ) → items.AllGoOn lang before → items.EndsAt lang item → items.AllGoOn lang others → items.IsPart lang part
+        → all_bytes before ++ (item_bytes item ++ rest) ≡ all_bytes others ++ part → ⊥
+    ends_only [] [] item rest part a ends b p e = item_no_part item ends.command rest part ends.item_is e p
+    ends_only [] (x ∷ xs) item rest part a ends b p e =
+        let i = b.0 in
+        let same = same_item item x ends.command i.command rest (all_bytes xs ++ part) ends.item_is i.item_is (e ∙ append_assoc (item_bytes x) (all_bytes xs) part) in
+        not_both item x same.0 ends i
+    ends_only (x ∷ xs) [] item rest part a ends b p e =
+        let i = a.0 in
+        item_no_part x i.command (all_bytes xs ++ (item_bytes item ++ rest)) part i.item_is (sym (append_assoc (item_bytes x) (all_bytes xs) (item_bytes item ++ rest)) ∙ e) p
+    ends_only (x ∷ xs) (y ∷ ys) item rest part a ends b p e =
+        let i = a.0 in
+        let j = b.0 in
+        let first = same_item x y i.command j.command (all_bytes xs ++ (item_bytes item ++ rest)) (all_bytes ys ++ part) i.item_is j.item_is
+        (sym (append_assoc (item_bytes x) (all_bytes xs) (item_bytes item ++ rest)) ∙ e ∙ append_assoc (item_bytes y) (all_bytes ys) part) in
+        ends_only xs ys item rest part a.1 ends b.1 p first.1
+
+    -- an input that says that the run ends doesn't end inside a command
+    pub said_not_inside : (text : List ℕ) → items.SaysEnd lang text → items.EndsInside lang text → ⊥
+    said_not_inside text said inside =
+        ends_only said.items inside.items said.item said.rest inside.part said.on said.ends inside.on (part_of_short inside.part inside.short) (sym said.cuts ∙ inside.cuts)
+
+    -- and what says so says it with more bytes behind it
+    pub said_more : (text more : List ℕ) → items.SaysEnd lang text → items.SaysEnd lang (text ++ more)
+    said_more text more said = record {
+      items = said.items;
+      on = said.on;
+      item = said.item;
+      ends = said.ends;
+      rest = said.rest ++ more;
+      cuts =
+          ap (λ t. t ++ more) said.cuts
+          ∙ append_assoc (all_bytes said.items) (item_bytes said.item ++ said.rest) more
+          ∙ ap (λ t. all_bytes said.items ++ t) (append_assoc (item_bytes said.item) said.rest more);
+    }

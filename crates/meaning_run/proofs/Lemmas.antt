@@ -1,10 +1,10 @@
 -- The lemmas that other crates may cite.
 -- How an input is cut into items, and in one way only.
-pub use Rattle.meaning_run.proofs.ItemLemmas.{one_cut}
+pub use Rattle.meaning_run.proofs.ItemLemmas.{one_cut, take-append}
 -- What is told of a sink and of a source.
 pub use Rattle.meaning_run.proofs.ToldLemmas.{one_more_write, rest_is}
 -- A session's steps, one behind the other.
 pub use Rattle.meaning_run.proofs.StreamLemmas.{Finishes-cut_short, Finishes-line, GoesOn-append, GoesOn-item, GoesOn-none, GoesOn-part, StopsAtEnd-line, StopsAtEnd-part, StopsOn-after, StopsOn-item, StopsOn-more, StopsOn-part}
 -- How far the reading has come, and how a session ends.
 pub use Rattle.meaning_run.proofs.EndLemmas.{Reading-none, Reading-more, HasRead-none, HasRead-finish, HasRead-piece, HasRead-unread, HasRead-limit}
-pub use Rattle.meaning_run.proofs.EndLemmas.{not_inside, is_inside, is_long}
+pub use Rattle.meaning_run.proofs.EndLemmas.{not_inside, at_word, is_inside, is_long}

@@ -1,14 +1,14 @@
 -- The session of any machine: how it goes on, where it stops, and how its input ends.
-use Rattle.std.proofs.Common.{◌≡◌, ℕ, ◌≤◌, false, List, [], ◌∷◌, ◌++◌, length, Option, ap, sym, refl, ◌∙◌, subst, inl, inr}
-use Rattle.std.proofs.lemmas.List.{append_assoc}
+use Rattle.std.proofs.Common.{◌≡◌, ℕ, ◌<◌, ◌≤◌, arith, false, List, [], ◌∷◌, ◌++◌, length, Option, ap, sym, refl, ◌∙◌, subst, inl, inr}
+use Rattle.std.proofs.lemmas.List.{append_assoc, length-append}
 use Rattle.std.specs.List.{concat}
 use Rattle.meaning_run.specs.Objects.{took, TookPart}
 use Rattle.meaning_run.specs.Items as items
 use Rattle.meaning_run.specs.Items.{Language, Item, item_bytes, all_bytes, last_item}
 use Rattle.meaning_run.specs.Machines as machines
-use Rattle.meaning_run.specs.Machines.{Machine, Halt, before_reply, within_reply}
+use Rattle.meaning_run.specs.Machines.{Machine, Halt, before_reply, within_reply, behind_reply}
 use Rattle.meaning_run.specs.Endings as endings
-use Rattle.meaning_run.specs.Endings.{StandsAt, IsSpent, input_limit}
+use Rattle.meaning_run.specs.Endings.{StandsAt, StandsLast, IsSpent, input_limit, piece_limit}
 use Rattle.meaning_run.specs.Streams as streams
 use Rattle.meaning_run.proofs.ItemLemmas.{nil_right, all_bytes-more, concat-more, AllGoOn-more}
 use Rattle.meaning_run.proofs.ToldLemmas.{took-took, took_none}
@@ -62,15 +62,21 @@ module _ {Command Held Code State Told : Type 0} (lang : Language Command) (Keep
   GoesOn-append a b told told' told'' code code' code'' held held' held'' f g first start text s =
       subst (λ t. SoFar first start t told'' code'' held'') (append_assoc text a b) (g first start (text ++ a) (f first start text s))
 
+  -- a reply behind those before it
+  wrote_more : (start told told' : Told) (replies : List (List ℕ)) (reply : List ℕ) → m.sink told ≡ took (m.sink start) (concat replies) → m.sink told' ≡ took (m.sink told) reply
+      → m.sink told' ≡ took (m.sink start) (concat (replies ++ reply ∷ []))
+  wrote_more start told told' replies reply before now =
+      now ∙ ap (λ t. took t reply) before ∙ took-took (m.sink start) (concat replies) reply ∙ ap (took (m.sink start)) (sym (concat-more replies reply))
+
   -- bytes that make an item whole, which is answered
-  pub GoesOn-item : (bytes : List ℕ) (told told' : Told) (code code' : Code) (held held' : Held) (command : Command) (body : List ℕ)
-      → streams.Completes lang Keeps bytes held command body → lang.ends_run command ≡ false → ((part : List ℕ) → Keeps held part → Keeps held' [])
-      → machines.Serves lang m code code' command body told told'
+  pub GoesOn-item : (bytes : List ℕ) (told told' : Told) (code code' : Code) (held held' : Held) (command : Command) (kept : List ℕ)
+      → streams.Completes lang Keeps bytes held command kept → lang.ends_run command ≡ false → ((part : List ℕ) → Keeps held part → Keeps held' [])
+      → machines.Serves lang m code code' command kept told told'
       → streams.GoesOn lang Keeps m bytes told code held told' code' held'
-  GoesOn-item bytes told told' code code' held held' command body whole on clear served first start text s =
+  GoesOn-item bytes told told' code code' held held' command kept whole on clear served first start text s =
       let w = whole s.part s.keeps in
-      let v = served first start s.state s.fits in
-      let answer : machines.AnswersItem lang m.Step s.state w.item v.reply v.new = record { command = command; item_is = w.item_is; step = subst (λ b. m.Step s.state command b v.reply v.new) (sym w.body_is) v.step } in
+      let v = served first start s.state w.item.body w.body_is s.fits in
+      let answer : machines.AnswersItem lang m.Step s.state w.item v.reply v.new = record { command = command; item_is = w.item_is; step = v.step } in
       record {
         served = s.served ++ w.item ∷ [];
         part = [];
@@ -79,16 +85,16 @@ module _ {Command Held Code State Told : Type 0} (lang : Language Command) (Keep
         replies = s.replies ++ v.reply ∷ [];
         state = v.new;
         run = Transcript-more first s.served s.replies s.state w.item v.reply v.new s.run answer;
-        wrote = v.wrote ∙ ap (λ t. took t v.reply) s.wrote ∙ took-took (m.sink start) (concat s.replies) v.reply ∙ ap (took (m.sink start)) (sym (concat-more s.replies v.reply));
+        wrote = wrote_more start told told' s.replies v.reply s.wrote v.wrote;
         fits = v.fits;
         keeps = clear s.part s.keeps;
       }
 
   broken : (first : State) (start told told' : Told) (read : List ℕ) (left : Option (List ℕ)) (code : Code) (held : Held) (s : SoFar first start read told code held) → (text rest : List ℕ)
-      → text ≡ all_bytes s.served ++ rest → (item : Item) (command : Command) (body : List ℕ) → StandsAt text left (all_bytes s.served) item
-      → items.IsItem lang item command → item.body ≡ body → machines.StopsBefore lang m first start s.state command body told told'
+      → text ≡ all_bytes s.served ++ rest → (item : Item) (command : Command) → StandsAt text left (all_bytes s.served) item
+      → items.IsItem lang item command → machines.StopsBefore lang m first start s.state command item.body told told'
       → endings.EndsBeforeReply lang m first start told' text left
-  broken first start told told' read left code held s text rest cuts item command body stands item_is body_is b = record {
+  broken first start told told' read left code held s text rest cuts item command stands item_is b = record {
     served = s.served;
     rest = rest;
     cuts = cuts;
@@ -97,16 +103,16 @@ module _ {Command Held Code State Told : Type 0} (lang : Language Command) (Keep
     state = s.state;
     run = s.run;
     furthest = b.furthest;
-    may = inr (item, stands, record { command = command; item_is = item_is; may = subst (λ x. m.MayLeave s.state command x b.furthest) (sym body_is) b.may });
+    may = inr (item, stands, record { command = command; item_is = item_is; may = b.may });
     wrote = b.wrote ∙ s.wrote;
     exit = b.exit;
   }
 
-  cut_off : (first : State) (start told told' : Told) (read : List ℕ) (left : Option (List ℕ)) (code : Code) (held : Held) (s : SoFar first start read told code held) → (text rest : List ℕ)
-      → text ≡ all_bytes s.served ++ rest → (item : Item) (command : Command) (body : List ℕ) → StandsAt text left (all_bytes s.served) item
-      → items.IsItem lang item command → item.body ≡ body → machines.StopsWithin lang m first start s.state command body told told'
+  cut_off : (first : State) (start told told' : Told) (read : List ℕ) (left : Option (List ℕ)) (code : Code) (held : Held) (s : SoFar first start read told code held) → (text : List ℕ)
+      → (item : Item) (command : Command) → StandsAt text left (all_bytes s.served) item
+      → items.IsItem lang item command → machines.StopsWithin lang m first start s.state command item.body told told'
       → endings.EndsWithinReply lang m first start told' text left
-  cut_off first start told told' read left code held s text rest cuts item command body stands item_is body_is cut = record {
+  cut_off first start told told' read left code held s text item command stands item_is cut = record {
     served = s.served;
     on = s.on;
     item = item;
@@ -116,51 +122,88 @@ module _ {Command Held Code State Told : Type 0} (lang : Language Command) (Keep
     run = s.run;
     reply = cut.reply;
     new = cut.new;
-    answer = record { command = command; item_is = item_is; step = subst (λ b. m.Step s.state command b cut.reply cut.new) (sym body_is) cut.step };
+    answer = record { command = command; item_is = item_is; step = cut.step };
     wrote = subst (λ before. TookPart cut.reply before (m.sink told')) s.wrote cut.wrote;
     exit = cut.exit;
   }
 
+  at_word : (first : State) (start told told' : Told) (read : List ℕ) (left : Option (List ℕ)) (code : Code) (held : Held) (s : SoFar first start read told code held) → (text : List ℕ)
+      → (item : Item) (command : Command) → StandsLast text left (all_bytes s.served) item
+      → items.IsItem lang item command → machines.StopsBehind lang m first start s.state command item.body told told'
+      → endings.EndsAtWord lang m first start told' text left
+  at_word first start told told' read left code held s text item command stands item_is b =
+      let answer : machines.AnswersItem lang m.Step s.state item b.reply b.new = record { command = command; item_is = item_is; step = b.step } in
+      record {
+        served = s.served;
+        on = s.on;
+        item = item;
+        ends = record { command = command; item_is = item_is; ends = b.ends };
+        stands = stands;
+        replied = record {
+          replies = s.replies ++ b.reply ∷ [];
+          state = b.new;
+          run = Transcript-more first s.served s.replies s.state item b.reply b.new s.run answer;
+          wrote = wrote_more start told told' s.replies b.reply s.wrote b.wrote;
+          exit = b.exit;
+        };
+      }
+
+  stands_at : (read : List ℕ) (left : Option (List ℕ)) (before : List ℕ) (item : Item) → StandsLast read left before item → StandsAt read left before item
+  stands_at read left before item (inl followed) = inl (followed.rest, followed.bytes)
+  stands_at read left before item (inr last) = inr (last.bytes, last.alone, last.spent)
+
   stopped : (halt : Halt) (first : State) (start told told' : Told) (read : List ℕ) (left : Option (List ℕ)) (code : Code) (held : Held) (s : SoFar first start read told code held) → (text rest : List ℕ)
-      → text ≡ all_bytes s.served ++ rest → (item : Item) (command : Command) (body : List ℕ) → StandsAt text left (all_bytes s.served) item
-      → items.IsItem lang item command → item.body ≡ body → machines.StoppedBy lang m halt first start s.state command body told told'
+      → text ≡ all_bytes s.served ++ rest → (item : Item) (command : Command) → StandsLast text left (all_bytes s.served) item
+      → items.IsItem lang item command → machines.StoppedBy lang m halt first start s.state command item.body told told'
       → endings.EndsStopped lang m halt first start told' text left
-  stopped before_reply = broken
-  stopped within_reply = cut_off
+  stopped before_reply first start told told' read left code held s text rest cuts item command stands item_is b =
+      broken first start told told' read left code held s text rest cuts item command (stands_at text left (all_bytes s.served) item stands) item_is b
+  stopped within_reply first start told told' read left code held s text rest cuts item command stands item_is b =
+      cut_off first start told told' read left code held s text item command (stands_at text left (all_bytes s.served) item stands) item_is b
+  stopped behind_reply first start told told' read left code held s text rest cuts item command stands item_is b =
+      at_word first start told told' read left code held s text item command stands item_is b
 
   -- bytes that make an item whole, whose serving stops
-  pub StopsOn-item : (halt : Halt) (bytes : List ℕ) (told told' : Told) (code : Code) (held : Held) (command : Command) (body : List ℕ)
-      → streams.Completes lang Keeps bytes held command body → machines.StopsServing lang m halt code command body told told'
+  pub StopsOn-item : (halt : Halt) (bytes : List ℕ) (told told' : Told) (code : Code) (held : Held) (command : Command) (kept : List ℕ) → 0 < length bytes
+      → streams.Completes lang Keeps bytes held command kept → machines.StopsServing lang m halt code command kept told told'
       → streams.StopsOn lang Keeps m halt bytes told code held told'
-  StopsOn-item halt bytes told told' code held command body whole stops first start text more left within s =
+  StopsOn-item halt bytes told told' code held command kept some whole stops first start text more left within piece s =
       let w = whole s.part s.keeps in
       let cuts : text ++ (bytes ++ more) ≡ all_bytes s.served ++ (s.part ++ (bytes ++ more)) = ap (λ t. t ++ (bytes ++ more)) s.cuts ∙ append_assoc (all_bytes s.served) s.part (bytes ++ more) in
-      stopped halt first start told told' text left code held s (text ++ (bytes ++ more)) (s.part ++ (bytes ++ more)) cuts w.item command body
-      (inl (more, cuts ∙ ap (λ r. all_bytes s.served ++ r) (sym (append_assoc s.part bytes more) ∙ ap (λ r. r ++ more) w.bytes_are)))
-      w.item_is w.body_is (stops first start s.state s.fits)
+      let few : length more < piece_limit = omega (arith, length-append bytes more) in
+      stopped halt first start told told' text left code held s (text ++ (bytes ++ more)) (s.part ++ (bytes ++ more)) cuts w.item command
+      (inl (record {
+        rest = more;
+        bytes = cuts ∙ ap (λ r. all_bytes s.served ++ r) (sym (append_assoc s.part bytes more) ∙ ap (λ r. r ++ more) w.bytes_are);
+        few = few;
+      }))
+      w.item_is (stops first start s.state w.item.body w.body_is s.fits)
 
   -- it stops before the end of the bytes
   pub StopsOn-more : (halt : Halt) (a b : List ℕ) (told told' : Told) (code : Code) (held : Held) → streams.StopsOn lang Keeps m halt a told code held told'
       → streams.StopsOn lang Keeps m halt (a ++ b) told code held told'
-  StopsOn-more halt a b told told' code held f first start text more left within s =
+  StopsOn-more halt a b told told' code held f first start text more left within piece s =
       subst (λ t. endings.EndsStopped lang m halt first start told' (text ++ t) left) (sym (append_assoc a b more))
-      (f first start text (b ++ more) left (subst (λ t. length (text ++ t) ≤ input_limit) (append_assoc a b more) within) s)
+      (f first start text (b ++ more) left (subst (λ t. length (text ++ t) ≤ input_limit) (append_assoc a b more) within) (subst (λ t. length t ≤ piece_limit) (append_assoc a b more) piece) s)
 
   -- it goes on through some bytes and stops on the next
   pub StopsOn-after : (halt : Halt) (a b : List ℕ) (told told' told'' : Told) (code code' : Code) (held held' : Held)
       → streams.GoesOn lang Keeps m a told code held told' code' held' → streams.StopsOn lang Keeps m halt b told' code' held' told''
       → streams.StopsOn lang Keeps m halt (a ++ b) told code held told''
-  StopsOn-after halt a b told told' told'' code code' held held' f g first start text more left within s =
+  StopsOn-after halt a b told told' told'' code code' held held' f g first start text more left within piece s =
       let same : (text ++ a) ++ (b ++ more) ≡ text ++ ((a ++ b) ++ more) = append_assoc text a (b ++ more) ∙ ap (λ r. text ++ r) (sym (append_assoc a b more)) in
+      let few : length (b ++ more) ≤ piece_limit = omega (arith, ap length (append_assoc a b more), length-append a (b ++ more)) in
       subst (λ t. endings.EndsStopped lang m halt first start told'' t left) same
-      (g first start (text ++ a) more left (subst (λ t. length t ≤ input_limit) (sym same) within) (f first start text s))
+      (g first start (text ++ a) more left (subst (λ t. length t ≤ input_limit) (sym same) within) few (f first start text s))
 
   -- the end of the input behind a last line
-  pub StopsAtEnd-line : (halt : Halt) (told told' : Told) (code : Code) (held : Held) (command : Command) (body : List ℕ)
-      → ((part : List ℕ) → Keeps held part → items.IsItem lang (last_item part) command) → body ≡ [] → machines.StopsServing lang m halt code command body told told'
+  pub StopsAtEnd-line : (halt : Halt) (told told' : Told) (code : Code) (held : Held) (command : Command) (kept : List ℕ)
+      → ((part : List ℕ) → Keeps held part → items.IsItem lang (last_item part) command) → kept ≡ [] → machines.StopsServing lang m halt code command kept told told'
       → streams.StopsAtEnd lang Keeps m halt told code held told'
-  StopsAtEnd-line halt told told' code held command body whole empty stops first start text left short spent s =
-      stopped halt first start told told' text left code held s text s.part s.cuts (last_item s.part) command body (inr (s.cuts, refl, spent)) (whole s.part s.keeps) (sym empty) (stops first start s.state s.fits)
+  StopsAtEnd-line halt told told' code held command kept whole empty stops first start text left short spent s =
+      stopped halt first start told told' text left code held s text s.part s.cuts (last_item s.part) command
+      (inr (record { bytes = s.cuts; alone = refl; short = short; spent = spent }))
+      (whole s.part s.keeps) (stops first start s.state [] (λ keeps. sym empty) s.fits)
 
   -- what is promised between two commands is promised at an exit
   module _ (rests : (first : State) (start : Told) (code : Code) (state : State) (told : Told) → m.Invariant first start code state told → m.AtExit first start state state told) where
@@ -185,7 +228,7 @@ module _ {Command Held Code State Told : Type 0} (lang : Language Command) (Keep
     }
 
     pub StopsOn-part : (bytes : List ℕ) (told : Told) (code : Code) (held : Held) → streams.StopsOn lang Keeps m before_reply bytes told code held told
-    StopsOn-part bytes told code held first start text more left within s = unbroken first start told code text (bytes ++ more) left held s
+    StopsOn-part bytes told code held first start text more left within piece s = unbroken first start told code text (bytes ++ more) left held s
 
     pub StopsAtEnd-part : (told : Told) (code : Code) (held : Held) → streams.StopsAtEnd lang Keeps m before_reply told code held told
     StopsAtEnd-part told code held first start text left short spent s =
@@ -198,13 +241,12 @@ module _ {Command Held Code State Told : Type 0} (lang : Language Command) (Keep
         record { served = s.served; part = s.part; cuts = s.cuts; on = s.on; inside = inside s.part s.keeps; replied = replied first start told text code held s; short = short; spent = spent }
 
     -- the input ends behind a last line, which is answered
-    pub Finishes-line : (told told' : Told) (code code' : Code) (held : Held) (command : Command) (body : List ℕ)
-        → ((part : List ℕ) → Keeps held part → items.IsItem lang (last_item part) command) → body ≡ [] → machines.Serves lang m code code' command body told told'
+    pub Finishes-line : (told told' : Told) (code code' : Code) (held : Held) (command : Command) (kept : List ℕ)
+        → ((part : List ℕ) → Keeps held part → items.IsItem lang (last_item part) command) → kept ≡ [] → machines.Serves lang m code code' command kept told told'
         → streams.FinishesWhole lang Keeps m told code held told'
-    Finishes-line told told' code code' held command body whole empty served first start text left short spent s =
-        let v = served first start s.state s.fits in
-        let answer : machines.AnswersItem lang m.Step s.state (last_item s.part) v.reply v.new =
-        record { command = command; item_is = whole s.part s.keeps; step = subst (λ b. m.Step s.state command b v.reply v.new) empty v.step } in
+    Finishes-line told told' code code' held command kept whole empty served first start text left short spent s =
+        let v = served first start s.state [] (λ keeps. sym empty) s.fits in
+        let answer : machines.AnswersItem lang m.Step s.state (last_item s.part) v.reply v.new = record { command = command; item_is = whole s.part s.keeps; step = v.step } in
         record {
           served = s.served;
           last = s.part;
@@ -214,7 +256,7 @@ module _ {Command Held Code State Told : Type 0} (lang : Language Command) (Keep
             replies = s.replies ++ v.reply ∷ [];
             state = v.new;
             run = Transcript-more first s.served s.replies s.state (last_item s.part) v.reply v.new s.run answer;
-            wrote = v.wrote ∙ ap (λ t. took t v.reply) s.wrote ∙ took-took (m.sink start) (concat s.replies) v.reply ∙ ap (took (m.sink start)) (sym (concat-more s.replies v.reply));
+            wrote = wrote_more start told told' s.replies v.reply s.wrote v.wrote;
             exit = rests first start code' v.new told' v.fits;
           };
           short = short;

@@ -6,12 +6,16 @@ use Rattle.std.specs.Prelude.{◌≡◌, ◌⊎◌, ℕ, ◌<◌, ◌≤◌, Lis
 use Rattle.std.specs.List.{concat}
 use Rattle.odin_outside.specs.Told.{prepended}
 use Rattle.meaning_run.specs.Objects.{took, TookPart}
-use Rattle.meaning_run.specs.Items.{Language, Item, item_bytes, all_bytes, last_item, AllGoOn, IsPart, IsCutShort}
-use Rattle.meaning_run.specs.Machines.{Machine, AnswersItem, ItemMayLeave, Transcript, Halt, before_reply, within_reply}
+use Rattle.meaning_run.specs.Items.{Language, Item, item_bytes, all_bytes, last_item, AllGoOn, EndsAt, IsPart, IsCutShort}
+use Rattle.meaning_run.specs.Machines.{Machine, AnswersItem, ItemMayLeave, Transcript, Halt, before_reply, within_reply, behind_reply}
 
 -- how many bytes of an input are read at most
 abbrev pub input_limit : ℕ
 input_limit = 1073741824
+
+-- how many bytes of an input are read at once at most
+abbrev pub piece_limit : ℕ
+piece_limit = 65536
 
 -- nothing is left of the input, where that is told
 abbrev pub IsSpent : Option (List ℕ) → Type 0
@@ -27,6 +31,23 @@ pub record HasRead (EndsSo : List ℕ → Option (List ℕ) → Type 0) (input l
 -- the item stands behind these bytes in what was read: with its LF, or as the last line of the input
 abbrev pub StandsAt : List ℕ → Option (List ℕ) → List ℕ → Item → Type 0
 StandsAt read left before item = ((rest : List ℕ) × (read ≡ before ++ (item_bytes item ++ rest))) ⊎ ((read ≡ before ++ item.line) × (item.body ≡ []) × IsSpent left)
+
+-- It stands there with its LF, and less than a piece was read behind it.
+pub record IsFollowed (read before : List ℕ) (item : Item) : Type 0 where
+  pub rest : List ℕ
+  pub bytes : read ≡ before ++ (item_bytes item ++ rest)
+  pub few : length rest < piece_limit
+
+-- It is the last line of an input that was read to its end.
+pub record IsLastLine (read : List ℕ) (left : Option (List ℕ)) (before : List ℕ) (item : Item) : Type 0 where
+  pub bytes : read ≡ before ++ item.line
+  pub alone : item.body ≡ []
+  pub short : length read < input_limit
+  pub spent : IsSpent left
+
+-- the item is the last one that was read, whole
+abbrev pub StandsLast : List ℕ → Option (List ℕ) → List ℕ → Item → Type 0
+StandsLast read left before item = IsFollowed read before item ⊎ IsLastLine read left before item
 
 module _ {Command Code State Told : Type 0} (lang : Language Command) (m : Machine Command Code State Told) where
   -- The replies to these items were taken and nothing else, and all of them are acknowledged in what is kept.
@@ -106,6 +127,16 @@ module _ {Command Code State Told : Type 0} (lang : Language Command) (m : Machi
     pub wrote : TookPart reply (took (m.sink start) (concat replies)) (m.sink told)
     pub exit : m.AtExit first start state new told
 
+  -- The last item that was read ends the run, and it and those before it were answered. What stands behind it wasn't.
+  pub record EndsAtWord (first : State) (start told : Told) (read : List ℕ) (left : Option (List ℕ)) : Type 0 where
+    pub served : List Item
+    pub on : AllGoOn lang served
+    pub item : Item
+    pub ends : EndsAt lang item
+    pub stands : StandsLast read left (all_bytes served) item
+    pub replied : RepliesTo first start told (served ++ item ∷ [])
+
   abbrev pub EndsStopped : Halt → State → Told → Told → List ℕ → Option (List ℕ) → Type 0
   EndsStopped before_reply = EndsBeforeReply
   EndsStopped within_reply = EndsWithinReply
+  EndsStopped behind_reply = EndsAtWord

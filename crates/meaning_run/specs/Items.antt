@@ -2,7 +2,7 @@
 --
 -- The bytes behind a `put` belong to it whatever they are, so an input is not cut into lines first: where an item ends depends on the
 -- command that its line spells.
-use Rattle.std.specs.Prelude.{◌≡◌, ◌⊎◌, ℕ, ◌<◌, Bool, false, List, [], ◌∷◌, ◌++◌, length}
+use Rattle.std.specs.Prelude.{◌≡◌, ◌⊎◌, ℕ, ◌<◌, Bool, true, false, List, [], ◌∷◌, ◌++◌, length}
 use Rattle.meaning_texts.specs.Lines.{HasNoLf, without_cr}
 
 -- the commands of a program
@@ -11,6 +11,8 @@ pub record Language (Command : Type 0) : Type 1 where
   pub Spells : Command → List ℕ → Type 0
   -- how many bytes behind its line belong to the command
   pub takes : Command → ℕ
+  -- whether these bytes mean anything to the command; it passes over them where they don't
+  pub keeps_body : Command → Bool
   -- whether the run ends behind the command
   pub ends_run : Command → Bool
 
@@ -37,6 +39,10 @@ module _ {Command : Type 0} (lang : Language Command) where
     pub spelled : lang.Spells command (without_cr item.line)
     pub size : length item.body ≡ lang.takes command
 
+  -- The bytes are those that stand behind the command's line, where it keeps them.
+  abbrev pub SameBody : Command → List ℕ → List ℕ → Type 0
+  SameBody command body given = lang.keeps_body command ≡ true → body ≡ given
+
   -- the item is some command behind which the session goes on
   pub record GoesOnAt (item : Item) : Type 0 where
     pub command : Command
@@ -47,6 +53,12 @@ module _ {Command : Type 0} (lang : Language Command) where
   abbrev pub AllGoOn : List Item → Type 0
   AllGoOn [] = Unit {0}
   AllGoOn (item ∷ items) = GoesOnAt item × AllGoOn items
+
+  -- the item is some command that ends the run
+  pub record EndsAt (item : Item) : Type 0 where
+    pub command : Command
+    pub item_is : IsItem item command
+    pub ends : lang.ends_run command ≡ true
 
   -- a command's whole line, and less than the bytes that belong to it
   pub record IsBegun (part : List ℕ) (command : Command) : Type 0 where
@@ -79,6 +91,19 @@ module _ {Command : Type 0} (lang : Language Command) where
     pub part : List ℕ
     pub cuts : input ≡ all_bytes items ++ part
     pub short : IsCutShort part
+
+  -- the input says that the run ends: behind its first items stands one that ends it, whole
+  pub record SaysEnd (input : List ℕ) : Type 0 where
+    pub items : List Item
+    pub on : AllGoOn items
+    pub item : Item
+    pub ends : EndsAt item
+    pub rest : List ℕ
+    pub cuts : input ≡ all_bytes items ++ (item_bytes item ++ rest)
+
+  -- a line is one command
+  abbrev pub OneSpelled : Type 0
+  OneSpelled = (a b : Command) (line : List ℕ) → lang.Spells a line → lang.Spells b line → b ≡ a
 
   -- an input is cut in one way only into items and less than an item
   abbrev pub OneCut : Type 0

@@ -1,7 +1,7 @@
 -- A machine that serves commands, and its transcript.
-use Rattle.std.specs.Prelude.{◌≡◌, ℕ, List, [], ◌∷◌}
+use Rattle.std.specs.Prelude.{◌≡◌, ℕ, true, List, [], ◌∷◌}
 use Rattle.meaning_run.specs.Objects.{SinkTold, took, TookPart}
-use Rattle.meaning_run.specs.Items.{Language, Item, IsItem}
+use Rattle.meaning_run.specs.Items.{Language, Item, IsItem, SameBody}
 
 -- Code is what the program holds, State the machine's state, and Told all that the objects of the outside tell, or these objects themselves.
 pub record Machine (Command Code State Told : Type 0) : Type 1 where
@@ -17,10 +17,11 @@ pub record Machine (Command Code State Told : Type 0) : Type 1 where
   -- may be left, and what is told now
   pub AtExit : State → Told → State → State → Told → Type 0
 
--- where a command may stop: before its reply, or within it
+-- where the run may stop at a command: before its reply, within it, or behind the reply to one that ends the run
 pub data Halt : Type 0 where
   before_reply : Halt
   within_reply : Halt
+  behind_reply : Halt
 
 module _ {Command State : Type 0} (lang : Language Command) (Step : State → Command → List ℕ → List ℕ → State → Type 0) where
   -- the reply to an item, and the next state
@@ -66,15 +67,27 @@ module _ {Command Code State Told : Type 0} (lang : Language Command) (m : Machi
     pub wrote : TookPart reply (m.sink before) (m.sink after)
     pub exit : m.AtExit first start state new after
 
+  -- It ends the run, and was served whole.
+  pub record StopsBehind (first : State) (start : Told) (state : State) (command : Command) (body : List ℕ) (before after : Told) : Type 0 where
+    pub ends : lang.ends_run command ≡ true
+    pub reply : List ℕ
+    pub new : State
+    pub step : m.Step state command body reply new
+    pub wrote : m.sink after ≡ took (m.sink before) reply
+    pub exit : m.AtExit first start new new after
+
   abbrev pub StoppedBy : Halt → State → Told → State → Command → List ℕ → Told → Told → Type 0
   StoppedBy before_reply = StopsBefore
   StoppedBy within_reply = StopsWithin
+  StoppedBy behind_reply = StopsBehind
 
-  -- A command is served, from every history that fits.
+  -- A command is served with the bytes that were kept of its own, from every history that fits.
   abbrev pub Serves : Code → Code → Command → List ℕ → Told → Told → Type 0
-  Serves code code' command body before after =
-      (first : State) (start : Told) (state : State) → m.Invariant first start code state before → ServesWhole first start state command body before code' after
+  Serves code code' command kept before after =
+      (first : State) (start : Told) (state : State) (body : List ℕ) → SameBody lang command body kept → m.Invariant first start code state before
+      → ServesWhole first start state command body before code' after
 
   abbrev pub StopsServing : Halt → Code → Command → List ℕ → Told → Told → Type 0
-  StopsServing halt code command body before after =
-      (first : State) (start : Told) (state : State) → m.Invariant first start code state before → StoppedBy halt first start state command body before after
+  StopsServing halt code command kept before after =
+      (first : State) (start : Told) (state : State) (body : List ℕ) → SameBody lang command body kept → m.Invariant first start code state before
+      → StoppedBy halt first start state command body before after

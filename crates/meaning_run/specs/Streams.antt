@@ -4,9 +4,9 @@ use Rattle.std.specs.Prelude.{◌≡◌, ℕ, ◌<◌, ◌≤◌, List, ◌++◌
 use Rattle.std.specs.List.{concat}
 use Rattle.odin_outside.specs.Told.{prepended}
 use Rattle.meaning_run.specs.Objects.{took}
-use Rattle.meaning_run.specs.Items.{Language, Item, item_bytes, all_bytes, AllGoOn, IsItem}
+use Rattle.meaning_run.specs.Items.{Language, Item, item_bytes, all_bytes, AllGoOn, IsItem, SameBody}
 use Rattle.meaning_run.specs.Machines.{Machine, Transcript, Halt}
-use Rattle.meaning_run.specs.Endings.{input_limit, IsSpent, EndsWhole, EndsCutShort, EndsStopped}
+use Rattle.meaning_run.specs.Endings.{input_limit, piece_limit, IsSpent, EndsWhole, EndsCutShort, EndsStopped}
 
 -- Held is what the session holds of an item that is not whole yet, and Keeps says of which bytes.
 module _ {Command Held : Type 0} (lang : Language Command) (Keeps : Held → List ℕ → Type 0) where
@@ -14,15 +14,15 @@ module _ {Command Held : Type 0} (lang : Language Command) (Keeps : Held → Lis
   abbrev pub Extends : List ℕ → Held → Held → Type 0
   Extends bytes held held' = (part : List ℕ) → Keeps held part → Keeps held' (part ++ bytes)
 
-  -- the bytes make the part that is held an item, of this command and with these bytes behind its line
-  pub record IsMadeWhole (part bytes : List ℕ) (command : Command) (body : List ℕ) : Type 0 where
+  -- the bytes make the part that is held an item, of this command and with these bytes behind its line, where it keeps them
+  pub record IsMadeWhole (part bytes : List ℕ) (command : Command) (kept : List ℕ) : Type 0 where
     pub item : Item
     pub bytes_are : part ++ bytes ≡ item_bytes item
     pub item_is : IsItem lang item command
-    pub body_is : item.body ≡ body
+    pub body_is : SameBody lang command item.body kept
 
   abbrev pub Completes : List ℕ → Held → Command → List ℕ → Type 0
-  Completes bytes held command body = (part : List ℕ) → Keeps held part → IsMadeWhole part bytes command body
+  Completes bytes held command kept = (part : List ℕ) → Keeps held part → IsMadeWhole part bytes command kept
 
 module _ {Command Held Code State Told : Type 0} (lang : Language Command) (Keeps : Held → List ℕ → Type 0) (m : Machine Command Code State Told) where
   -- these bytes have come, and the whole items in them are answered
@@ -43,10 +43,11 @@ module _ {Command Held Code State Told : Type 0} (lang : Language Command) (Keep
   GoesOn bytes told code held told' code' held' =
       (first : State) (start : Told) (text : List ℕ) → SoFar first start text told code held → SoFar first start (text ++ bytes) told' code' held'
 
-  -- on its way through the bytes it stops, whatever came before and whatever was read behind them, as far as may be read
+  -- on its way through the bytes it stops, whatever came before and whatever was read behind them in one piece, as far as may be read
   abbrev pub StopsOn : Halt → List ℕ → Told → Code → Held → Told → Type 0
   StopsOn halt bytes told code held told' =
-      (first : State) (start : Told) (text more : List ℕ) (left : Option (List ℕ)) → length (text ++ (bytes ++ more)) ≤ input_limit → SoFar first start text told code held
+      (first : State) (start : Told) (text more : List ℕ) (left : Option (List ℕ))
+      → length (text ++ (bytes ++ more)) ≤ input_limit → length (bytes ++ more) ≤ piece_limit → SoFar first start text told code held
       → EndsStopped lang m halt first start told' (text ++ (bytes ++ more)) left
 
   -- the input ends, and all of it is answered, or it ends inside a command

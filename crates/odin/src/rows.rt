@@ -57,14 +57,14 @@ const ROWS: [Row; 16] = [
         GRAPH,
         b"ask a.c:zz\nask z:o\nask a.c:text\nask a.c:\nask a.c:o:o\nask a.c:1\nask :o\nask a.c :o\n",
         0,
-        b"refused type zz\nrefused path 1\nrefused path 1\nrefused command\nrefused command\nrefused command\nrefused command\nrefused command\n",
+        b"refused type zz\nrefused path 1\nrefused path 1\nrefused expression 5\nobject abort none 0\nmessages 1\nabort a.c no source a.c\nrefused expression 5\nrefused expression 1\nrefused expression 5\n",
         0,
     ),
     (
         GRAPH,
         b"plan a.c:o\nplan a.c\nplan a.c:zz\nplan z:o\nplan a.c:\nplan\n",
         0,
-        b"plan 1\ncc\nplan 0\nrefused type zz\nrefused path 1\nrefused command\nrefused command\n",
+        b"plan 1\ncc\nplan 0\nrefused type zz\nrefused path 1\nrefused expression 5\nrefused command\n",
         0,
     ),
     (TWO_WAYS, b"plan z.a:d\n", 0, b"plan 2\np\ns\n", 0),
@@ -146,20 +146,26 @@ fn answers_the_worked_rows(rt: HostRuntime) -> Result<(), Fail> {
     Ok(())
 }
 
-// The status and the output over the program's graph, where this call of the tree fails.
+// The status and the output of two takes of the graph's own file, where this call of the tree fails.
 fn failing_tree(alloc: Global, number: u32) -> Result<(u8, Vec<u8>), Memory> {
     let fails = only(alloc, number)?;
     let mut tree = FailTree::new(tree_of(alloc, GRAPH)?, fails);
     let mut tools = TableTools::toy(alloc, Seq::new(alloc));
-    outcome_over(alloc, &mut tree, &mut tools, b"")
+    outcome_over(alloc, &mut tree, &mut tools, b"take g0\ntake g0\n")
 }
 
 #[test]
-fn ends_where_the_tree_fails(rt: HostRuntime) -> Result<(), Fail> {
-    for (number, end) in [(1, 6), (2, 0)] {
+fn ends_or_refuses_where_the_tree_fails(rt: HostRuntime) -> Result<(), Fail> {
+    let rows: [(u32, u8, &[u8]); 4] = [
+        (1, 6, b""),
+        (2, 0, b"refused read\ntook g0 75\n"),
+        (3, 0, b"took g0 75\nrefused read\n"),
+        (4, 0, b"took g0 75\ntook g0 75\n"),
+    ];
+    for (number, end, want) in rows {
         let (status, output) = failing_tree(rt.alloc(), number)?;
         assert_eq!(rt; status, end);
-        assert_eq!(rt; output.len(), 0);
+        assert!(rt; output.as_slice() == want);
     }
     Ok(())
 }

@@ -21,7 +21,7 @@ fn outcome(alloc: Global, text: &[u8], piece: usize) -> Result<(u8, Vec<u8>), Me
 }
 
 // An input, the status, and the output.
-const ROWS: [(&[u8], u8, &[u8]); 13] = [
+const ROWS: [(&[u8], u8, &[u8]); 23] = [
     (b"", 0, b""),
     (
         b"put a.c 0\nask a.c\n",
@@ -46,11 +46,9 @@ const ROWS: [(&[u8], u8, &[u8]); 13] = [
         0,
         b"put a.c 8\nobject ok simple 8\n\nask a.c\nmessages 0\n",
     ),
-    (
-        b"put a.c 16777217\nput a.c 01\nput a.c 1",
-        1,
-        b"refused command\nrefused command\n",
-    ),
+    (b"put a.c 01\nput a.c 1", 1, b"refused command\n"),
+    (b"put a.c 16777217\nput b.c 0\n", 1, b""),
+    (b"put a.c 18446744073709551616\n", 0, b"refused command\n"),
     (
         b"put a.c 1\nxput a.c 1\nyask a.c\n",
         0,
@@ -59,19 +57,42 @@ const ROWS: [(&[u8], u8, &[u8]); 13] = [
     (
         b"\n\r\nfrob\r\nask a.c\r\r\n",
         0,
-        b"refused command\nrefused command\n",
+        b"refused command\nrefused expression 4\n",
     ),
     (
         b"put a?c 3\nxyz\nask a?c\n",
         0,
-        b"refused command\nrefused command\nrefused command\n",
+        b"refused name\nrefused expression 2\n",
     ),
     (
         b"put a.c 0 \nput  a.c 0\nask \nPUT a.c 0\nask a?c\n",
         0,
-        b"refused command\nrefused command\nrefused command\nrefused command\nrefused command\n",
+        b"refused command\nrefused command\nrefused expression 1\nrefused command\nrefused expression 2\n",
     ),
+    (
+        b"put a?c 8\nput b 0\nput a?c 18446744073709551615\nx",
+        1,
+        b"refused name\n",
+    ),
+    (
+        b"put a.c 4\nx=1\ndrop a.c\ndrop a.c\ndrop a?c\ndrop\n",
+        0,
+        b"put a.c 4\ndropped a.c\nno source a.c\nrefused name\nrefused command\n",
+    ),
+    (
+        b"sources\nput b 3\nxyzput a/1 0\nput a 2\n12put b 1\nysources\nsources \n",
+        0,
+        b"sources 0\nput b 3\nput a/1 0\nput a 2\nput b 1\nsources 3\na 2\na/1 0\nb 1\nrefused command\n",
+    ),
+    (b"take g0\ntake z.c\ntake a?c\ntake \n", 0, TAKEN),
+    (b"kept\nquit", 0, b"refused command\nbye\n"),
+    (b"quit\n", 0, b"bye\n"),
+    (b"quit x\nquit\r\nfrob\nput a.c 9\nx=1", 0, b"refused command\nbye\n"),
+    (b"quit\nask a.c\nquit\n", 0, b"bye\n"),
 ];
+
+// The replies to `take` of the graph's own file, of one that is not there, and of words that are no names.
+const TAKEN: &[u8] = b"took g0 75\nno file z.c\nrefused name\nrefused command\n";
 
 #[test]
 fn answers_the_worked_rows(rt: HostRuntime) -> Result<(), Fail> {
@@ -104,8 +125,8 @@ fn padded_outcome(alloc: Global, front: &[u8], count: usize) -> Result<(u8, Vec<
 // What stands in front of so many letters, and the start of the output.
 const LENGTHS: [(&[u8], usize, &[u8]); 7] = [
     (b"ask ", 255, b"object abort none 0\nmessages 1\nabort aaa"),
-    (b"ask ", 256, b"refused command\n"),
-    (b"ask ", 1020, b"refused command\n"),
+    (b"ask ", 256, b"refused expression 256\n"),
+    (b"ask ", 1020, b"refused expression 256\n"),
     (b"ask ", 1021, b"refused command\n"),
     (b"ask ", 5000, b"refused command\n"),
     (
@@ -122,6 +143,30 @@ fn holds_the_limits_of_lines(rt: HostRuntime) -> Result<(), Fail> {
         let (status, output) = padded_outcome(rt.alloc(), front, *count)?;
         assert_eq!(rt; status, 0);
         assert!(rt; output.as_slice().starts_with(want));
+    }
+    Ok(())
+}
+
+// The status and the output where so many bytes are put, and the sources are listed behind them.
+fn put_outcome(alloc: Global, front: &[u8], count: usize) -> Result<(u8, Vec<u8>), Memory> {
+    let mut text = Vec::new(alloc);
+    put_padded(&mut text, front, count)?;
+    text.extend_from_slice(b"sources\n")?;
+    outcome(alloc, text.as_slice(), 5000)
+}
+
+#[test]
+fn passes_over_a_text_that_is_too_long(rt: HostRuntime) -> Result<(), Fail> {
+    let longest: &[u8] = b"put x 16777216\nsources 1\nx 16777216\n";
+    let longer: &[u8] = b"refused size\nsources 0\n";
+    let rows: [(&[u8], usize, &[u8]); 2] = [
+        (b"put x 16777216\n", 16_777_216, longest),
+        (b"put x 16777217\n", 16_777_217, longer),
+    ];
+    for (front, count, want) in rows {
+        let (status, output) = put_outcome(rt.alloc(), front, count)?;
+        assert_eq!(rt; status, 0);
+        assert!(rt; output.as_slice() == want);
     }
     Ok(())
 }

@@ -1,11 +1,13 @@
-mod CommandLemmas
 mod CountLemmas
 mod CutLemmas
+mod EditLemmas
 mod GraphLemmas
 mod HeldLemmas
-mod OnceLemmas
+mod LineLemmas
 mod OpenedLemmas
 mod RunLemmas
 mod ServeLemmas
 mod SessionLemmas
+mod SourceLemmas
+mod StayLemmas
 mod TranscriptLemmas

@@ -1,26 +1,27 @@
 -- What every way to end says: which counts of faults rose, what the input says of the status, and what stays of tree, tools and disk.
-use Rattle.std.proofs.Common.{◌≡◌, ◌≢◌, ℕ, List, [], Option, Some, None, IfSome, ap, sym, refl, ◌∙◌, subst, inl, inr}
+use Rattle.std.proofs.Common.{◌≡◌, ◌≢◌, ℕ, ◌≤◌, List, [], Option, Some, None, IfSome, ap, sym, refl, ◌∙◌, subst, inl, inr}
 use Rattle.std.specs.Prelude.{⊤, IsSome}
 use Rattle.std.proofs.Math.Nat.{le_refl}
 use Rattle.odin_outside.specs.Causes.{once_more}
 use Rattle.odin_outside.specs.Spawned.{Spawned}
 use Rattle.meaning_graph.specs.Graphs.{Text, Graph}
 use Rattle.meaning_run.specs.Objects.{SinkTold}
-use Rattle.meaning_run.proofs.Lemmas.{HasRead-none, not_inside, is_inside, is_long}
+use Rattle.meaning_run.proofs.Lemmas.{HasRead-none, not_inside, at_word, is_inside, is_long}
 use Rattle.odin_shell.specs.declared.ending.Ending.{Ending}
 use Rattle.odin_shell.specs.declared.ending.Ending.TheVariants.{Whole, CutShort, BadGraph, Memory, Output, Input, Usage, TooLong}
 use Rattle.odin_shell.specs.declared.graph.Opened.{Opened}
 use Rattle.odin_shell.specs.Endings.{status_of}
 use Rattle.odin_shell.specs.Words.{graph_word, IsAccepted}
 use Rattle.odin_shell.specs.Opened.{Opens}
-use Rattle.odin_shell.specs.Commands.{commands}
+use Rattle.odin_shell.specs.Language.{commands}
 use Rattle.odin_shell.specs.Held.{Keeps}
+use Rattle.odin_shell.specs.Edits.{TreeTold, TreeStays, IsAsked}
 use Rattle.odin_shell.specs.Machine.{at_first, Told, ToolsStay, machine}
-use Rattle.odin_shell.specs.Objects.{SourceTold, Outside, Meaning}
+use Rattle.odin_shell.specs.Objects.{SourceTold, tree_of, Outside, Meaning}
 use Rattle.odin_shell.specs.Run as run
 use Rattle.odin_shell.specs.Run.{LastLine, whole, cut_off, SessionLeaves, SessionEnds, InputCount, OutputCount, AllowedBy}
-use Rattle.odin_shell.proofs.CommandLemmas.{Spells-once}
-use Rattle.odin_shell.proofs.ServeLemmas.{idle_one}
+use Rattle.meaning_commands.proofs.Lemmas.{one_command}
+use Rattle.odin_shell.proofs.ServeLemmas.{idle_one, tree_on}
 
 -- words that name no graph are not accepted
 pub not_accepted : (words : List Text) → None ≡ graph_word words → ¬ IsAccepted words
@@ -46,7 +47,8 @@ anything (Some text) = tt
 
 module _ {Disk : Type 0} (g : Graph) (start now : Told Disk) (input left : Option (List ℕ)) where
   session_output : (ending : Ending) → SessionLeaves g ending input left start now → OutputCount ending start.sink.faults now.sink.faults
-  session_output Whole l = ap (λ (s : SinkTold). s.faults) l.ends.replied.wrote
+  session_output Whole (inl l) = ap (λ (s : SinkTold). s.faults) l.ends.replied.wrote
+  session_output Whole (inr l) = ap (λ (s : SinkTold). s.faults) l.ends.replied.wrote
   session_output CutShort l = ap (λ (s : SinkTold). s.faults) l.ends.replied.wrote
   session_output BadGraph l = absurd l
   session_output Memory l = ap (λ (s : SinkTold). s.faults) l.ends.wrote
@@ -56,7 +58,8 @@ module _ {Disk : Type 0} (g : Graph) (start now : Told Disk) (input left : Optio
   session_output TooLong l = ap (λ (s : SinkTold). s.faults) l.ends.up_to.replied.wrote
 
   session_stay : (ending : Ending) → SessionLeaves g ending input left start now → ToolsStay start.tools.answer start.tools now.tools
-  session_stay Whole l = l.ends.replied.exit.stay
+  session_stay Whole (inl l) = l.ends.replied.exit.stay
+  session_stay Whole (inr l) = l.ends.replied.exit.stay
   session_stay CutShort l = l.ends.replied.exit.stay
   session_stay BadGraph l = absurd l
   session_stay Memory l = l.ends.exit.stay
@@ -65,8 +68,20 @@ module _ {Disk : Type 0} (g : Graph) (start now : Told Disk) (input left : Optio
   session_stay Usage l = absurd l
   session_stay TooLong l = l.ends.up_to.replied.exit.stay
 
+  session_tree : (ending : Ending) → SessionLeaves g ending input left start now → TreeStays start.tree now.tree
+  session_tree Whole (inl l) = l.ends.replied.exit.tree_stays
+  session_tree Whole (inr l) = l.ends.replied.exit.tree_stays
+  session_tree CutShort l = l.ends.replied.exit.tree_stays
+  session_tree BadGraph l = absurd l
+  session_tree Memory l = l.ends.exit.tree_stays
+  session_tree Output l = l.ends.exit.tree_stays
+  session_tree Input l = l.ends.up_to.replied.exit.tree_stays
+  session_tree Usage l = absurd l
+  session_tree TooLong l = l.ends.up_to.replied.exit.tree_stays
+
   session_disk : (ending : Ending) → SessionLeaves g ending input left start now → now.disk ≡ start.disk
-  session_disk Whole l = l.ends.replied.exit.disk
+  session_disk Whole (inl l) = l.ends.replied.exit.disk
+  session_disk Whole (inr l) = l.ends.replied.exit.disk
   session_disk CutShort l = l.ends.replied.exit.disk
   session_disk BadGraph l = absurd l
   session_disk Memory l = l.ends.exit.disk
@@ -76,20 +91,29 @@ module _ {Disk : Type 0} (g : Graph) (start now : Told Disk) (input left : Optio
   session_disk TooLong l = l.ends.up_to.replied.exit.disk
 
   session_exact : (ending : Ending) → SessionLeaves g ending input left start now → IfSome input (AllowedBy ending)
-  session_exact Whole l = not_inside commands Keeps (machine g start.tools.answer) Spells-once (at_first start.tools) start now input left l
-  session_exact CutShort l = is_inside commands Keeps (machine g start.tools.answer) (at_first start.tools) start now input left l
+  session_exact Whole (inl l) = not_inside commands Keeps (machine g start.tools.answer) one_command (at_first start.tools start.tree) start now input left l
+  session_exact Whole (inr l) = at_word commands Keeps (machine g start.tools.answer) one_command (at_first start.tools start.tree) start now input left l
+  session_exact CutShort l = is_inside commands Keeps (machine g start.tools.answer) (at_first start.tools start.tree) start now input left l
   session_exact BadGraph l = absurd l
   session_exact Memory l = anything input
   session_exact Output l = anything input
   session_exact Input l = anything input
   session_exact Usage l = absurd l
-  session_exact TooLong l = is_long commands Keeps (machine g start.tools.answer) (at_first start.tools) start now input left l
+  session_exact TooLong l = is_long commands Keeps (machine g start.tools.answer) one_command (at_first start.tools start.tree) start now input left l
 
 -- memory was wanted before the first byte was read
 pub unread_ends : {Disk : Type 0} (g : Graph) (input : SourceTold) (told : Told Disk) → told.tools.running ≡ [] → SessionEnds g input input told told Memory
 unread_ends g input told idle = record {
-  leaves = HasRead-none commands Keeps (machine g told.tools.answer) (at_first told.tools) told told input.left refl
-      (record { tools = refl; counted = le_refl told.tools.faults; stay = record { answers = refl; later = le_refl told.tools.faults; few = idle_one told.tools idle }; disk = refl });
+  leaves = HasRead-none commands Keeps (machine g told.tools.answer) (at_first told.tools told.tree) told told input.left refl
+      (record {
+        tools = refl;
+        tree = refl;
+        counted = le_refl told.tools.faults;
+        tree_counted = le_refl told.tree.faults;
+        stay = record { answers = refl; later = le_refl told.tools.faults; few = idle_one told.tools idle };
+        tree_stays = record { files = refl; later = le_refl told.tree.faults };
+        disk = refl;
+      });
   read = refl;
   idle = λ other. idle;
 }
@@ -97,81 +121,114 @@ unread_ends g input told idle = record {
 -- ---- a run
 
 module _ {I O T S D : Type 0} (m : Meaning I O T S) (words : List Text) (before after : Outside I O T S D) where
-  -- the tree was asked for the file of the words, and gave it
-  pub gives : (name : Text) (o : Opened) → Some name ≡ graph_word words → (opens : Opens (m.files before.tree) name o) → m.reads after.tree ≡ once_more (m.reads before.tree) → m.files after.tree ≡ m.files before.tree
-      → m.tree_faults after.tree ≡ m.tree_faults before.tree → run.Gives m words before after opens.given
-  gives name o named opens once kept unfailed = record { asks = record { name = name; named = sym named; once = once; kept = kept }; is = opens.is; unfailed = unfailed }
+  -- what the tree tells
+  abbrev tree : Outside I O T S D → TreeTold
+  tree o = tree_of m.files m.tree_faults m.reads o.tree
 
-  reads_of : (ending : Ending) → InputCount ending (m.input_faults before.input) (m.input_faults after.input) → m.tree_faults after.tree ≡ m.tree_faults before.tree → run.ReadCounts m words before after ending
-  reads_of Whole input tree = (input, tree)
-  reads_of CutShort input tree = (input, tree)
-  reads_of BadGraph input tree = (input, tree)
-  reads_of Memory input tree = (input, tree)
-  reads_of Output input tree = (input, tree)
-  reads_of Input input tree = inl (input, tree)
-  reads_of Usage input tree = (input, tree)
-  reads_of TooLong input tree = (input, tree)
+  -- the tree was asked for the file of the words
+  pub asks : (name : Text) (opened : TreeTold) → Some name ≡ graph_word words → opened.reads ≡ once_more (m.reads before.tree) → opened.files ≡ m.files before.tree → m.tree_faults before.tree ≤ opened.faults
+      → run.AsksOnce m words before after opened
+  asks name opened named once kept later = record { name = name; named = sym named; asked = record { stays = record { files = kept; later = later }; once = once } }
 
-  exact : (ending : Ending) → run.EndsAs m words before after ending → IfSome (m.left before.input) (AllowedBy ending)
-  exact ending (run.words_refused not line same) = at_end _ _ _ _ ending (λ e. IfSome (m.left before.input) (AllowedBy e)) line (anything (m.left before.input)) (anything (m.left before.input))
-  exact ending (run.tree_failed is asks rose same) = subst (λ (e : Ending). IfSome (m.left before.input) (AllowedBy e)) (sym is) (anything (m.left before.input))
-  exact ending (run.graph_unread is asks stays same) = subst (λ (e : Ending). IfSome (m.left before.input) (AllowedBy e)) (sym is) (anything (m.left before.input))
-  exact ending (run.graph_refused given line gives refused last same) = at_end _ _ _ _ ending (λ e. IfSome (m.left before.input) (AllowedBy e)) last (anything (m.left before.input)) (anything (m.left before.input))
-  exact ending (run.served given g gives reads ends) = session_exact g _ _ _ _ ending ends.leaves
+  -- and gave it
+  pub gives : (name : Text) (opened : TreeTold) (o : Opened) → Some name ≡ graph_word words → (opens : Opens (m.files before.tree) name o) → opened.reads ≡ once_more (m.reads before.tree) → opened.files ≡ m.files before.tree
+      → m.tree_faults before.tree ≤ opened.faults → opened.faults ≡ m.tree_faults before.tree → run.Gives m words before after opened opens.given
+  gives name opened o named opens once kept later unfailed = record { asks = record { name = name; named = sym named; asked = record { stays = record { files = kept; later = later }; once = once } }; is = opens.is; unfailed = unfailed }
 
-  output : (ending : Ending) → run.EndsAs m words before after ending → OutputCount ending (m.output_faults before.output) (m.output_faults after.output)
-  output ending (run.words_refused not line same) = line_output _ _ _ _ ending (λ e. e) line
-  output ending (run.tree_failed is asks rose same) = subst (λ (e : Ending). OutputCount e (m.output_faults before.output) (m.output_faults after.output)) (sym is) (ap (λ (o : Outside I O T S D). m.output_faults o.output) same)
-  output ending (run.graph_unread is asks stays same) = subst (λ (e : Ending). OutputCount e (m.output_faults before.output) (m.output_faults after.output)) (sym is) (ap (λ (o : Outside I O T S D). m.output_faults o.output) same)
-  output ending (run.graph_refused given line gives refused last same) = line_output _ _ _ _ ending (λ e. e) last
-  output ending (run.served given g gives reads ends) = session_output g _ _ _ _ ending ends.leaves
+  reads_of : (opened : TreeTold) (ending : Ending) → InputCount ending (m.input_faults before.input) (m.input_faults after.input) → opened.faults ≡ m.tree_faults before.tree → run.ReadCounts m words before after opened ending
+  reads_of opened Whole input tree = (input, tree)
+  reads_of opened CutShort input tree = (input, tree)
+  reads_of opened BadGraph input tree = (input, tree)
+  reads_of opened Memory input tree = (input, tree)
+  reads_of opened Output input tree = (input, tree)
+  reads_of opened Input input tree = inl (input, tree)
+  reads_of opened Usage input tree = (input, tree)
+  reads_of opened TooLong input tree = (input, tree)
 
-  reads : (ending : Ending) → run.EndsAs m words before after ending → run.ReadCounts m words before after ending
-  reads ending (run.words_refused not line same) =
-      let both : (m.input_faults after.input ≡ m.input_faults before.input) × (m.tree_faults after.tree ≡ m.tree_faults before.tree) = (ap (λ (o : Outside I O T S D). m.input_faults o.input) same, ap (λ (o : Outside I O T S D). m.tree_faults o.tree) same) in
-      at_end _ _ _ _ ending (run.ReadCounts m words before after) line both both
-  reads ending (run.tree_failed is asks rose same) = subst (run.ReadCounts m words before after) (sym is) (inr (ap (λ (o : Outside I O T S D). m.input_faults o.input) same, rose))
-  reads ending (run.graph_unread is asks stays same) = subst (run.ReadCounts m words before after) (sym is) (ap (λ (o : Outside I O T S D). m.input_faults o.input) same, stays)
-  reads ending (run.graph_refused given line gives refused last same) =
-      let both : (m.input_faults after.input ≡ m.input_faults before.input) × (m.tree_faults after.tree ≡ m.tree_faults before.tree) = (ap (λ (o : Outside I O T S D). m.input_faults o.input) same, gives.unfailed) in
-      at_end _ _ _ _ ending (run.ReadCounts m words before after) last both both
-  reads ending (run.served given g gives read ends) = reads_of ending ends.read gives.unfailed
+  exact : (opened : TreeTold) (ending : Ending) → run.EndsAs m words before after opened ending → IfSome (m.left before.input) (AllowedBy ending)
+  exact opened ending (run.words_refused not line is same) = at_end _ _ _ _ ending (λ e. IfSome (m.left before.input) (AllowedBy e)) line (anything (m.left before.input)) (anything (m.left before.input))
+  exact opened ending (run.tree_failed due asks rose is same) = subst (λ (e : Ending). IfSome (m.left before.input) (AllowedBy e)) (sym due) (anything (m.left before.input))
+  exact opened ending (run.graph_unread due asks stays is same) = subst (λ (e : Ending). IfSome (m.left before.input) (AllowedBy e)) (sym due) (anything (m.left before.input))
+  exact opened ending (run.graph_refused given line gives refused last is same) = at_end _ _ _ _ ending (λ e. IfSome (m.left before.input) (AllowedBy e)) last (anything (m.left before.input)) (anything (m.left before.input))
+  exact opened ending (run.served given g gives reads ends) = session_exact g _ _ _ _ ending ends.leaves
 
-  pub run_ends : (ending : Ending) (status : ℕ) → status ≡ status_of ending → run.EndsAs m words before after ending → run.RunEnds m words before after status
-  run_ends ending status is how = record { ending = ending; status_is = is; how = how; exact = exact ending how; output = output ending how; reads = reads ending how }
+  output : (opened : TreeTold) (ending : Ending) → run.EndsAs m words before after opened ending → OutputCount ending (m.output_faults before.output) (m.output_faults after.output)
+  output opened ending (run.words_refused not line is same) = line_output _ _ _ _ ending (λ e. e) line
+  output opened ending (run.tree_failed due asks rose is same) = subst (λ (e : Ending). OutputCount e (m.output_faults before.output) (m.output_faults after.output)) (sym due) (ap (λ (o : Outside I O T S D). m.output_faults o.output) same)
+  output opened ending (run.graph_unread due asks stays is same) = subst (λ (e : Ending). OutputCount e (m.output_faults before.output) (m.output_faults after.output)) (sym due) (ap (λ (o : Outside I O T S D). m.output_faults o.output) same)
+  output opened ending (run.graph_refused given line gives refused last is same) = line_output _ _ _ _ ending (λ e. e) last
+  output opened ending (run.served given g gives reads ends) = session_output g _ _ _ _ ending ends.leaves
 
-  pub files_kept : (ending : Ending) → run.EndsAs m words before after ending → m.files after.tree ≡ m.files before.tree
-  files_kept ending (run.words_refused not line same) = ap (λ (o : Outside I O T S D). m.files o.tree) same
-  files_kept ending (run.tree_failed is asks rose same) = asks.kept
-  files_kept ending (run.graph_unread is asks stays same) = asks.kept
-  files_kept ending (run.graph_refused given line gives refused last same) = gives.asks.kept
-  files_kept ending (run.served given g gives reads ends) = gives.asks.kept
+  reads : (opened : TreeTold) (ending : Ending) → run.EndsAs m words before after opened ending → run.ReadCounts m words before after opened ending
+  reads opened ending (run.words_refused not line is same) =
+      let both : (m.input_faults after.input ≡ m.input_faults before.input) × (opened.faults ≡ m.tree_faults before.tree) = (ap (λ (o : Outside I O T S D). m.input_faults o.input) same, ap (λ (t : TreeTold). t.faults) is) in
+      at_end _ _ _ _ ending (run.ReadCounts m words before after opened) line both both
+  reads opened ending (run.tree_failed due asks rose is same) = subst (run.ReadCounts m words before after opened) (sym due) (inr (ap (λ (o : Outside I O T S D). m.input_faults o.input) same, rose))
+  reads opened ending (run.graph_unread due asks stays is same) = subst (run.ReadCounts m words before after opened) (sym due) (ap (λ (o : Outside I O T S D). m.input_faults o.input) same, stays)
+  reads opened ending (run.graph_refused given line gives refused last is same) =
+      let both : (m.input_faults after.input ≡ m.input_faults before.input) × (opened.faults ≡ m.tree_faults before.tree) = (ap (λ (o : Outside I O T S D). m.input_faults o.input) same, gives.unfailed) in
+      at_end _ _ _ _ ending (run.ReadCounts m words before after opened) last both both
+  reads opened ending (run.served given g gives read ends) = reads_of opened ending ends.read gives.unfailed
 
-  pub disk_kept : (ending : Ending) → run.EndsAs m words before after ending → after.disk ≡ before.disk
-  disk_kept ending (run.words_refused not line same) = ap (λ (o : Outside I O T S D). o.disk) same
-  disk_kept ending (run.tree_failed is asks rose same) = ap (λ (o : Outside I O T S D). o.disk) same
-  disk_kept ending (run.graph_unread is asks stays same) = ap (λ (o : Outside I O T S D). o.disk) same
-  disk_kept ending (run.graph_refused given line gives refused last same) = ap (λ (o : Outside I O T S D). o.disk) same
-  disk_kept ending (run.served given g gives reads ends) = session_disk g _ _ _ _ ending ends.leaves
+  pub run_ends : (ending : Ending) (status : ℕ) → status ≡ status_of ending → run.Ended m words before after ending → run.RunEnds m words before after status
+  run_ends ending status is ended = record {
+    ending = ending;
+    status_is = is;
+    ended = ended;
+    exact = exact ended.opened ending ended.how;
+    output = output ended.opened ending ended.how;
+    reads = reads ended.opened ending ended.how;
+  }
+
+  -- what stays of the tree
+  tree_as : (opened : TreeTold) → opened ≡ tree after → TreeStays (tree before) opened → TreeStays (tree before) (tree after)
+  tree_as opened is stays = subst (TreeStays (tree before)) is stays
+
+  tree_how : (opened : TreeTold) (ending : Ending) → run.EndsAs m words before after opened ending → TreeStays (tree before) (tree after)
+  tree_how opened ending (run.words_refused not line is same) =
+      subst (λ (o : Outside I O T S D). TreeStays (tree before) (tree o)) (sym same) (record { files = refl; later = le_refl (m.tree_faults before.tree) })
+  tree_how opened ending (run.tree_failed due asks rose is same) = tree_as opened is asks.asked.stays
+  tree_how opened ending (run.graph_unread due asks stays is same) = tree_as opened is asks.asked.stays
+  tree_how opened ending (run.graph_refused given line gives refused last is same) = tree_as opened is gives.asks.asked.stays
+  tree_how opened ending (run.served given g gives reads ends) = tree_on gives.asks.asked.stays (session_tree g _ _ _ _ ending ends.leaves)
+
+  pub tree_stays : (ending : Ending) → run.Ended m words before after ending → TreeStays (tree before) (tree after)
+  tree_stays ending ended = tree_how ended.opened ending ended.how
+
+  disk_how : (opened : TreeTold) (ending : Ending) → run.EndsAs m words before after opened ending → after.disk ≡ before.disk
+  disk_how opened ending (run.words_refused not line is same) = ap (λ (o : Outside I O T S D). o.disk) same
+  disk_how opened ending (run.tree_failed due asks rose is same) = ap (λ (o : Outside I O T S D). o.disk) same
+  disk_how opened ending (run.graph_unread due asks stays is same) = ap (λ (o : Outside I O T S D). o.disk) same
+  disk_how opened ending (run.graph_refused given line gives refused last is same) = ap (λ (o : Outside I O T S D). o.disk) same
+  disk_how opened ending (run.served given g gives reads ends) = session_disk g _ _ _ _ ending ends.leaves
+
+  pub disk_kept : (ending : Ending) → run.Ended m words before after ending → after.disk ≡ before.disk
+  disk_kept ending ended = disk_how ended.opened ending ended.how
 
   -- the tools that were not touched
   untouched : m.spawned after.tools ≡ m.spawned before.tools → (m.spawned before.tools).running ≡ [] → ToolsStay (m.spawned before.tools).answer (m.spawned before.tools) (m.spawned after.tools)
   untouched same idle = subst (λ (t : Spawned). ToolsStay (m.spawned before.tools).answer (m.spawned before.tools) t) (sym same)
       (record { answers = refl; later = le_refl (m.spawned before.tools).faults; few = idle_one (m.spawned before.tools) idle })
 
-  pub tools_stay : (ending : Ending) → (m.spawned before.tools).running ≡ [] → run.EndsAs m words before after ending → ToolsStay (m.spawned before.tools).answer (m.spawned before.tools) (m.spawned after.tools)
-  tools_stay ending idle (run.words_refused not line same) = untouched (ap (λ (o : Outside I O T S D). m.spawned o.tools) same) idle
-  tools_stay ending idle (run.tree_failed is asks rose same) = untouched (ap (λ (o : Outside I O T S D). m.spawned o.tools) same) idle
-  tools_stay ending idle (run.graph_unread is asks stays same) = untouched (ap (λ (o : Outside I O T S D). m.spawned o.tools) same) idle
-  tools_stay ending idle (run.graph_refused given line gives refused last same) = untouched (ap (λ (o : Outside I O T S D). m.spawned o.tools) same) idle
-  tools_stay ending idle (run.served given g gives reads ends) = session_stay g _ _ _ _ ending ends.leaves
+  tools_how : (opened : TreeTold) (ending : Ending) → (m.spawned before.tools).running ≡ [] → run.EndsAs m words before after opened ending → ToolsStay (m.spawned before.tools).answer (m.spawned before.tools) (m.spawned after.tools)
+  tools_how opened ending idle (run.words_refused not line is same) = untouched (ap (λ (o : Outside I O T S D). m.spawned o.tools) same) idle
+  tools_how opened ending idle (run.tree_failed due asks rose is same) = untouched (ap (λ (o : Outside I O T S D). m.spawned o.tools) same) idle
+  tools_how opened ending idle (run.graph_unread due asks stays is same) = untouched (ap (λ (o : Outside I O T S D). m.spawned o.tools) same) idle
+  tools_how opened ending idle (run.graph_refused given line gives refused last is same) = untouched (ap (λ (o : Outside I O T S D). m.spawned o.tools) same) idle
+  tools_how opened ending idle (run.served given g gives reads ends) = session_stay g _ _ _ _ ending ends.leaves
+
+  pub tools_stay : (ending : Ending) → (m.spawned before.tools).running ≡ [] → run.Ended m words before after ending → ToolsStay (m.spawned before.tools).answer (m.spawned before.tools) (m.spawned after.tools)
+  tools_stay ending idle ended = tools_how ended.opened ending idle ended.how
 
   idle_still : m.spawned after.tools ≡ m.spawned before.tools → (m.spawned before.tools).running ≡ [] → (m.spawned after.tools).running ≡ []
   idle_still same idle = ap (λ (t : Spawned). t.running) same ∙ idle
 
-  pub tools_idle : (ending : Ending) → (m.spawned before.tools).running ≡ [] → ending ≢ Memory → run.EndsAs m words before after ending → (m.spawned after.tools).running ≡ []
-  tools_idle ending idle other (run.words_refused not line same) = idle_still (ap (λ (o : Outside I O T S D). m.spawned o.tools) same) idle
-  tools_idle ending idle other (run.tree_failed is asks rose same) = idle_still (ap (λ (o : Outside I O T S D). m.spawned o.tools) same) idle
-  tools_idle ending idle other (run.graph_unread is asks stays same) = idle_still (ap (λ (o : Outside I O T S D). m.spawned o.tools) same) idle
-  tools_idle ending idle other (run.graph_refused given line gives refused last same) = idle_still (ap (λ (o : Outside I O T S D). m.spawned o.tools) same) idle
-  tools_idle ending idle other (run.served given g gives reads ends) = ends.idle other
+  idle_how : (opened : TreeTold) (ending : Ending) → (m.spawned before.tools).running ≡ [] → ending ≢ Memory → run.EndsAs m words before after opened ending → (m.spawned after.tools).running ≡ []
+  idle_how opened ending idle other (run.words_refused not line is same) = idle_still (ap (λ (o : Outside I O T S D). m.spawned o.tools) same) idle
+  idle_how opened ending idle other (run.tree_failed due asks rose is same) = idle_still (ap (λ (o : Outside I O T S D). m.spawned o.tools) same) idle
+  idle_how opened ending idle other (run.graph_unread due asks stays is same) = idle_still (ap (λ (o : Outside I O T S D). m.spawned o.tools) same) idle
+  idle_how opened ending idle other (run.graph_refused given line gives refused last is same) = idle_still (ap (λ (o : Outside I O T S D). m.spawned o.tools) same) idle
+  idle_how opened ending idle other (run.served given g gives reads ends) = ends.idle other
+
+  pub tools_idle : (ending : Ending) → (m.spawned before.tools).running ≡ [] → ending ≢ Memory → run.Ended m words before after ending → (m.spawned after.tools).running ≡ []
+  tools_idle ending idle other ended = idle_how ended.opened ending idle other ended.how

@@ -1,28 +1,30 @@
 -- A command served: its change, its reply, and where it stops.
-use Rattle.std.proofs.Common.{◌≡◌, ◌≢◌, ℕ, ◌≤◌, Bool, true, false, Result, Ok, Err, IfErr, IsErrAnd, OnOk, OnErr, inl, inr, List, [], ◌++◌, length, Option, Some, ap, sym, refl, ◌∙◌, subst, arith}
-use Rattle.std.specs.FinMap as map
-use Rattle.std.specs.Str.{bytes_eq}
-use Rattle.std.proofs.lemmas.Slice.Eq.{bytes_eq-Decides}
+use Rattle.std.proofs.Common.{◌≡◌, ◌≢◌, ℕ, ◌≤◌, Bool, true, false, Result, Ok, Err, OnErr, IfErr, IsErrAnd, inl, inr, List, [], length, Option, ap, sym, refl, ◌∙◌, subst, arith}
+use Rattle.std.specs.FinMap.{insert}
+use Rattle.std.proofs.Math.Nat.{le_refl}
+use Rattle.std.proofs.lemmas.Bool.{le-leb}
 use Rattle.std.proofs.lemmas.Result.{err_from_is_err_and}
-use Rattle.meaning_run.specs.Objects.{took, TookPart}
-use Rattle.object_sources.specs.Texts.{Text, Texts}
-use Rattle.object_sources.specs.Gets.{put_here, put_other}
-use Rattle.meaning_texts.specs.Classes.{IsName}
-use Rattle.meaning_texts.specs.Limits.{body_limit}
-use Rattle.meaning_run.specs.Items.{Item, IsItem}
-use Rattle.odin_shell.specs.declared.command.Command.{Command}
-use Rattle.odin_shell.specs.declared.command.Command.TheVariants.{Put, Ask, Plan, Nothing, Bad}
-use Rattle.odin_shell.specs.declared.serve.Stop.{Stop}
-use Rattle.odin_shell.specs.declared.serve.Stop.TheVariants.{Memory, Output}
-use Rattle.odin_shell.specs.Commands.{commands}
 use Rattle.odin_outside.specs.Spawned.{Table, Spawned}
-use Rattle.odin_answers.specs.Answers.{IsReply, MayHaveBegun, Replies}
-use Rattle.odin_answers.proofs.Lemmas.{answer_uncounted, refusal_counted, begun_later}
-use Rattle.meaning_derive.specs.Derive.{Sources}
+use Rattle.object_sources.specs.Texts.{Text, Texts}
+use Rattle.meaning_texts.specs.Limits.{body_limit}
 use Rattle.meaning_graph.specs.Graphs.{Graph}
-use Rattle.meaning_derive.specs.Given.{IsSource, AreSources}
+use Rattle.meaning_derive.specs.Derive.{Sources as Given}
+use Rattle.meaning_run.specs.Objects.{took, TookPart}
+use Rattle.meaning_run.specs.Items.{SameBody}
+use Rattle.plain_derive.specs.declared.fault.PlainFault.TheVariants as fault
+use Rattle.plain_derive.proofs.Lemmas.{made_is_begun}
+use Rattle.odin_answers.specs.Answers.{IsReply, MayHaveBegun}
+use Rattle.odin_answers.proofs.Lemmas.{answer_uncounted, refusal_counted, begun_later}
+use Rattle.meaning_commands.specs.declared.commands.Command.{Command}
+use Rattle.meaning_commands.specs.declared.commands.Command.TheVariants.{Put, Take, Remove, Ask, Plan, Sources, Kept, Quit, Nothing, Bad, BadName}
+use Rattle.meaning_commands.specs.declared.replies.Reply.{Reply}
+use Rattle.meaning_commands.specs.Commands.{ends_run}
 use Rattle.odin_shell.specs.declared.cutter.Whole.{Whole}
-use Rattle.odin_shell.specs.Machine.{State, holding, Told, Belongs, Step, MayLeave, ToolsStay, IsAnswered}
+use Rattle.odin_shell.specs.declared.serve.Stop.{Stop}
+use Rattle.odin_shell.specs.declared.serve.Stop.TheVariants as stop
+use Rattle.odin_shell.specs.Language.{keeps_body, commands}
+use Rattle.odin_shell.specs.Edits.{TreeTold, TreeStays, Puts}
+use Rattle.odin_shell.specs.Machine.{State, holding, Told, Belongs, Step, MayLeave, ToolsStay}
 use Rattle.odin_shell.specs.Sessions.{Serves, StopsServing}
 
 -- where none runs at most one does
@@ -35,109 +37,218 @@ at_stop r s Q is q =
     let p = err_from_is_err_and r is in
     subst (λ v. IfErr v Q) (sym p.1) (subst Q (sym p.2) q)
 
--- the reply's bytes, from an empty buffer
-reply_is : (reply out out' given : List ℕ) → out ≡ [] → given ≡ out' → out' ≡ out ++ reply → given ≡ reply
-reply_is reply out out' given none is bytes = is ∙ bytes ∙ ap (λ o. o ++ reply) none
+-- what holds in any case holds at an error
+pub on_err : {T E : Type 0} (r : Result T E) (P : Type 0) → P → OnErr r P
+on_err (Ok v) P p = tt
+on_err (Err e) P p = p
 
--- what the code holds and what is told of the tools is the state
-state_is : {Disk : Type 0} (table : Option Table) (start : Told Disk) (code : Texts) (state : State) (told : Told Disk) → Belongs table start code state told → holding code told.tools ≡ state
-state_is table start code state told belongs = λ i. record { texts = belongs.sources i; tools = belongs.tools i }
+-- ---- asks
 
--- the step of an answer is one from the state
-stepped : {Disk : Type 0} (g : Graph) (table : Option Table) (start : Told Disk) (old : Texts) (before : Told Disk) (state new : State) (command : Command) (body reply : List ℕ) → Belongs table start old state before
-    → Step g before.tools.answer (holding old before.tools) command body reply new → Step g table state command body reply new
-stepped g table start old before state new command body reply belongs step =
-    subst (λ (t : Option Table). Step g t state command body reply new) belongs.stay.answers
-    (subst (λ (s : State). Step g before.tools.answer s command body reply new) (state_is table start old state before belongs) step)
+-- what is answered was begun
+pub reply_begun : (g : Graph) (table : Option Table) (s : Given) (text : Text) (reply : Reply) (before now : Spawned) → IsReply g table s text reply before now → MayHaveBegun g table s text before now
+reply_begun g table s text reply before now (inl answered) = elim answered.did [
+  | inl alone ↦ inl alone.told
+  | inr derived ↦ inr (
+    fault.Memory,
+    record {
+      outcomes = answered.outcomes;
+      given = answered.given;
+      node = derived.node;
+      asks = derived.asks;
+      begun = made_is_begun g s answered.outcomes derived.node before now derived.made;
+    },
+  )
+]
+reply_begun g table s text reply before now (inr refused) = inr (fault.Spawn, refused.begun)
 
--- and so is what is left without one
-broken : {Disk : Type 0} (g : Graph) (table : Option Table) (start : Told Disk) (old : Texts) (before : Told Disk) (state new : State) (command : Command) (body : List ℕ) → Belongs table start old state before
-    → MayLeave g before.tools.answer (holding old before.tools) command body new → MayLeave g table state command body new
-broken g table start old before state new command body belongs may =
-    subst (λ (t : Option Table). MayLeave g t state command body new) belongs.stay.answers
-    (subst (λ (s : State). MayLeave g before.tools.answer s command body new) (state_is table start old state before belongs) may)
+-- no reply lets the count of faults fall
+pub reply_later : (g : Graph) (table : Option Table) (s : Given) (text : Text) (reply : Reply) (before now : Spawned) → IsReply g table s text reply before now → before.faults ≤ now.faults
+reply_later g table s text reply before now (inl answered) = let same = answer_uncounted g table s text reply before now answered in omega (arith, same)
+reply_later g table s text reply before now (inr refused) = let counted = refusal_counted g table s text reply before now refused in counted.later
+
+-- what stays of the tools in an ask
+pub begun_stays : (g : Graph) (table : Option Table) (s : Given) (text : Text) (before now : Spawned) → MayHaveBegun g table s text before now → now.answer ≡ before.answer → length now.running ≤ 1
+    → ToolsStay before.answer before now
+begun_stays g table s text before now begun answers few = record { answers = answers; few = few; later = begun_later g table s text before now begun }
+
+pub reply_stays : (g : Graph) (table : Option Table) (s : Given) (text : Text) (reply : Reply) (before now : Spawned) → IsReply g table s text reply before now → now.answer ≡ before.answer → length now.running ≤ 1
+    → ToolsStay before.answer before now
+reply_stays g table s text reply before now is answers few = record { answers = answers; few = few; later = reply_later g table s text reply before now is }
+
+-- ---- the tree
+
+same_tree : (old new : TreeTold) → new ≡ old → TreeStays old new
+same_tree old new same = let count : new.faults ≡ old.faults = ap (λ (t : TreeTold). t.faults) same in record { files = ap (λ (t : TreeTold). t.files) same; later = omega arith }
+
+same_state : (old new : State) → new ≡ old → TreeStays old.tree new.tree
+same_state old new same = same_tree old.tree new.tree (ap (λ (s : State). s.tree) same)
+
+-- what stays of the tree in a command
+pub step_tree : (g : Graph) (table : Option Table) (old : State) (c : Command) (body bytes : List ℕ) (new : State) → Step g table old c body bytes new → TreeStays old.tree new.tree
+step_tree g table old (Put name count) body bytes new step = same_tree old.tree new.tree step.tree
+step_tree g table old (Take name) body bytes new step = step.asked.stays
+step_tree g table old (Remove name) body bytes new step = same_tree old.tree new.tree step.tree
+step_tree g table old (Ask text) body bytes new step = same_tree old.tree new.tree step.tree
+step_tree g table old (Plan text) body bytes new step = same_state old new step.same
+step_tree g table old Sources body bytes new step = same_state old new step.1
+step_tree g table old Kept body bytes new step = same_state old new step.1
+step_tree g table old Quit body bytes new step = same_state old new step.1
+step_tree g table old Nothing body bytes new step = same_state old new step.1
+step_tree g table old Bad body bytes new step = same_state old new step.1
+step_tree g table old (BadName count) body bytes new step = same_state old new step.1
+
+-- and in one without a reply
+left_tree : (g : Graph) (table : Option Table) (old : State) (c : Command) (new : State) → MayLeave g table old c new → TreeStays old.tree new.tree
+left_tree g table old (Put name count) new may = same_state old new may
+left_tree g table old (Take name) new may = may.asked.stays
+left_tree g table old (Remove name) new may = same_state old new may
+left_tree g table old (Ask text) new may = same_tree old.tree new.tree may.tree
+left_tree g table old (Plan text) new may = same_state old new may
+left_tree g table old Sources new may = same_state old new may
+left_tree g table old Kept new may = same_state old new may
+left_tree g table old Quit new may = same_state old new may
+left_tree g table old Nothing new may = same_state old new may
+left_tree g table old Bad new may = same_state old new may
+left_tree g table old (BadName count) new may = same_state old new may
 
 -- what stays in two calls stays in both
 pub stay_on : {table : Option Table} {a b c : Spawned} → ToolsStay table a b → ToolsStay b.answer b c → ToolsStay table a c
 stay_on first second = let l = first.later in let m = second.later in record { answers = second.answers ∙ first.answers; few = second.few; later = omega arith }
 
--- no reply lets the count of faults fall
-pub reply_later : (g : Graph) (table : Option Table) (s : Sources) (text reply : Text) (before now : Spawned) → IsReply g table s text reply before now → before.faults ≤ now.faults
-reply_later g table s text reply before now (inl answered) = let same = answer_uncounted g table s text reply before now answered in omega (arith, same)
-reply_later g table s text reply before now (inr refused) = let counted = refusal_counted g table s text reply before now refused in counted.later
+pub tree_on : {a b c : TreeTold} → TreeStays a b → TreeStays b c → TreeStays a c
+tree_on first second = let l = first.later in let m = second.later in record { files = second.files ∙ first.files; later = omega arith }
 
--- and so it doesn't in an ask, whatever comes of it
-pub ask_stays : {T E : Type 0} (r : Result T E) (g : Graph) (table : Option Table) (s : Sources) (text out out' : Text) (before now : Spawned)
-    → OnOk r (Replies (λ reply. IsReply g table s text reply before now) out out') → OnErr r (MayHaveBegun g table s text before now)
-    → now.answer ≡ before.answer → length now.running ≤ 1 → ToolsStay before.answer before now
-ask_stays (Ok v) g table s text out out' before now ok err answers few = record { answers = answers; few = few; later = reply_later g table s text ok.reply before now ok.holds }
-ask_stays (Err e) g table s text out out' before now ok err answers few = record { answers = answers; few = few; later = begun_later g table s text before now err }
+-- ---- bytes that are passed over
 
-module _ {Disk : Type 0} (g : Graph) (old new : Texts) (whole : Whole) (out out' given : List ℕ) (before after : Told Disk) where
-  pub serves : out ≡ [] → given ≡ out' → IsAnswered g before.tools.answer (holding old before.tools) whole.command whole.body out out' (holding new after.tools)
-      → after.sink ≡ took before.sink given → ToolsStay before.tools.answer before.tools after.tools → after.tools.running ≡ [] → after.disk ≡ before.disk → Serves g old new whole before after
-  serves none is a wrote stay idle disk = record {
-    idle = idle;
-    over = λ table first start state fits. record {
-      reply = a.reply;
-      new = holding new after.tools;
-      step = stepped g table start old before state (holding new after.tools) whole.command whole.body a.reply fits a.step;
-      wrote = wrote ∙ ap (took before.sink) (reply_is a.reply out out' given none is a.bytes);
-      fits = record { sources = refl; tools = refl; stay = stay_on fits.stay stay; idle = idle; disk = disk ∙ fits.disk };
+put_any : (old : Texts) (name : Text) (count : ℕ) (body kept : Text) (said : Reply) (new : Texts) → SameBody commands (Put name count) body kept → Puts old name count kept said new → Puts old name count body said new
+put_any old name count body kept said new same (inl is) =
+    inl (record { fits = is.fits; is = is.is; put = subst (λ (b : Text). new ≡ insert old name b) (sym (same (le-leb count body_limit is.fits))) is.put })
+put_any old name count body kept said new same (inr is) = inr is
+
+-- a command does the same, whatever the bytes are that it passes over
+any_body : (g : Graph) (table : Option Table) (old : State) (c : Command) (body kept bytes : List ℕ) (new : State) → SameBody commands c body kept → Step g table old c kept bytes new → Step g table old c body bytes new
+any_body g table old (Put name count) body kept bytes new same step = record {
+  says = record { said = step.says.said; bytes_are = step.says.bytes_are; holds = put_any old.texts name count body kept step.says.said new.texts same step.says.holds };
+  tools = step.tools;
+  tree = step.tree;
+}
+any_body g table old (Take name) body kept bytes new same step = step
+any_body g table old (Remove name) body kept bytes new same step = step
+any_body g table old (Ask text) body kept bytes new same step = step
+any_body g table old (Plan text) body kept bytes new same step = step
+any_body g table old Sources body kept bytes new same step = step
+any_body g table old Kept body kept bytes new same step = step
+any_body g table old Quit body kept bytes new same step = step
+any_body g table old Nothing body kept bytes new same step = step
+any_body g table old Bad body kept bytes new same step = step
+any_body g table old (BadName count) body kept bytes new same step = step
+
+-- ---- a command served
+
+module _ {Disk : Type 0} (g : Graph) (table : Option Table) (start : Told Disk) (old : Texts) (before : Told Disk) (state : State) (fits : Belongs table start old state before) where
+  -- what the code holds and what is told is the state
+  state_is : holding old before.tools before.tree ≡ state
+  state_is = λ i. record { texts = fits.sources i; tools = fits.tools i; tree = fits.tree i }
+
+  -- the step of an answer is one from the state
+  stepped : (new : State) (c : Command) (body kept bytes : List ℕ) → SameBody commands c body kept → Step g before.tools.answer (holding old before.tools before.tree) c kept bytes new → Step g table state c body bytes new
+  stepped new c body kept bytes same step =
+      any_body g table state c body kept bytes new same
+      (subst (λ (t : Option Table). Step g t state c kept bytes new) fits.stay.answers
+      (subst (λ (s : State). Step g before.tools.answer s c kept bytes new) state_is step))
+
+  -- and so is what is left without one
+  broken : (new : State) (c : Command) → MayLeave g before.tools.answer (holding old before.tools before.tree) c new → MayLeave g table state c new
+  broken new c may =
+      subst (λ (t : Option Table). MayLeave g t state c new) fits.stay.answers
+      (subst (λ (s : State). MayLeave g before.tools.answer s c new) state_is may)
+
+module _ {Disk : Type 0} (g : Graph) (old new : Texts) (whole : Whole) (given reply : List ℕ) (before after : Told Disk) where
+  abbrev next : State
+  next = holding new after.tools after.tree
+
+  abbrev IsStep : Type 0
+  IsStep = Step g before.tools.answer (holding old before.tools before.tree) whole.command whole.body reply next
+
+  pub serves : ends_run whole.command ≡ false → given ≡ reply → IsStep → after.sink ≡ took before.sink given → ToolsStay before.tools.answer before.tools after.tools → after.tools.running ≡ []
+      → after.disk ≡ before.disk → Serves g old new whole before after
+  serves on is step wrote stay idle disk = record {
+    on = on;
+    rests = record {
+      idle = idle;
+      over = λ table first start state body same fits. record {
+        reply = reply;
+        new = next;
+        step = stepped g table start old before state fits next whole.command body whole.body reply same step;
+        wrote = wrote ∙ ap (took before.sink) is;
+        fits = record {
+          sources = refl;
+          tools = refl;
+          tree = refl;
+          stay = stay_on fits.stay stay;
+          tree_stays = tree_on fits.tree_stays (step_tree g before.tools.answer (holding old before.tools before.tree) whole.command whole.body reply next step);
+          idle = idle;
+          disk = disk ∙ fits.disk;
+        };
+      };
     };
   }
 
-  pub stops_reply : out ≡ [] → given ≡ out' → IsAnswered g before.tools.answer (holding old before.tools) whole.command whole.body out out' (holding new after.tools)
-      → TookPart given before.sink after.sink → ToolsStay before.tools.answer before.tools after.tools → after.tools.running ≡ [] → after.disk ≡ before.disk → StopsServing g Output old whole before after
-  stops_reply none is a wrote stay idle disk = record {
+  pub stops_reply : given ≡ reply → IsStep → TookPart given before.sink after.sink → ToolsStay before.tools.answer before.tools after.tools → after.tools.running ≡ [] → after.disk ≡ before.disk
+      → StopsServing g stop.Output old whole before after
+  stops_reply is step wrote stay idle disk = record {
     idle = λ other. idle;
-    over = λ table first start state fits.
+    over = λ table first start state body same fits.
         let later = stay.later in
         let tools : before.tools.faults ≡ state.tools.faults = ap (λ (t : Spawned). t.faults) fits.tools in
+        let tree : before.tree.faults ≡ state.tree.faults = ap (λ (t : TreeTold). t.faults) fits.tree in
+        let stays = step_tree g before.tools.answer (holding old before.tools before.tree) whole.command whole.body reply next step in
+        let tree_later = stays.later in
         record {
-          reply = a.reply;
-          new = holding new after.tools;
-          step = stepped g table start old before state (holding new after.tools) whole.command whole.body a.reply fits a.step;
-          wrote = subst (λ r. TookPart r before.sink after.sink) (reply_is a.reply out out' given none is a.bytes) wrote;
-          exit = record { tools = refl; counted = omega arith; stay = stay_on fits.stay stay; disk = disk ∙ fits.disk };
+          reply = reply;
+          new = next;
+          step = stepped g table start old before state fits next whole.command body whole.body reply same step;
+          wrote = subst (λ r. TookPart r before.sink after.sink) is wrote;
+          exit = record { tools = refl; tree = refl; counted = omega arith; tree_counted = omega arith; stay = stay_on fits.stay stay; tree_stays = tree_on fits.tree_stays stays; disk = disk ∙ fits.disk };
         };
   }
 
-  pub stops_answer : MayLeave g before.tools.answer (holding old before.tools) whole.command whole.body (holding new after.tools)
-      → after.sink ≡ before.sink → ToolsStay before.tools.answer before.tools after.tools → after.disk ≡ before.disk → StopsServing g Memory old whole before after
-  stops_answer may same stay disk = record {
+  pub stops_quit : ends_run whole.command ≡ true → given ≡ reply → IsStep → after.sink ≡ took before.sink given → ToolsStay before.tools.answer before.tools after.tools → after.tools.running ≡ []
+      → after.disk ≡ before.disk → StopsServing g stop.Quit old whole before after
+  stops_quit ends is step wrote stay idle disk = record {
+    idle = λ other. idle;
+    over = λ table first start state body same fits. record {
+      ends = ends;
+      reply = reply;
+      new = next;
+      step = stepped g table start old before state fits next whole.command body whole.body reply same step;
+      wrote = wrote ∙ ap (took before.sink) is;
+      exit = record {
+        tools = refl;
+        tree = refl;
+        counted = le_refl after.tools.faults;
+        tree_counted = le_refl after.tree.faults;
+        stay = stay_on fits.stay stay;
+        tree_stays = tree_on fits.tree_stays (step_tree g before.tools.answer (holding old before.tools before.tree) whole.command whole.body reply next step);
+        disk = disk ∙ fits.disk;
+      };
+    };
+  }
+
+  pub stops_answer : MayLeave g before.tools.answer (holding old before.tools before.tree) whole.command next → after.sink ≡ before.sink → ToolsStay before.tools.answer before.tools after.tools
+      → after.disk ≡ before.disk → StopsServing g stop.Memory old whole before after
+  stops_answer may same_sink stay disk = record {
     idle = λ other. absurd (other refl);
-    over = λ table first start state fits.
+    over = λ table first start state body same fits.
         let later = stay.later in
         let tools : before.tools.faults ≡ state.tools.faults = ap (λ (t : Spawned). t.faults) fits.tools in
+        let tree : before.tree.faults ≡ state.tree.faults = ap (λ (t : TreeTold). t.faults) fits.tree in
+        let stays = left_tree g before.tools.answer (holding old before.tools before.tree) whole.command next may in
+        let tree_later = stays.later in
         record {
-          furthest = holding new after.tools;
-          may = broken g table start old before state (holding new after.tools) whole.command whole.body fits may;
-          wrote = same;
-          exit = record { tools = refl; counted = omega arith; stay = stay_on fits.stay stay; disk = disk ∙ fits.disk };
+          furthest = next;
+          may = broken g table start old before state fits next whole.command may;
+          wrote = same_sink;
+          exit = record { tools = refl; tree = refl; counted = omega arith; tree_counted = omega arith; stay = stay_on fits.stay stay; tree_stays = tree_on fits.tree_stays stays; disk = disk ∙ fits.disk };
         };
   }
-
--- behind each command the sources are names with texts that are not too long
-put_stays : (old : Texts) (name text : Text) → AreSources old → IsName name → length text ≤ body_limit → AreSources (map.insert old name text)
-put_stays old name text are named short q t is = by (bytes_eq q name) refl
-  where
-    by : (b : Bool) → bytes_eq q name ≡ b → IsSource q t
-    by true e =
-        let same : q ≡ name = (bytes_eq-Decides q name).0 e in
-        let found : Some t ≡ Some text = sym is ∙ ap (map.get (map.insert old name text)) same ∙ put_here old name text in
-        let text_is : t ≡ text = cc in
-        record { named = subst (λ n. IsName n) (sym same) named; short = subst (λ x. length x ≤ body_limit) (sym text_is) short }
-    by false e =
-        let other : q ≢ name = λ same. let yes = (bytes_eq-Decides q name).1 same in cc in
-        are q t (sym (put_other old name text q other) ∙ is)
-
-pub stay : (g : Graph) (table : Option Table) (old new : State) (item : Item) (command : Command) (reply : List ℕ) → AreSources old.texts → IsItem commands item command → Step g table old command item.body reply new → AreSources new.texts
-stay g table old new item (Put name count) reply are i step =
-    let size : length item.body ≡ count = i.size in
-    let short : count ≤ 16777216 = i.spelled.short in
-    subst (λ (s : State). AreSources s.texts) (sym step.1) (put_stays old.texts name item.body are i.spelled.named (omega arith))
-stay g table old new item (Ask request) reply are i step = subst AreSources (sym step.1) are
-stay g table old new item (Plan request) reply are i step = subst (λ (s : State). AreSources s.texts) (sym step.1) are
-stay g table old new item Nothing reply are i step = subst (λ (s : State). AreSources s.texts) (sym step.1) are
-stay g table old new item Bad reply are i step = subst (λ (s : State). AreSources s.texts) (sym step.1) are

@@ -1,9 +1,10 @@
--- Where no fault of the tools is counted, items have one transcript at most.
+-- Where no fault of the tools or of the tree is counted, items have one transcript at most.
 use Rattle.std.proofs.Common.{◌≡◌, ℕ, ◌<◌, ◌+◌, ◌≤◌, min, List, [], ◌∷◌, ap, sym, refl, ◌∙◌, subst, arith, inl, inr}
-use Rattle.std.specs.Prelude.{Some}
-use Rattle.std.specs.FinMap.{insert}
+use Rattle.std.specs.Prelude.{Option, Some, None}
+use Rattle.std.specs.FinMap.{get}
 use Rattle.object_sources.specs.Texts.{Texts}
-use Rattle.odin_outside.specs.Causes.{last_count, IsCounted}
+use Rattle.odin_outside.specs.Causes.{last_count, once_more, IsCounted}
+use Rattle.odin_outside.specs.Files.{Files, IsGiven}
 use Rattle.odin_outside.specs.Spawned.{Table}
 use Rattle.meaning_texts.specs.Lines.{without_cr}
 use Rattle.meaning_graph.specs.Graphs.{Text, Graph}
@@ -11,18 +12,22 @@ use Rattle.meaning_answers.proofs.Lemmas.{one_plan}
 use Rattle.meaning_run.specs.Items.{Item}
 use Rattle.meaning_run.specs.Machines.{Transcript, AnswersItem}
 use Rattle.plain_derive.specs.Built.{IsBuiltGraph}
-use Rattle.odin_answers.specs.Requests.{request_text}
 use Rattle.odin_answers.specs.Answers.{IsReply, HasAnswer}
 use Rattle.odin_answers.proofs.Lemmas.{refusal_counted, one_reply}
-use Rattle.odin_shell.specs.declared.command.Command.{Command}
-use Rattle.odin_shell.specs.declared.command.Command.TheVariants.{Put, Ask, Plan, Nothing, Bad}
-use Rattle.odin_shell.specs.Commands.{commands}
-use Rattle.odin_shell.specs.Machine.{State, Step}
+use Rattle.meaning_commands.specs.declared.commands.Command.{Command}
+use Rattle.meaning_commands.specs.declared.commands.Command.TheVariants.{Put, Take, Remove, Ask, Plan, Sources, Kept, Quit, Nothing, Bad, BadName}
+use Rattle.meaning_commands.specs.declared.replies.Reply.{Reply}
+use Rattle.meaning_commands.specs.declared.replies.Reply.TheVariants as reply
+use Rattle.meaning_commands.specs.Replies.{reply_text}
+use Rattle.meaning_commands.proofs.Lemmas.{one_command}
+use Rattle.odin_shell.specs.Language.{commands}
+use Rattle.odin_shell.specs.Edits.{Says, TreeTold, Inserts, Puts, TakesFile, Takes, IsTaken, IsAsked, RemovesText, Removes, source_lines}
+use Rattle.odin_shell.specs.Machine.{State, Step, Edits, EditsByFile, Asks}
 use Rattle.odin_shell.specs.Opened.{IsServedGraph}
-use Rattle.odin_shell.specs.Laws.{CountsNone, AreSame}
-use Rattle.odin_shell.proofs.CountLemmas.{counted, counts}
+use Rattle.odin_shell.specs.Laws.{NoFault, CountsNone, AreSame}
+use Rattle.odin_shell.proofs.CountLemmas.{Counts, counted, counts}
 use Rattle.odin_shell.proofs.GraphLemmas.{all_derivable}
-use Rattle.odin_shell.proofs.OnceLemmas.{one_command}
+use Rattle.odin_shell.proofs.ServeLemmas.{step_tree}
 
 -- ---- counts
 
@@ -30,80 +35,175 @@ use Rattle.odin_shell.proofs.OnceLemmas.{one_command}
 alike : (first mid last more rest : ℕ) → min (first + more) last_count ≤ mid → min (mid + rest) last_count ≤ last → last ≡ first → first < last_count → mid ≡ first
 alike first mid last more rest begins goes same below = omega (arith, begins, goes, same, below)
 
-between : (first mid last : State) (more rest : ℕ) → min (first.tools.faults + more) last_count ≤ mid.tools.faults → min (mid.tools.faults + rest) last_count ≤ last.tools.faults → CountsNone first last → CountsNone first mid × CountsNone mid last
+between : (first mid last more rest : ℕ) → min (first + more) last_count ≤ mid → min (mid + rest) last_count ≤ last → NoFault first last → NoFault first mid × NoFault mid last
 between first mid last more rest begins goes none =
-    let same : mid.tools.faults ≡ first.tools.faults = alike first.tools.faults mid.tools.faults last.tools.faults more rest begins goes none.same none.below in
+    let same : mid ≡ first = alike first mid last more rest begins goes none.same none.below in
     (record { same = same; below = none.below }, record { same = none.same ∙ sym same; below = subst (λ k. k < last_count) (sym same) none.below })
 
-not_counted : (before now : ℕ) → now ≡ before → before < last_count → IsCounted before now → ⊥
-not_counted before now same below counted = let rose = counted.rose in absurd (omega (arith, same, below, rose))
+not_counted : (before now : ℕ) → NoFault before now → IsCounted before now → ⊥
+not_counted before now none counted = let rose = counted.rose in let same = none.same in let below = none.below in absurd (omega (arith, same, below, rose))
+
+-- ---- one edit
+
+-- what comes of an edit is one
+record IsOne (said said' : Reply) (new new' : Texts) : Type 0 where
+  says : said' ≡ said
+  texts : new' ≡ new
+
+one_insert : (old : Texts) (name text : Text) (size : ℕ) (accepted said said' : Reply) (new new' : Texts) → Inserts old name text size accepted said new → Inserts old name text size accepted said' new' → IsOne said said' new new'
+one_insert old name text size accepted said said' new new' (inl a) (inl b) = record { says = b.is ∙ sym a.is; texts = b.put ∙ sym a.put }
+one_insert old name text size accepted said said' new new' (inl a) (inr b) = let fits = a.fits in let longer = b.longer in absurd (omega (arith, fits, longer))
+one_insert old name text size accepted said said' new new' (inr a) (inl b) = let fits = b.fits in let longer = a.longer in absurd (omega (arith, fits, longer))
+one_insert old name text size accepted said said' new new' (inr a) (inr b) = record { says = b.is ∙ sym a.is; texts = b.same ∙ sym a.same }
+
+one_file : (old : Texts) (name : Text) (file : Option Text) (said said' : Reply) (new new' : Texts) → TakesFile old name file said new → TakesFile old name file said' new' → IsOne said said' new new'
+one_file old name None said said' new new' a b = record { says = b.0 ∙ sym a.0; texts = b.1 ∙ sym a.1 }
+one_file old name (Some text) said said' new new' a b = one_insert old name text _ _ said said' new new' a b
+
+one_remove : (found : Option Text) (old : Texts) (name : Text) (said said' : Reply) (new new' : Texts) → RemovesText found old name said new → RemovesText found old name said' new' → IsOne said said' new new'
+one_remove None old name said said' new new' a b = record { says = b.0 ∙ sym a.0; texts = b.1 ∙ sym a.1 }
+one_remove (Some text) old name said said' new new' a b = record { says = b.0 ∙ sym a.0; texts = b.1 ∙ sym a.1 }
+
+-- the tree gave the file where no fault of it is counted
+taken : (old : Texts) (name : Text) (before : TreeTold) (said : Reply) (new : Texts) (now : TreeTold) → NoFault before.faults now.faults → Takes old name before said new now → IsTaken old name before said new now
+taken old name before said new now none (inl is) = is
+taken old name before said new now none (inr unread) = absurd (not_counted before.faults now.faults none unread.failed)
+
+-- what is told of a tree behind one answer
+abbrev asked_once : TreeTold → TreeTold
+asked_once before = record { files = before.files; faults = before.faults; reads = once_more before.reads }
+
+tree_is : (before now : TreeTold) → IsAsked before now → now.faults ≡ before.faults → now ≡ asked_once before
+tree_is before now asked unfailed = λ i. record { files = asked.stays.files i; faults = unfailed i; reads = asked.once i }
 
 -- ---- one step
 
 -- an answer, since a refusal is counted
-answered : (g : Graph) (table : Table) (old new : State) (text reply : Text) → CountsNone old new → IsReply g (Some table) old.texts text reply old.tools new.tools → HasAnswer g (Some table) old.texts text reply old.tools new.tools
-answered g table old new text reply none (inl is) = is
-answered g table old new text reply none (inr refused) = absurd (not_counted old.tools.faults new.tools.faults none.same none.below (refusal_counted g (Some table) old.texts text reply old.tools new.tools refused))
+answered : (g : Graph) (table : Table) (old new : State) (text : Text) (said : Reply) → CountsNone old new → IsReply g (Some table) old.texts text said old.tools new.tools → HasAnswer g (Some table) old.texts text said old.tools new.tools
+answered g table old new text said none (inl is) = is
+answered g table old new text said none (inr refused) = absurd (not_counted old.tools.faults new.tools.faults none.tools (refusal_counted g (Some table) old.texts text said old.tools new.tools refused))
 
 -- what is the same behind one command
-record IsSame (reply reply' : Text) (old new old' new' : State) : Type 0 where
-  is : reply' ≡ reply
+record IsSame (bytes bytes' : List ℕ) (old new old' new' : State) : Type 0 where
+  is : bytes' ≡ bytes
   texts : new'.texts ≡ new.texts
   tools : old'.tools ≡ old.tools → new'.tools ≡ new.tools
+  tree : old'.tree ≡ old.tree → new'.tree ≡ new.tree
 
-module _ (g : Graph) (built : IsBuiltGraph g) (table : Table) (old new old' new' : State) (same : old'.texts ≡ old.texts) where
-  unchanged : (reply reply' : Text) → reply' ≡ reply → new ≡ old → new' ≡ old' → IsSame reply reply' old new old' new'
-  unchanged reply reply' is stays stays' = record {
+same_bytes : (P Q : Reply → Type 0) (bytes bytes' : List ℕ) (a : Says P bytes) (b : Says Q bytes') → b.said ≡ a.said → bytes' ≡ bytes
+same_bytes P Q bytes bytes' a b same = b.bytes_are ∙ ap reply_text same ∙ sym a.bytes_are
+
+module _ (g : Graph) (built : IsBuiltGraph g) (table : Table) (files : Files) (old new old' new' : State) (same : old'.texts ≡ old.texts) where
+  unchanged : (bytes bytes' : List ℕ) → bytes' ≡ bytes → new ≡ old → new' ≡ old' → IsSame bytes bytes' old new old' new'
+  unchanged bytes bytes' is stays stays' = record {
     is = is;
     texts = ap (λ (s : State). s.texts) stays' ∙ same ∙ sym (ap (λ (s : State). s.texts) stays);
     tools = λ (e : old'.tools ≡ old.tools). ap (λ (s : State). s.tools) stays' ∙ e ∙ sym (ap (λ (s : State). s.tools) stays);
+    tree = λ (e : old'.tree ≡ old.tree). ap (λ (s : State). s.tree) stays' ∙ e ∙ sym (ap (λ (s : State). s.tree) stays);
   }
 
-  asked : (text reply reply' : Text) → HasAnswer g (Some table) old.texts text reply old.tools new.tools → HasAnswer g (Some table) old'.texts text reply' old'.tools new'.tools → new.texts ≡ old.texts → new'.texts ≡ old'.texts → IsSame reply reply' old new old' new'
-  asked text reply reply' a b stays stays' =
-      let one = one_reply g built table old.texts text reply reply' old.tools new.tools old'.tools new'.tools a (subst (λ (t : Texts). HasAnswer g (Some table) t text reply' old'.tools new'.tools) same b) in
-      record { is = one.reply; texts = stays' ∙ same ∙ sym stays; tools = one.told }
+  edited : (P Q : Reply → Texts → Type 0) (bytes bytes' : List ℕ) (a : Edits P old bytes new) (b : Edits Q old' bytes' new') → IsOne a.says.said b.says.said new.texts new'.texts → IsSame bytes bytes' old new old' new'
+  edited P Q bytes bytes' a b one = record {
+    is = same_bytes (λ said. P said new.texts) (λ said. Q said new'.texts) bytes bytes' a.says b.says one.says;
+    texts = one.texts;
+    tools = λ (e : old'.tools ≡ old.tools). b.tools ∙ e ∙ sym a.tools;
+    tree = λ (e : old'.tree ≡ old.tree). b.tree ∙ e ∙ sym a.tree;
+  }
 
-  module _ (none : CountsNone old new) (none' : CountsNone old' new') where
-    one_step : (c : Command) (body reply reply' : List ℕ) → Step g (Some table) old c body reply new → Step g (Some table) old' c body reply' new' → IsSame reply reply' old new old' new'
-    one_step (Put name count) body reply reply' step step' = record {
-      is = step'.0 ∙ sym step.0;
-      texts = ap (λ (s : State). s.texts) step'.1 ∙ ap (λ (t : Texts). insert t name body) same ∙ sym (ap (λ (s : State). s.texts) step.1);
-      tools = λ (e : old'.tools ≡ old.tools). ap (λ (s : State). s.tools) step'.1 ∙ e ∙ sym (ap (λ (s : State). s.tools) step.1);
-    }
-    one_step (Ask request) body reply reply' step step' =
-        asked (request_text request) reply reply' (answered g table old new (request_text request) reply none step.0) (answered g table old' new' (request_text request) reply' none' step'.0) step.1 step'.1
-    one_step (Plan request) body reply reply' step step' = unchanged reply reply' (one_plan g (request_text request) reply reply' step.0 step'.0) step.1 step'.1
-    one_step Nothing body reply reply' step step' = unchanged reply reply' (step'.0 ∙ sym step.0) step.1 step'.1
-    one_step Bad body reply reply' step step' = unchanged reply reply' (step'.0 ∙ sym step.0) step.1 step'.1
+  file_same : (name : Text) (bytes bytes' : List ℕ) → old.tree.files ≡ Some files → old'.tree.files ≡ Some files → CountsNone old new → CountsNone old' new' → EditsByFile name old bytes new → EditsByFile name old' bytes' new'
+      → IsSame bytes bytes' old new old' new'
+  file_same name bytes bytes' told told' none none' a b =
+      let t = taken old.texts name old.tree a.says.said new.texts new.tree none.tree a.says.holds in
+      let t' = taken old'.texts name old'.tree b.says.said new'.texts new'.tree none'.tree b.says.holds in
+      let given = subst (λ (f : Option Files). IsGiven f name t.file) told t.given in
+      let given' = subst (λ (f : Option Files). IsGiven f name t'.file) told' t'.given in
+      let takes' = subst (λ (f : Option Text). TakesFile old.texts name f b.says.said new'.texts) (given' ∙ sym given) (subst (λ (x : Texts). TakesFile x name t'.file b.says.said new'.texts) same t'.takes) in
+      let one = one_file old.texts name t.file a.says.said b.says.said new.texts new'.texts t.takes takes' in
+      record {
+        is = same_bytes (λ said. Takes old.texts name old.tree said new.texts new.tree) (λ said. Takes old'.texts name old'.tree said new'.texts new'.tree) bytes bytes' a.says b.says one.says;
+        texts = one.texts;
+        tools = λ (e : old'.tools ≡ old.tools). b.tools ∙ e ∙ sym a.tools;
+        tree = λ (e : old'.tree ≡ old.tree). tree_is old'.tree new'.tree b.asked t'.unfailed ∙ ap asked_once e ∙ sym (tree_is old.tree new.tree a.asked t.unfailed);
+      }
+
+  asked : (text : Text) (bytes bytes' : List ℕ) → CountsNone old new → CountsNone old' new' → Asks g (Some table) text old bytes new → Asks g (Some table) text old' bytes' new' → IsSame bytes bytes' old new old' new'
+  asked text bytes bytes' none none' a b =
+      let one = answered g table old new text a.says.said none a.says.holds in
+      let other = subst (λ (t : Texts). HasAnswer g (Some table) t text b.says.said old'.tools new'.tools) same (answered g table old' new' text b.says.said none' b.says.holds) in
+      let both = one_reply g built table old.texts text a.says.said b.says.said old.tools new.tools old'.tools new'.tools one other in
+      record {
+        is = same_bytes (λ said. IsReply g (Some table) old.texts text said old.tools new.tools) (λ said. IsReply g (Some table) old'.texts text said old'.tools new'.tools) bytes bytes' a.says b.says both.reply;
+        texts = b.texts ∙ same ∙ sym a.texts;
+        tools = both.told;
+        tree = λ (e : old'.tree ≡ old.tree). b.tree ∙ e ∙ sym a.tree;
+      }
+
+  module _ (told : old.tree.files ≡ Some files) (told' : old'.tree.files ≡ Some files) (none : CountsNone old new) (none' : CountsNone old' new') where
+    one_step : (c : Command) (body bytes bytes' : List ℕ) → Step g (Some table) old c body bytes new → Step g (Some table) old' c body bytes' new' → IsSame bytes bytes' old new old' new'
+    one_step (Put name count) body bytes bytes' a b =
+        edited (Puts old.texts name count body) (Puts old'.texts name count body) bytes bytes' a b
+        (one_insert old.texts name body count _ a.says.said b.says.said new.texts new'.texts a.says.holds (subst (λ (t : Texts). Puts t name count body b.says.said new'.texts) same b.says.holds))
+    one_step (Take name) body bytes bytes' a b = file_same name bytes bytes' told told' none none' a b
+    one_step (Remove name) body bytes bytes' a b =
+        edited (Removes old.texts name) (Removes old'.texts name) bytes bytes' a b
+        (one_remove (get old.texts name) old.texts name a.says.said b.says.said new.texts new'.texts a.says.holds (subst (λ (t : Texts). Removes t name b.says.said new'.texts) same b.says.holds))
+    one_step (Ask text) body bytes bytes' a b = asked text bytes bytes' none none' a b
+    one_step (Plan text) body bytes bytes' a b =
+        unchanged bytes bytes' (same_bytes _ _ bytes bytes' a.says b.says (one_plan g text a.says.said b.says.said a.says.holds b.says.holds)) a.same b.same
+    one_step Sources body bytes bytes' a b = unchanged bytes bytes' (b.0 ∙ ap (λ (t : Texts). reply_text (reply.Sources (source_lines t))) same ∙ sym a.0) a.1 b.1
+    one_step Kept body bytes bytes' a b = unchanged bytes bytes' (b.0 ∙ sym a.0) a.1 b.1
+    one_step Quit body bytes bytes' a b = unchanged bytes bytes' (b.0 ∙ sym a.0) a.1 b.1
+    one_step Nothing body bytes bytes' a b = unchanged bytes bytes' (b.0 ∙ sym a.0) a.1 b.1
+    one_step Bad body bytes bytes' a b = unchanged bytes bytes' (b.0 ∙ sym a.0) a.1 b.1
+    one_step (BadName count) body bytes bytes' a b = unchanged bytes bytes' (b.0 ∙ sym a.0) a.1 b.1
 
     -- an item is one command
-    one_item : (item : Item) (reply reply' : List ℕ) → AnswersItem commands (Step g (Some table)) old item reply new → AnswersItem commands (Step g (Some table)) old' item reply' new' → IsSame reply reply' old new old' new'
-    one_item item reply reply' a b =
+    one_item : (item : Item) (bytes bytes' : List ℕ) → AnswersItem commands (Step g (Some table)) old item bytes new → AnswersItem commands (Step g (Some table)) old' item bytes' new' → IsSame bytes bytes' old new old' new'
+    one_item item bytes bytes' a b =
         let command : b.command ≡ a.command = one_command a.command b.command (without_cr item.line) a.item_is.spelled b.item_is.spelled in
-        one_step a.command item.body reply reply' a.step (subst (λ (c : Command). Step g (Some table) old' c item.body reply' new') command b.step)
+        one_step a.command item.body bytes bytes' a.step (subst (λ (c : Command). Step g (Some table) old' c item.body bytes' new') command b.step)
 
 -- ---- a transcript
 
-module _ (g : Graph) (built : IsBuiltGraph g) (table : Table) where
-  once : (items : List Item) (one other : List (List ℕ)) (first last first' last' : State) → first'.texts ≡ first.texts
+-- no fault is counted on the way
+parts : (g : Graph) (table : Table) (first last : State) (item : Item) (items : List Item) (bytes : List ℕ) (replies : List (List ℕ)) (mid : State)
+    → (a : AnswersItem commands (Step g (Some table)) first item bytes mid) → Transcript commands (Step g (Some table)) mid items replies last → CountsNone first last → CountsNone first mid × CountsNone mid last
+parts g table first last item items bytes replies mid a run none =
+    let step = counted g (Some table) first a.command item.body bytes mid a.step in
+    let rest = counts g (Some table) mid last items replies run in
+    let tools = between first.tools.faults mid.tools.faults last.tools.faults _ _ step.starts rest.starts none.tools in
+    let tree = between first.tree.faults mid.tree.faults last.tree.faults _ _ step.reads rest.reads none.tree in
+    (record { tools = tools.0; tree = tree.0 }, record { tools = tools.1; tree = tree.1 })
+
+module _ (g : Graph) (built : IsBuiltGraph g) (table : Table) (files : Files) where
+  told_on : (first mid : State) (item : Item) (bytes : List ℕ) → AnswersItem commands (Step g (Some table)) first item bytes mid → first.tree.files ≡ Some files → mid.tree.files ≡ Some files
+  told_on first mid item bytes a told = let stays = step_tree g (Some table) first a.command item.body bytes mid a.step in stays.files ∙ told
+
+  once : (items : List Item) (one other : List (List ℕ)) (first last first' last' : State) → first'.texts ≡ first.texts → first.tree.files ≡ Some files → first'.tree.files ≡ Some files
       → Transcript commands (Step g (Some table)) first items one last → Transcript commands (Step g (Some table)) first' items other last'
       → CountsNone first last → CountsNone first' last' → AreSame one other first last first' last'
-  once [] [] [] first last first' last' same run run' none none' =
-      let end = unchanged g built table first last first' last' same [] [] refl run run' in
-      record { replies = refl; texts = end.texts; tools = end.tools }
-  once [] (reply ∷ one) other first last first' last' same run run' none none' = absurd run
-  once [] [] (reply ∷ other) first last first' last' same run run' none none' = absurd run'
-  once (item ∷ items) [] other first last first' last' same run run' none none' = absurd run
-  once (item ∷ items) (reply ∷ one) [] first last first' last' same run run' none none' = absurd run'
-  once (item ∷ items) (reply ∷ one) (reply' ∷ other) first last first' last' same run run' none none' =
-      let here = between first run.0 last _ _ (counted g (Some table) first run.1.command item.body reply run.0 run.1.step) (counts g (Some table) run.0 last items one run.2) none in
-      let here' = between first' run'.0 last' _ _ (counted g (Some table) first' run'.1.command item.body reply' run'.0 run'.1.step) (counts g (Some table) run'.0 last' items other run'.2) none' in
-      let step = one_item g built table first run.0 first' run'.0 same here.0 here'.0 item reply reply' run.1 run'.1 in
-      let rest = once items one other run.0 last run'.0 last' step.texts run.2 run'.2 here.1 here'.1 in
-      record { replies = λ i. step.is i ∷ rest.replies i; texts = rest.texts; tools = λ (e : first'.tools ≡ first.tools). rest.tools (step.tools e) }
+  once [] [] [] first last first' last' same told told' run run' none none' =
+      let end = unchanged g built table files first last first' last' same [] [] refl run run' in
+      record { replies = refl; texts = end.texts; tools = end.tools; tree = end.tree }
+  once [] (bytes ∷ one) other first last first' last' same told told' run run' none none' = absurd run
+  once [] [] (bytes ∷ other) first last first' last' same told told' run run' none none' = absurd run'
+  once (item ∷ items) [] other first last first' last' same told told' run run' none none' = absurd run
+  once (item ∷ items) (bytes ∷ one) [] first last first' last' same told told' run run' none none' = absurd run'
+  once (item ∷ items) (bytes ∷ one) (bytes' ∷ other) first last first' last' same told told' run run' none none' =
+      let here = parts g table first last item items bytes one run.0 run.1 run.2 none in
+      let here' = parts g table first' last' item items bytes' other run'.0 run'.1 run'.2 none' in
+      let step = one_item g built table files first run.0 first' run'.0 same told told' here.0 here'.0 item bytes bytes' run.1 run'.1 in
+      let rest = once items one other run.0 last run'.0 last' step.texts (told_on first run.0 item bytes run.1 told) (told_on first' run'.0 item bytes' run'.1 told') run.2 run'.2 here.1 here'.1 in
+      record {
+        replies = λ i. step.is i ∷ rest.replies i;
+        texts = rest.texts;
+        tools = λ (e : first'.tools ≡ first.tools). rest.tools (step.tools e);
+        tree = λ (e : first'.tree ≡ first.tree). rest.tree (step.tree e);
+      }
 
-pub one_transcript : (g : Graph) → IsServedGraph g → (table : Table) (items : List Item) (one other : List (List ℕ)) (first last first' last' : State) → first'.texts ≡ first.texts
+pub one_transcript : (g : Graph) → IsServedGraph g → (table : Table) (files : Files) (items : List Item) (one other : List (List ℕ)) (first last first' last' : State) → first'.texts ≡ first.texts
+    → first.tree.files ≡ Some files → first'.tree.files ≡ Some files
     → Transcript commands (Step g (Some table)) first items one last → CountsNone first last
     → Transcript commands (Step g (Some table)) first' items other last' → CountsNone first' last' → AreSame one other first last first' last'
-one_transcript g served table items one other first last first' last' same run none run' none' = once g (all_derivable g served) table items one other first last first' last' same run run' none none'
+one_transcript g served table files items one other first last first' last' same told told' run none run' none' =
+    once g (all_derivable g served) table files items one other first last first' last' same told told' run run' none none'

@@ -5,7 +5,7 @@ use Rattle.meaning_run.specs.Streams.{Extends, Completes}
 use Rattle.odin_shell.specs.declared.cutter.Cutter.{Cutter}
 use Rattle.odin_shell.specs.declared.cutter.Whole.{Whole}
 use Rattle.odin_shell.specs.declared.cutter.Front.{Front}
-use Rattle.odin_shell.specs.Commands.{commands}
+use Rattle.odin_shell.specs.Language.{commands}
 use Rattle.odin_shell.specs.Held.{Keeps}
 
 -- behind what was held nothing is held

@@ -19,3 +19,4 @@ status_of TooLong = 10
 abbrev pub ending_of : Stop → Ending
 ending_of stop.Memory = Memory
 ending_of stop.Output = Output
+ending_of stop.Quit = Whole

@@ -1,14 +1,17 @@
 -- What holds of every input and of every session.
 use Rattle.std.specs.Prelude.{◌≡◌, ℕ, ◌+◌, ◌<◌, ◌≤◌, min, List, [], ◌∷◌, bytes_eq, if◌then◌else◌, Option, Some}
 use Rattle.odin_outside.specs.Causes.{last_count}
+use Rattle.odin_outside.specs.Files.{Files}
 use Rattle.odin_outside.specs.Spawned.{Table}
 use Rattle.meaning_graph.specs.Graphs.{Text, Graph}
 use Rattle.meaning_derive.specs.Given.{AreSources}
 use Rattle.meaning_run.specs.Items.{Item, IsItem, OneCut}
 use Rattle.meaning_run.specs.Machines.{Transcript}
-use Rattle.odin_answers.specs.Answers.{refused_tool_start}
-use Rattle.odin_shell.specs.declared.command.Command.{Command}
-use Rattle.odin_shell.specs.Commands.{commands, Spells}
+use Rattle.meaning_commands.specs.declared.commands.Command.{Command}
+use Rattle.meaning_commands.specs.declared.replies.Reply.{Reply}
+use Rattle.meaning_commands.specs.declared.replies.Reply.TheVariants.{RefusedRead, RefusedToolStart}
+use Rattle.meaning_commands.specs.Replies.{reply_text}
+use Rattle.odin_shell.specs.Language.{commands}
 use Rattle.odin_shell.specs.Machine.{State, Step}
 use Rattle.odin_shell.specs.declared.graph.Opened.{Opened}
 use Rattle.odin_shell.specs.Opened.{IsServedGraph, IsOpened}
@@ -16,10 +19,6 @@ use Rattle.odin_shell.specs.Opened.{IsServedGraph, IsOpened}
 -- an input is cut in one way only into commands and less than a command
 abbrev pub InputIsCutOnce : Type 0
 InputIsCutOnce = OneCut commands
-
--- a line is one command
-abbrev pub LineIsOneCommand : Type 0
-LineIsOneCommand = (a b : Command) (line : List ℕ) → Spells a line → Spells b line → b ≡ a
 
 -- behind each command the sources are names with texts that are not too long
 abbrev pub SourcesStay : Type 0
@@ -33,35 +32,46 @@ EachIsOpened = (given : Option Text) → (o : Opened) × IsOpened given o
 abbrev pub OpenedIsOne : Type 0
 OpenedIsOne = (given : Option Text) (o p : Opened) → IsOpened given o → IsOpened given p → p ≡ o
 
--- how many replies say that a tool was not started
-abbrev pub refused_starts : List (List ℕ) → ℕ
-refused_starts [] = 0
-refused_starts (reply ∷ replies) = (if bytes_eq reply refused_tool_start then 1 else 0) + refused_starts replies
+-- how many of these are the reply
+abbrev pub count_of : Reply → List (List ℕ) → ℕ
+count_of reply [] = 0
+count_of reply (bytes ∷ rest) = (if bytes_eq bytes (reply_text reply) then 1 else 0) + count_of reply rest
 
--- There are at most as many of them as the count of the tools' faults rose, a count that stands still at the end of its type.
+-- No more replies are these than the counts of faults rose, each a count that stands still at the end
+-- of its type.
+pub record FitsCounts (first last : State) (replies : List (List ℕ)) : Type 0 where
+  pub starts : min (first.tools.faults + count_of RefusedToolStart replies) last_count ≤ last.tools.faults
+  pub reads : min (first.tree.faults + count_of RefusedRead replies) last_count ≤ last.tree.faults
+
 abbrev pub RefusalsAreCounted : Type 0
-RefusalsAreCounted = (g : Graph) (table : Option Table) (first state : State) (items : List Item) (replies : List (List ℕ)) → Transcript commands (Step g table) first items replies state → min (first.tools.faults + refused_starts replies) last_count ≤ state.tools.faults
+RefusalsAreCounted = (g : Graph) (table : Option Table) (first last : State) (items : List Item) (replies : List (List ℕ)) → Transcript commands (Step g table) first items replies last → FitsCounts first last replies
 
--- From the one state to the other no fault of the tools was counted. A count at its last number may
--- hide one.
+-- From the one count to the other no fault was counted. A count at its last number may hide one.
+pub record NoFault (first last : ℕ) : Type 0 where
+  pub same : last ≡ first
+  pub below : first < last_count
+
+-- From the one state to the other no fault of the tools or of the tree was counted.
 pub record CountsNone (first last : State) : Type 0 where
-  pub same : last.tools.faults ≡ first.tools.faults
-  pub below : first.tools.faults < last_count
+  pub tools : NoFault first.tools.faults last.tools.faults
+  pub tree : NoFault first.tree.faults last.tree.faults
 
--- The replies are the same, and so are the sources in the end, and what is told of the tools where it
--- was the same at the start.
+-- The replies are the same, and so are the sources in the end, and what is told of the tools and of
+-- the tree where it was the same at the start.
 pub record AreSame (one other : List (List ℕ)) (first last first' last' : State) : Type 0 where
   pub replies : other ≡ one
   pub texts : last'.texts ≡ last.texts
   pub tools : first'.tools ≡ first.tools → last'.tools ≡ last.tools
+  pub tree : first'.tree ≡ first.tree → last'.tree ≡ last.tree
 
--- Over a graph that a run is built for, where a table is told and no fault of the tools is counted,
+-- Over a graph that a run is built for, where a table and the files are told and no fault is counted,
 -- items have one transcript at most: what is replied follows from them and from the sources at the
 -- start alone.
 abbrev pub TranscriptIsOne : Type 0
 TranscriptIsOne =
-    (g : Graph) → IsServedGraph g → (table : Table) (items : List Item)
+    (g : Graph) → IsServedGraph g → (table : Table) (files : Files) (items : List Item)
     (one other : List (List ℕ)) (first last first' last' : State) → first'.texts ≡ first.texts
+    → first.tree.files ≡ Some files → first'.tree.files ≡ Some files
     → Transcript commands (Step g (Some table)) first items one last → CountsNone first last
     → Transcript commands (Step g (Some table)) first' items other last' → CountsNone first' last'
     → AreSame one other first last first' last'

@@ -3,10 +3,10 @@ pub mod Endings
 pub mod Objects
 pub mod Words
 pub mod Opened
-pub mod Commands
+pub mod Language
 pub mod Held
 pub mod Cuts
+pub mod Edits
 pub mod Machine
 pub mod Sessions
-pub mod Replies
 pub mod Laws

@@ -1,5 +1,6 @@
 -- The words of streams for a session: what goes on, where it stops, how its input ends.
-use Rattle.std.specs.Prelude.{◌≡◌, ◌≢◌, ℕ, List, [], Option}
+use Rattle.std.specs.Prelude.{◌≡◌, ◌≢◌, ℕ, false, List, [], Option}
+use Rattle.meaning_commands.specs.Commands.{ends_run}
 use Rattle.odin_outside.specs.Spawned.{Table, Spawned}
 use Rattle.object_sources.specs.Texts.{Texts}
 use Rattle.meaning_graph.specs.Graphs.{Graph}
@@ -11,7 +12,7 @@ use Rattle.odin_shell.specs.declared.serve.Stop.TheVariants.{Memory}
 use Rattle.odin_shell.specs.declared.session.Finish.{Finish}
 use Rattle.odin_shell.specs.declared.session.Finish.TheVariants as finish
 use Rattle.odin_shell.specs.declared.session.Session.{Session}
-use Rattle.odin_shell.specs.Commands.{commands}
+use Rattle.odin_shell.specs.Language.{commands}
 use Rattle.odin_shell.specs.Held.{Keeps}
 use Rattle.odin_shell.specs.Machine.{at_first, Told, machine, halt_of}
 
@@ -26,9 +27,10 @@ pub record Halts (P : Option Table → Type 0) (stop : Stop) (tools : Spawned) :
   pub idle : stop ≢ Memory → tools.running ≡ []
 
 module _ {Disk : Type 0} (g : Graph) where
-  -- a command is served
-  abbrev pub Serves : Texts → Texts → Whole → Told Disk → Told Disk → Type 0
-  Serves texts texts' whole told told' = Rests (λ table. machines.Serves commands (machine g table) texts texts' whole.command whole.body told told') told'.tools
+  -- A command is served, and the session goes on behind it.
+  pub record Serves (texts texts' : Texts) (whole : Whole) (told told' : Told Disk) : Type 0 where
+    pub on : ends_run whole.command ≡ false
+    pub rests : Rests (λ table. machines.Serves commands (machine g table) texts texts' whole.command whole.body told told') told'.tools
 
   abbrev pub StopsServing : Stop → Texts → Whole → Told Disk → Told Disk → Type 0
   StopsServing stop texts whole told told' = Halts (λ table. machines.StopsServing commands (machine g table) (halt_of stop) texts whole.command whole.body told told') stop told'.tools
@@ -52,4 +54,4 @@ module _ {Disk : Type 0} (g : Graph) where
 
   -- so many bytes of the input were read, from no sources at the start
   abbrev pub Reads : Told Disk → Option (List ℕ) → Option (List ℕ) → ℕ → Told Disk → Session → Type 0
-  Reads start input left count told session = streams.Reading commands Keeps (machine g start.tools.answer) (at_first start.tools) start input left count told session.sources.texts session.cutter
+  Reads start input left count told session = streams.Reading commands Keeps (machine g start.tools.answer) (at_first start.tools start.tree) start input left count told session.sources.texts session.cutter

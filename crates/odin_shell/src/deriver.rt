@@ -2,13 +2,14 @@
 ghost use Rattle.std.specs.Prelude.{◌≡◌, [], IfOk, OnOk, OnErr};
 ghost use Rattle.plain_derive.specs.Built.{IsBuiltGraph};
 ghost use Rattle.meaning_answers.specs.Answers.{Plan};
-ghost use Rattle.odin_answers.specs.Requests.{request_text};
-ghost use Rattle.odin_answers.specs.Answers.{Replies, IsReply, MayHaveBegun};
+ghost use Rattle.odin_answers.specs.Answers.{IsReply, MayHaveBegun};
+ghost use Rattle.odin_shell.specs.Edits.{Says};
 ghost use Rattle.odin_shell.specs.Machine.{ToolsStay};
 
+use crate::reply::text_of;
 use object_sources::Sources;
 use object_values::{Bytes, Memory};
-use odin_answers::{Request, answer_ask, answer_plan};
+use odin_answers::{answer_ask, answer_plan};
 use odin_outside::Spawner;
 use path_planner::Plans;
 use std::alloc::Global;
@@ -51,47 +52,33 @@ impl Deriver {
         Ok(Deriver { graph, plans })
     }
 
-    /// The reply to a request for an object.
+    /// The reply to the text of an `ask`.
     pub(crate) fn ask<S: Spawner>(
         &self,
         alloc: Global,
         sources: &Sources,
-        request: &Request,
+        text: &[u8],
         tools: &mut S,
-        out: &mut Bytes,
-    ) -> Result<(), Memory>
+    ) -> Result<Bytes, Memory>
         requires idle { (S.told tools.old).running ≡ [] }
         ensures ok { let before = S.told tools.old in
-            let text = request_text request.now in
-            OnOk result (Replies (λ reply. IsReply self.now before.answer sources.now.texts
-            text reply before (S.told tools.new)) out.old out.new) }
+            IfOk result (Says (λ said. IsReply self.now before.answer sources.now.texts
+            text.now said before (S.told tools.new))) }
         ensures begun { let before = S.told tools.old in
-            let text = request_text request.now in
             OnErr result (MayHaveBegun self.now before.answer sources.now.texts
-            text before (S.told tools.new)) }
+            text.now before (S.told tools.new)) }
         ensures idle { OnOk result ((S.told tools.new).running ≡ []) }
         ensures stay { ToolsStay (S.told tools.old).answer (S.told tools.old) (S.told tools.new) }
     {
-        answer_ask(
-            alloc,
-            &self.graph,
-            &self.plans,
-            sources,
-            request,
-            tools,
-            out,
-        )
+        let reply = answer_ask(alloc, &self.graph, &self.plans, sources, text, tools)?;
+        text_of(alloc, reply)
     }
 
-    /// The reply to a request for the steps to an object.
-    pub(crate) fn plan(
-        &self,
-        alloc: Global,
-        request: &Request,
-        out: &mut Bytes,
-    ) -> Result<(), Memory>
-        ensures { OnOk result (Replies (Plan self.now (request_text request.now)) out.old out.new) }
+    /// The reply to the text of a `plan`.
+    pub(crate) fn plan(&self, alloc: Global, text: &[u8]) -> Result<Bytes, Memory>
+        ensures { IfOk result (Says (Plan self.now text.now)) }
     {
-        answer_plan(alloc, &self.graph, &self.plans, request, out)
+        let reply = answer_plan(alloc, &self.graph, &self.plans, text)?;
+        text_of(alloc, reply)
     }
 }

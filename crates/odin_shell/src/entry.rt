@@ -2,9 +2,10 @@
 ghost use Rattle.std.specs.Prelude.{◌≡◌, ◌≢◌, [], map, string_bytes, option_map};
 ghost use Rattle.plain_derive.specs.Built.{IsBuiltGraph};
 ghost use Rattle.odin_shell.specs.Words.{graph_word};
-ghost use Rattle.odin_shell.specs.Objects.{sink_of, source_of, told_of, outside, meaning};
+ghost use Rattle.odin_shell.specs.Objects.{sink_of, source_of, tree_of, told_of, outside, meaning};
+ghost use Rattle.odin_shell.specs.Edits.{TreeStays};
 ghost use Rattle.odin_shell.specs.Machine.{ToolsStay};
-ghost use Rattle.odin_shell.specs.Run.{LastLine, SessionEnds, EndsAs, RunEnds};
+ghost use Rattle.odin_shell.specs.Run.{LastLine, SessionEnds, Ended, RunEnds};
 
 use crate::deriver::Deriver;
 use crate::ending::Ending;
@@ -39,23 +40,25 @@ fn end_with<O: Sink>(output: &mut O, line: &[u8], due: Ending) -> Ending
 }
 
 /// Serves the commands of the input over a graph.
-fn serve_graph<I: Source, O: Sink, S: Spawner, D: Disk>(
+fn serve_graph<I: Source, O: Sink, T: Tree, S: Spawner, D: Disk>(
     alloc: Global,
     graph: Graph,
     input: &mut I,
     output: &mut O,
+    tree: &mut T,
     tools: &mut S,
     disk: &mut D,
 ) -> Ending
     requires built { IsBuiltGraph graph }
     requires idle { (S.told tools.old).running ≡ [] }
     ensures { let source = source_of I.left I.faults in
-        let before = told_of O.taken O.faults S.told output.old tools.old disk.old in
-        let after = told_of O.taken O.faults S.told output.new tools.new disk.new in
+        let told = told_of O.taken O.faults T.files T.faults T.reads S.told in
+        let before = told output.old tree.old tools.old disk.old in
+        let after = told output.new tree.new tools.new disk.new in
         SessionEnds graph (source input.old) (source input.new) before after result }
 {
     match Deriver::new(alloc, graph) {
-        Ok(deriver) => serve_input(alloc, &deriver, input, output, tools, disk),
+        Ok(deriver) => serve_input(alloc, &deriver, input, output, tree, tools, disk),
         Err(_) => Ending::Memory,
     }
 }
@@ -75,13 +78,13 @@ fn run_words<I: Source, O: Sink, T: Tree, D: Disk, S: Spawner>(
         meaning I.left I.faults O.taken O.faults T.files T.faults T.reads S.told in
         let before = outside input.old output.old tree.old tools.old disk.old in
         let after = outside input.new output.new tree.new tools.new disk.new in
-        EndsAs means (map string_bytes words.now) before after result }
+        Ended means (map string_bytes words.now) before after result }
 {
     let Some(name) = graph_named(words) else {
         return end_with(output, USAGE, Ending::Usage);
     };
     match open_graph(alloc, tree, name.as_bytes()) {
-        Ok(Opened::Ready(graph)) => serve_graph(alloc, graph, input, output, tools, disk),
+        Ok(Opened::Ready(graph)) => serve_graph(alloc, graph, input, output, tree, tools, disk),
         Ok(Opened::Refused(line)) => end_with(output, line.as_slice(), Ending::BadGraph),
         Err(OpenFault::Tree) => Ending::Input,
         Err(OpenFault::Memory) => Ending::Memory,
@@ -108,8 +111,10 @@ pub fn run<I: Source, O: Sink, T: Tree, D: Disk, S: Spawner>(
         let after = outside input.new output.new tree.new tools.new disk.new in
         RunEnds means (map string_bytes words.now) before after result }
 
-    // The tree keeps its files and the tools their answers, no tool runs on but for want of memory, and nothing is kept on the disk yet.
-    ensures tree { T.files tree.new ≡ T.files tree.old }
+    // The tree keeps its files and the tools their answers, no count falls, no tool runs on but for want of memory, and nothing is kept on the
+    // disk yet.
+    ensures tree { let told = tree_of T.files T.faults T.reads in
+        TreeStays (told tree.old) (told tree.new) }
     ensures tools { ToolsStay (S.told tools.old).answer (S.told tools.old) (S.told tools.new) }
     ensures idle { result ≢ 4 → (S.told tools.new).running ≡ [] }
     ensures disk { disk.new ≡ disk.old }

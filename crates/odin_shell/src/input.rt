@@ -2,7 +2,7 @@
 ghost use Rattle.std.specs.Prelude.{◌≡◌, ◌<◌, ◌≤◌, [], length, vec_len, take, IfOk, OnErr};
 ghost use Rattle.odin_outside.specs.Causes.{HasCause};
 ghost use Rattle.odin_outside.specs.Told.{prepended};
-ghost use Rattle.meaning_run.specs.Endings.{IsSpent};
+ghost use Rattle.meaning_run.specs.Endings.{IsSpent, piece_limit};
 ghost use Rattle.odin_shell.specs.Objects.{source_of, told_of};
 ghost use Rattle.odin_shell.specs.Run.{SessionEnds};
 
@@ -10,7 +10,7 @@ use crate::deriver::Deriver;
 use crate::ending::Ending;
 use crate::session::{Finish, Session};
 use object_values::{INPUT_LIMIT, Memory};
-use odin_outside::{Disk, Failed, Sink, Source, Spawner};
+use odin_outside::{Disk, Failed, Sink, Source, Spawner, Tree};
 use std::alloc::Global;
 
 // How many bytes are read at once, at most.
@@ -34,26 +34,30 @@ fn read_piece<I: Source>(input: &mut I, buffer: &mut [u8], most: usize) -> Resul
 
 // Room for a piece.
 fn make_buffer(alloc: Global) -> Result<Vec<u8>, Memory>
-    ensures { IfOk result (λ buffer. 0 < vec_len buffer) }
+    ensures some { IfOk result (λ buffer. 0 < vec_len buffer) }
+    ensures few { IfOk result (λ buffer. vec_len buffer ≤ piece_limit) }
 {
     Ok(vec![in alloc; 0u8; PIECE]?)
 }
 
 // Answers the input piece by piece.
-fn serve_pieces<I: Source, O: Sink, S: Spawner, D: Disk>(
+fn serve_pieces<I: Source, O: Sink, T: Tree, S: Spawner, D: Disk>(
     alloc: Global,
     deriver: &Deriver,
     buffer: &mut [u8],
     input: &mut I,
     output: &mut O,
+    tree: &mut T,
     tools: &mut S,
     disk: &mut D,
 ) -> Ending
     requires some { 0 < length buffer.old }
+    requires few { length buffer.old ≤ piece_limit }
     requires idle { (S.told tools.old).running ≡ [] }
     ensures { let source = source_of I.left I.faults in
-        let before = told_of O.taken O.faults S.told output.old tools.old disk.old in
-        let after = told_of O.taken O.faults S.told output.new tools.new disk.new in
+        let told = told_of O.taken O.faults T.files T.faults T.reads S.told in
+        let before = told output.old tree.old tools.old disk.old in
+        let after = told output.new tree.new tools.new disk.new in
         SessionEnds deriver.now (source input.old) (source input.new) before after result }
 {
     let mut session = Session::new(alloc);
@@ -63,13 +67,13 @@ fn serve_pieces<I: Source, O: Sink, S: Spawner, D: Disk>(
             return Ending::Input;
         };
         if size == 0 {
-            return match session.finish(alloc, deriver, output, tools, disk) {
+            return match session.finish(alloc, deriver, output, tree, tools, disk) {
                 Ok(Finish::Whole) => Ending::Whole,
                 Ok(Finish::CutShort) => Ending::CutShort,
                 Err(stop) => stop.ending(),
             };
         }
-        match session.take_piece(alloc, deriver, &buffer[..size], output, tools, disk) {
+        match session.take_piece(alloc, deriver, &buffer[..size], output, tree, tools, disk) {
             Ok(()) => count += size,
             Err(stop) => return stop.ending(),
         }
@@ -78,22 +82,35 @@ fn serve_pieces<I: Source, O: Sink, S: Spawner, D: Disk>(
 }
 
 /// Answers the input, as far as it may be read.
-pub(crate) fn serve_input<I: Source, O: Sink, S: Spawner, D: Disk>(
+pub(crate) fn serve_input<I: Source, O: Sink, T: Tree, S: Spawner, D: Disk>(
     alloc: Global,
     deriver: &Deriver,
     input: &mut I,
     output: &mut O,
+    tree: &mut T,
     tools: &mut S,
     disk: &mut D,
 ) -> Ending
     requires { (S.told tools.old).running ≡ [] }
     ensures { let source = source_of I.left I.faults in
-        let before = told_of O.taken O.faults S.told output.old tools.old disk.old in
-        let after = told_of O.taken O.faults S.told output.new tools.new disk.new in
+        let told = told_of O.taken O.faults T.files T.faults T.reads S.told in
+        let before = told output.old tree.old tools.old disk.old in
+        let after = told output.new tree.new tools.new disk.new in
         SessionEnds deriver.now (source input.old) (source input.new) before after result }
 {
     match make_buffer(alloc) {
-        Ok(mut buffer) => serve_pieces(alloc, deriver, &mut buffer, input, output, tools, disk),
+        Ok(mut buffer) => {
+            serve_pieces(
+                alloc,
+                deriver,
+                &mut buffer,
+                input,
+                output,
+                tree,
+                tools,
+                disk,
+            )
+        }
         Err(_) => Ending::Memory,
     }
 }

@@ -1,14 +1,9 @@
 // Laws over inputs and sessions.
-ghost use Rattle.odin_shell.specs.Laws.{InputIsCutOnce, LineIsOneCommand, SourcesStay, EachIsOpened, OpenedIsOne, RefusalsAreCounted, TranscriptIsOne};
+ghost use Rattle.odin_shell.specs.Laws.{InputIsCutOnce, SourcesStay, EachIsOpened, OpenedIsOne, RefusalsAreCounted, TranscriptIsOne};
 
 /// An input is cut into commands in one way only.
 pub fn input_is_cut_once()
     ensures { InputIsCutOnce }
-{}
-
-/// A line is one command.
-pub fn line_is_one_command()
-    ensures { LineIsOneCommand }
 {}
 
 /// The sources of a session are always names with texts of at most 16,777,216 bytes.
@@ -16,7 +11,8 @@ pub fn sources_stay_sources()
     ensures { SourcesStay }
 {}
 
-/// There are at most as many replies `refused tool start` as the count of the tools' faults rose.
+/// There are at most as many replies `refused tool start` as the count of the tools' faults rose, and at most as many `refused read` as
+/// that of the tree rose.
 pub fn refusals_are_counted()
     ensures { RefusalsAreCounted }
 {}
@@ -31,7 +27,7 @@ pub fn opened_is_one()
     ensures { OpenedIsOne }
 {}
 
-/// Where the tools answer by a table and no fault of theirs is counted, an input has one transcript.
+/// Where the tools answer by a table, the tree tells its files and no fault of either is counted, an input has one transcript.
 pub fn transcript_is_one()
     ensures { TranscriptIsOne }
 {}

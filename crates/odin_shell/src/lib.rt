@@ -4,12 +4,15 @@
 mod command;
 mod cutter;
 mod deriver;
+mod edits;
 mod ending;
 mod entry;
 mod graph;
+mod holding;
 mod input;
 pub mod laws;
 mod pending;
+mod reply;
 mod serve;
 mod session;
 mod write;

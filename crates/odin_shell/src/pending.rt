@@ -1,14 +1,40 @@
-// A `put` whose bytes are not all there.
-ghost use Rattle.std.specs.Prelude.{◌<◌};
+// A command that lacks some of the bytes behind its line.
+ghost use Rattle.std.specs.Prelude.{◌≡◌, ◌<◌};
 
 use object_values::Bytes;
-use odin_bytes::Name;
+use odin_commands::Command;
 
-/// A `put` that lacks bytes: its name, the bytes that are there, and how many are missing.
-#[derive(Drop)]
+/// A command that lacks some of the bytes behind its line: those that are there, where it keeps them, and how many are missing.
 pub(crate) struct Pending {
-    pub(crate) name: Name,
+    pub(crate) command: Command,
     pub(crate) text: Bytes,
-    pub(crate) missing: usize,
+    pub(crate) missing: u64,
     ghost lacks: { 0 < missing },
+}
+
+impl Drop for Pending {
+    fn drop(self) {
+        let Pending {
+            command,
+            text,
+            missing: _,
+        } = self;
+        drop(command);
+        drop(text);
+    }
+}
+
+impl Pending {
+    /// The command, and what is held of its bytes.
+    pub(crate) fn into_parts(self) -> (Command, Bytes)
+        ensures command { result.0 ≡ self.command }
+        ensures text { result.1 ≡ self.text }
+    {
+        let Pending {
+            command,
+            text,
+            missing: _,
+        } = self;
+        (command, text)
+    }
 }

@@ -1,20 +1,21 @@
-// One command: its change, and then its reply.
-ghost use Rattle.std.specs.Prelude.{◌≡◌, ◌++◌, [], OnOk, OnErr, IfErr};
-ghost use Rattle.odin_shell.specs.Replies.{put_reply};
+// One command: its change, and its reply.
+ghost use Rattle.std.specs.Prelude.{◌≡◌, [], IfOk, OnOk, OnErr, IfErr};
 ghost use Rattle.odin_shell.specs.Endings.{ending_of};
-ghost use Rattle.odin_shell.specs.Objects.{told_of};
-ghost use Rattle.odin_shell.specs.Machine.{holding, IsAnswered, MayLeave, ToolsStay};
+ghost use Rattle.odin_shell.specs.Objects.{tree_of, told_of};
+ghost use Rattle.odin_shell.specs.Machine.{holding, Step, MayLeave, ToolsStay};
 ghost use Rattle.odin_shell.specs.Sessions.{Serves, StopsServing};
 
-use crate::command::Command;
+use crate::command::ends_run;
 use crate::cutter::Whole;
 use crate::deriver::Deriver;
+use crate::edits::{list, put, remove, take};
 use crate::ending::Ending;
+use crate::reply::text_of;
 use crate::write::write_whole;
 use object_sources::Sources;
 use object_values::{Bytes, Memory};
-use odin_bytes::write_number;
-use odin_outside::{Disk, Failed, Sink, Spawner};
+use odin_commands::{Command, Reply};
+use odin_outside::{Disk, Failed, Sink, Spawner, Tree};
 use std::alloc::Global;
 
 /// Why serving stopped.
@@ -22,6 +23,8 @@ use std::alloc::Global;
 pub(crate) enum Stop {
     Memory,
     Output,
+    /// The command ends the run.
+    Quit,
 }
 
 impl Stop {
@@ -31,6 +34,7 @@ impl Stop {
         match self {
             Stop::Memory => Ending::Memory,
             Stop::Output => Ending::Output,
+            Stop::Quit => Ending::Whole,
         }
     }
 }
@@ -55,73 +59,73 @@ impl From<Failed> for Stop {
     }
 }
 
-/// Writes the reply to an accepted `put`.
-fn write_put(name: &[u8], count: u64, out: &mut Bytes) -> Result<(), Memory>
-    ensures { OnOk result (out.new ≡ out.old ++ put_reply name.now count) }
-{
-    out.extend_from_slice(b"put ")?;
-    out.extend_from_slice(name)?;
-    out.push(b' ')?;
-    write_number(count, out)?;
-    out.push(b'\n')
-}
-
-/// Makes the reply to a command, and its change.
+/// Makes the change of a command, and its reply.
 #[tactic(auto, using(crate::proofs::ServeLemmas::idle_one))]
-fn answer<S: Spawner>(
+fn answer<T: Tree, S: Spawner>(
     alloc: Global,
     deriver: &Deriver,
     sources: &mut Sources,
     whole: Whole,
+    tree: &mut T,
     tools: &mut S,
-    out: &mut Bytes,
-) -> Result<(), Memory>
+) -> Result<Bytes, Memory>
     requires idle { (S.told tools.old).running ≡ [] }
-    ensures ok { let old = holding sources.old.texts (S.told tools.old) in
-        let new = holding sources.new.texts (S.told tools.new) in
-        OnOk result (IsAnswered deriver.now old.tools.answer old whole.command whole.body out.old out.new new) }
-    ensures err { let old = holding sources.old.texts (S.told tools.old) in
-        let new = holding sources.new.texts (S.told tools.new) in
-        OnErr result (MayLeave deriver.now old.tools.answer old whole.command whole.body new) }
+    ensures ok { let told = tree_of T.files T.faults T.reads in
+        let old = holding sources.old.texts (S.told tools.old) (told tree.old) in
+        let new = holding sources.new.texts (S.told tools.new) (told tree.new) in
+        IfOk result (λ reply.
+        Step deriver.now old.tools.answer old whole.command whole.body reply new) }
+    ensures err { let told = tree_of T.files T.faults T.reads in
+        let old = holding sources.old.texts (S.told tools.old) (told tree.old) in
+        let new = holding sources.new.texts (S.told tools.new) (told tree.new) in
+        OnErr result (MayLeave deriver.now old.tools.answer old whole.command new) }
     ensures idle { OnOk result ((S.told tools.new).running ≡ []) }
     ensures stay { ToolsStay (S.told tools.old).answer (S.told tools.old) (S.told tools.new) }
 {
     let Whole { command, body } = whole;
     match command {
-        Command::Put(name, count) => {
-            write_put(name.as_slice(), count, out)?;
-            sources.reserve()?;
-            let _ = sources.put(name.into_bytes(), body);
-            Ok(())
-        }
-        Command::Ask(request) => deriver.ask(alloc, sources, &request, tools, out),
-        Command::Plan(request) => deriver.plan(alloc, &request, out),
-        Command::Nothing => Ok(()),
-        Command::Bad => out.extend_from_slice(b"refused command\n"),
+        Command::Put(name, count) => put(alloc, sources, name, count, body),
+        Command::Take(name) => take(alloc, sources, name, tree),
+        Command::Remove(name) => remove(alloc, sources, name),
+        Command::Ask(text) => deriver.ask(alloc, sources, text.as_slice(), tools),
+        Command::Plan(text) => deriver.plan(alloc, text.as_slice()),
+        Command::Sources => list(alloc, sources),
+        Command::Kept => text_of(alloc, Reply::RefusedCommand),
+        Command::Quit => text_of(alloc, Reply::Bye),
+        Command::Nothing => Ok(Bytes::new(alloc)),
+        Command::Bad => text_of(alloc, Reply::RefusedCommand),
+        Command::BadName(_) => text_of(alloc, Reply::RefusedName),
     }
 }
 
 /// Serves a command: its change, and then its reply, which is taken whole.
 #[tactic(auto, using(crate::proofs::ServeLemmas::idle_one))]
-pub(crate) fn serve_command<O: Sink, S: Spawner, D: Disk>(
+pub(crate) fn serve_command<O: Sink, T: Tree, S: Spawner, D: Disk>(
     alloc: Global,
     deriver: &Deriver,
     sources: &mut Sources,
     whole: Whole,
     output: &mut O,
+    tree: &mut T,
     tools: &mut S,
     disk: &mut D,
 ) -> Result<(), Stop>
     requires idle { (S.told tools.old).running ≡ [] }
-    ensures ok { let before = told_of O.taken O.faults S.told output.old tools.old disk.old in
-        let after = told_of O.taken O.faults S.told output.new tools.new disk.new in
+    ensures ok { let told = told_of O.taken O.faults T.files T.faults T.reads S.told in
+        let before = told output.old tree.old tools.old disk.old in
+        let after = told output.new tree.new tools.new disk.new in
         OnOk result (Serves deriver.now sources.old.texts sources.new.texts whole before after) }
-    ensures err { let before = told_of O.taken O.faults S.told output.old tools.old disk.old in
-        let after = told_of O.taken O.faults S.told output.new tools.new disk.new in
-        IfErr result (λ stop. StopsServing deriver.now stop sources.old.texts whole before after) }
+    ensures err { let told = told_of O.taken O.faults T.files T.faults T.reads S.told in
+        let before = told output.old tree.old tools.old disk.old in
+        let after = told output.new tree.new tools.new disk.new in
+        IfErr result (λ stop.
+        StopsServing deriver.now stop sources.old.texts whole before after) }
 {
-    let mut reply = Bytes::new(alloc);
-    answer(alloc, deriver, sources, whole, tools, &mut reply)?;
+    let last = ends_run(&whole.command);
+    let reply = answer(alloc, deriver, sources, whole, tree, tools)?;
     write_whole(output, reply.as_slice())?;
+    if last {
+        return Err(Stop::Quit);
+    }
     Ok(())
 }

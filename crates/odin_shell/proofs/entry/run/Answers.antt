@@ -1,13 +1,13 @@
 use Rattle.std.proofs.Common.{ap, ◌∙◌}
 use Rattle.odin_shell.specs.Endings.{status_of}
-use Rattle.odin_shell.proofs.RunLemmas.{run_ends, files_kept, disk_kept, tools_stay, tools_idle}
+use Rattle.odin_shell.proofs.RunLemmas.{run_ends, tree_stays, disk_kept, tools_stay, tools_idle}
 use Rattle.odin_shell.proofs.entry.run.Goals as goal
 
 pub returns-clause-ends : goal.returns-clause-ends
 returns-clause-ends g c = run_ends _ _ _ _ c.run_words.result _ c.status.ensures c.run_words.ensures
 
 pub returns-clause-tree : goal.returns-clause-tree
-returns-clause-tree g c = files_kept _ _ _ _ c.run_words.result c.run_words.ensures
+returns-clause-tree g c = tree_stays _ _ _ _ c.run_words.result c.run_words.ensures
 
 pub returns-clause-tools : goal.returns-clause-tools
 returns-clause-tools g c = tools_stay _ _ _ _ c.run_words.result c.requires c.run_words.ensures

@@ -1,8 +1,8 @@
-use Rattle.std.proofs.Common.{◌≡◌, ◌≤◌, ◌+◌, refl, ◌∙◌, arith, rules}
+use Rattle.std.proofs.Common.{◌≡◌, ◌≤◌, ◌+◌, refl, ◌∙◌, arith, rules, inl}
 use Rattle.std.proofs.lemmas.List.{length-take-le}
-use Rattle.meaning_run.specs.Endings.{EndsWhole, EndsCutShort, EndsStopped, input_limit}
+use Rattle.meaning_run.specs.Endings.{EndsWhole, EndsCutShort, EndsStopped, input_limit, piece_limit}
 use Rattle.meaning_run.proofs.Lemmas.{Reading-more, HasRead-finish, HasRead-piece, HasRead-unread, HasRead-limit}
-use Rattle.odin_shell.specs.Commands.{commands}
+use Rattle.odin_shell.specs.Language.{commands}
 use Rattle.odin_shell.specs.Held.{Keeps}
 use Rattle.odin_shell.specs.Machine.{machine, halt_of}
 use Rattle.odin_shell.proofs.HeldLemmas.{Keeps-less}
@@ -54,7 +54,7 @@ pub returns-in-Ok-Whole : goal.returns-in-Ok-Whole
 returns-in-Ok-Whole g c =
     let done = rw c.in-Ok-Whole.field-0-is at c.in-Ok-Whole.ensures.ok in
     record {
-      leaves = HasRead-finish commands Keeps (machine c.args.deriver.now (g.S.Spawner.told c.args.tools.now).answer) (EndsWhole commands (machine c.args.deriver.now (g.S.Spawner.told c.args.tools.now).answer)) _ _ _ _ _ _ _ _ c.in-Ok.size _ _ _ c.loop-count.invariant.reading c.loop-count-test.true c.in-Ok.ensures.bytes c.if-size-eq0.true (c.in-Ok.ensures.end c.if-size-eq0.true) (done.over _);
+      leaves = inl (HasRead-finish commands Keeps (machine c.args.deriver.now (g.S.Spawner.told c.args.tools.now).answer) (EndsWhole commands (machine c.args.deriver.now (g.S.Spawner.told c.args.tools.now).answer)) _ _ _ _ _ _ _ _ c.in-Ok.size _ _ _ c.loop-count.invariant.reading c.loop-count-test.true c.in-Ok.ensures.bytes c.if-size-eq0.true (c.in-Ok.ensures.end c.if-size-eq0.true) (done.over _));
       read = c.in-Ok.ensures.cause.ok ∙ c.loop-count.invariant.counted;
       idle = λ other. done.idle;
     }
@@ -80,6 +80,7 @@ pub returns-in-Err-take_piece : goal.returns-in-Err-take_piece
 returns-in-Err-take_piece g c =
     let done = c.in-Err-take_piece.ensures.err in
     let within : c.loop-count.count + c.in-Ok.size ≤ input_limit = search rules in
+    let few : c.in-Ok.size ≤ piece_limit = search rules in
     stopped_ends _ c.in-Err-take_piece.stop _ _ _ _ _ c.ending-in-Err-take_piece.ensures
-    (HasRead-piece commands Keeps (machine c.args.deriver.now (g.S.Spawner.told c.args.tools.now).answer) (halt_of c.in-Err-take_piece.stop) _ _ _ _ _ _ _ _ c.in-Ok.size _ _ _ c.loop-count.invariant.reading c.in-Ok.ensures.bytes (length-take-le c.in-Ok.size _ c.in-Ok.ensures.bound) within (done.over _))
+    (HasRead-piece commands Keeps (machine c.args.deriver.now (g.S.Spawner.told c.args.tools.now).answer) (halt_of c.in-Err-take_piece.stop) _ _ _ _ _ _ _ _ c.in-Ok.size _ _ _ c.loop-count.invariant.reading c.in-Ok.ensures.bytes (length-take-le c.in-Ok.size _ c.in-Ok.ensures.bound) within few (done.over _))
     (c.in-Ok.ensures.cause.ok ∙ c.loop-count.invariant.counted) done.idle

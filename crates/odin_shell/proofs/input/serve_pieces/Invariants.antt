@@ -5,7 +5,7 @@ use Rattle.odin_shell.proofs.input.serve_pieces.Given as goal
 
 abbrev pub invariant-loop-count : goal.invariant-loop-count
 invariant-loop-count g l = record {
-  reading : Reads l.deriver (told_of g.O.Sink.taken g.O.Sink.faults g.S.Spawner.told l.initial.output l.initial.tools l.initial.disk) (g.I.Source.left l.initial.input) (g.I.Source.left l.input) l.count (told_of g.O.Sink.taken g.O.Sink.faults g.S.Spawner.told l.output l.tools l.disk) l.session;
+  reading : Reads l.deriver (told_of g.O.Sink.taken g.O.Sink.faults g.T.Tree.files g.T.Tree.faults g.T.Tree.reads g.S.Spawner.told l.initial.output l.initial.tree l.initial.tools l.initial.disk) (g.I.Source.left l.initial.input) (g.I.Source.left l.input) l.count (told_of g.O.Sink.taken g.O.Sink.faults g.T.Tree.files g.T.Tree.faults g.T.Tree.reads g.S.Spawner.told l.output l.tree l.tools l.disk) l.session;
   within : l.count ≤ 1073741824;
   counted : g.I.Source.faults l.input ≡ g.I.Source.faults l.initial.input;
 }

@@ -6,7 +6,7 @@ use Rattle.odin_shell.proofs.session.Session.take_piece.Given as goal
 abbrev pub invariant-loop-at : goal.invariant-loop-at
 invariant-loop-at g l = record {
   within : l.at ≤ length l.piece;
-  goes : Goes l.deriver (take l.at l.piece) (told_of g.O.Sink.taken g.O.Sink.faults g.S.Spawner.told l.initial.output l.initial.tools l.initial.disk) l.initial.self (told_of g.O.Sink.taken g.O.Sink.faults g.S.Spawner.told l.output l.tools l.disk) l.self;
+  goes : Goes l.deriver (take l.at l.piece) (told_of g.O.Sink.taken g.O.Sink.faults g.T.Tree.files g.T.Tree.faults g.T.Tree.reads g.S.Spawner.told l.initial.output l.initial.tree l.initial.tools l.initial.disk) l.initial.self (told_of g.O.Sink.taken g.O.Sink.faults g.T.Tree.files g.T.Tree.faults g.T.Tree.reads g.S.Spawner.told l.output l.tree l.tools l.disk) l.self;
 }
 
 abbrev pub decreases-loop-at : goal.decreases-loop-at

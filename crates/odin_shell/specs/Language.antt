@@ -1,0 +1,20 @@
+-- The commands of a session, as the language of its input.
+use Rattle.std.specs.Prelude.{Bool, false, nat_le}
+use Rattle.meaning_texts.specs.Limits.{body_limit}
+use Rattle.meaning_run.specs.Items.{Language}
+use Rattle.meaning_commands.specs.declared.commands.Command.{Command}
+use Rattle.meaning_commands.specs.declared.commands.Command.TheVariants.{Put}
+use Rattle.meaning_commands.specs.Commands.{Spells, takes, ends_run}
+
+-- The bytes behind a `put` are kept where they are a text. All others are passed over.
+abbrev pub keeps_body : Command → Bool
+keeps_body (Put name count) = nat_le count body_limit
+keeps_body other = false
+
+abbrev pub commands : Language Command
+commands = record {
+  Spells = λ command line. Spells line command;
+  takes = takes;
+  keeps_body = keeps_body;
+  ends_run = ends_run;
+}

@@ -1,0 +1,137 @@
+// Commands on sources. The bytes of a reply are made before the sources change.
+ghost use Rattle.std.specs.Prelude.{◌≡◌, IfOk, OnOk, OnErr};
+ghost use Rattle.std.specs.FinMap.{insert};
+ghost use Rattle.meaning_commands.specs.Replies.{reply_text, counted};
+ghost use Rattle.odin_shell.specs.Edits as edits;
+ghost use Rattle.odin_shell.specs.Edits.{Says, IsAsked};
+ghost use Rattle.odin_shell.specs.Objects.{tree_of};
+
+use crate::command::TEXT_LIMIT;
+use crate::reply::text_of;
+use object_sources::Sources;
+use object_values::{Bytes, Memory, Seq};
+use odin_bytes::{Name, write_number};
+use odin_commands::Reply;
+use odin_outside::{Tree, TreeFault};
+use std::alloc::Global;
+
+// Gives a source a text.
+fn set_text(sources: &mut Sources, name: Name, text: Bytes) -> Result<(), Memory>
+    ensures ok { OnOk result (sources.new.texts ≡ insert sources.old.texts name text) }
+    ensures err { OnErr result (sources.new.texts ≡ sources.old.texts) }
+{
+    sources.reserve()?;
+    let _ = sources.put(name.into_bytes(), text);
+    Ok(())
+}
+
+/// `put`, with the bytes behind it where it keeps them.
+pub(crate) fn put(
+    alloc: Global,
+    sources: &mut Sources,
+    name: Name,
+    count: u64,
+    text: Bytes,
+) -> Result<Bytes, Memory>
+    ensures ok { let old = sources.old.texts in
+        IfOk result (Says (λ said. edits.Puts old name count text said sources.new.texts)) }
+    ensures err { OnErr result (sources.new.texts ≡ sources.old.texts) }
+{
+    if count > TEXT_LIMIT {
+        return text_of(alloc, Reply::RefusedSize);
+    }
+    let said = Bytes::from_slice(alloc, name.as_slice())?;
+    let reply = text_of(alloc, Reply::Put(said, count))?;
+    set_text(sources, name, text)?;
+    Ok(reply)
+}
+
+// `take` of what the tree gave.
+fn take_file(
+    alloc: Global,
+    sources: &mut Sources,
+    name: Name,
+    file: Option<Bytes>,
+) -> Result<Bytes, Memory>
+    ensures ok { let old = sources.old.texts in
+        IfOk result (Says (λ said. edits.TakesFile old name file said sources.new.texts)) }
+    ensures err { OnErr result (sources.new.texts ≡ sources.old.texts) }
+{
+    let Some(text) = file else {
+        return text_of(alloc, Reply::NoFile(name.into_bytes()));
+    };
+    let count = text.len() as u64;
+    if count > TEXT_LIMIT {
+        return text_of(alloc, Reply::RefusedSize);
+    }
+    let said = Bytes::from_slice(alloc, name.as_slice())?;
+    let reply = text_of(alloc, Reply::Took(said, count))?;
+    set_text(sources, name, text)?;
+    Ok(reply)
+}
+
+/// `take`. The tree is asked once, whatever comes of it.
+pub(crate) fn take<T: Tree>(
+    alloc: Global,
+    sources: &mut Sources,
+    name: Name,
+    tree: &mut T,
+) -> Result<Bytes, Memory>
+    ensures ok { let old = sources.old.texts in
+        let told = tree_of T.files T.faults T.reads in
+        IfOk result (Says (λ said.
+        edits.Takes old name (told tree.old) said sources.new.texts (told tree.new))) }
+    ensures err { OnErr result (sources.new.texts ≡ sources.old.texts) }
+    ensures asked { let told = tree_of T.files T.faults T.reads in
+        IsAsked (told tree.old) (told tree.new) }
+{
+    match tree.read(alloc, name.as_slice()) {
+        Ok(file) => take_file(alloc, sources, name, file),
+        Err(TreeFault::Failed) => text_of(alloc, Reply::RefusedRead),
+        Err(TreeFault::Memory) => Err(Memory),
+    }
+}
+
+/// `drop`.
+pub(crate) fn remove(alloc: Global, sources: &mut Sources, name: Name) -> Result<Bytes, Memory>
+    ensures ok { let old = sources.old.texts in
+        IfOk result (Says (λ said. edits.Removes old name said sources.new.texts)) }
+    ensures err { OnErr result (sources.new.texts ≡ sources.old.texts) }
+{
+    if sources.get(name.as_slice()).is_none() {
+        return text_of(alloc, Reply::NoSource(name.into_bytes()));
+    }
+    let said = Bytes::from_slice(alloc, name.as_slice())?;
+    let reply = text_of(alloc, Reply::Dropped(said))?;
+    let _ = sources.remove(name.as_slice());
+    Ok(reply)
+}
+
+// `NAME LEN`.
+fn source_line(alloc: Global, name: &[u8], size: usize) -> Result<Bytes, Memory>
+    ensures { IfOk result (λ line. line ≡ counted name.now size) }
+{
+    let mut line = Bytes::from_slice(alloc, name)?;
+    line.push(b' ')?;
+    write_number(size as u64, &mut line)?;
+    Ok(line)
+}
+
+// A line for each source.
+fn source_lines(alloc: Global, sources: &Sources) -> Result<Seq<Bytes>, Memory>
+    ensures { IfOk result (λ lines. lines ≡ edits.source_lines sources.now.texts) }
+{
+    let mut lines = Seq::new(alloc);
+    while let Some((name, text)) = sources.at(lines.len()) {
+        lines.push(source_line(alloc, name.as_slice(), text.len())?)?;
+    }
+    Ok(lines)
+}
+
+/// `sources`.
+pub(crate) fn list(alloc: Global, sources: &Sources) -> Result<Bytes, Memory>
+    ensures { let lines = edits.source_lines sources.now.texts in
+        IfOk result (λ bytes. bytes ≡ reply_text (Reply.Sources lines)) }
+{
+    text_of(alloc, Reply::Sources(source_lines(alloc, sources)?))
+}
