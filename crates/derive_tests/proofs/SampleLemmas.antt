@@ -1,6 +1,6 @@
 -- Derivation is built for the sample graph, and its nodes fit.
-use Rattle.std.proofs.Common.{◌≡◌, ℕ, List, [], ◌∷◌, inl, inr, sym, subst, refl}
-use Rattle.std.specs.Prelude.{All, codes}
+use Rattle.std.proofs.Common.{ℕ, List, [], ◌∷◌, inl, inr, sym, subst, refl}
+use Rattle.std.specs.Prelude.{codes}
 use Rattle.object_values.specs.declared.nodes.Step.{Step}
 use Rattle.object_values.specs.declared.nodes.Step.TheVariants.{Maker}
 use Rattle.object_values.specs.declared.graph.Decl.{Decl}

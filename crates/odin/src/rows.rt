@@ -57,7 +57,7 @@ const ROWS: [Row; 16] = [
         GRAPH,
         b"ask a.c:zz\nask z:o\nask a.c:text\nask a.c:\nask a.c:o:o\nask a.c:1\nask :o\nask a.c :o\n",
         0,
-        b"refused type zz\nrefused path 1\nrefused path 1\nrefused expression 5\nobject abort none 0\nmessages 1\nabort a.c no source a.c\nrefused expression 5\nrefused expression 1\nrefused expression 5\n",
+        b"refused type zz\nrefused path 1\nrefused path 1\nrefused expression 5\nobject abort none 0\nmessages 1\nabort a.c no source a.c\nrefused expression 5\nrefused expression 1\nobject abort none 0\nmessages 1\nabort a.c no source a.c\n",
         0,
     ),
     (
