@@ -87,7 +87,11 @@ const ROWS: [(&[u8], u8, &[u8]); 23] = [
     (b"take g0\ntake z.c\ntake a?c\ntake \n", 0, TAKEN),
     (b"kept\nquit", 0, b"refused command\nbye\n"),
     (b"quit\n", 0, b"bye\n"),
-    (b"quit x\nquit\r\nfrob\nput a.c 9\nx=1", 0, b"refused command\nbye\n"),
+    (
+        b"quit x\nquit\r\nfrob\nput a.c 9\nx=1",
+        0,
+        b"refused command\nbye\n",
+    ),
     (b"quit\nask a.c\nquit\n", 0, b"bye\n"),
 ];
 
