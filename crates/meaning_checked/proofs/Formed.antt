@@ -29,9 +29,9 @@ use Rattle.meaning_graph_text.specs.Grammar.{IsSpellable, IsSpellableDecl, IsSpe
 use Rattle.meaning_graph_text.specs.Checks.{Checked}
 use Rattle.meaning_nodes.specs.Nodes.{source_node, base_of, reached_type, HasKeyOfClass, Fits}
 use Rattle.meaning_nodes.specs.Labels.{made_name, written_step, label_of}
-use Rattle.meaning_tasks.specs.Tasks.{ExtraNode, extra_node, outs_of, tool_task, make_task, task_of}
-use Rattle.meaning_tasks.specs.Needs.{Results, Known, values_of, elements_of, ranked_needs}
-use Rattle.meaning_tasks.specs.Calls.{text_in, simple_part, compound_part, value_parts, node_parts, extra_parts, reached_part, call_parts, tool_call, missing_extras, all_valued, call_of}
+use Rattle.meaning_tasks.specs.Tasks.{Led, led_missing, extra_led, outs_of, tool_task, make_task, task_of}
+use Rattle.meaning_tasks.specs.Needs.{Results, Known, values_of, elements_of, counted_needs}
+use Rattle.meaning_tasks.specs.Calls.{text_in, simple_part, compound_part, value_parts, node_parts, extra_parts, reached_part, call_parts, tool_call, all_valued, call_of}
 use Rattle.meaning_tasks.specs.Maps.{IsOfKind}
 use Rattle.meaning_derive.specs.Derive.{Sources, Outcomes, derived}
 use Rattle.meaning_derive.specs.Chains.{LeadsOn, Chain}
@@ -161,7 +161,7 @@ module _ (g : Graph) (spellable : IsSpellable g) where
     node_formed : (slot : ℕ) → slot < 2 ^ 32 → (n : Node) → Fits g n → Each (node_parts g known slot n)
     node_formed slot small n f = value_formed slot small n f (known n) refl
 
-    extras_formed : (es : List ExtraNode) → ((e : ExtraNode) → IsIn e es → (y : Node) → e.node ≡ Some y → Fits g y) → (slot : ℕ) → slot + length es ≤ 2 ^ 32 → Each (extra_parts g known slot es)
+    extras_formed : (es : List Led) → ((e : Led) → IsIn e es → (y : Node) → e.node ≡ Some y → Fits g y) → (slot : ℕ) → slot + length es ≤ 2 ^ 32 → Each (extra_parts g known slot es)
     extras_formed [] fit slot few p i = absurd i
     extras_formed (e ∷ es) fit slot few p i = elim (in_either p (flat_map (node_parts g known slot) (option_to_list e.node)) (extra_parts g known (slot + 1) es) i) [
       | inl k ↦ let r = from_flat (node_parts g known slot) p (option_to_list e.node) k in node_formed slot (omega (arith, few)) r.0 (fit e (inl refl) r.0 (in_option r.0 e.node r.1)) p r.2
@@ -204,22 +204,22 @@ module _ (g : Graph) (spellable : IsSpellable g) where
         spelled : IsSpellableTool tool
         spelled = subst IsSpellableMake is (in_all IsSpellableDecl g spellable (MakerDeclared m) a.declared).make
 
-        extra : (e : ExtraNode) → IsIn e (map (extra_node g n) tool.extras) → (y : Node) → e.node ≡ Some y → Fits g y
+        extra : (e : Led) → IsIn e (map (extra_led g n) tool.extras) → (y : Node) → e.node ≡ Some y → Fits g y
         extra e i y q =
-            let r = from_map (extra_node g n) e tool.extras i in
-            extra_fits g spellable known kinds has n f m a tool is r.0 r.1 y (ap (λ (w : ExtraNode). w.node) (sym r.2) ∙ q)
+            let r = from_map (extra_led g n) e tool.extras i in
+            extra_fits g spellable known kinds has n f m a tool is r.0 r.1 y (ap (λ (w : Led). w.node) (sym r.2) ∙ q)
 
         parts : Each (call_parts g (tool_task g n m tool) known names)
         parts p i = elim (in_either p (node_parts g known 0 (base_of n)) _ i) [
           | inl k ↦ node_formed 0 (omega arith) (base_of n) a.base p k
-          | inr k ↦ elim (in_either p (extra_parts g known 1 (map (extra_node g n) tool.extras)) _ k) [
-            | inl j ↦ extras_formed (map (extra_node g n) tool.extras) extra 1 (omega (arith, same_length (extra_node g n) tool.extras, spelled.few)) p j
-            | inr j ↦ let r = from_map (reached_part known (length (map (extra_node g n) tool.extras) + 1)) p names j in subst IsPartOfClass (sym r.2) (reached_formed (length (map (extra_node g n) tool.extras) + 1) (omega (arith, same_length (extra_node g n) tool.extras, spelled.few)) r.0 (named r.0 r.1))
+          | inr k ↦ elim (in_either p (extra_parts g known 1 (map (extra_led g n) tool.extras)) _ k) [
+            | inl j ↦ extras_formed (map (extra_led g n) tool.extras) extra 1 (omega (arith, same_length (extra_led g n) tool.extras, spelled.few)) p j
+            | inr j ↦ let r = from_map (reached_part known (length (map (extra_led g n) tool.extras) + 1)) p names j in subst IsPartOfClass (sym r.2) (reached_formed (length (map (extra_led g n) tool.extras) + 1) (omega (arith, same_length (extra_led g n) tool.extras, spelled.few)) r.0 (named r.0 r.1))
           ]
         ]
 
     made_formed : (n : Node) → Fits g n → (m : MakerDecl) (a : AtMaker g n m) (make : Make) → m.make ≡ make → (names : List Text) → ((x : Text) → IsIn x names → IsName x) → (call : Call) → Some call ≡ call_of g (make_task g n m make) known names → IsWellFormed call
-    made_formed n f m a (Tool tool) is names named call e = subst IsWellFormed (if_called (is_empty (missing_extras (tool_task g n m tool).extras) && all_valued known (ranked_needs (make_task g n m (Tool tool)) known names)) (tool_call g (tool_task g n m tool) known names) call e) (tool_formed n f m a tool is names named)
+    made_formed n f m a (Tool tool) is names named call e = subst IsWellFormed (if_called (is_empty (led_missing (tool_task g n m tool).extras) && all_valued known (counted_needs (make_task g n m (Tool tool)) known names)) (tool_call g (tool_task g n m tool) known names) call e) (tool_formed n f m a tool is names named)
     made_formed n f m a Read is names named call e = cc
     made_formed n f m a EachOf is names named call e = cc
     made_formed n f m a Pack is names named call e = cc

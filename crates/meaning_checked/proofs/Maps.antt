@@ -15,7 +15,7 @@ use Rattle.meaning_graph_text.specs.Checks.{Checked}
 use Rattle.meaning_nodes.specs.Nodes.{reached_type, fits, Fits}
 use Rattle.meaning_nodes.specs.Labels.{label_of}
 use Rattle.meaning_tasks.specs.Tasks.{Own, task_of}
-use Rattle.meaning_tasks.specs.Needs.{Results, values_of, ranked_needs, Needs}
+use Rattle.meaning_tasks.specs.Needs.{Results, values_of, counted_needs, Needs}
 use Rattle.meaning_tasks.specs.Calls.{all_valued, call_of}
 use Rattle.meaning_tasks.specs.Settle.{own_of}
 use Rattle.meaning_tasks.specs.Maps.{IsOfKind, IsResultMap}
@@ -68,7 +68,7 @@ module _ (g : Graph) (checked : Checked g) (s : Sources) (sources : AreSources s
       let names : List Text = names_for g s n seen in
       let p = step_so g s n outcomes seen names view e in
       let own : Own = own_of (label_of g n) (text_of s) (task_of g n) (values_of seen) p.outcome in
-      let w = if_valued (all_valued (values_of seen) (ranked_needs (task_of g n) (values_of seen) names)) own.value v (ap (λ (z : View). z.value) (sym p.is) ∙ is) in
+      let w = if_valued (all_valued (values_of seen) (counted_needs (task_of g n) (values_of seen) names)) own.value v (ap (λ (z : View). z.value) (sym p.is) ∙ is) in
       let ok : IsOutcomeOf g (task_of g n) (values_of seen) names p.outcome = λ x q. let c = given_outcome outcomes (call_of g (task_of g n) (values_of seen) names) p.outcome x p.given q in (c.0, c.1, fitted c.0 x c.2) in
       own_good g checked (values_of seen) good.kinds good.short n f (label_of g n) (text_of s) sources p.outcome names v w.1 w.0 ok
 

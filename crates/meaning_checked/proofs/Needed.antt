@@ -26,10 +26,10 @@ use Rattle.meaning_graph_text.specs.Grammar.{IsSpellable, IsSpellableDecl, IsSpe
 use Rattle.meaning_nodes.specs.Nodes.{source_node, base_of, element_number, reached_type, Fits}
 use Rattle.meaning_nodes.specs.Values.{element, body, pick}
 use Rattle.meaning_tasks.specs.Reached.{Reached, by_own, by_line}
-use Rattle.meaning_tasks.specs.Tasks.{Task, given, picked, mapped, packed, tooled, unfit, ToolTask, PackPart, ExtraNode, pack_part, extra_node, scan_node, parts_of, tool_task, make_task, task_of}
+use Rattle.meaning_tasks.specs.Tasks.{Task, given, picked, mapped, packed, tooled, unfit, ToolTask, PackPart, Led, led_nodes, pack_part, extra_led, scan_node, parts_of, tool_task, make_task, task_of}
 use Rattle.meaning_tasks.specs.Needs.{Known, where_valued, elements_of, element_in, picked_element, with_elements, extra_needs, scan_needs, tool_needs, part_nodes, needs_of, lines_in, lines_by, own_lines, other_lines}
 use Rattle.meaning_tasks.specs.Maps.{IsElementOf, IsOfKind}
-use Rattle.meaning_tasks.proofs.Lemmas.{from_where}
+use Rattle.meaning_tasks.proofs.Lemmas.{from_where, picked_needs_are, packed_needs_are, from_tool_needs}
 use Rattle.meaning_nodes.proofs.Lemmas.{onward_named_fits}
 use Rattle.meaning_checked.proofs.Rules.{slice_in}
 use Rattle.meaning_checked.proofs.Bases.{AtMaker, source_fits, bare_fits, by_task}
@@ -55,7 +55,7 @@ own_named : (t : Task) (known : Known) (x : Text) → IsIn x (own_lines t known)
 own_named (given name) known x h = absurd h
 own_named (picked base key) known x h = absurd h
 own_named (mapped base f) known x h = absurd h
-own_named (packed parts missing) known x h = absurd h
+own_named (packed parts) known x h = absurd h
 own_named unfit known x h = absurd h
 own_named (tooled t) known x h = by_scan known x (t.scan t.root) (from_where (known t.base) x _ h).1
 
@@ -63,7 +63,7 @@ other_named : (t : Task) (known : Known) (y x : Text) → IsIn x (other_lines t 
 other_named (given name) known y x h = absurd h
 other_named (picked base key) known y x h = absurd h
 other_named (mapped base f) known y x h = absurd h
-other_named (packed parts missing) known y x h = absurd h
+other_named (packed parts) known y x h = absurd h
 other_named unfit known y x h = absurd h
 other_named (tooled t) known y x h = by_scan known x (t.scan y) (from_where (known (source_node y)) x _ (from_where (known t.base) x _ h).1).1
 
@@ -122,6 +122,13 @@ in_option x None h = absurd h
 in_option x (Some y) (inl e) = ap Some (sym e)
 in_option x (Some y) (inr none) = absurd none
 
+-- what is led to comes from one of the items
+pub from_led : {A : Type 0} (f : A → Led) (xs : List A) (e : Node) → IsIn e (led_nodes (map f xs)) → (x : A) × IsIn x xs × ((f x).node ≡ Some e)
+from_led f xs e h =
+    let r = from_flat (λ (l : Led). option_to_list l.node) e (map f xs) h in
+    let x = from_map f r.0 xs r.1 in
+    (x.0, x.1, ap (λ (l : Led). l.node) (sym x.2) ∙ in_option e r.0.node r.2)
+
 module _ (g : Graph) (spellable : IsSpellable g) (known : Known) (kinds : AreOfKind g known) (kinded : (n : Node) → Fits g n → (t : ℕ) × (k : Kind) × (reached_type g n ≡ Some t) × (kind_of g t ≡ Some k)) where
   elements_fit : (n : Node) → Fits g n → (m : Node) → IsIn m (with_elements known n) → Fits g m
   elements_fit n f m (inl e) = subst (Fits g) (sym e) f
@@ -135,16 +142,16 @@ module _ (g : Graph) (spellable : IsSpellable g) (known : Known) (kinds : AreOfK
           let t : IsSpellableTool tool = subst IsSpellableMake e d.make in
           in_all IsSpellableExtra tool.extras t.extras (With name) h
 
-      pub extra_fits : (tool : ToolDecl) → m.make ≡ Tool tool → (x : Extra) → IsIn x tool.extras → (y : Node) → (extra_node g n x).node ≡ Some y → Fits g y
+      pub extra_fits : (tool : ToolDecl) → m.make ≡ Tool tool → (x : Extra) → IsIn x tool.extras → (y : Node) → (extra_led g n x).node ≡ Some y → Fits g y
       extra_fits tool e (Also of) i y q = (onward_named_fits g (base_of n) y of a.base q).2.fits
       extra_fits tool e (With name) i y q = subst (Fits g) (same_some q) (bare_fits g name (with_named tool e name i))
 
-      extras_fit : (tool : ToolDecl) → m.make ≡ Tool tool → (z : Node) → IsIn z (flat_map (extra_needs known) (map (extra_node g n) tool.extras)) → Fits g z
+      extras_fit : (tool : ToolDecl) → m.make ≡ Tool tool → (z : Node) → IsIn z (flat_map (extra_needs known) (map (extra_led g n) tool.extras)) → Fits g z
       extras_fit tool e z h =
-          let r = from_flat (extra_needs known) z (map (extra_node g n) tool.extras) h in
-          let x = from_map (extra_node g n) r.0 tool.extras r.1 in
+          let r = from_flat (extra_needs known) z (map (extra_led g n) tool.extras) h in
+          let x = from_map (extra_led g n) r.0 tool.extras r.1 in
           let y = from_flat (with_elements known) z (option_to_list r.0.node) r.2 in
-          elements_fit y.0 (extra_fits tool e x.0 x.1 y.0 (ap (λ (w : ExtraNode). w.node) (sym x.2) ∙ in_option y.0 r.0.node y.1)) z y.2
+          elements_fit y.0 (extra_fits tool e x.0 x.1 y.0 (ap (λ (w : Led). w.node) (sym x.2) ∙ in_option y.0 r.0.node y.1)) z y.2
 
       scan_fits : (closure : Option Text) (x : Text) → IsName x → (y : Node) → scan_node g n closure x ≡ Some y → Fits g y
       scan_fits None x h y q = cc
@@ -162,7 +169,7 @@ module _ (g : Graph) (spellable : IsSpellable g) (known : Known) (kinds : AreOfK
       sources_fit names named z h = let r = from_map source_node z names h in subst (Fits g) (sym r.2) (bare_fits g r.0 (named r.0 r.1))
 
       tool_fits : (t : ToolTask) → t.base ≡ base_of n → IsName t.root → ((x : Text) → IsName x → (y : Node) → t.scan x ≡ Some y → Fits g y) → ((z : Node) → IsIn z (flat_map (extra_needs known) t.extras) → Fits g z) → (names : List Text) → ((x : Text) → IsIn x names → IsName x) → (z : Node) → IsIn z (needs_of (tooled t) known names) → Fits g z
-      tool_fits t base root scan extras names named z h = elim (in_either z (t.base ∷ where_valued (known t.base) (tool_needs t known names)) _ h) [
+      tool_fits t base root scan extras names named z h = elim (from_tool_needs t known names z h) [
         | inl i ↦ elim i [ inl e ↦ subst (Fits g) (sym (e ∙ base)) a.base | inr k ↦ by_more (from_where (known t.base) z (tool_needs t known names) k).1 ]
         | inr i ↦ sources_fit names named z (from_where (known t.base) z (map source_node names) i).1
       ]
@@ -179,11 +186,11 @@ module _ (g : Graph) (spellable : IsSpellable g) (known : Known) (kinds : AreOfK
             ]
           ]
 
-      parts_fit : (ds : List PartDecl) (z : Node) → IsIn z (part_nodes (map (pack_part g (base_of n)) ds)) → Fits g z
+      parts_fit : (ds : List PartDecl) (z : Node) → IsIn z (part_nodes (map (pack_part g n) ds)) → Fits g z
       parts_fit ds z h =
-          let r = from_flat (λ (p : PackPart). option_to_list p.node) z (map (pack_part g (base_of n)) ds) h in
-          let d = from_map (pack_part g (base_of n)) r.0 ds r.1 in
-          (onward_named_fits g (base_of n) z d.0.of a.base (ap (λ (p : PackPart). p.node) (sym d.2) ∙ in_option z r.0.node r.2)).2.fits
+          let p = from_led (λ (p : PackPart). p.led) (map (pack_part g n) ds) z h in
+          let d = from_map (pack_part g n) p.0 ds p.1 in
+          (onward_named_fits g (base_of n) z d.0.of a.base (ap (λ (p : PackPart). p.led.node) (sym d.2) ∙ p.2)).2.fits
 
       made_needs : (make : Make) → m.make ≡ make → (names : List Text) → ((x : Text) → IsIn x names → IsName x) → (z : Node) → IsIn z (needs_of (make_task g n m make) known names) → Fits g z
       made_needs (Tool tool) e names named z h = tool_fits (tool_task g n m tool) refl f.source (scan_fits tool.closure) (extras_fit tool e) names named z h
@@ -191,13 +198,13 @@ module _ (g : Graph) (spellable : IsSpellable g) (known : Known) (kinds : AreOfK
       made_needs Read e names named z (inr none) = absurd none
       made_needs Each e names named z (inl q) = subst (Fits g) (sym q) a.base
       made_needs Each e names named z (inr none) = absurd none
-      made_needs Pack e names named z h = elim (in_either z (part_nodes (map (pack_part g (base_of n)) (parts_of (kind_named g m.to)))) [] h) [ inl i ↦ parts_fit (parts_of (kind_named g m.to)) z i | inr none ↦ absurd none ]
+      made_needs Pack e names named z h = parts_fit (parts_of (kind_named g m.to)) z (subst (λ l. IsIn z l) (packed_needs_are (map (pack_part g n) (parts_of (kind_named g m.to))) known names) h)
 
     pub task_needs_fit : (names : List Text) → ((x : Text) → IsIn x names → IsName x) → (z : Node) → IsIn z (needs_of (task_of g n) known names) → Fits g z
     task_needs_fit names named = by_task g n f (λ t. (z : Node) → IsIn z (needs_of t known names) → Fits g z)
         (λ e z h. absurd h)
-        (λ key b z h. elim (in_either z (base_of n ∷ picked_element key (known (base_of n))) [] h) [
-          | inl i ↦ elim i [ inl e ↦ subst (Fits g) (sym e) b.fits | inr k ↦ elements_fit (base_of n) b.fits z (inr (picked_element_in key (known (base_of n)) z k)) ]
-          | inr none ↦ absurd none
+        (λ key b z h. elim (subst (λ l. IsIn z l) (picked_needs_are (base_of n) key known names) h) [
+          | inl e ↦ subst (Fits g) (sym e) b.fits
+          | inr k ↦ elements_fit (base_of n) b.fits z (inr (picked_element_in key (known (base_of n)) z k))
         ])
         (λ m a z h. made_needs m a m.make refl names named z h)

@@ -1,5 +1,5 @@
 -- The value that a node itself gives is of the node's kind, and short.
-use Rattle.std.proofs.Common.{◌≡◌, ◌≢◌, ℕ, ◌≤◌, Bool, true, false, List, [], ◌∷◌, ◌++◌, ◌⊎◌, inl, inr, sym, ap, ◌∙◌, subst, refl, cond, flat_map, filter_map, map, slice_get, bytes_eq, ◌-◌, ◌&&◌, ◌||◌, length, arith, is_some}
+use Rattle.std.proofs.Common.{◌≡◌, ◌≢◌, ℕ, ◌≤◌, Bool, true, false, List, [], ◌∷◌, ◌++◌, ◌⊎◌, inl, inr, sym, ap, ◌∙◌, subst, refl, cond, flat_map, map, slice_get, bytes_eq, ◌-◌, ◌&&◌, ◌||◌, length, arith, is_some}
 use Rattle.std.specs.Prelude.{Option, Some, None, option_map, option_and_then, option_to_list, find}
 use Rattle.object_values.specs.declared.messages.Status.{Status}
 use Rattle.object_values.specs.declared.messages.Status.TheVariants.{Ok, Warning, Error, Abort}
@@ -32,25 +32,25 @@ use Rattle.meaning_calls.specs.Outcomes.{OutcomeFits as OutcomeFits}
 use Rattle.meaning_graph.specs.Graphs.{Text, Graph, type_named, kind_of, kind_named}
 use Rattle.meaning_texts.specs.Lists.{is_empty, IsIn}
 use Rattle.meaning_graph.specs.Suffixes.{source_type}
-use Rattle.meaning_texts.proofs.Lemmas.{in_either, in_map, from_chosen, in_all, all_in, in_all_pass, same_some, value_of_some}
+use Rattle.meaning_texts.proofs.Lemmas.{in_either, in_map, in_all, all_in, in_all_pass, same_some, value_of_some}
 use Rattle.std.proofs.lemmas.Bool.{and_parts, or_cases}
 use Rattle.meaning_graph.proofs.Lemmas.{found_passes}
 use Rattle.meaning_graph_text.specs.Checks.{Checked, is_simple, is_list, is_compound as is_compound_type, keeps_make}
 use Rattle.meaning_nodes.specs.Nodes.{base_of, element_number, picked_type, reached_type, onward_named, Fits}
 use Rattle.meaning_nodes.specs.Values.{element, body, pick}
 use Rattle.meaning_nodes.specs.NodeOf.{NodeAnswer, is_node, unknown_param, unknown_type, no_path, node_of}
-use Rattle.meaning_tasks.specs.Tasks.{Own, Task, tooled, ToolTask, PackPart, listed_unless, unless_node, with_params_of, answer_node, line_node, lines_own, read_own, each_own, element_name, parts_of, is_compound, outs_of, pack_part, pack_missing, tool_task, make_task, task_of}
-use Rattle.meaning_tasks.specs.Needs.{Known, has_value, elements_of, part_nodes, ranked_needs}
-use Rattle.meaning_tasks.specs.Calls.{text_in, missing_extras, all_valued, call_of, tool_call}
+use Rattle.meaning_tasks.specs.Tasks.{Own, Task, tooled, ToolTask, PackPart, fine_unless, unless_node, led_to, led_nodes, led_missing, with_params_of, answer_node, line_node, line_led, lines_own, read_own, each_own, element_name, parts_of, is_compound, outs_of, pack_part, tool_task, make_task, task_of}
+use Rattle.meaning_tasks.specs.Needs.{Known, has_value, elements_of, part_nodes, counted_needs}
+use Rattle.meaning_tasks.specs.Calls.{text_in, all_valued, call_of, tool_call}
 use Rattle.meaning_tasks.specs.Settle.{Texts, given_own, element_own, pick_own, picked_own, mapped_own, named_body, part_body, packed_own, first_body, made_value, at_status, outcome_own, own_of}
 use Rattle.meaning_tasks.specs.Maps.{IsElementOf, IsOfKind}
 use Rattle.meaning_nodes.proofs.Lemmas.{HasBase, made_fits, onward_named_fits}
-use Rattle.meaning_tasks.proofs.Lemmas.{from_kept, references_canonical}
+use Rattle.meaning_tasks.proofs.Lemmas.{packed_counted_are, from_kept, references_canonical}
 use Rattle.meaning_derive.specs.Given.{IsSource}
 use Rattle.meaning_checked.specs.Premises.{IsShort}
 use Rattle.meaning_checked.proofs.Rules.{kind_name, name_kind, named_kind, simple_named, list_named, compound_named, simple_number, kept_rules, contents_simple, simple_down, source_simple, slice_in}
 use Rattle.meaning_checked.proofs.Bases.{AtMaker, source_typed, by_task}
-use Rattle.meaning_checked.proofs.Needed.{AreOfKind, element_fits}
+use Rattle.meaning_checked.proofs.Needed.{AreOfKind, element_fits, from_led}
 
 -- ---- values of kinds
 
@@ -179,9 +179,9 @@ module _ (g : Graph) (checked : Checked g) where
 
     -- ---- lists
 
-    listed_value : (elements : List Node) (messages : List Message) (v : Value) → (listed_unless elements messages).value ≡ Some v → v ≡ Listed elements
-    listed_value elements [] v e = sym (same_some e)
-    listed_value elements (m ∷ messages) v e = cc
+    unless_value : (w : Value) (messages : List Message) (v : Value) → (fine_unless w messages).value ≡ Some v → (v ≡ w) × (messages ≡ [])
+    unless_value w [] v e = (sym (same_some e), refl)
+    unless_value w (m ∷ messages) v e = cc
 
     led_element : (n e : Node) (of : Text) → Fits g n → onward_named g n of ≡ Some e → IsElementOf g of e
     led_element n e of f h = let l = onward_named_fits g n e of f h in record { fits = l.2.fits; type = l.2.type; typed = l.2.typed; named = l.0; element = l.1; is = l.2.is }
@@ -205,10 +205,10 @@ module _ (g : Graph) (checked : Checked g) where
 
     lines_element : (n e : Node) (of : Text) (text : Text) (ls : Lines) → references text ≡ ls → Fits g n → (v : Value) → (lines_own g n of ls).value ≡ Some v → (es : List Node) × (v ≡ Listed es) × ((e : Node) → IsIn e es → IsElementOf g of e)
     lines_element n e of text TooMany q f v h = cc
-    lines_element n e of text (These lines) q f v h = (filter_map (line_node g n of) lines, listed_value _ _ v h, each)
+    lines_element n e of text (These lines) q f v h = (led_nodes (map (line_led g n of) lines), (unless_value _ _ v h).0, each)
       where
-        each : (e : Node) → IsIn e (filter_map (line_node g n of) lines) → IsElementOf g of e
-        each e i = let r = from_chosen (line_node g n of) e lines i in line_element n e of r.0 f (λ k x p. references_canonical text lines k x q (subst (λ z. IsIn z lines) p r.1)) r.2
+        each : (e : Node) → IsIn e (led_nodes (map (line_led g n of) lines)) → IsElementOf g of e
+        each e i = let r = from_led (line_led g n of) lines e i in line_element n e of r.0 f (λ k x p. references_canonical text lines k x q (subst (λ z. IsIn z lines) p r.1)) r.2
 
     read_elements : (n : Node) (of : Text) → Fits g n → (w v : Value) → (read_own g n of w).value ≡ Some v → (es : List Node) × (v ≡ Listed es) × ((e : Node) → IsIn e es → IsElementOf g of e)
     read_elements n of f (Simple text) v h = lines_element n n of text (references text) refl f v h
@@ -217,7 +217,7 @@ module _ (g : Graph) (checked : Checked g) where
 
     each_elements : (n : Node) (of : Text) (w v : Value) → ((es : List Node) → w ≡ Listed es → (e : Node) → IsIn e es → Fits g e) → (each_own g n of w).value ≡ Some v → (es : List Node) × (v ≡ Listed es) × ((e : Node) → IsIn e es → IsElementOf g of e)
     each_elements n of (Simple text) v f h = cc
-    each_elements n of (Listed es) v f h = (filter_map (λ e. onward_named g e of) es, listed_value _ _ v h, λ e i. let r = from_chosen (λ x. onward_named g x of) e es i in led_element r.0 e of (f es refl r.0 r.1) r.2)
+    each_elements n of (Listed es) v f h = (led_nodes (map (led_to g n of) es), (unless_value _ _ v h).0, λ e i. let r = from_led (led_to g n of) es e i in led_element r.0 e of (f es refl r.0 r.1) r.2)
     each_elements n of (Compound ps) v f h = cc
 
     -- the list type that a maker makes
@@ -260,13 +260,9 @@ module _ (g : Graph) (checked : Checked g) where
         let t = part_named base x d f simple q (valued x (inl refl)) in
         packed_first d ds rest (known x) t.0 t.1 t.2 (k e (λ y i. valued y (inr i)))
 
-    packed_parts : (n base : Node) → Fits g base → (ds : List PartDecl) → ((d : PartDecl) → IsIn d ds → is_simple g d.of ≡ true) → flat_map (pack_missing g n base) ds ≡ [] → ((x : Node) → IsIn x (part_nodes (map (pack_part g base) ds)) → has_value (known x) ≡ true) → ArePacked (flat_map (part_body known) (map (pack_part g base) ds)) ds
-    packed_parts n base f [] simple none valued = record { names = refl; small = λ p i. absurd i }
-    packed_parts n base f (d ∷ ds) simple none valued = packed_node base f d ds _ _ _ _ (simple d (inl refl)) (onward_named g base d.of) refl none valued (λ e v. packed_parts n base f ds (λ x i. simple x (inr i)) e v)
-
-    packed_value : (parts : List PackPart) (missing : List Message) (v : Value) → (packed_own known parts missing).value ≡ Some v → (v ≡ Compound (flat_map (part_body known) parts)) × (missing ≡ [])
-    packed_value parts [] v e = (sym (same_some e), refl)
-    packed_value parts (m ∷ missing) v e = cc
+    packed_parts : (n : Node) → Fits g (base_of n) → (ds : List PartDecl) → ((d : PartDecl) → IsIn d ds → is_simple g d.of ≡ true) → led_missing (map (λ (p : PackPart). p.led) (map (pack_part g n) ds)) ≡ [] → ((x : Node) → IsIn x (part_nodes (map (pack_part g n) ds)) → has_value (known x) ≡ true) → ArePacked (flat_map (part_body known) (map (pack_part g n) ds)) ds
+    packed_parts n f [] simple none valued = record { names = refl; small = λ p i. absurd i }
+    packed_parts n f (d ∷ ds) simple none valued = packed_node (base_of n) f d ds _ _ _ _ (simple d (inl refl)) (onward_named g (base_of n) d.of) refl none valued (λ e v. packed_parts n f ds (λ x i. simple x (inr i)) e v)
 
     -- ---- tools
 
@@ -281,7 +277,7 @@ module _ (g : Graph) (checked : Checked g) where
     if_called false x y e = cc
 
     call_outs : (t : ToolTask) (names : List Text) (call : Call) → call_of g (tooled t) known names ≡ Some call → t.outs ≡ call.outs
-    call_outs t names call e = ap (λ (c : Call). c.outs) (if_called (is_empty (missing_extras t.extras) && all_valued known (ranked_needs (tooled t) known names)) (tool_call g t known names) call e)
+    call_outs t names call e = ap (λ (c : Call). c.outs) (if_called (is_empty (led_missing t.extras) && all_valued known (counted_needs (tooled t) known names)) (tool_call g t known names) call e)
 
     first_short : (outputs : List Part) → ((p : Part) → IsIn p outputs → length p.body ≤ body_limit) → length (first_body outputs) ≤ body_limit
     first_short [] h = omega arith
@@ -354,7 +350,7 @@ module _ (g : Graph) (checked : Checked g) where
           let k = kinded (base_of n) b in
           element_fits g known kinds (base_of n) k.0 k.1 b k.2 k.3 e (subst (λ z. IsIn e (elements_of z)) (sym (q ∙ ap (λ z. Some (Some z)) p)) i)
 
-      made_good : (m : MakerDecl) → AtMaker g n m → (make : Make) → m.make ≡ make → (v : Value) → (own_of label texts (make_task g n m make) known o).value ≡ Some v → all_valued known (ranked_needs (make_task g n m make) known names) ≡ true → IsOutcomeOf g (make_task g n m make) known names o → IsGood n v
+      made_good : (m : MakerDecl) → AtMaker g n m → (make : Make) → m.make ≡ make → (v : Value) → (own_of label texts (make_task g n m make) known o).value ≡ Some v → all_valued known (counted_needs (make_task g n m make) known names) ≡ true → IsOutcomeOf g (make_task g n m make) known names o → IsGood n v
       made_good m a (Tool tool) is v e valued ok = tool_good n m a tool is label _ names o ok v e
       made_good m a Read is v e valued ok =
           let rules : keeps_make g m.from m.to Read ≡ true = subst (λ z. keeps_make g m.from m.to z ≡ true) is (kept_rules g checked (MakerDeclared m) a.declared) in
@@ -372,16 +368,19 @@ module _ (g : Graph) (checked : Checked g) where
           ps : (ps : List PartDecl) × (kind_named g m.to ≡ Some (CompoundKind ps))
           ps = compound_named g m.to rules
 
-          value : (v ≡ Compound (flat_map (part_body known) (map (pack_part g (base_of n)) (parts_of (kind_named g m.to))))) × (flat_map (pack_missing g n (base_of n)) (parts_of (kind_named g m.to)) ≡ [])
-          value = packed_value (map (pack_part g (base_of n)) (parts_of (kind_named g m.to))) (flat_map (pack_missing g n (base_of n)) (parts_of (kind_named g m.to))) v e
+          value : (v ≡ Compound (flat_map (part_body known) (map (pack_part g n) (parts_of (kind_named g m.to))))) × (led_missing (map (λ (p : PackPart). p.led) (map (pack_part g n) (parts_of (kind_named g m.to)))) ≡ [])
+          value = unless_value _ _ v e
 
           simple : (d : PartDecl) → IsIn d (parts_of (kind_named g m.to)) → is_simple g d.of ≡ true
           simple d i =
               let h = kind_name g m.to (CompoundKind ps.0) ps.1 in
               contents_simple g checked h.number (CompoundKind ps.0) h.kind d.of (in_map (λ (z : PartDecl). z.of) d ps.0 (subst (λ z. IsIn d (parts_of z)) ps.1 i))
 
-          done : ArePacked (flat_map (part_body known) (map (pack_part g (base_of n)) (parts_of (kind_named g m.to)))) (parts_of (kind_named g m.to))
-          done = packed_parts n (base_of n) a.base (parts_of (kind_named g m.to)) simple value.1 (in_all_pass (λ x. has_value (known x)) (part_nodes (map (pack_part g (base_of n)) (parts_of (kind_named g m.to)))) valued)
+          all_there : all_valued known (part_nodes (map (pack_part g n) (parts_of (kind_named g m.to)))) ≡ true
+          all_there = subst (λ l. all_valued known l ≡ true) (packed_counted_are (map (pack_part g n) (parts_of (kind_named g m.to))) known names) valued
+
+          done : ArePacked (flat_map (part_body known) (map (pack_part g n) (parts_of (kind_named g m.to)))) (parts_of (kind_named g m.to))
+          done = packed_parts n a.base (parts_of (kind_named g m.to)) simple value.1 (in_all_pass (λ x. has_value (known x)) (part_nodes (map (pack_part g n) (parts_of (kind_named g m.to)))) all_there)
 
           packed_good : IsGood n v
           packed_good t k typed q = (subst (λ z. IsOfKind g z v) same (subst (IsOfKind g (CompoundKind ps.0)) (sym value.0) (done.names ∙ ap (λ z. map (λ (d : PartDecl). d.name) (parts_of z)) ps.1)), subst IsShort (sym value.0) done.small)
@@ -389,8 +388,8 @@ module _ (g : Graph) (checked : Checked g) where
               same : CompoundKind ps.0 ≡ k
               same = same_some (sym ps.1 ∙ name_kind g m.to t (sym a.typed ∙ typed) ∙ q)
 
-      pub own_good : (v : Value) → (own_of label texts (task_of g n) known o).value ≡ Some v → all_valued known (ranked_needs (task_of g n) known names) ≡ true → IsOutcomeOf g (task_of g n) known names o → IsGood n v
-      own_good = by_task g n f (λ t. (v : Value) → (own_of label texts t known o).value ≡ Some v → all_valued known (ranked_needs t known names) ≡ true → IsOutcomeOf g t known names o → IsGood n v)
+      pub own_good : (v : Value) → (own_of label texts (task_of g n) known o).value ≡ Some v → all_valued known (counted_needs (task_of g n) known names) ≡ true → IsOutcomeOf g (task_of g n) known names o → IsGood n v
+      own_good = by_task g n f (λ t. (v : Value) → (own_of label texts t known o).value ≡ Some v → all_valued known (counted_needs t known names) ≡ true → IsOutcomeOf g t known names o → IsGood n v)
           (λ e v h valued ok. source_good e v h)
           (λ key b v h valued ok.
           let t = value_of_some (reached_type g n) f.typed in

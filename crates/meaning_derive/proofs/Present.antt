@@ -37,7 +37,7 @@ only_listed : (s : Sources) (known : Known) → OnlyPresent s known → (t : Tas
 only_listed s known only (given name) x y h = absurd h
 only_listed s known only (picked base key) x y h = absurd h
 only_listed s known only (mapped base f) x y h = absurd h
-only_listed s known only (packed parts missing) x y h = absurd h
+only_listed s known only (packed parts) x y h = absurd h
 only_listed s known only unfit x y h = absurd h
 only_listed s known only (tooled t) x y h = only x (from_where (known (source_node x)) y _ (from_where (known t.base) y _ h).1).0
 

@@ -11,7 +11,7 @@ use Rattle.meaning_texts.specs.Lists.{IsIn}
 use Rattle.meaning_graph.specs.Samples.{c_units_back, joined_texts}
 use Rattle.meaning_tasks.specs.Reached.{Reached, by_own, by_line, AreReached}
 use Rattle.meaning_tasks.specs.Tasks.{task_of}
-use Rattle.meaning_tasks.specs.Needs.{Results, values_of, where_valued, elements_of, own_lines, needs_of}
+use Rattle.meaning_tasks.specs.Needs.{Results, values_of, where_valued, elements_of, own_lines, needed, reached, in_role, nodes_of, needs_of}
 use Rattle.meaning_derive.specs.Chains.{IsNeed, IsCircular}
 use Rattle.meaning_derive.specs.Samples.{objs, exe, back, back_again, lines, joined}
 
@@ -38,7 +38,7 @@ pub circular : (seen : Results) → values_of seen objs ≡ Some (Some (Listed (
 unfolding task_of
 circular seen h none =
     let listed : IsIn back_again (needs_of (task_of c_units_back exe) (values_of seen) []) =
-    subst (λ o. IsIn back_again ((objs ∷ where_valued o (elements_of o ++ [])) ++ where_valued o [])) (sym h) (inr (inl refl)) in
+    subst (λ o. IsIn back_again (nodes_of (in_role needed (objs ∷ where_valued o (elements_of o ++ [])) ++ in_role reached (where_valued o [])))) (sym h) (inr (inl refl)) in
     let unknown : values_of seen back ≡ None = ap (option_map (λ (v : View). v.value)) none in
     record {
       front = exe ∷ back_again ∷ back ∷ [];
@@ -71,7 +71,7 @@ pub self_reference : (seen : Results) → values_of seen lines ≡ Some (Some (L
 unfolding task_of
 self_reference seen h =
     let listed : IsIn joined (needs_of (task_of joined_texts joined) (values_of seen) []) =
-    subst (λ o. IsIn joined ((lines ∷ where_valued o (elements_of o ++ [])) ++ where_valued o [])) (sym h) (inr (inl refl)) in
+    subst (λ o. IsIn joined (nodes_of (in_role needed (lines ∷ where_valued o (elements_of o ++ [])) ++ in_role reached (where_valued o [])))) (sym h) (inr (inl refl)) in
     record {
       front = joined ∷ [];
       last = joined;

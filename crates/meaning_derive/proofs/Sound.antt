@@ -23,10 +23,11 @@ use Rattle.meaning_texts.proofs.Lemmas.{in_all_pass}
 use Rattle.meaning_nodes.specs.Nodes.{last_step}
 use Rattle.meaning_nodes.specs.Labels.{label_of}
 use Rattle.meaning_nodes.specs.Values.{Picked, element, body, pick, worst}
-use Rattle.meaning_tasks.specs.Tasks.{Own, listed_unless, lines_own, read_own, each_own, element_name, Task, given, picked, mapped, packed, tooled, unfit, PackPart, make_task, maker_task, step_task, task_of}
-use Rattle.meaning_tasks.specs.Needs.{Results, Known, values_of, has_value, element_in, picked_element, ranked_needs}
+use Rattle.meaning_tasks.specs.Tasks.{Own, fine_unless, lines_own, read_own, each_own, element_name, Task, given, picked, mapped, packed, tooled, unfit, PackPart, make_task, maker_task, step_task, task_of}
+use Rattle.meaning_tasks.specs.Needs.{Results, Known, values_of, has_value, element_in, picked_element, counted_needs}
 use Rattle.meaning_tasks.specs.Calls.{all_valued}
 use Rattle.meaning_tasks.specs.Settle.{Texts, given_own, element_own, pick_own, picked_own, mapped_own, packed_own, at_status, outcome_own, own_of, status_in, worst_of, settled}
+use Rattle.meaning_tasks.proofs.Lemmas.{picked_counted_are}
 use Rattle.meaning_derive.specs.Derive.{Sources, text_of, Outcomes, names_for, derive}
 use Rattle.meaning_derive.proofs.Steps.{step_so}
 
@@ -63,12 +64,12 @@ worst_runs_on Abort Abort = refl
 
 -- ---- what a node itself gives
 
-listed_sound : (elements : List Node) (messages : List Message) → IsSoundOwn (listed_unless elements messages)
-listed_sound elements [] = refl
-listed_sound elements (m ∷ messages) = refl
+unless_sound : (v : Value) (messages : List Message) → IsSoundOwn (fine_unless v messages)
+unless_sound v [] = refl
+unless_sound v (m ∷ messages) = refl
 
 lines_sound : (g : Graph) (n : Node) (of : Text) (lines : Lines) → IsSoundOwn (lines_own g n of lines)
-lines_sound g n of (These lines) = listed_sound _ _
+lines_sound g n of (These lines) = unless_sound _ _
 lines_sound g n of TooMany = refl
 
 read_sound : (g : Graph) (n : Node) (of : Text) (v : Value) → IsSoundOwn (read_own g n of v)
@@ -78,7 +79,7 @@ read_sound g n of (Compound parts) = refl
 
 each_sound : (g : Graph) (n : Node) (of : Text) (v : Value) → IsSoundOwn (each_own g n of v)
 each_sound g n of (Simple text) = refl
-each_sound g n of (Listed elements) = listed_sound _ _
+each_sound g n of (Listed elements) = unless_sound _ _
 each_sound g n of (Compound parts) = refl
 
 -- what follows from the value of a base alone is sound
@@ -86,7 +87,7 @@ abbrev IsSoundTask : Task → Type 0
 IsSoundTask (given name) = Unit {0}
 IsSoundTask (picked base key) = Unit {0}
 IsSoundTask (mapped base f) = (v : Value) → IsSoundOwn (f v)
-IsSoundTask (packed parts missing) = Unit {0}
+IsSoundTask (packed parts) = Unit {0}
 IsSoundTask (tooled t) = Unit {0}
 IsSoundTask unfit = Unit {0}
 
@@ -133,9 +134,8 @@ mapped_sound f s None = refl
 mapped_sound f s (Some None) = refl
 mapped_sound f s (Some (Some v)) = s v
 
-packed_sound : (known : Known) (parts : List PackPart) (missing : List Message) → IsSoundOwn (packed_own known parts missing)
-packed_sound known parts [] = refl
-packed_sound known parts (m ∷ missing) = refl
+packed_sound : (known : Known) (parts : List PackPart) → IsSoundOwn (packed_own known parts)
+packed_sound known parts = unless_sound _ _
 
 status_sound : (status : Status) (v : Value) (messages : List Message) → IsSoundOwn (at_status status v messages)
 status_sound Ok v messages = refl
@@ -147,11 +147,11 @@ outcome_sound : (label : Text) (made : Bool) (missing : List Message) (o : Optio
 outcome_sound label made missing None = refl
 outcome_sound label made missing (Some o) = status_sound o.status _ _
 
-own_sound : (label : Text) (texts : Texts) (t : Task) (known : Known) (o : Option Outcome) (names : List Text) → IsSoundTask t → all_valued known (ranked_needs t known names) ≡ true → IsSoundOwn (own_of label texts t known o)
+own_sound : (label : Text) (texts : Texts) (t : Task) (known : Known) (o : Option Outcome) (names : List Text) → IsSoundTask t → all_valued known (counted_needs t known names) ≡ true → IsSoundOwn (own_of label texts t known o)
 own_sound label texts (given name) known o names s h = given_sound label name (texts name)
-own_sound label texts (picked base key) known o names s h = picked_sound label key known (known base) (λ e i. in_all_pass (λ n. has_value (known n)) (base ∷ picked_element key (known base)) h e (inr i))
+own_sound label texts (picked base key) known o names s h = picked_sound label key known (known base) (λ e i. in_all_pass (λ n. has_value (known n)) (base ∷ picked_element key (known base)) (subst (λ l. all_valued known l ≡ true) (picked_counted_are base key known names) h) e (inr i))
 own_sound label texts (mapped base f) known o names s h = mapped_sound f s (known base)
-own_sound label texts (packed parts missing) known o names s h = packed_sound known parts missing
+own_sound label texts (packed parts) known o names s h = packed_sound known parts
 own_sound label texts (tooled t) known o names s h = outcome_sound label t.makes_compound _ o
 own_sound label texts unfit known o names s h = refl
 
@@ -180,8 +180,8 @@ module _ (seen : Results) (sound : (n : Node) (view : View) → seen n ≡ Some 
       ∙ (λ i. sym (valued_runs_on n) i && all_run_on own nodes i)
       ∙ and_swap (has_value (values_of seen n)) (all_valued (values_of seen) nodes) (runs_on own)
 
-  settled_sound : (own : Own) (ranked : List Node) → (all_valued (values_of seen) ranked ≡ true → IsSoundOwn own) → IsSoundView (settled seen own ranked)
-  settled_sound own ranked s = by_valued (all_valued (values_of seen) ranked) s ∙ sym (all_run_on own.status ranked)
+  settled_sound : (own : Own) (counted : List Node) → (all_valued (values_of seen) counted ≡ true → IsSoundOwn own) → IsSoundView (settled seen own counted)
+  settled_sound own counted s = by_valued (all_valued (values_of seen) counted) s ∙ sym (all_run_on own.status counted)
     where
       by_valued : (b : Bool) → (b ≡ true → IsSoundOwn own) → is_some (cond b own.value None) ≡ (b && runs_on own.status)
       by_valued true s = s refl
@@ -194,7 +194,7 @@ derived_sound g s outcomes (suc h) n view e =
     let seen : Results = derive g s outcomes h in
     let names : List Text = names_for g s n seen in
     let p = step_so g s n outcomes seen names view e in
-    subst IsSoundView (sym p.is) (settled_sound seen (derived_sound g s outcomes h) (own_of (label_of g n) (text_of s) (task_of g n) (values_of seen) p.outcome) (ranked_needs (task_of g n) (values_of seen) names)
+    subst IsSoundView (sym p.is) (settled_sound seen (derived_sound g s outcomes h) (own_of (label_of g n) (text_of s) (task_of g n) (values_of seen) p.outcome) (counted_needs (task_of g n) (values_of seen) names)
     (own_sound (label_of g n) (text_of s) (task_of g n) (values_of seen) p.outcome names (task_sound g n)))
 
 -- in the words of the law

@@ -9,15 +9,15 @@ use Rattle.object_values.specs.declared.calls.Call.{Call}
 use Rattle.object_values.specs.declared.calls.Outcome.{Outcome}
 use Rattle.meaning_graph.specs.Graphs.{Text, Graph}
 use Rattle.meaning_texts.specs.Lists.{IsIn}
-use Rattle.meaning_texts.proofs.Lemmas.{in_left, in_all_pass}
+use Rattle.meaning_texts.proofs.Lemmas.{in_all_pass}
 use Rattle.std.proofs.lemmas.Bool.{cond-true}
 use Rattle.meaning_nodes.specs.Labels.{label_of}
 use Rattle.meaning_nodes.specs.Values.{worst, inherit}
 use Rattle.meaning_tasks.specs.Tasks.{Own, task_of}
-use Rattle.meaning_tasks.specs.Needs.{Results, values_of, AgreeOn, Grows, has_value, needs_of, ranked_needs}
+use Rattle.meaning_tasks.specs.Needs.{Results, values_of, AgreeOn, Grows, has_value, needs_of, counted_needs}
 use Rattle.meaning_tasks.specs.Calls.{call_of}
 use Rattle.meaning_tasks.specs.Settle.{own_of, status_in, messages_in, worst_of, settled, settle}
-use Rattle.meaning_tasks.proofs.Lemmas.{same_flat, same_all, ranked_local, list_local, computed_local, call_local, own_local, stays}
+use Rattle.meaning_tasks.proofs.Lemmas.{same_flat, same_all, counted_in_needs, counted_local, list_local, computed_local, call_local, own_local, stays}
 use Rattle.meaning_derive.specs.Derive.{Sources, text_of, Outcomes, all_known, outcome_for, names_for, settle_if_known, derive_above, derive}
 use Rattle.meaning_derive.specs.Laws.{HasMore}
 
@@ -47,8 +47,8 @@ module _ (g : Graph) (s : Sources) (n : Node) where
   pub settle_moves : (seen more : Results) (names : List Text) → SameResults seen more (needs_in seen names) → (o : Option Outcome) → settle g (text_of s) n seen o names ≡ settle g (text_of s) n more o names
   settle_moves seen more names a o =
       let agree = same_values seen more (needs_in seen names) a in
-      same_settled seen more (own_of (label_of g n) (text_of s) (task_of g n) (values_of seen) o) (ranked_needs (task_of g n) (values_of seen) names) (λ m i. a m (in_left m (ranked_needs (task_of g n) (values_of seen) names) _ i))
-      ∙ (λ i. settled more (own_local (values_of seen) (values_of more) (label_of g n) (text_of s) (task_of g n) names o agree i) (ranked_local (values_of seen) (values_of more) (task_of g n) names agree i))
+      same_settled seen more (own_of (label_of g n) (text_of s) (task_of g n) (values_of seen) o) (counted_needs (task_of g n) (values_of seen) names) (λ m i. a m (counted_in_needs (task_of g n) (values_of seen) names m i))
+      ∙ (λ i. settled more (own_local (values_of seen) (values_of more) (label_of g n) (text_of s) (task_of g n) names o agree i) (counted_local (values_of seen) (values_of more) (task_of g n) names agree i))
 
   pub known_moves : (seen more : Results) (names : List Text) → SameResults seen more (needs_in seen names) → all_known seen (needs_in seen names) ≡ all_known more (needs_in more names)
   known_moves seen more names a =

@@ -18,7 +18,7 @@ only_listed : (known : Known) (names : List Text) → ((x : Text) → IsValued (
 only_listed known names only (given name) x y h = absurd h
 only_listed known names only (picked base key) x y h = absurd h
 only_listed known names only (mapped base f) x y h = absurd h
-only_listed known names only (packed parts missing) x y h = absurd h
+only_listed known names only (packed parts) x y h = absurd h
 only_listed known names only unfit x y h = absurd h
 only_listed known names only (tooled t) x y h = only x (from_where (known (source_node x)) y _ (from_where (known t.base) y _ h).1).0
 

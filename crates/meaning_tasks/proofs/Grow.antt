@@ -6,9 +6,10 @@ use Rattle.meaning_graph.specs.Graphs.{Text, Graph}
 use Rattle.meaning_texts.specs.Lists.{IsIn}
 use Rattle.meaning_texts.proofs.Lemmas.{in_left, in_right, in_either, in_map, from_map, in_flat, from_flat}
 use Rattle.meaning_nodes.specs.Nodes.{source_node}
-use Rattle.meaning_tasks.specs.Tasks.{Task, given, picked, mapped, packed, tooled, unfit, ToolTask, ExtraNode, task_of}
+use Rattle.meaning_tasks.specs.Tasks.{Task, given, picked, mapped, packed, tooled, unfit, ToolTask, Led, task_of}
 use Rattle.meaning_tasks.specs.Needs.{Results, Known, values_of, Grows, where_valued, elements_of, picked_element, with_elements, extra_needs, scan_needs, tool_needs, needs_of, lines_in, lines_by, own_lines, other_lines, Needs}
 use Rattle.meaning_tasks.proofs.Reached.{reached_grows}
+use Rattle.meaning_tasks.proofs.Roles.{tool_counted, tool_reached, tool_needs_are, picked_needs_are}
 use Rattle.meaning_tasks.proofs.Valued.{where_grows, part_grows, values_grow}
 
 either_grows : {A : Type 0} (x : A) (ps qs us vs : List A) → (IsIn x ps → IsIn x us) → (IsIn x qs → IsIn x vs) → IsIn x (ps ++ qs) → IsIn x (us ++ vs)
@@ -26,7 +27,7 @@ module _ (known other : Known) (g : Grows known other) where
   own_grows (given name) x h = h
   own_grows (picked base key) x h = h
   own_grows (mapped base f) x h = h
-  own_grows (packed parts missing) x h = h
+  own_grows (packed parts) x h = h
   own_grows unfit x h = h
   own_grows (tooled t) x h = where_grows known other g t.base x _ _ (by_grows (t.scan t.root) x) h
 
@@ -34,7 +35,7 @@ module _ (known other : Known) (g : Grows known other) where
   other_grows (given name) y x h = h
   other_grows (picked base key) y x h = h
   other_grows (mapped base f) y x h = h
-  other_grows (packed parts missing) y x h = h
+  other_grows (packed parts) y x h = h
   other_grows unfit y x h = h
   other_grows (tooled t) y x h = where_grows known other g t.base x _ _ (where_grows known other g (source_node y) x _ _ (by_grows (t.scan y) x)) h
 
@@ -42,7 +43,7 @@ module _ (known other : Known) (g : Grows known other) where
   elements_grow n m (inl e) = inl e
   elements_grow n m (inr h) = inr (part_grows known other g elements_of refl n m h)
 
-  extra_grows : (m : Node) (e : ExtraNode) → IsIn m (extra_needs known e) → IsIn m (extra_needs other e)
+  extra_grows : (m : Node) (e : Led) → IsIn m (extra_needs known e) → IsIn m (extra_needs other e)
   extra_grows m e h = each_grows (with_elements known) (with_elements other) (option_to_list e.node) (option_to_list e.node) m (λ x i. i) (λ n k. elements_grow n m k) h
 
   module _ (names others : List Text) (more : (x : Text) → IsIn x names → IsIn x others) where
@@ -63,12 +64,15 @@ module _ (known other : Known) (g : Grows known other) where
 
     needs_of_grow : (t : Task) (m : Node) → IsIn m (needs_of t known names) → IsIn m (needs_of t other others)
     needs_of_grow (given name) m h = h
-    needs_of_grow (picked base key) m h = either_grows m (base ∷ picked_element key (known base)) [] (base ∷ picked_element key (other base)) [] (elim [ inl e ↦ inl e | inr k ↦ inr (part_grows known other g (picked_element key) refl base m k) ]) (λ p. p) h
+    needs_of_grow (picked base key) m h = subst (λ l. IsIn m l) (sym (picked_needs_are base key other others))
+        ((elim (subst (λ l. IsIn m l) (picked_needs_are base key known names) h) [ inl e ↦ inl e | inr k ↦ inr (part_grows known other g (picked_element key) refl base m k) ]))
     needs_of_grow (mapped base f) m h = h
-    needs_of_grow (packed parts missing) m h = h
+    needs_of_grow (packed parts) m h = h
     needs_of_grow unfit m h = h
-    needs_of_grow (tooled t) m h = either_grows m (t.base ∷ where_valued (known t.base) (tool_needs t known names)) _ (t.base ∷ where_valued (other t.base) (tool_needs t other others)) _
-        (elim [ inl e ↦ inl e | inr k ↦ inr (where_grows known other g t.base m _ _ (tool_grows t m) k) ]) (where_grows known other g t.base m _ _ (sources_grow m)) h
+    needs_of_grow (tooled t) m h = subst (λ l. IsIn m l) (sym (tool_needs_are t other others))
+        (either_grows m (tool_counted t known names) _ (tool_counted t other others) _
+        (elim [ inl e ↦ inl e | inr k ↦ inr (where_grows known other g t.base m _ _ (tool_grows t m) k) ]) (where_grows known other g t.base m _ _ (sources_grow m))
+        (subst (λ l. IsIn m l) (tool_needs_are t known names) h))
 
 -- A need stays a need.
 pub need_stays : (g : Graph) (n : Node) (seen more : Results) (needs others : List Node) → Grows seen more → Needs g n seen needs → Needs g n more others → (m : Node) → IsIn m needs → IsIn m others

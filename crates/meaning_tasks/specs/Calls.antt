@@ -1,7 +1,6 @@
 -- The call of a node whose tool is run: the tool, the used parameters, and the labelled parts.
 use Rattle.std.specs.Prelude.{◌≡◌, ℕ, ◌+◌, Bool, cond, ◌&&◌, List, [], ◌∷◌, ◌++◌, map, flat_map, length, Option, Some, None, option_to_list, codes}
 use Rattle.std.specs.List.{list_all}
-use Rattle.object_values.specs.declared.messages.Message.{Message}
 use Rattle.object_values.specs.declared.nodes.Node.{Node}
 use Rattle.object_values.specs.declared.views.Part.{Part}
 use Rattle.object_values.specs.declared.views.Value.{Value}
@@ -12,8 +11,8 @@ use Rattle.meaning_texts.specs.Lists.{is_empty}
 use Rattle.meaning_graph.specs.Graphs.{Text, Graph}
 use Rattle.meaning_nodes.specs.Nodes.{source_node}
 use Rattle.meaning_nodes.specs.Labels.{label_of}
-use Rattle.meaning_tasks.specs.Tasks.{Task, tooled, ToolTask, ExtraNode, task_of}
-use Rattle.meaning_tasks.specs.Needs.{Results, Known, values_of, has_value, ranked_needs, ReachedNames}
+use Rattle.meaning_tasks.specs.Tasks.{Task, tooled, ToolTask, Led, led_missing, task_of}
+use Rattle.meaning_tasks.specs.Needs.{Results, Known, values_of, has_value, counted_needs, ReachedNames}
 
 abbrev pub text_in : Option (Option Value) → Option Text
 text_in (Some (Some (Simple text))) = Some text
@@ -41,7 +40,7 @@ abbrev pub node_parts : Graph → Known → ℕ → Node → List CallPart
 node_parts g known slot n = value_parts g known slot n (known n)
 
 -- the extras, each with the next slot
-abbrev pub extra_parts : Graph → Known → ℕ → List ExtraNode → List CallPart
+abbrev pub extra_parts : Graph → Known → ℕ → List Led → List CallPart
 extra_parts g known slot [] = []
 extra_parts g known slot (e ∷ extras) =
     flat_map (node_parts g known slot) (option_to_list e.node)
@@ -67,10 +66,6 @@ tool_call g t known names = record {
   outs = t.outs;
 }
 
--- the messages on extras to which there is no path
-abbrev pub missing_extras : List ExtraNode → List Message
-missing_extras extras = flat_map (λ e. e.missing) extras
-
 abbrev pub all_valued : Known → List Node → Bool
 all_valued known nodes = list_all (λ n. has_value (known n)) nodes
 
@@ -79,7 +74,7 @@ all_valued known nodes = list_all (λ n. has_value (known n)) nodes
 abbrev pub call_of : Graph → Task → Known → List Text → Option Call
 call_of g (tooled t) known names =
     cond
-    (is_empty (missing_extras t.extras) && all_valued known (ranked_needs (tooled t) known names))
+    (is_empty (led_missing t.extras) && all_valued known (counted_needs (tooled t) known names))
     (Some (tool_call g t known names)) None
 call_of g other known names = None
 

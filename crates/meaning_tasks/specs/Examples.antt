@@ -1,5 +1,6 @@
 -- Worked examples of references, picks, needs and calls.
 use Rattle.std.specs.Prelude.{◌≡◌, List, [], ◌∷◌, ◌++◌, Some, None, codes}
+use Rattle.object_values.specs.declared.messages.Status.TheVariants.{Ok}
 use Rattle.object_values.specs.declared.messages.Message.{Message}
 use Rattle.object_values.specs.declared.nodes.ParamValue.{ParamValue}
 use Rattle.object_values.specs.declared.nodes.Step.TheVariants.{Maker}
@@ -8,15 +9,18 @@ use Rattle.object_values.specs.declared.views.Value.{Value}
 use Rattle.object_values.specs.declared.views.Value.TheVariants.{Simple, List as Listed, Compound}
 use Rattle.object_values.specs.declared.calls.CallPart.{CallPart}
 use Rattle.object_values.specs.declared.calls.Call.{Call}
+use Rattle.object_values.specs.declared.calls.Outcome.{Outcome}
+use Rattle.object_values.specs.declared.graph.Kind.TheVariants.{Compound as CompoundKind}
 use Rattle.object_values.specs.declared.graph.Extra.TheVariants.{Also, With}
+use Rattle.object_values.specs.declared.graph.Make.TheVariants.{Pack}
 use Rattle.meaning_graph.specs.Graphs.{Text, Graph}
-use Rattle.meaning_graph.specs.Samples.{two_ways, c_units, kits, simple, tool_with}
+use Rattle.meaning_graph.specs.Samples.{two_ways, c_units, kits, simple, declared, part, maker, tool_with}
 use Rattle.meaning_nodes.specs.Labels.{abort_message}
 use Rattle.meaning_nodes.specs.Samples.{at_steps, parameter}
-use Rattle.meaning_tasks.specs.Tasks.{Own, fine, aborted, read_own, each_own}
-use Rattle.meaning_tasks.specs.Settle.{picked_own}
+use Rattle.meaning_tasks.specs.Tasks.{Own, fine, aborted, Led, read_own, each_own, extra_led, task_of}
+use Rattle.meaning_tasks.specs.Settle.{picked_own, stepped_own}
 use Rattle.meaning_tasks.specs.Calls.{value_parts}
-use Rattle.meaning_tasks.specs.Samples.{Entry, known_of, simple_entry, listed_entry, aborted_entry, need_texts, call_in, parts_of_call, call_part}
+use Rattle.meaning_tasks.specs.Samples.{Entry, known_of, simple_entry, listed_entry, aborted_entry, need_texts, counted_texts, reached_texts, call_in, parts_of_call, call_part, Result, results_of, simple_view, aborted_view, view_over}
 
 -- ---- the nodes
 
@@ -282,3 +286,105 @@ pub record NotRun : Type 0 where
   pub no_extra : parts_of_call with_far_extra [] (simple_entry (codes "z.a") [] ∷ [])
       (at_steps (codes "z.a") (Maker 4 ∷ []))
       ≡ None
+
+-- ---- roles
+
+abbrev pub counted_of : List Text → List Entry → List Text
+counted_of listed entries = counted_texts c_units listed entries (object_of (codes "a.c"))
+
+abbrev pub reached_of : List Text → List Entry → List Text
+reached_of listed entries = reached_texts c_units listed entries (object_of (codes "a.c"))
+
+-- A reached source is a need that isn't counted. The own source can be the base and a reached one.
+pub record Roles : Type 0 where
+  pub header_uncounted : counted_of (codes "a.c" ∷ []) absent
+      ≡ codes "a.c" ∷ codes "a.c:inc" ∷ []
+  pub header_reached : reached_of (codes "a.c" ∷ []) absent ≡ codes "x.h" ∷ []
+  pub source_counted : counted_of (codes "a.c" ∷ codes "a.h" ∷ []) source_again
+      ≡ codes "a.c" ∷ codes "a.c:inc" ∷ codes "a.h:inc" ∷ []
+  pub source_reached : reached_of (codes "a.c" ∷ codes "a.h" ∷ []) source_again
+      ≡ codes "a.c" ∷ codes "a.h" ∷ []
+  -- of a pack each need is counted
+  pub pack_counted : counted_texts kits [] [] kit
+      ≡ codes "m.sm:units:objs:exe" ∷ codes "m.sm" ∷ []
+  pub pack_reached : reached_texts kits [] [] kit ≡ []
+
+abbrev pub absent_message : Message
+absent_message = abort_message (codes "x.h") (codes "no source x.h")
+
+abbrev pub absent_results : List Result
+absent_results =
+    (codes "a.c", simple_view (codes "include x.h\n"))
+    ∷ (codes "a.c:inc", simple_view (codes "x.h\n"))
+    ∷ (codes "x.h", aborted_view (absent_message ∷ [])) ∷ []
+
+abbrev pub scan_message : Message
+scan_message = abort_message (codes "a.c:inc") (codes "bad line")
+
+abbrev pub scan_results : List Result
+scan_results =
+    (codes "a.c", simple_view (codes "include\n"))
+    ∷ (codes "a.c:inc", aborted_view (scan_message ∷ [])) ∷ []
+
+-- the outcome with this output and no messages
+abbrev pub one_output : Text → Outcome
+one_output body =
+    record { status = Ok; lines = []; outputs = record { name = codes "o"; body = body } ∷ [] }
+
+-- A header that is absent leaves a.c:o at `Ok` and without messages. A scan at `Abort` doesn't.
+pub record ReachedAddNothing : Type 0 where
+  pub absent : view_over c_units (codes "a.c" ∷ []) (results_of c_units absent_results)
+      (Some (one_output (codes "x=1\n"))) (object_of (codes "a.c"))
+      ≡ simple_view (codes "x=1\n")
+  pub scan_aborted : view_over c_units (codes "a.c" ∷ []) (results_of c_units scan_results) None
+      (object_of (codes "a.c"))
+      ≡ aborted_view (scan_message ∷ [])
+
+-- ---- what is led on
+
+abbrev pub led : Node → Led
+led n = record { node = Some n; missing = [] }
+
+abbrev pub not_led : Message → Led
+not_led m = record { node = None; missing = m ∷ [] }
+
+abbrev pub debug : List ParamValue
+debug = parameter (codes "debug") ∷ []
+
+-- `also` goes on from the base, with its parameters; `with` names a source, which has none
+pub record Extras : Type 0 where
+  pub also : extra_led kits (with_params debug doc) (Also (codes "o"))
+      ≡ led (with_params debug (object_of (codes "a.c")))
+  pub named : extra_led kits (with_params debug doc) (With (codes "lic.h"))
+      ≡ led (source_of (codes "lic.h"))
+  pub no_way : extra_led with_far_extra (at_steps (codes "z.a") (Maker 4 ∷ [])) (Also (codes "far"))
+      ≡ not_led (abort_message (codes "z.a:d") (codes "no path far"))
+  pub needs : need_texts kits [] (simple_entry (codes "a.c+debug") [] ∷ []) (with_params debug doc)
+      ≡ codes "a.c+debug" ∷ codes "a.c+debug:o" ∷ codes "lic.h" ∷ []
+
+-- a pack with a part to which no path leads
+abbrev pub with_far_part : Graph
+with_far_part =
+    c_units
+    ++ declared (codes "kit")
+    (CompoundKind (part (codes "prog") (codes "exe") ∷ part (codes "head") (codes "hdr") ∷ [])) []
+    ∷ maker (codes "pk") Pack (codes "sm") (codes "kit") ∷ []
+
+-- what a pack itself gives, where its program is there
+abbrev pub pack_own : Graph → Own
+pack_own g =
+    stepped_own (codes "m.sm:kit") (task_of g kit)
+    (known_of g
+    (simple_entry (codes "m.sm:units:objs:exe") (codes "x=1\n")
+    ∷ simple_entry (codes "m.sm") (codes "a.c\n") ∷ []))
+    None
+
+-- where a part is missing, a pack gives the message alone, and still needs the other parts
+pub record Packs : Type 0 where
+  pub all_there : pack_own kits
+      ≡ fine
+      (Compound (record { name = codes "prog"; body = codes "x=1\n" }
+      ∷ record { name = codes "src"; body = codes "a.c\n" } ∷ []))
+  pub part_missing : pack_own with_far_part
+      ≡ aborted (abort_message (codes "m.sm:kit") (codes "no path hdr") ∷ [])
+  pub others_needed : need_texts with_far_part [] [] kit ≡ codes "m.sm:units:objs:exe" ∷ []

@@ -1,15 +1,17 @@
 -- What the laws of needs, calls and settling say.
-use Rattle.std.specs.Prelude.{◌≡◌, List, Option}
+use Rattle.std.specs.Prelude.{◌≡◌, ℕ, List, [], ◌++◌, Option, IsSome}
 use Rattle.object_values.specs.declared.nodes.Node.{Node}
+use Rattle.object_values.specs.declared.views.View.{View}
+use Rattle.object_values.specs.declared.calls.Call.{Call}
 use Rattle.object_values.specs.declared.calls.Outcome.{Outcome}
 use Rattle.meaning_graph.specs.Graphs.{Text, Graph}
 use Rattle.meaning_texts.specs.Lists.{IsIn}
 use Rattle.meaning_nodes.specs.Labels.{label_of}
 use Rattle.meaning_tasks.specs.Reached.{AreReached, reached_names}
-use Rattle.meaning_tasks.specs.Tasks.{task_of}
-use Rattle.meaning_tasks.specs.Needs.{Results, values_of, AgreeOn, Grows, needs_of, ranked_needs, Needs, ReachedNames}
-use Rattle.meaning_tasks.specs.Calls.{call_of}
-use Rattle.meaning_tasks.specs.Settle.{Texts, own_of, settle}
+use Rattle.meaning_tasks.specs.Tasks.{Own, Task, task_of}
+use Rattle.meaning_tasks.specs.Needs.{Results, Known, values_of, AgreeOn, Grows, needs_of, counted_needs, reached_needs, Needs, ReachedNames}
+use Rattle.meaning_tasks.specs.Calls.{call_of, CallOf}
+use Rattle.meaning_tasks.specs.Settle.{Texts, own_of, settle, Settles, SettlesWith}
 use Rattle.meaning_tasks.specs.Maps.{HasOnly}
 
 -- The computed names are the reached ones, where the listed names alone have lines.
@@ -43,8 +45,8 @@ pub record IsSameUnder (g : Graph) (n : Node) (seen other : Results)
   pub reached : ReachedNames g n other names
   pub needs : needs_of (task_of g n) (values_of seen) names
       ≡ needs_of (task_of g n) (values_of other) names
-  pub ranked : ranked_needs (task_of g n) (values_of seen) names
-      ≡ ranked_needs (task_of g n) (values_of other) names
+  pub counted : counted_needs (task_of g n) (values_of seen) names
+      ≡ counted_needs (task_of g n) (values_of other) names
   pub call : call_of g (task_of g n) (values_of seen) names
       ≡ call_of g (task_of g n) (values_of other) names
   pub own : (texts : Texts) (outcome : Option Outcome)
@@ -65,3 +67,51 @@ abbrev pub FiniteHasNeeds : Type 0
 FiniteHasNeeds =
     (g : Graph) (n : Node) (seen : Results) (nodes : List Node) → HasOnly seen nodes
     → (needs : List Node) × Needs g n seen needs
+
+-- What a node with steps settles to is the same over all sources.
+abbrev pub SettlesOverAnySources : Type 0
+SettlesOverAnySources =
+    (g : Graph) (n : Node) (seen : Results) (outcome : Option Outcome) (own : Own) (view : View)
+    (sources : ℕ) → (n.steps ≡ [] → ⊥) → SettlesWith g n seen outcome own view sources
+    → (texts : Texts) → Settles g texts n seen outcome view
+
+-- ---- roles
+
+-- The counted needs come first, and then the reached sources.
+abbrev pub CountedThenReached : Type 0
+CountedThenReached =
+    (t : Task) (known : Known) (names : List Text)
+    → needs_of t known names ≡ counted_needs t known names ++ reached_needs t known names
+
+-- ---- one map in place of another
+
+-- The two maps have the same result of each of the nodes.
+abbrev pub AgreeAt : Results → Results → List Node → Type 0
+AgreeAt seen other nodes = (m : Node) → IsIn m nodes → seen m ≡ other m
+
+-- Needs, call and settled view are the same under the other map.
+pub record IsCarried (g : Graph) (texts : Texts) (n : Node) (seen other : Results)
+    (nodes : List Node) : Type 0 where
+  pub needs : Needs g n other nodes
+  pub call : (call : Option Call) → CallOf g n seen call → CallOf g n other call
+  pub settles : (outcome : Option Outcome) (view : View) → Settles g texts n seen outcome view
+      → Settles g texts n other outcome view
+
+-- They are so under each map that has the same results of the needs.
+abbrev pub NeedsCarry : Type 0
+NeedsCarry =
+    (g : Graph) (texts : Texts) (n : Node) (seen other : Results) (needs : List Node)
+    → Needs g n seen needs → AgreeAt seen other needs → IsCarried g texts n seen other needs
+
+-- Needs that all have results stay the needs under more results, and with them call and view.
+abbrev pub FullNeedsStay : Type 0
+FullNeedsStay =
+    (g : Graph) (texts : Texts) (n : Node) (seen more : Results) (needs : List Node)
+    → Grows seen more → Needs g n seen needs → ((m : Node) → IsIn m needs → IsSome (seen m))
+    → IsCarried g texts n seen more needs
+
+-- There is one call of a node, or none.
+abbrev pub OneCall : Type 0
+OneCall =
+    (g : Graph) (n : Node) (seen : Results) (call other : Option Call) → CallOf g n seen call
+    → CallOf g n seen other → call ≡ other

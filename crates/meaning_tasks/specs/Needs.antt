@@ -1,5 +1,5 @@
 -- The needs of a node, in order, as far as the results so far show them.
-use Rattle.std.specs.Prelude.{◌≡◌, Bool, true, false, cond, List, [], ◌∷◌, ◌++◌, map, flat_map, Option, Some, None, bytes_eq, option_map, option_to_list}
+use Rattle.std.specs.Prelude.{◌≡◌, Bool, true, false, cond, List, [], ◌∷◌, ◌++◌, map, filter, flat_map, Option, Some, None, bytes_eq, option_map, option_to_list}
 use Rattle.object_values.specs.declared.nodes.Node.{Node}
 use Rattle.object_values.specs.declared.views.Value.{Value}
 use Rattle.object_values.specs.declared.views.Value.TheVariants.{Simple, List as Listed}
@@ -10,7 +10,7 @@ use Rattle.meaning_texts.specs.Lists.{IsIn}
 use Rattle.meaning_nodes.specs.Nodes.{source_node}
 use Rattle.meaning_nodes.specs.Values.{Picked, element, pick}
 use Rattle.meaning_tasks.specs.Reached.{AreReached}
-use Rattle.meaning_tasks.specs.Tasks.{Task, given, picked, mapped, packed, tooled, unfit, ToolTask, PackPart, ExtraNode, task_of}
+use Rattle.meaning_tasks.specs.Tasks.{Task, given, picked, mapped, packed, tooled, unfit, Led, ToolTask, PackPart, led_nodes, task_of}
 
 -- The results so far: of a node nothing, or its view.
 abbrev pub Results : Type 0
@@ -63,7 +63,7 @@ picked_element key other = []
 abbrev pub with_elements : Known → Node → List Node
 with_elements known n = n ∷ elements_of (known n)
 
-abbrev pub extra_needs : Known → ExtraNode → List Node
+abbrev pub extra_needs : Known → Led → List Node
 extra_needs known e = flat_map (with_elements known) (option_to_list e.node)
 
 -- the scan node of a reached name that is present; that of the own source isn't repeated
@@ -78,27 +78,58 @@ tool_needs t known names =
     ++ (flat_map (extra_needs known) t.extras
     ++ (option_to_list (t.scan t.root) ++ flat_map (scan_needs t known) names))
 
+-- ---- roles
+
+-- What a need adds: its status and messages, or, if it is a reached source, neither.
+pub data Role : Type 0 where
+  needed : Role
+  reached : Role
+
+pub record Need : Type 0 where
+  pub node : Node
+  pub role : Role
+
+abbrev pub in_role : Role → List Node → List Need
+in_role role nodes = map (λ n. record { node = n; role = role }) nodes
+
 abbrev pub part_nodes : List PackPart → List Node
-part_nodes parts = flat_map (λ p. option_to_list p.node) parts
+part_nodes parts = led_nodes (map (λ p. p.led) parts)
 
--- the needs that give status and messages, given the reached names
-abbrev pub ranked_needs : Task → Known → List Text → List Node
-ranked_needs (given name) known names = []
-ranked_needs (picked base key) known names = base ∷ picked_element key (known base)
-ranked_needs (mapped base f) known names = base ∷ []
-ranked_needs (packed parts missing) known names = part_nodes parts
-ranked_needs (tooled t) known names =
-    t.base ∷ where_valued (known t.base) (tool_needs t known names)
-ranked_needs unfit known names = []
+-- all needs in order, given the reached names
+abbrev pub task_needs : Task → Known → List Text → List Need
+task_needs (given name) known names = []
+task_needs (picked base key) known names =
+    in_role needed (base ∷ picked_element key (known base))
+task_needs (mapped base f) known names = in_role needed (base ∷ [])
+task_needs (packed parts) known names = in_role needed (part_nodes parts)
+task_needs (tooled t) known names =
+    in_role needed (t.base ∷ where_valued (known t.base) (tool_needs t known names))
+    ++ in_role reached (where_valued (known t.base) (map source_node names))
+task_needs unfit known names = []
 
--- the reached sources, which add neither
-abbrev pub reached_needs : Task → Known → List Text → List Node
-reached_needs (tooled t) known names = where_valued (known t.base) (map source_node names)
-reached_needs other known names = []
+abbrev pub nodes_of : List Need → List Node
+nodes_of needs = map (λ need. need.node) needs
 
--- all needs, in order
+abbrev pub is_counted : Role → Bool
+is_counted needed = true
+is_counted reached = false
+
+abbrev pub is_reached : Role → Bool
+is_reached needed = false
+is_reached reached = true
+
 abbrev pub needs_of : Task → Known → List Text → List Node
-needs_of t known names = ranked_needs t known names ++ reached_needs t known names
+needs_of t known names = nodes_of (task_needs t known names)
+
+-- those that add their status and messages
+abbrev pub counted_needs : Task → Known → List Text → List Node
+counted_needs t known names =
+    nodes_of (filter (λ need. is_counted need.role) (task_needs t known names))
+
+-- the reached sources
+abbrev pub reached_needs : Task → Known → List Text → List Node
+reached_needs t known names =
+    nodes_of (filter (λ need. is_reached need.role) (task_needs t known names))
 
 -- ---- the lines that lead to names
 

@@ -1,5 +1,5 @@
 -- What a node itself gives from its needs, and the view that it is settled to.
-use Rattle.std.specs.Prelude.{◌≡◌, Bool, true, false, cond, List, [], ◌∷◌, map, flat_map, Option, Some, None, option_to_list}
+use Rattle.std.specs.Prelude.{◌≡◌, ℕ, Bool, true, false, cond, List, [], ◌∷◌, map, flat_map, length, Option, Some, None, option_to_list}
 use Rattle.object_values.specs.declared.messages.Status.{Status}
 use Rattle.object_values.specs.declared.messages.Status.TheVariants.{Ok, Abort}
 use Rattle.object_values.specs.declared.messages.Message.{Message}
@@ -13,9 +13,9 @@ use Rattle.object_values.specs.declared.calls.Outcome.{Outcome}
 use Rattle.meaning_graph.specs.Graphs.{Text, Graph}
 use Rattle.meaning_nodes.specs.Labels.{label_of, abort_message, no_source, no_element}
 use Rattle.meaning_nodes.specs.Values.{Picked, element, body, pick, worst, inherit}
-use Rattle.meaning_tasks.specs.Tasks.{Own, fine, aborted, Task, given, picked, mapped, packed, tooled, unfit, PackPart, task_of}
-use Rattle.meaning_tasks.specs.Needs.{Results, Known, values_of, where_valued, ranked_needs, ReachedNames}
-use Rattle.meaning_tasks.specs.Calls.{text_in, missing_extras, all_valued}
+use Rattle.meaning_tasks.specs.Tasks.{Own, fine, aborted, fine_unless, Task, given, picked, mapped, packed, tooled, unfit, PackPart, led_missing, task_of}
+use Rattle.meaning_tasks.specs.Needs.{Results, Known, values_of, where_valued, counted_needs, reached_needs, ReachedNames}
+use Rattle.meaning_tasks.specs.Calls.{text_in, all_valued}
 
 -- the texts of the sources
 abbrev pub Texts : Type 0
@@ -51,11 +51,13 @@ named_body name None = []
 named_body name (Some text) = record { name = name; body = text } ∷ []
 
 abbrev pub part_body : Known → PackPart → List Part
-part_body known p = flat_map (λ n. named_body p.name (text_in (known n))) (option_to_list p.node)
+part_body known p =
+    flat_map (λ n. named_body p.name (text_in (known n))) (option_to_list p.led.node)
 
-abbrev pub packed_own : Known → List PackPart → List Message → Own
-packed_own known parts [] = fine (Compound (flat_map (part_body known) parts))
-packed_own known parts (m ∷ missing) = aborted (m ∷ missing)
+abbrev pub packed_own : Known → List PackPart → Own
+packed_own known parts =
+    fine_unless (Compound (flat_map (part_body known) parts))
+    (led_missing (map (λ p. p.led) parts))
 
 abbrev pub labelled : Text → OwnLine → Message
 labelled label line = record { label = label; level = line.level; text = line.text }
@@ -79,17 +81,21 @@ outcome_own label makes_compound missing None = aborted missing
 outcome_own label makes_compound missing (Some o) =
     at_status o.status (made_value makes_compound o.outputs) (map (labelled label) o.lines)
 
--- What the node itself gives: by the sources, by what is known of its needs, and by the outcome of
--- its call.
+-- What a node with steps itself gives: by what is known of its needs, and by the outcome of its
+-- call.
+abbrev pub stepped_own : Text → Task → Known → Option Outcome → Own
+stepped_own label (picked base key) known outcome = picked_own label known key (known base)
+stepped_own label (mapped base f) known outcome = mapped_own f (known base)
+stepped_own label (packed parts) known outcome = packed_own known parts
+stepped_own label (tooled t) known outcome =
+    outcome_own label t.makes_compound
+    (where_valued (known t.base) (led_missing t.extras)) outcome
+stepped_own label other known outcome = aborted []
+
+-- the same of every node: a source gives its text
 abbrev pub own_of : Text → Texts → Task → Known → Option Outcome → Own
 own_of label texts (given name) known outcome = given_own label name (texts name)
-own_of label texts (picked base key) known outcome = picked_own label known key (known base)
-own_of label texts (mapped base f) known outcome = mapped_own f (known base)
-own_of label texts (packed parts missing) known outcome = packed_own known parts missing
-own_of label texts (tooled t) known outcome =
-    outcome_own label t.makes_compound
-    (where_valued (known t.base) (missing_extras t.extras)) outcome
-own_of label texts unfit known outcome = aborted []
+own_of label texts task known outcome = stepped_own label task known outcome
 
 -- ---- the view
 
@@ -112,17 +118,17 @@ messages_of seen needs = flat_map (λ n. messages_in (seen n)) needs
 -- The view from what the node itself gives and from its needs but the reached sources. It has a
 -- value where all these have.
 abbrev pub settled : Results → Own → List Node → View
-settled seen own ranked = record {
-  value = cond (all_valued (values_of seen) ranked) own.value None;
-  status = worst_of seen own.status ranked;
-  messages = inherit (messages_of seen ranked) own.messages;
+settled seen own counted = record {
+  value = cond (all_valued (values_of seen) counted) own.value None;
+  status = worst_of seen own.status counted;
+  messages = inherit (messages_of seen counted) own.messages;
 }
 
 -- the view of a node, given the reached names
 abbrev pub settle : Graph → Texts → Node → Results → Option Outcome → List Text → View
 settle g texts n seen outcome names =
     settled seen (own_of (label_of g n) texts (task_of g n) (values_of seen) outcome)
-    (ranked_needs (task_of g n) (values_of seen) names)
+    (counted_needs (task_of g n) (values_of seen) names)
 
 -- A node settles to the view under the results, with the outcome of its call.
 pub record Settles (g : Graph) (texts : Texts) (n : Node) (seen : Results)
@@ -130,3 +136,13 @@ pub record Settles (g : Graph) (texts : Texts) (n : Node) (seen : Results)
   pub names : List Text
   pub reached : ReachedNames g n seen names
   pub is : view ≡ settle g texts n seen outcome names
+
+-- A node with steps settles to the view, whatever the sources hold: what it gives itself, and how
+-- many of its needs are reached sources.
+pub record SettlesWith (g : Graph) (n : Node) (seen : Results) (outcome : Option Outcome)
+    (itself : Own) (result : View) (count : ℕ) : Type 0 where
+  pub names : List Text
+  pub reached : ReachedNames g n seen names
+  pub own : itself ≡ stepped_own (label_of g n) (task_of g n) (values_of seen) outcome
+  pub view : result ≡ settled seen itself (counted_needs (task_of g n) (values_of seen) names)
+  pub sources : count ≡ length (reached_needs (task_of g n) (values_of seen) names)

@@ -1,6 +1,6 @@
 -- The task of a node: what its last step asks for, by the graph and the node alone, whatever
 -- results there are.
-use Rattle.std.specs.Prelude.{Bool, true, false, cond, List, [], ◌∷◌, ◌++◌, map, filter, filter_map, flat_map, Option, Some, None, bytes_eq, slice_get, codes}
+use Rattle.std.specs.Prelude.{Bool, true, false, cond, List, [], ◌∷◌, ◌++◌, map, filter, flat_map, Option, Some, None, option_to_list, bytes_eq, slice_get, codes}
 use Rattle.std.specs.List.{list_any}
 use Rattle.object_values.specs.declared.messages.Status.{Status}
 use Rattle.object_values.specs.declared.messages.Status.TheVariants.{Ok, Abort}
@@ -43,10 +43,10 @@ fine v = record { value = Some v; status = Ok; messages = [] }
 abbrev pub aborted : List Message → Own
 aborted messages = record { value = None; status = Abort; messages = messages }
 
--- a list, unless there are messages
-abbrev pub listed_unless : List Node → List Message → Own
-listed_unless elements [] = fine (Listed elements)
-listed_unless elements (m ∷ messages) = aborted (m ∷ messages)
+-- the value, unless there are messages
+abbrev pub fine_unless : Value → List Message → Own
+fine_unless v [] = fine v
+fine_unless v (m ∷ messages) = aborted (m ∷ messages)
 
 -- the message, where there is no node
 abbrev pub unless_node : Message → Option Node → List Message
@@ -56,6 +56,30 @@ unless_node m (Some n) = []
 -- the message that there is no path to the type, where there is no node
 abbrev pub unless_path : Graph → Node → Text → Option Node → List Message
 unless_path g n of led = unless_node (abort_message (label_of g n) (no_path_to of)) led
+
+-- ---- what is led on
+
+-- Where a node is led to: the node, or the message that there is none.
+pub record Led : Type 0 where
+  pub node : Option Node
+  pub missing : List Message
+
+-- from a node along the chosen path to a type, for the node n
+abbrev pub led_to : Graph → Node → Text → Node → Led
+led_to g n of from = record {
+  node = onward_named g from of;
+  missing = unless_path g n of (onward_named g from of);
+}
+
+abbrev pub led_nodes : List Led → List Node
+led_nodes led = flat_map (λ l. option_to_list l.node) led
+
+abbrev pub led_missing : List Led → List Message
+led_missing led = flat_map (λ l. l.missing) led
+
+-- the list of all these nodes, unless one is missing
+abbrev pub listed_own : List Led → Own
+listed_own led = fine_unless (Listed (led_nodes led)) (led_missing led)
 
 -- ---- read
 
@@ -82,13 +106,15 @@ abbrev pub line_fault : Graph → Line → Text
 line_fault g (Bad number) = at_line number (codes "bad reference")
 line_fault g (Good number e) = at_line number (answer_fault (node_of g e))
 
-abbrev pub line_messages : Graph → Node → Text → Line → List Message
-line_messages g n of line =
-    unless_node (abort_message (label_of g n) (line_fault g line)) (line_node g n of line)
+abbrev pub line_led : Graph → Node → Text → Line → Led
+line_led g n of line = record {
+  node = line_node g n of line;
+  missing =
+      unless_node (abort_message (label_of g n) (line_fault g line)) (line_node g n of line);
+}
 
 abbrev pub lines_own : Graph → Node → Text → Lines → Own
-lines_own g n of (These lines) =
-    listed_unless (filter_map (line_node g n of) lines) (flat_map (line_messages g n of) lines)
+lines_own g n of (These lines) = listed_own (map (line_led g n of) lines)
 lines_own g n of TooMany = aborted (abort_message (label_of g n) too_many_references ∷ [])
 
 -- one reference for each line of the text
@@ -100,9 +126,7 @@ read_own g n of other = aborted []
 
 -- each reference further from its own type to the element type
 abbrev pub each_own : Graph → Node → Text → Value → Own
-each_own g n of (Listed elements) =
-    listed_unless (filter_map (λ e. onward_named g e of) elements)
-    (flat_map (λ e. unless_path g n of (onward_named g e of)) elements)
+each_own g n of (Listed elements) = listed_own (map (led_to g n of) elements)
 each_own g n of other = aborted []
 
 -- ---- kinds
@@ -122,15 +146,10 @@ is_compound other = false
 
 -- ---- tasks
 
--- a part of a pack: its name, and its node where there is a path to it
+-- a part of a pack: its name, and where its node is
 pub record PackPart : Type 0 where
   pub name : Text
-  pub node : Option Node
-
--- an extra of a tool: its node where there is a path to it, and the message where there is none
-pub record ExtraNode : Type 0 where
-  pub node : Option Node
-  pub missing : List Message
+  pub led : Led
 
 -- What runs a tool: the base, the extras, the scan node of a name where there is a path to the scan
 -- type, and the outputs.
@@ -139,7 +158,7 @@ pub record ToolTask : Type 0 where
   pub name : Text
   pub tool : ToolDecl
   pub params : List ParamValue
-  pub extras : List ExtraNode
+  pub extras : List Led
   pub root : Text
   pub scan : Text → Option Node
   pub outs : List Text
@@ -152,24 +171,18 @@ pub data Task : Type 0 where
   picked : Node → Text → Task
   -- what follows from the value of the base alone
   mapped : Node → (Value → Own) → Task
-  -- the values of the parts, and the messages on those to which there is no path
-  packed : List PackPart → List Message → Task
+  -- the values of the parts
+  packed : List PackPart → Task
   tooled : ToolTask → Task
   -- there is no such maker
   unfit : Task
 
 abbrev pub pack_part : Graph → Node → PartDecl → PackPart
-pack_part g base p = record { name = p.name; node = onward_named g base p.of }
+pack_part g n p = record { name = p.name; led = led_to g n p.of (base_of n) }
 
-abbrev pub pack_missing : Graph → Node → Node → PartDecl → List Message
-pack_missing g n base p = unless_path g n p.of (onward_named g base p.of)
-
-abbrev pub extra_node : Graph → Node → Extra → ExtraNode
-extra_node g n (Also of) = record {
-  node = onward_named g (base_of n) of;
-  missing = unless_path g n of (onward_named g (base_of n) of);
-}
-extra_node g n (With name) = record { node = Some (source_node name); missing = [] }
+abbrev pub extra_led : Graph → Node → Extra → Led
+extra_led g n (Also of) = led_to g n of (base_of n)
+extra_led g n (With name) = record { node = Some (source_node name); missing = [] }
 
 -- the scan node of a name, with the node's parameters
 abbrev pub scan_node : Graph → Node → Option Text → Text → Option Node
@@ -186,7 +199,7 @@ tool_task g n m tool = record {
   name = m.name;
   tool = tool;
   params = filter (λ p. list_any (bytes_eq p.param) tool.uses) n.params;
-  extras = map (extra_node g n) tool.extras;
+  extras = map (extra_led g n) tool.extras;
   root = n.source;
   scan = scan_node g n tool.closure;
   outs = outs_of m.to (kind_named g m.to);
@@ -197,9 +210,7 @@ abbrev pub make_task : Graph → Node → MakerDecl → Make → Task
 make_task g n m (Tool tool) = tooled (tool_task g n m tool)
 make_task g n m Read = mapped (base_of n) (read_own g n (element_name (kind_named g m.to)))
 make_task g n m Each = mapped (base_of n) (each_own g n (element_name (kind_named g m.to)))
-make_task g n m Pack =
-    packed (map (pack_part g (base_of n)) (parts_of (kind_named g m.to)))
-    (flat_map (pack_missing g n (base_of n)) (parts_of (kind_named g m.to)))
+make_task g n m Pack = packed (map (pack_part g n) (parts_of (kind_named g m.to)))
 
 abbrev pub maker_task : Graph → Node → Option MakerDecl → Task
 maker_task g n None = unfit

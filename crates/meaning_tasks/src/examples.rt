@@ -1,5 +1,5 @@
 //! Worked examples of references, picks, needs and calls. Each is the contract of a function with an empty body.
-ghost use Rattle.meaning_tasks.specs.Examples.{References, LineParameters, Onward, PickPastTheEnd, Closures, FirstNeeds, WholeCall, Slots, NotRun};
+ghost use Rattle.meaning_tasks.specs.Examples.{References, LineParameters, Onward, PickPastTheEnd, Closures, FirstNeeds, WholeCall, Slots, NotRun, Roles, ReachedAddNothing, Extras, Packs};
 
 /// Lines of a reference list.
 pub fn references()
@@ -44,4 +44,24 @@ pub fn slots()
 /// Tools that aren't run.
 pub fn not_run()
     ensures { NotRun }
+{}
+
+/// Needs that are counted, and reached sources.
+pub fn roles()
+    ensures { Roles }
+{}
+
+/// A reached source that is absent.
+pub fn reached_add_nothing()
+    ensures { ReachedAddNothing }
+{}
+
+/// What extras lead to.
+pub fn extras()
+    ensures { Extras }
+{}
+
+/// A pack with all its parts, and one with a part to which no path leads.
+pub fn packs()
+    ensures { Packs }
 {}

@@ -1,5 +1,5 @@
 //! Laws of needs, calls and settling. Each is the contract of a function with an empty body.
-ghost use Rattle.meaning_tasks.specs.Laws.{ReachedAreComputed, OneListOfNames, OneListOfNeeds, NeedsGrow, Locality, FiniteHasNeeds};
+ghost use Rattle.meaning_tasks.specs.Laws.{ReachedAreComputed, OneListOfNames, OneListOfNeeds, NeedsGrow, Locality, FiniteHasNeeds, SettlesOverAnySources, CountedThenReached, NeedsCarry, FullNeedsStay, OneCall};
 
 /// Names to which lines lead are computed by so many lines as there are names that have some.
 pub fn reached_are_computed()
@@ -29,4 +29,25 @@ pub fn locality()
 /// Over a map with finitely many results every node has needs.
 pub fn finite_has_needs()
     ensures { FiniteHasNeeds }
+{}
+
+/// What a node with steps settles to doesn't depend on the sources.
+pub fn settles_over_any_sources()
+    ensures { SettlesOverAnySources }
+{}
+
+/// The needs are the counted ones and the reached sources.
+pub fn counted_then_reached()
+    ensures { CountedThenReached }
+{}
+
+/// Needs, call and view follow from the results of the needs.
+pub fn needs_carry()
+    ensures carried { NeedsCarry }
+    ensures full { FullNeedsStay }
+{}
+
+/// There is one call of a node, or none.
+pub fn one_call()
+    ensures { OneCall }
 {}

@@ -10,7 +10,7 @@ use Rattle.meaning_graph.specs.Graphs.{Text, Graph}
 use Rattle.meaning_nodes.specs.Nodes.{Fits, base_of, last_step}
 use Rattle.meaning_nodes.specs.Labels.{label_of}
 use Rattle.meaning_tasks.specs.Tasks.{given, task_of}
-use Rattle.meaning_tasks.specs.Needs.{Results, values_of, elements_of, needs_of, ranked_needs}
+use Rattle.meaning_tasks.specs.Needs.{Results, values_of, elements_of, needs_of, counted_needs}
 use Rattle.meaning_tasks.specs.Settle.{given_own, own_of, settled}
 use Rattle.meaning_derive.specs.Derive.{Sources, text_of, Outcomes, derive, derived}
 use Rattle.meaning_derive.specs.Chains.{IsNeed, LeadsOn, Chain, AreDifferent, IsCircular, IsDeep}
@@ -54,7 +54,7 @@ module _ (g : Graph) (built : IsBuiltGraph g) (s : Sources) (outcomes : Outcomes
       of_source none =
           let task : task_of g n ≡ given n.source = source_task g n (ap last_step none) in
           ap (λ (v : View). elements_of (Some v.value)) (line_settles g n (line_of g n built f) below (text_of s) found.outcome view found.settles)
-          ∙ ap (λ t. elements_of (Some (settled below (own_of (label_of g n) (text_of s) t (values_of below) found.outcome) (ranked_needs t (values_of below) [])).value)) task
+          ∙ ap (λ t. elements_of (Some (settled below (own_of (label_of g n) (text_of s) t (values_of below) found.outcome) (counted_needs t (values_of below) [])).value)) task
           ∙ given_none (label_of g n) n.source (text_of s n.source)
 
       of_steps : (n.steps ≡ [] → ⊥) → HasNoElements view

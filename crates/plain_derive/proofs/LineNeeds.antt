@@ -22,10 +22,10 @@ use Rattle.meaning_nodes.specs.Values.{inherit}
 use Rattle.meaning_nodes.specs.Labels.{label_of}
 use Rattle.meaning_tasks.specs.Reached.{Reached, by_own, by_line, AreReached}
 use Rattle.meaning_tasks.specs.Tasks.{Task, given, tooled, task_of}
-use Rattle.meaning_tasks.specs.Needs.{Results, Known, values_of, where_valued, elements_of, own_lines, other_lines, ranked_needs, needs_of, ReachedNames, Needs}
+use Rattle.meaning_tasks.specs.Needs.{Results, Known, values_of, where_valued, elements_of, own_lines, other_lines, counted_needs, needs_of, ReachedNames, Needs}
 use Rattle.meaning_tasks.specs.Calls.{all_valued, node_parts, call_of, CallOf}
 use Rattle.meaning_tasks.specs.Settle.{Texts, outcome_own, own_of, worst_of, messages_of, settled, settle, Settles}
-use Rattle.meaning_tasks.proofs.Lemmas.{names_sorted}
+use Rattle.meaning_tasks.proofs.Lemmas.{names_sorted, tool_needs_are as needs_of_tool, tool_counted_are as counted_of_tool}
 use Rattle.plain_derive.specs.Lines.{line_task, used_params}
 use Rattle.plain_derive.specs.Built.{IsBuiltGraph}
 use Rattle.plain_derive.specs.Seen.{FitsCall, IsOutcomeFor, HasOneOutput}
@@ -88,15 +88,15 @@ module _ (g : Graph) (n : Node) (line : IsLineTask n (task_of g n)) (seen : Resu
 
 -- its needs are the base and its elements
 pub tool_needs_are : (n : Node) (m : MakerDecl) (tool : ToolDecl) (known : Known) → needs_of (tooled (line_task n m tool)) known [] ≡ base_of n ∷ elements_of (known (base_of n))
-tool_needs_are n m tool known = ap (λ l. base_of n ∷ l) (by_known (known (base_of n)))
+tool_needs_are n m tool known = needs_of_tool (line_task n m tool) known [] ∙ ap (λ l. base_of n ∷ l) (by_known (known (base_of n)))
   where
     by_known : (o : Option (Option Value)) → where_valued o (elements_of o ++ []) ++ where_valued o [] ≡ elements_of o
     by_known None = refl
     by_known (Some None) = refl
     by_known (Some (Some v)) = append-nil (elements_of (Some (Some v)) ++ []) ∙ append-nil (elements_of (Some (Some v)))
 
-pub tool_ranked_are : (n : Node) (m : MakerDecl) (tool : ToolDecl) (known : Known) → ranked_needs (tooled (line_task n m tool)) known [] ≡ base_of n ∷ elements_of (known (base_of n))
-tool_ranked_are n m tool known = ap (λ l. base_of n ∷ l) (by_known (known (base_of n)))
+pub tool_ranked_are : (n : Node) (m : MakerDecl) (tool : ToolDecl) (known : Known) → counted_needs (tooled (line_task n m tool)) known [] ≡ base_of n ∷ elements_of (known (base_of n))
+tool_ranked_are n m tool known = counted_of_tool (line_task n m tool) known [] ∙ ap (λ l. base_of n ∷ l) (by_known (known (base_of n)))
   where
     by_known : (o : Option (Option Value)) → where_valued o (elements_of o ++ []) ≡ elements_of o
     by_known None = refl
@@ -218,7 +218,7 @@ module _ (g : Graph) (n : Node) (seen : Results) (built : IsBuiltGraph g) (fits 
       let own = tool_own_is n t.0 t.1.0 (label_of g n) texts (values_of seen) outcome in
       let ranked = tool_ranked_are n t.0 t.1.0 (values_of seen) in
       let is : settle g texts n seen outcome [] ≡ settled seen (outcome_own (label_of g n) false [] outcome) (base_of n ∷ elements_of (values_of seen (base_of n))) =
-      ap (λ t. settled seen (own_of (label_of g n) texts t (values_of seen) outcome) (ranked_needs t (values_of seen) [])) t.1.1 ∙ (λ i. settled seen (own i) (ranked i)) in
+      ap (λ t. settled seen (own_of (label_of g n) texts t (values_of seen) outcome) (counted_needs t (values_of seen) [])) t.1.1 ∙ (λ i. settled seen (own i) (ranked i)) in
       let view_is : view ≡ settled seen (outcome_own (label_of g n) false [] outcome) (base_of n ∷ elements_of (values_of seen (base_of n))) =
       (λ i. record { value = (value ∙ sym (gated outcome some h)) i; status = status i; messages = messages i }) in
       settles_line g n (line_of g n built fits) seen texts outcome view (view_is ∙ sym is)

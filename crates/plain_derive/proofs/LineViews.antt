@@ -24,7 +24,7 @@ use Rattle.meaning_nodes.specs.Nodes.{Fits, base_of, before_last, last_step, ste
 use Rattle.meaning_nodes.specs.Values.{inherit}
 use Rattle.meaning_nodes.proofs.Lemmas.{type_after-append}
 use Rattle.meaning_tasks.specs.Tasks.{task_of, given}
-use Rattle.meaning_tasks.specs.Needs.{Results, values_of, elements_of, needs_of, ranked_needs, Needs}
+use Rattle.meaning_tasks.specs.Needs.{Results, values_of, elements_of, needs_of, counted_needs, Needs}
 use Rattle.meaning_tasks.specs.Calls.{CallOf}
 use Rattle.meaning_tasks.specs.Settle.{Texts, at_status, outcome_own, given_own, own_of, settled, Settles}
 use Rattle.meaning_tasks.proofs.Lemmas.{local}
@@ -140,9 +140,9 @@ module _ (g : Graph) (n : Node) (built : IsBuiltGraph g) (fits : Fits g n) (some
   pub settled_none : (texts : Texts) (seen : Results) (outcome : Option Outcome) (view : View) → Settles g texts n seen outcome view → HasNoElements view
   settled_none texts seen outcome view settles =
       let t = tool_of_steps g n built fits some in
-      let is : view ≡ settled seen (outcome_own (label_of g n) false [] outcome) (ranked_needs (task_of g n) (values_of seen) []) =
+      let is : view ≡ settled seen (outcome_own (label_of g n) false [] outcome) (counted_needs (task_of g n) (values_of seen) []) =
       line_settles g n (line_of g n built fits) seen texts outcome view settles
-      ∙ ap (λ o. settled seen o (ranked_needs (task_of g n) (values_of seen) [])) (ap (λ t. own_of (label_of g n) texts t (values_of seen) outcome) t.1.1 ∙ tool_own_is n t.0 t.1.0 (label_of g n) texts (values_of seen) outcome) in
+      ∙ ap (λ o. settled seen o (counted_needs (task_of g n) (values_of seen) [])) (ap (λ t. own_of (label_of g n) texts t (values_of seen) outcome) t.1.1 ∙ tool_own_is n t.0 t.1.0 (label_of g n) texts (values_of seen) outcome) in
       ap (λ (v : View). elements_of (Some v.value)) is ∙ by_valued _ (outcome_own (label_of g n) false [] outcome).value (own_none outcome)
     where
       status_none : (status : Status) (text : Text) (messages : List Message) → elements_of (Some (at_status status (Simple text) messages).value) ≡ []
@@ -178,7 +178,7 @@ source_derived g s outcomes n view built fits none is =
       called = source_calls g n at built fits task;
       outcome = None;
       given = refl;
-      settles = settles_line g n line at (text_of s) None view (is ∙ ap (λ t. settled at (own_of (label_of g n) (text_of s) t (values_of at) None) (ranked_needs t (values_of at) [])) (sym task));
+      settles = settles_line g n line at (text_of s) None view (is ∙ ap (λ t. settled at (own_of (label_of g n) (text_of s) t (values_of at) None) (counted_needs t (values_of at) [])) (sym task));
     })
 
 pub source_none : (g : Graph) (name : Text) (text : Option Text) (n : Node) → HasNoElements (source_view g name text n)

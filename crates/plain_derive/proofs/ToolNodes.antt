@@ -19,7 +19,7 @@ use Rattle.meaning_graph.specs.Paths.{made_of}
 use Rattle.meaning_texts.proofs.Lemmas.{in_all, from_chosen, same_some, some_is_none}
 use Rattle.meaning_nodes.specs.Nodes.{Fits, base_of, last_step, step_type, picked_type}
 use Rattle.meaning_nodes.proofs.Lemmas.{base_fits}
-use Rattle.meaning_tasks.specs.Tasks.{Task, given, tooled, parts_of, is_compound, extra_node, scan_node, tool_task, make_task, maker_task, step_task, task_of}
+use Rattle.meaning_tasks.specs.Tasks.{Task, given, tooled, parts_of, is_compound, extra_led, scan_node, tool_task, make_task, maker_task, step_task, task_of}
 use Rattle.plain_derive.specs.Built.{IsOfOneInput, IsBuiltMake, IsBuilt, IsBuiltGraph}
 use Rattle.plain_derive.specs.Lines.{line_task, used_params}
 
@@ -105,7 +105,7 @@ line_tool g n m tool b plain =
       name = m.name;
       tool = tool;
       params = used_params tool.uses n.params;
-      extras = map (extra_node g n) (plain.extras i);
+      extras = map (extra_led g n) (plain.extras i);
       root = n.source;
       scan = scan_node g n (plain.closure i);
       outs = cond (compound i) (map (λ p. p.name) (parts_of (kind_named g m.to))) (m.to ∷ []);
