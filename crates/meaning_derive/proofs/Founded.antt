@@ -21,6 +21,7 @@ use Rattle.meaning_derive.specs.Calls.{Runs, IsFrontier}
 use Rattle.meaning_derive.specs.Laws.{IsFoundedOrChained, EndOf, at_result, at_call, at_chain}
 use Rattle.meaning_derive.proofs.Steps.{SameResults, same_values, grows_to}
 use Rattle.meaning_derive.proofs.Present.{names_reached, needs_listed}
+use Rattle.meaning_derive.proofs.Lower.{nothing_at_zero, falls}
 use Rattle.meaning_derive.proofs.Heights.{at, needs, need_below, need_at_limit, missing_or_stopped, IsMissing, IsStopped}
 
 -- a node stands in the list, or does not
@@ -120,30 +121,11 @@ module _ (g : Graph) (s : Sources) (outcomes : Outcomes) where
 
   -- ---- a founded node has no chain
 
-  nothing_at_zero : (n : Node) (v : View) → from 0 n ≡ Some v → ⊥
-  unfolding derive
-  nothing_at_zero n v e = cc
-
-  -- what a chain leads to from what is derived at a height is derived lower
-  record IsLower (h size : ℕ) (m : Node) : Type 0 where
-    height : ℕ
-    view : View
-    is : from height m ≡ Some view
-    low : height + size < h
-
-  lower_end : (front : List Node) (n m : Node) (h : ℕ) → h ≤ height_limit → (v : View) → from h n ≡ Some v → LeadsOn g all n (front ++ m ∷ []) → IsLower h (length front) m
-  lower_end front n m zero le v e l = absurd (nothing_at_zero n v e)
-  lower_end [] n m (suc h) le v e l = let w = need_below g s outcomes h (omega (arith, le)) n m v e l.0 in record { height = h; view = w.0; is = w.1; low = omega arith }
-  lower_end (f ∷ front) n m (suc h) le v e l =
-      let w = need_below g s outcomes h (omega (arith, le)) n f v e l.0 in
-      let i = lower_end front f m h (omega (arith, le)) w.0 w.1 l.1 in
-      record { height = i.height; view = i.view; is = i.is; low = omega (arith, i.low) }
-
   -- no chain leads from what is derived to itself
   no_loop : (h : ℕ) → h ≤ height_limit → (n : Node) (v : View) → from h n ≡ Some v → (front : List Node) → LeadsOn g all n (front ++ n ∷ []) → ⊥
-  no_loop zero le n v e front l = nothing_at_zero n v e
+  no_loop zero le n v e front l = nothing_at_zero g s outcomes n v e
   no_loop (suc h) le n v e front l =
-      let i = lower_end front n n (suc h) le v e l in
+      let i = falls g s outcomes (suc h) le n n v e front l in
       no_loop h (omega (arith, le)) n i.view (grows_to g s outcomes i.height h (omega (arith, i.low)) n i.view i.is) front l
 
   not_circular : (n : Node) (v : View) → all n ≡ Some v → (chain : List Node) → IsCircular g all n chain → ⊥
@@ -155,12 +137,12 @@ module _ (g : Graph) (s : Sources) (outcomes : Outcomes) where
       by_front : (front back : List Node) → Chain g all n (front ++ c.last ∷ (back ++ c.last ∷ [])) → ⊥
       by_front [] back k = no_loop height_limit (omega arith) c.last v (subst (λ z. all z ≡ Some v) k.0 e) back k.1
       by_front (f ∷ front) back k =
-          let i = lower_end front f c.last height_limit (omega arith) v (subst (λ z. all z ≡ Some v) k.0 e) (leads_up_to g all front (back ++ c.last ∷ []) f c.last k.1) in
+          let i = falls g s outcomes height_limit (omega arith) f c.last v (subst (λ z. all z ≡ Some v) k.0 e) front (leads_up_to g all front (back ++ c.last ∷ []) f c.last k.1) in
           no_loop i.height (omega (arith, i.low)) c.last i.view i.is back (leads_behind g all front (back ++ c.last ∷ []) f c.last k.1)
 
   -- a chain from what is derived at a height has no more nodes
   length_below : (rest : List Node) (n : Node) (h : ℕ) → h ≤ height_limit → (v : View) → from h n ≡ Some v → LeadsOn g all n rest → length rest < h
-  length_below rest n zero le v e l = absurd (nothing_at_zero n v e)
+  length_below rest n zero le v e l = absurd (nothing_at_zero g s outcomes n v e)
   length_below [] n (suc h) le v e l = omega arith
   length_below (m ∷ rest) n (suc h) le v e l =
       let w = need_below g s outcomes h (omega (arith, le)) n m v e l.0 in

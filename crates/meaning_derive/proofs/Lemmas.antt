@@ -6,7 +6,18 @@ pub use Rattle.meaning_derive.proofs.Enough.{enough}
 -- What a result says of the needs.
 pub use Rattle.meaning_derive.proofs.Present.{names_reached, needs_at, needs_listed}
 pub use Rattle.meaning_derive.proofs.Heights.{as_settled, from_settled, settles_again, need_at_limit, need_below, one_above}
+pub use Rattle.meaning_derive.proofs.Carry.{settles_to, none_by_need, called, none_by_call, one_run}
+pub use Rattle.meaning_derive.proofs.Above.{height_above}
+-- As more outcomes come.
+pub use Rattle.meaning_derive.proofs.HeightsStay.{height_stays, same_height, frontier_stays}
+-- Where chains lead.
+pub use Rattle.meaning_derive.proofs.Lower.{nothing_at_zero, falls, IsEnd, chain_end, sources_are_there}
+pub use Rattle.meaning_derive.proofs.Falling.{none_refused}
+-- The calls and the sources of a founded node.
+pub use Rattle.meaning_derive.proofs.Known.{known, no_frontier, none_come}
+pub use Rattle.meaning_derive.proofs.CallsByNeeds.{calls_by_needs}
+pub use Rattle.meaning_derive.proofs.SameSources.{sources_enough}
 -- Chains, and nodes that have none.
-pub use Rattle.meaning_derive.proofs.Founded.{chain_on, no_chain, result_call_or_chain, founded_or_chained}
+pub use Rattle.meaning_derive.proofs.Founded.{chain_on, runs_stay, no_chain, result_call_or_chain, founded_or_chained}
 -- Views have a value exactly where their status is not `Abort`.
-pub use Rattle.meaning_derive.proofs.Sound.{derived_sound, valued_exactly}
+pub use Rattle.meaning_derive.proofs.Sound.{runs_on, IsSoundOwn, IsSoundView, IsSoundTask, task_sound, own_sound, settled_sound, derived_sound, valued_exactly}

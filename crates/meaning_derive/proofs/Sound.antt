@@ -83,7 +83,7 @@ each_sound g n of (Listed elements) = unless_sound _ _
 each_sound g n of (Compound parts) = refl
 
 -- what follows from the value of a base alone is sound
-abbrev IsSoundTask : Task → Type 0
+abbrev pub IsSoundTask : Task → Type 0
 IsSoundTask (given name) = Unit {0}
 IsSoundTask (picked base key) = Unit {0}
 IsSoundTask (mapped base f) = (v : Value) → IsSoundOwn (f v)
@@ -106,7 +106,7 @@ step_sound g n None = tt
 step_sound g n (Some (Pick key)) = tt
 step_sound g n (Some (Maker k)) = maker_sound g n (slice_get (makers g) k)
 
-task_sound : (g : Graph) (n : Node) → IsSoundTask (task_of g n)
+pub task_sound : (g : Graph) (n : Node) → IsSoundTask (task_of g n)
 unfolding task_of
 task_sound g n = step_sound g n (last_step n.steps)
 
@@ -147,7 +147,7 @@ outcome_sound : (label : Text) (made : Bool) (missing : List Message) (o : Optio
 outcome_sound label made missing None = refl
 outcome_sound label made missing (Some o) = status_sound o.status _ _
 
-own_sound : (label : Text) (texts : Texts) (t : Task) (known : Known) (o : Option Outcome) (names : List Text) → IsSoundTask t → all_valued known (counted_needs t known names) ≡ true → IsSoundOwn (own_of label texts t known o)
+pub own_sound : (label : Text) (texts : Texts) (t : Task) (known : Known) (o : Option Outcome) (names : List Text) → IsSoundTask t → all_valued known (counted_needs t known names) ≡ true → IsSoundOwn (own_of label texts t known o)
 own_sound label texts (given name) known o names s h = given_sound label name (texts name)
 own_sound label texts (picked base key) known o names s h = picked_sound label key known (known base) (λ e i. in_all_pass (λ n. has_value (known n)) (base ∷ picked_element key (known base)) (subst (λ l. all_valued known l ≡ true) (picked_counted_are base key known names) h) e (inr i))
 own_sound label texts (mapped base f) known o names s h = mapped_sound f s (known base)
@@ -180,7 +180,7 @@ module _ (seen : Results) (sound : (n : Node) (view : View) → seen n ≡ Some 
       ∙ (λ i. sym (valued_runs_on n) i && all_run_on own nodes i)
       ∙ and_swap (has_value (values_of seen n)) (all_valued (values_of seen) nodes) (runs_on own)
 
-  settled_sound : (own : Own) (counted : List Node) → (all_valued (values_of seen) counted ≡ true → IsSoundOwn own) → IsSoundView (settled seen own counted)
+  pub settled_sound : (own : Own) (counted : List Node) → (all_valued (values_of seen) counted ≡ true → IsSoundOwn own) → IsSoundView (settled seen own counted)
   settled_sound own counted s = by_valued (all_valued (values_of seen) counted) s ∙ sym (all_run_on own.status counted)
     where
       by_valued : (b : Bool) → (b ≡ true → IsSoundOwn own) → is_some (cond b own.value None) ≡ (b && runs_on own.status)

@@ -3,7 +3,6 @@ use Rattle.std.proofs.Common.{◌≡◌, ℕ, zero, suc, ◌+◌, ◌-◌, ◌�
 use Rattle.std.specs.Prelude.{Option, Some, None, option_map}
 use Rattle.std.specs.FinMap as map
 use Rattle.object_values.specs.declared.nodes.Node.{Node}
-use Rattle.object_values.specs.declared.messages.Status.{Status}
 use Rattle.object_values.specs.declared.views.View.{View}
 use Rattle.object_values.specs.declared.calls.Call.{Call}
 use Rattle.object_values.specs.declared.calls.Outcome.{Outcome}
@@ -11,13 +10,12 @@ use Rattle.meaning_graph.specs.Graphs.{Text, Graph}
 use Rattle.meaning_texts.specs.Lists.{IsIn}
 use Rattle.meaning_texts.proofs.Lemmas.{in_all_pass}
 use Rattle.std.proofs.lemmas.Bool.{cond-true}
-use Rattle.meaning_nodes.specs.Labels.{label_of}
-use Rattle.meaning_nodes.specs.Values.{worst, inherit}
-use Rattle.meaning_tasks.specs.Tasks.{Own, task_of}
-use Rattle.meaning_tasks.specs.Needs.{Results, values_of, AgreeOn, Grows, has_value, needs_of, counted_needs}
+use Rattle.meaning_tasks.specs.Tasks.{task_of}
+use Rattle.meaning_tasks.specs.Needs.{Results, values_of, Grows, needs_of}
 use Rattle.meaning_tasks.specs.Calls.{call_of}
-use Rattle.meaning_tasks.specs.Settle.{own_of, status_in, messages_in, worst_of, settled, settle}
-use Rattle.meaning_tasks.proofs.Lemmas.{same_flat, same_all, counted_in_needs, counted_local, list_local, computed_local, call_local, own_local, stays}
+use Rattle.meaning_tasks.specs.Settle.{settle}
+use Rattle.meaning_tasks.proofs.Lemmas.{same_all, view_moves, list_local, computed_local, call_local, stays}
+pub use Rattle.meaning_tasks.proofs.Lemmas.{same_values, same_settled}
 use Rattle.meaning_derive.specs.Derive.{Sources, text_of, Outcomes, all_known, outcome_for, names_for, settle_if_known, derive_above, derive}
 use Rattle.meaning_derive.specs.Laws.{HasMore}
 
@@ -25,30 +23,13 @@ use Rattle.meaning_derive.specs.Laws.{HasMore}
 abbrev pub SameResults : Results → Results → List Node → Type 0
 SameResults seen more nodes = (n : Node) → IsIn n nodes → seen n ≡ more n
 
-pub same_values : (seen more : Results) (nodes : List Node) → SameResults seen more nodes → AgreeOn (values_of seen) (values_of more) nodes
-same_values seen more nodes a n h = ap (option_map (λ (v : View). v.value)) (a n h)
-
-same_worst : (seen more : Results) (own : Status) (nodes : List Node) → SameResults seen more nodes → worst_of seen own nodes ≡ worst_of more own nodes
-same_worst seen more own [] a = refl
-same_worst seen more own (n ∷ nodes) a = let p = a n (inl refl) in let q = same_worst seen more own nodes (λ m i. a m (inr i)) in λ i. worst (status_in (p i)) (q i)
-
-pub same_settled : (seen more : Results) (own : Own) (nodes : List Node) → SameResults seen more nodes → settled seen own nodes ≡ settled more own nodes
-same_settled seen more own nodes a =
-    let v = same_all (λ n. has_value (values_of seen n)) (λ n. has_value (values_of more n)) nodes (λ n i. ap has_value (same_values seen more nodes a n i)) in
-    let w = same_worst seen more own.status nodes a in
-    let m = same_flat (λ n. messages_in (seen n)) (λ n. messages_in (more n)) nodes (λ n i. ap messages_in (a n i)) in
-    λ i. record { value = cond (v i) own.value None; status = w i; messages = inherit (m i) own.messages }
-
 module _ (g : Graph) (s : Sources) (n : Node) where
   abbrev needs_in : Results → List Text → List Node
   needs_in seen names = needs_of (task_of g n) (values_of seen) names
 
   -- the view is the same where the results of the needs are
   pub settle_moves : (seen more : Results) (names : List Text) → SameResults seen more (needs_in seen names) → (o : Option Outcome) → settle g (text_of s) n seen o names ≡ settle g (text_of s) n more o names
-  settle_moves seen more names a o =
-      let agree = same_values seen more (needs_in seen names) a in
-      same_settled seen more (own_of (label_of g n) (text_of s) (task_of g n) (values_of seen) o) (counted_needs (task_of g n) (values_of seen) names) (λ m i. a m (counted_in_needs (task_of g n) (values_of seen) names m i))
-      ∙ (λ i. settled more (own_local (values_of seen) (values_of more) (label_of g n) (text_of s) (task_of g n) names o agree i) (counted_local (values_of seen) (values_of more) (task_of g n) names agree i))
+  settle_moves seen more names a o = view_moves g (text_of s) n seen more names a o
 
   pub known_moves : (seen more : Results) (names : List Text) → SameResults seen more (needs_in seen names) → all_known seen (needs_in seen names) ≡ all_known more (needs_in more names)
   known_moves seen more names a =

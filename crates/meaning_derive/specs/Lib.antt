@@ -5,3 +5,4 @@ pub mod Calls
 pub mod Samples
 pub mod Examples
 pub mod Laws
+pub mod WalkLaws

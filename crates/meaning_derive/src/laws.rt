@@ -1,4 +1,5 @@
 //! Laws of derivation. Each is the contract of a function with an empty body.
+ghost use Rattle.meaning_derive.specs.WalkLaws.{SettlesTo, NoneByNeed, HeightAbove, NoneByCall, OneRun, ChainsFall, NoneRefused, HeightsStay, SameHeight, FrontierStays, CallsAreKnown, NoFrontier, NoCallsCome, CallsByNeeds, SourcesAreThere, SourcesAreEnough};
 ghost use Rattle.meaning_derive.specs.Laws.{DeriveGrows, DeriveGrowsByCalls, CallsAreEnough, DeriveByNeeds, NeedsAreThere, FoundedOrChained, ResultCallOrChain, NoResultAndChain, ChainsAndCallsStay, HeightByNeeds, ValuedUnlessAbort, SettlesAgain, TableOutcomesFit};
 
 /// What is derived at one height is derived at the next.
@@ -52,4 +53,60 @@ pub fn settles_again()
 /// The outcomes of a table fit their calls, and each call has one.
 pub fn table_outcomes_fit()
     ensures { TableOutcomesFit }
+{}
+
+/// Results that agree on the needs settle the node one height up.
+pub fn settles_to()
+    ensures { SettlesTo }
+{}
+
+/// Where there is no result, and how high one is.
+pub fn none_by_need()
+    ensures need { NoneByNeed }
+    ensures above { HeightAbove }
+    ensures call { NoneByCall }
+    ensures one { OneRun }
+{}
+
+/// Chains lead down.
+pub fn chains_fall()
+    ensures { ChainsFall }
+{}
+
+/// Where heights fall no chain is long or comes back.
+pub fn none_refused()
+    ensures { NoneRefused }
+{}
+
+/// Heights stay as more outcomes come.
+pub fn heights_stay()
+    ensures each { HeightsStay }
+    ensures height { SameHeight }
+{}
+
+/// A call stays one at which the derivation stops, until it has an outcome.
+pub fn frontier_stays()
+    ensures { FrontierStays }
+{}
+
+/// Each call of a node with a result has an outcome, and more outcomes bring none.
+pub fn calls_are_known()
+    ensures known { CallsAreKnown }
+    ensures frontier { NoFrontier }
+    ensures none { NoCallsCome }
+{}
+
+/// The calls of a node with a result are its own and those of its needs.
+pub fn calls_by_needs()
+    ensures { CallsByNeeds }
+{}
+
+/// Sources have results.
+pub fn sources_are_there()
+    ensures { SourcesAreThere }
+{}
+
+/// The sources that are met from a node give its result.
+pub fn sources_are_enough()
+    ensures { SourcesAreEnough }
 {}

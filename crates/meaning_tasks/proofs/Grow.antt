@@ -1,5 +1,5 @@
 -- More results take no need away.
-use Rattle.std.proofs.Common.{true, false, List, [], ◌∷◌, ◌++◌, inl, inr, sym, subst, refl, cond, flat_map, bytes_eq, map}
+use Rattle.std.proofs.Common.{true, false, List, [], ◌++◌, inl, inr, sym, subst, refl, cond, flat_map, bytes_eq, map}
 use Rattle.std.specs.Prelude.{Option, Some, None, option_to_list}
 use Rattle.object_values.specs.declared.nodes.Node.{Node}
 use Rattle.meaning_graph.specs.Graphs.{Text, Graph}
@@ -9,7 +9,7 @@ use Rattle.meaning_nodes.specs.Nodes.{source_node}
 use Rattle.meaning_tasks.specs.Tasks.{Task, given, picked, mapped, packed, tooled, unfit, ToolTask, Led, task_of}
 use Rattle.meaning_tasks.specs.Needs.{Results, Known, values_of, Grows, where_valued, elements_of, picked_element, with_elements, extra_needs, scan_needs, tool_needs, needs_of, lines_in, lines_by, own_lines, other_lines, Needs}
 use Rattle.meaning_tasks.proofs.Reached.{reached_grows}
-use Rattle.meaning_tasks.proofs.Roles.{tool_counted, tool_reached, tool_needs_are, picked_needs_are}
+use Rattle.meaning_tasks.proofs.Roles.{tool_counted, tool_needs_are, picked_needs_are}
 use Rattle.meaning_tasks.proofs.Valued.{where_grows, part_grows, values_grow}
 
 either_grows : {A : Type 0} (x : A) (ps qs us vs : List A) → (IsIn x ps → IsIn x us) → (IsIn x qs → IsIn x vs) → IsIn x (ps ++ qs) → IsIn x (us ++ vs)

@@ -22,7 +22,7 @@ use Rattle.meaning_tasks.specs.Settle.{Texts, element_own, pick_own, picked_own,
 use Rattle.meaning_tasks.specs.Laws.{IsSameUnder}
 use Rattle.meaning_tasks.proofs.Reached.{reached_moved, among_reached, one_list}
 use Rattle.meaning_tasks.proofs.Valued.{IsValued, in_where, where_same}
-use Rattle.meaning_tasks.proofs.Roles.{tool_counted, tool_counted_are, tool_reached_are, packed_needs_are, picked_needs_are, picked_counted_are, picked_reached_are, packed_reached_are, needs_split, counted_in_needs, in_tool_counted, in_tool_reached}
+use Rattle.meaning_tasks.proofs.Roles.{tool_counted_are, tool_reached_are, packed_needs_are, picked_needs_are, picked_counted_are, picked_reached_are, packed_reached_are, needs_split, counted_in_needs, in_tool_counted, in_tool_reached}
 
 -- one list from each item: the same where it is the same for each
 pub same_flat : {A B : Type 0} (f g : A → List B) (xs : List A) → ((x : A) → IsIn x xs → f x ≡ g x) → flat_map f xs ≡ flat_map g xs
