@@ -233,7 +233,7 @@ leads_fit : (g : Graph) → IsSpellable g → Checked g → (seen : Results) →
 leads_fit g spellable checked seen map' [] n m f l = needs_fit g spellable checked seen map' n f l.0.needs l.0.listed m l.0.one
 leads_fit g spellable checked seen map' (x ∷ front) n m f l = leads_fit g spellable checked seen map' front x m (needs_fit g spellable checked seen map' n f l.0.needs l.0.listed x l.0.one) l.1
 
-met_fits : (g : Graph) → IsSpellable g → Checked g → (seen : Results) → IsMapOverFitting g seen → (front : List Node) (n m : Node) → Fits g n → Chain g seen n (front ++ m ∷ []) → Fits g m
+pub met_fits : (g : Graph) → IsSpellable g → Checked g → (seen : Results) → IsMapOverFitting g seen → (front : List Node) (n m : Node) → Fits g n → Chain g seen n (front ++ m ∷ []) → Fits g m
 met_fits g spellable checked seen map' [] n m f c = subst (Fits g) c.0 f
 met_fits g spellable checked seen map' (x ∷ front) n m f c = leads_fit g spellable checked seen map' front x m (subst (Fits g) c.0 f) c.1
 

@@ -4,4 +4,5 @@ mod Needed
 mod Bases
 mod Maps
 mod Formed
+mod Over
 pub mod Lemmas

@@ -33,7 +33,7 @@ pub value_of_view : (o : Option View) (v : Value) → option_map (λ w. w.value)
 value_of_view None v e = cc
 value_of_view (Some view) v e = (view, refl, same_some e)
 
-if_valued : (b : Bool) (o : Option Value) (v : Value) → cond b o None ≡ Some v → (b ≡ true) × (o ≡ Some v)
+pub if_valued : (b : Bool) (o : Option Value) (v : Value) → cond b o None ≡ Some v → (b ≡ true) × (o ≡ Some v)
 if_valued true o v e = (refl, e)
 if_valued false o v e = cc
 
@@ -94,7 +94,7 @@ module _ (g : Graph) (checked : Checked g) (s : Sources) (sources : AreSources s
   }
 
 -- what a map holds of the nodes that fit
-fitting_so : (g : Graph) (seen : Results) (n : Node) (view : View) → fitting g seen n ≡ Some view → (fits g n ≡ true) × (seen n ≡ Some view)
+pub fitting_so : (g : Graph) (seen : Results) (n : Node) (view : View) → fitting g seen n ≡ Some view → (fits g n ≡ true) × (seen n ≡ Some view)
 fitting_so g seen n view e = (elim (fits g n) as (λ b. fits g n ≡ b → cond b (seen n) None ≡ Some view → (fits g n ≡ true) × (seen n ≡ Some view)) [ true ↦ λ f q. (f, q) | false ↦ λ f q. cc ]) refl e
 
 pub fitting_map : (g : Graph) (seen : Results) → IsMapOverFitting g seen → IsResultMap g (fitting g seen)

@@ -1,5 +1,5 @@
 //! Laws over checked graphs. Each is the contract of a function with an empty body.
-ghost use Rattle.meaning_checked.specs.Laws.{NeedsFit, DeriveIsMap, DeriveIsMapOverFitting, CallsWellFormed, FrontierWellFormed};
+ghost use Rattle.meaning_checked.specs.Laws.{NeedsFit, DeriveIsMap, DeriveIsMapOverFitting, CallsWellFormed, FrontierWellFormed, MetFit, DerivedIsShort, DerivedElementsFit, CallsFormedOver, SettlesWell};
 
 /// The needs of a node that fits do so too.
 pub fn needs_fit()
@@ -16,4 +16,25 @@ pub fn derive_is_map()
 pub fn calls_well_formed()
     ensures met { CallsWellFormed }
     ensures frontier { FrontierWellFormed }
+{}
+
+/// The nodes that are met from a node that fits do so too.
+pub fn met_fit()
+    ensures { MetFit }
+{}
+
+/// Bodies that are derived are short, and lists that are derived hold only what fits.
+pub fn derived_is_short()
+    ensures bodies { DerivedIsShort }
+    ensures elements { DerivedElementsFit }
+{}
+
+/// Calls are well formed over any map of results.
+pub fn calls_formed_over()
+    ensures { CallsFormedOver }
+{}
+
+/// What a node settles to over any map of results is a result of it, and short.
+pub fn settles_well()
+    ensures { SettlesWell }
 {}
