@@ -1,5 +1,5 @@
 -- The needs of a node that fits do so too.
-use Rattle.std.proofs.Common.{◌≡◌, ℕ, true, false, List, [], ◌∷◌, inl, inr, sym, ap, ◌∙◌, subst, refl, cond, flat_map, map, slice_get, bytes_eq, ◌-◌}
+use Rattle.std.proofs.Common.{◌≡◌, ℕ, true, false, List, [], inl, inr, sym, ap, ◌∙◌, subst, refl, cond, flat_map, map, slice_get, bytes_eq, ◌-◌}
 use Rattle.std.specs.Prelude.{Option, Some, None, option_map, option_and_then, option_to_list, find}
 use Rattle.object_values.specs.declared.nodes.Node.{Node}
 use Rattle.object_values.specs.declared.views.Part.{Part}

@@ -1,5 +1,5 @@
 -- What holds over any map of results, and of what is derived.
-use Rattle.std.proofs.Common.{◌≡◌, ◌↔◌, ℕ, Bool, true, false, List, sym, ap, ◌∙◌, subst, refl, cond, is_some}
+use Rattle.std.proofs.Common.{◌≡◌, ◌↔◌, ℕ, List, sym, ap, ◌∙◌, subst, refl, is_some}
 use Rattle.std.specs.Prelude.{Option, Some, None, option_map}
 use Rattle.object_values.specs.declared.messages.Status.{Status}
 use Rattle.object_values.specs.declared.messages.Status.TheVariants.{Ok, Warning, Error, Abort}
@@ -10,7 +10,7 @@ use Rattle.object_values.specs.declared.views.View.{View}
 use Rattle.object_values.specs.declared.graph.Kind.{Kind}
 use Rattle.object_values.specs.declared.calls.Call.{Call}
 use Rattle.object_values.specs.declared.calls.Outcome.{Outcome}
-use Rattle.meaning_graph.specs.Graphs.{Text, Graph, kind_of}
+use Rattle.meaning_graph.specs.Graphs.{Graph, kind_of}
 use Rattle.meaning_texts.specs.Lists.{IsIn}
 use Rattle.std.proofs.lemmas.Bool.{cond-true}
 use Rattle.meaning_graph_text.specs.Grammar.{IsSpellable}
@@ -23,8 +23,8 @@ use Rattle.meaning_nodes.proofs.Lemmas as fit
 use Rattle.meaning_tasks.specs.Tasks.{Own, task_of}
 use Rattle.meaning_tasks.specs.Needs.{Results, Known, values_of, elements_of, needs_of, counted_needs, Needs}
 use Rattle.meaning_tasks.specs.Calls.{all_valued, call_of, CallOf}
-use Rattle.meaning_tasks.specs.Settle.{own_of, settled, Settles}
-use Rattle.meaning_tasks.specs.Maps.{IsOfKind, IsResultOf}
+use Rattle.meaning_tasks.specs.Settle.{own_of, Settles}
+use Rattle.meaning_tasks.specs.Maps.{IsOfKind}
 use Rattle.meaning_tasks.specs.Laws.{AgreeAt}
 use Rattle.meaning_tasks.proofs.Lemmas.{one_list, carry}
 use Rattle.meaning_derive.specs.Derive.{Sources, text_of, Outcomes, derive}

@@ -1,5 +1,5 @@
 -- What the laws over checked graphs say.
-use Rattle.std.specs.Prelude.{◌≡◌, ℕ, List, Option, Some, None}
+use Rattle.std.specs.Prelude.{◌≡◌, ℕ, List, Option, Some}
 use Rattle.object_values.specs.declared.nodes.Node.{Node}
 use Rattle.object_values.specs.declared.views.Value.{Value}
 use Rattle.object_values.specs.declared.views.Value.TheVariants.{List as Listed}
@@ -95,12 +95,11 @@ CallsFormedOver =
     → HasShortValues g seen → (n : Node) → Fits g n → (call : Call) → CallOf g n seen (Some call)
     → IsWellFormed call
 
--- The outcome is there where the node has a call, and fits it.
+-- The outcome, if there is one, is of the node's call, and fits it.
 pub record IsOutcomeFor (g : Graph) (n : Node) (seen : Results)
     (outcome : Option Outcome) : Type 0 where
   pub call : Option Call
   pub called : CallOf g n seen call
-  pub none : outcome ≡ None → call ≡ None
   pub fits : (o : Outcome) → outcome ≡ Some o → (c : Call) × (call ≡ Some c) × OutcomeFits c o
 
 -- A result of the node, and a short one.

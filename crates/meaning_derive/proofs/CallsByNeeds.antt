@@ -1,6 +1,5 @@
 -- The calls of a founded node are its own and those of its needs.
-use Rattle.std.proofs.Common.{◌≡◌, ◌↔◌, ◌⊎◌, ℕ, suc, ◌+◌, ◌≤◌, List, [], ◌∷◌, ◌++◌, inl, inr, sym, subst, refl, length, arith}
-use Rattle.std.specs.Prelude.{Some}
+use Rattle.std.proofs.Common.{◌↔◌, ◌⊎◌, ◌≤◌, List, [], ◌∷◌, ◌++◌, inl, inr, sym, subst, refl, length, arith}
 use Rattle.object_values.specs.declared.nodes.Node.{Node}
 use Rattle.object_values.specs.declared.calls.Call.{Call}
 use Rattle.meaning_texts.specs.Limits.{height_limit}
@@ -8,7 +7,7 @@ use Rattle.meaning_texts.proofs.Lemmas.{value_of_some}
 use Rattle.meaning_graph.specs.Graphs.{Graph}
 use Rattle.meaning_tasks.specs.Needs.{Results}
 use Rattle.meaning_derive.specs.Derive.{Sources, Outcomes, derived, IsFounded}
-use Rattle.meaning_derive.specs.Chains.{IsNeed, LeadsOn, Chain, IsMet}
+use Rattle.meaning_derive.specs.Chains.{IsNeed, LeadsOn, Chain}
 use Rattle.meaning_derive.specs.Calls.{Runs, IsCallFrom}
 use Rattle.meaning_derive.specs.WalkLaws.{IsCallOfNeed}
 use Rattle.meaning_derive.proofs.Lower.{chain_end}

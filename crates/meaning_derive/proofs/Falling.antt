@@ -1,13 +1,12 @@
 -- Where heights fall no chain is long or comes back.
-use Rattle.std.proofs.Common.{◌≡◌, ℕ, zero, suc, ◌+◌, ◌≤◌, ◌<◌, List, [], ◌∷◌, ◌++◌, inl, inr, sym, ap, ◌∙◌, subst, refl, length, arith, append_assoc}
-use Rattle.std.specs.Prelude.{Option, Some, None}
+use Rattle.std.proofs.Common.{◌≡◌, ℕ, ◌+◌, ◌≤◌, ◌<◌, List, [], ◌∷◌, ◌++◌, inl, inr, sym, ap, ◌∙◌, subst, length, arith, append_assoc}
+use Rattle.std.specs.Prelude.{Option, Some}
 use Rattle.object_values.specs.declared.nodes.Node.{Node}
 use Rattle.meaning_texts.specs.Limits.{height_limit}
 use Rattle.meaning_graph.specs.Graphs.{Graph}
-use Rattle.meaning_texts.specs.Lists.{IsIn}
 use Rattle.meaning_texts.proofs.Lemmas.{split_at, same_some}
 use Rattle.meaning_tasks.specs.Needs.{Results}
-use Rattle.meaning_derive.specs.Chains.{IsNeed, LeadsOn, Chain, IsCircular, IsDeep, IsRefusal}
+use Rattle.meaning_derive.specs.Chains.{IsNeed, LeadsOn, Chain, IsCircular, IsRefusal}
 use Rattle.meaning_derive.specs.WalkLaws.{AreFalling}
 
 module _ (g : Graph) (seen : Results) (heights : Node → Option ℕ) (are : AreFalling g seen heights) where

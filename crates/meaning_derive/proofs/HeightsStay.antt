@@ -1,5 +1,5 @@
 -- Heights and calls stay as more outcomes come.
-use Rattle.std.proofs.Common.{◌≡◌, ℕ, zero, suc, ◌+◌, ◌≤◌, ◌<◌, List, ◌⊎◌, inl, inr, sym, ap, ◌∙◌, subst, refl, is_some, arith}
+use Rattle.std.proofs.Common.{◌≡◌, ℕ, zero, suc, ◌≤◌, inl, inr, sym, ap, ◌∙◌, subst, refl, is_some, arith}
 use Rattle.std.specs.Prelude.{Option, Some, None, IsSome, option_map}
 use Rattle.object_values.specs.declared.nodes.Node.{Node}
 use Rattle.object_values.specs.declared.views.View.{View}
@@ -12,7 +12,7 @@ use Rattle.meaning_texts.proofs.Lemmas.{some_or_none, some_is_none, value_of_som
 use Rattle.meaning_tasks.specs.Needs.{Results}
 use Rattle.meaning_tasks.specs.Laws.{AgreeAt}
 use Rattle.meaning_tasks.proofs.Lemmas.{one_list_of_needs, carry, one_call}
-use Rattle.meaning_derive.specs.Derive.{Sources, text_of, Outcomes, outcome_for, derive, derived, HasHeight}
+use Rattle.meaning_derive.specs.Derive.{Sources, text_of, Outcomes, outcome_for, derive, HasHeight}
 use Rattle.meaning_derive.specs.Calls.{IsFrontier}
 use Rattle.meaning_derive.specs.Laws.{HasMore, IsSettled}
 use Rattle.meaning_derive.proofs.Steps.{derive_more, grows_to}

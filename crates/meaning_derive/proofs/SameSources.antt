@@ -7,7 +7,7 @@ use Rattle.object_values.specs.declared.calls.Outcome.{Outcome}
 use Rattle.meaning_texts.specs.Limits.{height_limit}
 use Rattle.meaning_texts.specs.Lists.{IsIn}
 use Rattle.meaning_texts.proofs.Lemmas.{value_of_some}
-use Rattle.meaning_graph.specs.Graphs.{Text, Graph}
+use Rattle.meaning_graph.specs.Graphs.{Graph}
 use Rattle.meaning_tasks.specs.Tasks.{task_of}
 use Rattle.meaning_tasks.specs.Needs.{Results, values_of, counted_needs}
 use Rattle.meaning_tasks.specs.Settle.{settled, Settles}

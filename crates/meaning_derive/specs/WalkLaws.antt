@@ -159,5 +159,5 @@ abbrev pub SourcesAreEnough : Type 0
 SourcesAreEnough =
     (g : Graph) (s other : Sources) (outcomes : Outcomes) (n : Node)
     → ((m : Node) → IsMet g (derived g s outcomes) n m → m.steps ≡ []
-      → text_of s m.source ≡ text_of other m.source)
+    → text_of s m.source ≡ text_of other m.source)
     → (view : View) → derived g s outcomes n ≡ Some view → derived g other outcomes n ≡ Some view
