@@ -1,6 +1,7 @@
 mod CutLemmas
 mod EscapeLemmas
 mod LineEnds
+mod LineLemmas
 mod NameLemmas
 mod NumberLemmas
 mod WordLemmas

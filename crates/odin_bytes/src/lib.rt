@@ -13,7 +13,7 @@ mod words;
 pub use classes::{is_id, is_name, is_name_byte, is_string_text};
 pub use escapes::{escape, unescape};
 pub use fields::{put_bytes, put_u8, put_u32, put_u64, take_bytes, take_u8, take_u32, take_u64};
-pub use lines::{drop_cr, first_line};
+pub use lines::{drop_cr, first_line, next_line};
 pub use names::{Name, NameFault};
 pub use numbers::{read_number, write_number};
 pub use words::{cut_at, read_name};

@@ -1,6 +1,6 @@
-// Texts by lines: what stands before the first LF and behind it, and a line without its CR.
+// Texts by lines: what stands before the first LF and behind it, a line without its CR, and the lines of a list.
 ghost use Rattle.std.specs.Prelude.{◌≡◌, ◌<◌, ◌∷◌, [], length, IfSome, IfNone};
-ghost use Rattle.meaning_texts.specs.Lines.{cut_lines, without_cr};
+ghost use Rattle.meaning_texts.specs.Lines.{cut_lines, without_cr, lines_of};
 ghost use Rattle.odin_bytes.specs.Words.{IsFirstLine};
 
 use memchr::memchr;
@@ -20,4 +20,19 @@ pub fn drop_cr(line: &[u8]) -> &[u8]
     ensures { result.now ≡ without_cr line.now }
 {
     line.strip_suffix(b"\r").unwrap_or(line)
+}
+
+/// The first line without its end, and what stands behind that. An empty text has none, and a last line needs no LF.
+pub fn next_line(text: &[u8]) -> Option<(&[u8], &[u8])>
+    ensures some { IfSome result (λ cut. lines_of text.now ≡ cut.0.now ∷ lines_of cut.1.now) }
+    ensures shorter { IfSome result (λ cut. length cut.1.now < length text.now) }
+    ensures none { IfNone result (lines_of text.now ≡ []) }
+{
+    if text.is_empty() {
+        return None;
+    }
+    match first_line(text) {
+        Some((line, behind)) => Some((drop_cr(line), behind)),
+        None => Some((drop_cr(text), &[])),
+    }
 }

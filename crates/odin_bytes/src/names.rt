@@ -9,7 +9,7 @@ use std::alloc::Global;
 use std::marker::Model;
 
 /// The name of a source: 1 to 255 letters, digits, `.`, `_`, `-` and `/`.
-#[derive(PartialEq, Eq, PartialOrd, Ord)]
+#[derive(PartialEq, Eq, PartialOrd, Ord, Hash)]
 pub struct Name {
     text: Bytes,
 }

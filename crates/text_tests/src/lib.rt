@@ -1,6 +1,8 @@
-//! Worked rows of bytes, sources, names, numbers, escapes, fields, lines, expressions, lists of references, commands and replies. It holds tests alone.
+//! Worked rows of bytes, sources, names, numbers, escapes, fields, lines, expressions, lists of references, scan outputs, closures, commands and replies. It holds tests alone.
 #![tactic(auto)]
 
+#[cfg(test)]
+mod closure;
 #[cfg(test)]
 mod commands;
 #[cfg(test)]

@@ -1,0 +1,9 @@
+mod Found
+mod Told
+mod Kept
+mod Reaching
+mod Sorted
+mod Scanned
+mod TellingLaws
+mod Falling
+pub mod Lemmas

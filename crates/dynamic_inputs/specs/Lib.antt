@@ -1,0 +1,3 @@
+pub mod Closures
+pub mod Places
+pub mod Laws

@@ -1,0 +1,11 @@
+//! What tells a node its inputs while it is derived: the names in a scan output, and the names to which lines lead from a root.
+#![tactic(auto)]
+
+mod closure;
+pub mod laws;
+mod names;
+mod scan;
+mod sorting;
+
+pub use closure::Closure;
+pub use scan::read_scan;

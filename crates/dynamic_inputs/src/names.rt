@@ -1,0 +1,73 @@
+// Names, each once, with a quick look-up of their places.
+ghost use Rattle.std.specs.Prelude.{◌≡◌, ◌∷◌, [], length, take, slice_get, Some, IfOk, OnOk, OnErr};
+ghost use Rattle.dynamic_inputs.specs.Closures.{with_name};
+
+use indexmap::IndexSet;
+use object_values::{Copied, Memory};
+use odin_bytes::Name;
+use std::alloc::Global;
+use std::marker::Model;
+
+/// Names in the order of their coming, each once.
+pub(crate) struct Names {
+    names: IndexSet<Name>,
+}
+
+impl Drop for Names {
+    fn drop(self) {
+        let Names { names } = self;
+        drop(names);
+    }
+}
+
+impl Model for Names {
+    ghost use Rattle.std.specs.Prelude.{List};
+    ghost use Rattle.meaning_graph.specs.Graphs.{Text};
+
+    ghost Value = { List Text };
+
+    ghost view = { λ n. n.names.keys };
+}
+
+impl Names {
+    /// This name alone.
+    pub(crate) fn of(alloc: Global, name: Name) -> Result<Self, Memory>
+        ensures { IfOk result (λ names. names ≡ name ∷ []) }
+    {
+        let mut names = IndexSet::new(alloc);
+        names.insert(name)?;
+        Ok(Names { names })
+    }
+
+    pub(crate) fn len(&self) -> usize
+        ensures { result ≡ length self.now }
+    {
+        self.names.len()
+    }
+
+    pub(crate) fn as_slice(&self) -> &[Name]
+        ensures { result.now ≡ self.now }
+    {
+        self.names.as_slice()
+    }
+
+    /// Adds the name behind the others, where it is new, and gives its place.
+    pub(crate) fn add(&mut self, alloc: Global, name: &Name) -> Result<usize, Memory>
+        ensures names { OnOk result (self.new ≡ with_name self.old name.now) }
+        ensures place { IfOk result (λ place. slice_get self.new place ≡ Some name.now) }
+        ensures err { OnErr result (self.new ≡ self.old) }
+    {
+        if let Some(place) = self.names.get_index_of(name) {
+            return Ok(place);
+        }
+        let (place, _) = self.names.insert_full(name.copy(alloc)?)?;
+        Ok(place)
+    }
+
+    /// Keeps the first names, and no more than this many.
+    pub(crate) fn truncate(&mut self, len: usize)
+        ensures { self.new ≡ take len self.old }
+    {
+        self.names.truncate(len);
+    }
+}
