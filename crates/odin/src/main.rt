@@ -8,19 +8,18 @@ mod rows;
 mod runs;
 #[cfg(test)]
 mod serving;
-mod streams;
 #[cfg(test)]
 mod tests;
 
 use faults::{MEMORY, fault_of};
 use object_values::{Bytes, FileBody, Memory, Seq};
 use odin_fakes::{MemDisk, MemTree, TableTools};
+use odin_real::{InputSource, OutputSink};
 use odin_shell::run;
 use std::alloc::Global;
 use std::env::Env;
 use std::process::ExitCode;
 use std::{env, io};
-use streams::{InputSource, OutputSink};
 
 // The graph: a tool `cc` makes an object `o` of a source `c`.
 const GRAPH: &[u8] =
