@@ -5,6 +5,9 @@ use Rattle.std.specs.Str.Parse.{digits_value}
 use Rattle.std.specs.Cmp.Lexicographic.{bytes_decides}
 use Rattle.std.proofs.lemmas.Fmt.{decimal_is_IsNumeral}
 use Rattle.std.proofs.lemmas.List.{at_drop_more, at_drop_all}
+use Rattle.object_values.specs.declared.views.Part.{Part}
+use Rattle.object_values.specs.declared.views.Value.{Value}
+use Rattle.object_values.specs.declared.views.Value.TheVariants.{Compound as CompoundValue}
 use Rattle.object_values.specs.declared.graph.PartDecl.{PartDecl}
 use Rattle.object_values.specs.declared.graph.Kind.{Kind}
 use Rattle.object_values.specs.declared.graph.Kind.TheVariants.{Compound}
@@ -15,6 +18,7 @@ use Rattle.meaning_texts.specs.Limits.{element_bound}
 use Rattle.meaning_graph.specs.Graphs.{Text, Graph, types, type_named, as_type, kind_of}
 use Rattle.odin_bytes.specs.Spellings.{IsNoNumber}
 use Rattle.meaning_nodes.specs.Nodes.{is_number, element_number, picked_type}
+use Rattle.meaning_nodes.specs.Values.{body, pick}
 use Rattle.meaning_nodes.proofs.Lemmas.{element_numbers}
 
 -- ---- declared types
@@ -93,3 +97,28 @@ no_number_by key (Some k) none e = let n = (element_numbers key k).0 e in absurd
 
 pub no_number_read : (key : Text) → IsNoNumber key → false ≡ is_some (element_number key)
 no_number_read key none = no_number_by key (element_number key) none refl
+
+-- the number of an element, by the number that is read
+number_of : (key : Text) (number : ℕ) → key ≡ decimal number → number < 2 ^ 64 → element_number key ≡ cond (nat_lt 0 number && nat_lt number element_bound) (Some number) None
+number_of key number is small =
+    let value : digits_value 10 key ≡ number = ap (digits_value 10) is ∙ (decimal_is_IsNumeral number small).1 in
+    let same : bytes_eq (decimal number) key ≡ true = (bytes_decides (decimal number) key).1 (sym is) in
+    ap (λ k. cond (is_number k key) (Some k) None) value
+    ∙ ap (λ b. cond (b && nat_lt 0 number && nat_lt number element_bound) (Some number) None) same
+
+pub number_is : (key : Text) (number : ℕ) → key ≡ decimal number → number < 2 ^ 64 → (nat_lt 0 number && nat_lt number element_bound) ≡ true → Some number ≡ element_number key
+number_is key number is small tests = sym (number_of key number is small ∙ ap (λ b. cond b (Some number) None) tests)
+
+pub number_is_none : (key : Text) (number : ℕ) → key ≡ decimal number → number < 2 ^ 64 → (nat_lt 0 number && nat_lt number element_bound) ≡ false → None ≡ element_number key
+number_is_none key number is small tests = sym (number_of key number is small ∙ ap (λ b. cond b (Some number) None) tests)
+
+none_by : (key : Text) (o : Option ℕ) → IsNoNumber key → element_number key ≡ o → None ≡ o
+none_by key None none e = refl
+none_by key (Some k) none e = let n = (element_numbers key k).0 e in absurd (none k (omega (arith, n.small)) n.written)
+
+pub no_number_is : (key : Text) → IsNoNumber key → None ≡ element_number key
+no_number_is key none = none_by key (element_number key) none refl
+
+-- the part of that name
+pub body_picked : (value : Value) (key : Text) (parts : List Part) (p : Part) → value ≡ CompoundValue parts → Some p ≡ find (λ (p : Part). bytes_eq p.name key) parts → Some (body p.body) ≡ pick value key
+body_picked value key parts p is found = ap (option_map (λ (p : Part). body p.body)) found ∙ ap (λ v. pick v key) (sym is)

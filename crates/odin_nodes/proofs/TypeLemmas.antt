@@ -112,9 +112,8 @@ typed_by false o = refl
 type_by_words : (g : Graph) (n : Node) → type_of g n ≡ cond (has_words_of_class n) (reached_type g n) None
 type_by_words g n = typed_by (has_words_of_class n) (reached_type g n)
 
-pub type_of_steps : (g : Graph) (n : Node) → true ≡ has_words_of_class n → type_of g n ≡ type_after g (Some (source_type g n.source)) n.steps
-unfolding reached_type
-type_of_steps g n words = type_by_words g n ∙ ap (λ b. cond b (reached_type g n) None) (sym words)
+pub type_is_reached : (g : Graph) (n : Node) → true ≡ has_words_of_class n → type_of g n ≡ reached_type g n
+type_is_reached g n words = type_by_words g n ∙ ap (λ b. cond b (reached_type g n) None) (sym words)
 
 pub no_type : (g : Graph) (n : Node) → false ≡ has_words_of_class n → None ≡ type_of g n
 no_type g n words = sym (type_by_words g n ∙ ap (λ b. cond b (reached_type g n) None) (sym words))

@@ -187,7 +187,8 @@ impl Reached {
     }
 }
 
-fn put_makers(path: &[u32], steps: &mut Seq<Step>) -> Result<(), Memory>
+/// Puts the makers of a path behind steps.
+pub(crate) fn put_makers(path: &[u32], steps: &mut Seq<Step>) -> Result<(), Memory>
     ensures { OnOk result (steps.new ≡ steps.old ++ map Step.Maker path.now) }
 {
     for maker in path {

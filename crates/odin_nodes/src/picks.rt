@@ -1,9 +1,10 @@
 // What keys pick: elements of lists by their numbers, and parts by their names.
-ghost use Rattle.std.specs.Prelude.{◌≡◌, ◌&&◌, Some, nat_lt, is_some, find, filter_map, slice_get, bytes_eq};
+ghost use Rattle.std.specs.Prelude.{◌≡◌, ◌&&◌, Some, nat_lt, is_some, find, filter_map, slice_get, bytes_eq, option_map};
 ghost use Rattle.std.specs.Option.{option_copied};
 ghost use Rattle.meaning_texts.specs.Limits.{element_bound};
 ghost use Rattle.meaning_graph.specs.Graphs.{as_type, kind_of};
 ghost use Rattle.meaning_nodes.specs.Nodes.{element_number, picked_type};
+ghost use Rattle.odin_nodes.specs.Kinds.{declared_kind};
 
 use object_values::{Decl, Kind, PartDecl, TypeDecl};
 use odin_bytes::read_number;
@@ -11,6 +12,19 @@ use type_graph::Graph;
 
 // The number of an element is below this.
 const ELEMENT_BOUND: u64 = 4_294_967_296;
+
+/// What the objects of the type of this name are. `None` for `text`, which isn't declared and is
+/// simple, and where the name means no type.
+pub fn kind_named<'a>(graph: &'a Graph, name: &[u8]) -> Option<&'a Kind>
+    ensures { option_map (λ kind. kind.now) result ≡ declared_kind graph.now name.now }
+{
+    let number = graph.type_named(name)?;
+    if number == 0 {
+        return None;
+    }
+    let declared = declared_type(graph, number - 1)?;
+    Some(&declared.kind)
+}
 
 /// The type of what a key picks from an object of the type.
 pub(crate) fn picked_type(graph: &Graph, from: u32, key: &[u8]) -> Option<u32>
@@ -65,7 +79,8 @@ fn is_element_number(key: &[u8]) -> bool
     }
 }
 
-fn numbers_an_element(number: u64) -> bool
+/// Whether the number is one of an element.
+pub(crate) fn numbers_an_element(number: u64) -> bool
     ensures { result ≡ (nat_lt 0 number && nat_lt number element_bound) }
 {
     0 < number && number < ELEMENT_BOUND

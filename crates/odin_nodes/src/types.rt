@@ -2,7 +2,7 @@
 ghost use Rattle.std.specs.Prelude.{◌≡◌, ◌<◌, Some, length, map, slice_get, option_and_then};
 ghost use Rattle.meaning_graph.specs.Graphs.{types, makers};
 ghost use Rattle.meaning_graph.specs.Paths.{made_of};
-ghost use Rattle.meaning_nodes.specs.Nodes.{step_type, type_after, type_of as type_of_node};
+ghost use Rattle.meaning_nodes.specs.Nodes.{step_type, type_after, reached_type, type_of as type_of_node};
 
 use crate::classes::has_words_of_class;
 use crate::picks::picked_type;
@@ -16,6 +16,13 @@ pub fn type_of(graph: &Graph, node: &Node) -> Option<u32>
     if !has_words_of_class(node) {
         return None;
     }
+    reached_type(graph, node)
+}
+
+/// The type to which all steps lead, where each can be applied to the type before it.
+pub(crate) fn reached_type(graph: &Graph, node: &Node) -> Option<u32>
+    ensures { result ≡ reached_type graph.now node.now }
+{
     let source = graph.source_type(node.source.as_slice());
     type_after(graph, source, node.steps.as_slice())
 }

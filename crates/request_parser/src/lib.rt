@@ -11,6 +11,7 @@ mod read;
 mod write;
 
 pub use fault::ExpressionFault;
+pub use kept::keep;
 pub use lines::read_lines;
 pub use object_values::{ExprStep, Expression, Line, Lines};
 pub use read::read_expression;

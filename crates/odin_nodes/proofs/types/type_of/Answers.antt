@@ -1,18 +1,6 @@
--- The steps lead on from the type of the source.
-use Rattle.std.proofs.Common.{ℕ, ◌<◌, ◌∙◌, List, length, ap, sym, subst}
-use Rattle.std.specs.Prelude.{Some}
-use Rattle.object_values.specs.declared.nodes.Step.{Step}
-use Rattle.meaning_graph.specs.Graphs.{types}
-use Rattle.meaning_graph.specs.Suffixes.{source_type}
-use Rattle.meaning_nodes.specs.Nodes.{type_after}
-use Rattle.odin_nodes.proofs.TypeLemmas.{source_below, type_of_steps}
+use Rattle.std.proofs.Common.{◌∙◌, sym}
+use Rattle.odin_nodes.proofs.TypeLemmas.{type_is_reached}
 use Rattle.odin_nodes.proofs.types.type_of.Goals as goal
 
-pub type_after-requires : goal.type_after-requires
-type_after-requires c = subst (λ (t : ℕ). t < length (types c.args.graph.now)) (sym c.source_type-source.ensures) (source_below c.args.graph.now c.as_slice.result.now)
-
 pub returns : goal.returns
-returns c =
-    c.type_after.ensures ∙ ap (λ (l : List Step). type_after c.args.graph.now (Some c.source_type-source.result) l) c.as_slice-2.ensures
-    ∙ ap (λ (t : ℕ). type_after c.args.graph.now (Some t) c.args.node.now.steps) (c.source_type-source.ensures ∙ ap (source_type c.args.graph.now) c.as_slice.ensures)
-    ∙ sym (type_of_steps c.args.graph.now c.args.node.now c.if-not-has_words_of_class.ensures)
+returns c = c.reached_type.ensures ∙ sym (type_is_reached c.args.graph.now c.args.node.now c.if-not-has_words_of_class.ensures)

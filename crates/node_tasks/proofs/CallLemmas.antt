@@ -1,0 +1,142 @@
+-- When a tool is run, and what is known where it isn't.
+use Rattle.std.proofs.Common.{◌≡◌, ◌<◌, ◌+◌, ℕ, zero, suc, inl, inr, Bool, true, false, cond, ◌&&◌, List, [], ◌∷◌, ◌++◌, map, sym, ap, ◌∙◌, subst, refl, slice_get, length}
+use Rattle.std.specs.Prelude.{Option, Some, None}
+use Rattle.std.specs.List.{list_all}
+use Rattle.object_values.specs.declared.messages.Message.{Message}
+use Rattle.object_values.specs.declared.nodes.Node.{Node}
+use Rattle.object_values.specs.declared.nodes.Step.{Step}
+use Rattle.object_values.specs.declared.nodes.Step.TheVariants.{Maker, Pick}
+use Rattle.object_values.specs.declared.calls.Call.{Call}
+use Rattle.object_values.specs.declared.calls.CallPart.{CallPart}
+use Rattle.object_values.specs.declared.graph.Make.{Make}
+use Rattle.object_values.specs.declared.graph.Make.TheVariants.{Tool, Read, Each, Pack}
+use Rattle.object_values.specs.declared.graph.ToolDecl.{ToolDecl}
+use Rattle.object_values.specs.declared.graph.MakerDecl.{MakerDecl}
+use Rattle.object_values.specs.declared.graph.Decl.{Decl}
+use Rattle.object_values.specs.declared.graph.Decl.TheVariants.{ObjectType, Suffix, Param, Maker as MakerDeclared}
+use Rattle.meaning_texts.specs.Lists.{IsIn, is_empty}
+use Rattle.meaning_texts.specs.Limits.{extra_bound}
+use Rattle.meaning_texts.proofs.Lemmas.{in_all, from_chosen, same_some}
+use Rattle.meaning_graph.specs.Graphs.{Text, Graph, makers, as_maker}
+use Rattle.meaning_graph_text.specs.Grammar.{IsSpellable, IsSpellableDecl, IsSpellableMake, IsSpellableMaker, IsSpellableTool}
+use Rattle.meaning_nodes.specs.Nodes.{last_step}
+use Rattle.meaning_tasks.specs.Tasks.{Led, Task, given, picked, mapped, packed, tooled, unfit, ToolTask, led_missing, make_task, maker_task, step_task, tool_task, task_of}
+use Rattle.meaning_tasks.specs.Needs.{Results, Known, values_of, counted_needs, ReachedNames}
+use Rattle.meaning_tasks.specs.Calls.{node_parts, extra_parts, reached_part, all_valued, call_of, tool_call, CallOf}
+use Rattle.node_tasks.specs.Tasks.{RunsNoTool}
+use Rattle.node_tasks.specs.Calling.{call_with}
+
+-- ---- no extra lacks a path
+
+first_missing : (missing more : List Message) (rest : Bool) → rest ≡ is_empty more → (is_empty missing && rest) ≡ is_empty (missing ++ more)
+first_missing [] more rest e = e
+first_missing (m ∷ missing) more rest e = refl
+
+all_there : (extras : List Led) → list_all (λ (e : Led). is_empty e.missing) extras ≡ is_empty (led_missing extras)
+all_there [] = refl
+all_there (e ∷ extras) = first_missing e.missing (led_missing extras) (list_all (λ (e : Led). is_empty e.missing) extras) (all_there extras)
+
+pub paths_are : (led extras slice : List Led) (result b : Bool) → slice ≡ extras → extras ≡ led → result ≡ list_all (λ (e : Led). is_empty e.missing) slice → result ≡ b → is_empty (led_missing led) ≡ b
+paths_are led extras slice result b s e r h =
+    sym (all_there led) ∙ ap (list_all (λ (e : Led). is_empty e.missing)) (sym e ∙ sym s) ∙ sym r ∙ h
+
+-- ---- no call
+
+no_call : (g : Graph) (t : Task) (known : Known) (names : List Text) → RunsNoTool t → call_of g t known names ≡ None
+no_call g (given name) known names h = refl
+no_call g (picked base key) known names h = refl
+no_call g (mapped base f) known names h = refl
+no_call g (packed parts) known names h = refl
+no_call g (tooled t) known names h = absurd h
+no_call g unfit known names h = refl
+
+module _ (g : Graph) (n : Node) (seen : Results) (names : List Text) (reached : ReachedNames g n seen names) where
+  pub without_tool : (call : Option Call) → call ≡ None → RunsNoTool (task_of g n) → CallOf g n seen call
+  without_tool call e h = record { names = names; reached = reached; is = e ∙ sym (no_call g (task_of g n) (values_of seen) names h) }
+
+  module _ (t : ToolTask) (runs : task_of g n ≡ tooled t) where
+    abbrev IsRun : Bool → Bool → Option Call
+    IsRun there valued = cond (there && valued) (Some (tool_call g t (values_of seen) names)) None
+
+    run_is : call_of g (task_of g n) (values_of seen) names ≡ IsRun (is_empty (led_missing t.extras)) (all_valued (values_of seen) (counted_needs (tooled t) (values_of seen) names))
+    run_is = ap (λ t. call_of g t (values_of seen) names) runs
+
+    both_false : (there : Bool) → IsRun there false ≡ None
+    both_false true = refl
+    both_false false = refl
+
+    pub without_path : (call : Option Call) → call ≡ None → is_empty (led_missing t.extras) ≡ false → CallOf g n seen call
+    without_path call e h = record {
+      names = names;
+      reached = reached;
+      is = e ∙ sym (run_is ∙ ap (λ b. IsRun b (all_valued (values_of seen) (counted_needs (tooled t) (values_of seen) names))) h);
+    }
+
+    pub without_value : (call : Option Call) (counted : List Node) → call ≡ None → counted ≡ counted_needs (task_of g n) (values_of seen) names → all_valued (values_of seen) counted ≡ false → CallOf g n seen call
+    without_value call counted e c h =
+        let none : all_valued (values_of seen) (counted_needs (tooled t) (values_of seen) names) ≡ false =
+        ap (λ t. all_valued (values_of seen) (counted_needs t (values_of seen) names)) (sym runs) ∙ ap (all_valued (values_of seen)) (sym c) ∙ h in
+        record {
+          names = names;
+          reached = reached;
+          is = e ∙ sym (run_is ∙ ap (IsRun (is_empty (led_missing t.extras))) none ∙ both_false (is_empty (led_missing t.extras)));
+        }
+
+    pub with_call : (call : Call) (counted : List Node) → counted ≡ counted_needs (task_of g n) (values_of seen) names → is_empty (led_missing t.extras) ≡ true → all_valued (values_of seen) counted ≡ true
+        → call ≡ tool_call g t (values_of seen) names → CallOf g n seen (Some call)
+    with_call call counted c there valued e =
+        let all : all_valued (values_of seen) (counted_needs (tooled t) (values_of seen) names) ≡ true =
+        ap (λ t. all_valued (values_of seen) (counted_needs t (values_of seen) names)) (sym runs) ∙ ap (all_valued (values_of seen)) (sym c) ∙ valued in
+        record {
+          names = names;
+          reached = reached;
+          is = ap Some e ∙ sym (run_is ∙ (λ i. IsRun (there i) (all i)));
+        }
+
+-- the call with the inputs of a tool
+pub call_is : (g : Graph) (t : ToolTask) (known : Known) (names slice : List Text) (base : Node) (extras led : List Led) (parts : List CallPart) (call : Call) → base ≡ t.base → extras ≡ led → led ≡ t.extras → slice ≡ names
+    → parts ≡ node_parts g known 0 base ++ (extra_parts g known 1 extras ++ map (reached_part known (length extras + 1)) slice) → call ≡ call_with t parts → call ≡ tool_call g t known names
+call_is g t known names slice base extras led parts call b e l n p c =
+    c ∙ ap (call_with t) (p ∙ (λ i. node_parts g known 0 (b i) ++ (extra_parts g known 1 ((e ∙ l) i) ++ map (reached_part known (length ((e ∙ l) i) + 1)) (n i))))
+
+-- ---- a tool of a spellable graph has few extras
+
+in_got : {A : Type 0} (xs : List A) (i : ℕ) (x : A) → slice_get xs i ≡ Some x → IsIn x xs
+in_got [] i x e = cc
+in_got (y ∷ xs) zero x e = inl (sym (same_some e))
+in_got (y ∷ xs) (suc i) x e = inr (in_got xs i x e)
+
+maker_spelled : (d : Decl) (m : MakerDecl) → IsSpellableDecl d → as_maker d ≡ Some m → IsSpellableMaker m
+maker_spelled (ObjectType t) m h e = cc
+maker_spelled (Suffix s) m h e = cc
+maker_spelled (Param p) m h e = cc
+maker_spelled (MakerDeclared k) m h e = let same : k ≡ m = cc in subst IsSpellableMaker same h
+
+make_few : (g : Graph) (n : Node) (m : MakerDecl) (make : Make) (t : ToolTask) → IsSpellableMake make → make_task g n m make ≡ tooled t → length t.tool.extras < extra_bound
+make_few g n m (Tool tool) t h e =
+    let same : tool ≡ t.tool = by_tool (tool_task g n m tool) t e in
+    subst (λ (tool : ToolDecl). length tool.extras < extra_bound) same h.few
+  where
+    by_tool : (a b : ToolTask) → tooled a ≡ tooled b → a.tool ≡ b.tool
+    by_tool a b e = cc
+make_few g n m Read t h e = cc
+make_few g n m Each t h e = cc
+make_few g n m Pack t h e = cc
+
+pub few_extras : (g : Graph) (n : Node) (t : ToolTask) → IsSpellable g → task_of g n ≡ tooled t → length t.tool.extras < extra_bound
+unfolding task_of
+few_extras g n t spelled e = by_last (last_step n.steps) e
+  where
+    by_maker : (o : Option MakerDecl) (k : ℕ) → slice_get (makers g) k ≡ o → maker_task g n o ≡ tooled t → length t.tool.extras < extra_bound
+    by_maker None k found h = cc
+    by_maker (Some m) k found h =
+        let r = from_chosen as_maker m g (in_got (makers g) k m found) in
+        make_few g n m m.make t (maker_spelled r.0 m (in_all IsSpellableDecl g spelled r.0 r.1) r.2).make h
+
+    by_last : (o : Option Step) → step_task g n o ≡ tooled t → length t.tool.extras < extra_bound
+    by_last None h = cc
+    by_last (Some (Pick key)) h = cc
+    by_last (Some (Maker k)) h = by_maker (slice_get (makers g) k) k refl h
+
+pub few_led : (g : Graph) (n : Node) (t : ToolTask) (led slice : List Led) → IsSpellable g → task_of g n ≡ tooled t → slice ≡ led → length led ≡ length t.tool.extras → length slice < extra_bound
+few_led g n t led slice spelled e same count = subst (λ (k : ℕ). k < extra_bound) (sym (ap length same ∙ count)) (few_extras g n t spelled e)

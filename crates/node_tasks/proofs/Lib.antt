@@ -1,0 +1,10 @@
+mod StepLemmas
+mod CallLemmas
+mod ReadLemmas
+mod ValueLemmas
+mod ViewLemmas
+mod TaskLemmas
+mod NeedLemmas
+mod NameLemmas
+mod ListedLemmas
+mod SettleLemmas

@@ -1,0 +1,5 @@
+pub mod Seen
+pub mod Tasks
+pub mod Reading
+pub mod Settling
+pub mod Calling

@@ -1,0 +1,29 @@
+//! What a node needs, which tool it runs, and what it settles to: for every graph.
+#![tactic(auto)]
+
+mod base;
+mod calling;
+mod each;
+mod gathering;
+mod known;
+mod led;
+mod names;
+mod needing;
+mod outcome;
+mod outs;
+mod own;
+mod pack;
+mod params;
+mod parts;
+mod picking;
+mod reading;
+mod results;
+mod settling;
+mod stepping;
+mod task;
+mod tool;
+
+pub use calling::call_for;
+pub use needing::needs;
+pub use results::Results;
+pub use settling::{Settled, settle, settle_whole};

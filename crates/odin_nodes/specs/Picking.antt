@@ -1,0 +1,9 @@
+-- What is picked, as it is told.
+use Rattle.meaning_nodes.specs.Values.{Picked, element, body}
+use Rattle.odin_nodes.specs.declared.picking.Picked.{Picked as PickedPart}
+use Rattle.odin_nodes.specs.declared.picking.Picked.TheVariants.{Element, Body}
+
+-- the element or the body to which it refers
+abbrev pub told : PickedPart → Picked
+told (Element n) = element n.now
+told (Body text) = body text.now
