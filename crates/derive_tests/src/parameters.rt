@@ -5,7 +5,7 @@ ghost use Rattle.derive_tests.specs.Samples.{cc_with_debug};
 
 use super::samples::{graph_of, object_with};
 use object_sources::Sources;
-use object_values::{Bytes, Memory, Seq, Value};
+use object_values::{Bytes, Memory, Seq, Text as Shared, Value};
 use odin_fakes::TableTools;
 use odin_outside::{Job, Spawner, ToolEvent};
 use path_planner::Plans;
@@ -49,12 +49,10 @@ const ROWS: &[(Text, Text, Text)] = &[
 
 // The source `a.c`.
 fn sources_of(alloc: Global) -> Result<Sources, Memory> {
+    let text = Shared::of(Bytes::from_slice(alloc, b"x=1\n")?)?;
     let mut sources = Sources::new(alloc);
     sources.reserve()?;
-    let _ = sources.put(
-        Bytes::from_slice(alloc, b"a.c")?,
-        Bytes::from_slice(alloc, b"x=1\n")?,
-    );
+    let _ = sources.put(Bytes::from_slice(alloc, b"a.c")?, text);
     Ok(sources)
 }
 

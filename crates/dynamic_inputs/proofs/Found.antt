@@ -76,6 +76,10 @@ kept_front names more now is =
 pub one_more : (names more : List Text) (x : Text) → with_name (with_names names more) x ≡ with_names names (more ++ x ∷ [])
 one_more names more x = sym (in_turn names more (x ∷ []))
 
+pub none_distinct : IsDistinct bytes_eq []
+unfolding IsDistinct
+none_distinct = tt
+
 pub one_distinct : (x : Text) → IsDistinct bytes_eq (x ∷ [])
 unfolding IsDistinct
 one_distinct x = (tt, tt)

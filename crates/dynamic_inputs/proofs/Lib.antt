@@ -2,6 +2,7 @@ mod Found
 mod Told
 mod Kept
 mod Reaching
+mod Asked
 mod Sorted
 mod Scanned
 mod TellingLaws

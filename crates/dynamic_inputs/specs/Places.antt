@@ -1,5 +1,5 @@
 -- How a closure is kept: names, and lines as places of names.
-use Rattle.std.specs.Prelude.{◌≡◌, ⊤, ℕ, ◌<◌, ◌≤◌, ◌==◌, Bool, List, [], ◌∷◌, ◌++◌, length, map, get_or, slice_get, Some}
+use Rattle.std.specs.Prelude.{◌≡◌, ◌⊎◌, ⊤, ℕ, ◌<◌, ◌≤◌, ◌==◌, Bool, List, [], ◌∷◌, ◌++◌, length, map, get_or, slice_get, Some}
 use Rattle.std.specs.List.{AllByRecursion}
 use Rattle.meaning_texts.specs.Lists.{IsIn}
 use Rattle.meaning_graph.specs.Graphs.{Text}
@@ -19,8 +19,8 @@ told_by all [] (places ∷ told) = []
 told_by all (x ∷ names) (places ∷ told) = (x, map (name_at all) places) ∷ told_by all names told
 
 -- what was told where so many first names have lines
-abbrev pub telling : List Text → List (List ℕ) → Telling
-telling names told = record { root = name_at names 0; told = told_by names names told }
+abbrev pub telling : Text → List Text → List (List ℕ) → Telling
+telling root names told = record { root = root; told = told_by names names told }
 
 -- The lines stand at these places, one for one.
 abbrev pub ArePlaces : List Text → List Text → List ℕ → Type 0
@@ -39,9 +39,13 @@ pub record Tells (names : List Text) (told : List (List ℕ)) (lines more : List
   pub pushed : after ≡ told ++ places ∷ []
 
 -- The names are the found ones, in their order, and lines lead to each but the root.
-pub record IsFollowed (names : List Text) (told : List (List ℕ)) : Type 0 where
+pub record IsFollowed (root : Text) (names : List Text) (told : List (List ℕ)) : Type 0 where
   pub few : length told ≤ length names
   pub within : AllByRecursion (AllByRecursion (λ place. place < length names)) told
-  pub all : names ≡ found_names (telling names told)
+  pub all : names ≡ found_names (telling root names told)
   pub led : (x : Text) → IsIn x (all_lines (told_by names names told))
-      → IsReached (telling names told) x
+      → IsReached (telling root names told) x
+
+-- Nothing is kept before something is told.
+abbrev pub IsKept : Text → List Text → List (List ℕ) → Type 0
+IsKept root names told = ((names ≡ []) × (told ≡ [])) ⊎ IsFollowed root names told

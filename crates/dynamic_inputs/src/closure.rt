@@ -1,11 +1,11 @@
 // The names to which lines lead, as the lines of one name after another are told.
-ghost use Rattle.std.specs.Prelude.{◌≡◌, ◌↔◌, [], length, take, IsSome, IsTrue, IfSome, IfNone, IfOk, OnOk, OnErr, bytes_eq};
+ghost use Rattle.std.specs.Prelude.{◌≡◌, ◌↔◌, [], length, take, IsSome, IfSome, IfNone, IfOk, OnOk, OnErr, bytes_eq};
 ghost use Rattle.std.specs.List.{list_any, IsDistinct};
 ghost use Rattle.std.specs.Option.{option_copied};
 ghost use Rattle.meaning_texts.specs.Lists.{IsIn};
 ghost use Rattle.meaning_graph.specs.Graphs.{Text};
 ghost use Rattle.meaning_tasks.specs.Reached.{AreReached};
-ghost use Rattle.dynamic_inputs.specs.Closures.{lines_of, IsReached, IsWanted, AllTold, wanted_name, with_lines, with_names};
+ghost use Rattle.dynamic_inputs.specs.Closures.{lines_of, IsReached, IsWanted, AllTold, wanted_name, with_lines, with_name, with_names};
 ghost use Rattle.dynamic_inputs.specs.Places.{ArePlaces, Tells, is_first};
 
 use crate::names::Names;
@@ -19,7 +19,8 @@ use std::marker::Model;
 ///
 /// The lines of the root come first. A root that some line names is a name like the others, but isn't told again.
 pub struct Closure {
-    // The root, and then the names of all lines that were told, each once.
+    root: Name,
+    // Once something is told: the root, and then the names of all lines that were told, each once.
     names: Names,
     // What was told of the first names: each line as the place of the name in it.
     told: Seq<Seq<usize>>,
@@ -27,7 +28,8 @@ pub struct Closure {
 
 impl Drop for Closure {
     fn drop(self) {
-        let Closure { names, told } = self;
+        let Closure { root, names, told } = self;
+        drop(root);
         drop(names);
         drop(told);
     }
@@ -38,22 +40,23 @@ impl Model for Closure {
 
     ghost Value = { Telling };
 
-    ghost use Rattle.dynamic_inputs.specs.Places.{telling, IsFollowed};
+    ghost use Rattle.dynamic_inputs.specs.Places.{telling, IsKept};
 
-    ghost view = { λ c. telling c.names c.told };
+    ghost view = { λ c. telling c.root c.names c.told };
 
-    ghost invariant = { λ c. IsFollowed c.names c.told };
+    ghost invariant = { λ c. IsKept c.root c.names c.told };
 }
 
 impl Closure {
     /// Nothing is told yet.
-    pub fn new(alloc: Global, root: Name) -> Result<Self, Memory>
-        ensures { IfOk result (λ closure. closure ≡ record { root = root; told = [] }) }
+    pub fn new(alloc: Global, root: Name) -> Self
+        ensures { result ≡ record { root = root; told = [] } }
     {
-        Ok(Closure {
-            names: Names::of(alloc, root)?,
+        Closure {
+            root,
+            names: Names::new(alloc),
             told: Seq::new(alloc),
-        })
+        }
     }
 
     /// The first name that was found, the root or a reached one, of which nothing was told.
@@ -62,6 +65,9 @@ impl Closure {
         ensures some { IfSome result (λ name. IsWanted self.now name.now) }
         ensures none { IfNone result (AllTold self.now) }
     {
+        if self.told.is_empty() {
+            return Some(&self.root);
+        }
         self.names.as_slice().get(self.told.len())
     }
 
@@ -72,7 +78,7 @@ impl Closure {
         ensures err { OnErr result (self.new ≡ self.old) }
     {
         let known = self.names.len();
-        match tell(alloc, &mut self.names, &mut self.told, lines) {
+        match tell(alloc, &self.root, &mut self.names, &mut self.told, lines) {
             Ok(()) => Ok(()),
             Err(Memory) => {
                 self.names.truncate(known);
@@ -94,6 +100,9 @@ impl Closure {
         ensures distinct { IsDistinct bytes_eq result.now }
     {
         let names = self.names.as_slice();
+        if names.is_empty() {
+            return names;
+        }
         if has_first(self.told.as_slice()) {
             names
         } else {
@@ -102,17 +111,20 @@ impl Closure {
     }
 }
 
-// Tells the lines of the next name. After want of memory names may have been added.
+// Tells the lines of the next name, the root first. After want of memory names may have been added.
 fn tell(
     alloc: Global,
+    root: &Name,
     names: &mut Names,
     told: &mut Seq<Seq<usize>>,
     lines: &[Name],
 ) -> Result<(), Memory>
-    ensures ok { OnOk result (Tells names.old told.old lines.now names.new told.new) }
+    ensures ok { let rooted = with_name names.old root.now in
+        OnOk result (Tells rooted told.old lines.now names.new told.new) }
     ensures kept { OnErr result (take (length names.old) names.new ≡ names.old) }
     ensures untold { OnErr result (told.new ≡ told.old) }
 {
+    names.add(alloc, root)?;
     let places = places_of(alloc, names, lines)?;
     told.push(places)?;
     Ok(())

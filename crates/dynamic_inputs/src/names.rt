@@ -1,5 +1,5 @@
 // Names, each once, with a quick look-up of their places.
-ghost use Rattle.std.specs.Prelude.{◌≡◌, ◌∷◌, [], length, take, slice_get, Some, IfOk, OnOk, OnErr};
+ghost use Rattle.std.specs.Prelude.{◌≡◌, [], length, take, slice_get, Some, IfOk, OnOk, OnErr};
 ghost use Rattle.dynamic_inputs.specs.Closures.{with_name};
 
 use indexmap::IndexSet;
@@ -30,13 +30,12 @@ impl Model for Names {
 }
 
 impl Names {
-    /// This name alone.
-    pub(crate) fn of(alloc: Global, name: Name) -> Result<Self, Memory>
-        ensures { IfOk result (λ names. names ≡ name ∷ []) }
+    pub(crate) fn new(alloc: Global) -> Self
+        ensures { result ≡ [] }
     {
-        let mut names = IndexSet::new(alloc);
-        names.insert(name)?;
-        Ok(Names { names })
+        Names {
+            names: IndexSet::new(alloc),
+        }
     }
 
     pub(crate) fn len(&self) -> usize

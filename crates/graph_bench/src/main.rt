@@ -1,6 +1,10 @@
-//! Reads and checks a long graph file, and says how many declarations and bytes it has: something to measure.
+//! Something to measure: reads and checks a long graph file, and says how many declarations and bytes it has; or holds many calls that share
+//! their texts.
 #![tactic(auto)]
 
+mod calls;
+
+use calls::held;
 use dg_reader::{ReadFault, read_graph};
 use object_values::{Bytes, Memory};
 use std::alloc::{AllocError, Global};
@@ -82,32 +86,55 @@ fn read(alloc: Global, tools: u32) -> Result<(usize, usize), Fault> {
     Ok((graph.decls().len(), text.len()))
 }
 
-/// The number of tools that the word behind the program's name asks for.
-fn tools_of(rt: &HostRuntime) -> Result<u32, Fault> {
-    let Ok(mut words) = env::args(rt) else {
-        return Err(Fault::Words);
-    };
-    let _ = words.next();
-    let Some(word) = words.next() else {
-        return Err(Fault::Words);
-    };
-    match word.as_str().parse::<u32>() {
-        Ok(count) => Ok(count),
+/// What the words ask for: a graph file with so many tools, or so many calls.
+#[derive(Clone, Copy)]
+enum Work {
+    Tools(u32),
+    Calls(u32),
+}
+
+fn number_of(word: &str) -> Result<u32, Fault> {
+    match word.parse::<u32>() {
+        Ok(number) => Ok(number),
         Err(_) => Err(Fault::Words),
     }
 }
 
-fn measured(rt: &HostRuntime) -> Result<(usize, usize), Fault> {
-    let tools = tools_of(rt)?;
-    read(rt.alloc(), tools)
+/// `N`, the number of tools, or `calls N`.
+fn work_of(rt: &HostRuntime) -> Result<Work, Fault> {
+    let Ok(mut words) = env::args(rt) else {
+        return Err(Fault::Words);
+    };
+    let _ = words.next();
+    let Some(first) = words.next() else {
+        return Err(Fault::Words);
+    };
+    if first.as_str() != "calls" {
+        return Ok(Work::Tools(number_of(first.as_str())?));
+    }
+    match words.next() {
+        Some(second) => Ok(Work::Calls(number_of(second.as_str())?)),
+        None => Err(Fault::Words),
+    }
+}
+
+fn measured(rt: &HostRuntime) -> Result<(), Fault> {
+    match work_of(rt)? {
+        Work::Tools(tools) => {
+            let (declarations, bytes) = read(rt.alloc(), tools)?;
+            let _ = println!(rt; "{declarations} declarations of {bytes} bytes");
+        }
+        Work::Calls(count) => {
+            let calls = held(rt.alloc(), count)?;
+            let _ = println!(rt; "{calls} calls");
+        }
+    }
+    Ok(())
 }
 
 fn main(rt: HostRuntime) -> ExitCode {
     match measured(&rt) {
-        Ok((declarations, bytes)) => {
-            let _ = println!(rt; "{declarations} declarations of {bytes} bytes");
-            ExitCode::SUCCESS
-        }
+        Ok(()) => ExitCode::SUCCESS,
         Err(_) => ExitCode::FAILURE,
     }
 }

@@ -1,6 +1,9 @@
 // Tokens, gaps, places and classes, as tables.
 use dg_tokens::{Token, column_behind, line_behind, past_gap, token_at};
+use object_values::Memory;
 use odin_bytes::{is_id, is_name, is_string_text};
+use std::alloc::Global;
+use std::test::Fail;
 
 #[test]
 fn tokens_are_read_one_by_one(rt: HostRuntime) {
@@ -68,8 +71,6 @@ fn lines_and_columns_begin_at_1(rt: HostRuntime) {
 
 #[test]
 fn classes_tell_texts_apart(rt: HostRuntime) {
-    let longest = [b'a'; 255];
-    let too_long = [b'a'; 256];
     let cases = [
         (b"".as_slice(), false, false, true),
         (b"a_1", true, true, true),
@@ -79,12 +80,24 @@ fn classes_tell_texts_apart(rt: HostRuntime) {
         (b"a b", false, false, true),
         (b"a\"", false, false, false),
         (b"a\t", false, false, false),
-        (&longest, true, true, true),
-        (&too_long, false, false, false),
     ];
     for (text, id, name, string) in cases {
         assert_eq!(rt; is_id(text), id);
         assert_eq!(rt; is_name(text), name);
         assert_eq!(rt; is_string_text(text), string);
     }
+}
+
+// Whether so many letters are of each class, or of none.
+fn are_classed(alloc: Global, count: usize, wanted: bool) -> Result<bool, Memory> {
+    let text = vec![in alloc; b'a'; count]?;
+    let text = text.as_slice();
+    Ok(is_id(text) == wanted && is_name(text) == wanted && is_string_text(text) == wanted)
+}
+
+#[test]
+fn classes_have_255_bytes(rt: HostRuntime) -> Result<(), Fail> {
+    assert!(rt; are_classed(rt.alloc(), 255, true)?);
+    assert!(rt; are_classed(rt.alloc(), 256, false)?);
+    Ok(())
 }

@@ -5,13 +5,10 @@
 use Rattle.std.specs.Prelude.{◌≡◌, ◌≢◌, ℕ, ◌<◌, ◌≤◌, ◌^◌, Bool, true, false, List, [], ◌∷◌, ◌++◌, length, codes}
 use Rattle.std.specs.Fmt.{decimal}
 use Rattle.meaning_texts.specs.Classes.{IsName}
+use Rattle.meaning_texts.specs.Limits.{command_limit}
 use Rattle.meaning_texts.specs.Lists.{HasNo}
 use Rattle.meaning_commands.specs.declared.commands.Command.{Command}
 use Rattle.meaning_commands.specs.declared.commands.Command.TheVariants.{Put, Take, Remove, Ask, Plan, Sources, Kept, Quit, Nothing, Bad, BadName}
-
--- the most bytes of a line that is a command: longer ones are bad
-abbrev pub command_limit : ℕ
-command_limit = 1024
 
 -- What may stand in the place of a name: one byte or more, and no space.
 pub record IsArgument (word : List ℕ) : Type 0 where

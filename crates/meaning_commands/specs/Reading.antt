@@ -4,11 +4,11 @@ use Rattle.std.specs.List.{list_all}
 use Rattle.std.specs.Option.{option_map, option_and_then}
 use Rattle.std.specs.Fmt.{decimal}
 use Rattle.std.specs.Str.Parse.{digits_value}
+use Rattle.meaning_texts.specs.Limits.{command_limit}
 use Rattle.meaning_texts.specs.Lists.{is_empty}
 use Rattle.meaning_texts.specs.Tests.{is_name}
 use Rattle.meaning_commands.specs.declared.commands.Command.{Command}
 use Rattle.meaning_commands.specs.declared.commands.Command.TheVariants.{Put, Take, Remove, Ask, Plan, Sources, Kept, Quit, Nothing, Bad, BadName}
-use Rattle.meaning_commands.specs.Commands.{command_limit}
 
 -- the number below 2^64 whose digits these are
 abbrev pub number_of : List ℕ → Option ℕ

@@ -1,9 +1,8 @@
 // The replies to commands.
-use object_values::{Bytes, Message, Part, Seq, Status};
+use object_values::{Bytes, Message, Part, Seq, Status, Text};
 
 /// A reply: one variant a row of the table of replies in docs/SESSIONS.md. A list of texts holds the lines behind the first one, each without
 /// its LF; the number in the first line is their count.
-#[derive(Drop)]
 pub enum Reply {
     Put(Bytes, u64),
     Took(Bytes, u64),
@@ -35,11 +34,52 @@ pub enum Reply {
     },
 }
 
+// By hand: a drop is one call, where a derived one is opened field by field at each early return.
+impl Drop for Reply {
+    fn drop(self) {
+        match self {
+            Reply::Put(text, _) | Reply::Took(text, _) => drop(text),
+            Reply::NoFile(text) | Reply::Dropped(text) | Reply::NoSource(text) => drop(text),
+            Reply::Sources(lines) | Reply::Plan(lines) => drop(lines),
+            Reply::RefusedParam(text) | Reply::RefusedType(text) => drop(text),
+            Reply::RefusedCircular(lines) | Reply::RefusedDeep(lines) => drop(lines),
+            Reply::Shown {
+                status: _,
+                body,
+                messages,
+            } => {
+                drop(body);
+                drop(messages);
+            }
+            Reply::Kept(_)
+            | Reply::Bye
+            | Reply::RefusedCommand
+            | Reply::RefusedName
+            | Reply::RefusedSize
+            | Reply::RefusedRead
+            | Reply::RefusedExpression(_)
+            | Reply::RefusedPath(_)
+            | Reply::RefusedToolStart => {}
+        }
+    }
+}
+
 /// What is shown of an object: nothing exactly at `Abort`. A list is shown by the texts of its nodes.
-#[derive(Drop)]
 pub enum ShownBody {
     Nothing,
-    Simple(Bytes),
+    Simple(Text),
     List(Seq<Bytes>),
     Compound(Seq<Part>),
+}
+
+// By hand, as that of a reply.
+impl Drop for ShownBody {
+    fn drop(self) {
+        match self {
+            ShownBody::Nothing => {}
+            ShownBody::Simple(text) => drop(text),
+            ShownBody::List(lines) => drop(lines),
+            ShownBody::Compound(parts) => drop(parts),
+        }
+    }
 }

@@ -16,3 +16,4 @@ pub use Rattle.meaning_texts.proofs.Spellings.{spells, one_expression}
 pub use Rattle.meaning_texts.proofs.Canonical.{canonical}
 pub use Rattle.meaning_texts.proofs.Places.{no_expression, one_place}
 pub use Rattle.meaning_texts.proofs.Found.{found, fault_by}
+pub use Rattle.meaning_texts.proofs.Counts.{few_steps}

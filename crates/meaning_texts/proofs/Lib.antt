@@ -12,4 +12,5 @@ mod GoOn
 mod GoneOn
 mod Found
 mod References
+mod Counts
 pub mod Lemmas

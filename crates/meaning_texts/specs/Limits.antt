@@ -13,6 +13,10 @@ body_limit = 16777216
 abbrev pub expression_limit : ℕ
 expression_limit = 1000
 
+-- the most bytes of a line that is a command: longer ones are bad
+abbrev pub command_limit : ℕ
+command_limit = 1024
+
 -- the most bytes of a graph file
 abbrev pub graph_limit : ℕ
 graph_limit = 1048576

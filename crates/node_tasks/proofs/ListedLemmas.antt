@@ -1,19 +1,18 @@
 -- The names to which a tool is led are finitely many: only nodes with results have lines.
-use Rattle.std.proofs.Common.{◌≡◌, true, false, List, [], ◌∷◌, ◌++◌, flat_map, cond, bytes_eq, Some, inl, inr, refl, sym, ap, ◌∙◌, subst}
-use Rattle.std.specs.Prelude.{Option, None, option_map}
+use Rattle.std.proofs.Common.{◌≡◌, true, false, List, [], ◌∷◌, ◌++◌, flat_map, cond, bytes_eq, Some, inl, inr, refl, sym, ◌∙◌, subst}
+use Rattle.std.specs.Prelude.{None, option_map}
 use Rattle.object_values.specs.declared.nodes.Node.{Node}
 use Rattle.object_values.specs.declared.views.View.{View}
 use Rattle.meaning_graph.specs.Graphs.{Text}
 use Rattle.meaning_texts.specs.Lists.{IsIn}
 use Rattle.meaning_texts.proofs.Lemmas.{in_left, in_right, in_flat}
 use Rattle.meaning_nodes.specs.Nodes.{source_node}
-use Rattle.meaning_tasks.specs.Reached.{Reached, by_own, by_line}
+use Rattle.meaning_tasks.specs.Reached.{by_own, by_line}
 use Rattle.meaning_tasks.specs.Tasks.{ToolTask, tooled}
 use Rattle.meaning_tasks.specs.Needs.{Results, values_of, own_lines, other_lines}
 use Rattle.meaning_tasks.specs.Maps.{HasOnly}
 use Rattle.meaning_tasks.proofs.Lemmas.{IsValued, from_where}
-use Rattle.dynamic_inputs.specs.Closures.{ToldLines, Telling, lines_told, lines_of, IsReached, IsFound, IsWanted}
-use Rattle.dynamic_inputs.specs.Laws.{with_own, IsToldBy}
+use Rattle.dynamic_inputs.specs.Closures.{ToldLines, Telling, lines_told, IsReached, IsWanted}
 use Rattle.node_tasks.proofs.NameLemmas.{Tells}
 
 -- the lines of a name are some of those that were told

@@ -13,7 +13,7 @@ use Rattle.meaning_texts.specs.Lists.{IsIn}
 use Rattle.meaning_nodes.specs.Nodes.{source_node, base_of, onward_named}
 use Rattle.meaning_tasks.specs.Reached.{Reached, by_own, by_line, AreReached}
 use Rattle.meaning_tasks.specs.Tasks.{Task, given, picked, mapped, packed, tooled, unfit, ToolTask, pack_part, extra_led, scan_node, tool_task, task_of}
-use Rattle.meaning_tasks.specs.Needs.{Results, Known, values_of, has_value, where_valued, elements_of, with_elements, extra_needs, scan_needs, tool_needs, part_nodes, own_lines, other_lines, lines_by, counted_needs, reached_needs, ReachedNames, Needs}
+use Rattle.meaning_tasks.specs.Needs.{Results, Known, values_of, has_value, where_valued, elements_of, with_elements, extra_needs, scan_needs, part_nodes, own_lines, other_lines, lines_by, counted_needs, reached_needs, ReachedNames, Needs}
 use Rattle.meaning_tasks.proofs.Lemmas.{names_sorted, needs_split, tool_counted_are, tool_reached_are, picked_reached_are, packed_reached_are}
 use Rattle.node_tasks.specs.Tasks.{RunsNoTool}
 

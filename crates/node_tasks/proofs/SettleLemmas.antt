@@ -1,7 +1,7 @@
 -- What a node settles to, in whole.
 use Rattle.std.proofs.Common.{◌≡◌, ◌∙◌, ℕ, List, [], sym, ap, length, Result, Ok, Err}
 use Rattle.std.proofs.lemmas.List.{length-map}
-use Rattle.std.specs.Prelude.{Option, Some, None, IfOk}
+use Rattle.std.specs.Prelude.{Option, Some, IfOk}
 use Rattle.object_values.specs.declared.nodes.Node.{Node}
 use Rattle.object_values.specs.declared.graph.ToolDecl.{ToolDecl}
 use Rattle.object_values.specs.declared.graph.MakerDecl.{MakerDecl}

@@ -1,5 +1,5 @@
 -- The last step of a list and the steps before it, by places.
-use Rattle.std.proofs.Common.{◌≡◌, ◌-◌, ℕ, zero, suc, List, [], ◌∷◌, sym, ap, ◌∙◌, refl, length, take, slice_get, arith}
+use Rattle.std.proofs.Common.{◌≡◌, ◌-◌, suc, List, [], ◌∷◌, sym, ap, ◌∙◌, refl, length, take, slice_get, arith}
 use Rattle.object_values.specs.declared.nodes.Step.{Step}
 use Rattle.meaning_nodes.specs.Nodes.{before_last, last_step}
 

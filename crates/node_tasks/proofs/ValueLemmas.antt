@@ -1,5 +1,5 @@
 -- What is known of a node that has no value gives nothing.
-use Rattle.std.proofs.Common.{◌≡◌, ℕ, false, List, [], refl}
+use Rattle.std.proofs.Common.{◌≡◌, ℕ, false, [], refl}
 use Rattle.std.specs.Prelude.{Option, Some, None}
 use Rattle.object_values.specs.declared.nodes.Node.{Node}
 use Rattle.object_values.specs.declared.views.Value.{Value}

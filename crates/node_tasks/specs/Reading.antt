@@ -1,20 +1,16 @@
--- The lines of a reference list, one after another, and the parameters of a line.
-use Rattle.std.specs.Prelude.{⊤, ◌^◌, ◌<◌, ℕ, List, [], ◌++◌, length, All, codes}
-use Rattle.object_values.specs.declared.nodes.ParamValue.{ParamValue}
+-- The lines of a reference list, one after another.
+use Rattle.std.specs.Prelude.{⊤, ◌^◌, ◌<◌, ℕ, [], length, All, codes}
 use Rattle.object_values.specs.declared.nodes.Node.{Node}
 use Rattle.object_values.specs.declared.expressions.Line.{Line}
 use Rattle.object_values.specs.declared.expressions.Line.TheVariants.{Good, Bad}
 use Rattle.object_values.specs.declared.expressions.Lines.{Lines}
 use Rattle.object_values.specs.declared.expressions.Lines.TheVariants.{These, TooMany}
-use Rattle.meaning_texts.specs.Expressions.{AreKeptAs}
 use Rattle.meaning_graph.specs.Graphs.{Text, Graph}
 use Rattle.meaning_nodes.specs.Labels.{label_of, abort_message, at_line}
 use Rattle.meaning_nodes.specs.NodeOf.{NodeAnswer}
 use Rattle.meaning_tasks.specs.Tasks.{Led, unless_node, answer_node, answer_fault}
 use Rattle.odin_nodes.specs.declared.fault.NodeFault.{NodeFault}
 use Rattle.odin_nodes.specs.declared.fault.NodeFault.TheVariants.{UnknownParam, UnknownType, NoPath, Memory}
-
--- ---- lines
 
 -- where the line of this number leads, by the answer to its expression
 abbrev pub answer_led : Graph → Node → Text → ℕ → NodeAnswer → Led
@@ -40,10 +36,3 @@ HasFewSteps (Bad number) = ⊤
 abbrev pub AreOfFewSteps : Lines → Type 0
 AreOfFewSteps (These lines) = All HasFewSteps lines
 AreOfFewSteps TooMany = ⊤
-
--- ---- parameters
-
--- The parameters are kept behind those that are.
-abbrev pub KeepsAll : List ParamValue → List ParamValue → List ParamValue → Type 0
-KeepsAll ps old new =
-    (written : List ParamValue) → AreKeptAs written old → AreKeptAs (written ++ ps) new

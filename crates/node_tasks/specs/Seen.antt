@@ -1,5 +1,5 @@
 -- What is asked of the results so far, and of the outcome, before a node is settled.
-use Rattle.std.specs.Prelude.{◌≡◌, ⊤, List, Option, Some, None, IsSome}
+use Rattle.std.specs.Prelude.{⊤, List, Option, Some, None, IsSome}
 use Rattle.object_values.specs.declared.nodes.Node.{Node}
 use Rattle.object_values.specs.declared.calls.Call.{Call}
 use Rattle.object_values.specs.declared.calls.Outcome.{Outcome}

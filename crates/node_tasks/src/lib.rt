@@ -13,7 +13,6 @@ mod outcome;
 mod outs;
 mod own;
 mod pack;
-mod params;
 mod parts;
 mod picking;
 mod reading;

@@ -65,7 +65,7 @@ fn names_of_tool<R: Results>(
     let Some(root) = read_name(alloc, node.source.as_slice())? else {
         unreachable!();
     };
-    let mut closure = Closure::new(alloc, root)?;
+    let mut closure = Closure::new(alloc, root);
     'told: while let Some(name) = closure.wanted() {
         let lines = told_lines(alloc, graph, plans, node, tool, name.as_slice(), seen)?;
         closure.add(alloc, lines.as_slice())?;

@@ -3,7 +3,9 @@ ghost use Rattle.std.specs.Prelude.{◌≡◌, [], map, IfOk};
 ghost use Rattle.meaning_tasks.specs.Settle.{labelled, made_value, outcome_own};
 
 use crate::own::Own;
-use object_values::{Bytes, Copied, Memory, Message, Outcome, OwnLine, Part, Seq, Status, Value};
+use object_values::{
+    Bytes, Copied, Memory, Message, Outcome, OwnLine, Part, Seq, Status, Text, Value,
+};
 use std::alloc::Global;
 
 /// What the tool gave: its messages under the label, and the value that its outputs make unless
@@ -48,6 +50,6 @@ fn made_value(alloc: Global, makes_compound: bool, outputs: &Seq<Part>) -> Resul
     }
     match outputs.as_slice().first() {
         Some(output) => Ok(Value::Simple(output.body.copy(alloc)?)),
-        None => Ok(Value::Simple(Seq::new(alloc))),
+        None => Ok(Value::Simple(Text::of(Seq::new(alloc))?)),
     }
 }

@@ -10,12 +10,11 @@ ghost use Rattle.node_tasks.specs.Reading.{answer_led, fault_text, AreOfFewSteps
 use crate::gathering::put_led;
 use crate::led::Led;
 use crate::own::{Own, abort_message};
-use crate::params::merge_params;
 use object_values::{Bytes, Expression, Line, Lines, Memory, Node, Seq, Value};
 use odin_bytes::write_number;
 use odin_nodes::{NodeFault, node_of, onward};
 use path_planner::Plans;
-use request_parser::read_lines;
+use request_parser::{merge_params, read_lines};
 use std::alloc::Global;
 use type_graph::Graph;
 

@@ -6,16 +6,15 @@ ghost use Rattle.std.specs.Cmp.Lexicographic.{slice_cmp};
 ghost use Rattle.object_sources.specs.Texts.{no_texts, entry_at};
 ghost use Rattle.object_sources.specs.Places.{IsAt, IsGap};
 
-use sequences::{Bytes, Copied, Memory};
+use object_values::{Bytes, Copied, Memory, Text};
 use std::alloc::Global;
 use std::cmp::Ordering;
 use std::marker::Model;
 use std::mem;
 
 /// A finite map from names to texts. Contracts see the texts, and the room reserved for more.
-
 pub struct Sources {
-    pairs: Vec<(Bytes, Bytes)>,
+    pairs: Vec<(Bytes, Text)>,
 }
 
 impl Drop for Sources {
@@ -56,7 +55,7 @@ impl Sources {
         self.pairs.len()
     }
 
-    pub fn get(&self, name: &[u8]) -> Option<&Bytes>
+    pub fn get(&self, name: &[u8]) -> Option<&Text>
         ensures { option_map (λ text. text.now) result ≡ map.get self.now.texts name.now }
     {
         match place_of(&self.pairs, name) {
@@ -66,7 +65,7 @@ impl Sources {
     }
 
     /// The name and the text at a place, from 0, in the order of the names.
-    pub fn at(&self, place: usize) -> Option<(&Bytes, &Bytes)>
+    pub fn at(&self, place: usize) -> Option<(&Bytes, &Text)>
         ensures { option_map (λ p. (p.0.now, p.1.now)) result ≡ entry_at self.now.texts place }
     {
         let (name, text) = self.pairs.get(place)?;
@@ -82,8 +81,8 @@ impl Sources {
         Ok(())
     }
 
-    /// Gives the name a text, and the text that it had before.
-    pub fn put(&mut self, name: Bytes, text: Bytes) -> Option<Bytes>
+    /// Gives the name a text, and the text that it had before. It takes no memory: the text is made, and the room reserved.
+    pub fn put(&mut self, name: Bytes, text: Text) -> Option<Text>
         requires { (1 ≤ self.old.spare) ⊎ IsSome (map.get self.old.texts name) }
         ensures before { result ≡ map.get self.old.texts name }
         ensures put { self.new.texts ≡ map.insert self.old.texts name text }
@@ -98,7 +97,7 @@ impl Sources {
     }
 
     /// Takes the name out, and gives the text that it had.
-    pub fn remove(&mut self, name: &[u8]) -> Option<Bytes>
+    pub fn remove(&mut self, name: &[u8]) -> Option<Text>
         ensures before { result ≡ map.get self.old.texts name.now }
         ensures removed { self.new.texts ≡ map.remove self.old.texts name.now }
     {
@@ -108,7 +107,7 @@ impl Sources {
         }
     }
 
-    /// The same texts, with no room for more.
+    /// The same texts, which are shared, with no room for more.
     pub fn copy(&self, alloc: Global) -> Result<Self, Memory>
         ensures { IfOk result (λ copy. copy.texts ≡ self.now.texts) }
     {
@@ -122,7 +121,7 @@ impl Sources {
 }
 
 // Where the name is, or where it would go.
-fn place_of(pairs: &[(Bytes, Bytes)], name: &[u8]) -> Result<usize, usize>
+fn place_of(pairs: &[(Bytes, Text)], name: &[u8]) -> Result<usize, usize>
     requires { T (map.is_sorted (slice_cmp nat_cmp) pairs.now) }
     ensures found { IfOk result (IsAt pairs.now name.now) }
     ensures gap { IfErr result (IsGap pairs.now name.now) }

@@ -1,7 +1,6 @@
 -- That `==` of the plain types answers whether two values are equal.
-use Rattle.std.specs.Prelude.{◌≡◌, Bool, Option, Some, None, true, false, ◌&&◌}
+use Rattle.std.specs.Prelude.{◌≡◌, Bool, true, false, ◌&&◌}
 use Rattle.std.specs.Bool.{Decides}
-use Rattle.std.specs.Option.{option_eq}
 use Rattle.std.proofs.Common.{rules, refl}
 use Rattle.std.proofs.lemmas.Bool.Decides.{Decides-eqb}
 use Rattle.std.specs.Cmp.Lexicographic.{bytes_decides, pointwise_decides}
@@ -17,7 +16,6 @@ use Rattle.object_values.specs.declared.nodes.Step.TheVariants as step
 use Rattle.object_values.specs.contracts.nodes.StepPartialEq.TheImpl.{ghosts as step_eq}
 use Rattle.object_values.specs.declared.nodes.Node.{Node}
 use Rattle.object_values.specs.contracts.nodes.NodePartialEq.TheImpl.{ghosts as node_eq}
-use Rattle.object_values.specs.declared.views.Value.TheVariants as value
 use Rattle.object_values.specs.declared.calls.CallPart.{CallPart}
 use Rattle.object_values.specs.contracts.calls.CallPartPartialEq.TheImpl.{ghosts as call_part_eq}
 use Rattle.object_values.specs.declared.calls.Call.{Call}

@@ -1,6 +1,7 @@
 // Calls of tools, and their outcomes.
 use crate::messages::Status;
 use crate::nodes::ParamValue;
+use crate::text::Text;
 use crate::views::Part;
 use sequences::{Bytes, Copied, Memory, Seq};
 use std::alloc::Global;
@@ -10,7 +11,7 @@ use std::alloc::Global;
 pub struct CallPart {
     pub slot: u32,
     pub label: Bytes,
-    pub body: Option<Bytes>,
+    pub body: Option<Text>,
 }
 
 /// A call: the tool, the used parameters, the inputs and the names of the outputs.

@@ -3,7 +3,14 @@ use crate::calls::{Call, CallPart};
 use crate::jobs::{FileBody, Job};
 use crate::messages::{Message, Status};
 use crate::nodes::{Node, ParamValue, Step};
+use crate::text::Text;
 use sequences::Exact;
+
+impl Exact for Text {
+    ghost use Rattle.std.specs.Cmp.Lexicographic.{bytes_decides};
+
+    ghost exact = { bytes_decides };
+}
 
 impl Exact for Status {
     ghost use Rattle.object_values.specs.Exact.{status_exact};

@@ -1,4 +1,5 @@
 // Jobs for child programs, and what they leave.
+use crate::text::Text;
 use sequences::{Bytes, Copied, Memory, Seq};
 use std::alloc::Global;
 
@@ -13,7 +14,7 @@ pub enum End {
 #[derive(PartialEq, Eq, Drop)]
 pub struct FileBody {
     pub name: Bytes,
-    pub body: Bytes,
+    pub body: Text,
 }
 
 /// The words that start a child program, the files that it finds, and the names of the files that are read when it ended.

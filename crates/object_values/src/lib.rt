@@ -9,6 +9,7 @@ pub mod jobs;
 mod limits;
 pub mod messages;
 pub mod nodes;
+mod text;
 pub mod views;
 
 pub use calls::{Call, CallPart, Outcome, OwnLine};
@@ -18,10 +19,12 @@ pub use graph::{
 };
 pub use jobs::{End, FileBody, Job, Raw};
 pub use limits::{
-    BODY_LIMIT, DECLARATION_LIMIT, GRAPH_LIMIT, HEIGHT_LIMIT, INPUT_LIMIT, MESSAGE_LENGTH,
-    MESSAGE_LIMIT, STORE_LIMIT, WORD_LIMIT,
+    BODY_LIMIT, COMMAND_LIMIT, DECLARATION_LIMIT, ELEMENT_BOUND, EXPRESSION_LIMIT, GRAPH_LIMIT,
+    HEIGHT_LIMIT, INPUT_LIMIT, MESSAGE_LENGTH, MESSAGE_LIMIT, REFERENCE_LIMIT, STORE_LIMIT,
+    WORD_LIMIT,
 };
 pub use messages::{Message, Status};
 pub use nodes::{Node, ParamValue, Step};
 pub use sequences::{Bytes, Copied, Exact, Memory, Seq, copy_five, copy_two, same, when_done};
+pub use text::Text;
 pub use views::{Part, Value, View};

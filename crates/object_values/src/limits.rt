@@ -6,11 +6,23 @@ pub const WORD_LIMIT: usize = 255;
 /// The most bytes of a source text, of an output and of a body.
 pub const BODY_LIMIT: usize = 16_777_216;
 
+/// The most bytes of an expression.
+pub const EXPRESSION_LIMIT: usize = 1_000;
+
+/// The most bytes of a line that is a command.
+pub const COMMAND_LIMIT: usize = 1_024;
+
 /// The most bytes of a graph file.
 pub const GRAPH_LIMIT: usize = 1_048_576;
 
 /// The most declarations of a graph file.
 pub const DECLARATION_LIMIT: u32 = 2_000;
+
+/// The number of an element is below this.
+pub const ELEMENT_BOUND: u64 = 4_294_967_296;
+
+/// The most lines of a reference list that aren't passed over.
+pub const REFERENCE_LIMIT: usize = 10_000;
 
 /// The most messages of an object, and the most lines of `warnings` that count.
 pub const MESSAGE_LIMIT: usize = 1_000;

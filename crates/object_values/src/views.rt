@@ -1,6 +1,7 @@
 // Objects: their values, and what is seen of them.
 use crate::messages::{Message, Status};
 use crate::nodes::Node;
+use crate::text::Text;
 use sequences::{Bytes, Copied, Memory, Seq};
 use std::alloc::Global;
 
@@ -8,13 +9,13 @@ use std::alloc::Global;
 #[derive(PartialEq, Eq, Drop)]
 pub struct Part {
     pub name: Bytes,
-    pub body: Bytes,
+    pub body: Text,
 }
 
 /// What an object is: bytes, references to nodes in order, or named parts in order.
 #[derive(PartialEq, Eq, Drop)]
 pub enum Value {
-    Simple(Bytes),
+    Simple(Text),
     List(Seq<Node>),
     Compound(Seq<Part>),
 }
@@ -39,7 +40,7 @@ impl Copied for Part {
 impl Copied for Value {
     fn copy(&self, alloc: Global) -> Result<Self, Memory> {
         match self {
-            Value::Simple(bytes) => Ok(Value::Simple(bytes.copy(alloc)?)),
+            Value::Simple(text) => Ok(Value::Simple(text.copy(alloc)?)),
             Value::List(items) => Ok(Value::List(items.copy(alloc)?)),
             Value::Compound(items) => Ok(Value::Compound(items.copy(alloc)?)),
         }

@@ -12,7 +12,7 @@ mod serving;
 mod tests;
 
 use faults::{MEMORY, fault_of};
-use object_values::{Bytes, FileBody, Memory, Seq};
+use object_values::{Bytes, FileBody, Memory, Seq, Text};
 use odin_fakes::{MemDisk, MemTree, TableTools};
 use odin_real::{InputSource, OutputSink};
 use odin_shell::run;
@@ -25,13 +25,18 @@ use std::{env, io};
 const GRAPH: &[u8] =
     b"type c simple;\ntype o simple;\nsuffix .c c;\ntool cc 1 from c to o run \"cc\";\n";
 
+/// A file with this name and these bytes.
+fn file_of(alloc: Global, name: &[u8], body: &[u8]) -> Result<FileBody, Memory> {
+    Ok(FileBody {
+        name: Bytes::from_slice(alloc, name)?,
+        body: Text::of(Bytes::from_slice(alloc, body)?)?,
+    })
+}
+
 /// A tree that holds one file, this graph.
 fn tree_of(alloc: Global, graph: &[u8]) -> Result<MemTree, Memory> {
     let mut files = Seq::new(alloc);
-    files.push(FileBody {
-        name: Bytes::from_slice(alloc, b"g0")?,
-        body: Bytes::from_slice(alloc, graph)?,
-    })?;
+    files.push(file_of(alloc, b"g0", graph)?)?;
     Ok(MemTree::new(files))
 }
 

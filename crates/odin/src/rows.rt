@@ -1,10 +1,10 @@
 // The worked rows of graphs and tools, over objects in memory.
-ghost use Rattle.std.specs.Prelude.{◌≡◌, []};
+ghost use Rattle.std.specs.Prelude.{◌≡◌, ◌<◌, []};
 
 use super::runs::{only, outcome_over, sink, source, status_with, with_taken};
-use super::{GRAPH, tree_of};
-use object_values::{Memory, Seq};
-use odin_fakes::{FailSink, FailTools, FailTree, TableTools};
+use super::{GRAPH, file_of, tree_of};
+use object_values::{FileBody, Memory, Seq};
+use odin_fakes::{FailSink, FailTools, FailTree, MemTree, TableTools};
 use odin_outside::Spawner;
 use std::alloc::Global;
 use std::test::Fail;
@@ -108,10 +108,10 @@ const ROWS: [Row; 16] = [
     ),
     (
         WITH_DEBUG,
-        b"put a.c 4\nx=1\nask a.c:o\n",
+        b"put a.c 4\nx=1\nask a.c:o\nask a.c +debug:o\n",
         0,
-        b"put a.c 4\nobject ok simple 4\nx=1\n\nmessages 0\n",
-        2,
+        b"put a.c 4\nobject ok simple 4\nx=1\n\nmessages 0\nobject ok simple 10\ndebug\nx=1\n\nmessages 0\n",
+        4,
     ),
 ];
 
@@ -121,51 +121,103 @@ fn outcome_in<S: Spawner>(
     graph: &[u8],
     tools: &mut S,
     text: &[u8],
+    piece: usize,
 ) -> Result<(u8, Vec<u8>), Memory>
-    requires { (S.told tools.old).running ≡ [] }
+    requires piece { 0 < piece }
+    requires idle { (S.told tools.old).running ≡ [] }
 {
     let mut tree = tree_of(alloc, graph)?;
-    outcome_over(alloc, &mut tree, tools, text)
+    outcome_over(alloc, &mut tree, tools, text, piece)
 }
 
 // The same over the toy tools, and how many starts and ends there were.
-fn outcome(alloc: Global, graph: &[u8], text: &[u8]) -> Result<(u8, Vec<u8>, usize), Memory> {
+fn outcome(
+    alloc: Global,
+    graph: &[u8],
+    text: &[u8],
+    piece: usize,
+) -> Result<(u8, Vec<u8>, usize), Memory>
+    requires { 0 < piece }
+{
     let mut tools = TableTools::toy(alloc, Seq::new(alloc));
-    let (status, output) = outcome_in(alloc, graph, &mut tools, text)?;
+    let (status, output) = outcome_in(alloc, graph, &mut tools, text, piece)?;
     Ok((status, output, tools.log().len()))
 }
 
 #[test]
 fn answers_the_worked_rows(rt: HostRuntime) -> Result<(), Fail> {
     for (graph, input, end, want, events) in &ROWS {
-        let (status, output, counted) = outcome(rt.alloc(), graph, input)?;
-        assert_eq!(rt; status, *end);
-        assert!(rt; output.as_slice() == *want);
-        assert_eq!(rt; counted, *events);
+        for piece in [1, 2, 7, 5000] {
+            let (status, output, counted) = outcome(rt.alloc(), graph, input, piece)?;
+            assert_eq!(rt; status, *end);
+            assert!(rt; output.as_slice() == *want);
+            assert_eq!(rt; counted, *events);
+        }
     }
     Ok(())
 }
 
-// The status and the output of two takes of the graph's own file, where this call of the tree fails.
-fn failing_tree(alloc: Global, number: u32) -> Result<(u8, Vec<u8>), Memory> {
+// Names of files with their bytes: the graph, a source, and one in a folder.
+const FILES: [(&[u8], &[u8]); 3] = [(b"g0", GRAPH), (b"t.c", b"x=1\n"), (b"lib/b.c", b"")];
+
+// Adds the files of the table to a list.
+fn put_files(alloc: Global, files: &mut Seq<FileBody>) -> Result<(), Memory> {
+    for (name, body) in FILES {
+        files.push(file_of(alloc, name, body)?)?;
+    }
+    Ok(())
+}
+
+// A tree of the files whose read of this number fails.
+fn failing_tree(alloc: Global, number: u32) -> Result<FailTree, Memory> {
     let fails = only(alloc, number)?;
-    let mut tree = FailTree::new(tree_of(alloc, GRAPH)?, fails);
+    let mut files = Seq::new(alloc);
+    put_files(alloc, &mut files)?;
+    Ok(FailTree::new(MemTree::new(files), fails))
+}
+
+const EDITS: &[u8] = b"put a.c 4\nx=1\ndrop a.c\ndrop a.c\ntake t.c\ntake z.c\ntake lib\nsources\n";
+
+// The status and the output of edits, where this read of the tree fails.
+fn taken(alloc: Global, number: u32, piece: usize) -> Result<(u8, Vec<u8>), Memory>
+    requires { 0 < piece }
+{
+    let mut tree = failing_tree(alloc, number)?;
     let mut tools = TableTools::toy(alloc, Seq::new(alloc));
-    outcome_over(alloc, &mut tree, &mut tools, b"take g0\ntake g0\n")
+    outcome_over(alloc, &mut tree, &mut tools, EDITS, piece)
 }
 
 #[test]
 fn ends_or_refuses_where_the_tree_fails(rt: HostRuntime) -> Result<(), Fail> {
-    let rows: [(u32, u8, &[u8]); 4] = [
+    let rows: [(u32, u8, &[u8]); 5] = [
         (1, 6, b""),
-        (2, 0, b"refused read\ntook g0 75\n"),
-        (3, 0, b"took g0 75\nrefused read\n"),
-        (4, 0, b"took g0 75\ntook g0 75\n"),
+        (
+            2,
+            0,
+            b"put a.c 4\ndropped a.c\nno source a.c\nrefused read\nno file z.c\nno file lib\nsources 0\n",
+        ),
+        (
+            3,
+            0,
+            b"put a.c 4\ndropped a.c\nno source a.c\ntook t.c 4\nrefused read\nno file lib\nsources 1\nt.c 4\n",
+        ),
+        (
+            4,
+            0,
+            b"put a.c 4\ndropped a.c\nno source a.c\ntook t.c 4\nno file z.c\nrefused read\nsources 1\nt.c 4\n",
+        ),
+        (
+            5,
+            0,
+            b"put a.c 4\ndropped a.c\nno source a.c\ntook t.c 4\nno file z.c\nno file lib\nsources 1\nt.c 4\n",
+        ),
     ];
     for (number, end, want) in rows {
-        let (status, output) = failing_tree(rt.alloc(), number)?;
-        assert_eq!(rt; status, end);
-        assert!(rt; output.as_slice() == want);
+        for piece in [1, 2, 7, 5000] {
+            let (status, output) = taken(rt.alloc(), number, piece)?;
+            assert_eq!(rt; status, end);
+            assert!(rt; output.as_slice() == want);
+        }
     }
     Ok(())
 }
@@ -173,7 +225,7 @@ fn ends_or_refuses_where_the_tree_fails(rt: HostRuntime) -> Result<(), Fail> {
 // The status and the output over a text of so many blanks in place of a graph.
 fn blank_outcome(alloc: Global, count: usize) -> Result<(u8, Vec<u8>), Memory> {
     let text = vec![in alloc; b' '; count]?;
-    let (status, output, _) = outcome(alloc, text.as_slice(), b"ask a\n")?;
+    let (status, output, _) = outcome(alloc, text.as_slice(), b"ask a\n", 7)?;
     Ok((status, output))
 }
 
@@ -228,7 +280,7 @@ fn failing_tools(alloc: Global, number: u32) -> Result<(u8, Vec<u8>, usize), Mem
     let fails = only(alloc, number)?;
     let mut tools = FailTools::new(TableTools::toy(alloc, Seq::new(alloc)), fails);
     let text = b"put a.c 4\nx=1\nask a.c:o\nask a.c:o\nask a.c:o\n";
-    let (status, output) = outcome_in(alloc, GRAPH, &mut tools, text)?;
+    let (status, output) = outcome_in(alloc, GRAPH, &mut tools, text, 7)?;
     Ok((status, output, tools.inner().log().len()))
 }
 
@@ -301,7 +353,7 @@ fn sixty_four(alloc: Global) -> Result<(u8, Vec<u8>, usize), Memory> {
     let mut graph = Vec::new(alloc);
     put_types(&mut graph)?;
     let text = b"put a.x 2\n1\nask a.x:x63\nask a.x:x64\n";
-    outcome(alloc, graph.as_slice(), text)
+    outcome(alloc, graph.as_slice(), text, 5000)
 }
 
 #[test]

@@ -83,18 +83,20 @@ pub fn status_with<I: Source, O: Sink>(
     status_of(alloc, owned.as_slice(), input, output)
 }
 
-/// The status and the output of a run over this tree and these tools.
+/// The status and the output of a run over this tree and these tools, read and written in such pieces.
 pub fn outcome_over<T: Tree, S: Spawner>(
     alloc: Global,
     tree: &mut T,
     tools: &mut S,
     text: &[u8],
+    piece: usize,
 ) -> Result<(u8, Vec<u8>), Memory>
-    requires { (S.told tools.old).running ≡ [] }
+    requires piece { 0 < piece }
+    requires idle { (S.told tools.old).running ≡ [] }
 {
     let words = owned(alloc, &["odin", "g0"])?;
-    let mut input = source(alloc, text, 100)?;
-    let mut output = sink(alloc, 20_000, 100)?;
+    let mut input = source(alloc, text, piece)?;
+    let mut output = sink(alloc, 20_000, piece)?;
     let status = status_over(
         alloc,
         words.as_slice(),

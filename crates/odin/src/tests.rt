@@ -21,7 +21,7 @@ fn outcome(alloc: Global, text: &[u8], piece: usize) -> Result<(u8, Vec<u8>), Me
 }
 
 // An input, the status, and the output.
-const ROWS: [(&[u8], u8, &[u8]); 23] = [
+const ROWS: [(&[u8], u8, &[u8]); 24] = [
     (b"", 0, b""),
     (
         b"put a.c 0\nask a.c\n",
@@ -93,6 +93,11 @@ const ROWS: [(&[u8], u8, &[u8]); 23] = [
         b"refused command\nbye\n",
     ),
     (b"quit\nask a.c\nquit\n", 0, b"bye\n"),
+    (
+        b"put a.c 4\nx=1\nask a.c:\nask a.c:zz\nask a.c%1:zz\nask a.c+opt:o\nfrob\nput a?c 2\nhiask a.c:o%1\n",
+        0,
+        b"put a.c 4\nrefused expression 5\nrefused type zz\nrefused path 1\nrefused param opt\nrefused command\nrefused name\nrefused path 2\n",
+    ),
 ];
 
 // The replies to `take` of the graph's own file, of one that is not there, and of words that are no names.
@@ -119,20 +124,33 @@ fn put_padded(text: &mut Vec<u8>, front: &[u8], count: usize) -> Result<(), Memo
     Ok(())
 }
 
-// The status and the output where so many letters stand behind a text.
-fn padded_outcome(alloc: Global, front: &[u8], count: usize) -> Result<(u8, Vec<u8>), Memory> {
+// The status and the output where so many letters stand behind a text, and this behind them.
+fn padded_outcome(
+    alloc: Global,
+    front: &[u8],
+    count: usize,
+    behind: &[u8],
+    piece: usize,
+) -> Result<(u8, Vec<u8>), Memory>
+    requires { 0 < piece }
+{
     let mut text = Vec::new(alloc);
     put_padded(&mut text, front, count)?;
-    outcome(alloc, text.as_slice(), 5000)
+    text.extend_from_slice(behind)?;
+    outcome(alloc, text.as_slice(), piece)
 }
 
 // What stands in front of so many letters, and the start of the output.
-const LENGTHS: [(&[u8], usize, &[u8]); 7] = [
+const LENGTHS: [(&[u8], usize, &[u8]); 11] = [
     (b"ask ", 255, b"object abort none 0\nmessages 1\nabort aaa"),
     (b"ask ", 256, b"refused expression 256\n"),
+    (b"ask a+b=", 996, b"refused param b\n"),
+    (b"ask a+b=", 997, b"refused expression 1001\n"),
     (b"ask ", 1020, b"refused expression 256\n"),
     (b"ask ", 1021, b"refused command\n"),
     (b"ask ", 5000, b"refused command\n"),
+    (b"drop ", 255, b"no source aaa"),
+    (b"drop ", 256, b"refused name\n"),
     (
         b"put a.c 0\nask a.c\nask ",
         70_000,
@@ -143,20 +161,17 @@ const LENGTHS: [(&[u8], usize, &[u8]); 7] = [
 
 #[test]
 fn holds_the_limits_of_lines(rt: HostRuntime) -> Result<(), Fail> {
+    let ends: [&[u8]; 3] = [b"", b"\n", b"\r\n"];
     for (front, count, want) in &LENGTHS {
-        let (status, output) = padded_outcome(rt.alloc(), front, *count)?;
-        assert_eq!(rt; status, 0);
-        assert!(rt; output.as_slice().starts_with(want));
+        for behind in ends {
+            for piece in [1, 2, 7, 5000] {
+                let (status, output) = padded_outcome(rt.alloc(), front, *count, behind, piece)?;
+                assert_eq!(rt; status, 0);
+                assert!(rt; output.as_slice().starts_with(want));
+            }
+        }
     }
     Ok(())
-}
-
-// The status and the output where so many bytes are put, and the sources are listed behind them.
-fn put_outcome(alloc: Global, front: &[u8], count: usize) -> Result<(u8, Vec<u8>), Memory> {
-    let mut text = Vec::new(alloc);
-    put_padded(&mut text, front, count)?;
-    text.extend_from_slice(b"sources\n")?;
-    outcome(alloc, text.as_slice(), 5000)
 }
 
 #[test]
@@ -168,9 +183,11 @@ fn passes_over_a_text_that_is_too_long(rt: HostRuntime) -> Result<(), Fail> {
         (b"put x 16777217\n", 16_777_217, longer),
     ];
     for (front, count, want) in rows {
-        let (status, output) = put_outcome(rt.alloc(), front, count)?;
-        assert_eq!(rt; status, 0);
-        assert!(rt; output.as_slice() == want);
+        for piece in [7, 5000] {
+            let (status, output) = padded_outcome(rt.alloc(), front, count, b"sources\n", piece)?;
+            assert_eq!(rt; status, 0);
+            assert!(rt; output.as_slice() == want);
+        }
     }
     Ok(())
 }

@@ -6,8 +6,7 @@ use Rattle.odin_outside.specs.Spawned.{Spawned}
 use Rattle.meaning_graph.specs.Graphs.{Text, Graph}
 use Rattle.meaning_derive.specs.Derive.{Sources, Outcomes}
 use Rattle.meaning_commands.specs.declared.replies.Reply.{Reply}
-use Rattle.meaning_answers.specs.Replies.{plan_of}
-use Rattle.meaning_answers.specs.Answers.{Refused, Asks, Answer, Plan}
+use Rattle.meaning_answers.specs.Answers.{Refused, Asks, Answer}
 use Rattle.plain_derive.specs.declared.found.Found.{Found}
 use Rattle.plain_derive.specs.declared.found.Found.TheVariants as found
 use Rattle.plain_derive.specs.declared.fault.PlainFault.{PlainFault}
@@ -59,8 +58,3 @@ refused g s text reply told is =
 pub on_err : {T E P : Type 0} (result : Result T E) → P → OnErr result P
 on_err (Ok x) p = tt
 on_err (Err e) p = p
-
--- ---- plans
-
-pub planned : (g : Graph) (text : Text) (n : Node) (reply : Reply) → Asks g text n → reply ≡ plan_of g n → Plan g text reply
-planned g text n reply asks is = subst (Plan g text) (sym is) (Plan.steps text n asks)

@@ -3,7 +3,7 @@ use Rattle.std.proofs.Common.{◌≡◌, ◌<◌, ◌≤◌, ◌^◌, length, sy
 use Rattle.object_values.specs.declared.nodes.Node.{Node}
 use Rattle.object_values.specs.declared.expressions.Expression.{Expression}
 use Rattle.meaning_texts.specs.Expressions.{ExpressionText, IsCanonical}
-use Rattle.meaning_texts.proofs.Lemmas.{canonical}
+use Rattle.meaning_texts.proofs.Lemmas.{canonical, few_steps}
 use Rattle.meaning_graph.specs.Graphs.{Text, Graph}
 use Rattle.meaning_nodes.specs.Nodes.{Fits}
 use Rattle.meaning_nodes.specs.NodeOf.{is_node, node_of}
@@ -15,7 +15,6 @@ use Rattle.request_parser.specs.Refused.{IsRefusal}
 use Rattle.odin_nodes.specs.declared.fault.NodeFault.{NodeFault}
 use Rattle.odin_nodes.specs.declared.fault.NodeFault.TheVariants as none
 use Rattle.odin_nodes.specs.Refusals.{IsNodeRefusal}
-use Rattle.odin_answers.proofs.Counts.{few_steps}
 use Rattle.odin_answers.specs.Asked.{IsAsked, RefusesText, RefusesNode}
 use Rattle.odin_answers.specs.declared.asked.Asked.{Asked}
 use Rattle.odin_answers.specs.declared.asked.Asked.TheVariants as asked

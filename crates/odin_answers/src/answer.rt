@@ -1,14 +1,15 @@
 // The replies to texts.
 ghost use Rattle.std.specs.Prelude.{◌≡◌, ◌≤◌, [], length, IfOk, OnOk, OnErr};
 ghost use Rattle.meaning_graph.specs.Graphs.{Text};
-ghost use Rattle.meaning_answers.specs.Answers.{Asks, Plan};
+ghost use Rattle.meaning_answers.specs.Answers.{Asks};
 ghost use Rattle.meaning_nodes.specs.Nodes.{Fits};
 ghost use Rattle.plain_derive.specs.Built.{IsBuiltGraph};
 ghost use Rattle.odin_answers.specs.Answers.{AreFew, IsReply, MayHaveBegun, RefusesStart};
+ghost use Rattle.odin_answers.specs.Planned.{IsPlanned};
 ghost use Rattle.path_planner.specs.Ends.{plans_of};
 
 use crate::asked::{Asked, read_asked};
-use crate::plan::plan_of;
+use crate::plan::{Planned, plan_text};
 use crate::shown::found_reply;
 use meaning_commands::Reply;
 use object_sources::Sources;
@@ -89,12 +90,12 @@ pub fn answer_plan(
     graph: &Graph,
     plans: &Plans,
     text: &[u8],
-) -> Result<Reply, Memory>
+) -> Result<Planned, Memory>
     requires made { plans.now ≡ plans_of graph.now }
-    ensures { IfOk result (Plan graph.now text.now) }
+    ensures { IfOk result (IsPlanned graph.now text.now) }
 {
     match read_asked(alloc, graph, plans, text)? {
-        Asked::Node(node) => plan_of(alloc, graph, &node),
-        Asked::Refused(reply) => Ok(reply),
+        Asked::Node(node) => Ok(Planned::Steps(plan_text(alloc, graph, &node)?)),
+        Asked::Refused(reply) => Ok(Planned::Refused(reply)),
     }
 }

@@ -7,7 +7,7 @@ ghost use Rattle.path_planner.specs.Ends.{plans_of};
 
 use meaning_commands::Reply;
 use object_values::{Expression, Memory, Node};
-use odin_nodes::{NodeFault, node_of};
+use odin_nodes::{NodeFault, node_from};
 use path_planner::Plans;
 use request_parser::{ExpressionFault, read_expression};
 use std::alloc::Global;
@@ -31,7 +31,7 @@ pub(crate) fn read_asked(
     ensures { IfOk result (IsAsked graph.now text.now) }
 {
     match read_expression(alloc, text) {
-        Ok(expression) => asked_by(alloc, graph, plans, &expression),
+        Ok(expression) => asked_by(alloc, graph, plans, expression),
         Err(fault) => Ok(Asked::Refused(no_expression(fault)?)),
     }
 }
@@ -41,14 +41,14 @@ fn asked_by(
     alloc: Global,
     graph: &Graph,
     plans: &Plans,
-    expression: &Expression,
+    expression: Expression,
 ) -> Result<Asked, Memory>
     requires made { plans.now ≡ plans_of graph.now }
-    requires few { length expression.now.steps < 2 ^ 32 }
-    ensures { IfOk result (λ asked. (text : Text) → ExpressionText text expression.now →
+    requires few { length expression.steps < 2 ^ 32 }
+    ensures { IfOk result (λ asked. (text : Text) → ExpressionText text expression →
         IsAsked graph.now text asked) }
 {
-    match node_of(alloc, graph, plans, expression) {
+    match node_from(alloc, graph, plans, expression) {
         Ok(node) => Ok(Asked::Node(node)),
         Err(fault) => Ok(Asked::Refused(no_node(fault)?)),
     }

@@ -9,3 +9,4 @@ mod shown;
 
 pub use answer::{answer_ask, answer_plan};
 pub use meaning_commands::{Reply, ShownBody};
+pub use plan::Planned;

@@ -1,7 +1,7 @@
 // The classes of words and strings, as tests.
 ghost use Rattle.std.specs.Prelude.{◌≡◌};
 ghost use Rattle.std.specs.List.{list_all};
-ghost use Rattle.meaning_texts.specs.Classes.{is_letter, is_key_byte, is_name_byte, is_string_byte, begins_with_letter};
+ghost use Rattle.meaning_texts.specs.Classes.{is_letter, is_key_byte, is_name_byte, is_value_byte, is_string_byte, begins_with_letter};
 ghost use Rattle.meaning_texts.specs.Tests.{is_name, is_id, is_string_text};
 
 use object_values::WORD_LIMIT;
@@ -52,10 +52,18 @@ pub fn is_name_byte(byte: u8) -> bool
     byte.is_ascii_alphanumeric() || matches!(byte, b'.' | b'_' | b'-' | b'/')
 }
 
-fn is_key_byte(byte: u8) -> bool
+/// A letter, a digit or `_`.
+pub fn is_key_byte(byte: u8) -> bool
     ensures { result ≡ is_key_byte byte }
 {
     byte.is_ascii_alphanumeric() || byte == b'_'
+}
+
+/// A byte of the value of a parameter: 33 to 126, but for `+`, `:` and `%`.
+pub fn is_value_byte(byte: u8) -> bool
+    ensures { result ≡ is_value_byte byte }
+{
+    matches!(byte, b'!'..=b'~') && !matches!(byte, b'+' | b':' | b'%')
 }
 
 fn is_string_byte(byte: u8) -> bool

@@ -6,11 +6,12 @@ use Rattle.std.specs.Fmt.{decimal}
 use Rattle.std.proofs.lemmas.Bool.{cond-true, cond-false, cases_Bool, and_from}
 use Rattle.meaning_texts.specs.Classes.{IsName, is_name_byte}
 use Rattle.meaning_texts.specs.Tests.{is_name}
+use Rattle.meaning_texts.specs.Limits.{command_limit}
 use Rattle.meaning_texts.specs.Lists.{HasNo, is_empty}
 use Rattle.meaning_texts.proofs.Lemmas.{word_decides}
 use Rattle.meaning_commands.specs.declared.commands.Command.{Command}
 use Rattle.meaning_commands.specs.declared.commands.Command.TheVariants.{Put, Take, Remove, Ask, Plan, Bad, BadName}
-use Rattle.meaning_commands.specs.Commands.{command_limit, Spells, formed, formless}
+use Rattle.meaning_commands.specs.Commands.{Spells, formed, formless}
 use Rattle.meaning_commands.specs.Reading.{number_of, before_space, behind_space, behind, is_argument, naming, put_of, put_words, first_of, formed_command}
 use Rattle.meaning_commands.proofs.Lemmas.{reads_number, none_number, before_is, behind_is, none_space, none_behind, argument_test, form_reads, reads_form}
 use Rattle.odin_commands.specs.declared.read.Argument.{Argument}

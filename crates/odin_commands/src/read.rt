@@ -1,16 +1,13 @@
 // The command of a line.
 ghost use Rattle.std.specs.Prelude.{◌≡◌, IfOk};
-ghost use Rattle.meaning_commands.specs.Commands.{Spells, command_limit};
+ghost use Rattle.meaning_commands.specs.Commands.{Spells};
 ghost use Rattle.meaning_commands.specs.Reading.{put_words, formed_command};
 ghost use Rattle.odin_commands.specs.Arguments.{argument_of, taken, dropped, single_word};
 
 use meaning_commands::Command;
-use object_values::{Bytes, Memory};
+use object_values::{Bytes, COMMAND_LIMIT, Memory};
 use odin_bytes::{Name, cut_at, read_name, read_number};
 use std::alloc::Global;
-
-/// The most bytes of a line that is a command.
-pub const COMMAND_LIMIT: usize = 1_024;
 
 /// What stands in the place of a name.
 #[derive(Drop)]

@@ -1,5 +1,5 @@
 -- What comes of an expression, step by step.
-use Rattle.std.proofs.Common.{◌≡◌, ℕ, ◌+◌, ◌<◌, ◌≤◌, ◌^◌, cond, List, [], ◌∷◌, ◌++◌, length, get_or, drop, map, is_some, refl, sym, ap, ◌∙◌, subst, arith}
+use Rattle.std.proofs.Common.{◌≡◌, ℕ, ◌+◌, ◌<◌, ◌≤◌, cond, List, [], ◌∷◌, ◌++◌, length, get_or, drop, map, is_some, refl, sym, ap, ◌∙◌, subst}
 use Rattle.std.specs.Prelude.{Option, Some, None, option_map, option_and_then, Result, Ok, Err, IfOk, IfErr, OnOk}
 use Rattle.std.specs.Result.{IsErrAnd, result_err}
 use Rattle.std.proofs.lemmas.Result.{err_from_is_err_and}
@@ -13,13 +13,13 @@ use Rattle.object_values.specs.declared.expressions.ExprStep.TheVariants.{To, Pi
 use Rattle.object_values.specs.declared.expressions.Expression.{Expression}
 use Rattle.meaning_graph.specs.Graphs.{Text, Graph, type_named, kind_of}
 use Rattle.meaning_graph.specs.Suffixes.{source_type}
-use Rattle.meaning_graph.specs.Paths.{Path, Chosen, chosen_path}
-use Rattle.meaning_nodes.specs.Nodes.{stepped, extended, picked_type, step_type, type_after, reached_type, onward}
+use Rattle.meaning_graph.specs.Paths.{Path, chosen_path}
+use Rattle.meaning_nodes.specs.Nodes.{stepped, extended, picked_type, type_after, reached_type, onward}
 use Rattle.meaning_nodes.specs.NodeOf.{NodeAnswer, is_node, unknown_param, unknown_type, no_path, node_or_no_path, toward, step_on, steps_on, unknown_in, of_known, node_of}
 use Rattle.meaning_nodes.proofs.Lemmas.{type_after-append, type_after_none, path_type}
 use Rattle.odin_nodes.specs.declared.fault.NodeFault.{NodeFault}
 use Rattle.odin_nodes.specs.declared.fault.NodeFault.TheVariants.{UnknownParam, UnknownType, NoPath, Memory}
-use Rattle.odin_nodes.specs.Refusals.{IsRefusal, IsNodeRefusal}
+use Rattle.odin_nodes.specs.Refusals.{IsRefusal}
 use Rattle.odin_nodes.specs.Making.{bare, IsMade}
 
 -- ---- one step
@@ -127,7 +127,7 @@ pub param_unknown : (g : Graph) (e : Expression) (p : ParamValue) → Some p ≡
 unfolding node_of
 param_unknown g e p is = ap (of_known g e) (sym is)
 
-pub params_known : (g : Graph) (e : Expression) → None ≡ unknown_in g e.params → node_of g e ≡ steps_on g 1 (is_node (bare e)) e.steps
+pub params_known : (g : Graph) (e : Expression) → None ≡ unknown_in g e.params → node_of g e ≡ steps_on g 1 (is_node (bare e.source e.params)) e.steps
 unfolding node_of
 params_known g e is = ap (of_known g e) (sym is)
 

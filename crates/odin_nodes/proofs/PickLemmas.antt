@@ -1,5 +1,5 @@
 -- What keys pick.
-use Rattle.std.proofs.Common.{◌≡◌, ℕ, zero, suc, ◌+◌, ◌-◌, ◌^◌, ◌<◌, ◌≤◌, Bool, true, false, cond, ◌&&◌, nat_lt, List, [], ◌∷◌, length, get_or, drop, filter_map, slice_get, decimal, is_some, refl, sym, ap, ◌∙◌, subst, arith}
+use Rattle.std.proofs.Common.{◌≡◌, ℕ, suc, ◌+◌, ◌-◌, ◌^◌, ◌<◌, ◌≤◌, true, false, cond, ◌&&◌, nat_lt, List, ◌∷◌, length, get_or, drop, filter_map, slice_get, decimal, refl, sym, ap, ◌∙◌, arith}
 use Rattle.std.specs.Prelude.{Option, Some, None, bytes_eq, find, option_map, option_and_then}
 use Rattle.std.specs.Str.Parse.{digits_value}
 use Rattle.std.specs.Cmp.Lexicographic.{bytes_decides}
@@ -9,17 +9,14 @@ use Rattle.object_values.specs.declared.views.Part.{Part}
 use Rattle.object_values.specs.declared.views.Value.{Value}
 use Rattle.object_values.specs.declared.views.Value.TheVariants.{Compound as CompoundValue}
 use Rattle.object_values.specs.declared.graph.PartDecl.{PartDecl}
-use Rattle.object_values.specs.declared.graph.Kind.{Kind}
 use Rattle.object_values.specs.declared.graph.Kind.TheVariants.{Compound}
 use Rattle.object_values.specs.declared.graph.TypeDecl.{TypeDecl}
 use Rattle.object_values.specs.declared.graph.Decl.{Decl}
 use Rattle.object_values.specs.declared.graph.Decl.TheVariants.{ObjectType, Suffix, Param, Maker}
 use Rattle.meaning_texts.specs.Limits.{element_bound}
-use Rattle.meaning_graph.specs.Graphs.{Text, Graph, types, type_named, as_type, kind_of}
-use Rattle.odin_bytes.specs.Spellings.{IsNoNumber}
+use Rattle.meaning_graph.specs.Graphs.{Text, Graph, type_named, as_type, kind_of}
 use Rattle.meaning_nodes.specs.Nodes.{is_number, element_number, picked_type}
 use Rattle.meaning_nodes.specs.Values.{body, pick}
-use Rattle.meaning_nodes.proofs.Lemmas.{element_numbers}
 
 -- ---- declared types
 
@@ -79,25 +76,6 @@ part_picked g key parts p is = ap (option_and_then (λ (p : PartDecl). type_name
 
 -- ---- keys that are numbers
 
-is_some-cond : (b : Bool) (k : ℕ) → is_some (cond b (Some k) None) ≡ b
-is_some-cond true k = refl
-is_some-cond false k = refl
-
-pub number_read : (key : Text) (number : ℕ) → key ≡ decimal number → number < 2 ^ 64 → (nat_lt 0 number && nat_lt number element_bound) ≡ is_some (element_number key)
-number_read key number is small =
-    let value : digits_value 10 key ≡ number = ap (digits_value 10) is ∙ (decimal_is_IsNumeral number small).1 in
-    let same : bytes_eq (decimal number) key ≡ true = (bytes_decides (decimal number) key).1 (sym is) in
-    sym (is_some-cond (is_number (digits_value 10 key) key) (digits_value 10 key)
-    ∙ ap (λ k. is_number k key) value
-    ∙ ap (λ b. b && nat_lt 0 number && nat_lt number element_bound) same)
-
-no_number_by : (key : Text) (o : Option ℕ) → IsNoNumber key → element_number key ≡ o → false ≡ is_some o
-no_number_by key None none e = refl
-no_number_by key (Some k) none e = let n = (element_numbers key k).0 e in absurd (none k (omega (arith, n.small)) n.written)
-
-pub no_number_read : (key : Text) → IsNoNumber key → false ≡ is_some (element_number key)
-no_number_read key none = no_number_by key (element_number key) none refl
-
 -- the number of an element, by the number that is read
 number_of : (key : Text) (number : ℕ) → key ≡ decimal number → number < 2 ^ 64 → element_number key ≡ cond (nat_lt 0 number && nat_lt number element_bound) (Some number) None
 number_of key number is small =
@@ -111,13 +89,6 @@ number_is key number is small tests = sym (number_of key number is small ∙ ap 
 
 pub number_is_none : (key : Text) (number : ℕ) → key ≡ decimal number → number < 2 ^ 64 → (nat_lt 0 number && nat_lt number element_bound) ≡ false → None ≡ element_number key
 number_is_none key number is small tests = sym (number_of key number is small ∙ ap (λ b. cond b (Some number) None) tests)
-
-none_by : (key : Text) (o : Option ℕ) → IsNoNumber key → element_number key ≡ o → None ≡ o
-none_by key None none e = refl
-none_by key (Some k) none e = let n = (element_numbers key k).0 e in absurd (none k (omega (arith, n.small)) n.written)
-
-pub no_number_is : (key : Text) → IsNoNumber key → None ≡ element_number key
-no_number_is key none = none_by key (element_number key) none refl
 
 -- the part of that name
 pub body_picked : (value : Value) (key : Text) (parts : List Part) (p : Part) → value ≡ CompoundValue parts → Some p ≡ find (λ (p : Part). bytes_eq p.name key) parts → Some (body p.body) ≡ pick value key

@@ -1,15 +1,15 @@
 -- A node that is made step by step.
-use Rattle.std.specs.Prelude.{◌≡◌, [], Some}
+use Rattle.std.specs.Prelude.{◌≡◌, List, [], Some}
+use Rattle.object_values.specs.declared.nodes.ParamValue.{ParamValue}
 use Rattle.object_values.specs.declared.nodes.Node.{Node}
-use Rattle.object_values.specs.declared.expressions.Expression.{Expression}
-use Rattle.meaning_graph.specs.Graphs.{Graph}
+use Rattle.meaning_graph.specs.Graphs.{Text, Graph}
 use Rattle.meaning_nodes.specs.Nodes.{reached_type}
 use Rattle.meaning_nodes.specs.NodeOf.{NodeAnswer, is_node}
 use Rattle.odin_nodes.specs.declared.making.Reached.{Reached}
 
--- the source of an expression with its parameters
-abbrev pub bare : Expression → Node
-bare e = record { source = e.source; params = e.params; steps = [] }
+-- a source with parameters and no steps
+abbrev pub bare : Text → List ParamValue → Node
+bare source params = record { source = source; params = params; steps = [] }
 
 -- the type is the one to which the steps lead
 abbrev pub IsTyped : Graph → Reached → Type 0

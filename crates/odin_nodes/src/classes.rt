@@ -7,7 +7,7 @@ ghost use Rattle.meaning_nodes.specs.Nodes.{has_key_of_class};
 ghost use Rattle.odin_nodes.specs.Words.{has_words_of_class};
 
 use object_values::{Node, ParamValue, Step, WORD_LIMIT};
-use odin_bytes::{is_id, is_name};
+use odin_bytes::{is_id, is_key_byte, is_name, is_value_byte};
 
 /// Whether the name, the parameters and the keys of a node are of their classes.
 pub(crate) fn has_words_of_class(node: &Node) -> bool
@@ -61,16 +61,4 @@ fn are_key_bytes(text: &[u8]) -> bool
     ensures { result ≡ list_all is_key_byte text.now }
 {
     text.iter().all(|byte| is_key_byte(*byte))
-}
-
-fn is_key_byte(byte: u8) -> bool
-    ensures { result ≡ is_key_byte byte }
-{
-    byte.is_ascii_alphanumeric() || byte == b'_'
-}
-
-fn is_value_byte(byte: u8) -> bool
-    ensures { result ≡ is_value_byte byte }
-{
-    matches!(byte, b'!'..=b'~') && !matches!(byte, b'+' | b':' | b'%')
 }

@@ -16,7 +16,7 @@ mod types;
 pub use fault::NodeFault;
 pub use inherited::{Inherited, inherit};
 pub use leading::onward;
-pub use making::node_of;
+pub use making::{node_from, node_of};
 pub use names::{label_of, node_text};
 pub use picking::{Picked, pick};
 pub use picks::kind_named;

@@ -13,7 +13,7 @@ use crate::fault::NodeFault;
 use crate::picks::picked_type;
 use crate::types::type_along;
 use object_values::{
-    Bytes, Copied, ExprStep, Expression, Memory, Node, ParamValue, Seq, Step, copy_two, when_done,
+    Bytes, Copied, ExprStep, Expression, Memory, Node, ParamValue, Seq, Step, when_done,
 };
 use path_planner::Plans;
 use std::alloc::Global;
@@ -32,11 +32,33 @@ pub fn node_of(
     ensures fits { IfOk result (λ node. IsCanonical expression.now → Fits graph.now node) }
     ensures err { IfErr result (IsNodeRefusal graph.now expression.now) }
 {
+    let copy = expression.copy(alloc)?;
+    node_from(alloc, graph, plans, copy)
+}
+
+/// The same of an expression that is given away: its name and its parameters become those of the node.
+pub fn node_from(
+    alloc: Global,
+    graph: &Graph,
+    plans: &Plans,
+    expression: Expression,
+) -> Result<Node, NodeFault>
+    requires made { plans.now ≡ plans_of graph.now }
+    requires few { length expression.steps < 2 ^ 32 }
+    ensures ok { IfOk result (λ node. node_of graph.now expression ≡ is_node node) }
+    ensures fits { IfOk result (λ node. IsCanonical expression → Fits graph.now node) }
+    ensures err { IfErr result (IsNodeRefusal graph.now expression) }
+{
     if let Some(unknown) = unknown_param(graph, expression.params.as_slice()) {
         return Err(NodeFault::UnknownParam(unknown.param.copy(alloc)?));
     }
-    let mut reached = Reached::start(alloc, graph, expression)?;
-    let done = reached.add_steps(alloc, graph, plans, expression.steps.as_slice());
+    let Expression {
+        source,
+        params,
+        steps,
+    } = expression;
+    let mut reached = Reached::start(alloc, graph, source, params);
+    let done = reached.add_steps(alloc, graph, plans, steps.as_slice());
     when_done(done, reached.into_node())
 }
 
@@ -63,22 +85,21 @@ impl Drop for Reached {
 }
 
 impl Reached {
-    // The source of an expression with its parameters.
-    fn start(alloc: Global, graph: &Graph, expression: &Expression) -> Result<Self, Memory>
-        ensures node { IfOk result (λ reached. reached.node ≡ bare expression.now) }
-        ensures typed { IfOk result (IsTyped graph.now) }
+    // A source with parameters, before the first step.
+    fn start(alloc: Global, graph: &Graph, source: Bytes, params: Seq<ParamValue>) -> Self
+        ensures node { result.node ≡ bare source params }
+        ensures typed { IsTyped graph.now result }
     {
-        let (source, params) = copy_two(alloc, &expression.source, &expression.params)?;
         let at = graph.source_type(source.as_slice());
         let steps = Seq::new(alloc);
-        Ok(Reached {
+        Reached {
             node: Node {
                 source,
                 params,
                 steps,
             },
             at,
-        })
+        }
     }
 
     fn into_node(self) -> Node
@@ -135,8 +156,33 @@ impl Reached {
         }
     }
 
-    // Along the chosen path to a type.
+    // Along the chosen path to a type, which mostly is one maker.
     fn go_to(
+        &mut self,
+        alloc: Global,
+        graph: &Graph,
+        plans: &Plans,
+        number: u32,
+        to: u32,
+    ) -> Result<(), NodeFault>
+        requires made { plans.now ≡ plans_of graph.now }
+        requires typed { IsTyped graph.now self.old }
+        requires to { to < length (types graph.now) }
+        ensures ok { let answer = node_or_no_path number (onward graph.now self.old.node to) in
+            OnOk result (IsMade graph.now answer self.new) }
+        ensures err { let answer = node_or_no_path number (onward graph.now self.old.node to) in
+            IfErr result (IsRefusal answer) }
+    {
+        let Some((maker, at)) = plans.direct(graph, self.at, to) else {
+            return self.go_along(alloc, graph, plans, number, to);
+        };
+        self.node.steps.push(Step::Maker(maker))?;
+        self.at = at;
+        Ok(())
+    }
+
+    // Along the chosen path, however long it is.
+    fn go_along(
         &mut self,
         alloc: Global,
         graph: &Graph,
@@ -155,7 +201,7 @@ impl Reached {
         let Some(path) = plans.plan(alloc, graph, self.at, to)? else {
             return Err(NodeFault::NoPath(number));
         };
-        let Some(at) = type_along(graph, self.at, path.as_slice()) else {
+        let Some(at) = type_along(graph, plans, self.at, path.as_slice()) else {
             // Each maker of a path takes what the one before it makes.
             unreachable!();
         };

@@ -5,15 +5,21 @@ ghost use Rattle.meaning_nodes.specs.Nodes.{element_number};
 ghost use Rattle.meaning_nodes.specs.Values.{pick};
 ghost use Rattle.odin_nodes.specs.Picking.{told};
 
-use crate::picks::numbers_an_element;
-use object_values::{Bytes, Node, Part, Value};
-use odin_bytes::read_number;
+use crate::picks::element_number;
+use object_values::{Copied, Memory, Node, Part, Text, Value};
+use std::alloc::Global;
 
 /// What a key picks: an element of a list, or the body of a part of a compound.
 #[derive(Clone, Copy)]
 pub enum Picked<'a> {
     Element(&'a Node),
-    Body(&'a Bytes),
+    Body(&'a Text),
+}
+
+impl<'a> Copied for Picked<'a> {
+    fn copy(&self, _alloc: Global) -> Result<Self, Memory> {
+        Ok(*self)
+    }
 }
 
 /// Element K from 1 of a list, or the part of that name. There is nothing else to pick.
@@ -39,19 +45,6 @@ fn element_at<'a>(elements: &'a [Node], key: &[u8]) -> Option<&'a Node>
 {
     let number = element_number(key)?;
     elements.get(number as usize - 1)
-}
-
-/// The number of an element that the key is, from 1.
-pub(crate) fn element_number(key: &[u8]) -> Option<u64>
-    ensures is { result ≡ element_number key.now }
-    ensures some { IfSome result (λ number. 0 < number) }
-{
-    let number = read_number(key)?;
-    if numbers_an_element(number) {
-        Some(number)
-    } else {
-        None
-    }
 }
 
 fn part_named<'a>(parts: &'a [Part], name: &[u8]) -> Option<&'a Part>

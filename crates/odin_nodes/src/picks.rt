@@ -1,17 +1,14 @@
 // What keys pick: elements of lists by their numbers, and parts by their names.
-ghost use Rattle.std.specs.Prelude.{◌≡◌, ◌&&◌, Some, nat_lt, is_some, find, filter_map, slice_get, bytes_eq, option_map};
+ghost use Rattle.std.specs.Prelude.{◌≡◌, ◌&&◌, Some, nat_lt, ◌<◌, is_some, find, filter_map, slice_get, bytes_eq, option_map, IfSome};
 ghost use Rattle.std.specs.Option.{option_copied};
 ghost use Rattle.meaning_texts.specs.Limits.{element_bound};
 ghost use Rattle.meaning_graph.specs.Graphs.{as_type, kind_of};
 ghost use Rattle.meaning_nodes.specs.Nodes.{element_number, picked_type};
 ghost use Rattle.odin_nodes.specs.Kinds.{declared_kind};
 
-use object_values::{Decl, Kind, PartDecl, TypeDecl};
+use object_values::{Decl, ELEMENT_BOUND, Kind, PartDecl, TypeDecl};
 use odin_bytes::read_number;
 use type_graph::Graph;
-
-// The number of an element is below this.
-const ELEMENT_BOUND: u64 = 4_294_967_296;
 
 /// What the objects of the type of this name are. `None` for `text`, which isn't declared and is
 /// simple, and where the name means no type.
@@ -73,14 +70,23 @@ fn picked_of(graph: &Graph, kind: &Kind, key: &[u8]) -> Option<u32>
 fn is_element_number(key: &[u8]) -> bool
     ensures { result ≡ is_some (element_number key.now) }
 {
-    match read_number(key) {
-        Some(number) => numbers_an_element(number),
-        None => false,
+    element_number(key).is_some()
+}
+
+/// The number of an element that the key is, from 1.
+pub(crate) fn element_number(key: &[u8]) -> Option<u64>
+    ensures is { result ≡ element_number key.now }
+    ensures some { IfSome result (λ number. 0 < number) }
+{
+    let number = read_number(key)?;
+    if numbers_an_element(number) {
+        Some(number)
+    } else {
+        None
     }
 }
 
-/// Whether the number is one of an element.
-pub(crate) fn numbers_an_element(number: u64) -> bool
+fn numbers_an_element(number: u64) -> bool
     ensures { result ≡ (nat_lt 0 number && nat_lt number element_bound) }
 {
     0 < number && number < ELEMENT_BOUND

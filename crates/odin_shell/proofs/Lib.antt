@@ -11,3 +11,4 @@ mod SessionLemmas
 mod SourceLemmas
 mod StayLemmas
 mod TranscriptLemmas
+mod PlanLemmas

@@ -15,12 +15,12 @@ use Rattle.object_values.specs.declared.graph.Make.TheVariants.{Tool, Read, Each
 use Rattle.meaning_graph.specs.Graphs.{Text, Graph}
 use Rattle.meaning_graph_text.specs.Places.{BeginsOnLine}
 use Rattle.meaning_graph_text.proofs.Lemmas.{one_graph, one_line, each_begins}
-use Rattle.plain_derive.specs.Built.{IsOfOneInput}
+use Rattle.plain_derive.specs.Built.{IsOfOneInput, IsBuilt, IsBuiltGraph}
 use Rattle.dg_reader.specs.Files.{IsRead, Refuses}
 use Rattle.dg_reader.proofs.Lemmas.{not_refused, refused_by_one, read_or_refused}
 use Rattle.odin_shell.specs.declared.graph.Opened.{Opened}
 use Rattle.odin_shell.specs.declared.graph.Opened.TheVariants as opened
-use Rattle.odin_shell.specs.Opened.{at_line, fault_line, no_file_line, IsServed, IsServedGraph, IsFirstNotBuilt, IsRefused, no_file, not_read, not_yet, IsOpened}
+use Rattle.odin_shell.specs.Opened.{at_line, fault_line, no_file_line, IsFirstNotBuilt, IsRefused, no_file, not_read, not_yet, IsOpened}
 use Rattle.odin_shell.proofs.GraphLemmas.{one_more, first_here, all_built, first_within}
 
 -- ---- the first declaration that isn't built
@@ -33,7 +33,7 @@ not_before g number other first later less =
     let size : length (take (other - 1) g) ≡ other - 1 = length-take-le (other - 1) g (omega arith) in
     let is : get_or (take (other - 1) g) (number - 1) first.declaration ≡ first.declaration =
     get_or-take (other - 1) g (number - 1) first.declaration (omega arith) ∙ get_or_from_slice_get g (number - 1) first.declaration first.declaration first.there in
-    first.not_built (subst (λ (d : Decl). IsServed d) is (later.before (number - 1) first.declaration (omega arith)))
+    first.not_built (subst (λ (d : Decl). IsBuilt d) is (later.before (number - 1) first.declaration (omega arith)))
 
 one_number : (g : Graph) (number other : ℕ) → IsFirstNotBuilt g number → IsFirstNotBuilt g other → other ≡ number
 one_number g number other a b = elim (cases_lt number other) [
@@ -45,10 +45,10 @@ one_number g number other a b = elim (cases_lt number other) [
 ]
 
 -- a graph that is built has no declaration that isn't
-none_first : (g : Graph) (number : ℕ) → IsServedGraph g → IsFirstNotBuilt g number → ⊥
+none_first : (g : Graph) (number : ℕ) → IsBuiltGraph g → IsFirstNotBuilt g number → ⊥
 none_first g number built first =
     let less = slice_get_within g (number - 1) first.declaration first.there in
-    first.not_built (subst (λ (d : Decl). IsServed d) (get_or_from_slice_get g (number - 1) first.declaration first.declaration first.there) (built (number - 1) first.declaration less))
+    first.not_built (subst (λ (d : Decl). IsBuilt d) (get_or_from_slice_get g (number - 1) first.declaration first.declaration first.there) (built (number - 1) first.declaration less))
 
 abbrev Either : Type 0 → Type 0
 Either P = P ⊎ (P → ⊥)
@@ -58,7 +58,7 @@ by_inputs tool [] None e c = inl (record { extras = e; closure = c })
 by_inputs tool (x ∷ xs) closure e c = inr (λ one. let none = one.extras in cc)
 by_inputs tool [] (Some x) e c = inr (λ one. let none = one.closure in cc)
 
-make_built : (make : Make) → Either (IsServed (Maker (record { name = []; make = make; from = []; to = [] })))
+make_built : (make : Make) → Either (IsBuilt (Maker (record { name = []; make = make; from = []; to = [] })))
 make_built (Tool tool) = by_inputs tool tool.extras tool.closure refl refl
 make_built Read = inr (λ no. no)
 make_built Each = inr (λ no. no)
@@ -69,16 +69,16 @@ kind_built Simple = inl refl
 kind_built (ListOf of) = inr (λ e. cc)
 kind_built (Compound parts) = inr (λ e. cc)
 
-is_built : (d : Decl) → Either (IsServed d)
+is_built : (d : Decl) → Either (IsBuilt d)
 is_built (ObjectType t) = kind_built t.kind
 is_built (Suffix s) = inl tt
 is_built (Param id) = inl tt
 is_built (Maker m) = make_built m.make
 
 abbrev Found : Graph → Type 0
-Found g = IsServedGraph g ⊎ ((number : ℕ) × IsFirstNotBuilt g number)
+Found g = IsBuiltGraph g ⊎ ((number : ℕ) × IsFirstNotBuilt g number)
 
-search : (g : Graph) (left place : ℕ) → length g ≤ place + left → All IsServed (take place g) → Found g
+search : (g : Graph) (left place : ℕ) → length g ≤ place + left → All IsBuilt (take place g) → Found g
 search g zero place low before = inl (all_built g place (omega arith) before)
 search g (suc left) place low before = elim (slice_get_cases g place).1 [
   | inl there ↦
@@ -125,7 +125,7 @@ refused_is_one given a (not_yet text g number line r first begins) other b e (no
     ap (λ n. at_line n (codes "not yet")) (line_is_one text g h number second line at r (subst (λ (t : Text). IsRead t h) is q) first later begins (subst (λ (t : Text). BeginsOnLine t h second at) is begun))
 
 -- a file that is read is refused by no line
-read_not_refused : (given : Option Text) (text : Text) (g : Graph) (line : Text) → given ≡ Some text → IsRead text g → IsServedGraph g → IsRefused given line → ⊥
+read_not_refused : (given : Option Text) (text : Text) (g : Graph) (line : Text) → given ≡ Some text → IsRead text g → IsBuiltGraph g → IsRefused given line → ⊥
 read_not_refused given text g line there read built no_file = cc
 read_not_refused given text g line there read built (not_read same f n refuses) =
     let is : same ≡ text = cc in

@@ -23,10 +23,8 @@ use Rattle.meaning_commands.proofs.Lemmas.{one_command}
 use Rattle.odin_shell.specs.Language.{commands}
 use Rattle.odin_shell.specs.Edits.{Says, TreeTold, Inserts, Puts, TakesFile, Takes, IsTaken, IsAsked, RemovesText, Removes, source_lines}
 use Rattle.odin_shell.specs.Machine.{State, Step, Edits, EditsByFile, Asks}
-use Rattle.odin_shell.specs.Opened.{IsServedGraph}
 use Rattle.odin_shell.specs.Laws.{NoFault, CountsNone, AreSame}
 use Rattle.odin_shell.proofs.CountLemmas.{Counts, counted, counts}
-use Rattle.odin_shell.proofs.GraphLemmas.{all_derivable}
 use Rattle.odin_shell.proofs.ServeLemmas.{step_tree}
 
 -- ---- counts
@@ -201,9 +199,9 @@ module _ (g : Graph) (built : IsBuiltGraph g) (table : Table) (files : Files) wh
         tree = λ (e : first'.tree ≡ first.tree). rest.tree (step.tree e);
       }
 
-pub one_transcript : (g : Graph) → IsServedGraph g → (table : Table) (files : Files) (items : List Item) (one other : List (List ℕ)) (first last first' last' : State) → first'.texts ≡ first.texts
+pub one_transcript : (g : Graph) → IsBuiltGraph g → (table : Table) (files : Files) (items : List Item) (one other : List (List ℕ)) (first last first' last' : State) → first'.texts ≡ first.texts
     → first.tree.files ≡ Some files → first'.tree.files ≡ Some files
     → Transcript commands (Step g (Some table)) first items one last → CountsNone first last
     → Transcript commands (Step g (Some table)) first' items other last' → CountsNone first' last' → AreSame one other first last first' last'
-one_transcript g served table files items one other first last first' last' same told told' run none run' none' =
-    once g (all_derivable g served) table files items one other first last first' last' same told told' run run' none none'
+one_transcript g built table files items one other first last first' last' same told told' run none run' none' =
+    once g built table files items one other first last first' last' same told told' run run' none none'

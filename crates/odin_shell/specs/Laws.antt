@@ -11,10 +11,11 @@ use Rattle.meaning_commands.specs.declared.commands.Command.{Command}
 use Rattle.meaning_commands.specs.declared.replies.Reply.{Reply}
 use Rattle.meaning_commands.specs.declared.replies.Reply.TheVariants.{RefusedRead, RefusedToolStart}
 use Rattle.meaning_commands.specs.Replies.{reply_text}
+use Rattle.plain_derive.specs.Built.{IsBuiltGraph}
 use Rattle.odin_shell.specs.Language.{commands}
 use Rattle.odin_shell.specs.Machine.{State, Step}
 use Rattle.odin_shell.specs.declared.graph.Opened.{Opened}
-use Rattle.odin_shell.specs.Opened.{IsServedGraph, IsOpened}
+use Rattle.odin_shell.specs.Opened.{IsOpened}
 
 -- an input is cut in one way only into commands and less than a command
 abbrev pub InputIsCutOnce : Type 0
@@ -69,7 +70,7 @@ pub record AreSame (one other : List (List ℕ)) (first last first' last' : Stat
 -- start alone.
 abbrev pub TranscriptIsOne : Type 0
 TranscriptIsOne =
-    (g : Graph) → IsServedGraph g → (table : Table) (files : Files) (items : List Item)
+    (g : Graph) → IsBuiltGraph g → (table : Table) (files : Files) (items : List Item)
     (one other : List (List ℕ)) (first last first' last' : State) → first'.texts ≡ first.texts
     → first.tree.files ≡ Some files → first'.tree.files ≡ Some files
     → Transcript commands (Step g (Some table)) first items one last → CountsNone first last

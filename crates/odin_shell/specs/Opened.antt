@@ -11,7 +11,7 @@ use Rattle.meaning_graph_text.specs.Places.{BeginsOnLine}
 use Rattle.dg_reader.specs.declared.fault.ReadFault.{ReadFault}
 use Rattle.dg_reader.specs.declared.fault.ReadFault.TheVariants.{TooLong, Syntax, Check, Memory}
 use Rattle.dg_reader.specs.Files.{IsRead, Refuses}
-use Rattle.plain_derive.specs.Built.{IsBuilt}
+use Rattle.plain_derive.specs.Built.{IsBuilt, IsBuiltGraph}
 use Rattle.odin_shell.specs.declared.graph.Opened.{Opened}
 use Rattle.odin_shell.specs.declared.graph.Opened.TheVariants as opened
 
@@ -39,27 +39,21 @@ fault_line Memory = []
 
 -- ---- graphs
 
--- A run is built for the declarations that derivation is built for.
-abbrev pub IsServed : Decl → Type 0
-IsServed = IsBuilt
-
-abbrev pub IsServedGraph : Graph → Type 0
-IsServedGraph = All IsServed
-
--- This declaration, numbered from 1, is the first one that a run isn't built for yet.
+-- A run is built for the graphs that derivation is built for.
+-- This declaration, numbered from 1, is the first one that it isn't built for yet.
 pub record IsFirstNotBuilt (g : Graph) (number : ℕ) : Type 0 where
   pub counted : 0 < number
   pub declaration : Decl
   pub there : slice_get g (number - 1) ≡ Some declaration
-  pub not_built : ¬ IsServed declaration
-  pub before : All IsServed (take (number - 1) g)
+  pub not_built : ¬ IsBuilt declaration
+  pub before : All IsBuilt (take (number - 1) g)
 
 -- The file is one of a checked graph that a run is built for.
 pub record ReadsAs (given : Option Text) (g : Graph) : Type 0 where
   pub text : Text
   pub there : given ≡ Some text
   pub read : IsRead text g
-  pub built : IsServedGraph g
+  pub built : IsBuiltGraph g
 
 -- The file is refused by this last line.
 pub data IsRefused : Option Text → Text → Type 0 where

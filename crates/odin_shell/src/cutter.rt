@@ -6,12 +6,11 @@ ghost use Rattle.odin_shell.specs.Language.{commands};
 ghost use Rattle.odin_shell.specs.Held.{Keeps};
 ghost use Rattle.odin_shell.specs.Cuts.{Takes, Cuts, IsLast};
 
-use crate::command::body_size;
 use crate::pending::Pending;
 use memchr::memchr;
 use object_values::{Bytes, Memory};
 use odin_bytes::drop_cr;
-use odin_commands::{Command, read_command};
+use odin_commands::{Command, body_size, read_command};
 use std::alloc::Global;
 
 // How many bytes of a line are held: more than the longest command and its CR have.
@@ -32,10 +31,29 @@ impl Drop for Cutter {
 }
 
 /// A command, with the bytes behind its line, where it keeps them.
-#[derive(Drop)]
 pub(crate) struct Whole {
     pub(crate) command: Command,
     pub(crate) body: Bytes,
+}
+
+// By hand, as that of a cutter: a drop is one call, where a derived one is opened field by field at each early return.
+impl Drop for Whole {
+    fn drop(self) {
+        let Whole { command, body } = self;
+        drop(command);
+        drop(body);
+    }
+}
+
+impl Whole {
+    /// The command, and its bytes.
+    pub(crate) fn into_parts(self) -> (Command, Bytes)
+        ensures command { result.0 ≡ self.command }
+        ensures body { result.1 ≡ self.body }
+    {
+        let Whole { command, body } = self;
+        (command, body)
+    }
 }
 
 /// The first bytes of a piece: how many, and the command that they make whole.

@@ -9,7 +9,7 @@ ghost use Rattle.odin_shell.specs.Machine.{ToolsStay};
 use crate::reply::text_of;
 use object_sources::Sources;
 use object_values::{Bytes, Memory};
-use odin_answers::{answer_ask, answer_plan};
+use odin_answers::{Planned, answer_ask, answer_plan};
 use odin_outside::Spawner;
 use path_planner::Plans;
 use std::alloc::Global;
@@ -78,7 +78,9 @@ impl Deriver {
     pub(crate) fn plan(&self, alloc: Global, text: &[u8]) -> Result<Bytes, Memory>
         ensures { IfOk result (Says (Plan self.now text.now)) }
     {
-        let reply = answer_plan(alloc, &self.graph, &self.plans, text)?;
-        text_of(alloc, reply)
+        match answer_plan(alloc, &self.graph, &self.plans, text)? {
+            Planned::Steps(bytes) => Ok(bytes),
+            Planned::Refused(reply) => text_of(alloc, reply),
+        }
     }
 }

@@ -9,17 +9,18 @@ ghost use Rattle.odin_shell.specs.Objects.{tree_of};
 use crate::command::TEXT_LIMIT;
 use crate::reply::text_of;
 use object_sources::Sources;
-use object_values::{Bytes, Memory, Seq};
+use object_values::{Bytes, Memory, Seq, Text};
 use odin_bytes::{Name, write_number};
 use odin_commands::Reply;
 use odin_outside::{Tree, TreeFault};
 use std::alloc::Global;
 
-// Gives a source a text.
+// Gives a source a text. The text is made of the bytes before the sources change.
 fn set_text(sources: &mut Sources, name: Name, text: Bytes) -> Result<(), Memory>
     ensures ok { OnOk result (sources.new.texts ≡ insert sources.old.texts name text) }
     ensures err { OnErr result (sources.new.texts ≡ sources.old.texts) }
 {
+    let text = Text::of(text)?;
     sources.reserve()?;
     let _ = sources.put(name.into_bytes(), text);
     Ok(())

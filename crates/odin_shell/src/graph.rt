@@ -2,7 +2,8 @@
 ghost use Rattle.std.specs.Prelude.{◌≡◌, ◌≢◌, ◌≤◌, ◌++◌, ℕ, List, Option, Some, None, IsTrue, ◌↔◌, IfOk, OnOk, MatchOption, IsErr};
 ghost use Rattle.odin_outside.specs.Causes.{HasCauseBut, once_more};
 ghost use Rattle.meaning_graph.specs.Graphs.{Text};
-ghost use Rattle.odin_shell.specs.Opened.{fault_words, no_file_line, at_line, fault_line, IsServed, IsServedGraph, IsFirstNotBuilt, IsRefused, IsOpened, Opens};
+ghost use Rattle.plain_derive.specs.Built.{IsBuilt, IsBuiltGraph};
+ghost use Rattle.odin_shell.specs.Opened.{fault_words, no_file_line, at_line, fault_line, IsFirstNotBuilt, IsRefused, IsOpened, Opens};
 ghost use Rattle.dg_reader.specs.Files.{IsFile};
 
 use dg_reader::{GraphFile, ReadFault, read_graph_file};
@@ -91,7 +92,7 @@ fn line_of_fault(alloc: Global, fault: ReadFault) -> Result<Bytes, Memory>
 
 // Whether a run is built for a declaration.
 fn is_built(declared: &Decl) -> bool
-    ensures { IsTrue result ↔ IsServed declared.now }
+    ensures { IsTrue result ↔ IsBuilt declared.now }
 {
     match declared {
         Decl::ObjectType(object) => matches!(object.kind, Kind::Simple),
@@ -108,7 +109,7 @@ fn is_built(declared: &Decl) -> bool
 
 // The number, from 1, of the first declaration that a run isn't built for yet.
 fn first_not_built(declared: &[Decl]) -> Option<usize>
-    ensures { MatchOption result (IsServedGraph declared.now) (IsFirstNotBuilt declared.now) }
+    ensures { MatchOption result (IsBuiltGraph declared.now) (IsFirstNotBuilt declared.now) }
 {
     for (place, one) in declared.iter().enumerate() {
         if !is_built(one) {
@@ -122,7 +123,7 @@ fn first_not_built(declared: &[Decl]) -> Option<usize>
 fn not_yet_line(alloc: Global, file: &GraphFile, text: &[u8]) -> Result<Option<Bytes>, Memory>
     requires { IsFile text.now file.now }
     ensures { IfOk result (λ line. MatchOption line
-        (IsServedGraph file.now.graph)
+        (IsBuiltGraph file.now.graph)
         (IsRefused (Some text.now))) }
 {
     file.graph.checked();

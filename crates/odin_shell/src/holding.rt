@@ -4,10 +4,10 @@ ghost use Rattle.meaning_commands.specs.Commands.{takes};
 ghost use Rattle.odin_shell.specs.Language as language;
 ghost use Rattle.odin_shell.specs.Held.{IsNew};
 
-use crate::command::{body_size, keeps_body};
+use crate::command::keeps_body;
 use crate::pending::Pending;
 use object_values::{Bytes, Memory};
-use odin_commands::Command;
+use odin_commands::{Command, body_size};
 use std::alloc::Global;
 
 // Room for the bytes that a command keeps.

@@ -5,7 +5,6 @@ ghost use Rattle.odin_shell.specs.Objects.{tree_of, told_of};
 ghost use Rattle.odin_shell.specs.Machine.{holding, Step, MayLeave, ToolsStay};
 ghost use Rattle.odin_shell.specs.Sessions.{Serves, StopsServing};
 
-use crate::command::ends_run;
 use crate::cutter::Whole;
 use crate::deriver::Deriver;
 use crate::edits::{list, put, remove, take};
@@ -14,7 +13,7 @@ use crate::reply::text_of;
 use crate::write::write_whole;
 use object_sources::Sources;
 use object_values::{Bytes, Memory};
-use odin_commands::{Command, Reply};
+use odin_commands::{Command, Reply, ends_run};
 use odin_outside::{Disk, Failed, Sink, Spawner, Tree};
 use std::alloc::Global;
 
@@ -82,7 +81,7 @@ fn answer<T: Tree, S: Spawner>(
     ensures idle { OnOk result ((S.told tools.new).running ≡ []) }
     ensures stay { ToolsStay (S.told tools.old).answer (S.told tools.old) (S.told tools.new) }
 {
-    let Whole { command, body } = whole;
+    let (command, body) = whole.into_parts();
     match command {
         Command::Put(name, count) => put(alloc, sources, name, count, body),
         Command::Take(name) => take(alloc, sources, name, tree),

@@ -1,6 +1,6 @@
 // Each object once, on small tables.
 use super::disks::crashed;
-use object_values::{Bytes, Memory, Seq};
+use object_values::{Bytes, Memory, Seq, Text};
 use odin_fakes::{
     CrashDisk, FailDisk, FailSink, FailSource, FailTree, MemDisk, MemSink, MemSource, MemTree,
 };
@@ -113,7 +113,7 @@ fn fails_at_chosen_writes(rt: HostRuntime) -> Result<(), Fail> {
 fn file(alloc: Global, name: &[u8], body: &[u8]) -> Result<FileBody, Memory> {
     Ok(FileBody {
         name: Bytes::from_slice(alloc, name)?,
-        body: Bytes::from_slice(alloc, body)?,
+        body: Text::of(Bytes::from_slice(alloc, body)?)?,
     })
 }
 
@@ -171,7 +171,7 @@ fn gives_the_first_file_of_a_name(rt: HostRuntime) -> Result<(), Fail> {
 fn long_file(alloc: Global) -> Result<FileBody, Memory> {
     Ok(FileBody {
         name: Bytes::from_slice(alloc, b"a")?,
-        body: Seq::from_vec(vec![in alloc; 7u8; 16_777_218]?),
+        body: Text::of(Seq::from_vec(vec![in alloc; 7u8; 16_777_218]?))?,
     })
 }
 

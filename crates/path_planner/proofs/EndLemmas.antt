@@ -1,15 +1,15 @@
 -- Makers and their types by the table of ends.
 use Rattle.std.proofs.Common.{◌≡◌, ℕ, ◌<◌, true, List, sym, ap, ◌∙◌, refl, length, get_or, slice_get}
-use Rattle.std.specs.Prelude.{Option, Some, None, MatchOption, option_map}
+use Rattle.std.specs.Prelude.{Option, Some, None, MatchOption, option_map, option_and_then}
 use Rattle.std.proofs.lemmas.Option.{slice_get-map, slice_get-get_or, slice_get_within}
 use Rattle.object_values.specs.declared.graph.MakerDecl.{MakerDecl}
 use Rattle.meaning_graph.specs.Graphs.{Graph, types, makers}
 use Rattle.meaning_graph.specs.Types.{is_a}
-use Rattle.meaning_graph.specs.Paths.{Makes, Chosen, HasNoPath}
+use Rattle.meaning_graph.specs.Paths.{Makes, Chosen, HasNoPath, made_of}
 use Rattle.meaning_texts.proofs.Lemmas.{same_some, some_is_none}
 use Rattle.meaning_graph.proofs.Lemmas.{is_a_so, so_is_a, named_below}
 use Rattle.path_planner.specs.declared.route.Ends.{Ends}
-use Rattle.path_planner.specs.Ends.{ends_of, ends_in, from_to, AreTypes, IsChosen}
+use Rattle.path_planner.specs.Ends.{ends_of, ends_in, from_to, made_by, AreTypes, IsChosen}
 
 -- a maker's ends stand at its number
 record EndsOf (g : Graph) (k : ℕ) (e : Ends) : Type 0 where
@@ -66,3 +66,11 @@ place_ends g ends k d made below = ap (λ l. slice_get l k) (sym made) ∙ slice
 pub is_chosen : (g : Graph) (from to : ℕ) (path : Option (List ℕ)) → MatchOption path (HasNoPath g from to) (Chosen g from to) → IsChosen g from to path
 is_chosen g from to None h = h
 is_chosen g from to (Some path) h = h
+
+-- what a maker makes of a type, by its ends
+made_alike : (g : Graph) (a : ℕ) (o : Option MakerDecl) → option_and_then (made_by g a) (option_map (ends_of g) o) ≡ option_and_then (made_of g a) o
+made_alike g a None = refl
+made_alike g a (Some m) = refl
+
+pub made_by_ends : (g : Graph) (a k : ℕ) (o : Option Ends) → o ≡ slice_get (ends_in g) k → option_and_then (made_by g a) o ≡ option_and_then (made_of g a) (slice_get (makers g) k)
+made_by_ends g a k o is = ap (option_and_then (made_by g a)) (is ∙ slice_get-map (ends_of g) (makers g) k) ∙ made_alike g a (slice_get (makers g) k)

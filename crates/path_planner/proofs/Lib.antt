@@ -1,3 +1,4 @@
 mod EndLemmas
 mod NearLemmas
 mod RouteLemmas
+mod DirectLemmas

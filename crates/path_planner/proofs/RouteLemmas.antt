@@ -32,7 +32,7 @@ module _ (g : Graph) (a b : ℕ) where
 one_made : (g : Graph) (a c k x y : ℕ) → Makes g a k x → Makes g c k y → x ≡ y
 one_made g a c k x y m n = same_some (sym m.makes ∙ ap (λ (z : MakerDecl). type_named g z.to) (same_some (sym m.numbered ∙ n.numbered)) ∙ n.makes)
 
-three_ways : (m n : ℕ) → (m < n) ⊎ ((m ≡ n) ⊎ (n < m))
+pub three_ways : (m n : ℕ) → (m < n) ⊎ ((m ≡ n) ⊎ (n < m))
 three_ways zero zero = inr (inl refl)
 three_ways zero (suc n) = inl (omega arith)
 three_ways (suc m) zero = inr (inr (omega arith))
@@ -41,7 +41,7 @@ three_ways (suc m) (suc n) = elim (three_ways m n) [
   | inr k ↦ elim k [ inl e ↦ inr (inl (ap suc e)) | inr h ↦ inr (inr (omega (arith, h))) ]
 ]
 
-lesser_first : (k j : ℕ) (p q : List ℕ) → k < j → slice_cmp nat_cmp (k ∷ p) (j ∷ q) ≡ Less
+pub lesser_first : (k j : ℕ) (p q : List ℕ) → k < j → slice_cmp nat_cmp (k ∷ p) (j ∷ q) ≡ Less
 lesser_first k j p q h = ap (λ o. ordering_then o (slice_cmp nat_cmp p q)) (sym (nat_cmp_is k j Less h))
 
 module _ (g : Graph) (to : ℕ) (near : List (Option ℕ)) (w : IsAllNear g to near) where

@@ -1,7 +1,8 @@
 -- The types of makers by their numbers.
-use Rattle.std.specs.Prelude.{◌≡◌, ◌<◌, ℕ, List, Option, Some, None, length, map}
+use Rattle.std.specs.Prelude.{◌≡◌, ◌<◌, ℕ, List, Option, Some, None, cond, length, map, option_and_then}
 use Rattle.object_values.specs.declared.graph.MakerDecl.{MakerDecl}
 use Rattle.meaning_graph.specs.Graphs.{Graph, types, makers, type_named}
+use Rattle.meaning_graph.specs.Types.{is_a}
 use Rattle.meaning_graph.specs.Paths.{Chosen, HasNoPath}
 use Rattle.path_planner.specs.declared.route.Ends.{Ends}
 
@@ -15,6 +16,10 @@ ends_of g m = record { from = type_named g m.from; to = type_named g m.to }
 
 abbrev pub ends_in : Graph → List Ends
 ends_in g = map (ends_of g) (makers g)
+
+-- what a maker with these ends makes of the type a, where it takes it
+abbrev pub made_by : Graph → ℕ → Ends → Option ℕ
+made_by g a e = option_and_then (λ taken. cond (is_a g a taken) e.to None) e.from
 
 -- what plans that are made of the graph hold
 abbrev pub plans_of : Graph → List Ends

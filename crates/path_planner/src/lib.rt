@@ -1,6 +1,7 @@
 //! The chosen path of makers from one type to another.
 #![tactic(auto)]
 
+mod direct;
 mod distances;
 mod plans;
 mod route;

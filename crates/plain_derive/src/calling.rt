@@ -12,7 +12,7 @@ ghost use Rattle.path_planner.specs.Ends.{plans_of};
 use crate::nodes::{base_of, last_tool};
 use crate::results::Results;
 use crate::used::used_params;
-use object_values::{Bytes, Call, CallPart, Copied, Memory, Node, Part, Seq, Value, View};
+use object_values::{Bytes, Call, CallPart, Copied, Memory, Node, Part, Seq, Text, Value, View};
 use odin_nodes::label_of;
 use path_planner::Plans;
 use std::alloc::Global;
@@ -135,8 +135,8 @@ fn value_in(view: Option<&View>) -> Option<&Value>
     view?.value.as_ref()
 }
 
-// The bytes of a simple object.
-fn text_in(alloc: Global, value: &Value) -> Result<Option<Bytes>, Memory>
+// The text of a simple object, which is shared.
+fn text_in(alloc: Global, value: &Value) -> Result<Option<Text>, Memory>
     ensures { IfOk result (λ text. text ≡ text_in (Some (Some value.now))) }
 {
     match value {

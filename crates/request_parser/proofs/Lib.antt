@@ -1,6 +1,7 @@
 mod KeptLemmas
 mod LineLemmas
 mod ListLemmas
+mod MergedLemmas
 mod ReadLemmas
 mod RunLemmas
 mod StopLemmas

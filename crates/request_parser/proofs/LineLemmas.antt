@@ -1,7 +1,6 @@
 -- The lines of a reference list, one by one.
-use Rattle.std.proofs.Common.{◌≡◌, ℕ, ◌+◌, ◌≤◌, true, false, List, [], ◌∷◌, ◌++◌, length, map, refl, sym, ap, ◌∙◌, inl, inr, arith, append-nil, length-append}
-use Rattle.std.specs.Prelude.{nat_eq}
-use Rattle.std.proofs.lemmas.Bool.{le-ltb, lt-ltb, both_ways, ne_eqb}
+use Rattle.std.proofs.Common.{◌≡◌, ℕ, ◌+◌, ◌≤◌, true, false, List, [], ◌∷◌, ◌++◌, length, refl, sym, ap, ◌∙◌, inl, inr, arith, append-nil, length-append}
+use Rattle.std.proofs.lemmas.Bool.{le-ltb, lt-ltb}
 use Rattle.object_values.specs.declared.expressions.Expression.{Expression}
 use Rattle.object_values.specs.declared.expressions.Line.{Line}
 use Rattle.object_values.specs.declared.expressions.Line.TheVariants.{Good, Bad}
@@ -9,29 +8,9 @@ use Rattle.object_values.specs.declared.expressions.Lines.TheVariants.{These, To
 use Rattle.meaning_texts.specs.Limits.{reference_limit}
 use Rattle.meaning_texts.specs.Expressions.{ExpressionText, IsFaultPlace}
 use Rattle.meaning_texts.specs.Reading.{expression_of}
-use Rattle.meaning_texts.specs.Lines.{LineCut, cut_lines, without_cr, last_line, lines_of}
+use Rattle.meaning_texts.specs.Lines.{lines_of}
 use Rattle.meaning_texts.specs.References.{is_passed_over, ReferenceList, read_line, read_lines, at_most_references, references}
 use Rattle.meaning_texts.proofs.Lemmas.{some_or_none, reads, is_read, no_expression, said_references}
-use Rattle.odin_bytes.specs.Words.{IsFirstLine}
-
--- ---- the first line
-
-pub no_lines : (text : List ℕ) → true ≡ nat_eq (length text) 0 → lines_of text ≡ []
-unfolding lines_of
-no_lines [] e = refl
-no_lines (b ∷ rest) e = let f : nat_eq (length (b ∷ rest)) 0 ≡ false = ne_eqb (length (b ∷ rest)) 0 (λ n. omega arith) in absurd (both_ways (nat_eq (length (b ∷ rest)) 0) f (sym e))
-
-pub line_first : (text line behind : List ℕ) → IsFirstLine text line behind → lines_of text ≡ without_cr line ∷ lines_of behind
-unfolding lines_of
-line_first text line behind is = ap (λ (c : LineCut). map without_cr (c.full ++ last_line c.last)) is
-
-only_last : (text : List ℕ) → false ≡ nat_eq (length text) 0 → last_line text ≡ text ∷ []
-only_last [] some = let n : ⊥ = cc in absurd n
-only_last (b ∷ rest) some = refl
-
-pub line_alone : (text : List ℕ) → false ≡ nat_eq (length text) 0 → cut_lines text ≡ record { full = []; last = text } → lines_of text ≡ without_cr text ∷ lines_of []
-unfolding lines_of
-line_alone text some is = ap (λ (c : LineCut). map without_cr (c.full ++ last_line c.last)) is ∙ ap (map without_cr) (only_last text some)
 
 -- ---- one line
 

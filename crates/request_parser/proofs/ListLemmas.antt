@@ -44,7 +44,7 @@ no_space (b ∷ rest) p e = let is : b ≡ 32 = cc in let n : nat_eq 32 32 ≡ f
 
 -- ---- the items so far
 
-none_kept : AreKeptAs [] []
+pub none_kept : AreKeptAs [] []
 none_kept = record { sorted = λ k d low high. absurd (omega arith); values = λ name. refl }
 
 pub none_read : (run text rest : List ℕ) → TakesRun (has class.Space) run text rest → AreRead text rest [] []

@@ -9,6 +9,10 @@ use Rattle.meaning_texts.specs.Expressions.{name_cmp, AreKeptAs}
 abbrev pub KeepsOne : ParamValue → List ParamValue → List ParamValue → Type 0
 KeepsOne p old new = (written : List ParamValue) → AreKeptAs written old → AreKeptAs (written ++ p ∷ []) new
 
+-- All of these are kept behind those that are.
+abbrev pub KeepsAll : List ParamValue → List ParamValue → List ParamValue → Type 0
+KeepsAll more old new = (written : List ParamValue) → AreKeptAs written old → AreKeptAs (written ++ more) new
+
 -- the name of the one is less than that of the other
 abbrev pub is_below : ParamValue → ParamValue → Bool
 is_below p q = is_lt (name_cmp p.param q.param)

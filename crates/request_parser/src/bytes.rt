@@ -1,9 +1,9 @@
 // Classes of bytes, of which runs are taken, and of words.
 ghost use Rattle.std.specs.Prelude.{◌≡◌, length};
-ghost use Rattle.meaning_texts.specs.Classes.{is_letter, is_key_byte, is_value_byte};
+ghost use Rattle.meaning_texts.specs.Classes.{is_letter};
 ghost use Rattle.request_parser.specs.Runs.{has, class_of, begins};
 
-use odin_bytes::is_name_byte;
+use odin_bytes::{is_key_byte, is_name_byte, is_value_byte};
 
 /// A class of bytes.
 #[derive(Clone, Copy)]
@@ -58,16 +58,4 @@ impl Wanted {
             Wanted::Name | Wanted::Key => true,
         }
     }
-}
-
-fn is_key_byte(byte: u8) -> bool
-    ensures { result ≡ is_key_byte byte }
-{
-    byte.is_ascii_alphanumeric() || byte == b'_'
-}
-
-fn is_value_byte(byte: u8) -> bool
-    ensures { result ≡ is_value_byte byte }
-{
-    matches!(byte, b'!'..=b'~') && !matches!(byte, b'+' | b':' | b'%')
 }

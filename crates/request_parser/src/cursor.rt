@@ -30,7 +30,6 @@ impl From<Memory> for Stop {
 // A clause sees the bytes that are left.
 #[derive(Drop)]
 pub(crate) struct Cursor<'t> {
-    alloc: Global,
     rest: &'t [u8],
 }
 
@@ -43,14 +42,10 @@ impl<'t> Model for Cursor<'t> {
 }
 
 impl<'t> Cursor<'t> {
-    pub(crate) fn new(alloc: Global, text: &'t [u8]) -> Self
+    pub(crate) fn new(text: &'t [u8]) -> Self
         ensures { result ≡ text.now }
     {
-        Cursor { alloc, rest: text }
-    }
-
-    pub(crate) fn alloc(&self) -> Global {
-        self.alloc
+        Cursor { rest: text }
     }
 
     pub(crate) fn is_at_end(&self) -> bool
@@ -89,7 +84,7 @@ impl<'t> Cursor<'t> {
     }
 
     /// The longest word, which has to be of this class, and is taken.
-    pub(crate) fn word(&mut self, wanted: Wanted) -> Result<Bytes, Stop>
+    pub(crate) fn word(&mut self, alloc: Global, wanted: Wanted) -> Result<Bytes, Stop>
         ensures ok { IfOk result (λ word. TakesWord wanted word self.old self.new) }
         ensures err { IfErr result (HaltsBefore wanted self.old self.new) }
     {
@@ -103,7 +98,7 @@ impl<'t> Cursor<'t> {
             self.rest = &start[WORD_LIMIT..];
             return Err(Stop::Unexpected);
         }
-        Ok(Bytes::from_slice(self.alloc, run)?)
+        Ok(Bytes::from_slice(alloc, run)?)
     }
 }
 

@@ -8,6 +8,7 @@ use crate::bytes::{Class, Wanted};
 use crate::cursor::{Cursor, Stop};
 use crate::kept::keep;
 use object_values::{Bytes, ExprStep, Expression, Memory, ParamValue, Seq, when_done};
+use std::alloc::Global;
 
 /// One item.
 #[derive(Drop)]
@@ -57,26 +58,26 @@ impl Found {
 
 impl<'t> Cursor<'t> {
     /// All items up to the end.
-    pub(crate) fn items(&mut self) -> Result<Found, Stop>
+    pub(crate) fn items(&mut self, alloc: Global) -> Result<Found, Stop>
         ensures ok { IfOk result (λ found. AreRead self.old [] found.params.items found.steps) }
         ensures err { IfErr result (HaltsIn AreItems self.old self.new) }
     {
         let mut found = Found {
-            params: Vec::new(self.alloc()),
-            steps: Seq::new(self.alloc()),
+            params: Vec::new(alloc),
+            steps: Seq::new(alloc),
         };
-        let done = self.read_items(&mut found);
+        let done = self.read_items(alloc, &mut found);
         when_done(done, found)
     }
 
-    fn read_items(&mut self, found: &mut Found) -> Result<(), Stop>
+    fn read_items(&mut self, alloc: Global, found: &mut Found) -> Result<(), Stop>
         requires { IsEmpty found.old }
         ensures ok { OnOk result (AreRead self.old [] found.new.params.items found.new.steps) }
         ensures err { IfErr result (HaltsIn AreItems self.old self.new) }
     {
         self.run(Class::Space);
         'items: while !self.is_at_end() {
-            let item = self.item()?;
+            let item = self.item(alloc)?;
             found.put(item)?;
             self.run(Class::Space);
         }
@@ -84,60 +85,60 @@ impl<'t> Cursor<'t> {
     }
 
     // The item that comes next.
-    fn item(&mut self) -> Result<Item, Stop>
+    fn item(&mut self, alloc: Global) -> Result<Item, Stop>
         requires no_space { next self.old ≢ Some 32 }
         requires more { self.old ≢ [] }
         ensures ok { IfOk result (λ item. ReadsItem item self.old self.new) }
         ensures err { IfErr result (HaltsIn AreItems self.old self.new) }
     {
         if self.skip(b'+') {
-            return self.param();
+            return self.param(alloc);
         }
         if self.skip(b':') {
-            return self.type_step();
+            return self.type_step(alloc);
         }
         if self.skip(b'%') {
-            return self.pick();
+            return self.pick(alloc);
         }
         Err(Stop::Unexpected)
     }
 
     // What stands behind `+`.
-    fn param(&mut self) -> Result<Item, Stop>
+    fn param(&mut self, alloc: Global) -> Result<Item, Stop>
         ensures ok { IfOk result (λ item. ReadsItem item (43 ∷ self.old) self.new) }
         ensures err { IfErr result (HaltsIn (AreItemsBehind 43) self.old self.new) }
     {
-        let param = self.word(Wanted::Id)?;
-        let value = self.value()?;
+        let param = self.word(alloc, Wanted::Id)?;
+        let value = self.value(alloc)?;
         Ok(Item::Param(ParamValue { param, value }))
     }
 
     // `=` and a value, or nothing, which is the empty value.
-    fn value(&mut self) -> Result<Bytes, Memory>
+    fn value(&mut self, alloc: Global) -> Result<Bytes, Memory>
         ensures { IfOk result (λ value. TakesValue value self.old self.new) }
     {
         if !self.skip(b'=') {
-            return Ok(Bytes::new(self.alloc()));
+            return Ok(Bytes::new(alloc));
         }
         let value = self.run(Class::Value);
-        Bytes::from_slice(self.alloc(), value)
+        Bytes::from_slice(alloc, value)
     }
 
     // What stands behind `:`.
-    fn type_step(&mut self) -> Result<Item, Stop>
+    fn type_step(&mut self, alloc: Global) -> Result<Item, Stop>
         ensures ok { IfOk result (λ item. ReadsItem item (58 ∷ self.old) self.new) }
         ensures err { IfErr result (HaltsIn (AreItemsBehind 58) self.old self.new) }
     {
-        let id = self.word(Wanted::Id)?;
+        let id = self.word(alloc, Wanted::Id)?;
         Ok(Item::Step(ExprStep::To(id)))
     }
 
     // What stands behind `%`.
-    fn pick(&mut self) -> Result<Item, Stop>
+    fn pick(&mut self, alloc: Global) -> Result<Item, Stop>
         ensures ok { IfOk result (λ item. ReadsItem item (37 ∷ self.old) self.new) }
         ensures err { IfErr result (HaltsIn (AreItemsBehind 37) self.old self.new) }
     {
-        let key = self.word(Wanted::Key)?;
+        let key = self.word(alloc, Wanted::Key)?;
         Ok(Item::Step(ExprStep::Pick(key)))
     }
 }

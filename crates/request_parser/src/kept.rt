@@ -7,7 +7,7 @@ ghost use Rattle.request_parser.specs.Kept.{KeepsOne, IsPlaceOf, is_below};
 use object_values::{Memory, ParamValue, same};
 
 /// Puts the parameter behind those of its name and of lesser ones, unless it is there with its value.
-pub fn keep(params: &mut Vec<ParamValue>, param: ParamValue) -> Result<(), Memory>
+pub(crate) fn keep(params: &mut Vec<ParamValue>, param: ParamValue) -> Result<(), Memory>
     ensures { OnOk result (KeepsOne param params.old.items params.new.items) }
 {
     if has(params, &param) {

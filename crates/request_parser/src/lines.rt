@@ -1,17 +1,13 @@
 // The lines of a reference list.
-ghost use Rattle.std.specs.Prelude.{◌≡◌, ◌<◌, ◌∷◌, [], length, IfOk, IfSome, IfNone};
+ghost use Rattle.std.specs.Prelude.{◌≡◌, IfOk};
 ghost use Rattle.meaning_texts.specs.Reading.{expression_of};
-ghost use Rattle.meaning_texts.specs.Lines.{lines_of};
 ghost use Rattle.meaning_texts.specs.References.{is_passed_over, read_line, ReferenceList};
 
 use crate::fault::ExpressionFault;
 use crate::read::read_expression;
-use object_values::{Line, Lines, Memory, Seq};
-use odin_bytes::{drop_cr, first_line};
+use object_values::{Line, Lines, Memory, REFERENCE_LIMIT, Seq};
+use odin_bytes::next_line;
 use std::alloc::Global;
-
-// The most lines of a reference list that aren't passed over.
-const REFERENCE_LIMIT: usize = 10_000;
 
 /// The lines of a reference list. Where there are too many, reading stops at the first that is.
 pub fn read_lines(alloc: Global, text: &[u8]) -> Result<Lines, Memory>
@@ -31,21 +27,6 @@ pub fn read_lines(alloc: Global, text: &[u8]) -> Result<Lines, Memory>
         }
     }
     Ok(Lines::These(lines))
-}
-
-// The first line without its end, and what stands behind that.
-fn next_line(text: &[u8]) -> Option<(&[u8], &[u8])>
-    ensures some { IfSome result (λ cut. lines_of text.now ≡ cut.0.now ∷ lines_of cut.1.now) }
-    ensures shorter { IfSome result (λ cut. length cut.1.now < length text.now) }
-    ensures none { IfNone result (lines_of text.now ≡ []) }
-{
-    if text.is_empty() {
-        return None;
-    }
-    match first_line(text) {
-        Some((line, behind)) => Some((drop_cr(line), behind)),
-        None => Some((drop_cr(text), &[])),
-    }
 }
 
 fn is_passed_over(line: &[u8]) -> bool

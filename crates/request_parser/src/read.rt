@@ -8,11 +8,8 @@ ghost use Rattle.request_parser.specs.Refused.{IsRefusal};
 use crate::bytes::{Class, Wanted};
 use crate::cursor::{Cursor, Stop};
 use crate::fault::ExpressionFault;
-use object_values::Expression;
+use object_values::{EXPRESSION_LIMIT, Expression};
 use std::alloc::Global;
-
-// The most bytes of an expression.
-const EXPRESSION_LIMIT: usize = 1_000;
 
 /// The expression of a text. Of a longer text only the first 1,000 bytes are read.
 pub fn read_expression(alloc: Global, text: &[u8]) -> Result<Expression, ExpressionFault>
@@ -20,8 +17,8 @@ pub fn read_expression(alloc: Global, text: &[u8]) -> Result<Expression, Express
     ensures err { IfErr result (IsRefusal text.now) }
 {
     let counted = &text[..text.len().min(EXPRESSION_LIMIT)];
-    let mut cursor = Cursor::new(alloc, counted);
-    match cursor.expression() {
+    let mut cursor = Cursor::new(counted);
+    match cursor.expression(alloc) {
         Ok(expression) => within_limit(text, expression),
         Err(Stop::Unexpected) => {
             Err(ExpressionFault::BadAt(place_before(cursor.left(), counted)))
@@ -53,13 +50,13 @@ fn within_limit(text: &[u8], expression: Expression) -> Result<Expression, Expre
 
 impl<'t> Cursor<'t> {
     /// The expression that all bytes that are left are.
-    fn expression(&mut self) -> Result<Expression, Stop>
+    fn expression(&mut self, alloc: Global) -> Result<Expression, Stop>
         ensures ok { IfOk result (IsWrittenAs self.old) }
         ensures err { IfErr result (HaltsIn IsText self.old self.new) }
     {
         self.run(Class::Space);
-        let source = self.word(Wanted::Name)?;
-        let found = self.items()?;
+        let source = self.word(alloc, Wanted::Name)?;
+        let found = self.items(alloc)?;
         Ok(found.into_expression(source))
     }
 }

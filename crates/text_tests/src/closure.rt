@@ -127,7 +127,7 @@ fn tell(alloc: Global, closure: &mut Closure, scanned: Scanned, most: u32) -> Re
 }
 
 fn root_of(alloc: Global, root: &[u8]) -> Result<Closure, NameFault> {
-    Ok(Closure::new(alloc, Name::read(alloc, root)?)?)
+    Ok(Closure::new(alloc, Name::read(alloc, root)?))
 }
 
 // Whether just these names are reached once so many are told.

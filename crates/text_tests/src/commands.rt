@@ -1,7 +1,7 @@
 // Commands by their lines.
-use object_values::{Bytes, Memory};
+use object_values::{Bytes, COMMAND_LIMIT, Memory};
 use odin_bytes::write_number;
-use odin_commands::{COMMAND_LIMIT, Command, read_command};
+use odin_commands::{Command, read_command};
 use std::alloc::Global;
 use std::test::Fail;
 

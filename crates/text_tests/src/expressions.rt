@@ -36,12 +36,18 @@ const LONG: &[(&[u8], u8, usize, u32)] = &[
     (b"a", b' ', 999, 1001),
 ];
 
-// The front and then the byte, so often.
-fn long(alloc: Global, front: &[u8], byte: u8, count: usize) -> Result<Bytes, Memory> {
-    let mut text = Bytes::from_slice(alloc, front)?;
+// Adds the byte at the end, so often.
+fn put_often(text: &mut Bytes, byte: u8, count: usize) -> Result<(), Memory> {
     for _ in 0..count {
         text.push(byte)?;
     }
+    Ok(())
+}
+
+// The front and then the byte, so often.
+fn long(alloc: Global, front: &[u8], byte: u8, count: usize) -> Result<Bytes, Memory> {
+    let mut text = Bytes::from_slice(alloc, front)?;
+    put_often(&mut text, byte, count)?;
     Ok(text)
 }
 
@@ -105,5 +111,15 @@ fn words_and_texts_have_limits(rt: HostRuntime) {
     for (front, byte, count, place) in LONG {
         assert!(rt; is_limit(rt.alloc(), front, *byte, *count, *place) == Ok(true));
     }
-    assert!(rt; is_fault(rt.alloc(), &[b' '; 1000], 1001));
+}
+
+// Whether so many spaces are no expression, by the place behind them.
+fn is_blank(alloc: Global, count: usize, place: u32) -> Result<bool, Memory> {
+    let text = long(alloc, b"", b' ', count)?;
+    Ok(is_fault(alloc, text.as_slice(), place))
+}
+
+#[test]
+fn spaces_are_no_expression(rt: HostRuntime) {
+    assert!(rt; is_blank(rt.alloc(), 1000, 1001) == Ok(true));
 }

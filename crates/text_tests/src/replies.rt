@@ -1,5 +1,5 @@
 // A reply by its text.
-use object_values::{Bytes, Memory, Message, Seq, Status};
+use object_values::{Bytes, Memory, Message, Seq, Status, Text};
 use odin_commands::{Reply, ShownBody, write_reply};
 use std::alloc::Global;
 use std::test::Fail;
@@ -17,18 +17,18 @@ fn messages(alloc: Global) -> Result<Seq<Message>, Memory> {
     Ok(messages)
 }
 
-// An empty object with these messages.
-fn warned(alloc: Global, messages: Seq<Message>) -> Reply {
-    Reply::Shown {
+// An empty object with messages.
+fn warned(alloc: Global) -> Result<Reply, Memory> {
+    Ok(Reply::Shown {
         status: Status::Warning,
-        body: ShownBody::Simple(Bytes::new(alloc)),
-        messages,
-    }
+        body: ShownBody::Simple(Text::of(Bytes::new(alloc))?),
+        messages: messages(alloc)?,
+    })
 }
 
 // What is written of it.
 fn written(alloc: Global) -> Result<Bytes, Memory> {
-    let reply = warned(alloc, messages(alloc)?);
+    let reply = warned(alloc)?;
     let mut out = Bytes::new(alloc);
     let done = write_reply(&reply, &mut out);
     drop(reply);

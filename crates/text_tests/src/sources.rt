@@ -1,6 +1,6 @@
 // Sources, by the order of their names and by their newest texts.
 use object_sources::Sources;
-use object_values::{Bytes, Memory};
+use object_values::{Bytes, Memory, Text};
 use std::alloc::Global;
 use std::test::Fail;
 
@@ -10,10 +10,10 @@ fn put(
     sources: &mut Sources,
     name: &[u8],
     text: &[u8],
-) -> Result<Option<Bytes>, Memory> {
+) -> Result<Option<Text>, Memory> {
     sources.reserve()?;
     let name = Bytes::from_slice(alloc, name)?;
-    let text = Bytes::from_slice(alloc, text)?;
+    let text = Text::of(Bytes::from_slice(alloc, text)?)?;
     Ok(sources.put(name, text))
 }
 
@@ -23,22 +23,22 @@ fn put_again(
     sources: &mut Sources,
     name: &[u8],
     text: &[u8],
-) -> Result<Option<Bytes>, Memory> {
+) -> Result<Option<Text>, Memory> {
     if sources.get(name).is_none() {
         return Ok(None);
     }
     let name = Bytes::from_slice(alloc, name)?;
-    let text = Bytes::from_slice(alloc, text)?;
+    let text = Text::of(Bytes::from_slice(alloc, text)?)?;
     Ok(sources.put(name, text))
 }
 
 // Whether there is a text, and it is this one.
-fn is_text(found: Option<Bytes>, wanted: &[u8]) -> bool {
+fn is_text(found: Option<Text>, wanted: &[u8]) -> bool {
     found.is_some_and(|text| text.as_slice() == wanted)
 }
 
 // Whether there is a pair, whose name and text are both this.
-fn is_pair(found: Option<(&Bytes, &Bytes)>, wanted: &[u8]) -> bool {
+fn is_pair(found: Option<(&Bytes, &Text)>, wanted: &[u8]) -> bool {
     found.is_some_and(|(name, text)| name.as_slice() == wanted && text.as_slice() == wanted)
 }
 

@@ -5,7 +5,7 @@ ghost use Rattle.meaning_texts.specs.Lines.{with_lf};
 ghost use Rattle.meaning_calls.specs.Jobs as meaning;
 
 use crate::file_names::write_body_name;
-use object_values::{Bytes, Call, CallPart, Memory, ParamValue};
+use object_values::{Bytes, Call, CallPart, Memory, ParamValue, Text};
 use odin_bytes::write_number;
 use std::alloc::Global;
 
@@ -29,7 +29,7 @@ fn write_param(param: &ParamValue, out: &mut Bytes) -> Result<(), Memory>
     out.push(b'\n')
 }
 
-fn write_part_file(number: u64, body: &Option<Bytes>, out: &mut Bytes) -> Result<(), Memory>
+fn write_part_file(number: u64, body: &Option<Text>, out: &mut Bytes) -> Result<(), Memory>
     ensures { OnOk result (out.new ≡ out.old ++ meaning.part_file number body.now) }
 {
     match body {

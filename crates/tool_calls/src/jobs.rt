@@ -4,10 +4,10 @@ ghost use Rattle.meaning_calls.specs.Jobs as meaning;
 
 use crate::call_file::call_text;
 use crate::file_names::{WARNINGS, out_file, write_body_name};
-use object_values::{Bytes, Call, CallPart, Copied, FileBody, Job, Memory, Seq};
+use object_values::{Bytes, Call, CallPart, Copied, FileBody, Job, Memory, Seq, Text};
 use std::alloc::Global;
 
-// Adds the file of the part's body, if it has one.
+// Adds the file of the part's body, if it has one. It shares the body.
 fn put_body_file(
     alloc: Global,
     number: u64,
@@ -59,7 +59,7 @@ pub fn job_of(alloc: Global, call: &Call) -> Result<Job, Memory>
     let mut files = Seq::new(alloc);
     files.push(FileBody {
         name: Bytes::from_slice(alloc, b"call")?,
-        body: call_text(alloc, call)?,
+        body: Text::of(call_text(alloc, call)?)?,
     })?;
     put_body_files(alloc, call.parts.as_slice(), &mut files)?;
     Ok(Job {

@@ -3,7 +3,7 @@ ghost use Rattle.std.specs.Prelude.{◌≡◌, option_map, IfOk};
 ghost use Rattle.meaning_calls.specs.Outcomes as meaning;
 ghost use Rattle.tool_calls.specs.Left.{HoldsFirst};
 
-use object_values::{Bytes, Memory, Raw};
+use object_values::{Memory, Raw, Text};
 use std::alloc::Global;
 use std::collections::HashMap;
 
@@ -12,7 +12,7 @@ use std::collections::HashMap;
 #[derive(Drop)]
 pub(crate) struct Left<'a> {
     pub(crate) raw: &'a Raw,
-    bodies: HashMap<&'a [u8], &'a Bytes>,
+    bodies: HashMap<&'a [u8], &'a Text>,
     ghost firsts: { HoldsFirst bodies raw.now.files },
 }
 
@@ -30,7 +30,7 @@ impl<'a> Left<'a> {
     }
 
     /// The body of the first file of that name.
-    pub(crate) fn body(&self, name: &[u8]) -> Option<&Bytes>
+    pub(crate) fn body(&self, name: &[u8]) -> Option<&Text>
         ensures { option_map (λ body. body.now) result ≡
             meaning.file_in name.now self.now.raw.now.files }
     {

@@ -92,7 +92,7 @@ fn exit_outcome(alloc: Global, call: &Call, left: &Left, status: u8) -> Result<O
     }
 }
 
-/// The outcome of a call, whose job left this. Outputs are copied only where the outcome has them.
+/// The outcome of a call, whose job left this. Outputs share the bodies that it left.
 pub fn outcome_of(alloc: Global, call: &Call, raw: &Raw) -> Result<Outcome, Memory>
     ensures is { IfOk result (λ outcome. outcome ≡ meaning.outcome_of call.now raw.now) }
     ensures fits { IfOk result (λ outcome. meaning.OutcomeFits call.now outcome) }

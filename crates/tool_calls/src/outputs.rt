@@ -5,14 +5,14 @@ ghost use Rattle.meaning_calls.specs.Outcomes as meaning;
 
 use crate::file_names::out_file;
 use crate::left::Left;
-use object_values::{BODY_LIMIT, Bytes, Copied, Memory, OwnLine, Part, Seq, Status};
+use object_values::{BODY_LIMIT, Bytes, Copied, Memory, OwnLine, Part, Seq, Status, Text};
 use std::alloc::Global;
 
 // Adds what is wrong with the output, if anything is.
 fn put_fault(
     alloc: Global,
     name: &[u8],
-    body: Option<&Bytes>,
+    body: Option<&Text>,
     lines: &mut Seq<OwnLine>,
 ) -> Result<(), Memory>
     ensures { let there = option_map (λ body. body.now) body.entry in
@@ -62,7 +62,7 @@ fn output_of(alloc: Global, left: &Left, name: &Bytes) -> Result<Part, Memory>
     let file = out_file(alloc, name.as_slice())?;
     let body = match left.body(file.as_slice()) {
         Some(body) => body.copy(alloc)?,
-        None => Bytes::new(alloc),
+        None => Text::of(Bytes::new(alloc))?,
     };
     Ok(Part {
         name: name.copy(alloc)?,

@@ -1,6 +1,6 @@
 // The jobs of calls.
-use super::texts::{Files, Text, are_files, are_texts, call_of};
-use object_values::{Bytes, Call, Job, Memory, ParamValue, Seq};
+use super::texts::{Files, Text, are_files, are_texts, body_of, call_of};
+use object_values::{Bytes, Call, Job, Memory, ParamValue, Seq, Text as Body};
 use std::alloc::Global;
 use std::test::Fail;
 use tool_calls::{CallPart, job_of};
@@ -79,10 +79,10 @@ fn param(alloc: Global, name: &[u8], value: &[u8]) -> Result<ParamValue, Memory>
     })
 }
 
-// The bytes of an input that is not absent.
-fn body_of(alloc: Global, body: Option<&[u8]>) -> Result<Option<Bytes>, Memory> {
+// The body of an input that is not absent.
+fn body_in(alloc: Global, body: Option<&[u8]>) -> Result<Option<Body>, Memory> {
     match body {
-        Some(body) => Ok(Some(Bytes::from_slice(alloc, body)?)),
+        Some(body) => Ok(Some(body_of(alloc, body)?)),
         None => Ok(None),
     }
 }
@@ -92,7 +92,7 @@ fn part(alloc: Global, slot: u32, label: &[u8], body: Option<&[u8]>) -> Result<C
     Ok(CallPart {
         slot,
         label: Bytes::from_slice(alloc, label)?,
-        body: body_of(alloc, body)?,
+        body: body_in(alloc, body)?,
     })
 }
 

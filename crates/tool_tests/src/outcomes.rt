@@ -1,6 +1,6 @@
 // The outcomes of what jobs leave.
 use super::texts::{Files, Text, call_of, put_files};
-use object_values::{Bytes, End, FileBody, Memory, Part, Raw, Seq, Status};
+use object_values::{Bytes, End, FileBody, Memory, Part, Raw, Seq, Status, Text as Body};
 use odin_bytes::write_number;
 use std::alloc::Global;
 use std::test::Fail;
@@ -296,7 +296,7 @@ fn outcome_with(alloc: Global, left: &[(&[u8], &[u8])], file: FileBody) -> Resul
 fn outcome_of_long(alloc: Global, length: usize) -> Result<Outcome, Memory> {
     let file = FileBody {
         name: Bytes::from_slice(alloc, b"out.o")?,
-        body: Seq::from_vec(vec![in alloc; b'x'; length]?),
+        body: Body::of(Seq::from_vec(vec![in alloc; b'x'; length]?))?,
     };
     outcome_with(alloc, &[], file)
 }
@@ -349,7 +349,7 @@ fn long_warnings(alloc: Global) -> Result<Bytes, Memory> {
 fn warned(alloc: Global) -> Result<Outcome, Memory> {
     let file = FileBody {
         name: Bytes::from_slice(alloc, b"warnings")?,
-        body: long_warnings(alloc)?,
+        body: Body::of(long_warnings(alloc)?)?,
     };
     outcome_with(alloc, &[(b"out.o", b"")], file)
 }

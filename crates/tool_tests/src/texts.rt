@@ -1,5 +1,5 @@
 // Texts and files as tables name them, and calls that are made of them.
-use object_values::{Bytes, Call, FileBody, Memory, Seq};
+use object_values::{Bytes, Call, FileBody, Memory, Seq, Text as Body};
 use std::alloc::Global;
 
 pub(super) type Text = &'static [u8];
@@ -19,11 +19,16 @@ pub(super) fn put_texts(
     Ok(())
 }
 
+// The body with these bytes.
+pub(super) fn body_of(alloc: Global, bytes: &[u8]) -> Result<Body, Memory> {
+    Body::of(Bytes::from_slice(alloc, bytes)?)
+}
+
 // A file with this name and these bytes.
 fn file_of(alloc: Global, name: &[u8], body: &[u8]) -> Result<FileBody, Memory> {
     Ok(FileBody {
         name: Bytes::from_slice(alloc, name)?,
-        body: Bytes::from_slice(alloc, body)?,
+        body: body_of(alloc, body)?,
     })
 }
 

@@ -2,7 +2,7 @@
 ghost use Rattle.std.specs.Prelude.{◌≡◌, [], IfOk, OnOk};
 ghost use Rattle.toy_tools.specs.Toys as meaning;
 
-use object_values::{Bytes, Copied, End, FileBody, Job, Memory, Raw, Seq};
+use object_values::{Bytes, Copied, End, FileBody, Job, Memory, Raw, Seq, Text};
 use std::alloc::Global;
 
 pub(crate) fn without_output(alloc: Global, end: End, warnings: Bytes) -> Result<Raw, Memory>
@@ -11,7 +11,7 @@ pub(crate) fn without_output(alloc: Global, end: End, warnings: Bytes) -> Result
     let mut files = Seq::new(alloc);
     files.push(FileBody {
         name: Bytes::from_slice(alloc, b"warnings")?,
-        body: warnings,
+        body: Text::of(warnings)?,
     })?;
     Ok(Raw { end, files })
 }
@@ -30,6 +30,6 @@ pub(crate) fn put_output(
     };
     raw.files.push(FileBody {
         name: name.copy(alloc)?,
-        body: output,
+        body: Text::of(output)?,
     })
 }

@@ -1,7 +1,7 @@
 use Rattle.std.proofs.Common.{◌∙◌, List, ap, refl, sym, length}
 use Rattle.std.proofs.lemmas.List.{length-map}
 use Rattle.meaning_graph.specs.Graphs.{Text}
-use Rattle.meaning_tasks.specs.Tasks.{Led, extra_led, tool_task, task_of}
+use Rattle.meaning_tasks.specs.Tasks.{extra_led, tool_task, task_of}
 use Rattle.meaning_tasks.specs.Needs.{values_of, counted_needs}
 use Rattle.node_tasks.proofs.CallLemmas.{paths_are, without_path, with_call, call_is, few_led}
 use Rattle.node_tasks.proofs.calling.call_for.Goals as goal

@@ -1,5 +1,4 @@
 use Rattle.std.proofs.Common.{◌∙◌, sym, ap, List, map}
-use Rattle.object_values.specs.declared.graph.PartDecl.{PartDecl}
 use Rattle.meaning_tasks.specs.Tasks.{PackPart, pack_part}
 use Rattle.meaning_tasks.specs.Needs.{Known, values_of, counted_needs}
 use Rattle.meaning_tasks.proofs.Lemmas.{packed_counted_are}

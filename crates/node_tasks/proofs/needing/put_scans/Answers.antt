@@ -1,9 +1,8 @@
-use Rattle.std.proofs.Common.{◌∙◌, ap, sym, arith, List, ◌++◌, flat_map, append_assoc}
+use Rattle.std.proofs.Common.{◌∙◌, ap, arith, List, ◌++◌, flat_map, append_assoc}
 use Rattle.std.specs.Prelude.{option_to_list}
 use Rattle.std.proofs.lemmas.List.{take_all}
 use Rattle.object_values.specs.declared.nodes.Node.{Node}
 use Rattle.meaning_graph.specs.Graphs.{Text}
-use Rattle.meaning_nodes.specs.Nodes.{source_node}
 use Rattle.meaning_tasks.specs.Tasks.{scan_node, tool_task}
 use Rattle.meaning_tasks.specs.Needs.{values_of, scan_needs}
 use Rattle.node_tasks.proofs.NeedLemmas.{one_more}

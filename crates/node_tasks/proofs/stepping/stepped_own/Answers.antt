@@ -1,6 +1,5 @@
 use Rattle.std.proofs.Common.{◌≡◌, ap, subst}
 use Rattle.std.specs.Prelude.{IfOk, option_map}
-use Rattle.object_values.specs.declared.calls.Outcome.{Outcome}
 use Rattle.meaning_nodes.specs.Labels.{label_of}
 use Rattle.meaning_tasks.specs.Tasks.{Own}
 use Rattle.meaning_tasks.specs.Needs.{values_of}

@@ -1,4 +1,4 @@
-use Rattle.std.proofs.Common.{◌∙◌, ap, sym}
+use Rattle.std.proofs.Common.{◌∙◌, ap}
 use Rattle.std.specs.Prelude.{bytes_eq, find}
 use Rattle.object_values.specs.declared.views.Part.{Part}
 use Rattle.odin_nodes.proofs.PickLemmas.{body_picked}

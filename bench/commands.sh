@@ -1,0 +1,58 @@
+#!/bin/bash
+# Measures commands of a session and the reading of a list of references beside dd, cat and sha256sum, in one run: the medians of five
+# rounds. The memory is measured once.
+set -eu
+export LC_ALL=C
+cd "$(dirname "$0")/.."
+odin=$PWD/crates/odin/out/odin
+reader=$PWD/crates/text_bench/out/text_bench
+work=$(mktemp -d)
+trap 'rm -rf "$work"' EXIT
+lines=200000
+runs=20
+
+# The seconds that a command takes, with its input and without its output.
+seconds() {
+    local input=$1 start=$EPOCHREALTIME
+    shift
+    "$@" < "$input" > /dev/null 2> /dev/null
+    awk -v a="$start" -v b="$EPOCHREALTIME" 'BEGIN { printf "%.3f\n", b - a }'
+}
+# The seconds of a command that reads a put with a name that is none and its 1,000,000,000 zeros from a pipe.
+piped() {
+    local start=$EPOCHREALTIME
+    { printf 'put a?c 1000000000\n'; head -c 1000000000 /dev/zero; } | "$@" > /dev/null
+    awk -v a="$start" -v b="$EPOCHREALTIME" 'BEGIN { printf "%.3f\n", b - a }'
+}
+# The seconds that so many runs of a command take, without its output.
+repeated() {
+    local start=$EPOCHREALTIME
+    for _ in $(seq "$runs"); do "$@" > /dev/null; done
+    awk -v a="$start" -v b="$EPOCHREALTIME" 'BEGIN { printf "%.3f\n", b - a }'
+}
+median() { sort -n < "$work/$1" | sed -n 3p; }
+compare() { awk -v what="$1" -v a="$(median "$2")" -v other="$3" -v b="$(median "$4")" 'BEGIN { printf "%s %s s, %s %s s, ratio %.2f\n", what, a, other, b, a / b }'; }
+
+yes 'ask a.c+debug' | head -"$lines" > "$work/asks"
+yes 'plan a.c:o' | head -"$lines" > "$work/plans"
+head -c 4194304 /dev/urandom > "$work/text"
+
+# The replies are `refused param debug` and `plan 1` with `cc`, of 20 and 10 bytes, each taken by one write.
+for _ in 1 2 3 4 5; do
+    seconds "$work/asks" "$odin" g0 >> "$work/asks.odin"
+    seconds /dev/null dd bs=20 count="$lines" if=/dev/zero of=/dev/null >> "$work/asks.dd"
+    seconds "$work/plans" "$odin" g0 >> "$work/plans.odin"
+    seconds /dev/null dd bs=10 count="$lines" if=/dev/zero of=/dev/null >> "$work/plans.dd"
+    piped "$odin" g0 >> "$work/refused.odin"
+    piped cat >> "$work/refused.cat"
+    repeated "$reader" 10000 >> "$work/lists.reader"
+    repeated sha256sum "$work/text" >> "$work/lists.sha"
+done
+{ printf 'put a?c 1000000000\n'; head -c 1000000000 /dev/zero; } | /usr/bin/time -f %M -o "$work/memory" "$odin" g0 > "$work/reply"
+
+compare asks asks.odin dd asks.dd
+compare plans plans.odin dd plans.dd
+compare "refused put" refused.odin cat refused.cat
+echo "memory of the refused put $(cat "$work/memory") KiB, its reply: $(cat "$work/reply")"
+"$reader" 10000
+compare "$runs times reading them" lists.reader sha256sum lists.sha

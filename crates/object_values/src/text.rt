@@ -1,0 +1,101 @@
+// Texts that share their bytes.
+ghost use Rattle.std.specs.Prelude.{◌≡◌, ◌↔◌, [], length, IsTrue, IfOk};
+
+use sequences::{Bytes, Copied, Memory};
+use std::alloc::Global;
+use std::hash::{Hash, Hasher};
+use std::marker::Model;
+use std::rc::RcSlice;
+
+/// Bytes that never change, which contracts see as their list. A copy is a count: it shares them.
+pub struct Text {
+    bytes: RcSlice<u8>,
+}
+
+// By hand: a drop is one call, where a derived one is opened field by field at each early return.
+impl Drop for Text {
+    fn drop(self) {
+        let Text { bytes } = self;
+        drop(bytes);
+    }
+}
+
+impl Model for Text {
+    ghost use Rattle.std.specs.Prelude.{ℕ, List};
+    ghost use Rattle.std.specs.Rc.{rc_slice_items};
+
+    ghost Value = { List ℕ };
+
+    ghost view = { λ t. rc_slice_items t.bytes };
+}
+
+impl Text {
+    /// The same bytes, which are moved. Only the count beside them takes memory.
+    pub fn of(bytes: Bytes) -> Result<Self, Memory>
+        ensures { IfOk result (λ text. text ≡ bytes) }
+    {
+        Ok(Text {
+            bytes: RcSlice::from_vec(bytes.into_vec())?,
+        })
+    }
+
+    pub fn as_slice(&self) -> &[u8]
+        ensures { result.now ≡ self.now }
+    {
+        self.bytes.as_slice()
+    }
+
+    pub fn len(&self) -> usize
+        ensures { result ≡ length self.now }
+    {
+        self.bytes.len()
+    }
+
+    pub fn is_empty(&self) -> bool
+        ensures { IsTrue result ↔ (self.now ≡ []) }
+    {
+        self.as_slice().is_empty()
+    }
+}
+
+impl Copied for Text {
+    fn copy(&self, _alloc: Global) -> Result<Self, Memory> {
+        Ok(Text {
+            bytes: self.bytes.clone()?,
+        })
+    }
+}
+
+impl PartialEq for Text {
+    ghost use Rattle.std.specs.Cmp.Lexicographic.{pointwise, nat_list_eq_equiv};
+    ghost use Rattle.std.specs.Cmp.{partial_equiv_from_equiv};
+    ghost use Rattle.std.specs.Prelude.{nat_eq};
+
+    ghost eq = { pointwise nat_eq };
+
+    ghost laws = { partial_equiv_from_equiv nat_list_eq_equiv };
+
+    fn eq(&self, other: &Self) -> bool {
+        self.as_slice() == other.as_slice()
+    }
+}
+
+impl Eq for Text {
+    ghost use Rattle.std.specs.Cmp.Lexicographic.{nat_list_eq_equiv};
+
+    ghost laws = { nat_list_eq_equiv };
+}
+
+impl Hash for Text {
+    ghost use Rattle.std.specs.Hash as fed;
+    ghost use Rattle.std.specs.Hash.{items_Alike, same_Alike};
+    ghost use Rattle.std.proofs.lemmas.Bool.Decides.{Decides-eqb};
+
+    ghost hash_input = { fed.slice fed.u8 };
+
+    ghost respects_eq = { (items_Alike (same_Alike fed.u8 Decides-eqb)).fed };
+
+    fn hash<H: Hasher>(&self, state: &mut H) {
+        self.as_slice().hash(state);
+    }
+}

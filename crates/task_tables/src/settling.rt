@@ -1,0 +1,44 @@
+// What a node settles to, by what its tool leaves.
+ghost use Rattle.std.specs.Prelude.{◌≡◌, ◌≢◌, [], IfOk, option_map};
+ghost use Rattle.meaning_graph_text.specs.Grammar.{IsSpellable};
+ghost use Rattle.meaning_nodes.specs.Nodes.{Fits};
+ghost use Rattle.node_tasks.specs.Seen.{FitsCall};
+ghost use Rattle.path_planner.specs.Ends.{plans_of};
+ghost use Rattle.task_tables.specs.Called.{IsCalled};
+
+use node_tasks::{Results, settle};
+use object_values::{Call, Memory, Node, Outcome, Raw, View};
+use path_planner::Plans;
+use std::alloc::Global;
+use tool_calls::outcome_of;
+use type_graph::Graph;
+
+/// What a node with steps settles to, where its tool, if one is run, leaves this.
+pub fn settle_after<R: Results>(
+    alloc: Global,
+    graph: &Graph,
+    plans: &Plans,
+    node: &Node,
+    seen: &R,
+    call: Option<&Call>,
+    left: &Raw,
+) -> Result<View, Memory>
+    requires spellable { IsSpellable graph.now }
+    requires made { plans.now ≡ plans_of graph.now }
+    requires fits { Fits graph.now node.now }
+    requires stepped { node.now.steps ≢ [] }
+    requires called { let given = option_map (λ c. c.now) call in
+        IsCalled graph.now node.now (R.results seen.now) given }
+{
+    let outcome = outcome_after(alloc, call, left)?;
+    settle(alloc, graph, plans, node, seen, outcome.as_ref())
+}
+
+fn outcome_after(alloc: Global, call: Option<&Call>, left: &Raw) -> Result<Option<Outcome>, Memory>
+    ensures { IfOk result (FitsCall (option_map (λ c. c.now) call.entry)) }
+{
+    let Some(call) = call else {
+        return Ok(None);
+    };
+    Ok(Some(outcome_of(alloc, call, left)?))
+}

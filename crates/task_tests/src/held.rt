@@ -1,0 +1,153 @@
+// Results as tables name them.
+ghost use Rattle.std.specs.Prelude.{◌≡◌};
+ghost use Rattle.path_planner.specs.Ends.{plans_of};
+
+use super::graphs::Text;
+use object_values::{Bytes, Memory, Message, Node, Part, Seq, Status, Value, View};
+use path_planner::Plans;
+use std::alloc::Global;
+use task_tables::{Fault, Table, body_of, node_in};
+use type_graph::Graph;
+
+// A message: its level, its label and its text.
+pub(super) type Said = (Status, Text, Text);
+
+// An object as it is found: a text, this text so many times, a text beside messages that warn, the
+// texts of nodes, parts with their names, or nothing but messages.
+#[derive(Clone, Copy)]
+pub(super) enum Held {
+    Simple(Text),
+    Repeated(Text, u32),
+    Warned(Text, &'static [Said]),
+    List(&'static [Text]),
+    Compound(&'static [(Text, Text)]),
+    Aborted(&'static [Said]),
+}
+
+// Nodes by their texts, each with what is found of it.
+pub(super) type Results = &'static [(Text, Held)];
+
+pub(super) fn status_of(held: Held) -> Status {
+    match held {
+        Held::Warned(_, _) => Status::Warning,
+        Held::Aborted(_) => Status::Abort,
+        _ => Status::Ok,
+    }
+}
+
+pub(super) fn said_of(held: Held) -> &'static [Said] {
+    match held {
+        Held::Warned(_, said) => said,
+        Held::Aborted(said) => said,
+        _ => &[],
+    }
+}
+
+fn repeated(alloc: Global, text: &[u8], count: u32) -> Result<Bytes, Memory> {
+    let mut bytes = Bytes::new(alloc);
+    for _ in 0..count {
+        bytes.extend_from_slice(text)?;
+    }
+    Ok(bytes)
+}
+
+fn message_of(alloc: Global, said: Said) -> Result<Message, Memory> {
+    let (level, label, text) = said;
+    Ok(Message {
+        label: Bytes::from_slice(alloc, label)?,
+        level,
+        text: Bytes::from_slice(alloc, text)?,
+    })
+}
+
+fn messages_of(alloc: Global, all: &[Said]) -> Result<Seq<Message>, Memory> {
+    let mut messages = Seq::new(alloc);
+    for said in all {
+        messages.push(message_of(alloc, *said)?)?;
+    }
+    Ok(messages)
+}
+
+fn nodes_of(alloc: Global, graph: &Graph, plans: &Plans, texts: &[Text]) -> Result<Seq<Node>, Fault>
+    requires made { plans.now ≡ plans_of graph.now }
+{
+    let mut nodes = Seq::new(alloc);
+    for text in texts {
+        nodes.push(node_in(alloc, graph, plans, text)?)?;
+    }
+    Ok(nodes)
+}
+
+fn part_of(alloc: Global, name: &[u8], body: &[u8]) -> Result<Part, Memory> {
+    Ok(Part {
+        name: Bytes::from_slice(alloc, name)?,
+        body: body_of(alloc, body)?,
+    })
+}
+
+fn parts_of(alloc: Global, rows: &[(Text, Text)]) -> Result<Seq<Part>, Memory> {
+    let mut parts = Seq::new(alloc);
+    for (name, body) in rows {
+        parts.push(part_of(alloc, name, body)?)?;
+    }
+    Ok(parts)
+}
+
+fn value_of(alloc: Global, graph: &Graph, plans: &Plans, held: Held) -> Result<Option<Value>, Fault>
+    requires made { plans.now ≡ plans_of graph.now }
+{
+    match held {
+        Held::Simple(text) => Ok(Some(Value::Simple(body_of(alloc, text)?))),
+        Held::Repeated(text, count) => {
+            let bytes = repeated(alloc, text, count)?;
+            Ok(Some(Value::Simple(body_of(alloc, bytes.as_slice())?)))
+        }
+        Held::Warned(text, _) => Ok(Some(Value::Simple(body_of(alloc, text)?))),
+        Held::List(texts) => Ok(Some(Value::List(nodes_of(alloc, graph, plans, texts)?))),
+        Held::Compound(rows) => Ok(Some(Value::Compound(parts_of(alloc, rows)?))),
+        Held::Aborted(_) => Ok(None),
+    }
+}
+
+fn view_of(alloc: Global, graph: &Graph, plans: &Plans, held: Held) -> Result<View, Fault>
+    requires made { plans.now ≡ plans_of graph.now }
+{
+    let messages = messages_of(alloc, said_of(held))?;
+    Ok(View {
+        value: value_of(alloc, graph, plans, held)?,
+        status: status_of(held),
+        messages,
+    })
+}
+
+fn put_result(
+    alloc: Global,
+    graph: &Graph,
+    plans: &Plans,
+    text: &[u8],
+    held: Held,
+    table: &mut Table,
+) -> Result<(), Fault>
+    requires made { plans.now ≡ plans_of graph.now }
+{
+    let node = node_in(alloc, graph, plans, text)?;
+    let view = view_of(alloc, graph, plans, held)?;
+    table.put(alloc, node, view)?;
+    Ok(())
+}
+
+// Adds what is found of nodes to a table.
+pub(super) fn put_results(
+    alloc: Global,
+    graph: &Graph,
+    plans: &Plans,
+    results: &[(Text, Held)],
+    table: &mut Table,
+) -> Result<(), Fault>
+    requires made { plans.now ≡ plans_of graph.now }
+{
+    for (text, held) in results {
+        put_result(alloc, graph, plans, text, *held, table)?;
+    }
+    Ok(())
+}
