@@ -183,7 +183,7 @@ fn passes_over_a_text_that_is_too_long(rt: HostRuntime) -> Result<(), Fail> {
         (b"put x 16777217\n", 16_777_217, longer),
     ];
     for (front, count, want) in rows {
-        for piece in [7, 5000] {
+        for piece in [1, 2, 7, 5000] {
             let (status, output) = padded_outcome(rt.alloc(), front, count, b"sources\n", piece)?;
             assert_eq!(rt; status, 0);
             assert!(rt; output.as_slice() == want);
