@@ -7,7 +7,7 @@ use sequences::{Bytes, Copied, Memory, Seq};
 use std::alloc::Global;
 
 /// An input of a call: its slot, its label, and its bytes where it is not absent.
-#[derive(PartialEq, Eq, Drop)]
+#[derive(PartialEq, Eq, Hash, Drop)]
 pub struct CallPart {
     pub slot: u32,
     pub label: Bytes,
@@ -15,7 +15,7 @@ pub struct CallPart {
 }
 
 /// A call: the tool, the used parameters, the inputs and the names of the outputs.
-#[derive(PartialEq, Eq, Drop)]
+#[derive(PartialEq, Eq, Hash, Drop)]
 pub struct Call {
     pub tool: Bytes,
     pub version: Bytes,

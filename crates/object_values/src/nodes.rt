@@ -3,21 +3,21 @@ use sequences::{Bytes, Copied, Memory, Seq};
 use std::alloc::Global;
 
 /// A parameter with one of its values.
-#[derive(PartialEq, Eq, PartialOrd, Ord, Drop)]
+#[derive(PartialEq, Eq, PartialOrd, Ord, Hash, Drop)]
 pub struct ParamValue {
     pub param: Bytes,
     pub value: Bytes,
 }
 
 /// One maker, by its number in the graph, or the pick of an element or a part.
-#[derive(PartialEq, Eq, Drop)]
+#[derive(PartialEq, Eq, Hash, Drop)]
 pub enum Step {
     Maker(u32),
     Pick(Bytes),
 }
 
 /// An object by the way to it. Without steps it is the source itself.
-#[derive(PartialEq, Eq, Drop)]
+#[derive(PartialEq, Eq, Hash, Drop)]
 pub struct Node {
     pub source: Bytes,
     pub params: Seq<ParamValue>,
