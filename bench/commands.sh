@@ -1,6 +1,6 @@
 #!/bin/bash
-# Measures commands of a session and the reading of a list of references beside dd, cat and sha256sum, in one run: the medians of five
-# rounds. The memory is measured once.
+# Measures commands of a session and the reading of a list of references beside dd, cat, wc and sha256sum, in one run: the medians of five
+# rounds, and of the refused put the least of nine. The memory is measured once.
 set -eu
 export LC_ALL=C
 cd "$(dirname "$0")/.."
@@ -10,6 +10,8 @@ work=$(mktemp -d)
 trap 'rm -rf "$work"' EXIT
 lines=200000
 runs=20
+zeros=1073741800
+TIMEFORMAT='%R %U %S'
 
 # The seconds that a command takes, with its input and without its output.
 seconds() {
@@ -18,12 +20,10 @@ seconds() {
     "$@" < "$input" > /dev/null 2> /dev/null
     awk -v a="$start" -v b="$EPOCHREALTIME" 'BEGIN { printf "%.3f\n", b - a }'
 }
-# The seconds of a command that reads a put with a name that is none and its 1,000,000,000 zeros from a pipe.
-piped() {
-    local start=$EPOCHREALTIME
-    { printf 'put a?c 1000000000\n'; head -c 1000000000 /dev/zero; } | "$@" > /dev/null
-    awk -v a="$start" -v b="$EPOCHREALTIME" 'BEGIN { printf "%.3f\n", b - a }'
-}
+# A put with a name that is none, and its zeros: as many as an input may have behind that line.
+zeros_put() { printf 'put a?c %s\n' "$zeros"; head -c "$zeros" /dev/zero; }
+# The seconds of a command that reads it from a pipe: by the clock, and its own user and system time.
+piped() { { zeros_put | { time "$@" > /dev/null 2> /dev/null; }; } 2>&1 | awk '{ printf "%s %.3f\n", $1, $2 + $3 }'; }
 # The seconds that so many runs of a command take, without its output.
 repeated() {
     local start=$EPOCHREALTIME
@@ -31,6 +31,12 @@ repeated() {
     awk -v a="$start" -v b="$EPOCHREALTIME" 'BEGIN { printf "%.3f\n", b - a }'
 }
 median() { sort -n < "$work/$1" | sed -n 3p; }
+# The least of a column.
+least() { sort -n -k "$2,$2" < "$work/$1" | awk -v column="$2" 'NR == 1 { print $column }'; }
+compare_least() {
+    awk -v what="$1" -v a="$(least refused.odin "$2")" -v b="$(least refused.cat "$2")" -v c="$(least refused.wc "$2")" \
+        'BEGIN { printf "%s: %s s, cat %s s, ratio %.2f, wc -c %s s, ratio %.2f\n", what, a, b, a / b, c, a / c }'
+}
 compare() { awk -v what="$1" -v a="$(median "$2")" -v other="$3" -v b="$(median "$4")" 'BEGIN { printf "%s %s s, %s %s s, ratio %.2f\n", what, a, other, b, a / b }'; }
 
 yes 'ask a.c+debug' | head -"$lines" > "$work/asks"
@@ -43,16 +49,21 @@ for _ in 1 2 3 4 5; do
     seconds /dev/null dd bs=20 count="$lines" if=/dev/zero of=/dev/null >> "$work/asks.dd"
     seconds "$work/plans" "$odin" g0 >> "$work/plans.odin"
     seconds /dev/null dd bs=10 count="$lines" if=/dev/zero of=/dev/null >> "$work/plans.dd"
-    piped "$odin" g0 >> "$work/refused.odin"
-    piped cat >> "$work/refused.cat"
     repeated "$reader" 10000 >> "$work/lists.reader"
     repeated sha256sum "$work/text" >> "$work/lists.sha"
 done
-{ printf 'put a?c 1000000000\n'; head -c 1000000000 /dev/zero; } | /usr/bin/time -f %M -o "$work/memory" "$odin" g0 > "$work/reply"
+# The writer of the zeros is unsteady: so the programs are run in turn, and the least time of each is told. `wc -c` only reads, as odin does.
+for _ in 1 2 3 4 5 6 7 8 9; do
+    piped "$odin" g0 >> "$work/refused.odin"
+    piped cat >> "$work/refused.cat"
+    piped wc -c >> "$work/refused.wc"
+done
+zeros_put | /usr/bin/time -f %M -o "$work/memory" "$odin" g0 > "$work/reply"
 
 compare asks asks.odin dd asks.dd
 compare plans plans.odin dd plans.dd
-compare "refused put" refused.odin cat refused.cat
+compare_least "refused put, the least by the clock" 1
+compare_least "refused put, the least user and system time" 2
 echo "memory of the refused put $(cat "$work/memory") KiB, its reply: $(cat "$work/reply")"
 "$reader" 10000
 compare "$runs times reading them" lists.reader sha256sum lists.sha

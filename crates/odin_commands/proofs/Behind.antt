@@ -1,18 +1,18 @@
 -- The command of a line, by the first bytes that it has.
-use Rattle.std.proofs.Common.{◌≡◌, ◌≢◌, ℕ, zero, suc, ◌<◌, ◌≤◌, ◌^◌, length, replicate, Bool, true, false, not, List, [], ◌∷◌, ◌++◌, ◌⊎◌, inl, inr, sym, ap, ◌∙◌, subst, refl, cond, codes}
+use Rattle.std.proofs.Common.{◌≡◌, ◌≢◌, ℕ, zero, suc, ◌<◌, ◌≤◌, ◌^◌, length, replicate, true, false, List, [], ◌∷◌, ◌++◌, inl, inr, sym, ap, ◌∙◌, refl, codes}
 use Rattle.std.specs.Prelude.{Option, Some, None}
 use Rattle.std.specs.Option.{option_and_then}
 use Rattle.std.specs.Fmt.{decimal}
-use Rattle.std.proofs.lemmas.Bool.{cond-true, cond-false, cases_Bool, and_from}
+use Rattle.std.proofs.lemmas.Bool.{cond-true, cond-false, cases_Bool}
 use Rattle.meaning_texts.specs.Classes.{IsName, is_name_byte}
 use Rattle.meaning_texts.specs.Tests.{is_name}
 use Rattle.meaning_texts.specs.Limits.{command_limit}
-use Rattle.meaning_texts.specs.Lists.{HasNo, is_empty}
+use Rattle.meaning_texts.specs.Lists.{HasNo}
 use Rattle.meaning_texts.proofs.Lemmas.{word_decides}
 use Rattle.meaning_commands.specs.declared.commands.Command.{Command}
-use Rattle.meaning_commands.specs.declared.commands.Command.TheVariants.{Put, Take, Remove, Ask, Plan, Bad, BadName}
+use Rattle.meaning_commands.specs.declared.commands.Command.TheVariants.{Put, Ask, Plan, Bad, BadName}
 use Rattle.meaning_commands.specs.Commands.{Spells, formed, formless}
-use Rattle.meaning_commands.specs.Reading.{number_of, before_space, behind_space, behind, is_argument, naming, put_of, put_words, first_of, formed_command}
+use Rattle.meaning_commands.specs.Reading.{number_of, before_space, behind_space, is_argument, naming, put_of, put_words, first_of, formed_command}
 use Rattle.meaning_commands.proofs.Lemmas.{reads_number, none_number, before_is, behind_is, none_space, none_behind, argument_test, form_reads, reads_form}
 use Rattle.odin_commands.specs.declared.read.Argument.{Argument}
 use Rattle.odin_commands.specs.declared.read.Argument.TheVariants.{Name, Other, NoWord}
@@ -64,6 +64,11 @@ naming_put word count = elim (cases_Bool (is_argument word)) [
   ]
   | inr a ↦ rw a refl
 ]
+
+-- the words, by what stands in the place of the name
+pub put_is : (rest word digits : List ℕ) (count : ℕ) (argument : Argument) → rest ≡ word ++ 32 ∷ digits → HasNo 32 word → count < 2 ^ 64 → digits ≡ decimal count → argument_of word ≡ argument
+    → put_words rest ≡ put_made count argument
+put_is rest word digits count argument is spaceless small spelled names = put_number rest word digits count is spaceless small spelled ∙ naming_put word count ∙ ap (put_made count) names
 
 -- ---- lines
 

@@ -1,6 +1,5 @@
 -- What is written behind what is there.
 use Rattle.std.specs.Prelude.{◌≡◌, ℕ, List, ◌++◌, length, take, Result, Ok, Err}
-use Rattle.object_values.specs.declared.views.Part.{Part}
 
 -- The text was added at the end. Where memory is wanted, what was there stands in front.
 abbrev pub Adds : {E : Type 0} → Result Unit E → List ℕ → List ℕ → List ℕ → Type 0

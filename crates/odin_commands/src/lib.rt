@@ -10,4 +10,4 @@ mod write;
 pub use command::{body_size, ends_run};
 pub use meaning_commands::{Command, Reply, ShownBody};
 pub use read::read_command;
-pub use write::write_reply;
+pub use write::{text_of, write_reply};

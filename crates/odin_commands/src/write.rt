@@ -1,5 +1,5 @@
 // The replies, each by its variant.
-ghost use Rattle.std.specs.Prelude.{◌≡◌, ◌++◌, OnOk, OnErr};
+ghost use Rattle.std.specs.Prelude.{◌≡◌, ◌++◌, IfOk, OnOk, OnErr};
 ghost use Rattle.meaning_commands.specs.Replies.{reply_text};
 ghost use Rattle.odin_commands.specs.Writing.{Adds};
 
@@ -7,6 +7,7 @@ use crate::lines::{write_counted, write_line, write_lines, write_named, write_na
 use crate::objects::write_object;
 use meaning_commands::Reply;
 use object_values::{Bytes, Memory};
+use std::alloc::Global;
 
 // The room that most replies fit in.
 const USUAL_ROOM: usize = 96;
@@ -56,4 +57,13 @@ pub fn write_reply(reply: &Reply, out: &mut Bytes) -> Result<(), Memory>
         out.truncate(before);
     }
     done
+}
+
+/// The bytes of a reply.
+pub fn text_of(alloc: Global, reply: Reply) -> Result<Bytes, Memory>
+    ensures { IfOk result (λ bytes. bytes ≡ reply_text reply) }
+{
+    let mut bytes = Bytes::new(alloc);
+    write_reply(&reply, &mut bytes)?;
+    Ok(bytes)
 }

@@ -18,10 +18,10 @@ use Rattle.meaning_commands.specs.declared.replies.Reply.{Reply}
 use Rattle.meaning_commands.specs.declared.replies.Reply.TheVariants as reply
 use Rattle.meaning_commands.specs.Replies.{reply_text}
 use Rattle.odin_shell.specs.Language.{commands}
-use Rattle.odin_shell.specs.Edits.{TreeTold, Inserts, TakesFile, RemovesText, source_lines}
+use Rattle.source_edits.specs.Edits.{TreeTold, Inserts, TakesFile, RemovesText, source_lines}
 use Rattle.odin_shell.specs.Machine.{State, Step}
 use Rattle.odin_shell.specs.Laws.{count_of, FitsCounts}
-use Rattle.odin_shell.proofs.ServeLemmas.{reply_later, step_tree}
+use Rattle.odin_shell.proofs.ServeLemmas.{reply_later}
 
 -- ---- bytes
 

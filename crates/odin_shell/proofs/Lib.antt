@@ -1,6 +1,5 @@
 mod CountLemmas
 mod CutLemmas
-mod EditLemmas
 mod GraphLemmas
 mod HeldLemmas
 mod LineLemmas
@@ -8,7 +7,6 @@ mod OpenedLemmas
 mod RunLemmas
 mod ServeLemmas
 mod SessionLemmas
-mod SourceLemmas
 mod StayLemmas
 mod TranscriptLemmas
 mod PlanLemmas

@@ -15,9 +15,9 @@ use Rattle.odin_shell.specs.Words.{graph_word, IsAccepted}
 use Rattle.odin_shell.specs.Opened.{Opens}
 use Rattle.odin_shell.specs.Language.{commands}
 use Rattle.odin_shell.specs.Held.{Keeps}
-use Rattle.odin_shell.specs.Edits.{TreeTold, TreeStays, IsAsked}
+use Rattle.source_edits.specs.Edits.{TreeTold, TreeStays, tree_of}
 use Rattle.odin_shell.specs.Machine.{at_first, Told, ToolsStay, machine}
-use Rattle.odin_shell.specs.Objects.{SourceTold, tree_of, Outside, Meaning}
+use Rattle.odin_shell.specs.Objects.{SourceTold, Outside, Meaning}
 use Rattle.odin_shell.specs.Run as run
 use Rattle.odin_shell.specs.Run.{LastLine, whole, cut_off, SessionLeaves, SessionEnds, InputCount, OutputCount, AllowedBy}
 use Rattle.meaning_commands.proofs.Lemmas.{one_command}

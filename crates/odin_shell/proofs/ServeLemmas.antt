@@ -1,5 +1,5 @@
 -- A command served: its change, its reply, and where it stops.
-use Rattle.std.proofs.Common.{◌≡◌, ◌≢◌, ℕ, ◌≤◌, Bool, true, false, Result, Ok, Err, OnErr, IfErr, IsErrAnd, inl, inr, List, [], length, Option, ap, sym, refl, ◌∙◌, subst, arith}
+use Rattle.std.proofs.Common.{◌≡◌, ℕ, ◌≤◌, true, false, Result, Ok, Err, OnErr, IfErr, IsErrAnd, inl, inr, List, [], length, Option, ap, sym, refl, ◌∙◌, subst, arith}
 use Rattle.std.specs.FinMap.{insert}
 use Rattle.std.proofs.Math.Nat.{le_refl}
 use Rattle.std.proofs.lemmas.Bool.{le-leb}
@@ -22,8 +22,8 @@ use Rattle.meaning_commands.specs.Commands.{ends_run}
 use Rattle.odin_shell.specs.declared.cutter.Whole.{Whole}
 use Rattle.odin_shell.specs.declared.serve.Stop.{Stop}
 use Rattle.odin_shell.specs.declared.serve.Stop.TheVariants as stop
-use Rattle.odin_shell.specs.Language.{keeps_body, commands}
-use Rattle.odin_shell.specs.Edits.{TreeTold, TreeStays, Puts}
+use Rattle.odin_shell.specs.Language.{commands}
+use Rattle.source_edits.specs.Edits.{TreeTold, TreeStays, Puts}
 use Rattle.odin_shell.specs.Machine.{State, holding, Told, Belongs, Step, MayLeave, ToolsStay}
 use Rattle.odin_shell.specs.Sessions.{Serves, StopsServing}
 

@@ -23,7 +23,7 @@ use Rattle.odin_shell.specs.Cuts.{Takes, IsLast}
 use Rattle.odin_shell.specs.declared.ending.Ending.{Ending}
 use Rattle.odin_shell.specs.Endings.{ending_of}
 use Rattle.odin_shell.specs.Objects.{SourceTold}
-use Rattle.odin_shell.specs.Edits.{TreeTold}
+use Rattle.source_edits.specs.Edits.{TreeTold}
 use Rattle.odin_shell.specs.Machine.{State, at_first, Told, machine as machine_of, halt_of}
 use Rattle.odin_shell.specs.Sessions.{Rests, Halts, Serves, StopsServing}
 use Rattle.odin_shell.specs.Run.{SessionEnds}

@@ -17,7 +17,7 @@ use Rattle.meaning_commands.specs.declared.commands.Command.TheVariants.{Put, Ta
 use Rattle.meaning_commands.specs.declared.replies.Reply.{Reply}
 use Rattle.meaning_commands.specs.Commands as spelling
 use Rattle.odin_shell.specs.Language.{commands}
-use Rattle.odin_shell.specs.Edits.{Inserts, TakesFile, RemovesText}
+use Rattle.source_edits.specs.Edits.{Inserts, TakesFile, RemovesText}
 use Rattle.odin_shell.specs.Machine.{State, Step}
 
 -- ---- names

@@ -21,10 +21,10 @@ use Rattle.meaning_commands.specs.declared.replies.Reply.TheVariants as reply
 use Rattle.meaning_commands.specs.Replies.{reply_text}
 use Rattle.meaning_commands.proofs.Lemmas.{one_command}
 use Rattle.odin_shell.specs.Language.{commands}
-use Rattle.odin_shell.specs.Edits.{Says, TreeTold, Inserts, Puts, TakesFile, Takes, IsTaken, IsAsked, RemovesText, Removes, source_lines}
+use Rattle.source_edits.specs.Edits.{Says, TreeTold, Inserts, Puts, TakesFile, Takes, IsTaken, IsAsked, RemovesText, Removes, source_lines}
 use Rattle.odin_shell.specs.Machine.{State, Step, Edits, EditsByFile, Asks}
 use Rattle.odin_shell.specs.Laws.{NoFault, CountsNone, AreSame}
-use Rattle.odin_shell.proofs.CountLemmas.{Counts, counted, counts}
+use Rattle.odin_shell.proofs.CountLemmas.{counted, counts}
 use Rattle.odin_shell.proofs.ServeLemmas.{step_tree}
 
 -- ---- counts

@@ -6,7 +6,6 @@ pub mod Opened
 pub mod Language
 pub mod Held
 pub mod Cuts
-pub mod Edits
 pub mod Machine
 pub mod Sessions
 pub mod Laws

@@ -14,7 +14,7 @@ use Rattle.meaning_commands.specs.declared.replies.Reply.TheVariants as reply
 use Rattle.meaning_commands.specs.Replies.{reply_text}
 use Rattle.odin_shell.specs.declared.serve.Stop.{Stop}
 use Rattle.odin_shell.specs.declared.serve.Stop.TheVariants as stop
-use Rattle.odin_shell.specs.Edits.{Says, TreeTold, TreeStays, IsAsked, Puts, Takes, Removes, source_lines}
+use Rattle.source_edits.specs.Edits.{Says, TreeTold, TreeStays, IsAsked, Puts, Takes, Removes, source_lines}
 
 -- the sources, and what is told of the tools and of the tree
 pub record State : Type 0 where

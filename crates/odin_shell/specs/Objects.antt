@@ -3,7 +3,7 @@ use Rattle.std.specs.Prelude.{ℕ, List, Option}
 use Rattle.odin_outside.specs.Files.{Files}
 use Rattle.odin_outside.specs.Spawned.{Spawned}
 use Rattle.meaning_run.specs.Objects.{SinkTold}
-use Rattle.odin_shell.specs.Edits.{TreeTold}
+use Rattle.source_edits.specs.Edits.{tree_of}
 use Rattle.odin_shell.specs.Machine.{Told}
 
 -- what is left of an input, where it tells that, and the count of its faults
@@ -16,9 +16,6 @@ source_of left faults input = record { left = left input; faults = faults input 
 
 abbrev pub sink_of : {O : Type 0} → (O → Option (List ℕ)) → (O → ℕ) → O → SinkTold
 sink_of taken faults output = record { taken = taken output; faults = faults output }
-
-abbrev pub tree_of : {T : Type 0} → (T → Option Files) → (T → ℕ) → (T → ℕ) → T → TreeTold
-tree_of files faults reads tree = record { files = files tree; faults = faults tree; reads = reads tree }
 
 -- what is told of all that a session works on, but for its input
 abbrev pub told_of : {O T S D : Type 0} → (O → Option (List ℕ)) → (O → ℕ) → (T → Option Files) → (T → ℕ) → (T → ℕ) → (S → Spawned) → O → T → S → D → Told D

@@ -15,9 +15,9 @@ use Rattle.odin_shell.specs.Endings.{status_of}
 use Rattle.odin_shell.specs.Words.{graph_word, IsAccepted, usage_line}
 use Rattle.odin_shell.specs.Opened.{ReadsAs, IsRefused}
 use Rattle.odin_shell.specs.Language.{commands}
-use Rattle.odin_shell.specs.Edits.{TreeTold, IsAsked}
+use Rattle.source_edits.specs.Edits.{TreeTold, IsAsked, tree_of}
 use Rattle.odin_shell.specs.Machine.{at_first, Told, machine}
-use Rattle.odin_shell.specs.Objects.{SourceTold, source_of, sink_of, tree_of, told_of, Outside, Meaning}
+use Rattle.odin_shell.specs.Objects.{SourceTold, source_of, sink_of, Outside, Meaning}
 
 -- ---- a last line
 

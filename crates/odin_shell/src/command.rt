@@ -2,11 +2,8 @@
 ghost use Rattle.std.specs.Prelude.{◌≡◌};
 ghost use Rattle.odin_shell.specs.Language as language;
 
-use object_values::BODY_LIMIT;
 use odin_commands::Command;
-
-/// The longest text of a source.
-pub(crate) const TEXT_LIMIT: u64 = BODY_LIMIT as u64;
+use source_edits::TEXT_LIMIT;
 
 /// Whether the bytes behind its line are kept, and not passed over.
 pub(crate) fn keeps_body(command: &Command) -> bool

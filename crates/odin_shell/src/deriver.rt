@@ -3,13 +3,13 @@ ghost use Rattle.std.specs.Prelude.{◌≡◌, [], IfOk, OnOk, OnErr};
 ghost use Rattle.plain_derive.specs.Built.{IsBuiltGraph};
 ghost use Rattle.meaning_answers.specs.Answers.{Plan};
 ghost use Rattle.odin_answers.specs.Answers.{IsReply, MayHaveBegun};
-ghost use Rattle.odin_shell.specs.Edits.{Says};
+ghost use Rattle.source_edits.specs.Edits.{Says};
 ghost use Rattle.odin_shell.specs.Machine.{ToolsStay};
 
-use crate::reply::text_of;
 use object_sources::Sources;
 use object_values::{Bytes, Memory};
 use odin_answers::{Planned, answer_ask, answer_plan};
+use odin_commands::text_of;
 use odin_outside::Spawner;
 use path_planner::Plans;
 use std::alloc::Global;

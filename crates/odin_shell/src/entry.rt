@@ -2,8 +2,8 @@
 ghost use Rattle.std.specs.Prelude.{◌≡◌, ◌≢◌, [], map, string_bytes, option_map};
 ghost use Rattle.plain_derive.specs.Built.{IsBuiltGraph};
 ghost use Rattle.odin_shell.specs.Words.{graph_word};
-ghost use Rattle.odin_shell.specs.Objects.{sink_of, source_of, tree_of, told_of, outside, meaning};
-ghost use Rattle.odin_shell.specs.Edits.{TreeStays};
+ghost use Rattle.odin_shell.specs.Objects.{sink_of, source_of, told_of, outside, meaning};
+ghost use Rattle.source_edits.specs.Edits.{TreeStays, tree_of};
 ghost use Rattle.odin_shell.specs.Machine.{ToolsStay};
 ghost use Rattle.odin_shell.specs.Run.{LastLine, SessionEnds, Ended, RunEnds};
 

@@ -4,7 +4,6 @@
 mod command;
 mod cutter;
 mod deriver;
-mod edits;
 mod ending;
 mod entry;
 mod graph;
@@ -12,7 +11,6 @@ mod holding;
 mod input;
 pub mod laws;
 mod pending;
-mod reply;
 mod serve;
 mod session;
 mod write;

@@ -1,20 +1,20 @@
 // One command: its change, and its reply.
 ghost use Rattle.std.specs.Prelude.{◌≡◌, [], IfOk, OnOk, OnErr, IfErr};
 ghost use Rattle.odin_shell.specs.Endings.{ending_of};
-ghost use Rattle.odin_shell.specs.Objects.{tree_of, told_of};
+ghost use Rattle.source_edits.specs.Edits.{tree_of};
+ghost use Rattle.odin_shell.specs.Objects.{told_of};
 ghost use Rattle.odin_shell.specs.Machine.{holding, Step, MayLeave, ToolsStay};
 ghost use Rattle.odin_shell.specs.Sessions.{Serves, StopsServing};
 
 use crate::cutter::Whole;
 use crate::deriver::Deriver;
-use crate::edits::{list, put, remove, take};
 use crate::ending::Ending;
-use crate::reply::text_of;
 use crate::write::write_whole;
 use object_sources::Sources;
 use object_values::{Bytes, Memory};
-use odin_commands::{Command, Reply, ends_run};
+use odin_commands::{Command, Reply, ends_run, text_of};
 use odin_outside::{Disk, Failed, Sink, Spawner, Tree};
+use source_edits::{list, put, refuse_name, remove, take};
 use std::alloc::Global;
 
 /// Why serving stopped.
@@ -93,7 +93,7 @@ fn answer<T: Tree, S: Spawner>(
         Command::Quit => text_of(alloc, Reply::Bye),
         Command::Nothing => Ok(Bytes::new(alloc)),
         Command::Bad => text_of(alloc, Reply::RefusedCommand),
-        Command::BadName(_) => text_of(alloc, Reply::RefusedName),
+        Command::BadName(count) => refuse_name(alloc, count),
     }
 }
 

@@ -1,4 +1,4 @@
-use Rattle.std.proofs.Common.{codes, decimal, ◌++◌}
+use Rattle.std.proofs.Common.{codes, decimal}
 use Rattle.odin_commands.proofs.Written.{adds_behind, adds_same, spread}
 use Rattle.odin_commands.proofs.lines.write_named_count.Goals as goal
 

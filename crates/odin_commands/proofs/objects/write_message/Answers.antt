@@ -1,4 +1,4 @@
-use Rattle.std.proofs.Common.{◌∙◌, ap, ◌++◌, [], ◌∷◌}
+use Rattle.std.proofs.Common.{◌++◌, [], ◌∷◌}
 use Rattle.meaning_texts.specs.Escapes.{escaped}
 use Rattle.meaning_commands.specs.Replies.{status_word}
 use Rattle.odin_commands.proofs.Written.{front_stays, fails, adds_behind, adds_same, message_pieces}

@@ -1,6 +1,3 @@
-use Rattle.std.proofs.Common.{◌∙◌, ap, ◌++◌}
-use Rattle.meaning_texts.specs.Lines.{with_lf}
-use Rattle.meaning_commands.specs.Replies.{counted}
 use Rattle.odin_commands.proofs.Written.{adds_behind}
 use Rattle.odin_commands.proofs.objects.write_part.Goals as goal
 

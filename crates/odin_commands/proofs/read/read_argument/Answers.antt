@@ -1,4 +1,4 @@
-use Rattle.std.proofs.Common.{rules, ◌≡◌, ◌∙◌, ◌≢◌, [], ap, subst}
+use Rattle.std.proofs.Common.{rules, ◌∙◌, ◌≢◌, [], ap, subst}
 use Rattle.meaning_texts.specs.Classes.{IsName}
 use Rattle.meaning_texts.specs.Lists.{HasNo}
 use Rattle.odin_commands.specs.declared.read.Argument.TheVariants.{Name}

@@ -1,6 +1,5 @@
-use Rattle.std.proofs.Common.{rules, ◌≡◌, ◌≢◌, ◌≤◌, ◌<◌, [], length, sym, ◌∙◌, arith}
+use Rattle.std.proofs.Common.{rules, ◌≡◌, ◌≢◌, [], length, sym, ◌∙◌, arith}
 use Rattle.std.proofs.lemmas.List.{nil_from_length}
-use Rattle.meaning_texts.specs.Limits.{command_limit}
 use Rattle.meaning_commands.specs.Commands.{nothing, too_long}
 use Rattle.odin_commands.proofs.Behind.{spells_it, spells_none}
 use Rattle.odin_commands.proofs.read.read_command.Goals as goal

@@ -3,7 +3,7 @@ use Rattle.std.proofs.lemmas.Bool.Decides.{Decides-eqb}
 use Rattle.std.proofs.lemmas.Slice.Eq.{strip_prefix_is}
 use Rattle.std.proofs.lemmas.Result.{IfOk-weaker}
 use Rattle.meaning_commands.specs.Reading.{formed_command}
-use Rattle.odin_commands.proofs.Behind.{HasNoFirst, behind_put, behind_take, behind_drop, behind_ask, behind_plan, single}
+use Rattle.odin_commands.proofs.Behind.{behind_put, behind_take, behind_drop, behind_ask, behind_plan, single}
 use Rattle.odin_commands.proofs.read.read_formed.Goals as goal
 
 pub returns-in-Some : goal.returns-in-Some

@@ -1,4 +1,4 @@
-use Rattle.std.proofs.Common.{◌≡◌, ◌≤◌, length, take, refl, ◌∙◌, arith}
+use Rattle.std.proofs.Common.{◌≡◌, ◌≤◌, length, take, ◌∙◌, arith}
 use Rattle.std.proofs.lemmas.List.{length-take-le}
 use Rattle.odin_shell.proofs.CutLemmas.{text_held, text_ended}
 use Rattle.odin_shell.proofs.cutter.Cutter.take_text.Goals as goal

@@ -4,7 +4,7 @@ use Rattle.std.specs.Prelude.{IfOk}
 use Rattle.std.proofs.lemmas.Result.{IfOk-weaker}
 use Rattle.meaning_graph.specs.Graphs.{Graph}
 use Rattle.meaning_answers.specs.Answers.{Plan}
-use Rattle.odin_shell.specs.Edits.{Says}
+use Rattle.source_edits.specs.Edits.{Says}
 use Rattle.odin_shell.proofs.PlanLemmas.{steps_said, refusal_said}
 use Rattle.odin_shell.proofs.deriver.Deriver.plan.Goals as goal
 

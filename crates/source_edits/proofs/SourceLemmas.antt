@@ -1,11 +1,11 @@
 -- The lines of the sources, one after another.
 use Rattle.std.proofs.Common.{◌≡◌, ℕ, ◌+◌, ◌<◌, ◌≤◌, List, [], ◌∷◌, ◌++◌, map, take, length, get_or, ap, sym, ◌∙◌, arith, inl, inr}
-use Rattle.std.specs.Prelude.{Option, Some, None, slice_get}
+use Rattle.std.specs.Prelude.{Some, None}
 use Rattle.std.specs.FinMap.{entries}
 use Rattle.std.proofs.lemmas.List.{length-append, map_more, take_all}
 use Rattle.std.proofs.lemmas.Option.{slice_get_within, slice_get_cases, get_or_from_slice_get}
 use Rattle.object_sources.specs.Texts.{Text, Texts, entry_at}
-use Rattle.odin_shell.specs.Edits.{source_line, source_lines}
+use Rattle.source_edits.specs.Edits.{source_line, source_lines}
 
 -- a source is there
 pub within : (texts : Texts) (place : ℕ) (source : Text × Text) → entry_at texts place ≡ Some source → place < length (entries texts)

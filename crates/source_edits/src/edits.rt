@@ -2,18 +2,18 @@
 ghost use Rattle.std.specs.Prelude.{◌≡◌, IfOk, OnOk, OnErr};
 ghost use Rattle.std.specs.FinMap.{insert};
 ghost use Rattle.meaning_commands.specs.Replies.{reply_text, counted};
-ghost use Rattle.odin_shell.specs.Edits as edits;
-ghost use Rattle.odin_shell.specs.Edits.{Says, IsAsked};
-ghost use Rattle.odin_shell.specs.Objects.{tree_of};
+ghost use Rattle.source_edits.specs.Edits as edits;
+ghost use Rattle.source_edits.specs.Edits.{Says, IsAsked, tree_of};
 
-use crate::command::TEXT_LIMIT;
-use crate::reply::text_of;
 use object_sources::Sources;
-use object_values::{Bytes, Memory, Seq, Text};
+use object_values::{BODY_LIMIT, Bytes, Memory, Seq, Text};
 use odin_bytes::{Name, write_number};
-use odin_commands::Reply;
+use odin_commands::{Reply, text_of};
 use odin_outside::{Tree, TreeFault};
 use std::alloc::Global;
+
+/// The longest text of a source, in bytes.
+pub const TEXT_LIMIT: u64 = BODY_LIMIT as u64;
 
 // Gives a source a text. The text is made of the bytes before the sources change.
 fn set_text(sources: &mut Sources, name: Name, text: Bytes) -> Result<(), Memory>
@@ -27,7 +27,7 @@ fn set_text(sources: &mut Sources, name: Name, text: Bytes) -> Result<(), Memory
 }
 
 /// `put`, with the bytes behind it where it keeps them.
-pub(crate) fn put(
+pub fn put(
     alloc: Global,
     sources: &mut Sources,
     name: Name,
@@ -45,6 +45,13 @@ pub(crate) fn put(
     let reply = text_of(alloc, Reply::Put(said, count))?;
     set_text(sources, name, text)?;
     Ok(reply)
+}
+
+/// A command on what is no name. Its name is refused before its size is, so it doesn't matter how many bytes stand behind its line.
+pub fn refuse_name(alloc: Global, _count: u64) -> Result<Bytes, Memory>
+    ensures { IfOk result (λ bytes. bytes ≡ reply_text Reply.RefusedName) }
+{
+    text_of(alloc, Reply::RefusedName)
 }
 
 // `take` of what the tree gave.
@@ -72,7 +79,7 @@ fn take_file(
 }
 
 /// `take`. The tree is asked once, whatever comes of it.
-pub(crate) fn take<T: Tree>(
+pub fn take<T: Tree>(
     alloc: Global,
     sources: &mut Sources,
     name: Name,
@@ -93,8 +100,8 @@ pub(crate) fn take<T: Tree>(
     }
 }
 
-/// `drop`.
-pub(crate) fn remove(alloc: Global, sources: &mut Sources, name: Name) -> Result<Bytes, Memory>
+/// `drop`. The text that the source had is given up.
+pub fn remove(alloc: Global, sources: &mut Sources, name: Name) -> Result<Bytes, Memory>
     ensures ok { let old = sources.old.texts in
         IfOk result (Says (λ said. edits.Removes old name said sources.new.texts)) }
     ensures err { OnErr result (sources.new.texts ≡ sources.old.texts) }
@@ -129,8 +136,8 @@ fn source_lines(alloc: Global, sources: &Sources) -> Result<Seq<Bytes>, Memory>
     Ok(lines)
 }
 
-/// `sources`.
-pub(crate) fn list(alloc: Global, sources: &Sources) -> Result<Bytes, Memory>
+/// `sources`, each with its length in bytes.
+pub fn list(alloc: Global, sources: &Sources) -> Result<Bytes, Memory>
     ensures { let lines = edits.source_lines sources.now.texts in
         IfOk result (λ bytes. bytes ≡ reply_text (Reply.Sources lines)) }
 {

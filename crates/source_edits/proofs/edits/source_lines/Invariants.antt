@@ -1,7 +1,7 @@
 use Rattle.std.proofs.Common.{◌≡◌, ◌-◌, ◌≤◌, map, take, length}
 use Rattle.std.specs.FinMap.{entries}
-use Rattle.odin_shell.specs.Edits.{source_line}
-use Rattle.odin_shell.proofs.edits.source_lines.Given as goal
+use Rattle.source_edits.specs.Edits.{source_line}
+use Rattle.source_edits.proofs.edits.source_lines.Given as goal
 
 abbrev pub invariant-loop-name : goal.invariant-loop-name
 invariant-loop-name l = record {

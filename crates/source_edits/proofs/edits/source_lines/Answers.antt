@@ -1,9 +1,9 @@
 use Rattle.std.proofs.Common.{◌≡◌, length, rules}
 use Rattle.std.specs.Prelude.{Some, None}
 use Rattle.object_sources.specs.Texts.{entry_at}
-use Rattle.odin_shell.specs.Edits.{source_line}
-use Rattle.odin_shell.proofs.SourceLemmas.{next_within, next_lines, all_lines}
-use Rattle.odin_shell.proofs.edits.source_lines.Goals as goal
+use Rattle.source_edits.specs.Edits.{source_line}
+use Rattle.source_edits.proofs.SourceLemmas.{next_within, next_lines, all_lines}
+use Rattle.source_edits.proofs.edits.source_lines.Goals as goal
 
 pub loop-name-preserved : goal.loop-name-preserved
 loop-name-preserved c =

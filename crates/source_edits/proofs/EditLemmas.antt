@@ -10,10 +10,10 @@ use Rattle.meaning_texts.specs.Limits.{body_limit}
 use Rattle.meaning_commands.specs.declared.replies.Reply.{Reply}
 use Rattle.meaning_commands.specs.declared.replies.Reply.TheVariants as reply
 use Rattle.meaning_commands.specs.Replies.{reply_text}
-use Rattle.odin_shell.specs.Edits.{Says, Puts, Inserts, TreeTold, TakesFile, Takes, Removes, RemovesText}
+use Rattle.source_edits.specs.Edits.{Says, Puts, TreeTold, TakesFile, Takes, Removes, RemovesText}
 
 -- this reply is said
-pub says : (P : Reply → Type 0) (said : Reply) (bytes : List ℕ) → P said → bytes ≡ reply_text said → Says P bytes
+says : (P : Reply → Type 0) (said : Reply) (bytes : List ℕ) → P said → bytes ≡ reply_text said → Says P bytes
 says P said bytes holds is = record { said = said; bytes_are = is; holds = holds }
 
 says_as : (P Q : Reply → Type 0) (bytes : List ℕ) → ((said : Reply) → P said → Q said) → Says P bytes → Says Q bytes
@@ -24,17 +24,15 @@ says_as P Q bytes f a = record { said = a.said; bytes_are = a.bytes_are; holds =
 pub put_too_long : (old : Texts) (name : Text) (count : ℕ) (text : Text) (bytes : List ℕ) → body_limit < count → bytes ≡ reply_text reply.RefusedSize → Says (λ said. Puts old name count text said old) bytes
 put_too_long old name count text bytes longer is = says (λ said. Puts old name count text said old) reply.RefusedSize bytes (inr (record { longer = longer; is = refl; same = refl })) is
 
-pub put_done : (old new : Texts) (name word : Text) (count : ℕ) (text : Text) (bytes : List ℕ) → count ≤ body_limit → word ≡ name → bytes ≡ reply_text (reply.Put word count) → new ≡ insert old name text
+pub put_done : (old new : Texts) (name : Text) (count : ℕ) (text : Text) (bytes : List ℕ) → count ≤ body_limit → bytes ≡ reply_text (reply.Put name count) → new ≡ insert old name text
     → Says (λ said. Puts old name count text said new) bytes
-put_done old new name word count text bytes fits same is put =
-    says (λ said. Puts old name count text said new) (reply.Put name count) bytes (inl (record { fits = fits; is = refl; put = put })) (is ∙ ap (λ (n : Text). reply_text (reply.Put n count)) same)
+put_done old new name count text bytes fits is put = says (λ said. Puts old name count text said new) (reply.Put name count) bytes (inl (record { fits = fits; is = refl; put = put })) is
 
 -- ---- take
 
-pub no_file : (old new : Texts) (name word : Text) (file : Option Text) (bytes : List ℕ) → new ≡ old → file ≡ None → word ≡ name → bytes ≡ reply_text (reply.NoFile word) → Says (λ said. TakesFile old name file said new) bytes
-no_file old new name word file bytes kept none same is =
-    subst (λ (f : Option Text). Says (λ said. TakesFile old name f said new) bytes) (sym none)
-    (says (λ said. TakesFile old name None said new) (reply.NoFile name) bytes (refl, kept) (is ∙ ap (λ (n : Text). reply_text (reply.NoFile n)) same))
+pub no_file : (old new : Texts) (name : Text) (file : Option Text) (bytes : List ℕ) → new ≡ old → file ≡ None → bytes ≡ reply_text (reply.NoFile name) → Says (λ said. TakesFile old name file said new) bytes
+no_file old new name file bytes kept none is =
+    subst (λ (f : Option Text). Says (λ said. TakesFile old name f said new) bytes) (sym none) (says (λ said. TakesFile old name None said new) (reply.NoFile name) bytes (refl, kept) is)
 
 pub file_too_long : (old new : Texts) (name : Text) (file : Option Text) (text : Text) (bytes : List ℕ) → new ≡ old → file ≡ Some text → body_limit < length text → bytes ≡ reply_text reply.RefusedSize
     → Says (λ said. TakesFile old name file said new) bytes
@@ -42,13 +40,11 @@ file_too_long old new name file text bytes kept there longer is =
     subst (λ (f : Option Text). Says (λ said. TakesFile old name f said new) bytes) (sym there)
     (says (λ said. TakesFile old name (Some text) said new) reply.RefusedSize bytes (inr (record { longer = longer; is = refl; same = kept })) is)
 
-pub file_done : (old new : Texts) (name word : Text) (file : Option Text) (text : Text) (count : ℕ) (bytes : List ℕ) → file ≡ Some text → count ≡ length text → count ≤ body_limit → word ≡ name
-    → bytes ≡ reply_text (reply.Took word count) → new ≡ insert old name text → Says (λ said. TakesFile old name file said new) bytes
-file_done old new name word file text count bytes there size fits same is put =
+pub file_done : (old new : Texts) (name : Text) (file : Option Text) (text : Text) (bytes : List ℕ) → file ≡ Some text → length text ≤ body_limit → bytes ≡ reply_text (reply.Took name (length text)) → new ≡ insert old name text
+    → Says (λ said. TakesFile old name file said new) bytes
+file_done old new name file text bytes there fits is put =
     subst (λ (f : Option Text). Says (λ said. TakesFile old name f said new) bytes) (sym there)
-    (says (λ said. TakesFile old name (Some text) said new) (reply.Took name (length text)) bytes
-    (inl (record { fits = subst (λ (n : ℕ). n ≤ body_limit) size fits; is = refl; put = put }))
-    (is ∙ ap (λ (n : Text). reply_text (reply.Took n count)) same ∙ ap (λ (n : ℕ). reply_text (reply.Took name n)) size))
+    (says (λ said. TakesFile old name (Some text) said new) (reply.Took name (length text)) bytes (inl (record { fits = fits; is = refl; put = put })) is)
 
 pub file_taken : (old new : Texts) (name : Text) (before now : TreeTold) (file : Option Text) (bytes : List ℕ) → IsGiven before.files name file → now.faults ≡ before.faults
     → Says (λ said. TakesFile old name file said new) bytes → Says (λ said. Takes old name before said new now) bytes
@@ -69,17 +65,15 @@ some_there : {A B : Type 0} (f : A → B) (o : Option A) (found : Option B) → 
 some_there f None found e none = cc
 some_there f (Some x) found e none = (f x, sym e)
 
-pub no_source : {A : Type 0} (f : A → Text) (o : Option A) (old new : Texts) (name asked word : Text) (bytes : List ℕ) → new ≡ old → option_map f o ≡ get old asked → asked ≡ name → is_none o ≡ true → word ≡ name
-    → bytes ≡ reply_text (reply.NoSource word) → Says (λ said. Removes old name said new) bytes
-no_source f o old new name asked word bytes kept there slice none same is =
+pub no_source : {A : Type 0} (f : A → Text) (o : Option A) (old new : Texts) (name asked : Text) (bytes : List ℕ) → new ≡ old → option_map f o ≡ get old asked → asked ≡ name → is_none o ≡ true
+    → bytes ≡ reply_text (reply.NoSource name) → Says (λ said. Removes old name said new) bytes
+no_source f o old new name asked bytes kept there slice none is =
     let absent : get old name ≡ None = ap (get old) (sym slice) ∙ none_there f o (get old asked) there none in
-    says (λ said. Removes old name said new) (reply.NoSource name) bytes (subst (λ (found : Option Text). RemovesText found old name (reply.NoSource name) new) (sym absent) (refl, kept))
-    (is ∙ ap (λ (n : Text). reply_text (reply.NoSource n)) same)
+    says (λ said. Removes old name said new) (reply.NoSource name) bytes (subst (λ (found : Option Text). RemovesText found old name (reply.NoSource name) new) (sym absent) (refl, kept)) is
 
-pub dropped : {A : Type 0} (f : A → Text) (o : Option A) (old new : Texts) (name asked word : Text) (bytes : List ℕ) → option_map f o ≡ get old asked → asked ≡ name → is_none o ≡ false → word ≡ name
-    → bytes ≡ reply_text (reply.Dropped word) → new ≡ remove old name → Says (λ said. Removes old name said new) bytes
-dropped f o old new name asked word bytes there slice some same is removed =
+pub dropped : {A : Type 0} (f : A → Text) (o : Option A) (old new : Texts) (name asked : Text) (bytes : List ℕ) → option_map f o ≡ get old asked → asked ≡ name → is_none o ≡ false
+    → bytes ≡ reply_text (reply.Dropped name) → new ≡ remove old name → Says (λ said. Removes old name said new) bytes
+dropped f o old new name asked bytes there slice some is removed =
     let found = some_there f o (get old asked) there some in
     let present : get old name ≡ Some found.0 = ap (get old) (sym slice) ∙ found.1 in
-    says (λ said. Removes old name said new) (reply.Dropped name) bytes (subst (λ (t : Option Text). RemovesText t old name (reply.Dropped name) new) (sym present) (refl, removed))
-    (is ∙ ap (λ (n : Text). reply_text (reply.Dropped n)) same)
+    says (λ said. Removes old name said new) (reply.Dropped name) bytes (subst (λ (t : Option Text). RemovesText t old name (reply.Dropped name) new) (sym present) (refl, removed)) is

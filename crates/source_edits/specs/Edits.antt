@@ -44,6 +44,9 @@ pub record TreeTold : Type 0 where
   pub faults : ℕ
   pub reads : ℕ
 
+abbrev pub tree_of : {T : Type 0} → (T → Option Files) → (T → ℕ) → (T → ℕ) → T → TreeTold
+tree_of files faults reads tree = record { files = files tree; faults = faults tree; reads = reads tree }
+
 -- It keeps its files, and the count of its faults never falls.
 pub record TreeStays (start now : TreeTold) : Type 0 where
   pub files : now.files ≡ start.files

@@ -1,6 +1,6 @@
 use Rattle.std.proofs.lemmas.Result.{IfOk-weaker}
-use Rattle.odin_shell.proofs.EditLemmas.{file_unread}
-use Rattle.odin_shell.proofs.edits.take.Goals as goal
+use Rattle.source_edits.proofs.EditLemmas.{file_unread}
+use Rattle.source_edits.proofs.edits.take.Goals as goal
 
 pub returns-in-Err-Failed-clause-ok : goal.returns-in-Err-Failed-clause-ok
 returns-in-Err-Failed-clause-ok g c =
