@@ -32,13 +32,9 @@ first_missing : (missing more : List Message) (rest : Bool) → rest ≡ is_empt
 first_missing [] more rest e = e
 first_missing (m ∷ missing) more rest e = refl
 
-all_there : (extras : List Led) → list_all (λ (e : Led). is_empty e.missing) extras ≡ is_empty (led_missing extras)
+pub all_there : (extras : List Led) → list_all (λ (e : Led). is_empty e.missing) extras ≡ is_empty (led_missing extras)
 all_there [] = refl
 all_there (e ∷ extras) = first_missing e.missing (led_missing extras) (list_all (λ (e : Led). is_empty e.missing) extras) (all_there extras)
-
-pub paths_are : (led extras slice : List Led) (result b : Bool) → slice ≡ extras → extras ≡ led → result ≡ list_all (λ (e : Led). is_empty e.missing) slice → result ≡ b → is_empty (led_missing led) ≡ b
-paths_are led extras slice result b s e r h =
-    sym (all_there led) ∙ ap (list_all (λ (e : Led). is_empty e.missing)) (sym e ∙ sym s) ∙ sym r ∙ h
 
 -- ---- no call
 
@@ -55,49 +51,31 @@ module _ (g : Graph) (n : Node) (seen : Results) (names : List Text) (reached : 
   without_tool call e h = record { names = names; reached = reached; is = e ∙ sym (no_call g (task_of g n) (values_of seen) names h) }
 
   module _ (t : ToolTask) (runs : task_of g n ≡ tooled t) where
-    abbrev IsRun : Bool → Bool → Option Call
-    IsRun there valued = cond (there && valued) (Some (tool_call g t (values_of seen) names)) None
+    abbrev call_where : Bool → Option Call
+    call_where run = cond run (Some (tool_call g t (values_of seen) names)) None
 
-    run_is : call_of g (task_of g n) (values_of seen) names ≡ IsRun (is_empty (led_missing t.extras)) (all_valued (values_of seen) (counted_needs (tooled t) (values_of seen) names))
-    run_is = ap (λ t. call_of g t (values_of seen) names) runs
+    call_is_where : call_of g (task_of g n) (values_of seen) names ≡ call_where (is_empty (led_missing t.extras) && all_valued (values_of seen) (counted_needs (task_of g n) (values_of seen) names))
+    call_is_where =
+        ap (λ s. call_of g s (values_of seen) names) runs
+        ∙ ap (λ s. call_where (is_empty (led_missing t.extras) && all_valued (values_of seen) (counted_needs s (values_of seen) names))) (sym runs)
 
-    both_false : (there : Bool) → IsRun there false ≡ None
-    both_false true = refl
-    both_false false = refl
+    -- by whether the tool is run
+    module _ (run : Bool) (extras : List Led) (slice : List Text) (led : extras ≡ t.extras) (same : slice ≡ names)
+        (is : run ≡ (is_empty (led_missing extras) && all_valued (values_of seen) (counted_needs (task_of g n) (values_of seen) slice))) where
+      runs_so : run ≡ (is_empty (led_missing t.extras) && all_valued (values_of seen) (counted_needs (task_of g n) (values_of seen) names))
+      runs_so = is ∙ (λ i. is_empty (led_missing (led i)) && all_valued (values_of seen) (counted_needs (task_of g n) (values_of seen) (same i)))
 
-    pub without_path : (call : Option Call) → call ≡ None → is_empty (led_missing t.extras) ≡ false → CallOf g n seen call
-    without_path call e h = record {
-      names = names;
-      reached = reached;
-      is = e ∙ sym (run_is ∙ ap (λ b. IsRun b (all_valued (values_of seen) (counted_needs (tooled t) (values_of seen) names))) h);
-    }
+      pub not_run : run ≡ false → CallOf g n seen None
+      not_run h = record { names = names; reached = reached; is = sym (call_is_where ∙ ap call_where (sym runs_so ∙ h)) }
 
-    pub without_value : (call : Option Call) (counted : List Node) → call ≡ None → counted ≡ counted_needs (task_of g n) (values_of seen) names → all_valued (values_of seen) counted ≡ false → CallOf g n seen call
-    without_value call counted e c h =
-        let none : all_valued (values_of seen) (counted_needs (tooled t) (values_of seen) names) ≡ false =
-        ap (λ t. all_valued (values_of seen) (counted_needs t (values_of seen) names)) (sym runs) ∙ ap (all_valued (values_of seen)) (sym c) ∙ h in
-        record {
-          names = names;
-          reached = reached;
-          is = e ∙ sym (run_is ∙ ap (IsRun (is_empty (led_missing t.extras))) none ∙ both_false (is_empty (led_missing t.extras)));
-        }
-
-    pub with_call : (call : Call) (counted : List Node) → counted ≡ counted_needs (task_of g n) (values_of seen) names → is_empty (led_missing t.extras) ≡ true → all_valued (values_of seen) counted ≡ true
-        → call ≡ tool_call g t (values_of seen) names → CallOf g n seen (Some call)
-    with_call call counted c there valued e =
-        let all : all_valued (values_of seen) (counted_needs (tooled t) (values_of seen) names) ≡ true =
-        ap (λ t. all_valued (values_of seen) (counted_needs t (values_of seen) names)) (sym runs) ∙ ap (all_valued (values_of seen)) (sym c) ∙ valued in
-        record {
-          names = names;
-          reached = reached;
-          is = ap Some e ∙ sym (run_is ∙ (λ i. IsRun (there i) (all i)));
-        }
+      pub is_called : run ≡ true → (call : Call) → call ≡ tool_call g t (values_of seen) names → CallOf g n seen (Some call)
+      is_called h call e = record { names = names; reached = reached; is = ap Some e ∙ sym (call_is_where ∙ ap call_where (sym runs_so ∙ h)) }
 
 -- the call with the inputs of a tool
-pub call_is : (g : Graph) (t : ToolTask) (known : Known) (names slice : List Text) (base : Node) (extras led : List Led) (parts : List CallPart) (call : Call) → base ≡ t.base → extras ≡ led → led ≡ t.extras → slice ≡ names
-    → parts ≡ node_parts g known 0 base ++ (extra_parts g known 1 extras ++ map (reached_part known (length extras + 1)) slice) → call ≡ call_with t parts → call ≡ tool_call g t known names
-call_is g t known names slice base extras led parts call b e l n p c =
-    c ∙ ap (call_with t) (p ∙ (λ i. node_parts g known 0 (b i) ++ (extra_parts g known 1 ((e ∙ l) i) ++ map (reached_part known (length ((e ∙ l) i) + 1)) (n i))))
+pub call_is : (g : Graph) (t : ToolTask) (known : Known) (names : List Text) (base : Node) (extras : List Led) (parts : List CallPart) (call : Call) → base ≡ t.base → extras ≡ t.extras
+    → parts ≡ node_parts g known 0 base ++ (extra_parts g known 1 extras ++ map (reached_part known (length extras + 1)) names) → call ≡ call_with t parts → call ≡ tool_call g t known names
+call_is g t known names base extras parts call b e p c =
+    c ∙ ap (call_with t) (p ∙ (λ i. node_parts g known 0 (b i) ++ (extra_parts g known 1 (e i) ++ map (reached_part known (length (e i) + 1)) names)))
 
 -- ---- a tool of a spellable graph has few extras
 
@@ -138,5 +116,5 @@ few_extras g n t spelled e = by_last (last_step n.steps) e
     by_last (Some (Pick key)) h = cc
     by_last (Some (Maker k)) h = by_maker (slice_get (makers g) k) k refl h
 
-pub few_led : (g : Graph) (n : Node) (t : ToolTask) (led slice : List Led) → IsSpellable g → task_of g n ≡ tooled t → slice ≡ led → length led ≡ length t.tool.extras → length slice < extra_bound
-few_led g n t led slice spelled e same count = subst (λ (k : ℕ). k < extra_bound) (sym (ap length same ∙ count)) (few_extras g n t spelled e)
+pub few_led : (g : Graph) (n : Node) (t : ToolTask) (slice : List Led) → IsSpellable g → task_of g n ≡ tooled t → length slice ≡ length t.tool.extras → length slice < extra_bound
+few_led g n t slice spelled e count = subst (λ (k : ℕ). k < extra_bound) (sym count) (few_extras g n t spelled e)

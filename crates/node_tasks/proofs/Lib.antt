@@ -1,8 +1,6 @@
 mod StepLemmas
 mod CallLemmas
 mod ReadLemmas
-mod ValueLemmas
-mod ViewLemmas
 mod TaskLemmas
 mod NeedLemmas
 mod NameLemmas

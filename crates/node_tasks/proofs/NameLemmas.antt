@@ -8,14 +8,10 @@ use Rattle.meaning_nodes.specs.Nodes.{source_node}
 use Rattle.meaning_tasks.specs.Reached.{AreReached}
 use Rattle.meaning_tasks.specs.Tasks.{ToolTask, tooled}
 use Rattle.meaning_tasks.specs.Needs.{Known, has_value, where_valued, lines_by, own_lines, other_lines}
+use Rattle.node_tasks.proofs.NeedLemmas.{where_some}
 use Rattle.dynamic_inputs.specs.Closures.{Telling, lines_of, AllTold, wanted_name, with_lines}
 use Rattle.dynamic_inputs.specs.Laws.{with_own, IsToldBy}
 use Rattle.dynamic_inputs.proofs.Lemmas.{all_told_is_reached, told_first, told_next, root_stays}
-
-where_some : {A : Type 0} (o : Option (Option Value)) (xs : List A) → has_value o ≡ true → where_valued o xs ≡ xs
-where_some None xs h = cc
-where_some (Some None) xs h = cc
-where_some (Some (Some v)) xs h = refl
 
 less_where : (o : Option (Option Value)) (x : Text) (xs : List Text) → IsIn x (where_valued o xs) → IsIn x xs
 less_where None x xs h = absurd h

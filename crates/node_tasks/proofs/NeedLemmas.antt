@@ -1,5 +1,5 @@
 -- The needs of a node: the counted ones, and behind them the reached sources.
-use Rattle.std.proofs.Common.{◌≡◌, ℕ, ◌+◌, ◌<◌, false, List, [], ◌∷◌, ◌++◌, length, get_or, take, map, flat_map, inl, refl, sym, ap, ◌∙◌, subst, append_assoc}
+use Rattle.std.proofs.Common.{◌≡◌, ℕ, ◌+◌, ◌<◌, true, false, List, [], ◌∷◌, ◌++◌, length, get_or, take, map, flat_map, inl, refl, sym, ap, ◌∙◌, subst, append_assoc}
 use Rattle.std.specs.Prelude.{Option, Some, None, option_to_list}
 use Rattle.std.proofs.lemmas.List.{append-nil, take_more}
 use Rattle.std.proofs.lemmas.Grind.{flat_map-append}
@@ -12,7 +12,7 @@ use Rattle.meaning_graph.specs.Graphs.{Text, Graph}
 use Rattle.meaning_texts.specs.Lists.{IsIn}
 use Rattle.meaning_nodes.specs.Nodes.{source_node, base_of, onward_named}
 use Rattle.meaning_tasks.specs.Reached.{Reached, by_own, by_line, AreReached}
-use Rattle.meaning_tasks.specs.Tasks.{Task, given, picked, mapped, packed, tooled, unfit, ToolTask, pack_part, extra_led, scan_node, tool_task, task_of}
+use Rattle.meaning_tasks.specs.Tasks.{Task, given, picked, mapped, packed, tooled, unfit, ToolTask, Led, led_nodes, pack_part, extra_led, scan_node, tool_task, task_of}
 use Rattle.meaning_tasks.specs.Needs.{Results, Known, values_of, has_value, where_valued, elements_of, with_elements, extra_needs, scan_needs, part_nodes, own_lines, other_lines, lines_by, counted_needs, reached_needs, ReachedNames, Needs}
 use Rattle.meaning_tasks.proofs.Lemmas.{names_sorted, needs_split, tool_counted_are, tool_reached_are, picked_reached_are, packed_reached_are}
 use Rattle.node_tasks.specs.Tasks.{RunsNoTool}
@@ -23,6 +23,11 @@ pub where_none : {A : Type 0} (o : Option (Option Value)) (xs : List A) → has_
 where_none None xs h = refl
 where_none (Some None) xs h = refl
 where_none (Some (Some v)) xs h = cc
+
+pub where_some : {A : Type 0} (o : Option (Option Value)) (xs : List A) → has_value o ≡ true → where_valued o xs ≡ xs
+where_some None xs h = cc
+where_some (Some None) xs h = cc
+where_some (Some (Some v)) xs h = refl
 
 nothing_where : {A : Type 0} (o : Option (Option Value)) → where_valued {A = A} o [] ≡ []
 nothing_where None = refl
@@ -145,21 +150,29 @@ module _ (g : Graph) (n : Node) (m : MakerDecl) (tool : ToolDecl) (known : Known
   counted_are : with_elements known (base_of n) ++ where_valued (known (base_of n)) extras_and_scans ≡ counted_needs (tooled (tool_task g n m tool)) known names
   counted_are = ap (λ l. base_of n ∷ l) (by_value (known (base_of n)) extras_and_scans) ∙ sym (tool_counted_are (tool_task g n m tool) known names)
 
-  -- without a value of the base, and with it
-  pub base_alone : (base : Node) (needs : List Node) → base ≡ base_of n → has_value (known base) ≡ false → needs ≡ with_elements known base → needs ≡ counted_needs (tooled (tool_task g n m tool)) known names
-  base_alone base needs same none e =
-      e ∙ sym (append-nil (with_elements known base))
-      ∙ ap (λ l. with_elements known base ++ l) (sym (where_none (known base) extras_and_scans none))
-      ∙ ap (λ b. with_elements known b ++ where_valued (known b) extras_and_scans) same ∙ counted_are
+  -- the nodes of the extras with their elements
+  led_whole : (extras : List Led) → flat_map (with_elements known) (led_nodes extras) ≡ flat_map (extra_needs known) extras
+  led_whole [] = refl
+  led_whole (e ∷ extras) =
+      flat_map-append (with_elements known) (option_to_list e.node) (led_nodes extras)
+      ∙ ap (λ l. extra_needs known e ++ l) (led_whole extras)
 
-  pub base_and_others : (base : Node) (v : Value) (first more needs : List Node) → base ≡ base_of n → known base ≡ Some (Some v) → first ≡ with_elements known base
-      → more ≡ first ++ flat_map (extra_needs known) (map (extra_led g n) tool.extras)
-      → needs ≡ more ++ (option_to_list (scan_node g n tool.closure n.source) ++ flat_map (scan_needs (tool_task g n m tool) known) names)
-      → needs ≡ counted_needs (tooled (tool_task g n m tool)) known names
-  base_and_others base v first more needs same valued a b e =
+  -- without a value of the base, and with it
+  pub only_base : (whole alone : List Node) → whole ≡ base_of n ∷ [] → alone ≡ [] → has_value (known (base_of n)) ≡ false → flat_map (with_elements known) whole ++ alone ≡ counted_needs (tooled (tool_task g n m tool)) known names
+  only_base whole alone w a none =
+      (λ i. flat_map (with_elements known) (w i) ++ a i)
+      ∙ append-nil (with_elements known (base_of n) ++ [])
+      ∙ ap (λ l. with_elements known (base_of n) ++ l) (sym (where_none (known (base_of n)) extras_and_scans none))
+      ∙ counted_are
+
+  pub base_and_others : (whole alone : List Node) → whole ≡ base_of n ∷ led_nodes (map (extra_led g n) tool.extras)
+      → alone ≡ option_to_list (scan_node g n tool.closure n.source) ++ flat_map (scan_needs (tool_task g n m tool) known) names
+      → has_value (known (base_of n)) ≡ true → flat_map (with_elements known) whole ++ alone ≡ counted_needs (tooled (tool_task g n m tool)) known names
+  base_and_others whole alone w a valued =
       let scans : List Node = option_to_list (scan_node g n tool.closure n.source) ++ flat_map (scan_needs (tool_task g n m tool) known) names in
-      let extras : List Node = flat_map (extra_needs known) (map (extra_led g n) tool.extras) in
-      e ∙ ap (λ l. l ++ scans) (b ∙ ap (λ l. l ++ extras) a)
-      ∙ append_assoc (with_elements known base) extras scans
-      ∙ ap (λ l. with_elements known base ++ l) (sym (ap (λ o. where_valued o extras_and_scans) valued))
-      ∙ ap (λ b. with_elements known b ++ where_valued (known b) extras_and_scans) same ∙ counted_are
+      let extras : List Led = map (extra_led g n) tool.extras in
+      (λ i. flat_map (with_elements known) (w i) ++ a i)
+      ∙ append_assoc (with_elements known (base_of n)) (flat_map (with_elements known) (led_nodes extras)) scans
+      ∙ ap (λ l. with_elements known (base_of n) ++ (l ++ scans)) (led_whole extras)
+      ∙ ap (λ l. with_elements known (base_of n) ++ l) (sym (where_some (known (base_of n)) extras_and_scans valued))
+      ∙ counted_are

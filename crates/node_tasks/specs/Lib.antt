@@ -1,4 +1,3 @@
-pub mod Seen
 pub mod Tasks
 pub mod Reading
 pub mod Settling

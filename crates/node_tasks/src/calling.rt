@@ -1,35 +1,31 @@
 // The call that runs a node's tool.
-ghost use Rattle.std.specs.Prelude.{◌≡◌, ◌<◌, ◌+◌, ◌++◌, length, map, IfOk};
+ghost use Rattle.std.specs.Prelude.{◌≡◌, ◌&&◌, ◌<◌, length, map, IfOk};
 ghost use Rattle.std.specs.List.{list_all};
 ghost use Rattle.meaning_texts.specs.Limits.{extra_bound};
 ghost use Rattle.meaning_texts.specs.Lists.{is_empty};
 ghost use Rattle.meaning_graph_text.specs.Grammar.{IsSpellable};
 ghost use Rattle.meaning_nodes.specs.Nodes.{Fits};
-ghost use Rattle.meaning_tasks.specs.Tasks.{tool_task};
-ghost use Rattle.meaning_tasks.specs.Needs.{values_of};
-ghost use Rattle.meaning_tasks.specs.Calls.{CallOf, extra_parts, node_parts, reached_part};
+ghost use Rattle.meaning_tasks.specs.Tasks.{extra_led, led_missing, task_of, tool_task};
+ghost use Rattle.meaning_tasks.specs.Needs.{counted_needs, values_of};
+ghost use Rattle.meaning_tasks.specs.Calls.{CallOf, all_valued, tool_call};
 ghost use Rattle.path_planner.specs.Ends.{plans_of};
 ghost use Rattle.node_tasks.specs.Calling.{call_with};
-ghost use Rattle.node_tasks.specs.Seen.{AreSeen};
 
 use crate::base::base_of;
-use crate::known::all_valued;
-use crate::led::Led;
 use crate::names::reached_names;
 use crate::needing::counted_needs;
 use crate::outs::{outs_of, used_params};
-use crate::parts::{put_extra_parts, put_node_parts, put_reached_parts};
-use crate::results::Results;
 use crate::task::tool_at;
 use crate::tool::extras_of;
 use object_values::{Call, CallPart, Copied, MakerDecl, Memory, Node, Seq, ToolDecl};
 use odin_bytes::Name;
 use path_planner::Plans;
 use std::alloc::Global;
+use task_needs::{Led, Results, call_parts};
 use type_graph::Graph;
 
 /// The call of the node, and none where no tool is run: where an extra has no path, or where a
-/// need but a reached source has no value.
+/// need but a reached source has no value. It is the call that runs once all needs have results.
 pub fn call_for<R: Results>(
     alloc: Global,
     graph: &Graph,
@@ -40,7 +36,6 @@ pub fn call_for<R: Results>(
     requires spellable { IsSpellable graph.now }
     requires made { plans.now ≡ plans_of graph.now }
     requires fits { Fits graph.now node.now }
-    requires seen { AreSeen graph.now node.now (R.results seen.now) }
     ensures { IfOk result (CallOf graph.now node.now (R.results seen.now)) }
 {
     let names = reached_names(alloc, graph, plans, node, seen)?;
@@ -48,24 +43,53 @@ pub fn call_for<R: Results>(
         return Ok(None);
     };
     let extras = extras_of(alloc, graph, plans, node, tool)?;
-    if !all_there(extras.as_slice()) {
-        return Ok(None);
-    }
-    let counted = counted_needs(alloc, graph, plans, node, seen, names.as_slice())?;
-    if !all_valued(counted.as_slice(), seen) {
-        return Ok(None);
-    }
-    let base = base_of(alloc, node)?;
-    let parts = call_parts(
+    let runs = is_run(
         alloc,
         graph,
-        &base,
+        plans,
+        node,
         extras.as_slice(),
         names.as_slice(),
         seen,
     )?;
-    let call = made_call(alloc, graph, node, maker, tool, parts)?;
+    if !runs {
+        return Ok(None);
+    }
+    let call = tool_call(
+        alloc,
+        graph,
+        node,
+        maker,
+        tool,
+        extras.as_slice(),
+        names.as_slice(),
+        seen,
+    )?;
     Ok(Some(call))
+}
+
+// Whether the tool is run.
+fn is_run<R: Results>(
+    alloc: Global,
+    graph: &Graph,
+    plans: &Plans,
+    node: &Node,
+    extras: &[Led],
+    names: &[Name],
+    seen: &R,
+) -> Result<bool, Memory>
+    requires made { plans.now ≡ plans_of graph.now }
+    requires fits { Fits graph.now node.now }
+    ensures { let known = values_of (R.results seen.now) in
+        let counted = counted_needs (task_of graph.now node.now) known names.now in
+        IfOk result (λ run. run ≡
+        (is_empty (led_missing extras.now) && all_valued known counted)) }
+{
+    if !all_there(extras) {
+        return Ok(false);
+    }
+    let counted = counted_needs(alloc, graph, plans, node, seen, names)?;
+    Ok(counted.all_valued(seen))
 }
 
 // Whether no extra lacks a path.
@@ -81,28 +105,26 @@ fn is_there(extra: &Led) -> bool
     extra.missing().is_empty()
 }
 
-// The inputs: those of the base in slot 0, then the extras, then the reached sources.
-fn call_parts<R: Results>(
+// The call of a tool that is run.
+fn tool_call<R: Results>(
     alloc: Global,
     graph: &Graph,
-    base: &Node,
+    node: &Node,
+    maker: &MakerDecl,
+    tool: &ToolDecl,
     extras: &[Led],
     names: &[Name],
     seen: &R,
-) -> Result<Seq<CallPart>, Memory>
+) -> Result<Call, Memory>
     requires few { length extras.now < extra_bound }
-    ensures { let known = values_of (R.results seen.now) in
-        let of_base = node_parts graph.now known 0 base.now in
-        let of_extras = extra_parts graph.now known 1 extras.now in
-        let of_names = map (reached_part known (length extras.now + 1)) names.now in
-        IfOk result (λ parts. parts ≡ of_base ++ (of_extras ++ of_names)) }
+    requires led { extras.now ≡ map (extra_led graph.now node.now) tool.now.extras }
+    ensures { let task = tool_task graph.now node.now maker.now tool.now in
+        let known = values_of (R.results seen.now) in
+        IfOk result (λ call. call ≡ tool_call graph.now task known names.now) }
 {
-    let mut parts = Seq::new(alloc);
-    put_node_parts(alloc, graph, 0, base, seen, &mut parts)?;
-    put_extra_parts(alloc, graph, extras, seen, &mut parts)?;
-    let slot = extras.len() as u32 + 1;
-    put_reached_parts(alloc, slot, names, seen, &mut parts)?;
-    Ok(parts)
+    let base = base_of(alloc, node)?;
+    let parts = call_parts(alloc, graph, &base, extras, names, seen)?;
+    made_call(alloc, graph, node, maker, tool, parts)
 }
 
 // The call with these inputs.

@@ -2,9 +2,9 @@
 ghost use Rattle.std.specs.Prelude.{◌≡◌, ◌++◌, IfOk, OnOk, option_to_list};
 ghost use Rattle.meaning_tasks.specs.Tasks.{led_missing};
 
-use crate::led::Led;
 use object_values::{Copied, Memory, Message, Node, Seq};
 use std::alloc::Global;
+use task_needs::Led;
 
 /// Puts the node behind the nodes, or the message behind the messages.
 pub(crate) fn put_led(

@@ -1,71 +1,15 @@
 // Nodes that are led on.
-ghost use Rattle.std.specs.Prelude.{◌≡◌, ◌∷◌, [], Some, None, IfOk, option_map};
+ghost use Rattle.std.specs.Prelude.{◌≡◌, ◌∷◌, [], None, IfOk};
 ghost use Rattle.meaning_nodes.specs.Labels.{label_of as label_of_node, abort_message, no_path};
 ghost use Rattle.meaning_tasks.specs.Tasks.{led_to};
 ghost use Rattle.path_planner.specs.Ends.{plans_of};
 
-use crate::own::abort_message;
-use object_values::{Bytes, Memory, Message, Node, Seq};
+use object_values::{Bytes, Memory, Node};
 use odin_nodes::onward;
 use path_planner::Plans;
 use std::alloc::Global;
-use std::marker::Model;
+use task_needs::{Led, abort_message};
 use type_graph::Graph;
-
-/// Where a node is led to: the node, or the message that there is none.
-pub(crate) struct Led {
-    pub(crate) node: Option<Node>,
-    pub(crate) missing: Seq<Message>,
-}
-
-impl Drop for Led {
-    fn drop(self) {
-        let Led { node, missing } = self;
-        drop(node);
-        drop(missing);
-    }
-}
-
-impl Model for Led {
-    ghost use Rattle.meaning_tasks.specs.Tasks.{Led as LedPart};
-
-    ghost Value = { LedPart };
-
-    ghost view = { λ l. record { node = l.node; missing = l.missing } };
-}
-
-impl Led {
-    /// To this node.
-    pub(crate) fn to(alloc: Global, node: Node) -> Self
-        ensures { result ≡ record { node = Some node; missing = [] } }
-    {
-        Led {
-            node: Some(node),
-            missing: Seq::new(alloc),
-        }
-    }
-
-    pub(crate) fn node(&self) -> Option<&Node>
-        ensures { option_map (λ node. node.now) result ≡ self.now.node }
-    {
-        self.node.as_ref()
-    }
-
-    pub(crate) fn missing(&self) -> &[Message]
-        ensures { result.now ≡ self.now.missing }
-    {
-        self.missing.as_slice()
-    }
-
-    /// The node and the message, without memory.
-    pub(crate) fn into_parts(self) -> (Option<Node>, Seq<Message>)
-        ensures node { result.0 ≡ self.node }
-        ensures missing { result.1 ≡ self.missing }
-    {
-        let Led { node, missing } = self;
-        (node, missing)
-    }
-}
 
 /// From a node along the chosen path to the type of a name. The message is one of the first node.
 pub(crate) fn led_to(

@@ -1,22 +1,23 @@
 // What a node needs.
 ghost use Rattle.std.specs.Prelude.{◌≡◌, ◌++◌, ◌∷◌, [], IfOk, OnOk, map, flat_map, option_map, option_to_list};
 ghost use Rattle.object_values.specs.declared.graph.MakerDecl.{MakerDecl as MakerValue};
-ghost use Rattle.meaning_nodes.specs.Nodes.{Fits, base_of, source_node, onward_named};
-ghost use Rattle.meaning_tasks.specs.Tasks.{pack_part, extra_led, scan_node, tool_task, tooled, task_of};
-ghost use Rattle.meaning_tasks.specs.Needs.{Needs, values_of, picked_element, with_elements, extra_needs, scan_needs, part_nodes, counted_needs};
+ghost use Rattle.meaning_nodes.specs.Nodes.{Fits, base_of, onward_named};
+ghost use Rattle.meaning_tasks.specs.Tasks.{pack_part, extra_led, led_nodes, scan_node, tool_task, tooled, task_of};
+ghost use Rattle.meaning_tasks.specs.Needs.{Needs, values_of, has_value, picked_element, scan_needs, part_nodes, counted_needs};
 ghost use Rattle.path_planner.specs.Ends.{plans_of};
+ghost use Rattle.task_needs.specs.Counting.{nodes_in};
 
 use crate::base::base_of;
-use crate::led::Led;
-use crate::names::{is_present, reached_names};
-use crate::results::{Results, elements_of, value_of};
+use crate::names::reached_names;
 use crate::task::{TaskAt, task_at};
-use crate::tool::{extras_of, scan_node, source_node};
-use object_values::{Bytes, Copied, Memory, Node, PartDecl, Seq, ToolDecl};
+use crate::tool::extras_of;
+use object_values::{Bytes, Memory, Node, PartDecl, Seq, ToolDecl};
 use odin_bytes::Name;
 use odin_nodes::{Picked, onward, pick};
 use path_planner::Plans;
 use std::alloc::Global;
+use task_needs::{Counted, Led, Results, listed, put_copy, value_of};
+use task_scans::{put_reached_scan, put_scan};
 use type_graph::Graph;
 
 /// The needs that are known once these results are, in order.
@@ -32,18 +33,8 @@ pub fn needs<R: Results>(
     ensures { IfOk result (Needs graph.now node.now (R.results seen.now)) }
 {
     let names = reached_names(alloc, graph, plans, node, seen)?;
-    let mut needs = counted_needs(alloc, graph, plans, node, seen, names.as_slice())?;
-    put_sources(alloc, names.as_slice(), &mut needs)?;
-    Ok(needs)
-}
-
-fn put_sources(alloc: Global, names: &[Name], needs: &mut Seq<Node>) -> Result<(), Memory>
-    ensures { OnOk result (needs.new ≡ needs.old ++ map source_node names.now) }
-{
-    for name in names {
-        needs.push(source_node(alloc, name.as_slice())?)?;
-    }
-    Ok(())
+    let counted = counted_needs(alloc, graph, plans, node, seen, names.as_slice())?;
+    listed(alloc, &counted, names.as_slice(), seen)
 }
 
 /// The needs but the reached sources, given the reached names.
@@ -54,18 +45,27 @@ pub(crate) fn counted_needs<R: Results>(
     node: &Node,
     seen: &R,
     names: &[Name],
-) -> Result<Seq<Node>, Memory>
+) -> Result<Counted, Memory>
     requires made { plans.now ≡ plans_of graph.now }
     requires fits { Fits graph.now node.now }
     ensures { let known = values_of (R.results seen.now) in
-        IfOk result (λ needs. needs ≡
+        IfOk result (λ counted. nodes_in known counted ≡
         counted_needs (task_of graph.now node.now) known names.now) }
 {
     match task_at(graph, node) {
-        TaskAt::Given => Ok(Seq::new(alloc)),
-        TaskAt::Picked(key) => picked_needs(alloc, node, key.as_slice(), seen),
-        TaskAt::Read(_) | TaskAt::Each(_) => base_alone(alloc, node),
-        TaskAt::Packed(parts) => part_nodes(alloc, graph, plans, node, parts),
+        TaskAt::Given => Ok(Counted::new(alloc)),
+        TaskAt::Picked(key) => {
+            let nodes = picked_needs(alloc, node, key.as_slice(), seen)?;
+            Ok(Counted::only_alone(alloc, nodes))
+        }
+        TaskAt::Read(_) | TaskAt::Each(_) => {
+            let nodes = base_alone(alloc, node)?;
+            Ok(Counted::only_alone(alloc, nodes))
+        }
+        TaskAt::Packed(parts) => {
+            let nodes = part_nodes(alloc, graph, plans, node, parts)?;
+            Ok(Counted::only_alone(alloc, nodes))
+        }
         TaskAt::Tooled(_, tool) => tool_needs(alloc, graph, plans, node, tool, seen, names),
     }
 }
@@ -94,7 +94,7 @@ fn picked_needs<R: Results>(
     let mut needs = Seq::new(alloc);
     needs.push(base)?;
     if let Some(element) = element {
-        needs.push(element.copy(alloc)?)?;
+        put_copy(alloc, element, &mut needs)?;
     }
     Ok(needs)
 }
@@ -150,6 +150,8 @@ fn put_onward(
 
 // ---- of a tool, whatever its maker
 
+// The base and the extras with their elements, and the scan nodes alone. Where the base has no
+// value, that alone is needed.
 fn tool_needs<R: Results>(
     alloc: Global,
     graph: &Graph,
@@ -158,73 +160,70 @@ fn tool_needs<R: Results>(
     tool: &ToolDecl,
     seen: &R,
     names: &[Name],
-) -> Result<Seq<Node>, Memory>
+) -> Result<Counted, Memory>
     requires made { plans.now ≡ plans_of graph.now }
     ensures { let known = values_of (R.results seen.now) in
-        IfOk result (λ needs. (m : MakerValue) → needs ≡
+        IfOk result (λ counted. (m : MakerValue) → nodes_in known counted ≡
         counted_needs (tooled (tool_task graph.now node.now m tool.now)) known names.now) }
 {
-    let base = base_of(alloc, node)?;
-    let mut needs = Seq::new(alloc);
-    put_with_elements(alloc, &base, seen, &mut needs)?;
-    let Some(_) = value_of(seen, &base) else {
-        return Ok(needs);
-    };
-    put_extras(alloc, graph, plans, node, tool, seen, &mut needs)?;
-    put_scans(alloc, graph, plans, node, tool, seen, names, &mut needs)?;
-    Ok(needs)
+    let mut whole = Seq::new(alloc);
+    let mut alone = Seq::new(alloc);
+    let valued = put_base(alloc, node, seen, &mut whole)?;
+    if !valued {
+        return Ok(Counted { whole, alone });
+    }
+    put_extras(alloc, graph, plans, node, tool, &mut whole)?;
+    put_scans(alloc, graph, plans, node, tool, seen, names, &mut alone)?;
+    Ok(Counted { whole, alone })
 }
 
-// The node, and its elements where it has a result that is a list.
-fn put_with_elements<R: Results>(
+// Puts the base, and says whether it has a value.
+fn put_base<R: Results>(
     alloc: Global,
     node: &Node,
     seen: &R,
-    needs: &mut Seq<Node>,
-) -> Result<(), Memory>
-    ensures { let known = values_of (R.results seen.now) in
-        OnOk result (needs.new ≡ needs.old ++ with_elements known node.now) }
+    whole: &mut Seq<Node>,
+) -> Result<bool, Memory>
+    ensures base { OnOk result (whole.new ≡ whole.old ++ base_of node.now ∷ []) }
+    ensures valued { let known = values_of (R.results seen.now) in
+        IfOk result (λ valued. valued ≡ has_value (known (base_of node.now))) }
 {
-    needs.push(node.copy(alloc)?)?;
-    let elements = elements_of(seen, node);
-    for element in elements {
-        needs.push(element.copy(alloc)?)?;
-    }
-    Ok(())
+    let base = base_of(alloc, node)?;
+    let valued = value_of(seen, &base).is_some();
+    whole.push(base)?;
+    Ok(valued)
 }
 
-fn put_extras<R: Results>(
+fn put_extras(
     alloc: Global,
     graph: &Graph,
     plans: &Plans,
     node: &Node,
     tool: &ToolDecl,
-    seen: &R,
-    needs: &mut Seq<Node>,
+    whole: &mut Seq<Node>,
 ) -> Result<(), Memory>
     requires made { plans.now ≡ plans_of graph.now }
-    ensures { let known = values_of (R.results seen.now) in
-        let extras = map (extra_led graph.now node.now) tool.now.extras in
-        OnOk result (needs.new ≡ needs.old ++ flat_map (extra_needs known) extras) }
+    ensures { let extras = map (extra_led graph.now node.now) tool.now.extras in
+        OnOk result (whole.new ≡ whole.old ++ led_nodes extras) }
 {
     let extras = extras_of(alloc, graph, plans, node, tool)?;
-    for extra in extras.as_slice() {
-        put_extra(alloc, extra, seen, needs)?;
+    put_led_nodes(alloc, extras.as_slice(), whole)
+}
+
+fn put_led_nodes(alloc: Global, extras: &[Led], whole: &mut Seq<Node>) -> Result<(), Memory>
+    ensures { OnOk result (whole.new ≡ whole.old ++ led_nodes extras.now) }
+{
+    for extra in extras {
+        put_led_node(alloc, extra, whole)?;
     }
     Ok(())
 }
 
-fn put_extra<R: Results>(
-    alloc: Global,
-    extra: &Led,
-    seen: &R,
-    needs: &mut Seq<Node>,
-) -> Result<(), Memory>
-    ensures { let known = values_of (R.results seen.now) in
-        OnOk result (needs.new ≡ needs.old ++ extra_needs known extra.now) }
+fn put_led_node(alloc: Global, extra: &Led, whole: &mut Seq<Node>) -> Result<(), Memory>
+    ensures { OnOk result (whole.new ≡ whole.old ++ option_to_list extra.now.node) }
 {
     match extra.node() {
-        Some(node) => put_with_elements(alloc, node, seen, needs),
+        Some(node) => put_copy(alloc, node, whole),
         None => Ok(()),
     }
 }
@@ -238,12 +237,12 @@ fn put_scans<R: Results>(
     tool: &ToolDecl,
     seen: &R,
     names: &[Name],
-    needs: &mut Seq<Node>,
+    scans: &mut Seq<Node>,
 ) -> Result<(), Memory>
     requires made { plans.now ≡ plans_of graph.now }
     ensures { let known = values_of (R.results seen.now) in
         let own = scan_node graph.now node.now tool.now.closure node.now.source in
-        OnOk result ((m : MakerValue) → needs.new ≡ needs.old ++ (option_to_list own
+        OnOk result ((m : MakerValue) → scans.new ≡ scans.old ++ (option_to_list own
         ++ flat_map (scan_needs (tool_task graph.now node.now m tool.now) known) names.now)) }
 {
     put_scan(
@@ -253,54 +252,10 @@ fn put_scans<R: Results>(
         node,
         tool,
         node.source.as_slice(),
-        needs,
+        scans,
     )?;
     for name in names {
-        put_reached_scan(alloc, graph, plans, node, tool, seen, name, needs)?;
-    }
-    Ok(())
-}
-
-// The scan node of a reached name that is present. That of the own source isn't repeated.
-fn put_reached_scan<R: Results>(
-    alloc: Global,
-    graph: &Graph,
-    plans: &Plans,
-    node: &Node,
-    tool: &ToolDecl,
-    seen: &R,
-    name: &Name,
-    needs: &mut Seq<Node>,
-) -> Result<(), Memory>
-    requires made { plans.now ≡ plans_of graph.now }
-    ensures { let known = values_of (R.results seen.now) in
-        OnOk result ((m : MakerValue) → needs.new ≡
-        needs.old ++ scan_needs (tool_task graph.now node.now m tool.now) known name.now) }
-{
-    if name.as_slice() == node.source.as_slice() {
-        return Ok(());
-    }
-    if !is_present(alloc, name.as_slice(), seen)? {
-        return Ok(());
-    }
-    put_scan(alloc, graph, plans, node, tool, name.as_slice(), needs)
-}
-
-fn put_scan(
-    alloc: Global,
-    graph: &Graph,
-    plans: &Plans,
-    node: &Node,
-    tool: &ToolDecl,
-    name: &[u8],
-    needs: &mut Seq<Node>,
-) -> Result<(), Memory>
-    requires made { plans.now ≡ plans_of graph.now }
-    ensures { let scan = scan_node graph.now node.now tool.now.closure name.now in
-        OnOk result (needs.new ≡ needs.old ++ option_to_list scan) }
-{
-    if let Some(scan) = scan_node(alloc, graph, plans, node, tool, name)? {
-        needs.push(scan)?;
+        put_reached_scan(alloc, graph, plans, node, tool, seen, name, scans)?;
     }
     Ok(())
 }

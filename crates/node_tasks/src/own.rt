@@ -1,13 +1,10 @@
 // What a node itself gives.
-ghost use Rattle.std.specs.Prelude.{◌≡◌, ◌∷◌, ◌++◌, [], IfOk};
-ghost use Rattle.meaning_nodes.specs.Labels.{abort_message as message_at_abort, label_of as label_of_node};
+ghost use Rattle.std.specs.Prelude.{◌≡◌, [], Some};
 ghost use Rattle.meaning_tasks.specs.Tasks.{fine, aborted, fine_unless};
 
-use object_values::{Bytes, Memory, Message, Node, Seq, Status, Value};
-use odin_nodes::label_of;
+use object_values::{Message, Seq, Status, Value};
 use std::alloc::Global;
 use std::marker::Model;
-use type_graph::Graph;
 
 /// What a node gives beside its needs: its value, its own status and its own messages.
 pub(crate) struct Own {
@@ -86,6 +83,18 @@ impl Own {
         }
     }
 
+    pub(crate) fn status(&self) -> Status
+        ensures { result ≡ self.now.status }
+    {
+        self.status
+    }
+
+    pub(crate) fn messages(&self) -> &[Message]
+        ensures { result.now ≡ self.now.messages }
+    {
+        self.messages.as_slice()
+    }
+
     /// The value, the status and the messages, without memory.
     pub(crate) fn into_parts(self) -> (Option<Value>, Status, Seq<Message>)
         ensures value { result.0 ≡ self.value }
@@ -99,24 +108,4 @@ impl Own {
         } = self;
         (value, status, messages)
     }
-}
-
-/// The one message of a node at `Abort`.
-pub(crate) fn abort_message(
-    alloc: Global,
-    graph: &Graph,
-    node: &Node,
-    text: Bytes,
-) -> Result<Seq<Message>, Memory>
-    ensures { let label = label_of_node graph.now node.now in
-        IfOk result (λ messages. messages ≡ message_at_abort label text ∷ []) }
-{
-    let label = label_of(alloc, graph, node)?;
-    let mut messages = Seq::new(alloc);
-    messages.push(Message {
-        label,
-        level: Status::Abort,
-        text,
-    })?;
-    Ok(messages)
 }

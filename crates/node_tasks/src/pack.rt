@@ -10,10 +10,10 @@ use crate::base::base_of;
 use crate::gathering::put_messages;
 use crate::led::led_to;
 use crate::own::Own;
-use crate::results::{Results, value_of};
 use object_values::{Bytes, Copied, Memory, Node, Part, PartDecl, Seq, Value};
 use path_planner::Plans;
 use std::alloc::Global;
+use task_needs::{Results, value_of};
 use type_graph::Graph;
 
 /// The compound of the values of the parts.

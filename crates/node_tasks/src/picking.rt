@@ -4,11 +4,11 @@ ghost use Rattle.meaning_nodes.specs.Labels.{label_of as label_of_node, no_eleme
 ghost use Rattle.meaning_tasks.specs.Needs.{values_of};
 ghost use Rattle.meaning_tasks.specs.Settle.{element_own, picked_own};
 
-use crate::own::{Own, abort_message};
-use crate::results::{Results, value_of};
+use crate::own::Own;
 use object_values::{Bytes, Copied, Memory, Node, Seq, Value, View};
 use odin_nodes::{Picked, pick};
 use std::alloc::Global;
+use task_needs::{Results, abort_message, value_of};
 use type_graph::Graph;
 
 /// What the key picks from the base.

@@ -8,14 +8,14 @@ ghost use Rattle.odin_nodes.specs.declared.fault.NodeFault.TheVariants as faults
 ghost use Rattle.node_tasks.specs.Reading.{answer_led, fault_text, AreOfFewSteps, HasFewSteps};
 
 use crate::gathering::put_led;
-use crate::led::Led;
-use crate::own::{Own, abort_message};
+use crate::own::Own;
 use object_values::{Bytes, Expression, Line, Lines, Memory, Node, Seq, Value};
 use odin_bytes::write_number;
 use odin_nodes::{NodeFault, node_of, onward};
 use path_planner::Plans;
 use request_parser::{merge_params, read_lines};
 use std::alloc::Global;
+use task_needs::{Led, abort_message, too_many};
 use type_graph::Graph;
 
 /// One reference for each line of a text.
@@ -53,10 +53,7 @@ fn lines_own(
 {
     match lines {
         Lines::These(lines) => these_own(alloc, graph, plans, node, of, lines.as_slice()),
-        Lines::TooMany => {
-            let text = Bytes::from_slice(alloc, b"too many references")?;
-            Ok(Own::aborted(abort_message(alloc, graph, node, text)?))
-        }
+        Lines::TooMany => Ok(Own::aborted(too_many(alloc, graph, node)?)),
     }
 }
 

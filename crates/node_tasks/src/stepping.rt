@@ -17,13 +17,13 @@ use crate::own::Own;
 use crate::pack::packed_own;
 use crate::picking::picked_own;
 use crate::reading::read_own;
-use crate::results::{Results, value_of};
 use crate::task::{TaskAt, task_at};
 use crate::tool::extras_of;
 use object_values::{MakerDecl, Memory, Node, Outcome, Seq, ToolDecl};
 use odin_nodes::label_of;
 use path_planner::Plans;
 use std::alloc::Global;
+use task_needs::{Results, value_of};
 use type_graph::Graph;
 
 /// What the node itself gives, from what is known of its needs and from the outcome of its call.

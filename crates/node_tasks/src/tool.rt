@@ -1,27 +1,16 @@
 // What a tool takes beside its base.
 ghost use Rattle.std.specs.Prelude.{◌≡◌, IfOk, map};
-ghost use Rattle.meaning_nodes.specs.Nodes.{source_node, base_of};
-ghost use Rattle.meaning_tasks.specs.Tasks.{extra_led, scan_node};
+ghost use Rattle.meaning_nodes.specs.Nodes.{base_of};
+ghost use Rattle.meaning_tasks.specs.Tasks.{extra_led};
 ghost use Rattle.path_planner.specs.Ends.{plans_of};
 
 use crate::base::base_of;
-use crate::led::{Led, led_to};
-use object_values::{Bytes, Copied, Extra, Memory, Node, Seq, ToolDecl};
-use odin_nodes::onward;
+use crate::led::led_to;
+use object_values::{Extra, Memory, Node, Seq, ToolDecl};
 use path_planner::Plans;
 use std::alloc::Global;
+use task_needs::{Led, source_node};
 use type_graph::Graph;
-
-/// The source node of a name, without parameters.
-pub(crate) fn source_node(alloc: Global, name: &[u8]) -> Result<Node, Memory>
-    ensures { IfOk result (λ source. source ≡ source_node name.now) }
-{
-    Ok(Node {
-        source: Bytes::from_slice(alloc, name)?,
-        params: Seq::new(alloc),
-        steps: Seq::new(alloc),
-    })
-}
 
 /// Where the extras of a tool of the node are, one after another.
 pub(crate) fn extras_of(
@@ -61,29 +50,4 @@ fn extra_led(
             Ok(Led::to(alloc, source))
         }
     }
-}
-
-/// The scan node of a name for a tool of the node. `None` where the tool has no scan type, or where
-/// no path leads from the name to it.
-pub(crate) fn scan_node(
-    alloc: Global,
-    graph: &Graph,
-    plans: &Plans,
-    node: &Node,
-    tool: &ToolDecl,
-    name: &[u8],
-) -> Result<Option<Node>, Memory>
-    requires made { plans.now ≡ plans_of graph.now }
-    ensures { IfOk result (λ scan. scan ≡
-        scan_node graph.now node.now tool.now.closure name.now) }
-{
-    let Some(of) = &tool.closure else {
-        return Ok(None);
-    };
-    let named = Node {
-        source: Bytes::from_slice(alloc, name)?,
-        params: node.params.copy(alloc)?,
-        steps: Seq::new(alloc),
-    };
-    onward(alloc, graph, plans, &named, of.as_slice())
 }

@@ -1,3 +1,3 @@
 pub mod Tables
 pub mod Finite
-pub mod Called
+pub mod Seen

@@ -1,9 +1,11 @@
 // What a node needs and calls.
-ghost use Rattle.std.specs.Prelude.{◌≡◌, IfOk, IfSome};
+ghost use Rattle.std.specs.Prelude.{◌≡◌, true, IfOk, IfSome};
 ghost use Rattle.meaning_graph_text.specs.Grammar.{IsSpellable};
 ghost use Rattle.meaning_nodes.specs.Nodes.{Fits};
 ghost use Rattle.path_planner.specs.Ends.{plans_of};
-ghost use Rattle.task_tables.specs.Called.{IsCalled};
+ghost use Rattle.meaning_tasks.specs.Needs.{Needs};
+ghost use Rattle.meaning_tasks.specs.Calls.{CallOf};
+ghost use Rattle.task_tables.specs.Seen.{all_known};
 
 use crate::seeing::all_seen;
 use node_tasks::{Results, call_for, needs};
@@ -48,8 +50,12 @@ pub fn call_node<R: Results>(
     requires spellable { IsSpellable graph.now }
     requires made { plans.now ≡ plans_of graph.now }
     requires fits { Fits graph.now node.now }
-    ensures { IfOk result (λ made. IfSome made (λ called.
-        IsCalled graph.now node.now (R.results seen.now) called.call)) }
+    ensures needs { IfOk result (λ made. IfSome made (λ called.
+        Needs graph.now node.now (R.results seen.now) called.needs)) }
+    ensures known { IfOk result (λ made. IfSome made (λ called.
+        all_known (R.results seen.now) called.needs ≡ true)) }
+    ensures call { IfOk result (λ made. IfSome made (λ called.
+        CallOf graph.now node.now (R.results seen.now) called.call)) }
 {
     let needs = needs(alloc, graph, plans, node, seen)?;
     if !all_seen(needs.as_slice(), seen) {

@@ -1,10 +1,9 @@
 // What a node settles to, by what its tool leaves.
 ghost use Rattle.std.specs.Prelude.{◌≡◌, ◌≢◌, [], IfOk, option_map};
-ghost use Rattle.meaning_graph_text.specs.Grammar.{IsSpellable};
 ghost use Rattle.meaning_nodes.specs.Nodes.{Fits};
-ghost use Rattle.node_tasks.specs.Seen.{FitsCall};
+ghost use Rattle.meaning_calls.specs.Outcomes.{outcome_of};
+ghost use Rattle.meaning_tasks.specs.Settle.{Settles, Texts};
 ghost use Rattle.path_planner.specs.Ends.{plans_of};
-ghost use Rattle.task_tables.specs.Called.{IsCalled};
 
 use node_tasks::{Results, settle};
 use object_values::{Call, Memory, Node, Outcome, Raw, View};
@@ -23,19 +22,20 @@ pub fn settle_after<R: Results>(
     call: Option<&Call>,
     left: &Raw,
 ) -> Result<View, Memory>
-    requires spellable { IsSpellable graph.now }
     requires made { plans.now ≡ plans_of graph.now }
     requires fits { Fits graph.now node.now }
     requires stepped { node.now.steps ≢ [] }
-    requires called { let given = option_map (λ c. c.now) call in
-        IsCalled graph.now node.now (R.results seen.now) given }
+    ensures { let outcome = option_map (λ c. outcome_of c.now left.now) call.entry in
+        IfOk result (λ view. (texts : Texts) →
+        Settles graph.now texts node.now (R.results seen.now) outcome view) }
 {
     let outcome = outcome_after(alloc, call, left)?;
     settle(alloc, graph, plans, node, seen, outcome.as_ref())
 }
 
 fn outcome_after(alloc: Global, call: Option<&Call>, left: &Raw) -> Result<Option<Outcome>, Memory>
-    ensures { IfOk result (FitsCall (option_map (λ c. c.now) call.entry)) }
+    ensures { IfOk result (λ outcome. outcome ≡
+        option_map (λ c. outcome_of c.now left.now) call.entry) }
 {
     let Some(call) = call else {
         return Ok(None);

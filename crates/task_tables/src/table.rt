@@ -1,38 +1,22 @@
 // Results in a table.
-ghost use Rattle.std.specs.Prelude.{◌≡◌, find, option_map};
-ghost use Rattle.std.specs.Option.{option_copied};
-ghost use Rattle.object_values.specs.contracts.nodes.NodePartialEq.TheImpl.{ghosts as node_eq};
-ghost use Rattle.task_tables.specs.Tables.{view_among};
+ghost use Rattle.std.specs.Prelude.{◌≡◌, [], OnOk};
+ghost use Rattle.task_tables.specs.Tables.{Puts};
 
 use indexmap::IndexMap;
 use node_tasks::Results;
-use object_values::{Bytes, Copied, Memory, Node, Seq, View};
+use object_values::{Memory, Node, View};
 use std::alloc::Global;
 use std::marker::Model;
 
-/// A node with its view.
-pub struct Entry {
-    pub node: Node,
-    pub view: View,
-}
-
-impl Drop for Entry {
-    fn drop(self) {
-        let Entry { node, view } = self;
-        drop(node);
-        drop(view);
-    }
-}
-
-/// The views of nodes. They are looked up by the names of the sources, each of which has few nodes.
+/// The views of nodes. Contracts see its entries.
 pub struct Table {
-    by_source: IndexMap<Bytes, Seq<Entry>>,
+    views: IndexMap<Node, View>,
 }
 
 impl Drop for Table {
     fn drop(self) {
-        let Table { by_source } = self;
-        drop(by_source);
+        let Table { views } = self;
+        drop(views);
     }
 }
 
@@ -41,48 +25,25 @@ impl Model for Table {
 
     ghost Value = { Entries };
 
-    ghost view = { λ t. t.by_source.entries };
+    ghost view = { λ t. t.views.entries };
 }
 
 impl Table {
-    pub fn new(alloc: Global) -> Self {
+    pub fn new(alloc: Global) -> Self
+        ensures { result ≡ [] }
+    {
         Table {
-            by_source: IndexMap::new(alloc),
+            views: IndexMap::new(alloc),
         }
     }
 
-    /// Adds the view of a node. Of a node that has one the first stays.
-    pub fn put(&mut self, alloc: Global, node: Node, view: View) -> Result<(), Memory> {
-        if !self.by_source.contains_key(&node.source) {
-            self.by_source
-                .insert(node.source.copy(alloc)?, Seq::new(alloc))?;
-        }
-        match self.by_source.get_mut(&node.source) {
-            Some(entries) => entries.push(Entry { node, view }),
-            None => Ok(()),
-        }
+    /// Adds the view of a node, in place of one that it has.
+    pub fn put(&mut self, node: Node, view: View) -> Result<(), Memory>
+        ensures { OnOk result (Puts node view self.old self.new) }
+    {
+        self.views.insert(node, view)?;
+        Ok(())
     }
-}
-
-fn view_among<'a>(entries: &'a [Entry], node: &Node) -> Option<&'a View>
-    ensures { option_map (λ view. view.now) result ≡ view_among node.now entries.now }
-{
-    match entry_of(entries, node) {
-        Some(entry) => Some(&entry.view),
-        None => None,
-    }
-}
-
-fn entry_of<'a>(entries: &'a [Entry], node: &Node) -> Option<&'a Entry>
-    ensures { option_copied result ≡ find (λ entry. node_eq.eq entry.node node.now) entries.now }
-{
-    entries.iter().find(|entry| is_of(entry, node))
-}
-
-fn is_of(entry: &Entry, node: &Node) -> bool
-    ensures { result ≡ node_eq.eq entry.now.node node.now }
-{
-    entry.node == *node
 }
 
 impl Results for Table {
@@ -96,9 +57,6 @@ impl Results for Table {
     ghost finite = { only_nodes };
 
     fn find(&self, node: &Node) -> Option<&View> {
-        match self.by_source.get(&node.source) {
-            Some(entries) => view_among(entries.as_slice(), node),
-            None => None,
-        }
+        self.views.get(node)
     }
 }

@@ -132,7 +132,7 @@ fn put_result(
 {
     let node = node_in(alloc, graph, plans, text)?;
     let view = view_of(alloc, graph, plans, held)?;
-    table.put(alloc, node, view)?;
+    table.put(node, view)?;
     Ok(())
 }
 

@@ -1,10 +1,8 @@
 // Rows: a node of a graph over results, with what it comes to.
-ghost use Rattle.std.specs.Prelude.{◌≡◌, ◌≢◌, [], option_map};
+ghost use Rattle.std.specs.Prelude.{◌≡◌, ◌≢◌, []};
 ghost use Rattle.meaning_graph_text.specs.Grammar.{IsSpellable};
 ghost use Rattle.meaning_nodes.specs.Nodes.{Fits};
 ghost use Rattle.path_planner.specs.Ends.{plans_of};
-ghost use Rattle.task_tables.specs.Called.{IsCalled};
-ghost use Rattle.task_tables.specs.Tables.{results_of};
 
 use super::graphs::{Decls, Text};
 use super::held::{Held, Results, put_results};
@@ -131,12 +129,9 @@ fn settles(
     call: Option<&Call>,
     row: &Row,
 ) -> Result<bool, Memory>
-    requires spellable { IsSpellable graph.now }
     requires made { plans.now ≡ plans_of graph.now }
     requires fits { Fits graph.now node.now }
     requires stepped { node.now.steps ≢ [] }
-    requires called { let given = option_map (λ c. c.now) call in
-        IsCalled graph.now node.now (results_of table.now) given }
 {
     let left = left_of(alloc, row.left)?;
     let view = settle_after(alloc, graph, plans, node, table, call, &left)?;

@@ -29,7 +29,7 @@ fn put_value(
         messages: Seq::new(alloc),
     };
     let node = node_in(alloc, graph, plans, text)?;
-    table.put(alloc, node, view)?;
+    table.put(node, view)?;
     Ok(())
 }
 

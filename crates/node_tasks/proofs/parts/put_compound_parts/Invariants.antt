@@ -1,6 +1,0 @@
-use Rattle.std.proofs.Common.{◌≡◌, ◌++◌, take, map}
-use Rattle.meaning_tasks.specs.Calls.{compound_part}
-use Rattle.node_tasks.proofs.parts.put_compound_parts.Given as goal
-
-abbrev pub invariant-loop-part : goal.invariant-loop-part
-invariant-loop-part l = l.out ≡ l.initial.out ++ map (compound_part l.slot l.label) (take l.part-index l.parts)

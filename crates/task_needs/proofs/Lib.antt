@@ -1,0 +1,3 @@
+mod KnownLemmas
+mod TakenLemmas
+mod OkLemmas

@@ -1,0 +1,8 @@
+use Rattle.std.proofs.Common.{take, flat_map}
+use Rattle.meaning_tasks.specs.Needs.{values_of, with_elements}
+use Rattle.task_needs.specs.TakingOver.{TakesOver}
+use Rattle.task_needs.proofs.taken.Taken.take_whole.Given as goal
+
+abbrev pub invariant-loop-node : goal.invariant-loop-node
+invariant-loop-node g l =
+    TakesOver (g.R.Results.results l.seen) (flat_map (with_elements (values_of (g.R.Results.results l.seen))) (take l.node-index l.nodes)) l.initial.self l.self
