@@ -1,0 +1,5 @@
+-- The lemmas that other crates may cite.
+-- What stays as more outcomes come.
+pub use Rattle.derive_walk.proofs.Stays.{found_stays, right_stays}
+-- What is formed.
+pub use Rattle.derive_walk.proofs.Formed.{found_fits, wanted_formed}

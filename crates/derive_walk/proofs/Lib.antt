@@ -1,0 +1,21 @@
+mod Tables
+mod Added
+mod TopLemmas
+mod NeedLemmas
+mod ClosingLemmas
+mod SourceLemmas
+mod SourceSettles
+mod GoingLemmas
+mod CloseCases
+mod SeenCases
+mod HeightLemmas
+mod FallLemmas
+mod VisitLemmas
+mod RoundLemmas
+mod DownLemmas
+mod RootLemmas
+mod AdvanceLemmas
+mod GiveLemmas
+mod Formed
+mod Stays
+pub mod Lemmas

@@ -1,0 +1,94 @@
+-- What a walk from the root shows.
+use Rattle.std.proofs.Common.{◌≡◌, ℕ, List, [], ◌∷◌, ◌++◌, inl, inr, sym, ap, ◌∙◌, subst}
+use Rattle.std.specs.Prelude.{Option, Some, None, IsSome, IfSome}
+use Rattle.object_values.specs.declared.nodes.Node.{Node}
+use Rattle.object_values.specs.declared.views.View.{View}
+use Rattle.object_values.specs.declared.calls.Call.{Call}
+use Rattle.meaning_texts.specs.Lists.{IsIn}
+use Rattle.meaning_texts.proofs.Lemmas.{some_is_none, value_of_some}
+use Rattle.meaning_nodes.specs.Nodes.{Fits}
+use Rattle.meaning_derive.specs.Given.{OutcomesFit}
+use Rattle.meaning_derive.specs.Chains.{LeadsOn, Chain}
+use Rattle.meaning_derive.proofs.Lemmas.{none_by_call, none_refused}
+use Rattle.walk_tables.specs.declared.done.Done.{Done}
+use Rattle.walk_tables.specs.declared.found.Found.{Found}
+use Rattle.walk_tables.specs.declared.found.Found.TheVariants.{Answer}
+use Rattle.walk_tables.specs.Tables.{done_in, height_in}
+use Rattle.walk_tables.specs.Calls.{Outcomes, AreOnce}
+use Rattle.derive_walk.specs.declared.walk.Walk.{Walk}
+use Rattle.derive_walk.specs.Worlds.{World, seen_in, StopsAt}
+use Rattle.derive_walk.specs.Founds.{IsFound}
+use Rattle.derive_walk.specs.Walks.{Walked, AreDone, IsRight, AreFrontier, EndsWith}
+use Rattle.derive_walk.specs.States.{heights_in, HoldsIn}
+use Rattle.derive_walk.proofs.Tables.{done_or_waiting}
+use Rattle.derive_walk.proofs.NeedLemmas.{done_is_derived, at_most_limit}
+use Rattle.derive_walk.proofs.FallLemmas.{falls, are_falling}
+
+module _ (w : World) (walk : Walk) (holds : HoldsIn w walk) where
+  -- where a chain leads from what has a height, there is one
+  leads_to : (n m : Node) (k : ℕ) → heights_in walk n ≡ Some k → (front : List Node) → LeadsOn w.graph (seen_in w) n (front ++ m ∷ []) → (j : ℕ) × (heights_in walk m ≡ Some j)
+  leads_to n m k e [] l = let r = falls w walk holds n m k e l.0 in (r.0, r.1)
+  leads_to n m k e (f ∷ front) l = let r = falls w walk holds n f k e l.0 in leads_to f m r.0 r.1 front l.1
+
+  seen_along : (n m : Node) (k : ℕ) → heights_in walk n ≡ Some k → (front : List Node) → Chain w.graph (seen_in w) n (front ++ m ∷ []) → (j : ℕ) × (heights_in walk m ≡ Some j)
+  seen_along n m k e [] c = (k, subst (λ z. heights_in walk z ≡ Some k) c.0 e)
+  seen_along n m k e (f ∷ front) c = leads_to f m k (subst (λ z. heights_in walk z ≡ Some k) c.0 e) front c.1
+
+  -- each call at which the derivation stops is wanted
+  all_wanted : (k : ℕ) → heights_in walk walk.root ≡ Some k → (call : Call) → StopsAt w walk.root call → IsIn call walk.wanted
+  all_wanted k e call stops =
+      let m = stops.from.node in
+      let j = seen_along walk.root m k e stops.from.met.front stops.from.met.leads in
+      elim (done_or_waiting walk.done walk.waiting m j.0 j.1) [
+        | inl d ↦ some_is_none (seen_in w m) d.0.view (done_is_derived w walk holds m d.0 d.1) (none_by_call w.graph w.sources w.outcomes m call stops.from.runs stops.outside)
+        | inr q ↦ (holds.waiting m j.0 q.1).call call stops.from.runs
+      ]
+
+  -- the root waits
+  pub frontier : IsSome (heights_in walk walk.root) → done_in walk.done walk.root ≡ None → AreFrontier w walk.root walk.wanted
+  frontier there none =
+      let k = value_of_some (heights_in walk walk.root) there in
+      elim (done_or_waiting walk.done walk.waiting walk.root k.0 k.1) [
+        | inl d ↦ some_is_none (done_in walk.done walk.root) d.0 d.1 none
+        | inr q ↦ record {
+          only = holds.only;
+          each = all_wanted k.0 k.1;
+          once = holds.once;
+          one = holds.one walk.root k.0 q.1;
+          calm = none_refused w.graph (seen_in w) (heights_in walk) (are_falling w walk holds) walk.root k.0 k.1 (at_most_limit w walk holds walk.root k.0 k.1);
+        }
+      ]
+
+  -- the root has a result
+  pub answered : (d : Done) → done_in walk.done walk.root ≡ Some d → (view : View) → view ≡ d.view → IsFound w.graph w.sources w.outcomes walk.root (Answer view)
+  answered d e view same = done_is_derived w walk holds walk.root d e ∙ ap (λ v. Some v) (sym same)
+
+-- ---- a walk at its start and at its end
+
+nothing_waits : (n : Node) (h : ℕ) → height_in [] n ≡ Some h → ⊥
+nothing_waits n h e = cc
+
+-- what is right holds where nothing waits
+pub holds_at_start : (w : World) (walked : Walked) → IsRight w walked → (walk : Walk) → walk.root ≡ walked.root → walk.done ≡ walked.done → walk.wanted ≡ walked.wanted → walk.waiting ≡ [] → HoldsIn w walk
+holds_at_start w walked right walk root done wanted waiting = record {
+  done = subst (λ d. AreDone w d) (sym done) right.done;
+  waiting = λ n h e. absurd (nothing_waits n h (subst (λ l. height_in l n ≡ Some h) waiting e));
+  one = λ n h e. absurd (nothing_waits n h (subst (λ l. height_in l n ≡ Some h) waiting e));
+  only = λ call i. subst (λ r. StopsAt w r call) (sym root) (right.wanted call (subst (λ l. IsIn call l) wanted i));
+  once = subst (λ l. AreOnce l) (sym wanted) right.once;
+}
+
+-- what holds is right
+pub right_at_end : (w : World) (walk : Walk) → HoldsIn w walk → OutcomesFit w.outcomes → Fits w.graph walk.root → (given : Outcomes) (result : Option Found) → IfSome result (IsFound w.graph w.sources w.outcomes walk.root) → IsRight w (record { root = walk.root; done = walk.done; given = given; wanted = walk.wanted; result = result })
+right_at_end w walk holds fit root given result found = record {
+  fit = fit;
+  root = root;
+  done = holds.done;
+  wanted = holds.only;
+  once = holds.once;
+  found = found;
+}
+
+pub found_of : (w : World) (n : Node) (wanted : List Call) (result : Option Found) → EndsWith w n wanted result → IfSome result (IsFound w.graph w.sources w.outcomes n)
+found_of w n wanted None e = tt
+found_of w n wanted (Some found) e = e

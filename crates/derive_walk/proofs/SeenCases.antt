@@ -1,0 +1,39 @@
+-- A node whose needs are done is closed: it is done, or its call is wanted and it waits.
+use Rattle.std.proofs.Common.{◌≡◌, ℕ, List, [], ◌∷◌, ◌++◌, sym, subst, refl}
+use Rattle.object_values.specs.declared.nodes.Node.{Node}
+use Rattle.object_values.specs.declared.views.View.{View}
+use Rattle.object_values.specs.declared.calls.Call.{Call}
+use Rattle.meaning_texts.specs.Lists.{IsIn}
+use Rattle.walk_tables.specs.declared.done.Done.{Done}
+use Rattle.walk_tables.specs.Tables.{Entries, Waits, results_of}
+use Rattle.walk_tables.specs.Calls.{put_in, AreOnce}
+use Rattle.walk_tables.proofs.Lemmas.{put_keeps, put_there, put_once}
+use Rattle.derive_walk.specs.declared.walk.Walk.{Walk}
+use Rattle.derive_walk.specs.Paths.{IsLast, IsClosing}
+use Rattle.derive_walk.specs.Settled.{HasSettled, HasStopped}
+use Rattle.derive_walk.specs.States.{HoldsIn, GoesOnFrom}
+use Rattle.derive_walk.specs.Worlds.{World}
+use Rattle.derive_walk.proofs.Added.{KeepCalls, holds_with_done, holds_with_waiting, holds_with_wanted}
+use Rattle.derive_walk.proofs.ClosingLemmas.{last_fits, last_is_new, stops_here, needs_stay, settled_is_done, stopped_runs, stopped_waits}
+
+pub keep_put : (call : Call) (wanted more : List Call) → more ≡ put_in call wanted → KeepCalls wanted more
+keep_put call wanted more same c i = subst (λ l. IsIn c l) (sym same) (put_keeps call c wanted i)
+
+pub goes_wanting : (walk : Walk) (call : Call) (more : List Call) → more ≡ put_in call walk.wanted → GoesOnFrom walk (record walk { wanted = more })
+goes_wanting walk call more same = record { root = refl; wanted = keep_put call walk.wanted more same; keeps = λ m k e. e }
+
+module _ (w : World) (walk : Walk) (holds : HoldsIn w walk) (n : Node) (height : ℕ) (last : IsLast w walk n) (closing : IsClosing w walk n height) where
+  pub settled_holds : (view : View) → HasSettled w n (results_of walk.done) view → (done : Entries) → done ≡ walk.done ++ (n, record { view = view; height = height }) ∷ [] → HoldsIn w (record walk { done = done })
+  settled_holds view so done same =
+      let d : Done = record { view = view; height = height } in
+      holds_with_done w walk holds n (last_is_new w walk n last) d (settled_is_done w walk holds n height closing (last_fits w walk n last) view so) (needs_stay w walk holds n height closing) done same
+
+  module _ (call : Call) (so : HasStopped w n (results_of walk.done) call) (wanted : List Call) (more : wanted ≡ put_in call walk.wanted) where
+    pub wanted_holds : HoldsIn w (record walk { wanted = wanted })
+    wanted_holds = holds_with_wanted w walk holds call (stops_here w walk n last call (stopped_runs w walk holds n height closing call so) so.outside) wanted more (subst AreOnce (sym more) (put_once call walk.wanted holds.once))
+
+    there : IsIn call wanted
+    there = subst (λ l. IsIn call l) (sym more) (put_there call walk.wanted)
+
+    pub stopped_holds : (waiting : Waits) → waiting ≡ walk.waiting ++ (n, height) ∷ [] → HoldsIn w (record walk { wanted = wanted; waiting = waiting })
+    stopped_holds waiting same = holds_with_waiting w (record walk { wanted = wanted }) wanted_holds n (last_is_new w walk n last) height (stopped_waits w walk holds n height closing (last_fits w walk n last) call so wanted there) (call, there) waiting same

@@ -1,0 +1,38 @@
+-- A source settles to its text, over any results.
+use Rattle.std.proofs.Common.{◌≡◌, List, [], sym, subst, refl}
+use Rattle.std.specs.Prelude.{None}
+use Rattle.object_values.specs.declared.nodes.Node.{Node}
+use Rattle.object_values.specs.declared.views.View.{View}
+use Rattle.meaning_graph.specs.Graphs.{Text, Graph}
+use Rattle.meaning_nodes.specs.Labels.{label_of}
+use Rattle.meaning_nodes.specs.Values.{inherit}
+use Rattle.meaning_tasks.specs.Tasks.{task_of}
+use Rattle.meaning_tasks.specs.Needs.{Results, ReachedNames}
+use Rattle.meaning_tasks.specs.Settle.{given_own}
+use Rattle.meaning_derive.specs.Derive.{Sources, text_of, derive, names_for}
+use Rattle.meaning_derive.proofs.Lemmas.{names_reached}
+use Rattle.derive_walk.specs.Settled.{HasSettled}
+use Rattle.derive_walk.specs.Worlds.{World}
+
+abbrev pub view_of_source : Graph → Sources → Node → View
+view_of_source g s n = let own = given_own (label_of g n) n.source (text_of s n.source) in record { value = own.value; status = own.status; messages = inherit [] own.messages }
+
+at_source : (w : World) (n : Node) (seen : Results) → HasSettled w (record n { steps = [] }) seen (view_of_source w.graph w.sources (record n { steps = [] }))
+unfolding task_of
+at_source w n seen =
+    let m : Node = record n { steps = [] } in
+    let names : List Text = names_for w.graph w.sources m (derive w.graph w.sources w.outcomes 0) in
+    let reached : ReachedNames w.graph m seen names = names_reached w.graph w.sources w.outcomes 0 m in
+    record {
+      call = None;
+      called = record { names = names; reached = reached; is = refl };
+      outcome = None;
+      given = refl;
+      settles = record { names = names; reached = reached; is = refl };
+    }
+
+source_settles : (w : World) (n : Node) (seen : Results) → n.steps ≡ [] → HasSettled w n seen (view_of_source w.graph w.sources n)
+source_settles w n seen is = subst (λ z. HasSettled w (record n { steps = z }) seen (view_of_source w.graph w.sources (record n { steps = z }))) (sym is) (at_source w n seen)
+
+pub source_closes : (w : World) (n : Node) (seen : Results) → n.steps ≡ [] → (view : View) → view ≡ view_of_source w.graph w.sources n → HasSettled w n seen view
+source_closes w n seen none view is = subst (λ v. HasSettled w n seen v) (sym is) (source_settles w n seen none)

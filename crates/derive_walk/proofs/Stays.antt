@@ -1,0 +1,90 @@
+-- What stays as more outcomes come: what is found, what is done, and what is wanted.
+use Rattle.std.proofs.Common.{◌≡◌, List, ap, subst, is_some}
+use Rattle.std.specs.Prelude.{Option, Some, None, IsSome, IfSome}
+use Rattle.object_values.specs.declared.nodes.Node.{Node}
+use Rattle.object_values.specs.declared.calls.Call.{Call}
+use Rattle.meaning_texts.specs.Limits.{height_limit}
+use Rattle.meaning_texts.specs.Lists.{IsIn}
+use Rattle.meaning_texts.proofs.Lemmas.{value_of_some}
+use Rattle.meaning_graph.specs.Graphs.{Graph}
+use Rattle.meaning_tasks.specs.Needs.{Needs}
+use Rattle.meaning_tasks.proofs.Lemmas.{one_list_of_needs, full_needs_stay}
+use Rattle.meaning_derive.specs.Derive.{Sources, text_of, Outcomes, derived, IsFounded}
+use Rattle.meaning_derive.specs.Given.{OutcomesFit}
+use Rattle.meaning_derive.specs.Laws.{HasMore}
+use Rattle.meaning_derive.proofs.Lemmas.{derive_more, grows_to, kept, needs_at, needs_listed, same_height, frontier_stays}
+use Rattle.walk_tables.specs.declared.done.Done.{Done}
+use Rattle.walk_tables.specs.Tables.{Entries, done_in}
+use Rattle.walk_tables.specs.declared.found.Found.{Found}
+use Rattle.walk_tables.specs.declared.found.Found.TheVariants.{Answer, Circular, Deep}
+use Rattle.derive_walk.specs.Founds.{IsFound}
+use Rattle.derive_walk.specs.Walks.{Walked, IsDone, AreDone, IsRight}
+use Rattle.derive_walk.specs.Worlds.{World, world, IsNeedIn}
+
+-- what is done has a result
+pub done_founded : (w : World) (done : Entries) → AreDone w done → (n : Node) → IsSome (done_in done n) → IsFounded w.graph w.sources w.outcomes n
+done_founded w done are n there =
+    let d = value_of_some (done_in done n) there in
+    let is = are.each n d.0 d.1 in
+    ap is_some (grows_to w.graph w.sources w.outcomes d.0.height height_limit is.high n d.0.view is.is)
+
+module _ (g : Graph) (s : Sources) (outcomes more : Outcomes) (has : HasMore outcomes more) where
+  abbrev few : World
+  few = world g s outcomes
+
+  abbrev many : World
+  many = world g s more
+
+  pub found_stays : (n : Node) (found : Found) → IsFound g s outcomes n found → IsFound g s more n found
+  found_stays n (Answer view) is = derive_more g s outcomes more has height_limit n view is
+  found_stays n (Circular chain) is = (kept g s outcomes more has n).circular chain is
+  found_stays n (Deep chain) is = (kept g s outcomes more has n).deep chain is
+
+  -- ---- a table
+
+  done_stays : (n : Node) (d : Done) → IsDone few n d → IsDone many n d
+  done_stays n d is = record {
+    fits = is.fits;
+    high = is.high;
+    is = derive_more g s outcomes more has d.height n d.view is.is;
+    has = same_height g s outcomes more has n d.height is.high is.has;
+  }
+
+  module _ (done : Entries) (are : AreDone few done) (n : Node) (d : Done) (there : done_in done n ≡ Some d) where
+    abbrev needs : List Node
+    needs = needs_at g s outcomes height_limit n
+
+    listed : Needs g n (derived g s outcomes) needs
+    listed = needs_listed g s outcomes height_limit n
+
+    need_done : (m : Node) → IsIn m needs → IsSome (done_in done m)
+    need_done m i = are.needs n d there m (record { needs = needs; listed = listed; one = i })
+
+    -- all its needs have results, so that more outcomes bring none
+    still_listed : Needs g n (derived g s more) needs
+    still_listed = (full_needs_stay g (text_of s) n (derived g s outcomes) (derived g s more) needs (derive_more g s outcomes more has height_limit) listed (λ m i. done_founded few done are m (need_done m i))).needs
+
+    pub needs_done : (m : Node) → IsNeedIn many n m → IsSome (done_in done m)
+    needs_done m need = need_done m (subst (λ l. IsIn m l) (one_list_of_needs g n (derived g s more) need.needs needs need.listed still_listed) need.one)
+
+  pub are_done_stays : (done : Entries) → AreDone few done → AreDone many done
+  are_done_stays done are = record {
+    each = λ n d there. done_stays n d (are.each n d there);
+    needs = λ n d there m need. needs_done done are n d there m need;
+  }
+
+  -- ---- a walk
+
+  result_stays : (n : Node) (result : Option Found) → IfSome result (IsFound g s outcomes n) → IfSome result (IsFound g s more n)
+  result_stays n None is = is
+  result_stays n (Some found) is = found_stays n found is
+
+  pub right_stays : OutcomesFit more → (walked : Walked) → ((call : Call) → IsIn call walked.wanted → more call ≡ None) → IsRight few walked → IsRight many walked
+  right_stays fit walked none right = record {
+    fit = fit;
+    root = right.root;
+    done = are_done_stays walked.done right.done;
+    wanted = λ call i. frontier_stays g s outcomes more has walked.root call (right.wanted call i) (none call i);
+    once = right.once;
+    found = result_stays walked.root walked.result right.found;
+  }

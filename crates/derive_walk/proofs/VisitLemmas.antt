@@ -1,0 +1,171 @@
+-- The visit of a node, from need to need.
+use Rattle.std.proofs.Common.{◌≡◌, ◌+◌, ◌≤◌, ◌<◌, true, false, List, [], ◌∷◌, ◌++◌, ◌⊎◌, inl, inr, sym, ap, ◌∙◌, subst, refl, length, take, arith, length-append}
+use Rattle.std.proofs.Math.Seq.{take-append_seam}
+use Rattle.std.proofs.lemmas.Bool.{or_cases, or_left, or_right}
+use Rattle.std.specs.Prelude.{Option, Some, None, IsSome}
+use Rattle.object_values.specs.declared.nodes.Node.{Node}
+use Rattle.object_values.specs.contracts.nodes.NodePartialEq.TheImpl.{ghosts as node_eq}
+use Rattle.object_values.specs.Exact.{node_exact}
+use Rattle.meaning_texts.specs.Limits.{height_limit}
+use Rattle.meaning_texts.specs.Lists.{IsIn}
+use Rattle.meaning_texts.proofs.Lemmas.{in_left, in_right, in_either}
+use Rattle.meaning_nodes.specs.Nodes.{Fits}
+use Rattle.meaning_derive.specs.Chains.{Chain, AreDifferent}
+use Rattle.meaning_derive.proofs.Lemmas.{chain_on}
+use Rattle.walk_tables.specs.declared.found.Found.{Found}
+use Rattle.walk_tables.specs.declared.found.Found.TheVariants.{Answer, Circular, Deep}
+use Rattle.walk_tables.specs.Chains.{IsChainTo}
+use Rattle.walk_tables.specs.Tables.{node_in}
+use Rattle.derive_walk.specs.declared.walk.Walk.{Walk}
+use Rattle.derive_walk.specs.Worlds.{World, IsWorld, seen_in, IsNeedIn}
+use Rattle.derive_walk.specs.Founds.{IsFound}
+use Rattle.derive_walk.specs.States.{heights_in, HoldsIn, GoesOnFrom, Visited, AfterVisit}
+use Rattle.derive_walk.specs.Paths.{LeadsTo, IsPath, IsNext, IsLast}
+use Rattle.derive_walk.proofs.HeightLemmas.{unseen_count, fewer_unseen}
+use Rattle.derive_walk.proofs.GoingLemmas.{stays}
+use Rattle.derive_walk.proofs.FallLemmas.{need_fits, needs_in, needs_in_listed, in_listed}
+
+-- ---- lists of nodes
+
+pub different_push : (front : List Node) (x : Node) → AreDifferent front → (IsIn x front → ⊥) → AreDifferent (front ++ x ∷ [])
+different_push [] x d apart = (λ h. h, tt)
+different_push (f ∷ front) x d apart = (λ h. elim (in_either f front (x ∷ []) h) [ inl k ↦ d.0 k | inr k ↦ elim k [ inl e ↦ apart (inl (sym e)) | inr none ↦ none ] ], different_push front x d.1 (λ k. apart (inr k)))
+
+pub in_push : (m n : Node) (front : List Node) → IsIn m (front ++ n ∷ []) → IsIn m front ⊎ (m ≡ n)
+in_push m n front i = elim (in_either m front (n ∷ []) i) [ inl k ↦ inl k | inr k ↦ elim k [ inl e ↦ inr e | inr none ↦ absurd none ] ]
+
+pub at_end : (n : Node) (front : List Node) → IsIn n (front ++ n ∷ [])
+at_end n front = in_right n front (n ∷ []) (inl refl)
+
+pub node_is_in : (n : Node) (nodes : List Node) → node_in n nodes ≡ true → IsIn n nodes
+node_is_in n [] h = cc
+node_is_in n (m ∷ nodes) h = elim (or_cases (node_eq.eq m n) (node_in n nodes) h) [ inl k ↦ inl (sym ((node_exact m n).0 k)) | inr k ↦ inr (node_is_in n nodes k) ]
+
+pub is_node_in : (n : Node) (nodes : List Node) → IsIn n nodes → node_in n nodes ≡ true
+is_node_in n [] i = absurd i
+is_node_in n (m ∷ nodes) (inl e) = or_left (node_eq.eq m n) (node_in n nodes) ((node_exact m n).1 (sym e))
+is_node_in n (m ∷ nodes) (inr i) = or_right (node_eq.eq m n) (node_in n nodes) (is_node_in n nodes i)
+
+pub not_in : (n : Node) (nodes : List Node) → node_in n nodes ≡ false → IsIn n nodes → ⊥
+not_in n nodes e i = let z : node_in n nodes ≡ true = is_node_in n nodes i in cc
+
+-- ---- one walk after another
+
+pub goes_far : (a b c : Walk) → GoesOnFrom a b → GoesOnFrom b c → GoesOnFrom a c
+goes_far a b c p q = record {
+  root = q.root ∙ p.root;
+  wanted = λ call i. q.wanted call (p.wanted call i);
+  keeps = λ m k e. q.keeps m k (p.keeps m k e);
+}
+
+-- the path is no part of what holds
+pub holds_at : (w : World) (walk : Walk) (path : List Node) → HoldsIn w walk → HoldsIn w (record walk { path = path })
+holds_at w walk path h = record {
+  done = h.done;
+  waiting = h.waiting;
+  one = h.one;
+  only = h.only;
+  once = h.once;
+}
+
+pub goes_at : (old walk : Walk) (path : List Node) → GoesOnFrom old walk → GoesOnFrom old (record walk { path = path })
+goes_at old walk path g = record { root = g.root; wanted = g.wanted; keeps = g.keeps }
+
+-- ---- the walk so far in the visit of a node
+
+pub record SoFar (w : World) (old walk : Walk) (n : Node) : Type 0 where
+  pub on : GoesOnFrom old walk
+  pub ends : walk.path ≡ old.path ++ n ∷ []
+  pub holds : HoldsIn w walk
+  pub path : IsPath w walk walk.path
+  pub leads : LeadsTo w walk walk.path
+
+module _ (w : World) (old : Walk) (n : Node) where
+  pub start : HoldsIn w old → IsNext w old n → (path : List Node) → path ≡ old.path ++ n ∷ [] → SoFar w old (record old { path = path }) n
+  start holds next path is = record {
+    on = goes_at old old path (stays old);
+    ends = is;
+    holds = holds_at w old path holds;
+    path = record {
+      fit = λ m i. next.path.fit m (subst (λ l. IsIn m l) is i);
+      apart = λ m i. next.path.apart m (subst (λ l. IsIn m l) is i);
+      different = subst (λ l. AreDifferent l) (sym is) next.path.different;
+      few = subst (λ l. length l ≤ height_limit) (sym is) next.path.few;
+    };
+    leads = subst (λ l. Chain w.graph (seen_in w) old.root l) (sym is) next.leads;
+  }
+
+  -- the path is shorter than the limit before the node is put there
+  pub room : IsNext w old n → length old.path < height_limit
+  room next = omega (arith, next.path.few, length-append old.path (n ∷ []))
+
+  pub last : (walk : Walk) → SoFar w old walk n → IsLast w walk n
+  last walk so = record { front = old.path; is = so.ends; path = so.path; leads = so.leads }
+
+  pub fits : (walk : Walk) → SoFar w old walk n → Fits w.graph n
+  fits walk so = so.path.fit n (subst (λ l. IsIn n l) (sym so.ends) (at_end n old.path))
+
+  pub longer : (walk : Walk) → SoFar w old walk n → length walk.path ≡ length old.path + 1
+  longer walk so = omega (arith, ap length so.ends, length-append old.path (n ∷ []))
+
+  -- ---- the end of the visit
+
+  pub finish : (walk new : Walk) → SoFar w old walk n → GoesOnFrom walk new → (found : Option Found) → AfterVisit w walk new n found → (path : List Node) → path ≡ take (length old.path) new.path → AfterVisit w old (record new { path = path }) n found
+  finish walk new so on (Some found) after path cut = subst (λ z. IsFound w.graph w.sources w.outcomes z found) so.on.root after
+  finish walk new so on None after path cut = record {
+    path = cut ∙ ap (take (length old.path)) (after.path ∙ so.ends) ∙ take-append_seam old.path (n ∷ []);
+    there = after.there;
+    apart = λ m i differs. after.apart m (subst (λ l. IsIn m l) (sym so.ends) (in_left m old.path (n ∷ []) i)) differs;
+  }
+
+  -- ---- a need that was not visited
+
+  module _ (is : IsWorld w) (walk : Walk) (so : SoFar w old walk n) (k : Node) (need : IsNeedIn w n k) where
+    chain_further : LeadsTo w walk (walk.path ++ k ∷ [])
+    chain_further = subst (λ l. Chain w.graph (seen_in w) walk.root (l ++ k ∷ [])) (sym so.ends) (chain_on w.graph (seen_in w) old.path walk.root n k (subst (λ l. Chain w.graph (seen_in w) walk.root l) so.ends so.leads) need)
+
+    -- a chain that ends there
+    pub chained : (found : Found) → IsChainTo walk.path k (Some found) → IsFound w.graph w.sources w.outcomes old.root found
+    chained (Answer view) c = absurd c
+    chained (Circular chain) c = record {
+      front = walk.path;
+      last = k;
+      is = c.1;
+      leads = subst (λ z. Chain w.graph (seen_in w) z chain) so.on.root (subst (λ l. Chain w.graph (seen_in w) walk.root l) (sym c.1) chain_further);
+      different = so.path.different;
+      repeated = node_is_in k walk.path c.0;
+    }
+    chained (Deep chain) c = record {
+      leads = subst (λ z. Chain w.graph (seen_in w) z chain) so.on.root (subst (λ l. Chain w.graph (seen_in w) walk.root l) (sym c.2) chain_further);
+      long = omega (arith, ap length c.2, length-append walk.path (k ∷ []), c.1, so.path.few);
+      different = subst (λ l. AreDifferent l) (sym c.2) (different_push walk.path k so.path.different (not_in k walk.path c.0));
+    }
+
+    pub next_need : heights_in walk k ≡ None → IsChainTo walk.path k None → IsNext w walk k
+    next_need unseen c = record {
+      path = record {
+        fit = λ m i. elim (in_push m k walk.path i) [ inl j ↦ so.path.fit m j | inr e ↦ subst (λ z. Fits w.graph z) (sym e) (need_fits w is n k (fits walk so) need) ];
+        apart = λ m i. elim (in_push m k walk.path i) [ inl j ↦ so.path.apart m j | inr e ↦ ap (heights_in walk) e ∙ unseen ];
+        different = different_push walk.path k so.path.different (not_in k walk.path c.0);
+        few = omega (arith, length-append walk.path (k ∷ []), c.1);
+      };
+      leads = chain_further;
+    }
+
+    pub go_on : (new : Walk) → GoesOnFrom walk new → HoldsIn w new → Visited w walk new k → node_in k walk.path ≡ false → SoFar w old new n
+    go_on new on holds after off = record {
+      on = goes_far old walk new so.on on;
+      ends = after.path ∙ so.ends;
+      holds = holds;
+      path = record {
+        fit = λ m i. so.path.fit m (subst (λ l. IsIn m l) after.path i);
+        apart = λ m i. let j : IsIn m walk.path = subst (λ l. IsIn m l) after.path i in after.apart m j (λ e. not_in k walk.path off (subst (λ z. IsIn z walk.path) e j));
+        different = subst (λ l. AreDifferent l) (sym after.path) so.path.different;
+        few = subst (λ l. length l ≤ height_limit) (sym after.path) so.path.few;
+      };
+      leads = subst (λ z. Chain w.graph (seen_in w) z new.path) (sym on.root) (subst (λ l. Chain w.graph (seen_in w) walk.root l) (sym after.path) so.leads);
+    }
+
+    pub smaller : (new : Walk) → GoesOnFrom walk new → heights_in walk k ≡ None → IsSome (heights_in new k) → unseen_count (heights_in new) (needs_in w n) < unseen_count (heights_in walk) (needs_in w n)
+    smaller new on unseen there =
+        fewer_unseen (heights_in walk) (heights_in new) on.keeps (needs_in w n) k (in_listed w.graph n k (seen_in w) (needs_in w n) (needs_in_listed w n) need) unseen there

@@ -1,0 +1,51 @@
+-- What follows of walks and of what they find.
+use Rattle.std.specs.Prelude.{◌≡◌, List, Some, None}
+use Rattle.object_values.specs.declared.nodes.Node.{Node}
+use Rattle.object_values.specs.declared.views.Value.TheVariants.{List as Listed}
+use Rattle.object_values.specs.declared.calls.Call.{Call}
+use Rattle.meaning_texts.specs.Lists.{IsIn}
+use Rattle.meaning_graph.specs.Graphs.{Graph}
+use Rattle.meaning_calls.specs.Jobs.{IsWellFormed}
+use Rattle.meaning_nodes.specs.Nodes.{Fits}
+use Rattle.meaning_derive.specs.Derive.{Sources, Outcomes}
+use Rattle.meaning_derive.specs.Given.{OutcomesFit}
+use Rattle.meaning_derive.specs.Laws.{HasMore}
+use Rattle.walk_tables.specs.declared.found.Found.{Found}
+use Rattle.walk_tables.specs.declared.found.Found.TheVariants.{Answer, Circular, Deep}
+use Rattle.derive_walk.specs.Founds.{IsFound}
+use Rattle.derive_walk.specs.Walks.{Walked, IsRight}
+use Rattle.derive_walk.specs.Worlds.{World, IsWorld, world}
+
+-- What is found stays so as more outcomes come.
+abbrev pub FoundStays : Type 0
+FoundStays =
+    (g : Graph) (s : Sources) (outcomes more : Outcomes) → HasMore outcomes more
+    → (n : Node) (found : Found) → IsFound g s outcomes n found → IsFound g s more n found
+
+-- A walk that is right stays so as more outcomes come, as long as no wanted call has one.
+abbrev pub RightStays : Type 0
+RightStays =
+    (g : Graph) (s : Sources) (outcomes more : Outcomes) → HasMore outcomes more → OutcomesFit more
+    → (walked : Walked) → ((call : Call) → IsIn call walked.wanted → more call ≡ None)
+    → IsRight (world g s outcomes) walked → IsRight (world g s more) walked
+
+-- ---- what is formed, whatever is known
+
+-- each node of an answer that is a list, and of a chain, fits
+abbrev pub NodesFit : Graph → Found → Type 0
+NodesFit g (Answer view) =
+    (elements : List Node) → view.value ≡ Some (Listed elements)
+    → (n : Node) → IsIn n elements → Fits g n
+NodesFit g (Circular chain) = (n : Node) → IsIn n chain → Fits g n
+NodesFit g (Deep chain) = (n : Node) → IsIn n chain → Fits g n
+
+abbrev pub FoundFits : Type 0
+FoundFits =
+    (w : World) → IsWorld w → (n : Node) → Fits w.graph n → (found : Found)
+    → IsFound w.graph w.sources w.outcomes n found → NodesFit w.graph found
+
+-- Each wanted call is well formed.
+abbrev pub WantedAreFormed : Type 0
+WantedAreFormed =
+    (w : World) → IsWorld w → (walked : Walked) → IsRight w walked
+    → (call : Call) → IsIn call walked.wanted → IsWellFormed call

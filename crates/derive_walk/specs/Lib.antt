@@ -1,0 +1,10 @@
+pub mod Worlds
+pub mod Outcomes
+pub mod NothingFits
+pub mod Founds
+pub mod Walks
+pub mod States
+pub mod Paths
+pub mod Settings
+pub mod Settled
+pub mod Laws

@@ -1,0 +1,90 @@
+-- The path of a walk, and the chains that it ends in.
+use Rattle.std.specs.Prelude.{◌≡◌, ◌⊎◌, ℕ, ◌+◌, ◌<◌, ◌≤◌, List, [], ◌∷◌, ◌++◌, length, true, Option, Some, None, IsSome}
+use Rattle.object_values.specs.declared.nodes.Node.{Node}
+use Rattle.meaning_texts.specs.Limits.{height_limit}
+use Rattle.meaning_texts.specs.Lists.{IsIn}
+use Rattle.meaning_nodes.specs.Nodes.{Fits}
+use Rattle.meaning_tasks.specs.Needs.{Needs}
+use Rattle.meaning_derive.specs.Chains.{Chain, AreDifferent}
+use Rattle.walk_tables.specs.Tables.{results_of, are_done, top_of}
+use Rattle.walk_tables.specs.declared.found.Found.{Found}
+use Rattle.derive_walk.specs.declared.walk.Walk.{Walk}
+use Rattle.derive_walk.specs.States.{heights_in}
+use Rattle.derive_walk.specs.Walks.{EndsWith}
+use Rattle.derive_walk.specs.Worlds.{World, seen_in, IsNeedIn}
+
+-- a chain from the root
+abbrev pub LeadsTo : World → Walk → List Node → Type 0
+LeadsTo w walk chain = Chain w.graph (seen_in w) walk.root chain
+
+-- ---- the path
+
+-- Its nodes fit, are different, and were not visited; they are no more than the height limit.
+pub record IsPath (w : World) (walk : Walk) (path : List Node) : Type 0 where
+  pub fit : (n : Node) → IsIn n path → Fits w.graph n
+  pub apart : (n : Node) → IsIn n path → heights_in walk n ≡ None
+  pub different : AreDifferent path
+  pub few : length path ≤ height_limit
+
+-- The node may be visited next: the path with it is one.
+pub record IsNext (w : World) (walk : Walk) (n : Node) : Type 0 where
+  pub path : IsPath w walk (walk.path ++ n ∷ [])
+  pub leads : LeadsTo w walk (walk.path ++ n ∷ [])
+
+-- The node is the last of the path, which leads to it.
+pub record IsLast (w : World) (walk : Walk) (n : Node) : Type 0 where
+  pub front : List Node
+  pub is : walk.path ≡ front ++ n ∷ []
+  pub path : IsPath w walk walk.path
+  pub leads : LeadsTo w walk walk.path
+
+-- nothing is on the way, and nothing waits
+pub record HasNoPath (walk : Walk) : Type 0 where
+  pub path : walk.path ≡ []
+  pub waiting : walk.waiting ≡ []
+
+-- ---- closing
+
+-- These are the needs of the node by the results so far, and each was visited.
+pub record AreVisited (w : World) (walk : Walk) (n : Node) (needs : List Node) : Type 0 where
+  pub listed : Needs w.graph n (results_of walk.done) needs
+  pub each : (m : Node) → IsIn m needs → IsSome (heights_in walk m)
+
+-- The node may be closed at the height: its needs are done, and the height is one above the
+-- greatest of theirs.
+pub record IsClosing (w : World) (walk : Walk) (n : Node) (height : ℕ) : Type 0 where
+  pub needs : List Node
+  pub listed : Needs w.graph n (results_of walk.done) needs
+  pub done : are_done walk.done needs ≡ true
+  pub above : height ≡ top_of (heights_in walk) needs + 1
+  pub high : height ≤ height_limit
+
+-- after a walk from the root there is a result, or the root waits
+abbrev pub AfterRoot : World → Walk → Option Found → Type 0
+AfterRoot w walk found = EndsWith w walk.root walk.wanted found
+
+-- ---- chains
+
+-- All needs of the last node of the path were visited, and one is as high as the limit.
+pub record IsTall (w : World) (walk : Walk) : Type 0 where
+  pub last : Node
+  pub is : IsLast w walk last
+  pub needs : List Node
+  pub visited : AreVisited w walk last needs
+  pub need : Node
+  pub one : IsIn need needs
+  pub tall : heights_in walk need ≡ Some height_limit
+
+-- A chain of different nodes from the root downwards: each is higher than the height or was not
+-- visited. All needs of the last one were visited, and one is of the height, unless that is 0.
+pub record LeadsDown (w : World) (walk : Walk) (chain : List Node) (height : ℕ) : Type 0 where
+  pub front : List Node
+  pub last : Node
+  pub is : chain ≡ front ++ last ∷ []
+  pub fits : Fits w.graph last
+  pub leads : LeadsTo w walk chain
+  pub different : AreDifferent chain
+  pub above : (n : Node) (k : ℕ) → IsIn n chain → heights_in walk n ≡ Some k → height < k
+  pub visited : (m : Node) → IsNeedIn w last m → IsSome (heights_in walk m)
+  pub next : (height ≡ 0)
+      ⊎ ((m : Node) × IsNeedIn w last m × (heights_in walk m ≡ Some height))

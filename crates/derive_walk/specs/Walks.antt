@@ -1,0 +1,93 @@
+-- What a walk has come to, and what each call of it makes of that.
+use Rattle.std.specs.Prelude.{◌≡◌, ◌≢◌, ◌↔◌, ◌≤◌, List, [], ◌∷◌, ◌++◌, Option, Some, None, IsSome, IfSome}
+use Rattle.object_values.specs.declared.nodes.Node.{Node}
+use Rattle.object_values.specs.declared.calls.Call.{Call}
+use Rattle.object_values.specs.declared.calls.Outcome.{Outcome}
+use Rattle.meaning_texts.specs.Limits.{height_limit}
+use Rattle.meaning_texts.specs.Lists.{IsIn}
+use Rattle.meaning_nodes.specs.Nodes.{Fits}
+use Rattle.meaning_derive.specs.Derive.{derive, HasHeight}
+use Rattle.meaning_derive.specs.Chains.{IsRefusal}
+use Rattle.meaning_derive.specs.Given.{OutcomesFit}
+use Rattle.walk_tables.specs.declared.done.Done.{Done}
+use Rattle.walk_tables.specs.Tables.{Entries, done_in}
+use Rattle.walk_tables.specs.Calls.{Outcomes, outcome_in, AreOnce}
+use Rattle.walk_tables.specs.declared.found.Found.{Found}
+use Rattle.derive_walk.specs.Founds.{IsFound}
+use Rattle.derive_walk.specs.Worlds.{World, seen_in, IsNeedIn, StopsAt}
+
+-- The root, the nodes with results, the outcomes that were given, the calls that are wanted, and
+-- what is found of the root.
+pub record Walked : Type 0 where
+  pub root : Node
+  pub done : Entries
+  pub given : Outcomes
+  pub wanted : List Call
+  pub result : Option Found
+
+abbrev pub new_walk : Node → Walked
+new_walk root = record { root = root; done = []; given = []; wanted = []; result = None }
+
+-- no wanted call was given an outcome
+abbrev pub AreApart : Outcomes → List Call → Type 0
+AreApart given wanted = (call : Call) → IsIn call wanted → outcome_in given call ≡ None
+
+-- ---- a walk that is right
+
+-- The node has the result at its height.
+pub record IsDone (w : World) (n : Node) (d : Done) : Type 0 where
+  pub fits : Fits w.graph n
+  pub high : d.height ≤ height_limit
+  pub is : derive w.graph w.sources w.outcomes d.height n ≡ Some d.view
+  pub has : HasHeight w.graph w.sources w.outcomes n d.height
+
+-- Each node of the table is done, and so are its needs.
+pub record AreDone (w : World) (done : Entries) : Type 0 where
+  pub each : (n : Node) (d : Done) → done_in done n ≡ Some d → IsDone w n d
+  pub needs : (n : Node) (d : Done) → done_in done n ≡ Some d
+      → (m : Node) → IsNeedIn w n m → IsSome (done_in done m)
+
+-- It is right by what is known of calls: what is wanted are calls at which the derivation stops.
+pub record IsRight (w : World) (walked : Walked) : Type 0 where
+  pub fit : OutcomesFit w.outcomes
+  pub root : Fits w.graph walked.root
+  pub done : AreDone w walked.done
+  pub wanted : (call : Call) → IsIn call walked.wanted → StopsAt w walked.root call
+  pub once : AreOnce walked.wanted
+  pub found : IfSome walked.result (IsFound w.graph w.sources w.outcomes walked.root)
+
+-- ---- an advance
+
+-- The root and what was given stay, and so does what is wanted; with a result all does.
+pub record GoesOn (old new : Walked) : Type 0 where
+  pub root : new.root ≡ old.root
+  pub given : new.given ≡ old.given
+  pub wanted : (call : Call) → IsIn call old.wanted → IsIn call new.wanted
+  pub stays : IsSome old.result → new ≡ old
+
+-- What is wanted is just what the derivation stops at, each call once, and there is some. No chain
+-- is there for which the node is refused.
+pub record AreFrontier (w : World) (n : Node) (wanted : List Call) : Type 0 where
+  pub only : (call : Call) → IsIn call wanted → StopsAt w n call
+  pub each : (call : Call) → StopsAt w n call → IsIn call wanted
+  pub once : AreOnce wanted
+  pub one : (call : Call) × IsIn call wanted
+  pub calm : (chain : List Node) → IsRefusal w.graph (seen_in w) n chain → ⊥
+
+-- there is a result, or else calls are wanted
+abbrev pub EndsWith : World → Node → List Call → Option Found → Type 0
+EndsWith w n wanted None = AreFrontier w n wanted
+EndsWith w n wanted (Some found) = IsFound w.graph w.sources w.outcomes n found
+
+abbrev pub IsAdvanced : World → Walked → Type 0
+IsAdvanced w walked = EndsWith w walked.root walked.wanted walked.result
+
+-- ---- an outcome
+
+-- The call was given the outcome, and is wanted no more; nothing else changes.
+pub record IsGiven (call : Call) (outcome : Outcome) (old new : Walked) : Type 0 where
+  pub root : new.root ≡ old.root
+  pub done : new.done ≡ old.done
+  pub given : new.given ≡ old.given ++ (call, outcome) ∷ []
+  pub wanted : (c : Call) → IsIn c new.wanted ↔ (IsIn c old.wanted × (c ≢ call))
+  pub result : new.result ≡ old.result

@@ -1,0 +1,39 @@
+-- What a derivation goes by.
+use Rattle.object_values.specs.declared.nodes.Node.{Node}
+use Rattle.object_values.specs.declared.calls.Call.{Call}
+use Rattle.meaning_graph.specs.Graphs.{Graph}
+use Rattle.meaning_graph_text.specs.Grammar.{IsSpellable}
+use Rattle.meaning_graph_text.specs.Checks.{Checked}
+use Rattle.meaning_tasks.specs.Needs.{Results}
+use Rattle.meaning_derive.specs.Derive.{Sources, Outcomes, derived}
+use Rattle.meaning_derive.specs.Chains.{IsNeed}
+use Rattle.meaning_derive.specs.Calls.{IsFrontier}
+use Rattle.meaning_derive.specs.Given.{AreSources, OutcomesFit}
+
+-- The graph, the sources, and the outcome of each call that is known to have one.
+pub record World : Type 0 where
+  pub graph : Graph
+  pub sources : Sources
+  pub outcomes : Outcomes
+
+abbrev pub world : Graph → Sources → Outcomes → World
+world g s outcomes = record { graph = g; sources = s; outcomes = outcomes }
+
+-- They are what derivation is given.
+pub record IsWorld (w : World) : Type 0 where
+  pub spellable : IsSpellable w.graph
+  pub checked : Checked w.graph
+  pub sources : AreSources w.sources
+  pub fit : OutcomesFit w.outcomes
+
+-- ---- what is derived there
+
+abbrev pub seen_in : World → Results
+seen_in w = derived w.graph w.sources w.outcomes
+
+abbrev pub IsNeedIn : World → Node → Node → Type 0
+IsNeedIn w n m = IsNeed w.graph (seen_in w) n m
+
+-- a call at which the derivation of the node stops
+abbrev pub StopsAt : World → Node → Call → Type 0
+StopsAt w n call = IsFrontier w.graph w.sources w.outcomes n call

@@ -1,0 +1,80 @@
+// The closing of a node whose needs were all visited.
+ghost use Rattle.std.specs.Prelude.{◌≡◌, ◌+◌, OnOk, IfOk};
+ghost use Rattle.derive_walk.specs.Paths.{IsClosing, IsLast, AreVisited};
+ghost use Rattle.derive_walk.specs.Settings.{IsSetting, world_in};
+ghost use Rattle.derive_walk.specs.States.{HoldsIn, GoesOnFrom, Visited, AfterVisit};
+
+use crate::deep::descend;
+use crate::known::Known;
+use crate::setting::Setting;
+use crate::settling::{Closed, settle_node};
+use crate::walk::Walk;
+use object_values::{Copied, HEIGHT_LIMIT, Memory, Node};
+use odin_outside::Steps;
+use std::alloc::Global;
+use std::sync::ledger::Ledger;
+use walk_tables::{Done, Found, all_done, tallest};
+
+/// Takes the node, the last of the path, into the tables, or finds a chain for which the root is
+/// too deep.
+pub(crate) fn close<K: Known, L: Ledger>(
+    alloc: Global,
+    setting: &Setting<'_, K>,
+    walk: &mut Walk,
+    needs: &[Node],
+    node: Node,
+    steps: &mut Steps<L>,
+) -> Result<Option<Found>, Memory>
+    requires set { IsSetting K.kept setting.now }
+    requires holds { HoldsIn (world_in K.kept setting.now) walk.old }
+    requires last { IsLast (world_in K.kept setting.now) walk.old node }
+    requires visited { AreVisited (world_in K.kept setting.now) walk.old node needs.now }
+    ensures on { GoesOnFrom walk.old walk.new }
+    ensures holds { HoldsIn (world_in K.kept setting.now) walk.new }
+    ensures after { let w = world_in K.kept setting.now in
+        IfOk result (AfterVisit w walk.old walk.new node) }
+{
+    let top = tallest(&walk.done, &walk.waiting, needs);
+    if top >= HEIGHT_LIMIT as u32 {
+        let chain = descend(alloc, setting, walk)?;
+        return Ok(Some(Found::Deep(chain)));
+    }
+    if all_done(&walk.done, needs) {
+        close_seen(alloc, setting, walk, node, top + 1, steps)?;
+        return Ok(None);
+    }
+    walk.waiting.add(node, top + 1)?;
+    Ok(None)
+}
+
+// The same of a node whose needs all have results: it has one too, or its call is wanted from now
+// on.
+fn close_seen<K: Known, L: Ledger>(
+    alloc: Global,
+    setting: &Setting<'_, K>,
+    walk: &mut Walk,
+    node: Node,
+    height: u32,
+    steps: &mut Steps<L>,
+) -> Result<(), Memory>
+    requires set { IsSetting K.kept setting.now }
+    requires holds { HoldsIn (world_in K.kept setting.now) walk.old }
+    requires last { IsLast (world_in K.kept setting.now) walk.old node }
+    requires closing { IsClosing (world_in K.kept setting.now) walk.old node height }
+    ensures on { GoesOnFrom walk.old walk.new }
+    ensures holds { HoldsIn (world_in K.kept setting.now) walk.new }
+    ensures visited { let w = world_in K.kept setting.now in
+        OnOk result (Visited w walk.old walk.new node) }
+{
+    match settle_node(alloc, setting, &walk.done, &walk.wanted, &node, steps)? {
+        Closed::Settled(view) => {
+            walk.done.add(node, Done { view, height })?;
+            Ok(())
+        }
+        Closed::Stops(call) => {
+            walk.wanted.add(call)?;
+            walk.waiting.add(node, height)?;
+            Ok(())
+        }
+    }
+}

@@ -1,0 +1,64 @@
+// The chain of a root that is too deep.
+ghost use Rattle.std.specs.Prelude.{◌≡◌, ◌+◌, ◌-◌, ◌≤◌, ◌<◌, length, IfOk, OnOk};
+ghost use Rattle.meaning_texts.specs.Limits.{height_limit};
+ghost use Rattle.meaning_derive.specs.Chains.{IsDeep};
+ghost use Rattle.derive_walk.specs.Paths.{IsTall, LeadsDown};
+ghost use Rattle.derive_walk.specs.Settings.{IsSetting, world_in};
+ghost use Rattle.derive_walk.specs.States.{HoldsIn};
+ghost use Rattle.derive_walk.specs.Worlds.{seen_in};
+
+use crate::known::Known;
+use crate::setting::Setting;
+use crate::walk::Walk;
+use node_tasks::needs;
+use object_values::{Copied, HEIGHT_LIMIT, Memory, Node, Seq};
+use std::alloc::Global;
+use walk_tables::at_height;
+
+/// The path, and then nodes of falling heights, each a need of the one before, up to one node more
+/// than the greatest height.
+pub(crate) fn descend<K: Known>(
+    alloc: Global,
+    setting: &Setting<'_, K>,
+    walk: &Walk,
+) -> Result<Seq<Node>, Memory>
+    requires set { IsSetting K.kept setting.now }
+    requires holds { HoldsIn (world_in K.kept setting.now) walk.now }
+    requires tall { IsTall (world_in K.kept setting.now) walk.now }
+    ensures { let w = world_in K.kept setting.now in
+        IfOk result (IsDeep w.graph (seen_in w) walk.now.root) }
+{
+    let mut chain = walk.path.copy(alloc)?;
+    let mut height = HEIGHT_LIMIT as u32;
+    for _count in walk.path.len()..HEIGHT_LIMIT + 1 {
+        step_down(alloc, setting, walk, &mut chain, height)?;
+        height = height.saturating_sub(1);
+    }
+    Ok(chain)
+}
+
+// Puts one node more: a need of the last one, of this height.
+fn step_down<K: Known>(
+    alloc: Global,
+    setting: &Setting<'_, K>,
+    walk: &Walk,
+    chain: &mut Seq<Node>,
+    height: u32,
+) -> Result<(), Memory>
+    requires set { IsSetting K.kept setting.now }
+    requires holds { HoldsIn (world_in K.kept setting.now) walk.now }
+    requires high { 0 < height }
+    requires down { LeadsDown (world_in K.kept setting.now) walk.now chain.old height }
+    ensures longer { OnOk result (length chain.new ≡ length chain.old + 1) }
+    ensures down { let w = world_in K.kept setting.now in
+        OnOk result (LeadsDown w walk.now chain.new (height - 1)) }
+{
+    let Some(last) = chain.as_slice().last() else {
+        return Ok(());
+    };
+    let needs = needs(alloc, setting.graph, setting.plans, last, &walk.done)?;
+    let Some(need) = at_height(&walk.done, &walk.waiting, needs.as_slice(), height) else {
+        return Ok(());
+    };
+    chain.push(need.copy(alloc)?)
+}

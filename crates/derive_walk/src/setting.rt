@@ -1,0 +1,16 @@
+// What an advance goes by.
+use crate::known::Known;
+use object_sources::Sources;
+use path_planner::Plans;
+use type_graph::Graph;
+use walk_tables::Given;
+
+/// The graph with its plans, the sources, and the outcomes that are kept and that were given.
+#[derive(Drop)]
+pub(crate) struct Setting<'a, K: Known> {
+    pub(crate) graph: &'a Graph,
+    pub(crate) plans: &'a Plans,
+    pub(crate) sources: &'a Sources,
+    pub(crate) known: &'a K,
+    pub(crate) given: &'a Given,
+}

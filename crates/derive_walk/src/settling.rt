@@ -1,0 +1,139 @@
+// The settling of a node whose needs all have results.
+ghost use Rattle.std.specs.Prelude.{◌≡◌, ◌≢◌, [], Some, IfOk, option_map};
+ghost use Rattle.std.specs.FinMap as map;
+ghost use Rattle.meaning_nodes.specs.Labels.{label_of as label_of_node};
+ghost use Rattle.meaning_nodes.specs.Nodes.{Fits};
+ghost use Rattle.meaning_nodes.specs.Values.{inherit};
+ghost use Rattle.meaning_tasks.specs.Settle.{given_own};
+ghost use Rattle.meaning_tasks.specs.Calls.{CallOf};
+ghost use Rattle.walk_tables.specs.Tables.{results_of};
+ghost use Rattle.derive_walk.specs.Settings.{IsSetting, world_in};
+ghost use Rattle.derive_walk.specs.Settled.{AreOutside, IsClosed, SettlesIn};
+
+use crate::known::Known;
+use crate::setting::Setting;
+use node_tasks::{call_for, settle};
+use object_sources::Sources;
+use object_values::{
+    Bytes, Call, Copied, Memory, Message, Node, Outcome, Seq, Status, Value, View,
+};
+use odin_nodes::label_of;
+use odin_outside::Steps;
+use std::alloc::Global;
+use std::sync::ledger::Ledger;
+use type_graph::Graph;
+use walk_tables::{Table, Wanted};
+
+/// What comes of a node whose needs all have results: its view, or the call at which it stops.
+pub(crate) enum Closed {
+    Settled(View),
+    Stops(Call),
+}
+
+/// Settles a node, or finds the call at which it stops. A call that is wanted has no outcome, and
+/// is not looked for among what is kept.
+pub(crate) fn settle_node<K: Known, L: Ledger>(
+    alloc: Global,
+    setting: &Setting<'_, K>,
+    done: &Table,
+    wanted: &Wanted,
+    node: &Node,
+    steps: &mut Steps<L>,
+) -> Result<Closed, Memory>
+    requires set { IsSetting K.kept setting.now }
+    requires fits { Fits setting.now.graph.now node.now }
+    requires outside { AreOutside (world_in K.kept setting.now) wanted.now }
+    ensures { let w = world_in K.kept setting.now in
+        IfOk result (IsClosed w node.now (results_of done.now)) }
+{
+    if node.steps.is_empty() {
+        let view = source_view(alloc, setting.graph, setting.sources, node)?;
+        return Ok(Closed::Settled(view));
+    }
+    let Some(call) = call_for(alloc, setting.graph, setting.plans, node, done)? else {
+        let view = settle_by(alloc, setting, done, node, None)?;
+        return Ok(Closed::Settled(view));
+    };
+    settle_call(alloc, setting, done, wanted, node, call, steps)
+}
+
+// The same of a node with a call.
+fn settle_call<K: Known, L: Ledger>(
+    alloc: Global,
+    setting: &Setting<'_, K>,
+    done: &Table,
+    wanted: &Wanted,
+    node: &Node,
+    call: Call,
+    steps: &mut Steps<L>,
+) -> Result<Closed, Memory>
+    requires set { IsSetting K.kept setting.now }
+    requires fits { Fits setting.now.graph.now node.now }
+    requires outside { AreOutside (world_in K.kept setting.now) wanted.now }
+    requires called { CallOf setting.now.graph.now node.now (results_of done.now) (Some call) }
+    requires stepped { node.now.steps ≢ [] }
+    ensures { let w = world_in K.kept setting.now in
+        IfOk result (IsClosed w node.now (results_of done.now)) }
+{
+    if let Some(outcome) = setting.given.outcome(&call) {
+        let view = settle_by(alloc, setting, done, node, Some(outcome))?;
+        return Ok(Closed::Settled(view));
+    }
+    if wanted.contains(&call) {
+        return Ok(Closed::Stops(call));
+    }
+    let Some(outcome) = setting.known.outcome(alloc, &call, steps)? else {
+        return Ok(Closed::Stops(call));
+    };
+    let view = settle_by(alloc, setting, done, node, Some(&outcome))?;
+    Ok(Closed::Settled(view))
+}
+
+// The view of a node with steps, by the outcome of its call.
+fn settle_by<K: Known>(
+    alloc: Global,
+    setting: &Setting<'_, K>,
+    done: &Table,
+    node: &Node,
+    outcome: Option<&Outcome>,
+) -> Result<View, Memory>
+    requires set { IsSetting K.kept setting.now }
+    requires fits { Fits setting.now.graph.now node.now }
+    requires stepped { node.now.steps ≢ [] }
+    ensures { let given = option_map (λ o. o.now) outcome.entry in
+        let w = world_in K.kept setting.now in
+        IfOk result (SettlesIn w node.now (results_of done.now) given) }
+{
+    settle(alloc, setting.graph, setting.plans, node, done, outcome)
+}
+
+// The view of a source: its text, or that there is none.
+#[tactic(auto, using(crate::proofs::SourceLemmas::inherit_none, crate::proofs::SourceLemmas::inherit_one))]
+fn source_view(alloc: Global, graph: &Graph, sources: &Sources, node: &Node) -> Result<View, Memory>
+    ensures { let label = label_of_node graph.now node.now in
+        let text = map.get sources.now.texts node.now.source in
+        let own = given_own label node.now.source text in
+        IfOk result (λ view. view ≡
+        record { value = own.value; status = own.status; messages = inherit [] own.messages }) }
+{
+    if let Some(text) = sources.get(node.source.as_slice()) {
+        return Ok(View {
+            value: Some(Value::Simple(text.copy(alloc)?)),
+            status: Status::Ok,
+            messages: Seq::new(alloc),
+        });
+    }
+    let mut text = Bytes::from_slice(alloc, b"no source ")?;
+    text.extend_from_slice(node.source.as_slice())?;
+    let mut messages = Seq::new(alloc);
+    messages.push(Message {
+        label: label_of(alloc, graph, node)?,
+        level: Status::Abort,
+        text,
+    })?;
+    Ok(View {
+        value: None,
+        status: Status::Abort,
+        messages,
+    })
+}

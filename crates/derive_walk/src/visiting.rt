@@ -1,0 +1,59 @@
+// The visit of a node, and of what it needs.
+ghost use Rattle.std.specs.Prelude.{IfOk};
+ghost use Rattle.derive_walk.specs.Paths.{IsNext};
+ghost use Rattle.derive_walk.specs.Settings.{IsSetting, world_in};
+ghost use Rattle.derive_walk.specs.States.{HoldsIn, GoesOnFrom, AfterVisit};
+
+use crate::closing::close;
+use crate::known::Known;
+use crate::setting::Setting;
+use crate::walk::Walk;
+use node_tasks::needs;
+use object_values::{Copied, Memory, Node};
+use odin_outside::Steps;
+use std::alloc::Global;
+use std::sync::ledger::Ledger;
+use walk_tables::{Found, chain_to, height_of};
+
+/// Visits a node that was not visited, and what it needs.
+pub(crate) fn visit<K: Known, L: Ledger>(
+    alloc: Global,
+    setting: &Setting<'_, K>,
+    walk: &mut Walk,
+    node: Node,
+    steps: &mut Steps<L>,
+) -> Result<Option<Found>, Memory>
+    requires set { IsSetting K.kept setting.now }
+    requires holds { HoldsIn (world_in K.kept setting.now) walk.old }
+    requires next { IsNext (world_in K.kept setting.now) walk.old node }
+    ensures on { GoesOnFrom walk.old walk.new }
+    ensures holds { HoldsIn (world_in K.kept setting.now) walk.new }
+    ensures after { let w = world_in K.kept setting.now in
+        IfOk result (AfterVisit w walk.old walk.new node) }
+{
+    let length = walk.path.len();
+    walk.path.push(node.copy(alloc)?)?;
+    'rounds: loop {
+        let listed = needs(alloc, setting.graph, setting.plans, &node, &walk.done)?;
+        let needs = listed.as_slice();
+        let mut whole = true;
+        for need in needs {
+            if height_of(&walk.done, &walk.waiting, need).is_some() {
+                continue;
+            }
+            whole = false;
+            if let Some(found) = chain_to(alloc, &walk.path, need)? {
+                return Ok(Some(found));
+            }
+            let need = need.copy(alloc)?;
+            if let Some(found) = visit(alloc, setting, walk, need, steps)? {
+                return Ok(Some(found));
+            }
+        }
+        if whole {
+            let found = close(alloc, setting, walk, needs, node, steps)?;
+            walk.path.truncate(length);
+            return Ok(found);
+        }
+    }
+}

@@ -1,0 +1,205 @@
+// The walk from a root, as its callers see it.
+ghost use Rattle.std.specs.Prelude.{◌≡◌, OnOk, OnErr, IfOk, IsSome, option_map};
+ghost use Rattle.meaning_graph.specs.Graphs.{Graph as GraphValue};
+ghost use Rattle.meaning_texts.specs.Lists.{IsIn};
+ghost use Rattle.meaning_graph_text.specs.Grammar.{IsSpellable};
+ghost use Rattle.meaning_calls.specs.Outcomes.{OutcomeFits};
+ghost use Rattle.meaning_nodes.specs.Nodes.{Fits};
+ghost use Rattle.meaning_derive.specs.Derive.{Sources as SourceTexts, Outcomes};
+ghost use Rattle.meaning_derive.specs.Given.{AreSources, OutcomesFit};
+ghost use Rattle.path_planner.specs.Ends.{plans_of};
+ghost use Rattle.derive_walk.specs.Outcomes.{after};
+ghost use Rattle.derive_walk.specs.Paths.{HasNoPath, AfterRoot};
+ghost use Rattle.derive_walk.specs.Settings.{IsSetting, world_in};
+ghost use Rattle.derive_walk.specs.States.{HoldsIn, GoesOnFrom, heights_in};
+ghost use Rattle.derive_walk.specs.Walks.{IsRight, IsAdvanced, GoesOn, IsGiven, new_walk};
+ghost use Rattle.derive_walk.specs.Worlds.{World, world};
+
+use crate::known::Known;
+use crate::setting::Setting;
+use crate::visiting::visit;
+use crate::walk::Walk;
+use object_sources::Sources;
+use object_values::{Call, Copied, Memory, Node, Outcome, Seq};
+use odin_outside::Steps;
+use path_planner::Plans;
+use std::alloc::Global;
+use std::marker::Model;
+use std::sync::ledger::Ledger;
+use type_graph::Graph;
+use walk_tables::{Found, Given, Heights, Table, Wanted, height_of};
+
+/// The derivation of a root as far as outcomes of calls are known. Contracts see the root, the
+/// nodes that have results, the outcomes that were given, the wanted calls, and the result.
+pub struct Walker {
+    walk: Walk,
+    given: Given,
+    result: Option<Found>,
+}
+
+impl Drop for Walker {
+    fn drop(self) {
+        let Walker {
+            walk,
+            given,
+            result,
+        } = self;
+        drop(walk);
+        drop(given);
+        drop(result);
+    }
+}
+
+impl Model for Walker {
+    ghost use Rattle.derive_walk.specs.Walks.{Walked, AreApart};
+
+    ghost Value = { Walked };
+
+    ghost view = { λ w. record {
+      root = w.walk.root;
+      done = w.walk.done;
+      given = w.given;
+      wanted = w.walk.wanted;
+      result = w.result;
+    } };
+
+    ghost invariant = { λ w. AreApart w.given w.walk.wanted };
+}
+
+impl Walker {
+    /// Nothing is known yet. It is right in every world that its root fits.
+    pub fn new(alloc: Global, root: Node) -> Self
+        ensures is { result ≡ new_walk root }
+        ensures right { (w : World) → Fits w.graph root → OutcomesFit w.outcomes → IsRight w result }
+    {
+        Walker {
+            walk: Walk {
+                root,
+                done: Table::new(alloc),
+                wanted: Wanted::new(alloc),
+                waiting: Heights::new(alloc),
+                path: Seq::new(alloc),
+            },
+            given: Given::new(alloc),
+            result: None,
+        }
+    }
+
+    /// Settles all that needs no further tool: then there is a result, or what is wanted is what the
+    /// derivation stops at. After want of memory it may be called again.
+    pub fn advance<K: Known, L: Ledger>(
+        &mut self,
+        alloc: Global,
+        graph: &Graph,
+        plans: &Plans,
+        sources: &Sources,
+        known: &K,
+        steps: &mut Steps<L>,
+    ) -> Result<(), Memory>
+        requires spellable { IsSpellable graph.now }
+        requires made { plans.now ≡ plans_of graph.now }
+        requires sources { AreSources sources.now.texts }
+        requires right { let by = after (K.kept known.now) self.old.given in
+            IsRight (world graph.now sources.now.texts by) self.old }
+        ensures on { GoesOn self.old self.new }
+        ensures right { let by = after (K.kept known.now) self.new.given in
+            IsRight (world graph.now sources.now.texts by) self.new }
+        ensures advanced { let by = after (K.kept known.now) self.new.given in
+            OnOk result (IsAdvanced (world graph.now sources.now.texts by) self.new) }
+    {
+        if self.result.is_some() {
+            return Ok(());
+        }
+        graph.checked();
+        let setting = Setting {
+            graph,
+            plans,
+            sources,
+            known,
+            given: &self.given,
+        };
+        self.walk.path.clear();
+        self.walk.waiting = Heights::new(alloc);
+        self.result = walk_from_root(alloc, &setting, &mut self.walk, steps)?;
+        Ok(())
+    }
+
+    /// The outcome of a wanted call, which is wanted no more. After want of memory all is as before.
+    pub fn give(&mut self, alloc: Global, call: &Call, outcome: Outcome) -> Result<(), Memory>
+        requires wanted { IsIn call.now self.old.wanted }
+        requires fits { OutcomeFits call.now outcome }
+        ensures ok { OnOk result (IsGiven call.now outcome self.old self.new) }
+        ensures err { OnErr result (self.new ≡ self.old) }
+        ensures right { (g : GraphValue) (s : SourceTexts) (kept : Outcomes) →
+            IsRight (world g s (after kept self.old.given)) self.old →
+            IsRight (world g s (after kept self.new.given)) self.new }
+    {
+        self.given.add(call.copy(alloc)?, outcome)?;
+        self.walk.wanted.remove(call);
+        self.walk.wanted.once();
+        Ok(())
+    }
+
+    /// The calls that are wanted, each once.
+    pub fn wanted(&self) -> &[Call]
+        ensures { result.now ≡ self.now.wanted }
+    {
+        self.walk.wanted.as_slice()
+    }
+
+    /// What is found of the root; once it is there it stays.
+    pub fn result(&self) -> Option<&Found>
+        ensures { option_map (λ found. found.now) result ≡ self.now.result }
+    {
+        self.result.as_ref()
+    }
+
+    pub fn into_result(self) -> Option<Found>
+        ensures { result ≡ self.result }
+    {
+        let Walker {
+            walk,
+            given,
+            result,
+        } = self;
+        drop(walk);
+        drop(given);
+        result
+    }
+}
+
+// What is found of the root, where something is: else it waits.
+fn walk_from_root<K: Known, L: Ledger>(
+    alloc: Global,
+    setting: &Setting<'_, K>,
+    walk: &mut Walk,
+    steps: &mut Steps<L>,
+) -> Result<Option<Found>, Memory>
+    requires set { IsSetting K.kept setting.now }
+    requires holds { HoldsIn (world_in K.kept setting.now) walk.old }
+    requires fits { Fits setting.now.graph.now walk.old.root }
+    requires start { HasNoPath walk.old }
+    ensures on { GoesOnFrom walk.old walk.new }
+    ensures holds { HoldsIn (world_in K.kept setting.now) walk.new }
+    ensures after { IfOk result (AfterRoot (world_in K.kept setting.now) walk.new) }
+{
+    if height_of(&walk.done, &walk.waiting, &walk.root).is_some() {
+        return visited_root(alloc, walk);
+    }
+    let root = walk.root.copy(alloc)?;
+    if let Some(found) = visit(alloc, setting, walk, root, steps)? {
+        return Ok(Some(found));
+    }
+    visited_root(alloc, walk)
+}
+
+// What is found of a root that was visited.
+fn visited_root(alloc: Global, walk: &Walk) -> Result<Option<Found>, Memory>
+    requires { IsSome (heights_in walk.now walk.now.root) }
+    ensures { (w : World) → HoldsIn w walk.now → IfOk result (AfterRoot w walk.now) }
+{
+    match walk.done.entry(&walk.root) {
+        None => Ok(None),
+        Some(done) => Ok(Some(Found::Answer(done.view.copy(alloc)?))),
+    }
+}

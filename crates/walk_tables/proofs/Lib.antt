@@ -1,0 +1,3 @@
+mod Added
+mod CallLemmas
+pub mod Lemmas

@@ -1,0 +1,4 @@
+pub mod Tables
+pub mod Finite
+pub mod Calls
+pub mod Chains

@@ -1,0 +1,89 @@
+// The nodes that have results.
+ghost use Rattle.std.specs.Prelude.{◌≡◌, ◌++◌, ◌∷◌, [], None, option_map, OnOk, OnErr};
+ghost use Rattle.walk_tables.specs.Tables.{done_in};
+
+use indexmap::IndexMap;
+use object_values::{Memory, Node, View};
+use std::alloc::Global;
+use std::marker::Model;
+use task_needs::Results;
+
+/// A result, and the height at which it stands: one more than the greatest height of the node's
+/// needs.
+pub struct Done {
+    pub view: View,
+    pub height: u32,
+}
+
+impl Drop for Done {
+    fn drop(self) {
+        let Done { view, height: _ } = self;
+        drop(view);
+    }
+}
+
+/// The results of nodes, in the order in which they came. A node is looked up by its hash.
+pub struct Table {
+    done: IndexMap<Node, Done>,
+}
+
+impl Drop for Table {
+    fn drop(self) {
+        let Table { done } = self;
+        drop(done);
+    }
+}
+
+impl Model for Table {
+    ghost use Rattle.walk_tables.specs.Tables.{Entries};
+
+    ghost Value = { Entries };
+
+    ghost view = { λ t. t.done.entries };
+}
+
+impl Table {
+    pub fn new(alloc: Global) -> Self
+        ensures { result ≡ [] }
+    {
+        Table {
+            done: IndexMap::new(alloc),
+        }
+    }
+
+    pub fn entry(&self, node: &Node) -> Option<&Done>
+        ensures { option_map (λ d. d.now) result ≡ done_in self.now node.now }
+    {
+        self.done.get(node)
+    }
+
+    /// Adds a node that isn't there. After want of memory all is as before.
+    pub fn add(&mut self, node: Node, done: Done) -> Result<(), Memory>
+        requires { done_in self.old node ≡ None }
+        ensures ok { OnOk result (self.new ≡ self.old ++ (node, done) ∷ []) }
+        ensures err { OnErr result (self.new ≡ self.old) }
+    {
+        match self.done.insert(node, done) {
+            Ok(_) => Ok(()),
+            Err(_) => Err(Memory),
+        }
+    }
+}
+
+impl Results for Table {
+    ghost use Rattle.walk_tables.specs.Tables.{results_of, nodes_of};
+    ghost use Rattle.walk_tables.specs.Finite.{only_nodes};
+
+    ghost results = { results_of };
+
+    ghost nodes = { nodes_of };
+
+    ghost finite = { only_nodes };
+
+    fn find(&self, node: &Node) -> Option<&View> {
+        match self.done.get(node) {
+            None => None,
+            Some(done) => Some(&done.view),
+        }
+    }
+}
