@@ -1,88 +1,48 @@
 // The parameters of calls: those that the tool uses, and no others.
-ghost use Rattle.std.specs.Prelude.{◌≡◌, []};
-ghost use Rattle.path_planner.specs.Ends.{plans_of};
-ghost use Rattle.derive_tests.specs.Samples.{cc_with_debug};
-
-use super::samples::{graph_of, object_with};
-use object_sources::Sources;
-use object_values::{Bytes, Memory, Seq, Text as Shared, Value};
+use super::graphs::PARAMS;
+use super::runs::gives;
+use object_values::{Bytes, Memory, Seq};
 use odin_fakes::TableTools;
-use odin_outside::{Job, Spawner, ToolEvent};
-use path_planner::Plans;
-use plain_derive::{Found, PlainFault, derive_plain};
+use odin_outside::{Job, ToolEvent};
 use std::alloc::Global;
 use std::test::Fail;
-use type_graph::Graph;
 
 type Text = &'static [u8];
 
-// The parameters of `a.c:o`, the file `call` of its call, and its text.
+// A node, the file `call` of its call, and the replies.
 const ROWS: &[(Text, Text, Text)] = &[
     (
-        b"a.c+debug",
+        b"a.c+debug:o",
         b"odin 1\ntool cc 1\nparam debug \npart 0 i1 a.c\nout out.o\n",
-        b"debug\nx=1\n",
+        DEBUGGED,
     ),
     (
-        b"a.c",
+        b"a.c:o",
         b"odin 1\ntool cc 1\npart 0 i1 a.c\nout out.o\n",
-        b"x=1\n",
+        PLAIN,
     ),
     (
-        b"a.c+opt",
+        b"a.c+opt:o",
         b"odin 1\ntool cc 1\npart 0 i1 a.c\nout out.o\n",
-        b"x=1\n",
+        PLAIN,
     ),
     // two values of one name, in the order in which they are written
     (
-        b"a.c+opt=1+debug=2+debug=1",
+        b"a.c+opt=1+debug=2+debug=1:o",
         b"odin 1\ntool cc 1\nparam debug 2\nparam debug 1\npart 0 i1 a.c\nout out.o\n",
-        b"debug\nx=1\n",
+        DEBUGGED,
     ),
     // a name that begins with that of a used one
     (
-        b"a.c+debug2+debug=1",
+        b"a.c+debug2+debug=1:o",
         b"odin 1\ntool cc 1\nparam debug 1\npart 0 i1 a.c\nout out.o\n",
-        b"debug\nx=1\n",
+        DEBUGGED,
     ),
 ];
 
-// The source `a.c`.
-fn sources_of(alloc: Global) -> Result<Sources, Memory> {
-    let text = Shared::of(Bytes::from_slice(alloc, b"x=1\n")?)?;
-    let mut sources = Sources::new(alloc);
-    sources.reserve()?;
-    let _ = sources.put(Bytes::from_slice(alloc, b"a.c")?, text);
-    Ok(sources)
-}
+const PLAIN: Text = b"put a.c 4\nobject ok simple 4\nx=1\n\nmessages 0\n";
 
-// What is found of `a.c:o` with the parameters of an expression.
-fn found<S: Spawner>(
-    alloc: Global,
-    graph: &Graph,
-    plans: &Plans,
-    text: &[u8],
-    tools: &mut S,
-) -> Result<Found, PlainFault>
-    requires sample { graph.now ≡ cc_with_debug }
-    requires made { plans.now ≡ plans_of graph.now }
-    requires idle { (S.told tools.old).running ≡ [] }
-{
-    let sources = sources_of(alloc)?;
-    let node = object_with(alloc, text)?;
-    derive_plain(alloc, graph, plans, &sources, &node, tools)
-}
-
-// Whether an object with this text was found.
-fn is_object(found: &Found, text: &[u8]) -> bool {
-    match found {
-        Found::Answer(view) => match &view.value {
-            Some(Value::Simple(found)) => found.as_slice() == text,
-            _ => false,
-        },
-        Found::Circular(_) | Found::Deep(_) => false,
-    }
-}
+const DEBUGGED: Text = b"put a.c 4\nobject ok simple 10\ndebug\nx=1\n\nmessages 0\n";
 
 // Whether the job has a file `call` with these bytes.
 fn has_call(job: &Job, body: &[u8]) -> bool {
@@ -98,19 +58,19 @@ fn has_started(log: &[ToolEvent], call: &[u8]) -> bool {
     }
 }
 
-// Whether the node with these parameters makes this call, and is this object.
-fn goes(alloc: Global, text: &[u8], call: &[u8], object: &[u8]) -> Result<bool, PlainFault> {
-    let graph = graph_of(alloc)?;
-    let plans = Plans::new(alloc, &graph)?;
+// Whether the node makes this call, and is replied so.
+fn goes(alloc: Global, node: &[u8], call: &[u8], want: &[u8]) -> Result<bool, Memory> {
     let mut tools = TableTools::toy(alloc, Seq::new(alloc));
-    let found = found(alloc, &graph, &plans, text, &mut tools)?;
-    Ok(is_object(&found, object) && has_started(tools.log(), call))
+    let mut input = Bytes::from_slice(alloc, b"put a.c 4\nx=1\nask ")?;
+    input.extend_from_slice(node)?;
+    let as_wanted = gives(alloc, PARAMS, input.as_slice(), want, &mut tools)?;
+    Ok(as_wanted && has_started(tools.log(), call))
 }
 
 #[test]
 fn a_call_has_the_parameters_that_its_tool_uses(rt: HostRuntime) -> Result<(), Fail> {
-    for (text, call, object) in ROWS {
-        assert!(rt; goes(rt.alloc(), text, call, object) == Ok(true));
+    for (node, call, want) in ROWS {
+        assert!(rt; goes(rt.alloc(), node, call, want)?);
     }
     Ok(())
 }

@@ -2,6 +2,7 @@
 #![tactic(auto)]
 
 mod faults;
+mod graphs;
 #[cfg(test)]
 mod rows;
 #[cfg(test)]
@@ -12,6 +13,7 @@ mod serving;
 mod tests;
 
 use faults::{MEMORY, fault_of};
+use graphs::FILES;
 use object_values::{Bytes, FileBody, Memory, Seq, Text};
 use odin_fakes::{MemDisk, MemTree, TableTools};
 use odin_real::{InputSource, OutputSink};
@@ -21,10 +23,6 @@ use std::env::Env;
 use std::process::ExitCode;
 use std::{env, io};
 
-// The graph: a tool `cc` makes an object `o` of a source `c`.
-const GRAPH: &[u8] =
-    b"type c simple;\ntype o simple;\nsuffix .c c;\ntool cc 1 from c to o run \"cc\";\n";
-
 /// A file with this name and these bytes.
 fn file_of(alloc: Global, name: &[u8], body: &[u8]) -> Result<FileBody, Memory> {
     Ok(FileBody {
@@ -33,10 +31,12 @@ fn file_of(alloc: Global, name: &[u8], body: &[u8]) -> Result<FileBody, Memory> 
     })
 }
 
-/// A tree that holds one file, this graph.
-fn tree_of(alloc: Global, graph: &[u8]) -> Result<MemTree, Memory> {
+/// A tree that holds these files, each a name with its bytes.
+fn tree_of(alloc: Global, listed: &[(&[u8], &[u8])]) -> Result<MemTree, Memory> {
     let mut files = Seq::new(alloc);
-    files.push(file_of(alloc, b"g0", graph)?)?;
+    for (name, body) in listed {
+        files.push(file_of(alloc, name, body)?)?;
+    }
     Ok(MemTree::new(files))
 }
 
@@ -46,7 +46,7 @@ where
 {
     let mut input = InputSource::new(rt.reader());
     let mut output = OutputSink::new(io::writer(rt));
-    let mut tree = tree_of(alloc, GRAPH)?;
+    let mut tree = tree_of(alloc, &FILES)?;
     let mut disk = MemDisk::new(alloc, Bytes::new(alloc), 0, 0)?;
     let mut tools = TableTools::toy(alloc, Seq::new(alloc));
     Ok(run(

@@ -1,10 +1,11 @@
 // The worked rows of graphs and tools, over objects in memory.
 ghost use Rattle.std.specs.Prelude.{◌≡◌, ◌<◌, []};
 
+use super::graphs::{C_UNITS, CC_ONLY as GRAPH};
 use super::runs::{only, outcome_over, sink, source, status_with, with_taken};
-use super::{GRAPH, file_of, tree_of};
-use object_values::{FileBody, Memory, Seq};
-use odin_fakes::{FailSink, FailTools, FailTree, MemTree, TableTools};
+use super::tree_of;
+use object_values::{Memory, Seq};
+use odin_fakes::{FailSink, FailTools, FailTree, TableTools};
 use odin_outside::Spawner;
 use std::alloc::Global;
 use std::test::Fail;
@@ -14,9 +15,6 @@ const TWO_WAYS: &[u8] =
 
 const THREE_WAYS: &[u8] =
     b"type a simple;\ntype b simple;\ntype c simple;\ntype d simple;\nsuffix .a a;\ntool p 1 from a to b run \"ld\";\ntool q 1 from a to c run \"ld\";\ntool r 1 from c to d run \"ld\";\ntool s 1 from b to d run \"ld\";\ntool t 1 from a to d run \"ld\";\n";
-
-const C_UNITS: &[u8] =
-    b"type hdr simple;\ntype c simple is hdr;\ntype sm simple;\ntype inc simple;\ntype o simple;\ntype exe simple;\ntype units list of c;\ntype objs list of o;\nsuffix .h hdr;\nsuffix .c c;\nsuffix .sm sm;\nparam debug;\ntool scan 1 from hdr to inc run \"scan\";\ntool cc 1 from c to o run \"cc\" uses debug closure inc;\nread rd from sm to units;\neach comp from units to objs;\ntool ld 1 from objs to exe run \"ld\";\n";
 
 const WITH_DEBUG: &[u8] =
     b"type c simple;\ntype o simple;\nsuffix .c c;\nparam debug;\ntool cc 1 from c to o run \"cc\" uses debug;\n";
@@ -91,7 +89,13 @@ const ROWS: [Row; 16] = [
         b"graph: line 2: unknown type\n",
         0,
     ),
-    (C_UNITS, b"ask a\n", 2, b"graph: line 7: not yet\n", 0),
+    (
+        C_UNITS,
+        b"put m.sm 4\na.c\nput a.c 4\nx=1\nask m.sm:exe\n",
+        0,
+        b"put m.sm 4\nput a.c 4\nobject ok simple 4\nx=1\n\nmessages 0\n",
+        6,
+    ),
     (
         b"param p;\ntype c simple;\nread rd from c to c;",
         b"",
@@ -101,9 +105,9 @@ const ROWS: [Row; 16] = [
     ),
     (
         b"param p;\ntype l list of text;",
-        b"",
-        2,
-        b"graph: line 2: not yet\n",
+        b"ask a:l",
+        0,
+        b"refused path 1\n",
         0,
     ),
     (
@@ -126,7 +130,7 @@ fn outcome_in<S: Spawner>(
     requires piece { 0 < piece }
     requires idle { (S.told tools.old).running ≡ [] }
 {
-    let mut tree = tree_of(alloc, graph)?;
+    let mut tree = tree_of(alloc, &[(b"g0", graph)])?;
     outcome_over(alloc, &mut tree, tools, text, piece)
 }
 
@@ -160,20 +164,10 @@ fn answers_the_worked_rows(rt: HostRuntime) -> Result<(), Fail> {
 // Names of files with their bytes: the graph, a source, and one in a folder.
 const FILES: [(&[u8], &[u8]); 3] = [(b"g0", GRAPH), (b"t.c", b"x=1\n"), (b"lib/b.c", b"")];
 
-// Adds the files of the table to a list.
-fn put_files(alloc: Global, files: &mut Seq<FileBody>) -> Result<(), Memory> {
-    for (name, body) in FILES {
-        files.push(file_of(alloc, name, body)?)?;
-    }
-    Ok(())
-}
-
 // A tree of the files whose read of this number fails.
 fn failing_tree(alloc: Global, number: u32) -> Result<FailTree, Memory> {
     let fails = only(alloc, number)?;
-    let mut files = Seq::new(alloc);
-    put_files(alloc, &mut files)?;
-    Ok(FailTree::new(MemTree::new(files), fails))
+    Ok(FailTree::new(tree_of(alloc, &FILES)?, fails))
 }
 
 const EDITS: &[u8] = b"put a.c 4\nx=1\ndrop a.c\ndrop a.c\ntake t.c\ntake z.c\ntake lib\nsources\n";

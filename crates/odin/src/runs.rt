@@ -1,7 +1,8 @@
 // Runs over objects in memory, for the tests.
 ghost use Rattle.std.specs.Prelude.{◌≡◌, ◌<◌, []};
 
-use super::{GRAPH, tree_of};
+use super::graphs::FILES;
+use super::tree_of;
 use object_values::{Bytes, Memory, Seq};
 use odin_fakes::{MemDisk, MemSink, MemSource, TableTools};
 use odin_outside::{Sink, Source, Spawner, Tree};
@@ -60,14 +61,14 @@ fn status_over<I: Source, O: Sink, T: Tree, S: Spawner>(
     Ok(run(alloc, words, input, output, tree, &mut disk, tools))
 }
 
-/// The status of a run with these words over the program's graph and the toy tools.
+/// The status of a run with these words over the program's graphs and the toy tools.
 pub fn status_of<I: Source, O: Sink>(
     alloc: Global,
     words: &[String],
     input: &mut I,
     output: &mut O,
 ) -> Result<u8, Memory> {
-    let mut tree = tree_of(alloc, GRAPH)?;
+    let mut tree = tree_of(alloc, &FILES)?;
     let mut tools = TableTools::toy(alloc, Seq::new(alloc));
     status_over(alloc, words, input, output, &mut tree, &mut tools)
 }

@@ -15,7 +15,7 @@ use Rattle.odin_answers.specs.Answers.{HasAnswer, IsStartRefused, MayHaveBegun}
 pub answer_uncounted : (g : Graph) (table : Option Table) (s : Sources) (text : Text) (reply : Reply) (before now : Spawned) → HasAnswer g table s text reply before now → now.faults ≡ before.faults
 answer_uncounted g table s text reply before now answer = elim answer.did [
   | inl alone ↦ ap (λ (z : Spawned). z.faults) alone.told
-  | inr derived ↦ uncounted g s answer.outcomes derived.node before now derived.made
+  | inr derived ↦ uncounted g s answer.outcomes derived.node derived.calls before now derived.made
 ]
 
 pub refusal_counted : (g : Graph) (table : Option Table) (s : Sources) (text : Text) (reply : Reply) (before now : Spawned) → IsStartRefused g table s text reply before now → IsCounted before.faults now.faults

@@ -1,68 +1,87 @@
--- Over a graph that derivation is built for, a text has one answer.
-use Rattle.std.proofs.Common.{◌≡◌, ◌⊎◌, ap, sym, refl, ◌∙◌, subst, inl, inr}
-use Rattle.std.specs.Prelude.{Some}
-use Rattle.object_values.specs.declared.nodes.Node.{Node}
+-- A text has one answer, but for the choice of the chain, and the same calls are made for it.
+use Rattle.std.proofs.Common.{◌≡◌, ◌⊎◌, [], ap, refl, sym, ◌∙◌, subst, inl, inr, is_some}
+use Rattle.std.specs.Prelude.{Option, Some, None}
+use Rattle.object_values.specs.declared.views.View.{View}
 use Rattle.odin_outside.specs.Spawned.{Table, Spawned}
-use Rattle.meaning_texts.specs.Limits.{height_limit}
-use Rattle.meaning_texts.proofs.Lemmas.{canonical}
 use Rattle.meaning_graph.specs.Graphs.{Text, Graph}
-use Rattle.meaning_nodes.specs.Nodes.{Fits}
-use Rattle.meaning_nodes.proofs.Lemmas.{made_fits}
-use Rattle.meaning_derive.specs.Derive.{Sources, Outcomes}
+use Rattle.meaning_derive.specs.Derive.{Sources, Outcomes, derived, IsFounded}
+use Rattle.meaning_derive.specs.Given.{table_outcomes}
 use Rattle.meaning_commands.specs.declared.replies.Reply.{Reply}
-use Rattle.meaning_answers.specs.Answers.{Asks, Answer}
-use Rattle.meaning_answers.specs.Replies.{refused_deep}
-use Rattle.meaning_answers.specs.Laws.{ShowsChain, circular_chain, deep_chain}
-use Rattle.meaning_answers.proofs.Lemmas.{not_refused, one_node, one_answer}
-use Rattle.plain_derive.specs.Built.{IsBuiltGraph}
-use Rattle.plain_derive.specs.Deep.{bases}
-use Rattle.plain_derive.specs.Logs.{HasMade}
-use Rattle.plain_derive.proofs.Lemmas.{made_once, none_circular, deep_is_bases}
+use Rattle.meaning_answers.specs.Answers.{Answer}
+use Rattle.meaning_answers.specs.Laws.{BothShowChains}
+use Rattle.meaning_answers.proofs.Lemmas.{not_refused, one_node, one_refusal, founded_shown, others_chained}
+use Rattle.plain_derive.proofs.Lemmas.{made_are_calls, made_are_once}
 use Rattle.odin_answers.specs.Answers.{IsLeftAlone, IsDerived, HasAnswer}
-use Rattle.odin_answers.specs.Laws.{SameAnswers}
+use Rattle.odin_answers.specs.Laws.{AreItsCalls, SameCalls, SameAnswers}
 
-asked_fits : (g : Graph) (text : Text) (n : Node) → Asks g text n → Fits g n
-asked_fits g text n asks = made_fits g asks.expression n (canonical text asks.expression asks.is) asks.node
+-- what was made for a text are calls of its node
+pub its_own : (g : Graph) (s : Sources) (outcomes : Outcomes) (text : Text) (before now : Spawned) → (d : IsDerived g s outcomes text before now) → AreItsCalls g s outcomes d.node d.calls
+its_own g s outcomes text before now d = record {
+  only = made_are_calls g s outcomes d.node d.calls d.made.are;
+  once = made_are_once g s outcomes d.node d.calls d.made.are;
+  all = d.all;
+}
 
-module _ (g : Graph) (built : IsBuiltGraph g) where
-  -- A chain that is shown is that of the bases.
-  shown_chain : (s : Sources) (outcomes : Outcomes) (n : Node) (reply : Reply) → Fits g n → ShowsChain g s outcomes n reply → reply ≡ refused_deep g (bases n height_limit)
-  shown_chain s outcomes n reply fits (circular_chain chain is) = absurd (none_circular g built s outcomes n chain fits is)
-  shown_chain s outcomes n reply fits (deep_chain chain is) = ap (refused_deep g) (deep_is_bases g built s outcomes n chain fits is)
+-- no call
+pub no_calls : (before now before' now' : Spawned) → now ≡ before → now' ≡ before' → SameCalls before now before' now'
+no_calls before now before' now' one other = record {
+  calls = [];
+  others = [];
+  one = one;
+  other = other;
+  once = tt;
+  others_once = tt;
+  same = λ call. (λ i. i, λ i. i);
+}
 
-  answer_once : (s : Sources) (outcomes : Outcomes) (text : Text) (reply other : Reply) → Answer g s outcomes text reply → Answer g s outcomes text other → other ≡ reply
-  answer_once s outcomes text reply other a b = elim (one_answer g s outcomes text reply other a b) [
-    | inl same ↦ same
-    | inr both ↦
-        let fits = asked_fits g text both.node both.asked in
-        shown_chain s outcomes both.node other fits both.another ∙ sym (shown_chain s outcomes both.node reply fits both.one)
-  ]
+module _ (g : Graph) (s : Sources) (outcomes : Outcomes) (text : Text) (before now before' now' : Spawned) where
+  -- the calls of one node that has a result
+  same_calls : (a : IsDerived g s outcomes text before now) (b : IsDerived g s outcomes text before' now') (view : View) → derived g s outcomes a.node ≡ Some view → SameCalls before now before' now'
+  same_calls a b view is =
+      let node : b.node ≡ a.node = one_node g text a.node b.node a.asks b.asks in
+      let mine = its_own g s outcomes text before now a in
+      let others : AreItsCalls g s outcomes a.node b.calls = subst (λ n. AreItsCalls g s outcomes n b.calls) node (its_own g s outcomes text before' now' b) in
+      let founded : IsFounded g s outcomes a.node = ap is_some is in
+      record {
+        calls = a.calls;
+        others = b.calls;
+        one = a.made.now_is;
+        other = b.made.now_is;
+        once = mine.once;
+        others_once = others.once;
+        same = λ call. (λ i. others.all founded call (mine.only call i), λ i. mine.all founded call (others.only call i));
+      }
 
-  -- ---- what the tools did
+  module _ (reply other : Reply) (mine : Answer g s outcomes text reply) (yours : Answer g s outcomes text other) where
+    -- by whether the node has a result
+    by_result : (a : IsDerived g s outcomes text before now) (b : IsDerived g s outcomes text before' now') (found : Option View) → derived g s outcomes a.node ≡ found
+        → SameAnswers reply other before now before' now' ⊎ BothShowChains g s outcomes text reply other
+    by_result a b (Some view) is =
+        inl (record {
+          reply = founded_shown g s outcomes text other a.node view a.asks is yours ∙ sym (founded_shown g s outcomes text reply a.node view a.asks is mine);
+          calls = same_calls a b view is;
+        })
+    by_result a b None is =
+        inr (record {
+          node = a.node;
+          asked = a.asks;
+          one = others_chained g s outcomes text reply a.node a.asks is mine;
+          another = others_chained g s outcomes text other a.node a.asks is yours;
+        })
 
-  -- It follows from what was told before, and from the text.
-  did_once : (s : Sources) (outcomes : Outcomes) (text : Text) (reply other : Reply) (before now now' : Spawned) → IsLeftAlone g text reply before now ⊎ IsDerived g s outcomes text before now
-      → IsLeftAlone g text other before now' ⊎ IsDerived g s outcomes text before now' → now' ≡ now
-  did_once s outcomes text reply other before now now' (inl a) (inl b) = b.told ∙ sym a.told
-  did_once s outcomes text reply other before now now' (inl a) (inr b) = absurd (not_refused g text reply b.node b.asks a.refused)
-  did_once s outcomes text reply other before now now' (inr a) (inl b) = absurd (not_refused g text other a.node a.asks b.refused)
-  did_once s outcomes text reply other before now now' (inr a) (inr b) =
-      made_once g s outcomes a.node before now now' a.made (subst (λ z. HasMade g s outcomes z before now') (one_node g text a.node b.node a.asks b.asks) b.made)
+    by_work : IsLeftAlone g text reply before now ⊎ IsDerived g s outcomes text before now → IsLeftAlone g text other before' now' ⊎ IsDerived g s outcomes text before' now'
+        → SameAnswers reply other before now before' now' ⊎ BothShowChains g s outcomes text reply other
+    by_work (inl a) (inl b) = inl (record { reply = one_refusal g text reply other a.refused b.refused; calls = no_calls before now before' now' a.told b.told })
+    by_work (inl a) (inr b) = absurd (not_refused g text reply b.node b.asks a.refused)
+    by_work (inr a) (inl b) = absurd (not_refused g text other a.node a.asks b.refused)
+    by_work (inr a) (inr b) = by_result a b _ refl
 
-  -- ---- where a table is told, by whose outcomes both go
-
-  module _ (table : Table) (s : Sources) (text : Text) (reply other : Reply) (before now before' now' : Spawned) (a : HasAnswer g (Some table) s text reply before now) (b : HasAnswer g (Some table) s text other before' now') where
-    same_outcomes : b.outcomes ≡ a.outcomes
-    same_outcomes = b.given.told table refl ∙ sym (a.given.told table refl)
-
-    same_did : before' ≡ before → now' ≡ now
-    same_did same =
-        did_once s a.outcomes text reply other before now now' a.did
-        (subst (λ (z : Spawned). IsLeftAlone g text other z now' ⊎ IsDerived g s a.outcomes text z now') same
-        (subst (λ (o : Outcomes). IsLeftAlone g text other before' now' ⊎ IsDerived g s o text before' now') same_outcomes b.did))
-
-    pub one_reply : SameAnswers reply other before now before' now'
-    one_reply = record {
-      reply = answer_once s a.outcomes text reply other a.answer (subst (λ (o : Outcomes). Answer g s o text other) same_outcomes b.answer);
-      told = same_did;
-    }
+-- where a table is told both go by its outcomes
+pub one_reply : (g : Graph) (table : Table) (s : Sources) (text : Text) (reply other : Reply) (before now before' now' : Spawned) → HasAnswer g (Some table) s text reply before now → HasAnswer g (Some table) s text other before' now'
+    → SameAnswers reply other before now before' now' ⊎ BothShowChains g s (table_outcomes table) text reply other
+one_reply g table s text reply other before now before' now' a b =
+    by_work g s (table_outcomes table) text before now before' now' reply other
+    (subst (λ (o : Outcomes). Answer g s o text reply) (a.given.told table refl) a.answer)
+    (subst (λ (o : Outcomes). Answer g s o text other) (b.given.told table refl) b.answer)
+    (subst (λ (o : Outcomes). IsLeftAlone g text reply before now ⊎ IsDerived g s o text before now) (a.given.told table refl) a.did)
+    (subst (λ (o : Outcomes). IsLeftAlone g text other before' now' ⊎ IsDerived g s o text before' now') (b.given.told table refl) b.did)

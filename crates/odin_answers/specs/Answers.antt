@@ -1,15 +1,18 @@
 -- The replies to texts, and what the tools did for them.
-use Rattle.std.specs.Prelude.{◌≡◌, ◌⊎◌, ◌≤◌, length, Option}
+use Rattle.std.specs.Prelude.{◌≡◌, ◌⊎◌, ◌≤◌, List, length, Option}
 use Rattle.object_values.specs.declared.nodes.Node.{Node}
+use Rattle.object_values.specs.declared.calls.Call.{Call}
 use Rattle.odin_outside.specs.Spawned.{Table, Spawned}
+use Rattle.meaning_texts.specs.Lists.{IsIn}
 use Rattle.meaning_graph.specs.Graphs.{Text, Graph}
-use Rattle.meaning_derive.specs.Derive.{Sources, Outcomes}
+use Rattle.meaning_derive.specs.Derive.{Sources, Outcomes, derived, IsFounded}
+use Rattle.meaning_derive.specs.Calls.{IsCallFrom}
 use Rattle.meaning_commands.specs.declared.replies.Reply.{Reply}
 use Rattle.meaning_commands.specs.declared.replies.Reply.TheVariants.{RefusedToolStart}
 use Rattle.meaning_answers.specs.Replies.{shown, refused_circular, refused_deep}
 use Rattle.meaning_answers.specs.Answers.{Refused, Asks, Answer}
-use Rattle.plain_derive.specs.declared.found.Found.{Found}
-use Rattle.plain_derive.specs.declared.found.Found.TheVariants as found
+use Rattle.walk_tables.specs.declared.found.Found.{Found}
+use Rattle.walk_tables.specs.declared.found.Found.TheVariants as found
 use Rattle.plain_derive.specs.declared.fault.PlainFault.{PlainFault}
 use Rattle.plain_derive.specs.declared.fault.PlainFault.TheVariants.{Spawn, Memory}
 use Rattle.plain_derive.specs.Logs.{HasMade, HasBegun}
@@ -22,11 +25,20 @@ pub record IsLeftAlone (g : Graph) (text : Text) (reply : Reply) (before now : S
   pub refused : Refused g text reply
   pub told : now ≡ before
 
--- For a text of a node the calls of its derivation are made, each once, and nothing else happens.
+-- Where the node has a result these are all its calls.
+abbrev pub AreAll : Graph → Sources → Outcomes → Node → List Call → Type 0
+AreAll g s outcomes n calls =
+    IsFounded g s outcomes n → (call : Call) → IsCallFrom g (derived g s outcomes) n call
+    → IsIn call calls
+
+-- For a text of a node calls of its derivation are made, each once, and nothing else happens; all
+-- its calls where the node has a result.
 pub record IsDerived (g : Graph) (s : Sources) (outcomes : Outcomes) (text : Text) (before now : Spawned) : Type 0 where
   pub node : Node
   pub asks : Asks g text node
-  pub made : HasMade g s outcomes node before now
+  pub calls : List Call
+  pub made : HasMade g s outcomes node calls before now
+  pub all : AreAll g s outcomes node calls
 
 -- The derivation of the text's node was begun, by outcomes that the tools gave, and given up for the fault.
 pub record IsBegun (g : Graph) (table : Option Table) (s : Sources) (text : Text) (fault : PlainFault) (before now : Spawned) : Type 0 where

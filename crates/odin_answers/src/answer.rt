@@ -1,9 +1,10 @@
 // The replies to texts.
 ghost use Rattle.std.specs.Prelude.{◌≡◌, ◌≤◌, [], length, IfOk, OnOk, OnErr};
 ghost use Rattle.meaning_graph.specs.Graphs.{Text};
+ghost use Rattle.meaning_graph_text.specs.Grammar.{IsSpellable};
 ghost use Rattle.meaning_answers.specs.Answers.{Asks};
 ghost use Rattle.meaning_nodes.specs.Nodes.{Fits};
-ghost use Rattle.plain_derive.specs.Built.{IsBuiltGraph};
+ghost use Rattle.meaning_derive.specs.Given.{AreSources};
 ghost use Rattle.odin_answers.specs.Answers.{AreFew, IsReply, MayHaveBegun, RefusesStart};
 ghost use Rattle.odin_answers.specs.Planned.{IsPlanned};
 ghost use Rattle.path_planner.specs.Ends.{plans_of};
@@ -29,8 +30,9 @@ pub fn answer_ask<S: Spawner>(
     text: &[u8],
     tools: &mut S,
 ) -> Result<Reply, Memory>
-    requires built { IsBuiltGraph graph.now }
+    requires spellable { IsSpellable graph.now }
     requires made { plans.now ≡ plans_of graph.now }
+    requires sources { AreSources sources.now.texts }
     requires idle { (S.told tools.old).running ≡ [] }
     ensures ok { IfOk result (λ reply. IsReply graph.now (S.told tools.old).answer
         sources.now.texts text.now reply (S.told tools.old) (S.told tools.new)) }
@@ -55,8 +57,9 @@ fn answer_node<S: Spawner>(
     node: &Node,
     tools: &mut S,
 ) -> Result<Reply, Memory>
-    requires built { IsBuiltGraph graph.now }
+    requires spellable { IsSpellable graph.now }
     requires made { plans.now ≡ plans_of graph.now }
+    requires sources { AreSources sources.now.texts }
     requires fits { Fits graph.now node.now }
     requires idle { (S.told tools.old).running ≡ [] }
     ensures ok { IfOk result (λ reply. (text : Text) → Asks graph.now text node.now →

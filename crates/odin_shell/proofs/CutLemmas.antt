@@ -4,12 +4,13 @@ use Rattle.std.proofs.Math.Nat.{le_refl}
 use Rattle.std.proofs.lemmas.List.{append_assoc, take_more, take_all}
 use Rattle.std.specs.Option.{is_some}
 use Rattle.meaning_texts.specs.Lines.{HasNoLf, without_cr}
+use Rattle.meaning_run.specs.Items.{IsItem, last_item}
 use Rattle.meaning_run.specs.Streams.{Extends, Completes}
 use Rattle.meaning_commands.specs.declared.commands.Command.{Command}
 use Rattle.meaning_commands.specs.Commands.{Spells, takes}
 use Rattle.odin_shell.specs.declared.pending.Pending.{Pending}
 use Rattle.odin_shell.specs.declared.cutter.Cutter.{Cutter}
-use Rattle.odin_shell.specs.declared.cutter.Whole.{Whole}
+use Rattle.odin_shell.specs.declared.whole.Whole.{Whole}
 use Rattle.odin_shell.specs.Language.{keeps_body, commands}
 use Rattle.odin_shell.specs.Held.{held_length, KeepsPart, Keeps, IsNew}
 use Rattle.odin_shell.specs.Cuts.{Takes, Clears, IsLast}
@@ -74,5 +75,5 @@ pub last_begun : (line : List ℕ) (pending : Option Pending) (command : Command
 last_begun line pending command none spelled some part k = Keeps-unended line part pending command none spelled some k
 
 pub last_line : (line : List ℕ) (pending : Option Pending) (command : Command) (body : List ℕ) → pending ≡ None → Spells (without_cr line) command → takes command ≡ 0 → body ≡ []
-    → IsLast (record { line = line; pending = pending }) (Some (record { command = command; body = body }))
+    → ((part : List ℕ) → Keeps (record { line = line; pending = pending }) part → IsItem commands (last_item part) command) × (body ≡ [])
 last_line line pending command body none spelled no_bytes empty = (λ part k. Keeps-last_line line part pending command none spelled no_bytes k, empty)

@@ -1,6 +1,5 @@
 mod CountLemmas
 mod CutLemmas
-mod GraphLemmas
 mod HeldLemmas
 mod LineLemmas
 mod OpenedLemmas

@@ -12,14 +12,13 @@ use Rattle.meaning_derive.specs.Derive.{Sources as Given}
 use Rattle.meaning_run.specs.Objects.{took, TookPart}
 use Rattle.meaning_run.specs.Items.{SameBody}
 use Rattle.plain_derive.specs.declared.fault.PlainFault.TheVariants as fault
-use Rattle.plain_derive.proofs.Lemmas.{made_is_begun}
 use Rattle.odin_answers.specs.Answers.{IsReply, MayHaveBegun}
-use Rattle.odin_answers.proofs.Lemmas.{answer_uncounted, refusal_counted, begun_later}
+use Rattle.odin_answers.proofs.Lemmas.{made_is_begun, answer_uncounted, refusal_counted, begun_later}
 use Rattle.meaning_commands.specs.declared.commands.Command.{Command}
 use Rattle.meaning_commands.specs.declared.commands.Command.TheVariants.{Put, Take, Remove, Ask, Plan, Sources, Kept, Quit, Nothing, Bad, BadName}
 use Rattle.meaning_commands.specs.declared.replies.Reply.{Reply}
 use Rattle.meaning_commands.specs.Commands.{ends_run}
-use Rattle.odin_shell.specs.declared.cutter.Whole.{Whole}
+use Rattle.odin_shell.specs.declared.whole.Whole.{Whole}
 use Rattle.odin_shell.specs.declared.serve.Stop.{Stop}
 use Rattle.odin_shell.specs.declared.serve.Stop.TheVariants as stop
 use Rattle.odin_shell.specs.Language.{commands}
@@ -55,7 +54,7 @@ reply_begun g table s text reply before now (inl answered) = elim answered.did [
       given = answered.given;
       node = derived.node;
       asks = derived.asks;
-      begun = made_is_begun g s answered.outcomes derived.node before now derived.made;
+      begun = made_is_begun g s answered.outcomes derived.node derived.calls before now derived.made;
     },
   )
 ]

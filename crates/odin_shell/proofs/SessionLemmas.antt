@@ -14,7 +14,7 @@ use Rattle.meaning_run.proofs.Lemmas.{rest_is}
 use Rattle.meaning_run.proofs.Lemmas.{Reading-none}
 use Rattle.meaning_commands.specs.declared.commands.Command.{Command}
 use Rattle.odin_shell.specs.declared.cutter.Cutter.{Cutter}
-use Rattle.odin_shell.specs.declared.cutter.Whole.{Whole}
+use Rattle.odin_shell.specs.declared.whole.Whole.{Whole}
 use Rattle.odin_shell.specs.declared.serve.Stop.{Stop}
 use Rattle.odin_shell.specs.declared.serve.Stop.TheVariants.{Memory, Output, Quit}
 use Rattle.odin_shell.specs.Language.{commands}

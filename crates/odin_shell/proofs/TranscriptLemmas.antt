@@ -1,5 +1,5 @@
--- Where no fault of the tools or of the tree is counted, items have one transcript at most.
-use Rattle.std.proofs.Common.{◌≡◌, ℕ, ◌<◌, ◌+◌, ◌≤◌, min, List, [], ◌∷◌, ap, sym, refl, ◌∙◌, subst, arith, inl, inr}
+-- Where no fault of the tools or of the tree is counted, items have one transcript at most, but for the chains that refusals show.
+use Rattle.std.proofs.Common.{◌≡◌, ℕ, ◌<◌, ◌+◌, ◌≤◌, min, List, [], ◌∷◌, ap, sym, ◌∙◌, subst, arith, inl, inr}
 use Rattle.std.specs.Prelude.{Option, Some, None}
 use Rattle.std.specs.FinMap.{get}
 use Rattle.object_sources.specs.Texts.{Texts}
@@ -11,9 +11,8 @@ use Rattle.meaning_graph.specs.Graphs.{Text, Graph}
 use Rattle.meaning_answers.proofs.Lemmas.{one_plan}
 use Rattle.meaning_run.specs.Items.{Item}
 use Rattle.meaning_run.specs.Machines.{Transcript, AnswersItem}
-use Rattle.plain_derive.specs.Built.{IsBuiltGraph}
 use Rattle.odin_answers.specs.Answers.{IsReply, HasAnswer}
-use Rattle.odin_answers.proofs.Lemmas.{refusal_counted, one_reply}
+use Rattle.odin_answers.proofs.Lemmas.{refusal_counted, no_calls, one_reply}
 use Rattle.meaning_commands.specs.declared.commands.Command.{Command}
 use Rattle.meaning_commands.specs.declared.commands.Command.TheVariants.{Put, Take, Remove, Ask, Plan, Sources, Kept, Quit, Nothing, Bad, BadName}
 use Rattle.meaning_commands.specs.declared.replies.Reply.{Reply}
@@ -23,7 +22,7 @@ use Rattle.meaning_commands.proofs.Lemmas.{one_command}
 use Rattle.odin_shell.specs.Language.{commands}
 use Rattle.source_edits.specs.Edits.{Says, TreeTold, Inserts, Puts, TakesFile, Takes, IsTaken, IsAsked, RemovesText, Removes, source_lines}
 use Rattle.odin_shell.specs.Machine.{State, Step, Edits, EditsByFile, Asks}
-use Rattle.odin_shell.specs.Laws.{NoFault, CountsNone, AreSame}
+use Rattle.odin_shell.specs.Laws.{NoFault, CountsNone, AreAlike, AreSideBySide, AreSame}
 use Rattle.odin_shell.proofs.CountLemmas.{counted, counts}
 use Rattle.odin_shell.proofs.ServeLemmas.{step_tree}
 
@@ -82,34 +81,34 @@ answered g table old new text said none (inl is) = is
 answered g table old new text said none (inr refused) = absurd (not_counted old.tools.faults new.tools.faults none.tools (refusal_counted g (Some table) old.texts text said old.tools new.tools refused))
 
 -- what is the same behind one command
-record IsSame (bytes bytes' : List ℕ) (old new old' new' : State) : Type 0 where
-  is : bytes' ≡ bytes
+record IsSame (g : Graph) (table : Table) (bytes bytes' : List ℕ) (old new old' new' : State) : Type 0 where
+  alike : AreAlike g table bytes bytes' old new old' new'
   texts : new'.texts ≡ new.texts
-  tools : old'.tools ≡ old.tools → new'.tools ≡ new.tools
   tree : old'.tree ≡ old.tree → new'.tree ≡ new.tree
 
 same_bytes : (P Q : Reply → Type 0) (bytes bytes' : List ℕ) (a : Says P bytes) (b : Says Q bytes') → b.said ≡ a.said → bytes' ≡ bytes
 same_bytes P Q bytes bytes' a b same = b.bytes_are ∙ ap reply_text same ∙ sym a.bytes_are
 
-module _ (g : Graph) (built : IsBuiltGraph g) (table : Table) (files : Files) (old new old' new' : State) (same : old'.texts ≡ old.texts) where
-  unchanged : (bytes bytes' : List ℕ) → bytes' ≡ bytes → new ≡ old → new' ≡ old' → IsSame bytes bytes' old new old' new'
+module _ (g : Graph) (table : Table) (files : Files) (old new old' new' : State) (same : old'.texts ≡ old.texts) where
+  unchanged : (bytes bytes' : List ℕ) → bytes' ≡ bytes → new ≡ old → new' ≡ old' → IsSame g table bytes bytes' old new old' new'
   unchanged bytes bytes' is stays stays' = record {
-    is = is;
+    alike = inl (record { reply = is; calls = no_calls old.tools new.tools old'.tools new'.tools (ap (λ (s : State). s.tools) stays) (ap (λ (s : State). s.tools) stays') });
     texts = ap (λ (s : State). s.texts) stays' ∙ same ∙ sym (ap (λ (s : State). s.texts) stays);
-    tools = λ (e : old'.tools ≡ old.tools). ap (λ (s : State). s.tools) stays' ∙ e ∙ sym (ap (λ (s : State). s.tools) stays);
     tree = λ (e : old'.tree ≡ old.tree). ap (λ (s : State). s.tree) stays' ∙ e ∙ sym (ap (λ (s : State). s.tree) stays);
   }
 
-  edited : (P Q : Reply → Texts → Type 0) (bytes bytes' : List ℕ) (a : Edits P old bytes new) (b : Edits Q old' bytes' new') → IsOne a.says.said b.says.said new.texts new'.texts → IsSame bytes bytes' old new old' new'
+  edited : (P Q : Reply → Texts → Type 0) (bytes bytes' : List ℕ) (a : Edits P old bytes new) (b : Edits Q old' bytes' new') → IsOne a.says.said b.says.said new.texts new'.texts → IsSame g table bytes bytes' old new old' new'
   edited P Q bytes bytes' a b one = record {
-    is = same_bytes (λ said. P said new.texts) (λ said. Q said new'.texts) bytes bytes' a.says b.says one.says;
+    alike = inl (record {
+      reply = same_bytes (λ said. P said new.texts) (λ said. Q said new'.texts) bytes bytes' a.says b.says one.says;
+      calls = no_calls old.tools new.tools old'.tools new'.tools a.tools b.tools;
+    });
     texts = one.texts;
-    tools = λ (e : old'.tools ≡ old.tools). b.tools ∙ e ∙ sym a.tools;
     tree = λ (e : old'.tree ≡ old.tree). b.tree ∙ e ∙ sym a.tree;
   }
 
   file_same : (name : Text) (bytes bytes' : List ℕ) → old.tree.files ≡ Some files → old'.tree.files ≡ Some files → CountsNone old new → CountsNone old' new' → EditsByFile name old bytes new → EditsByFile name old' bytes' new'
-      → IsSame bytes bytes' old new old' new'
+      → IsSame g table bytes bytes' old new old' new'
   file_same name bytes bytes' told told' none none' a b =
       let t = taken old.texts name old.tree a.says.said new.texts new.tree none.tree a.says.holds in
       let t' = taken old'.texts name old'.tree b.says.said new'.texts new'.tree none'.tree b.says.holds in
@@ -118,26 +117,32 @@ module _ (g : Graph) (built : IsBuiltGraph g) (table : Table) (files : Files) (o
       let takes' = subst (λ (f : Option Text). TakesFile old.texts name f b.says.said new'.texts) (given' ∙ sym given) (subst (λ (x : Texts). TakesFile x name t'.file b.says.said new'.texts) same t'.takes) in
       let one = one_file old.texts name t.file a.says.said b.says.said new.texts new'.texts t.takes takes' in
       record {
-        is = same_bytes (λ said. Takes old.texts name old.tree said new.texts new.tree) (λ said. Takes old'.texts name old'.tree said new'.texts new'.tree) bytes bytes' a.says b.says one.says;
+        alike = inl (record {
+          reply = same_bytes (λ said. Takes old.texts name old.tree said new.texts new.tree) (λ said. Takes old'.texts name old'.tree said new'.texts new'.tree) bytes bytes' a.says b.says one.says;
+          calls = no_calls old.tools new.tools old'.tools new'.tools a.tools b.tools;
+        });
         texts = one.texts;
-        tools = λ (e : old'.tools ≡ old.tools). b.tools ∙ e ∙ sym a.tools;
         tree = λ (e : old'.tree ≡ old.tree). tree_is old'.tree new'.tree b.asked t'.unfailed ∙ ap asked_once e ∙ sym (tree_is old.tree new.tree a.asked t.unfailed);
       }
 
-  asked : (text : Text) (bytes bytes' : List ℕ) → CountsNone old new → CountsNone old' new' → Asks g (Some table) text old bytes new → Asks g (Some table) text old' bytes' new' → IsSame bytes bytes' old new old' new'
+  asked : (text : Text) (bytes bytes' : List ℕ) → CountsNone old new → CountsNone old' new' → Asks g (Some table) text old bytes new → Asks g (Some table) text old' bytes' new' → IsSame g table bytes bytes' old new old' new'
   asked text bytes bytes' none none' a b =
       let one = answered g table old new text a.says.said none a.says.holds in
       let other = subst (λ (t : Texts). HasAnswer g (Some table) t text b.says.said old'.tools new'.tools) same (answered g table old' new' text b.says.said none' b.says.holds) in
-      let both = one_reply g built table old.texts text a.says.said b.says.said old.tools new.tools old'.tools new'.tools one other in
       record {
-        is = same_bytes (λ said. IsReply g (Some table) old.texts text said old.tools new.tools) (λ said. IsReply g (Some table) old'.texts text said old'.tools new'.tools) bytes bytes' a.says b.says both.reply;
+        alike = elim (one_reply g table old.texts text a.says.said b.says.said old.tools new.tools old'.tools new'.tools one other) [
+          | inl both ↦ inl (record {
+            reply = same_bytes (λ said. IsReply g (Some table) old.texts text said old.tools new.tools) (λ said. IsReply g (Some table) old'.texts text said old'.tools new'.tools) bytes bytes' a.says b.says both.reply;
+            calls = both.calls;
+          })
+          | inr chains ↦ inr (record { text = text; reply = a.says.said; other = b.says.said; bytes_are = a.says.bytes_are; others_are = b.says.bytes_are; chains = chains })
+        ];
         texts = b.texts ∙ same ∙ sym a.texts;
-        tools = both.told;
         tree = λ (e : old'.tree ≡ old.tree). b.tree ∙ e ∙ sym a.tree;
       }
 
   module _ (told : old.tree.files ≡ Some files) (told' : old'.tree.files ≡ Some files) (none : CountsNone old new) (none' : CountsNone old' new') where
-    one_step : (c : Command) (body bytes bytes' : List ℕ) → Step g (Some table) old c body bytes new → Step g (Some table) old' c body bytes' new' → IsSame bytes bytes' old new old' new'
+    one_step : (c : Command) (body bytes bytes' : List ℕ) → Step g (Some table) old c body bytes new → Step g (Some table) old' c body bytes' new' → IsSame g table bytes bytes' old new old' new'
     one_step (Put name count) body bytes bytes' a b =
         edited (Puts old.texts name count body) (Puts old'.texts name count body) bytes bytes' a b
         (one_insert old.texts name body count _ a.says.said b.says.said new.texts new'.texts a.says.holds (subst (λ (t : Texts). Puts t name count body b.says.said new'.texts) same b.says.holds))
@@ -156,7 +161,7 @@ module _ (g : Graph) (built : IsBuiltGraph g) (table : Table) (files : Files) (o
     one_step (BadName count) body bytes bytes' a b = unchanged bytes bytes' (b.0 ∙ sym a.0) a.1 b.1
 
     -- an item is one command
-    one_item : (item : Item) (bytes bytes' : List ℕ) → AnswersItem commands (Step g (Some table)) old item bytes new → AnswersItem commands (Step g (Some table)) old' item bytes' new' → IsSame bytes bytes' old new old' new'
+    one_item : (item : Item) (bytes bytes' : List ℕ) → AnswersItem commands (Step g (Some table)) old item bytes new → AnswersItem commands (Step g (Some table)) old' item bytes' new' → IsSame g table bytes bytes' old new old' new'
     one_item item bytes bytes' a b =
         let command : b.command ≡ a.command = one_command a.command b.command (without_cr item.line) a.item_is.spelled b.item_is.spelled in
         one_step a.command item.body bytes bytes' a.step (subst (λ (c : Command). Step g (Some table) old' c item.body bytes' new') command b.step)
@@ -173,16 +178,21 @@ parts g table first last item items bytes replies mid a run none =
     let tree = between first.tree.faults mid.tree.faults last.tree.faults _ _ step.reads rest.reads none.tree in
     (record { tools = tools.0; tree = tree.0 }, record { tools = tools.1; tree = tree.1 })
 
-module _ (g : Graph) (built : IsBuiltGraph g) (table : Table) (files : Files) where
+module _ (g : Graph) (table : Table) (files : Files) where
   told_on : (first mid : State) (item : Item) (bytes : List ℕ) → AnswersItem commands (Step g (Some table)) first item bytes mid → first.tree.files ≡ Some files → mid.tree.files ≡ Some files
   told_on first mid item bytes a told = let stays = step_tree g (Some table) first a.command item.body bytes mid a.step in stays.files ∙ told
 
+  -- nothing is left to answer
+  ended : (first last first' last' : State) → first'.texts ≡ first.texts → last ≡ first → last' ≡ first' → AreSame g table [] [] [] first last first' last'
+  ended first last first' last' same run run' =
+      subst (λ (z : State). AreSame g table [] [] [] first z first' last') (sym run)
+      (subst (λ (z : State). AreSame g table [] [] [] first first first' z) (sym run')
+      (record { replies = AreSideBySide.at_end first first'; texts = same; tree = λ (e : first'.tree ≡ first.tree). e }))
+
   once : (items : List Item) (one other : List (List ℕ)) (first last first' last' : State) → first'.texts ≡ first.texts → first.tree.files ≡ Some files → first'.tree.files ≡ Some files
       → Transcript commands (Step g (Some table)) first items one last → Transcript commands (Step g (Some table)) first' items other last'
-      → CountsNone first last → CountsNone first' last' → AreSame one other first last first' last'
-  once [] [] [] first last first' last' same told told' run run' none none' =
-      let end = unchanged g built table files first last first' last' same [] [] refl run run' in
-      record { replies = refl; texts = end.texts; tools = end.tools; tree = end.tree }
+      → CountsNone first last → CountsNone first' last' → AreSame g table items one other first last first' last'
+  once [] [] [] first last first' last' same told told' run run' none none' = ended first last first' last' same run run'
   once [] (bytes ∷ one) other first last first' last' same told told' run run' none none' = absurd run
   once [] [] (bytes ∷ other) first last first' last' same told told' run run' none none' = absurd run'
   once (item ∷ items) [] other first last first' last' same told told' run run' none none' = absurd run
@@ -190,18 +200,17 @@ module _ (g : Graph) (built : IsBuiltGraph g) (table : Table) (files : Files) wh
   once (item ∷ items) (bytes ∷ one) (bytes' ∷ other) first last first' last' same told told' run run' none none' =
       let here = parts g table first last item items bytes one run.0 run.1 run.2 none in
       let here' = parts g table first' last' item items bytes' other run'.0 run'.1 run'.2 none' in
-      let step = one_item g built table files first run.0 first' run'.0 same told told' here.0 here'.0 item bytes bytes' run.1 run'.1 in
+      let step = one_item g table files first run.0 first' run'.0 same told told' here.0 here'.0 item bytes bytes' run.1 run'.1 in
       let rest = once items one other run.0 last run'.0 last' step.texts (told_on first run.0 item bytes run.1 told) (told_on first' run'.0 item bytes' run'.1 told') run.2 run'.2 here.1 here'.1 in
       record {
-        replies = λ i. step.is i ∷ rest.replies i;
+        replies = AreSideBySide.one_more item items bytes bytes' one other first run.0 first' run'.0 last last' run.1 run'.1 step.alike step.texts rest.replies;
         texts = rest.texts;
-        tools = λ (e : first'.tools ≡ first.tools). rest.tools (step.tools e);
         tree = λ (e : first'.tree ≡ first.tree). rest.tree (step.tree e);
       }
 
-pub one_transcript : (g : Graph) → IsBuiltGraph g → (table : Table) (files : Files) (items : List Item) (one other : List (List ℕ)) (first last first' last' : State) → first'.texts ≡ first.texts
+pub one_transcript : (g : Graph) (table : Table) (files : Files) (items : List Item) (one other : List (List ℕ)) (first last first' last' : State) → first'.texts ≡ first.texts
     → first.tree.files ≡ Some files → first'.tree.files ≡ Some files
     → Transcript commands (Step g (Some table)) first items one last → CountsNone first last
-    → Transcript commands (Step g (Some table)) first' items other last' → CountsNone first' last' → AreSame one other first last first' last'
-one_transcript g built table files items one other first last first' last' same told told' run none run' none' =
-    once g built table files items one other first last first' last' same told told' run run' none none'
+    → Transcript commands (Step g (Some table)) first' items other last' → CountsNone first' last' → AreSame g table items one other first last first' last'
+one_transcript g table files items one other first last first' last' same told told' run none run' none' =
+    once g table files items one other first last first' last' same told told' run run' none none'

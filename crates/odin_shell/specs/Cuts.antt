@@ -3,7 +3,7 @@ use Rattle.std.specs.Prelude.{◌≡◌, ℕ, ◌<◌, ◌≤◌, List, [], leng
 use Rattle.meaning_run.specs.Items.{IsItem, IsCutShort, last_item}
 use Rattle.meaning_run.specs.Streams.{Extends, Completes}
 use Rattle.odin_shell.specs.declared.cutter.Cutter.{Cutter}
-use Rattle.odin_shell.specs.declared.cutter.Whole.{Whole}
+use Rattle.odin_shell.specs.declared.whole.Whole.{Whole}
 use Rattle.odin_shell.specs.declared.cutter.Front.{Front}
 use Rattle.odin_shell.specs.Language.{commands}
 use Rattle.odin_shell.specs.Held.{Keeps}

@@ -1,17 +1,14 @@
 -- The graph that a run works by, from what the tree gives of its file, and the last line where there is none.
-use Rattle.std.specs.Prelude.{◌≡◌, ◌≢◌, ℕ, ◌-◌, ◌<◌, [], ◌++◌, take, Option, Some, None, All, slice_get, codes}
+use Rattle.std.specs.Prelude.{◌≡◌, ◌≢◌, ℕ, [], ◌++◌, Option, Some, None, codes}
 use Rattle.std.specs.Fmt.{decimal}
-use Rattle.object_values.specs.declared.graph.Decl.{Decl}
 use Rattle.object_values.specs.declared.graph.GraphFault.{GraphFault}
 use Rattle.object_values.specs.declared.graph.GraphFault.TheVariants.{UnknownType, DoubleName, SupertypeLoop, WrongKind, TooMany, UnknownParam}
 use Rattle.odin_outside.specs.Files.{Files, IsGiven}
 use Rattle.meaning_texts.specs.Lines.{with_lf}
 use Rattle.meaning_graph.specs.Graphs.{Text, Graph}
-use Rattle.meaning_graph_text.specs.Places.{BeginsOnLine}
 use Rattle.dg_reader.specs.declared.fault.ReadFault.{ReadFault}
 use Rattle.dg_reader.specs.declared.fault.ReadFault.TheVariants.{TooLong, Syntax, Check, Memory}
 use Rattle.dg_reader.specs.Files.{IsRead, Refuses}
-use Rattle.plain_derive.specs.Built.{IsBuilt, IsBuiltGraph}
 use Rattle.odin_shell.specs.declared.graph.Opened.{Opened}
 use Rattle.odin_shell.specs.declared.graph.Opened.TheVariants as opened
 
@@ -39,27 +36,16 @@ fault_line Memory = []
 
 -- ---- graphs
 
--- A run is built for the graphs that derivation is built for.
--- This declaration, numbered from 1, is the first one that it isn't built for yet.
-pub record IsFirstNotBuilt (g : Graph) (number : ℕ) : Type 0 where
-  pub counted : 0 < number
-  pub declaration : Decl
-  pub there : slice_get g (number - 1) ≡ Some declaration
-  pub not_built : ¬ IsBuilt declaration
-  pub before : All IsBuilt (take (number - 1) g)
-
--- The file is one of a checked graph that a run is built for.
+-- The file is one of a checked graph.
 pub record ReadsAs (given : Option Text) (g : Graph) : Type 0 where
   pub text : Text
   pub there : given ≡ Some text
   pub read : IsRead text g
-  pub built : IsBuiltGraph g
 
 -- The file is refused by this last line.
 pub data IsRefused : Option Text → Text → Type 0 where
   no_file : IsRefused None no_file_line
   not_read : (text : Text) (fault : ReadFault) → fault ≢ Memory → Refuses text fault → IsRefused (Some text) (fault_line fault)
-  not_yet : (text : Text) (g : Graph) (number line : ℕ) → IsRead text g → IsFirstNotBuilt g number → BeginsOnLine text g number line → IsRefused (Some text) (at_line line (codes "not yet"))
 
 abbrev pub IsOpened : Option Text → Opened → Type 0
 IsOpened given (opened.Ready g) = ReadsAs given g

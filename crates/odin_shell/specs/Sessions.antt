@@ -6,7 +6,7 @@ use Rattle.object_sources.specs.Texts.{Texts}
 use Rattle.meaning_graph.specs.Graphs.{Graph}
 use Rattle.meaning_run.specs.Machines as machines
 use Rattle.meaning_run.specs.Streams as streams
-use Rattle.odin_shell.specs.declared.cutter.Whole.{Whole}
+use Rattle.odin_shell.specs.declared.whole.Whole.{Whole}
 use Rattle.odin_shell.specs.declared.serve.Stop.{Stop}
 use Rattle.odin_shell.specs.declared.serve.Stop.TheVariants.{Memory}
 use Rattle.odin_shell.specs.declared.session.Finish.{Finish}

@@ -7,6 +7,7 @@ ghost use Rattle.odin_shell.specs.Held.{Keeps};
 ghost use Rattle.odin_shell.specs.Cuts.{Takes, Cuts, IsLast};
 
 use crate::pending::Pending;
+use crate::whole::Whole;
 use memchr::memchr;
 use object_values::{Bytes, Memory};
 use odin_bytes::drop_cr;
@@ -30,32 +31,6 @@ impl Drop for Cutter {
     }
 }
 
-/// A command, with the bytes behind its line, where it keeps them.
-pub(crate) struct Whole {
-    pub(crate) command: Command,
-    pub(crate) body: Bytes,
-}
-
-// By hand, as that of a cutter: a drop is one call, where a derived one is opened field by field at each early return.
-impl Drop for Whole {
-    fn drop(self) {
-        let Whole { command, body } = self;
-        drop(command);
-        drop(body);
-    }
-}
-
-impl Whole {
-    /// The command, and its bytes.
-    pub(crate) fn into_parts(self) -> (Command, Bytes)
-        ensures command { result.0 ≡ self.command }
-        ensures body { result.1 ≡ self.body }
-    {
-        let Whole { command, body } = self;
-        (command, body)
-    }
-}
-
 /// The first bytes of a piece: how many, and the command that they make whole.
 #[derive(Drop)]
 pub(crate) struct Front {
@@ -74,22 +49,21 @@ impl Cutter {
     }
 
     // Bytes behind the line of a command, up to its last one.
-    fn take_text(&mut self, mut held: Pending, piece: &[u8]) -> Result<Front, Memory>
+    fn take_text(&mut self, held: Pending, piece: &[u8]) -> Result<Front, Memory>
         requires { 0 < length piece.now }
         ensures { IfOk result (Cuts (record self.old { pending = Some held }) piece.now self.new) }
     {
         let count = held.missing.min(piece.len() as u64);
-        held.hold(&piece[..count as usize])?;
+        let bytes = &piece[..count as usize];
         if count < held.missing {
-            held.missing -= count;
-            self.pending = Some(held);
+            self.pending = Some(held.hold(bytes)?);
             return Ok(Front {
                 count: count as usize,
                 whole: None,
             });
         }
         self.pending = None;
-        let (command, body) = held.into_parts();
+        let (command, body) = held.with_bytes(bytes)?;
         Ok(Front {
             count: count as usize,
             whole: Some(Whole { command, body }),

@@ -1,6 +1,7 @@
-// A graph that objects can be derived by, with its paths.
+// A graph that objects are derived by, with its paths.
 ghost use Rattle.std.specs.Prelude.{◌≡◌, [], IfOk, OnOk, OnErr};
-ghost use Rattle.plain_derive.specs.Built.{IsBuiltGraph};
+ghost use Rattle.meaning_graph_text.specs.Grammar.{IsSpellable};
+ghost use Rattle.meaning_derive.specs.Given.{AreSources};
 ghost use Rattle.meaning_answers.specs.Answers.{Plan};
 ghost use Rattle.odin_answers.specs.Answers.{IsReply, MayHaveBegun};
 ghost use Rattle.source_edits.specs.Edits.{Says};
@@ -16,7 +17,7 @@ use std::alloc::Global;
 use std::marker::Model;
 use type_graph::Graph;
 
-/// A graph that objects can be derived by, with its paths.
+/// A graph that objects are derived by, with its paths.
 pub(crate) struct Deriver {
     graph: Graph,
     plans: Plans,
@@ -32,7 +33,7 @@ impl Drop for Deriver {
 
 impl Model for Deriver {
     ghost use Rattle.std.specs.Prelude.{◌≡◌, List};
-    ghost use Rattle.plain_derive.specs.Built.{IsBuiltGraph};
+    ghost use Rattle.meaning_graph_text.specs.Grammar.{IsSpellable};
     ghost use Rattle.path_planner.specs.Ends.{plans_of};
     ghost use Rattle.object_values.specs.declared.graph.Decl.{Decl};
 
@@ -40,12 +41,12 @@ impl Model for Deriver {
 
     ghost view = { λ d. d.graph };
 
-    ghost invariant = { λ d. (d.plans ≡ plans_of d.graph) × IsBuiltGraph d.graph };
+    ghost invariant = { λ d. (d.plans ≡ plans_of d.graph) × IsSpellable d.graph };
 }
 
 impl Deriver {
     pub(crate) fn new(alloc: Global, graph: Graph) -> Result<Self, Memory>
-        requires { IsBuiltGraph graph }
+        requires { IsSpellable graph }
         ensures { IfOk result (λ deriver. deriver ≡ graph) }
     {
         let plans = Plans::new(alloc, &graph)?;
@@ -60,6 +61,7 @@ impl Deriver {
         text: &[u8],
         tools: &mut S,
     ) -> Result<Bytes, Memory>
+        requires sources { AreSources sources.now.texts }
         requires idle { (S.told tools.old).running ≡ [] }
         ensures ok { let before = S.told tools.old in
             IfOk result (Says (λ said. IsReply self.now before.answer sources.now.texts

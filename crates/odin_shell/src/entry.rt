@@ -1,6 +1,6 @@
 // The entry of the program: its words, its graph, its session and its status.
 ghost use Rattle.std.specs.Prelude.{◌≡◌, ◌≢◌, [], map, string_bytes, option_map};
-ghost use Rattle.plain_derive.specs.Built.{IsBuiltGraph};
+ghost use Rattle.meaning_graph_text.specs.Grammar.{IsSpellable};
 ghost use Rattle.odin_shell.specs.Words.{graph_word};
 ghost use Rattle.odin_shell.specs.Objects.{sink_of, source_of, told_of, outside, meaning};
 ghost use Rattle.source_edits.specs.Edits.{TreeStays, tree_of};
@@ -49,7 +49,7 @@ fn serve_graph<I: Source, O: Sink, T: Tree, S: Spawner, D: Disk>(
     tools: &mut S,
     disk: &mut D,
 ) -> Ending
-    requires built { IsBuiltGraph graph }
+    requires spellable { IsSpellable graph }
     requires idle { (S.told tools.old).running ≡ [] }
     ensures { let source = source_of I.left I.faults in
         let told = told_of O.taken O.faults T.files T.faults T.reads S.told in

@@ -1,19 +1,16 @@
 // The graph that a run works by.
-ghost use Rattle.std.specs.Prelude.{◌≡◌, ◌≢◌, ◌≤◌, ◌++◌, ℕ, List, Option, Some, None, IsTrue, ◌↔◌, IfOk, OnOk, MatchOption, IsErr};
+ghost use Rattle.std.specs.Prelude.{◌≡◌, Some, IfOk, IsErr};
 ghost use Rattle.odin_outside.specs.Causes.{HasCauseBut, once_more};
-ghost use Rattle.meaning_graph.specs.Graphs.{Text};
-ghost use Rattle.plain_derive.specs.Built.{IsBuilt, IsBuiltGraph};
-ghost use Rattle.odin_shell.specs.Opened.{fault_words, no_file_line, at_line, fault_line, IsFirstNotBuilt, IsRefused, IsOpened, Opens};
-ghost use Rattle.dg_reader.specs.Files.{IsFile};
+ghost use Rattle.odin_shell.specs.Opened.{fault_words, at_line, fault_line, IsOpened, Opens};
 
-use dg_reader::{GraphFile, ReadFault, read_graph_file};
-use object_values::{Bytes, Decl, GraphFault, Kind, Make, Memory};
+use dg_reader::{ReadFault, read_graph_file};
+use object_values::{Bytes, GraphFault, Memory};
 use odin_bytes::write_number;
 use odin_outside::{Tree, TreeFault};
 use std::alloc::Global;
 use type_graph::Graph;
 
-/// A graph that a run is built for, or the last line of the run.
+/// A graph that a run works by, or the last line of the run.
 #[derive(Drop)]
 pub(crate) enum Opened {
     Ready(Graph),
@@ -90,62 +87,6 @@ fn line_of_fault(alloc: Global, fault: ReadFault) -> Result<Bytes, Memory>
 
 // ---- graphs
 
-// Whether a run is built for a declaration.
-fn is_built(declared: &Decl) -> bool
-    ensures { IsTrue result ↔ IsBuilt declared.now }
-{
-    match declared {
-        Decl::ObjectType(object) => matches!(object.kind, Kind::Simple),
-        Decl::Suffix(_) => true,
-        Decl::Param(_) => true,
-        Decl::Maker(maker) => match &maker.make {
-            Make::Tool(tool) => tool.extras.is_empty() && tool.closure.is_none(),
-            Make::Read => false,
-            Make::Each => false,
-            Make::Pack => false,
-        },
-    }
-}
-
-// The number, from 1, of the first declaration that a run isn't built for yet.
-fn first_not_built(declared: &[Decl]) -> Option<usize>
-    ensures { MatchOption result (IsBuiltGraph declared.now) (IsFirstNotBuilt declared.now) }
-{
-    for (place, one) in declared.iter().enumerate() {
-        if !is_built(one) {
-            return Some(place + 1);
-        }
-    }
-    None
-}
-
-// The last line on the first declaration that a run isn't built for yet.
-fn not_yet_line(alloc: Global, file: &GraphFile, text: &[u8]) -> Result<Option<Bytes>, Memory>
-    requires { IsFile text.now file.now }
-    ensures { IfOk result (λ line. MatchOption line
-        (IsBuiltGraph file.now.graph)
-        (IsRefused (Some text.now))) }
-{
-    file.graph.checked();
-    let Some(number) = first_not_built(file.graph.decls()) else {
-        return Ok(None);
-    };
-    let line = line_at(alloc, file.line_of(text, number), b"not yet")?;
-    Ok(Some(line))
-}
-
-// The graph, where no line refuses it.
-fn opened_by(graph: Graph, line: Option<Bytes>) -> Opened
-    ensures { MatchOption line
-        (result ≡ Opened.Ready graph)
-        (λ line. result ≡ Opened.Refused line) }
-{
-    match line {
-        Some(line) => Opened::Refused(line),
-        None => Opened::Ready(graph),
-    }
-}
-
 // The graph in a text.
 fn read_text(alloc: Global, text: &[u8]) -> Result<Opened, Memory>
     ensures { IfOk result (IsOpened (Some text.now)) }
@@ -153,8 +94,7 @@ fn read_text(alloc: Global, text: &[u8]) -> Result<Opened, Memory>
     match read_graph_file(alloc, text) {
         Ok(file) => {
             file.graph.checked();
-            let line = not_yet_line(alloc, &file, text)?;
-            Ok(opened_by(file.into_graph(), line))
+            Ok(Opened::Ready(file.into_graph()))
         }
         Err(fault) => Ok(Opened::Refused(line_of_fault(alloc, fault)?)),
     }

@@ -1,5 +1,6 @@
 // How the bytes behind a line are held, where its command keeps them.
-ghost use Rattle.std.specs.Prelude.{◌≡◌, ◌<◌, ◌++◌, [], true, IfOk, OnOk};
+ghost use Rattle.std.specs.Prelude.{◌≡◌, ◌+◌, ◌-◌, ◌<◌, ◌≤◌, ◌++◌, [], true, length, IfOk};
+ghost use Rattle.meaning_texts.specs.Limits.{body_limit};
 ghost use Rattle.meaning_commands.specs.Commands.{takes};
 ghost use Rattle.odin_shell.specs.Language as language;
 ghost use Rattle.odin_shell.specs.Held.{IsNew};
@@ -37,16 +38,37 @@ impl Pending {
         })
     }
 
-    /// Takes bytes in, but for the count of the missing ones.
-    pub(crate) fn hold(&mut self, bytes: &[u8]) -> Result<(), Memory>
-        ensures text { OnOk result (language.keeps_body self.old.command ≡ true →
-            self.new.text ≡ self.old.text ++ bytes.now) }
-        ensures command { self.new.command ≡ self.old.command }
-        ensures missing { self.new.missing ≡ self.old.missing }
+    /// The command and its bytes, with these behind them, where it keeps them.
+    pub(crate) fn with_bytes(self, bytes: &[u8]) -> Result<(Command, Bytes), Memory>
+        requires { length bytes.now ≤ self.missing }
+        ensures command { IfOk result (λ parts. parts.0 ≡ self.command) }
+        ensures text { IfOk result (λ parts. language.keeps_body self.command ≡ true →
+            parts.1 ≡ self.text ++ bytes.now) }
+        ensures short { let left = self.missing - length bytes.now in
+            IfOk result (λ parts. length parts.1 + language.kept_of parts.0 left ≤ body_limit) }
     {
-        if !keeps_body(&self.command) {
-            return Ok(());
+        let (command, mut text) = self.into_parts();
+        if keeps_body(&command) {
+            text.extend_from_slice(bytes)?;
         }
-        self.text.extend_from_slice(bytes)
+        Ok((command, text))
+    }
+
+    /// The command, with these bytes held too. Some are missing still.
+    pub(crate) fn hold(self, bytes: &[u8]) -> Result<Self, Memory>
+        requires { length bytes.now < self.missing }
+        ensures command { IfOk result (λ held. held.command ≡ self.command) }
+        ensures text { IfOk result (λ held. language.keeps_body self.command ≡ true →
+            held.text ≡ self.text ++ bytes.now) }
+        ensures missing { IfOk result (λ held.
+            held.missing + length bytes.now ≡ self.missing) }
+    {
+        let missing = self.missing - bytes.len() as u64;
+        let (command, text) = self.with_bytes(bytes)?;
+        Ok(Pending {
+            command,
+            text,
+            missing,
+        })
     }
 }

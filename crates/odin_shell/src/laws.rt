@@ -17,7 +17,7 @@ pub fn refusals_are_counted()
     ensures { RefusalsAreCounted }
 {}
 
-/// Each graph file is one of a graph that a run is built for, or is refused by a last line.
+/// Each graph file is one of a checked graph, or is refused by a last line.
 pub fn each_file_is_opened()
     ensures { EachIsOpened }
 {}
@@ -27,7 +27,8 @@ pub fn opened_is_one()
     ensures { OpenedIsOne }
 {}
 
-/// Where the tools answer by a table, the tree tells its files and no fault of either is counted, an input has one transcript.
+/// Where the tools answer by a table, the tree tells its files and no fault of either is counted, an input has one transcript, but for
+/// the chains that refusals show.
 pub fn transcript_is_one()
     ensures { TranscriptIsOne }
 {}

@@ -13,6 +13,7 @@ pub mod laws;
 mod pending;
 mod serve;
 mod session;
+mod whole;
 mod write;
 
 pub use entry::run;

@@ -1,14 +1,16 @@
 // One command: its change, and its reply.
 ghost use Rattle.std.specs.Prelude.{◌≡◌, [], IfOk, OnOk, OnErr, IfErr};
+ghost use Rattle.meaning_derive.specs.Given.{AreSources};
 ghost use Rattle.odin_shell.specs.Endings.{ending_of};
 ghost use Rattle.source_edits.specs.Edits.{tree_of};
 ghost use Rattle.odin_shell.specs.Objects.{told_of};
 ghost use Rattle.odin_shell.specs.Machine.{holding, Step, MayLeave, ToolsStay};
 ghost use Rattle.odin_shell.specs.Sessions.{Serves, StopsServing};
 
-use crate::cutter::Whole;
+use crate::command::brings_name;
 use crate::deriver::Deriver;
 use crate::ending::Ending;
+use crate::whole::Whole;
 use crate::write::write_whole;
 use object_sources::Sources;
 use object_values::{Bytes, Memory};
@@ -68,6 +70,7 @@ fn answer<T: Tree, S: Spawner>(
     tree: &mut T,
     tools: &mut S,
 ) -> Result<Bytes, Memory>
+    requires sources { AreSources sources.old.texts }
     requires idle { (S.told tools.old).running ≡ [] }
     ensures ok { let told = tree_of T.files T.faults T.reads in
         let old = holding sources.old.texts (S.told tools.old) (told tree.old) in
@@ -109,6 +112,7 @@ pub(crate) fn serve_command<O: Sink, T: Tree, S: Spawner, D: Disk>(
     tools: &mut S,
     disk: &mut D,
 ) -> Result<(), Stop>
+    requires sources { AreSources sources.old.texts }
     requires idle { (S.told tools.old).running ≡ [] }
     ensures ok { let told = told_of O.taken O.faults T.files T.faults T.reads S.told in
         let before = told output.old tree.old tools.old disk.old in
@@ -119,7 +123,9 @@ pub(crate) fn serve_command<O: Sink, T: Tree, S: Spawner, D: Disk>(
         let after = told output.new tree.new tools.new disk.new in
         IfErr result (λ stop.
         StopsServing deriver.now stop sources.old.texts whole before after) }
+    ensures sources { AreSources sources.new.texts }
 {
+    brings_name(&whole.command);
     let last = ends_run(&whole.command);
     let reply = answer(alloc, deriver, sources, whole, tree, tools)?;
     write_whole(output, reply.as_slice())?;

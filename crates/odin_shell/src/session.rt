@@ -1,6 +1,7 @@
 // A session between two bytes of its input.
 ghost use Rattle.std.specs.Prelude.{◌≡◌, ◌≤◌, ◌<◌, [], length, take, OnOk, IfOk, IfErr};
 ghost use Rattle.object_sources.specs.Texts.{no_texts};
+ghost use Rattle.meaning_derive.specs.Given.{AreSources};
 ghost use Rattle.odin_shell.specs.Held.{Keeps};
 ghost use Rattle.odin_shell.specs.Objects.{told_of};
 
@@ -11,10 +12,11 @@ use object_sources::Sources;
 use odin_outside::{Disk, Sink, Spawner, Tree};
 use std::alloc::Global;
 
-/// The state between two bytes of the input.
+/// The state between two bytes of the input. The sources have names and texts of their classes.
 pub(crate) struct Session {
     cutter: Cutter,
     sources: Sources,
+    ghost are: { AreSources sources.texts },
 }
 
 impl Drop for Session {

@@ -1,18 +1,6 @@
-mod BegunLemmas
-mod CallLemmas
-mod ChainLemmas
-mod CutLemmas
-mod DeepLemmas
-mod FoundLemmas
-mod LineNeeds
-mod LineNodes
-mod LineViews
+mod GivenLemmas
 mod LogLemmas
 mod MadeLemmas
-mod OnceLemmas
+mod OnLemmas
 mod RunLemmas
-mod SourceLemmas
-mod StepLemmas
-mod ToolNodes
-mod ViewLemmas
 pub mod Lemmas

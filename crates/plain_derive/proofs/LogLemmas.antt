@@ -1,53 +1,38 @@
--- Starts and faults over the calls of a derivation.
-use Rattle.std.proofs.Common.{◌≡◌, ◌≤◌, ◌+◌, List, [], ◌∷◌, ◌++◌, inl, inr, sym, ap, ◌∙◌, subst, refl, length, min, arith}
-use Rattle.std.proofs.lemmas.List.{length-append}
+-- What is told of the tools over the calls of a derivation.
+use Rattle.std.proofs.Common.{◌≡◌, ◌≤◌, List, [], ◌∷◌, ◌++◌, inl, inr, sym, ap, ◌∙◌, subst, refl, length, arith}
+use Rattle.std.specs.Prelude.{Result, Ok, Err, IfOk, IfErr}
 use Rattle.object_values.specs.declared.nodes.Node.{Node}
 use Rattle.object_values.specs.declared.calls.Call.{Call}
 use Rattle.odin_outside.specs.declared.events.ToolEvent.TheVariants.{Ended}
-use Rattle.odin_outside.specs.Causes.{last_count, IsCounted}
+use Rattle.odin_outside.specs.Causes.{IsCounted}
 use Rattle.odin_outside.specs.Spawned.{Spawned}
+use Rattle.meaning_calls.specs.Jobs.{job_of}
 use Rattle.meaning_graph.specs.Graphs.{Graph}
-use Rattle.meaning_tasks.specs.Needs.{Results}
 use Rattle.meaning_derive.specs.Derive.{Sources, Outcomes}
+use Rattle.walk_tables.specs.declared.found.Found.{Found}
 use Rattle.plain_derive.specs.declared.fault.PlainFault.{PlainFault}
 use Rattle.plain_derive.specs.declared.fault.PlainFault.TheVariants.{Spawn, Memory}
 use Rattle.plain_derive.specs.Laws.{CountedFor}
-use Rattle.plain_derive.specs.Logs.{closed, IsCut, line_of, AreCalls, no_node, without, again, first, after_calls, HasMade, HasBegun}
-use Rattle.plain_derive.proofs.LineNodes.{length-line}
+use Rattle.plain_derive.specs.Logs.{closed, IsCut, after_calls, HasMade, HasBegun, HasDerived, HasGivenUp, ComeToRest}
 
-more : (xs : List Node) (n : Node) → length (xs ++ n ∷ []) ≡ length xs + 1
-more xs n = length-append xs (n ∷ [])
+-- ---- after calls
 
-more_calls : (xs : List Call) (c : Call) → length (xs ++ c ∷ []) ≡ length xs + 1
-more_calls xs c = length-append xs (c ∷ [])
+pub same_answer : (before : Spawned) (calls : List Call) → (after_calls before calls).answer ≡ before.answer
+same_answer before [] = refl
+same_answer before (call ∷ calls) = same_answer (closed before call (Ended 0)) calls
 
-no_more : (g : Graph) (seen : Results) (nodes : List Node) (calls : List Call) → AreCalls g seen nodes calls → length calls ≤ length nodes
-no_more g seen nodes calls no_node = omega arith
-no_more g seen nodes calls (without others _ n rest called) = let le = no_more g seen others calls rest in let e = more others n in omega (arith, le, e)
-no_more g seen nodes calls (again others _ n call rest called there) = let le = no_more g seen others calls rest in let e = more others n in omega (arith, le, e)
-no_more g seen nodes calls (first others before n call rest called new) = let le = no_more g seen others before rest in let e = more others n in let k = more_calls before call in omega (arith, le, e, k)
+none_run : (before : Spawned) (calls : List Call) → before.running ≡ [] → (after_calls before calls).running ≡ []
+none_run before [] idle = idle
+none_run before (call ∷ calls) idle = none_run (closed before call (Ended 0)) calls refl
 
-starts_after : (calls : List Call) (before : Spawned) → (after_calls before calls).starts ≤ before.starts + length calls
-starts_after [] before = omega arith
-starts_after (call ∷ calls) before =
-    let rest = starts_after calls (closed before call (Ended 0)) in
-    let one : (closed before call (Ended 0)).starts ≡ min (before.starts + 1) last_count = refl in
-    omega (arith, rest, one)
+same_faults : (before : Spawned) (calls : List Call) → (after_calls before calls).faults ≡ before.faults
+same_faults before [] = refl
+same_faults before (call ∷ calls) = same_faults (closed before call (Ended 0)) calls
 
-faults_after : (calls : List Call) (before : Spawned) → (after_calls before calls).faults ≡ before.faults
-faults_after [] before = refl
-faults_after (call ∷ calls) before = faults_after calls (closed before call (Ended 0))
+-- ---- faults
 
-pub few : (g : Graph) (s : Sources) (outcomes : Outcomes) (n : Node) (before now : Spawned) → HasMade g s outcomes n before now → now.starts ≤ before.starts + length n.steps
-few g s outcomes n before now made =
-    let calls = no_more g _ (line_of n) made.calls made.are in
-    let line = length-line n in
-    let starts = starts_after made.calls before in
-    let same : now.starts ≡ (after_calls before made.calls).starts = ap (λ (z : Spawned). z.starts) made.now_is in
-    omega (arith, calls, line, starts, same)
-
-pub uncounted : (g : Graph) (s : Sources) (outcomes : Outcomes) (n : Node) (before now : Spawned) → HasMade g s outcomes n before now → now.faults ≡ before.faults
-uncounted g s outcomes n before now made = ap (λ (z : Spawned). z.faults) made.now_is ∙ faults_after made.calls before
+pub uncounted : (g : Graph) (s : Sources) (outcomes : Outcomes) (n : Node) (calls : List Call) (before now : Spawned) → HasMade g s outcomes n calls before now → now.faults ≡ before.faults
+uncounted g s outcomes n calls before now made = ap (λ (z : Spawned). z.faults) made.now_is ∙ same_faults before calls
 
 cut_counted : (call : Call) (fault : PlainFault) (before now : Spawned) → IsCut fault call before now → CountedFor fault before now
 cut_counted call Spawn before now (inl fails) = fails.counted
@@ -62,7 +47,46 @@ moved Memory before mid now same counted = counted ∙ same
 moved Spawn before mid now same counted = subst (λ k. IsCounted k now.faults) same counted
 
 pub given_up_counted : (g : Graph) (s : Sources) (outcomes : Outcomes) (n : Node) (fault : PlainFault) (before now : Spawned) → HasBegun g s outcomes n fault before now → CountedFor fault before now
-given_up_counted g s outcomes n fault before now begun = moved fault before (after_calls before begun.calls) now (faults_after begun.calls before) (elim begun.cut [
+given_up_counted g s outcomes n fault before now begun = moved fault before (after_calls before begun.calls) now (same_faults before begun.calls) (elim begun.cut [
   | inl wanted ↦ subst (λ f. CountedFor f (after_calls before begun.calls) now) (sym wanted.memory) (ap (λ (z : Spawned). z.faults) wanted.same)
   | inr next ↦ cut_counted next.call fault (after_calls before begun.calls) now next.cut
 ])
+
+-- ---- at rest
+
+few_run : (now : Spawned) → now.running ≡ [] → length now.running ≤ 1
+few_run now idle = let e : length now.running ≡ 0 = ap length idle in omega (arith, e)
+
+-- none runs, and the tools answer as before
+calm : (result : Result Found PlainFault) (before now : Spawned) → now.answer ≡ before.answer → now.running ≡ [] → ComeToRest before now result
+calm result before now answer idle = record { answer = answer; one = few_run now idle; idle = λ differs. idle }
+
+found_rests : (g : Graph) (s : Sources) (n : Node) (before now : Spawned) (found : Found) → before.running ≡ [] → HasDerived g s n before now found → ComeToRest before now (Ok found)
+found_rests g s n before now found idle so =
+    let is = so.made.now_is in
+    calm (Ok found) before now (ap (λ (z : Spawned). z.answer) is ∙ same_answer before so.calls) (ap (λ (z : Spawned). z.running) is ∙ none_run before so.calls idle)
+
+cut_rests : (fault : PlainFault) (call : Call) (mid now : Spawned) → mid.running ≡ [] → IsCut fault call mid now → ComeToRest mid now (Err fault)
+cut_rests Memory call mid now idle (inl e) = calm (Err Memory) mid now (ap (λ (z : Spawned). z.answer) e) (ap (λ (z : Spawned). z.running) e ∙ idle)
+cut_rests Memory call mid now idle (inr (inl e)) =
+    let one : length now.running ≡ 1 = ap (λ (z : Spawned). length z.running) e ∙ ap (λ l. length (l ++ (record { slot = 0; job = job_of call }) ∷ [])) idle in
+    record { answer = ap (λ (z : Spawned). z.answer) e; one = omega (arith, one); idle = λ differs. absurd (differs refl) }
+cut_rests Memory call mid now idle (inr (inr e)) = calm (Err Memory) mid now (ap (λ (z : Spawned). z.answer) e) (ap (λ (z : Spawned). z.running) e)
+cut_rests Spawn call mid now idle (inl fails) = calm (Err Spawn) mid now (ap (λ (z : Spawned). z.answer) fails.is) (ap (λ (z : Spawned). z.running) fails.is ∙ idle)
+cut_rests Spawn call mid now idle (inr lost) = calm (Err Spawn) mid now (ap (λ (z : Spawned). z.answer) lost.is) (ap (λ (z : Spawned). z.running) lost.is)
+
+rest_moves : (result : Result Found PlainFault) (before mid now : Spawned) → mid.answer ≡ before.answer → ComeToRest mid now result → ComeToRest before now result
+rest_moves result before mid now same rest = record { answer = rest.answer ∙ same; one = rest.one; idle = rest.idle }
+
+given_up_rests : (g : Graph) (s : Sources) (n : Node) (before now : Spawned) (fault : PlainFault) → before.running ≡ [] → HasGivenUp g s n before now fault → ComeToRest before now (Err fault)
+given_up_rests g s n before now fault idle so =
+    let mid : Spawned = after_calls before so.begun.calls in
+    let none : mid.running ≡ [] = none_run before so.begun.calls idle in
+    rest_moves (Err fault) before mid now (same_answer before so.begun.calls) (elim so.begun.cut [
+      | inl wanted ↦ calm (Err fault) mid now (ap (λ (z : Spawned). z.answer) wanted.same) (ap (λ (z : Spawned). z.running) wanted.same ∙ none)
+      | inr next ↦ cut_rests fault next.call mid now none next.cut
+    ])
+
+pub rests : (g : Graph) (s : Sources) (n : Node) (before now : Spawned) (result : Result Found PlainFault) → before.running ≡ [] → IfOk result (HasDerived g s n before now) → IfErr result (HasGivenUp g s n before now) → ComeToRest before now result
+rests g s n before now (Ok found) idle derived given_up = found_rests g s n before now found idle derived
+rests g s n before now (Err fault) idle derived given_up = given_up_rests g s n before now fault idle given_up

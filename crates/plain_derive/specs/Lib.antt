@@ -1,10 +1,5 @@
-pub mod Built
-pub mod Deep
-pub mod Deriving
 pub mod Faults
-pub mod Founds
-pub mod Lines
-pub mod Laws
-pub mod Logs
 pub mod Made
-pub mod Seen
+pub mod Logs
+pub mod Ways
+pub mod Laws

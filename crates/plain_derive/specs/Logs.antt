@@ -1,28 +1,23 @@
 -- What is told of the calls that a derivation makes, one after another.
-use Rattle.std.specs.Prelude.{◌≡◌, ◌≢◌, ◌≤◌, ◌⊎◌, Result, Err, ℕ, nat_le, cond, List, [], ◌∷◌, ◌++◌, length, take, slice_get, Option, Some, None}
-use Rattle.object_values.specs.declared.nodes.Step.{Step}
+use Rattle.std.specs.Prelude.{◌≡◌, ◌≢◌, ◌≤◌, ◌⊎◌, Result, Err, cond, List, [], ◌∷◌, ◌++◌, length, None, IsSome}
 use Rattle.object_values.specs.declared.nodes.Node.{Node}
 use Rattle.object_values.specs.declared.calls.Call.{Call}
-use Rattle.object_values.specs.declared.calls.Outcome.{Outcome}
 use Rattle.odin_outside.specs.declared.events.ToolEvent.{ToolEvent}
 use Rattle.odin_outside.specs.declared.events.ToolEvent.TheVariants.{Began, Ended, Lost}
 use Rattle.odin_outside.specs.Causes.{IsCounted}
-use Rattle.odin_outside.specs.Spawned.{Table, Spawned, begun, noted, Fails}
-use Rattle.meaning_texts.specs.Limits.{height_limit}
+use Rattle.odin_outside.specs.Spawned.{Spawned, begun, noted, Fails}
 use Rattle.meaning_calls.specs.Jobs.{job_of}
 use Rattle.meaning_graph.specs.Graphs.{Graph}
-use Rattle.meaning_texts.specs.Lists.{IsIn}
-use Rattle.meaning_nodes.specs.Nodes.{stepped}
-use Rattle.meaning_tasks.specs.Needs.{Results}
-use Rattle.meaning_tasks.specs.Calls.{CallOf}
 use Rattle.meaning_derive.specs.Derive.{Sources, Outcomes, derived}
-use Rattle.meaning_derive.specs.Calls.{IsCallFrom}
+use Rattle.meaning_derive.specs.Chains.{IsRefusal}
+use Rattle.meaning_derive.specs.Calls.{IsFrontier}
+use Rattle.walk_tables.specs.Calls.{call_in}
+use Rattle.walk_tables.specs.declared.found.Found.{Found}
+use Rattle.derive_walk.specs.Founds.{IsFound}
+use Rattle.derive_walk.specs.Outcomes.{nothing_known}
 use Rattle.plain_derive.specs.declared.fault.PlainFault.{PlainFault}
 use Rattle.plain_derive.specs.declared.fault.PlainFault.TheVariants.{Spawn, Memory}
-use Rattle.plain_derive.specs.declared.found.Found.{Found}
-use Rattle.plain_derive.specs.declared.made.Made.{Made}
-use Rattle.plain_derive.specs.Founds.{IsFound}
-use Rattle.plain_derive.specs.Made.{IsOutcomeOf, calls_of, AreGivenBy}
+use Rattle.plain_derive.specs.Made.{AreGivenBy}
 
 -- ---- one call, made while nothing else runs
 
@@ -32,17 +27,22 @@ started before call = begun before 0 (job_of call)
 
 -- it has stopped there, by this event
 abbrev pub closed : Spawned → Call → ToolEvent → Spawned
-closed before call event = record (started before call) { running = []; log = noted (noted before.log (Began 0 (job_of call))) event }
+closed before call event = record (started before call) {
+  running = [];
+  log = noted (noted before.log (Began 0 (job_of call))) event;
+}
 
 -- Its end was lost: a fault, which was counted.
 pub record HasLost (call : Call) (before now : Spawned) : Type 0 where
   pub counted : IsCounted before.faults now.faults
   pub is : now ≡ record (closed before call (Lost 0)) { faults = now.faults }
 
--- What is left of a call that was given up. Memory may be wanting before its start, before its end, and after it. Otherwise it was not
--- started, or its end was lost: then it has not ended, and the fault was counted.
+-- What is left of a call that was given up. Memory may be wanting before its start, before its end,
+-- and after it. Otherwise it was not started, or its end was lost: then it has not ended, and the
+-- fault was counted.
 abbrev pub IsCut : PlainFault → Call → Spawned → Spawned → Type 0
-IsCut Memory call before now = (now ≡ before) ⊎ ((now ≡ started before call) ⊎ (now ≡ closed before call (Ended 0)))
+IsCut Memory call before now =
+    (now ≡ before) ⊎ ((now ≡ started before call) ⊎ (now ≡ closed before call (Ended 0)))
 IsCut Spawn call before now = Fails before now ⊎ HasLost call before now
 
 -- Memory was wanting, and nothing happened.
@@ -50,84 +50,70 @@ pub record IsWanted (fault : PlainFault) (before now : Spawned) : Type 0 where
   pub memory : fault ≡ Memory
   pub same : now ≡ before
 
--- ---- the call of one node, after these calls
-
--- What comes of it: its outcome, the calls that are made by then, and what is told. A call that was made before is not made again.
-pub data MakesCall (answer : Option Table) (made : List Made) (before : Spawned) : Option Call → Option Outcome → List Made → Spawned → Type 0 where
-  no_call : MakesCall answer made before None None made before
-  made_before : (call : Call) (outcome : Outcome) → IsIn (record { call = call; outcome = outcome }) made → MakesCall answer made before (Some call) (Some outcome) made before
-  made_now : (call : Call) (outcome : Outcome) → (IsIn call (calls_of made) → ⊥) → IsOutcomeOf answer call outcome
-      → MakesCall answer made before (Some call) (Some outcome) (made ++ (record { call = call; outcome = outcome }) ∷ []) (closed before call (Ended 0))
-
--- It was not made before, and was given up.
-pub record IsCutOff (made : List Made) (call : Call) (fault : PlainFault) (before now : Spawned) : Type 0 where
-  pub first : IsIn call (calls_of made) → ⊥
-  pub cut : IsCut fault call before now
-
--- There is a call, and it was given up.
-abbrev pub CutsOff : List Made → Option Call → PlainFault → Spawned → Spawned → Type 0
-CutsOff made None fault before now = ⊥
-CutsOff made (Some call) fault before now = IsCutOff made call fault before now
-
--- ---- a derivation
-
--- the nodes from here on, one more step each
-abbrev pub nodes_on : Node → List Step → List Node
-nodes_on n [] = []
-nodes_on n (step ∷ steps) = stepped n step ∷ nodes_on (stepped n step) steps
-
--- The nodes that a derivation settles above the source, from the first step on to the node itself; none where the node is too deep.
-abbrev pub line_of : Node → List Node
-line_of n = cond (nat_le height_limit (length n.steps)) [] (nodes_on (record n { steps = [] }) n.steps)
-
--- The calls of these nodes in their order, each once, where it stands first.
-pub data AreCalls (g : Graph) (seen : Results) : List Node → List Call → Type 0 where
-  no_node : AreCalls g seen [] []
-  without : (nodes : List Node) (calls : List Call) (n : Node) → AreCalls g seen nodes calls → CallOf g n seen None → AreCalls g seen (nodes ++ n ∷ []) calls
-  again : (nodes : List Node) (calls : List Call) (n : Node) (call : Call) → AreCalls g seen nodes calls → CallOf g n seen (Some call) → IsIn call calls → AreCalls g seen (nodes ++ n ∷ []) calls
-  first : (nodes : List Node) (calls : List Call) (n : Node) (call : Call) → AreCalls g seen nodes calls → CallOf g n seen (Some call) → (IsIn call calls → ⊥) → AreCalls g seen (nodes ++ n ∷ []) (calls ++ call ∷ [])
-
 -- These calls were made, one after another, and nothing else happened.
 abbrev pub after_calls : Spawned → List Call → Spawned
 after_calls before [] = before
 after_calls before (call ∷ calls) = after_calls (closed before call (Ended 0)) calls
 
--- All calls of the derivation were made, each once, in the order of the steps, and nothing else happened.
-pub record HasMade (g : Graph) (s : Sources) (outcomes : Outcomes) (n : Node) (before now : Spawned) : Type 0 where
-  pub calls : List Call
-  pub are : AreCalls g (derived g s outcomes) (line_of n) calls
-  pub from : (call : Call) → IsIn call calls → IsCallFrom g (derived g s outcomes) n call
-  pub now_is : now ≡ after_calls before calls
+-- ---- the calls of a derivation
 
--- The call of the next node of the derivation was given up; it is none of those that were made.
-pub record IsNextCut (g : Graph) (seen : Results) (n : Node) (count : ℕ) (calls : List Call) (fault : PlainFault) (before now : Spawned) : Type 0 where
-  pub next : Node
+-- the outcomes of these calls alone
+abbrev pub among : Outcomes → List Call → Outcomes
+among outcomes calls call = cond (call_in call calls) (outcomes call) None
+
+-- Each is a call at which the derivation stops by the outcomes of those before it alone, and has an
+-- outcome itself.
+pub data AreMade (g : Graph) (s : Sources) (outcomes : Outcomes) (n : Node)
+    : List Call → Type 0 where
+  none_made : AreMade g s outcomes n []
+  one_more : (calls : List Call) (call : Call) → AreMade g s outcomes n calls
+      → IsFrontier g s (among outcomes calls) n call → IsSome (outcomes call)
+      → AreMade g s outcomes n (calls ++ call ∷ [])
+
+-- With nothing known the node has a chain for which it is refused.
+pub record IsRefusedAtOnce (g : Graph) (s : Sources) (n : Node) : Type 0 where
+  pub chain : List Node
+  pub is : IsRefusal g (derived g s nothing_known) n chain
+
+-- These calls of the derivation were made, and nothing else happened; nothing at all for a node that
+-- is refused at once.
+pub record HasMade (g : Graph) (s : Sources) (outcomes : Outcomes) (n : Node) (calls : List Call)
+    (before now : Spawned) : Type 0 where
+  pub are : AreMade g s outcomes n calls
+  pub now_is : now ≡ after_calls before calls
+  pub untouched : IsRefusedAtOnce g s n → now ≡ before
+
+-- The next call of the derivation, after these, was given up.
+pub record NextIsCut (g : Graph) (s : Sources) (outcomes : Outcomes) (n : Node) (calls : List Call)
+    (fault : PlainFault) (before now : Spawned) : Type 0 where
   pub call : Call
-  pub place : slice_get (line_of n) count ≡ Some next
-  pub called : CallOf g next seen (Some call)
-  pub first : IsIn call calls → ⊥
-  pub from : IsCallFrom g seen n call
+  pub stops : IsFrontier g s (among outcomes calls) n call
   pub cut : IsCut fault call before now
 
--- The calls of the first nodes were made, each once, and then memory was wanting, or the call of the next one was given up.
-pub record HasBegun (g : Graph) (s : Sources) (outcomes : Outcomes) (n : Node) (fault : PlainFault) (before now : Spawned) : Type 0 where
-  pub count : ℕ
+-- Calls of the derivation were made, and then memory was wanting, or the next one was given up.
+pub record HasBegun (g : Graph) (s : Sources) (outcomes : Outcomes) (n : Node) (fault : PlainFault)
+    (before now : Spawned) : Type 0 where
   pub calls : List Call
-  pub are : AreCalls g (derived g s outcomes) (take count (line_of n)) calls
-  pub from : (call : Call) → IsIn call calls → IsCallFrom g (derived g s outcomes) n call
-  pub cut : IsWanted fault (after_calls before calls) now ⊎ IsNextCut g (derived g s outcomes) n count calls fault (after_calls before calls) now
+  pub are : AreMade g s outcomes n calls
+  pub cut : IsWanted fault (after_calls before calls) now
+      ⊎ NextIsCut g s outcomes n calls fault (after_calls before calls) now
+  pub untouched : IsRefusedAtOnce g s n → now ≡ before
 
 -- ---- what came of it
 
--- By outcomes that the tools gave this was found, and the calls were made.
-pub record HasDerived (g : Graph) (s : Sources) (n : Node) (before now : Spawned) (found : Found) : Type 0 where
+-- By outcomes that the tools gave calls were made, and this was found by the outcomes of these calls
+-- alone.
+pub record HasDerived (g : Graph) (s : Sources) (n : Node) (before now : Spawned)
+    (found : Found) : Type 0 where
   pub outcomes : Outcomes
   pub given : AreGivenBy before.answer outcomes
-  pub is : IsFound g s outcomes n found
-  pub made : HasMade g s outcomes n before now
+  pub calls : List Call
+  pub made : HasMade g s outcomes n calls before now
+  pub is : IsFound g s (among outcomes calls) n found
 
 -- By outcomes that the tools gave the derivation was begun, and then given up.
-pub record HasGivenUp (g : Graph) (s : Sources) (n : Node) (before now : Spawned) (fault : PlainFault) : Type 0 where
+pub record HasGivenUp (g : Graph) (s : Sources) (n : Node) (before now : Spawned)
+    (fault : PlainFault) : Type 0 where
   pub outcomes : Outcomes
   pub given : AreGivenBy before.answer outcomes
   pub begun : HasBegun g s outcomes n fault before now

@@ -1,27 +1,21 @@
 // Derivation of a node from the sources, with nothing kept.
-ghost use Rattle.std.specs.Prelude.{◌≡◌, ◌<◌, ◌≤◌, ◌+◌, [], length, Some, OnOk, IfOk, IfErr};
-ghost use Rattle.meaning_derive.specs.Derive.{Outcomes, derive};
-ghost use Rattle.meaning_nodes.specs.Nodes.{Fits, stepped};
-ghost use Rattle.plain_derive.specs.Built.{IsBuiltGraph};
-ghost use Rattle.plain_derive.specs.Deriving.{HasNoElements, CanStep, IsNext, HasCalled, GivesUp};
-ghost use Rattle.plain_derive.specs.Logs.{HasDerived, HasGivenUp, ComeToRest};
-ghost use Rattle.plain_derive.specs.Made.{HaveOutcomes};
+ghost use Rattle.std.specs.Prelude.{◌≡◌, ◌<◌, [], IfOk, IfErr};
+ghost use Rattle.meaning_graph_text.specs.Grammar.{IsSpellable};
+ghost use Rattle.meaning_nodes.specs.Nodes.{Fits};
+ghost use Rattle.meaning_derive.specs.Given.{AreSources};
 ghost use Rattle.path_planner.specs.Ends.{plans_of};
+ghost use Rattle.plain_derive.specs.Logs.{HasDerived, HasGivenUp, ComeToRest};
 
-use crate::calling::call_for;
-use crate::deep::deep_chain;
-use crate::derived::{Derived, source_view};
 use crate::fault::PlainFault;
-use crate::found::Found;
-use crate::made::{Made, outcome_at};
-use crate::nodes::stepped;
-use crate::running::make_if_called;
-use crate::settling::settle;
+use crate::running::run_wanted;
+use derive_walk::{Found, NothingKept, Walker};
 use object_sources::Sources;
-use object_values::{Copied, HEIGHT_LIMIT, Memory, Node, Seq, Step};
-use odin_outside::Spawner;
+use object_values::{Copied, Node};
+use odin_outside::{Spawner, Steps};
 use path_planner::Plans;
 use std::alloc::Global;
+use std::marker::Brand;
+use std::sync::ledger::{Blank, Ledger};
 use type_graph::Graph;
 
 /// The view of the node, or the chain for which it is refused. Tools run one after another; after
@@ -34,9 +28,10 @@ pub fn derive_plain<S: Spawner>(
     node: &Node,
     tools: &mut S,
 ) -> Result<Found, PlainFault>
-    requires built { IsBuiltGraph graph.now }
+    requires spellable { IsSpellable graph.now }
     requires made { plans.now ≡ plans_of graph.now }
     requires fits { Fits graph.now node.now }
+    requires sources { AreSources sources.now.texts }
     requires idle { (S.told tools.old).running ≡ [] }
     ensures found { IfOk result (HasDerived graph.now sources.now.texts node.now
         (S.told tools.old) (S.told tools.new)) }
@@ -44,64 +39,41 @@ pub fn derive_plain<S: Spawner>(
         (S.told tools.old) (S.told tools.new)) }
     ensures rest { ComeToRest (S.told tools.old) (S.told tools.new) result }
 {
-    if node.steps.len() >= HEIGHT_LIMIT {
-        let chain = deep_chain(alloc, node)?;
-        return Ok(Found::Deep(chain));
-    }
-    let mut made = Seq::new(alloc);
-    let mut base = derive_source(alloc, graph, sources, node)?;
-    for step in node.steps.as_slice() {
-        base = derive_step(alloc, graph, plans, &base, step, &mut made, tools)?;
-    }
-    Ok(Found::Answer(base.into_view()))
+    derive_counted::<S, Brand>(alloc, graph, plans, sources, node, tools, Blank::new(1))
 }
 
-// The node without its steps, and its view.
-fn derive_source(
-    alloc: Global,
-    graph: &Graph,
-    sources: &Sources,
-    node: &Node,
-) -> Result<Derived, Memory>
-    requires built { IsBuiltGraph graph.now }
-    requires fits { Fits graph.now node.now }
-    ensures node { IfOk result (λ base. base.node ≡ record node.now { steps = [] }) }
-    ensures simple { IfOk result (λ base. HasNoElements base.view) }
-    ensures view { IfOk result (λ base. (outcomes : Outcomes) →
-        derive graph.now sources.now.texts outcomes 1 base.node ≡ Some base.view) }
-{
-    let node = Node {
-        source: node.source.copy(alloc)?,
-        params: node.params.copy(alloc)?,
-        steps: Seq::new(alloc),
-    };
-    let view = source_view(alloc, graph, sources, &node)?;
-    Ok(Derived { node, view })
-}
-
-// One step on from a node with its view. Its call is made unless it was made before.
-fn derive_step<S: Spawner>(
+// The same with a counter of steps, which nobody reads.
+fn derive_counted<S: Spawner, L: Ledger>(
     alloc: Global,
     graph: &Graph,
     plans: &Plans,
-    base: &Derived,
-    step: &Step,
-    made: &mut Seq<Made>,
+    sources: &Sources,
+    node: &Node,
     tools: &mut S,
-) -> Result<Derived, PlainFault>
-    requires can { CanStep graph.now plans.now base.now step.now }
-    requires made { HaveOutcomes (S.told tools.old).answer made.old }
+    blank: Blank,
+) -> Result<Found, PlainFault>
+    requires blank { (blank.name ≡ L.name) × (blank.parts ≡ L.parts) × (0 < L.parts) }
+    requires spellable { IsSpellable graph.now }
+    requires made { plans.now ≡ plans_of graph.now }
+    requires fits { Fits graph.now node.now }
+    requires sources { AreSources sources.now.texts }
     requires idle { (S.told tools.old).running ≡ [] }
-    ensures next { IfOk result (IsNext graph.now base.now step.now made.new) }
-    ensures called { OnOk result (HasCalled graph.now base.now step.now
-        made.old (S.told tools.old) made.new (S.told tools.new)) }
-    ensures cut { IfErr result (λ fault. GivesUp graph.now base.now step.now
-        made.old (S.told tools.old) fault (S.told tools.new)) }
+    ensures found { IfOk result (HasDerived graph.now sources.now.texts node.now
+        (S.told tools.old) (S.told tools.new)) }
+    ensures given_up { IfErr result (HasGivenUp graph.now sources.now.texts node.now
+        (S.told tools.old) (S.told tools.new)) }
 {
-    let node = stepped(alloc, &base.node, step)?;
-    let call = call_for(alloc, graph, plans, &node, base)?;
-    let place = make_if_called(alloc, call, made, tools)?;
-    let outcome = outcome_at(made.as_slice(), place);
-    let view = settle(alloc, graph, plans, &node, base, outcome)?;
-    Ok(Derived { node, view })
+    let mut steps: Steps<L> = Steps::new(blank);
+    let mut walker = Walker::new(alloc, node.copy(alloc)?);
+    for _ in 0..u64::MAX {
+        walker.advance(alloc, graph, plans, sources, &NothingKept, &mut steps)?;
+        if walker.result().is_some() {
+            break;
+        }
+        run_wanted(alloc, &mut walker, tools)?;
+    }
+    match walker.into_result() {
+        Some(found) => Ok(found),
+        None => Err(PlainFault::Memory),
+    }
 }

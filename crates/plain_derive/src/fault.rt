@@ -1,10 +1,9 @@
 // Why a node was not derived.
-use object_values::{Copied, Memory};
+use object_values::Memory;
 use odin_outside::{FinishFault, StartFault};
-use std::alloc::Global;
 
 /// Why a node was not derived. `Spawn`: a child program was not started, or its end was lost.
-#[derive(Clone, Copy, Debug, PartialEq, Eq, PartialOrd, Ord)]
+#[derive(Clone, Copy, Debug, PartialEq, Eq)]
 pub enum PlainFault {
     Spawn,
     Memory,
@@ -46,11 +45,5 @@ impl From<FinishFault> for PlainFault {
             FinishFault::Failed(_) => PlainFault::Spawn,
             FinishFault::Memory => PlainFault::Memory,
         }
-    }
-}
-
-impl Copied for PlainFault {
-    fn copy(&self, _alloc: Global) -> Result<Self, Memory> {
-        Ok(*self)
     }
 }

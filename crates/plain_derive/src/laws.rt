@@ -1,24 +1,20 @@
-//! Laws of what a derivation made, and of chains. Each is the contract of a function with an empty body.
-ghost use Rattle.plain_derive.specs.Laws.{StartsAreFew, MadeCountsNone, GivenUpIsCounted, MadeIsOne, NoneIsCircular, DeepChainIsOne};
+//! Laws of what a derivation made. Each is the contract of a function with an empty body.
+ghost use Rattle.plain_derive.specs.Laws.{FoundByAll, MadeAreCalls, MadeAreOnce, AllAreMade, MadeCountsNone, GivenUpIsCounted};
 
-/// No more tools are started than the node has steps.
-pub fn starts_are_few()
-    ensures { StartsAreFew }
+/// What is found by the calls that were made is found by all outcomes.
+pub fn found_by_all()
+    ensures { FoundByAll }
+{}
+
+/// What was made are calls of the node, each once, and all of them where it has a result.
+pub fn made_are_calls()
+    ensures each { MadeAreCalls }
+    ensures once { MadeAreOnce }
+    ensures all { AllAreMade }
 {}
 
 /// Faults are counted where a derivation was given up for one, and nowhere else.
 pub fn faults_are_counted()
     ensures made { MadeCountsNone }
     ensures given_up { GivenUpIsCounted }
-{}
-
-/// What a derivation leaves told of the tools follows from what was told before it.
-pub fn made_is_one()
-    ensures { MadeIsOne }
-{}
-
-/// Over a graph that derivation is built for, a node is refused for one chain at most: its bases.
-pub fn chain_is_one()
-    ensures circular { NoneIsCircular }
-    ensures deep { DeepChainIsOne }
 {}

@@ -1,15 +1,58 @@
-// Calls, each made once, while nothing else runs.
-ghost use Rattle.std.specs.Prelude.{◌≡◌, [], Some, OnOk, IfOk, IfErr};
+// Wanted calls, run one after another.
+ghost use Rattle.std.specs.Prelude.{◌≡◌, ◌≢◌, [], Err, None, OnOk, IfOk, IfErr};
 ghost use Rattle.odin_outside.specs.declared.events.ToolEvent.TheVariants.{Ended};
-ghost use Rattle.plain_derive.specs.Logs.{closed, IsCut, MakesCall, IsCutOff, CutsOff};
-ghost use Rattle.plain_derive.specs.Made.{IsOutcomeOf, outcome_at};
+ghost use Rattle.plain_derive.specs.Logs.{closed, IsCut};
+ghost use Rattle.plain_derive.specs.Made.{IsOutcomeOf};
+ghost use Rattle.plain_derive.specs.Ways.{GoesOn, Stops};
 
 use crate::fault::PlainFault;
-use crate::made::{Made, place_of};
-use object_values::{Call, Outcome, Seq};
+use derive_walk::Walker;
+use object_values::{Call, Copied, Outcome};
 use odin_outside::Spawner;
 use std::alloc::Global;
 use tool_calls::{job_of, outcome_of};
+
+/// Runs each call that is wanted now.
+pub(crate) fn run_wanted<S: Spawner>(
+    alloc: Global,
+    walker: &mut Walker,
+    tools: &mut S,
+) -> Result<(), PlainFault>
+    requires idle { (S.told tools.old).running ≡ [] }
+    requires none { walker.old.result ≡ None }
+    ensures on { OnOk result (GoesOn walker.old (S.told tools.old) walker.new (S.told tools.new)) }
+    ensures stops { IfErr result (Stops walker.old (S.told tools.old) (S.told tools.new)) }
+    ensures none { walker.new.result ≡ None }
+    ensures idle { OnOk result ((S.told tools.new).running ≡ []) }
+{
+    let count = walker.wanted().len();
+    for _ in 0..count {
+        run_first(alloc, walker, tools)?;
+    }
+    Ok(())
+}
+
+// Runs the first wanted call, if there is one.
+fn run_first<S: Spawner>(
+    alloc: Global,
+    walker: &mut Walker,
+    tools: &mut S,
+) -> Result<(), PlainFault>
+    requires idle { (S.told tools.old).running ≡ [] }
+    requires none { walker.old.result ≡ None }
+    ensures on { OnOk result (GoesOn walker.old (S.told tools.old) walker.new (S.told tools.new)) }
+    ensures stops { IfErr result (Stops walker.old (S.told tools.old) (S.told tools.new)) }
+    ensures none { walker.new.result ≡ None }
+    ensures idle { OnOk result ((S.told tools.new).running ≡ []) }
+{
+    let Some(first) = walker.wanted().first() else {
+        return Ok(());
+    };
+    let call = first.copy(alloc)?;
+    let outcome = run_call(alloc, &call, tools)?;
+    walker.give(alloc, &call, outcome)?;
+    Ok(())
+}
 
 // Runs the tool of a call to its end.
 fn run_call<S: Spawner>(alloc: Global, call: &Call, tools: &mut S) -> Result<Outcome, PlainFault>
@@ -24,46 +67,4 @@ fn run_call<S: Spawner>(alloc: Global, call: &Call, tools: &mut S) -> Result<Out
     let (_, raw) = tools.finish(alloc)?;
     let outcome = outcome_of(alloc, call, &raw)?;
     Ok(outcome)
-}
-
-// Makes a call unless it was made before, and gives its place.
-fn make_once<S: Spawner>(
-    alloc: Global,
-    call: Call,
-    made: &mut Seq<Made>,
-    tools: &mut S,
-) -> Result<usize, PlainFault>
-    requires { (S.told tools.old).running ≡ [] }
-    ensures makes { IfOk result (λ place. MakesCall (S.told tools.old).answer
-        made.old (S.told tools.old) (Some call) (outcome_at made.new (Some place)) made.new (S.told tools.new)) }
-    ensures cut { IfErr result (λ fault. IsCutOff made.old call fault
-        (S.told tools.old) (S.told tools.new)) }
-{
-    if let Some(place) = place_of(made.as_slice(), &call) {
-        return Ok(place);
-    }
-    let outcome = run_call(alloc, &call, tools)?;
-    let place = made.len();
-    made.push(Made { call, outcome })?;
-    Ok(place)
-}
-
-/// The place of the call, where there is one.
-pub(crate) fn make_if_called<S: Spawner>(
-    alloc: Global,
-    call: Option<Call>,
-    made: &mut Seq<Made>,
-    tools: &mut S,
-) -> Result<Option<usize>, PlainFault>
-    requires { (S.told tools.old).running ≡ [] }
-    ensures makes { IfOk result (λ place. MakesCall (S.told tools.old).answer
-        made.old (S.told tools.old) call (outcome_at made.new place) made.new (S.told tools.new)) }
-    ensures cut { IfErr result (λ fault. CutsOff made.old call fault
-        (S.told tools.old) (S.told tools.new)) }
-{
-    let Some(call) = call else {
-        return Ok(None);
-    };
-    let place = make_once(alloc, call, made, tools)?;
-    Ok(Some(place))
 }

@@ -6,6 +6,9 @@ use Rattle.odin_shell.proofs.entry.run_words.Goals as goal
 pub returns-in_default : goal.returns-in_default
 returns-in_default g c = record { opened = _; how = words_refused (not_accepted _ c.in_default.ensures) c.end_with.ensures refl refl }
 
+pub serve_graph-requires-clause-spellable : goal.serve_graph-requires-clause-spellable
+serve_graph-requires-clause-spellable g c = let opens = rw c.in-Ok-Ready.field-0-is at c.in-Ok-Ready.ensures.ok in opens.opened.read.spelled.spelled.spellable
+
 pub returns-in-Ok-Ready : goal.returns-in-Ok-Ready
 returns-in-Ok-Ready g c =
     let opens = rw c.in-Ok-Ready.field-0-is at c.in-Ok-Ready.ensures.ok in

@@ -12,7 +12,7 @@ returns-in_default-clause-ok g c = inside_finishes _ _ _ _ c.requires (rw c.in_d
 pub returns-in_err-serve_command-clause-err : goal.returns-in_err-serve_command-clause-err
 returns-in_err-serve_command-clause-err g c =
     at_stop _ c.in_err-serve_command.field-0.0 _ c.from_residual-in_err-serve_command.ensures.1
-    (line_stops_at_end _ c.in_err-serve_command.field-0.0 _ _ _ _ _ (rw c.in-Some.is at c.in_ok-whole.ensures) c.in_err-serve_command.ensures.err)
+    (line_stops_at_end _ c.in_err-serve_command.field-0.0 _ _ _ _ c.in-Some.whole (rw c.in-Some.is at c.in_ok-whole.ensures) c.in_err-serve_command.ensures.err)
 
 pub returns-clause-ok : goal.returns-clause-ok
-returns-clause-ok g c = line_finishes _ _ _ _ _ _ _ (rw c.in-Some.is at c.in_ok-whole.ensures) c.in_ok-serve_command.ensures.ok
+returns-clause-ok g c = line_finishes _ _ _ _ _ _ c.in-Some.whole (rw c.in-Some.is at c.in_ok-whole.ensures) c.in_ok-serve_command.ensures.ok

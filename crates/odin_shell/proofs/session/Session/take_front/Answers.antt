@@ -9,10 +9,10 @@ returns-in_err-count-clause-err g c = at_stop _ Memory _ c.from_residual.ensures
 pub returns-in_err-serve_command-clause-err : goal.returns-in_err-serve_command-clause-err
 returns-in_err-serve_command-clause-err g c =
     at_stop _ c.in_err-serve_command.field-0.0 _ c.from_residual-in_err-serve_command.ensures.1
-    (whole_stops _ c.in_err-serve_command.field-0.0 c.args.piece.now _ _ _ _ _ _ _ c.in_ok-count.ensures.some c.in_ok-count.ensures.within (rw c.in-Some.is at c.in_ok-count.ensures.takes) c.in_err-serve_command.ensures.err)
+    (whole_stops _ c.in_err-serve_command.field-0.0 c.args.piece.now _ _ _ _ _ _ c.in-Some.whole c.in_ok-count.ensures.some c.in_ok-count.ensures.within (rw c.in-Some.is at c.in_ok-count.ensures.takes) c.in_err-serve_command.ensures.err)
 
 pub returns-in_ok-serve_command-clause-ok : goal.returns-in_ok-serve_command-clause-ok
-returns-in_ok-serve_command-clause-ok g c = whole_goes _ _ _ _ _ _ _ _ _ (rw c.in-Some.is at c.in_ok-count.ensures.takes) c.in_ok-serve_command.ensures.ok
+returns-in_ok-serve_command-clause-ok g c = whole_goes _ _ _ _ _ _ _ _ c.in-Some.whole (rw c.in-Some.is at c.in_ok-count.ensures.takes) c.in_ok-serve_command.ensures.ok
 
 pub returns-in_default-clause-ok : goal.returns-in_default-clause-ok
 returns-in_default-clause-ok g c = part_goes _ _ _ _ _ _ c.requires.idle (rw c.in_default.is at c.in_ok-count.ensures.takes)

@@ -1,6 +1,0 @@
-use Rattle.std.proofs.Common.{◌≡◌, take, map}
-use Rattle.meaning_tasks.specs.Settle.{labelled}
-use Rattle.plain_derive.proofs.settling.own_view.Given as goal
-
-abbrev pub invariant-loop-line : goal.invariant-loop-line
-invariant-loop-line l = l.messages ≡ map (labelled l.label) (take l.line-index l.outcome.lines)
