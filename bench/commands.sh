@@ -20,8 +20,9 @@ seconds() {
     "$@" < "$input" > /dev/null 2> /dev/null
     awk -v a="$start" -v b="$EPOCHREALTIME" 'BEGIN { printf "%.3f\n", b - a }'
 }
-# A put with a name that is none, and its zeros: as many as an input may have behind that line.
-zeros_put() { printf 'put a?c %s\n' "$zeros"; head -c "$zeros" /dev/zero; }
+# A put with a name that is none, and its zeros: as many as an input may have behind that line. They are written in large pieces, so that the pipe
+# is full: a writer of small ones wakes its reader at each, and the times tell of that.
+zeros_put() { printf 'put a?c %s\n' "$zeros"; dd if=/dev/zero bs=1M count="$zeros" iflag=count_bytes 2> /dev/null; }
 # The seconds of a command that reads it from a pipe: by the clock, and its own user and system time.
 piped() { { zeros_put | { time "$@" > /dev/null 2> /dev/null; }; } 2>&1 | awk '{ printf "%s %.3f\n", $1, $2 + $3 }'; }
 # The seconds that so many runs of a command take, without its output.
@@ -52,7 +53,7 @@ for _ in 1 2 3 4 5; do
     repeated "$reader" 10000 >> "$work/lists.reader"
     repeated sha256sum "$work/text" >> "$work/lists.sha"
 done
-# The writer of the zeros is unsteady: so the programs are run in turn, and the least time of each is told. `wc -c` only reads, as odin does.
+# The programs are run in turn, and the least time of each is told. `wc -c` only reads, as odin does.
 for _ in 1 2 3 4 5 6 7 8 9; do
     piped "$odin" g0 >> "$work/refused.odin"
     piped cat >> "$work/refused.cat"

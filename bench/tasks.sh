@@ -1,7 +1,8 @@
 #!/bin/bash
 # Measures needs, calls and settling over many results: a tool over a list and a pack, a tool that follows many headers, and one that
-# follows a chain of them, each at a number and at ten times that number, ten runs of the first beside one of the second in each of five
-# rounds. What a run over nothing takes is taken off. The memory that many calls hold together is measured once.
+# follows a chain of them, each at a number and at ten times that number, ten runs of the first beside ten of the second, one after another, in
+# each of 15 rounds. The least time of a run is taken of each, less the least of a run over nothing. The memory that many calls hold
+# together is measured once.
 set -eu
 export LC_ALL=C
 cd "$(dirname "$0")/.."
@@ -9,25 +10,28 @@ program=$PWD/crates/tasks_bench/out/tasks_bench
 work=$(mktemp -d)
 trap 'rm -rf "$work"' EXIT
 
-# The seconds that so many runs of a command take, without its output.
+# Adds the seconds that each of ten runs of a command takes, without its output, to a file.
 seconds() {
-    local runs=$1 start=$EPOCHREALTIME
+    local to=$1 start
     shift
-    for _ in $(seq "$runs"); do "$@" > /dev/null; done
-    awk -v a="$start" -v b="$EPOCHREALTIME" 'BEGIN { printf "%.4f\n", b - a }'
+    for _ in $(seq 10); do
+        start=$EPOCHREALTIME
+        "$@" > /dev/null
+        awk -v a="$start" -v b="$EPOCHREALTIME" 'BEGIN { printf "%.6f\n", b - a }' >> "$to"
+    done
 }
-median() { sort -n | sed -n 3p; }
+least() { sort -n | head -1; }
 
 # The times at a number and at ten times that number, and what the second is against ten times the first.
 compare() {
     local mode=$1 small=$2 large=$(($2 * 10))
-    for round in 1 2 3 4 5; do
-        seconds 10 "$program" "$mode" 0 >> "$work/$mode.none"
-        seconds 10 "$program" "$mode" "$small" >> "$work/$mode.small"
-        seconds 1 "$program" "$mode" "$large" >> "$work/$mode.large"
+    for _ in $(seq 15); do
+        seconds "$work/$mode.none" "$program" "$mode" 0
+        seconds "$work/$mode.small" "$program" "$mode" "$small"
+        seconds "$work/$mode.large" "$program" "$mode" "$large"
     done
-    awk -v mode="$mode" -v small="$small" -v large="$large" -v none="$(median < "$work/$mode.none")" -v a="$(median < "$work/$mode.small")" -v b="$(median < "$work/$mode.large")" \
-        'BEGIN { printf "%s: ten times %d in %.3f s, once %d in %.3f s, nothing ten times in %.3f s, ratio %.2f\n", mode, small, a, large, b, none, (b - none / 10) / (a - none) }'
+    awk -v mode="$mode" -v small="$small" -v large="$large" -v none="$(least < "$work/$mode.none")" -v a="$(least < "$work/$mode.small")" -v b="$(least < "$work/$mode.large")" \
+        'BEGIN { printf "%s: %d in %.4f s, %d in %.4f s, nothing in %.4f s, ratio %.2f\n", mode, small, a, large, b, none, (b - none) / (10 * (a - none)) }'
 }
 
 compare list 1000

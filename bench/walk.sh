@@ -55,4 +55,4 @@ texts=$(grep -v '^put ' "$work/memory.ask" | wc -c)
 echo 'ask m.sm:exe' >> "$work/memory.ask"
 /usr/bin/time -f %M -o "$work/memory" "$odin" c-units < "$work/memory.ask" > "$work/answer"
 awk -v a="$(cat "$work/memory")" -v b="$texts" 'BEGIN { printf "memory %d KiB, texts %d KiB, ratio %.2f\n", a, b / 1024, a * 1024 / b }'
-head -1 "$work/answer"
+grep -am1 '^object' "$work/answer"
