@@ -1,0 +1,9 @@
+//! Worked rows of real files, of child programs, and of the program's words. It holds tests alone.
+#![tactic(auto)]
+
+#[cfg(test)]
+mod children;
+#[cfg(test)]
+mod files;
+#[cfg(test)]
+mod words;
