@@ -1,0 +1,6 @@
+#include "text.h"
+
+int ends_line(char byte)
+{
+    return byte == '\n';
+}
