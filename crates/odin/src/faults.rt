@@ -11,6 +11,8 @@ pub const MEMORY: u8 = 4;
 pub enum Fault {
     #[error("odin: input ended inside a put")]
     CutShort,
+    #[error("odin: disk fault")]
+    Disk,
     #[error("odin: out of memory")]
     Memory,
     #[error("odin: output fault")]
@@ -24,14 +26,17 @@ pub enum Fault {
 /// The fault that an exit status stands for, where standard error tells one: 2 and 9 have written a line of their own.
 pub fn fault_of(status: u8) -> Option<Fault>
     ensures cut_short { status ≡ 1 → result ≡ Some Fault.CutShort }
+    ensures disk { status ≡ 3 → result ≡ Some Fault.Disk }
     ensures memory { status ≡ 4 → result ≡ Some Fault.Memory }
     ensures output { status ≡ 5 → result ≡ Some Fault.Output }
     ensures input { status ≡ 6 → result ≡ Some Fault.Input }
     ensures too_long { status ≡ 10 → result ≡ Some Fault.TooLong }
-    ensures none { status ≢ 1 → status ≢ 4 → status ≢ 5 → status ≢ 6 → status ≢ 10 → result ≡ None }
+    ensures none { status ≢ 1 → status ≢ 3 → status ≢ 4 → status ≢ 5 → status ≢ 6 → status ≢ 10
+        → result ≡ None }
 {
     match status {
         1 => Some(Fault::CutShort),
+        3 => Some(Fault::Disk),
         MEMORY => Some(Fault::Memory),
         5 => Some(Fault::Output),
         6 => Some(Fault::Input),

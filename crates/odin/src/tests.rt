@@ -268,6 +268,7 @@ fn refuses_words_that_are_no_text(rt: HostRuntime) -> Result<(), Fail> {
 fn tells_the_faults_of_statuses(rt: HostRuntime) -> Result<(), Fail> {
     for (status, text) in [
         (1, "odin: input ended inside a put"),
+        (3, "odin: disk fault"),
         (4, "odin: out of memory"),
         (5, "odin: output fault"),
         (6, "odin: read fault"),
