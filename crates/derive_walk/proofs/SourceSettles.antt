@@ -1,6 +1,6 @@
 -- A source settles to its text, over any results.
 use Rattle.std.proofs.Common.{◌≡◌, List, [], sym, subst, refl}
-use Rattle.std.specs.Prelude.{None}
+use Rattle.std.specs.Prelude.{Some, None}
 use Rattle.object_values.specs.declared.nodes.Node.{Node}
 use Rattle.object_values.specs.declared.views.View.{View}
 use Rattle.meaning_graph.specs.Graphs.{Text, Graph}
@@ -9,8 +9,8 @@ use Rattle.meaning_nodes.specs.Values.{inherit}
 use Rattle.meaning_tasks.specs.Tasks.{task_of}
 use Rattle.meaning_tasks.specs.Needs.{Results, ReachedNames}
 use Rattle.meaning_tasks.specs.Settle.{given_own}
-use Rattle.meaning_derive.specs.Derive.{Sources, text_of, derive, names_for}
-use Rattle.meaning_derive.proofs.Lemmas.{names_reached}
+use Rattle.meaning_derive.specs.Derive.{Sources, text_of, derive, derived, names_for}
+use Rattle.meaning_derive.proofs.Lemmas.{names_reached, as_settled, from_settled, sources_are_there}
 use Rattle.derive_walk.specs.Settled.{HasSettled}
 use Rattle.derive_walk.specs.Worlds.{World}
 
@@ -36,3 +36,20 @@ source_settles w n seen is = subst (λ z. HasSettled w (record n { steps = z }) 
 
 pub source_closes : (w : World) (n : Node) (seen : Results) → n.steps ≡ [] → (view : View) → view ≡ view_of_source w.graph w.sources n → HasSettled w n seen view
 source_closes w n seen none view is = subst (λ v. HasSettled w n seen v) (sym is) (source_settles w n seen none)
+
+-- and is derived so
+pub source_found : (w : World) (n : Node) → n.steps ≡ [] → (view : View) → view ≡ view_of_source w.graph w.sources n → derived w.graph w.sources w.outcomes n ≡ Some view
+source_found w n none view is =
+    let there = sources_are_there w.graph w.sources n none in
+    let so = as_settled w.graph w.sources w.outcomes 63 n there.0 (there.1 w.outcomes 63) in
+    let c = source_closes w n (derive w.graph w.sources w.outcomes 63) none view is in
+    from_settled w.graph w.sources w.outcomes 63 n view (record {
+      needs = so.needs;
+      listed = so.listed;
+      known = so.known;
+      call = c.call;
+      called = c.called;
+      outcome = c.outcome;
+      given = c.given;
+      settles = c.settles;
+    })

@@ -107,9 +107,14 @@ fn settle_by<K: Known>(
     settle(alloc, setting.graph, setting.plans, node, done, outcome)
 }
 
-// The view of a source: its text, or that there is none.
+/// The view of a source: its text, or that there is none.
 #[tactic(auto, using(crate::proofs::SourceLemmas::inherit_none, crate::proofs::SourceLemmas::inherit_one))]
-fn source_view(alloc: Global, graph: &Graph, sources: &Sources, node: &Node) -> Result<View, Memory>
+pub(crate) fn source_view(
+    alloc: Global,
+    graph: &Graph,
+    sources: &Sources,
+    node: &Node,
+) -> Result<View, Memory>
     ensures { let label = label_of_node graph.now node.now in
         let text = map.get sources.now.texts node.now.source in
         let own = given_own label node.now.source text in

@@ -17,6 +17,7 @@ ghost use Rattle.derive_walk.specs.Worlds.{World, world};
 
 use crate::known::Known;
 use crate::setting::Setting;
+use crate::settling::source_view;
 use crate::visiting::visit;
 use crate::walk::Walk;
 use object_sources::Sources;
@@ -168,7 +169,8 @@ impl Walker {
     }
 }
 
-// What is found of the root, where something is: else it waits.
+// What is found of the root, where something is: else it waits. A source is settled at once, without
+// the tables.
 fn walk_from_root<K: Known, L: Ledger>(
     alloc: Global,
     setting: &Setting<'_, K>,
@@ -183,6 +185,10 @@ fn walk_from_root<K: Known, L: Ledger>(
     ensures holds { HoldsIn (world_in K.kept setting.now) walk.new }
     ensures after { IfOk result (AfterRoot (world_in K.kept setting.now) walk.new) }
 {
+    if walk.root.steps.is_empty() {
+        let view = source_view(alloc, setting.graph, setting.sources, &walk.root)?;
+        return Ok(Some(Found::Answer(view)));
+    }
     if height_of(&walk.done, &walk.waiting, &walk.root).is_some() {
         return visited_root(alloc, walk);
     }
