@@ -41,7 +41,8 @@ fn matches<'a>(alloc: Global, words: &'a [String]) -> Result<ArgMatches<'a>, Err
 
 /// The first value of an option or a word of the command.
 fn value_of<'a>(found: &ArgMatches<'a>, id: &str) -> Option<&'a str>
-    ensures { option_map (λ word. word.now) result ≡ first_of id.now (rows_of (found_of found.now)) }
+    ensures { let rows = rows_of (found_of found.now) in
+        option_map (λ word. word.now) result ≡ first_of id.now rows }
 {
     found.get_str(id)
 }
