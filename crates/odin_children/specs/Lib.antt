@@ -1,2 +1,4 @@
+pub mod Ends
+pub mod Folders
 pub mod Oldest
 pub mod Told

@@ -1,6 +1,8 @@
 // One file as a disk.
-ghost use Rattle.std.specs.Prelude.{◌≡◌, length, IsErr};
+ghost use Rattle.std.specs.Prelude.{◌≡◌, ◌+◌, ◌^◌, ◌≤◌, length, true, false, IsErr, IfOk, OnOk};
+ghost use Rattle.std.specs.Fs.{asks_read, asks_write, asks_create, asks_truncate};
 ghost use Rattle.odin_outside.specs.Causes.{HasCause};
+ghost use Rattle.odin_outside.specs.Disk.{size_with};
 
 use odin_outside::{Disk, Failed};
 use std::fs::{self, File, OpenOptions};
@@ -35,11 +37,21 @@ fn sync_name<R: Files<File = File>>(rt: &R, path: &str) -> io::Result<()> {
     }
 }
 
-// A file that is there and synced, and its size.
-fn open_synced<R: Files<File = File>>(rt: &R, path: &str) -> io::Result<(File, u64)> {
+// How the file is opened: it is read and written, and made where there is none. What it holds stays.
+fn read_and_write() -> OpenOptions
+    ensures read { asks_read result ≡ true }
+    ensures write { asks_write result ≡ true }
+    ensures create { asks_create result ≡ true }
+    ensures kept { asks_truncate result ≡ false }
+{
     let mut options = OpenOptions::new();
     options.read(true).write(true).create(true);
-    let file = options.open(rt, path)?;
+    options
+}
+
+// A file that is there and synced, and its size.
+fn open_synced<R: Files<File = File>>(rt: &R, path: &str) -> io::Result<(File, u64)> {
+    let file = read_and_write().open(rt, path)?;
     let found = file.metadata()?;
     if !found.is_file() {
         return Err(Error::from(ErrorKind::InvalidInput));
@@ -69,7 +81,9 @@ impl FileDisk {
     }
 
     // The open file, where it has so many bytes: another program may have cut it.
-    fn reaching(&self, size: u64) -> io::Result<&File> {
+    fn reaching(&self, size: u64) -> io::Result<&File>
+        ensures { self.now.file ≡ None → IsErr result }
+    {
         let Some(file) = &self.file else {
             return Err(Error::from(ErrorKind::NotFound));
         };
@@ -79,26 +93,35 @@ impl FileDisk {
         Ok(file)
     }
 
-    fn look(&self) -> io::Result<()> {
+    fn look(&self) -> io::Result<()>
+        ensures { self.now.file ≡ None → IsErr result }
+    {
         self.reaching(self.size)?;
         Ok(())
     }
 
     fn fill(&self, at: u64, into: &mut [u8]) -> io::Result<()>
-        ensures { length into.new ≡ length into.old }
+        ensures length { length into.new ≡ length into.old }
+        ensures gone { self.now.file ≡ None → IsErr result }
     {
         self.reaching(at)?.read_exact_at(into, at)
     }
 
-    fn put(&self, at: u64, bytes: &[u8]) -> io::Result<()> {
+    fn put(&self, at: u64, bytes: &[u8]) -> io::Result<()>
+        ensures { self.now.file ≡ None → IsErr result }
+    {
         self.reaching(at)?.write_all_at(bytes, at)
     }
 
-    fn shorten(&self, size: u64) -> io::Result<()> {
+    fn shorten(&self, size: u64) -> io::Result<()>
+        ensures { self.now.file ≡ None → IsErr result }
+    {
         self.reaching(size)?.set_len(size)
     }
 
-    fn flush(&self) -> io::Result<()> {
+    fn flush(&self) -> io::Result<()>
+        ensures { self.now.file ≡ None → IsErr result }
+    {
         self.reaching(0)?.sync_all()
     }
 
@@ -106,6 +129,7 @@ impl FileDisk {
     fn fail<T>(&mut self) -> Result<T, Failed>
         ensures err { IsErr result }
         ensures size { self.new.size ≡ self.old.size }
+        ensures file { self.new.file ≡ self.old.file }
         ensures cause { HasCause self.old.faults self.new.faults result }
     {
         self.faults = self.faults.saturating_add(1);
@@ -132,21 +156,37 @@ impl Disk for FileDisk {
 
     ghost only_now = { λ d c follows left. absurd (false≢true follows) };
 
-    fn size(&mut self) -> Result<u64, Failed> {
+    fn size(&mut self) -> Result<u64, Failed>
+        ensures size { IfOk result (λ n. n ≡ self.old.size) }
+        ensures kept { OnOk result (self.new.size ≡ self.old.size) }
+        ensures cause { HasCause self.old.faults self.new.faults result }
+        ensures gone { self.old.file ≡ None → IsErr result × (self.new.file ≡ None) }
+    {
         match self.look() {
             Ok(()) => Ok(self.size),
             Err(_) => self.fail(),
         }
     }
 
-    fn read(&mut self, at: u64, into: &mut [u8]) -> Result<(), Failed> {
+    fn read(&mut self, at: u64, into: &mut [u8]) -> Result<(), Failed>
+        requires { at + length into.old ≤ self.old.size }
+        ensures kept { OnOk result (self.new.size ≡ self.old.size) }
+        ensures cause { HasCause self.old.faults self.new.faults result }
+        ensures gone { self.old.file ≡ None → IsErr result × (self.new.file ≡ None) }
+    {
         match self.fill(at, into) {
             Ok(()) => Ok(()),
             Err(_) => self.fail(),
         }
     }
 
-    fn write_at(&mut self, at: u64, bytes: &[u8]) -> Result<(), Failed> {
+    fn write_at(&mut self, at: u64, bytes: &[u8]) -> Result<(), Failed>
+        requires inside { at ≤ self.old.size }
+        requires end { at + length bytes.now ≤ 2 ^ 30 }
+        ensures size { OnOk result (self.new.size ≡ size_with self.old.size at bytes.now) }
+        ensures cause { HasCause self.old.faults self.new.faults result }
+        ensures gone { self.old.file ≡ None → IsErr result × (self.new.file ≡ None) }
+    {
         if self.put(at, bytes).is_err() {
             return self.fail();
         }
@@ -154,7 +194,12 @@ impl Disk for FileDisk {
         Ok(())
     }
 
-    fn cut(&mut self, size: u64) -> Result<(), Failed> {
+    fn cut(&mut self, size: u64) -> Result<(), Failed>
+        requires { size ≤ self.old.size }
+        ensures size { OnOk result (self.new.size ≡ size) }
+        ensures cause { HasCause self.old.faults self.new.faults result }
+        ensures gone { self.old.file ≡ None → IsErr result × (self.new.file ≡ None) }
+    {
         if self.shorten(size).is_err() {
             return self.fail();
         }
@@ -162,7 +207,12 @@ impl Disk for FileDisk {
         Ok(())
     }
 
-    fn sync(&mut self) -> Result<(), Failed> {
+    fn sync(&mut self) -> Result<(), Failed>
+        ensures kept { OnOk result (self.new.size ≡ self.old.size) }
+        ensures cause { HasCause self.old.faults self.new.faults result }
+        ensures gone { self.old.file ≡ None → IsErr result × (self.new.file ≡ None) }
+        ensures given_up { IsErr result → self.new.file ≡ None }
+    {
         if self.flush().is_err() {
             self.file = None;
             return self.fail();

@@ -11,6 +11,15 @@ pub enum SystemFault {
 }
 
 impl From<io::Error> for SystemFault {
+    ghost use Rattle.std.specs.declared.io.ErrorKind.{ErrorKind};
+    ghost use Rattle.std.specs.declared.io.ErrorKind.TheVariants.{OutOfMemory};
+    ghost use Rattle.std.specs.IoError.{error_kind};
+    ghost use Rattle.odin_files.specs.declared.fault.SystemFault.{SystemFault};
+    ghost use Rattle.std.specs.Prelude.{◌≡◌, ◌↔◌};
+
+    ghost from_gives = { λ error fault.
+        (fault ≡ SystemFault.Memory) ↔ (error_kind error ≡ OutOfMemory) };
+
     fn from(error: io::Error) -> Self {
         if error.kind() == io::ErrorKind::OutOfMemory {
             SystemFault::Memory
@@ -21,12 +30,22 @@ impl From<io::Error> for SystemFault {
 }
 
 impl From<Memory> for SystemFault {
+    ghost use Rattle.odin_files.specs.declared.fault.SystemFault.{SystemFault};
+    ghost use Rattle.std.specs.Prelude.{◌≡◌};
+
+    ghost from_gives = { λ _ fault. fault ≡ SystemFault.Memory };
+
     fn from(_: Memory) -> Self {
         SystemFault::Memory
     }
 }
 
 impl From<AllocError> for SystemFault {
+    ghost use Rattle.odin_files.specs.declared.fault.SystemFault.{SystemFault};
+    ghost use Rattle.std.specs.Prelude.{◌≡◌};
+
+    ghost from_gives = { λ _ fault. fault ≡ SystemFault.Memory };
+
     fn from(_: AllocError) -> Self {
         SystemFault::Memory
     }

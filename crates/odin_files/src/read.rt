@@ -1,5 +1,6 @@
 // The front of a file.
-ghost use Rattle.std.specs.Prelude.{◌≡◌, take, IfOk, IfSome};
+ghost use Rattle.std.specs.Prelude.{◌≡◌, take, Err, IfOk, IsOk, IfSome};
+ghost use Rattle.std.specs.Str.{IsUtf8};
 ghost use Rattle.odin_outside.specs.Files.{file_limit};
 
 use crate::fault::SystemFault;
@@ -14,7 +15,9 @@ const LIMIT: u64 = BODY_LIMIT as u64 + 1;
 
 /// The bytes as a text. The system's paths and words are texts here, so that other bytes name nothing.
 pub fn text_of(bytes: &[u8]) -> Result<&str, SystemFault>
-    ensures { IfOk result (λ text. text.now ≡ bytes.now) }
+    ensures ok { IfOk result (λ text. text.now ≡ bytes.now) }
+    ensures text { IsUtf8 bytes.now → IsOk result }
+    ensures other { ¬ IsUtf8 bytes.now → result ≡ Err SystemFault.Failed }
 {
     match std::str::from_utf8(bytes) {
         Ok(text) => Ok(text),

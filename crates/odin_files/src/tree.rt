@@ -1,5 +1,7 @@
 // The files of the current folder.
 ghost use Rattle.std.specs.Prelude.{◌≡◌};
+ghost use Rattle.std.specs.Str.{IsUtf8};
+ghost use Rattle.odin_outside.specs.Causes.{HasCauseBut, once_more};
 
 use crate::fault::SystemFault;
 use crate::read::{read_file, text_of};
@@ -29,7 +31,9 @@ impl<R: Files + Drop> FolderTree<R> {
         }
     }
 
-    fn find(&self, alloc: Global, name: &[u8]) -> Result<Option<Bytes>, SystemFault> {
+    fn find(&self, alloc: Global, name: &[u8]) -> Result<Option<Bytes>, SystemFault>
+        ensures { ¬ IsUtf8 name.now → result ≡ Err SystemFault.Failed }
+    {
         read_file(&self.rt, alloc, text_of(name)?)
     }
 }
@@ -43,7 +47,11 @@ impl<R: Files + Drop> Tree for FolderTree<R> {
 
     ghost reads = { λ t. t.reads };
 
-    fn read(&mut self, alloc: Global, name: &[u8]) -> Result<Option<Bytes>, TreeFault> {
+    fn read(&mut self, alloc: Global, name: &[u8]) -> Result<Option<Bytes>, TreeFault>
+        ensures counted { self.new.reads ≡ once_more self.old.reads }
+        ensures cause { HasCauseBut TreeFault.Memory self.old.faults self.new.faults result }
+        ensures other { ¬ IsUtf8 name.now → result ≡ Err TreeFault.Failed }
+    {
         self.reads = self.reads.saturating_add(1);
         match self.find(alloc, name) {
             Ok(found) => Ok(found),

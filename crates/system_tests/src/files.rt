@@ -1,11 +1,10 @@
-// The files of the current folder, and a journal over a real file.
-use object_values::{Bytes, Memory};
+// The files of the current folder, and one as a disk.
 use odin_files::{FileDisk, FolderTree};
-use odin_journal::{Journal, JournalFault};
 use odin_outside::{Disk, Failed, Tree, TreeFault};
 use std::alloc::Global;
-use std::fs::{self, File};
+use std::fs::{self, File, Permissions};
 use std::io;
+use std::os::unix::fs::PermissionsExt;
 use std::rt::Files;
 use std::test::Fail;
 
@@ -61,45 +60,6 @@ fn a_tree_gives_files_alone(rt: HostRuntime) -> Result<(), Fail> {
     Ok(())
 }
 
-// The end and how many records a journal on a disk has.
-fn counted<D: Disk>(alloc: Global, disk: &mut D) -> Result<(u64, usize), JournalFault> {
-    let (journal, records) = Journal::open(alloc, disk)?;
-    Ok((journal.end(), records.len()))
-}
-
-// The ends of a journal on a disk before and behind the record `hi`, which is added.
-fn added<D: Disk>(alloc: Global, disk: &mut D) -> Result<(u64, u64), JournalFault> {
-    let (mut journal, _) = Journal::open(alloc, disk)?;
-    let before = journal.end();
-    journal.append(alloc, disk, b"hi")?;
-    Ok((before, journal.end()))
-}
-
-// A store with the only record `hi`.
-const HI: &[u8; 72] =
-    b"ODINSTO1\0\0\0\0\0\0\0\0\0\0\0\0\0\0\0\x40\0\0\0\0\0\0\0\0\0\0\0\0\0\0\0\0\0\0\0\0\0\0\0\0\0\0\0\0\0\0\0\0\0\0\0\0\0\0\0\0\x01\0\0\0\x02hi\0";
-
-// Adds `hi` to a store that is new, and opens it again.
-fn add_twice<R: Files<File = File>>(
-    rt: &R,
-    alloc: Global,
-    path: &str,
-) -> Result<((u64, u64), (u64, usize)), JournalFault> {
-    let first = added(alloc, &mut FileDisk::open(rt, path))?;
-    let second = counted(alloc, &mut FileDisk::open(rt, path))?;
-    Ok((first, second))
-}
-
-#[test]
-fn a_journal_stands_on_a_file(rt: HostRuntime) -> Result<(), Fail> {
-    let path = "system_tests.store";
-    let _ = fs::remove_file(&rt, path);
-    assert!(rt; add_twice(&rt, rt.alloc(), path) == Ok(((64, 71), (71, 1))));
-    assert!(rt; fs::read(&rt, path)?.as_slice() == HI.as_slice());
-    fs::remove_file(&rt, path)?;
-    Ok(())
-}
-
 // What the calls of a disk give whose file another program cuts to 3 bytes of 5.
 fn after_cut<R: Files, D: Disk>(rt: &R, path: &str, disk: &mut D) -> io::Result<[bool; 4]> {
     let mut five = [0u8; 5];
@@ -130,11 +90,33 @@ fn a_disk_follows_no_size_that_its_file_has_not(rt: HostRuntime) -> Result<(), F
 
 #[test]
 fn a_disk_without_a_file_fails(rt: HostRuntime) {
-    for path in [".", "system_tests.none/store", "/dev/null"] {
+    for path in [".", "system_tests.none/store", "/dev/null", "/dev/full"] {
         let mut disk = FileDisk::open(&rt, path);
         assert!(rt; disk.size() == Err(Failed), "{path}");
         assert!(rt; disk.sync() == Err(Failed), "{path}");
         assert!(rt; disk.cut(0) == Err(Failed), "{path}");
         assert!(rt; disk.write_at(0, b"x") == Err(Failed), "{path}");
     }
+}
+
+// Whether a disk and a tree both fail at a file.
+fn fails_at<R: Files<File = File> + Drop>(rt: R, alloc: Global, path: &str) -> bool {
+    let mut disk = FileDisk::open(&rt, path);
+    let mut tree = FolderTree::new(rt);
+    disk.size() == Err(Failed)
+        && disk.write_at(0, b"x") == Err(Failed)
+        && length_of(alloc, &mut tree, path.as_bytes()) == Err(TreeFault::Failed)
+}
+
+// Who may read every file, as root may, sees no fault here.
+#[test]
+fn a_file_without_rights_is_a_fault(rt: HostRuntime) -> Result<(), Fail> {
+    let path = "system_tests.closed";
+    fs::write(&rt, path, "abc")?;
+    fs::set_permissions(&rt, path, Permissions::from_mode(0))?;
+    if fs::read(&rt, path).is_err() {
+        assert!(rt; fails_at(&rt, rt.alloc(), path));
+    }
+    fs::remove_file(&rt, path)?;
+    Ok(())
 }

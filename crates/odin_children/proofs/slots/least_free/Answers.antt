@@ -9,8 +9,8 @@ pub loop-slot-preserved : goal.loop-slot-preserved
 loop-slot-preserved g c = below_more (IsRunning (map (λ tool. tool.running) c.args.started.now)) c.loop-slot.slot c.loop-slot.invariant
     (any_to_map (λ tool. tool.running) (λ running. running.slot ≡ c.loop-slot.slot) c.args.started.now (c.is_running.ensures.0 (search rules)))
 
-pub returns-then-not-is_running : goal.returns-then-not-is_running
-returns-then-not-is_running g c =
+pub returns-then-not-is_running-clause-some : goal.returns-then-not-is_running-clause-some
+returns-then-not-is_running-clause-some g c =
     let no : c.is_running.result ≡ false = search rules in
     record {
       free = λ runs. false≢true (sym no ∙ c.is_running.ensures.1 (any_of_map (λ tool. tool.running) (λ running. running.slot ≡ c.loop-slot.slot) c.args.started.now runs));

@@ -1,4 +1,4 @@
-use Rattle.std.proofs.Common.{◌≡◌, ◌∙◌, ap₂, subst, take, IfSome, Option, Some, None, ℕ, List, [], ◌++◌}
+use Rattle.std.proofs.Common.{rules, ◌≡◌, ◌∙◌, ap₂, subst, take, IfSome, Option, Some, None, ℕ, List, [], ◌++◌}
 use Rattle.std.specs.Io.Take.{take_remaining}
 use Rattle.std.specs.declared.io.traits.Take.{Take}
 use Rattle.std.specs.Option.{option_map}
@@ -15,4 +15,4 @@ front_is remaining limited reader before after front at is empty same read =
     subst (λ r. IfSome (remaining r) (λ left. front ≡ take file_limit left)) is (by_known (remaining limited.inner) limited.limit before after front at empty same read)
 
 pub returns-in-Ok : goal.returns-in-Ok
-returns-in-Ok g c = front_is g.R.Read.remaining c.take.result c.args.reader c.new-front.result.items c.read_to_end.new.buf.items c.from_vec.result c.take.ensures.limit c.take.ensures.inner c.new-front.ensures.items c.from_vec.ensures c.in-Ok.ensures.bytes
+returns-in-Ok g c = front_is g.R.Read.remaining c.take.result c.args.reader c.new-front.result.items c.read_to_end.new.buf.items c.from_vec.result (search rules) c.take.ensures.inner c.new-front.ensures.items c.from_vec.ensures c.in-Ok.ensures.bytes

@@ -1,0 +1,68 @@
+-- What stands in the places of the folders that child programs run in: nothing (`None`), or a folder with files, in the order in which they
+-- were made. Where that isn't told there is `None` in its place, before a call and after it.
+use Rattle.std.specs.Prelude.{◌≡◌, ◌≢◌, ⊤, ℕ, Bool, false, nat_eq, List, [], ◌∷◌, ◌++◌, Option, Some, None, take}
+use Rattle.std.specs.Option.{option_map}
+use Rattle.std.specs.List.{list_any, filter_map}
+use Rattle.object_values.specs.declared.jobs.FileBody.{FileBody}
+use Rattle.odin_outside.specs.Files.{file_limit}
+use Rattle.meaning_calls.specs.Outcomes.{file_in}
+
+-- what stands in one place
+abbrev pub Standing : Type 0
+Standing = Option (List FileBody)
+
+-- a name without a slash, which would lead out of the folder
+abbrev pub IsPlain : List ℕ → Type 0
+IsPlain name = list_any (λ byte. nat_eq byte 47) name ≡ false
+
+-- ---- what stands there after a call
+
+-- in the place of every other slot the same
+abbrev pub SameBut : ℕ → (ℕ → Option Standing) → (ℕ → Option Standing) → Type 0
+SameBut slot old new = (other : ℕ) → other ≢ slot → new other ≡ old other
+
+abbrev pub removed : Option Standing → Option Standing
+removed held = option_map (λ standing. None) held
+
+-- what a folder holds that was there stays
+abbrev pub made_where : Standing → List FileBody
+made_where None = []
+made_where (Some files) = files
+
+abbrev pub made : Option Standing → Option Standing
+made held = option_map (λ standing. Some (made_where standing)) held
+
+-- a folder with these files and no others, whatever was there
+abbrev pub laid_out : List FileBody → Option Standing → Option Standing
+laid_out files held = option_map (λ standing. Some files) held
+
+-- the folder was there without a file of that name, and has it now
+abbrev pub IsAdded : FileBody → Option Standing → Option Standing → Type 0
+IsAdded file None new = new ≡ None
+IsAdded file (Some None) new = ⊥
+IsAdded file (Some (Some files)) new = (file_in file.name files ≡ None) × (new ≡ Some (Some (files ++ file ∷ [])))
+
+-- ---- what is read of it
+
+-- the first bytes of the file of a name, where there is one
+abbrev pub front_of : Standing → List ℕ → Option (List ℕ)
+front_of None name = None
+front_of (Some files) name = option_map (take file_limit) (file_in name files)
+
+-- the answer is that of what stands there, where it is told
+abbrev pub IsFound : Option Standing → List ℕ → Option (List ℕ) → Type 0
+IsFound None name answer = ⊤
+IsFound (Some standing) name answer = answer ≡ front_of standing name
+
+abbrev pub left_file : Standing → List ℕ → Option FileBody
+left_file standing name = option_map (λ body. record { name = name; body = body }) (front_of standing name)
+
+-- these are the files of the names, where it is told what stands there
+abbrev pub AreLeft : Option Standing → List (List ℕ) → List FileBody → Type 0
+AreLeft None names files = ⊤
+AreLeft (Some standing) names files = files ≡ filter_map (left_file standing) names
+
+-- the file of one more name was put behind those that were there, where it was left
+abbrev pub IsPutLeft : Option Standing → List ℕ → List FileBody → List FileBody → Type 0
+IsPutLeft None name old new = ⊤
+IsPutLeft (Some standing) name old new = new ≡ old ++ filter_map (left_file standing) (name ∷ [])
