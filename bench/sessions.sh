@@ -3,7 +3,7 @@
 set -eu
 export LC_ALL=C
 cd "$(dirname "$0")/.."
-odin=$PWD/crates/odin/out/odin
+odin=$PWD/crates/session_bench/out/session_bench
 work=$(mktemp -d)
 trap 'rm -rf "$work"' EXIT
 

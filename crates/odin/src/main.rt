@@ -2,20 +2,14 @@
 #![tactic(auto)]
 
 mod faults;
-mod graphs;
-#[cfg(test)]
-mod rows;
-#[cfg(test)]
-mod runs;
-#[cfg(test)]
-mod serving;
 #[cfg(test)]
 mod tests;
 
 use faults::{MEMORY, fault_of};
-use graphs::FILES;
-use object_values::{Bytes, FileBody, Memory, Seq, Text};
-use odin_fakes::{MemDisk, MemTree, TableTools};
+use object_values::{Bytes, Memory};
+use odin_children::ChildTools;
+use odin_fakes::MemDisk;
+use odin_files::FolderTree;
 use odin_real::{InputSource, OutputSink};
 use odin_shell::run;
 use std::alloc::Global;
@@ -23,32 +17,14 @@ use std::env::Env;
 use std::process::ExitCode;
 use std::{env, io};
 
-/// A file with this name and these bytes.
-fn file_of(alloc: Global, name: &[u8], body: &[u8]) -> Result<FileBody, Memory> {
-    Ok(FileBody {
-        name: Bytes::from_slice(alloc, name)?,
-        body: Text::of(Bytes::from_slice(alloc, body)?)?,
-    })
-}
-
-/// A tree that holds these files, each a name with its bytes.
-fn tree_of(alloc: Global, listed: &[(&[u8], &[u8])]) -> Result<MemTree, Memory> {
-    let mut files = Seq::new(alloc);
-    for (name, body) in listed {
-        files.push(file_of(alloc, name, body)?)?;
-    }
-    Ok(MemTree::new(files))
-}
-
-fn serve<R: Input + Print>(rt: &R, alloc: Global, words: &[String]) -> Result<u8, Memory>
-where
-    R::Reader: Drop,
-{
+/// The exit status of a run with these words, over the standard input and output, the files of the current folder and child programs. The disk is
+/// an empty one that nothing is kept on.
+fn serve(rt: &HostRuntime, alloc: Global, words: &[String]) -> Result<u8, Memory> {
     let mut input = InputSource::new(rt.reader());
     let mut output = OutputSink::new(io::writer(rt));
-    let mut tree = tree_of(alloc, &FILES)?;
+    let mut tree = FolderTree::new(rt);
     let mut disk = MemDisk::new(alloc, Bytes::new(alloc), 0, 0)?;
-    let mut tools = TableTools::toy(alloc, Seq::new(alloc));
+    let mut tools = ChildTools::new(alloc, rt, rt.stderr());
     Ok(run(
         alloc,
         words,

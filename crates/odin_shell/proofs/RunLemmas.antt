@@ -1,6 +1,6 @@
 -- What every way to end says: which counts of faults rose, what the input says of the status, and what stays of tree, tools and disk.
 use Rattle.std.proofs.Common.{◌≡◌, ◌≢◌, ℕ, ◌≤◌, List, [], Option, Some, None, IfSome, ap, sym, refl, ◌∙◌, subst, inl, inr}
-use Rattle.std.specs.Prelude.{⊤, IsSome}
+use Rattle.std.specs.Prelude.{⊤}
 use Rattle.std.proofs.Math.Nat.{le_refl}
 use Rattle.odin_outside.specs.Causes.{once_more}
 use Rattle.odin_outside.specs.Spawned.{Spawned}
@@ -11,7 +11,7 @@ use Rattle.odin_shell.specs.declared.ending.Ending.{Ending}
 use Rattle.odin_shell.specs.declared.ending.Ending.TheVariants.{Whole, CutShort, BadGraph, Memory, Output, Input, Usage, TooLong}
 use Rattle.odin_shell.specs.declared.graph.Opened.{Opened}
 use Rattle.odin_shell.specs.Endings.{status_of}
-use Rattle.odin_shell.specs.Words.{graph_word, IsAccepted}
+use Rattle.odin_words.specs.Asked.{AsksFor}
 use Rattle.odin_shell.specs.Opened.{Opens}
 use Rattle.odin_shell.specs.Language.{commands}
 use Rattle.odin_shell.specs.Held.{Keeps}
@@ -22,10 +22,6 @@ use Rattle.odin_shell.specs.Run as run
 use Rattle.odin_shell.specs.Run.{LastLine, whole, cut_off, SessionLeaves, SessionEnds, InputCount, OutputCount, AllowedBy}
 use Rattle.meaning_commands.proofs.Lemmas.{one_command}
 use Rattle.odin_shell.proofs.ServeLemmas.{idle_one, tree_on}
-
--- words that name no graph are not accepted
-pub not_accepted : (words : List Text) → None ≡ graph_word words → ¬ IsAccepted words
-not_accepted words none accepted = let some : IsSome {T = Text} None = subst (λ (o : Option Text). IsSome o) (sym none) accepted in cc
 
 -- ---- a last line
 
@@ -126,14 +122,14 @@ module _ {I O T S D : Type 0} (m : Meaning I O T S) (words : List Text) (before 
   tree o = tree_of m.files m.tree_faults m.reads o.tree
 
   -- the tree was asked for the file of the words
-  pub asks : (name : Text) (opened : TreeTold) → Some name ≡ graph_word words → opened.reads ≡ once_more (m.reads before.tree) → opened.files ≡ m.files before.tree → m.tree_faults before.tree ≤ opened.faults
+  pub asks : (name : Text) (jobs : ℕ) (opened : TreeTold) → AsksFor words name jobs → opened.reads ≡ once_more (m.reads before.tree) → opened.files ≡ m.files before.tree → m.tree_faults before.tree ≤ opened.faults
       → run.AsksOnce m words before after opened
-  asks name opened named once kept later = record { name = name; named = sym named; asked = record { stays = record { files = kept; later = later }; once = once } }
+  asks name jobs opened named once kept later = record { name = name; jobs = jobs; named = named; asked = record { stays = record { files = kept; later = later }; once = once } }
 
   -- and gave it
-  pub gives : (name : Text) (opened : TreeTold) (o : Opened) → Some name ≡ graph_word words → (opens : Opens (m.files before.tree) name o) → opened.reads ≡ once_more (m.reads before.tree) → opened.files ≡ m.files before.tree
+  pub gives : (name : Text) (jobs : ℕ) (opened : TreeTold) (o : Opened) → AsksFor words name jobs → (opens : Opens (m.files before.tree) name o) → opened.reads ≡ once_more (m.reads before.tree) → opened.files ≡ m.files before.tree
       → m.tree_faults before.tree ≤ opened.faults → opened.faults ≡ m.tree_faults before.tree → run.Gives m words before after opened opens.given
-  gives name opened o named opens once kept later unfailed = record { asks = record { name = name; named = sym named; asked = record { stays = record { files = kept; later = later }; once = once } }; is = opens.is; unfailed = unfailed }
+  gives name jobs opened o named opens once kept later unfailed = record { asks = record { name = name; jobs = jobs; named = named; asked = record { stays = record { files = kept; later = later }; once = once } }; is = opens.is; unfailed = unfailed }
 
   reads_of : (opened : TreeTold) (ending : Ending) → InputCount ending (m.input_faults before.input) (m.input_faults after.input) → opened.faults ≡ m.tree_faults before.tree → run.ReadCounts m words before after opened ending
   reads_of opened Whole input tree = (input, tree)
@@ -147,6 +143,7 @@ module _ {I O T S D : Type 0} (m : Meaning I O T S) (words : List Text) (before 
 
   exact : (opened : TreeTold) (ending : Ending) → run.EndsAs m words before after opened ending → IfSome (m.left before.input) (AllowedBy ending)
   exact opened ending (run.words_refused not line is same) = at_end _ _ _ _ ending (λ e. IfSome (m.left before.input) (AllowedBy e)) line (anything (m.left before.input)) (anything (m.left before.input))
+  exact opened ending (run.words_unread due is same) = subst (λ (e : Ending). IfSome (m.left before.input) (AllowedBy e)) (sym due) (anything (m.left before.input))
   exact opened ending (run.tree_failed due asks rose is same) = subst (λ (e : Ending). IfSome (m.left before.input) (AllowedBy e)) (sym due) (anything (m.left before.input))
   exact opened ending (run.graph_unread due asks stays is same) = subst (λ (e : Ending). IfSome (m.left before.input) (AllowedBy e)) (sym due) (anything (m.left before.input))
   exact opened ending (run.graph_refused given line gives refused last is same) = at_end _ _ _ _ ending (λ e. IfSome (m.left before.input) (AllowedBy e)) last (anything (m.left before.input)) (anything (m.left before.input))
@@ -154,6 +151,7 @@ module _ {I O T S D : Type 0} (m : Meaning I O T S) (words : List Text) (before 
 
   output : (opened : TreeTold) (ending : Ending) → run.EndsAs m words before after opened ending → OutputCount ending (m.output_faults before.output) (m.output_faults after.output)
   output opened ending (run.words_refused not line is same) = line_output _ _ _ _ ending (λ e. e) line
+  output opened ending (run.words_unread due is same) = subst (λ (e : Ending). OutputCount e (m.output_faults before.output) (m.output_faults after.output)) (sym due) (ap (λ (o : Outside I O T S D). m.output_faults o.output) same)
   output opened ending (run.tree_failed due asks rose is same) = subst (λ (e : Ending). OutputCount e (m.output_faults before.output) (m.output_faults after.output)) (sym due) (ap (λ (o : Outside I O T S D). m.output_faults o.output) same)
   output opened ending (run.graph_unread due asks stays is same) = subst (λ (e : Ending). OutputCount e (m.output_faults before.output) (m.output_faults after.output)) (sym due) (ap (λ (o : Outside I O T S D). m.output_faults o.output) same)
   output opened ending (run.graph_refused given line gives refused last is same) = line_output _ _ _ _ ending (λ e. e) last
@@ -163,6 +161,7 @@ module _ {I O T S D : Type 0} (m : Meaning I O T S) (words : List Text) (before 
   reads opened ending (run.words_refused not line is same) =
       let both : (m.input_faults after.input ≡ m.input_faults before.input) × (opened.faults ≡ m.tree_faults before.tree) = (ap (λ (o : Outside I O T S D). m.input_faults o.input) same, ap (λ (t : TreeTold). t.faults) is) in
       at_end _ _ _ _ ending (run.ReadCounts m words before after opened) line both both
+  reads opened ending (run.words_unread due is same) = subst (run.ReadCounts m words before after opened) (sym due) (ap (λ (o : Outside I O T S D). m.input_faults o.input) same, ap (λ (t : TreeTold). t.faults) is)
   reads opened ending (run.tree_failed due asks rose is same) = subst (run.ReadCounts m words before after opened) (sym due) (inr (ap (λ (o : Outside I O T S D). m.input_faults o.input) same, rose))
   reads opened ending (run.graph_unread due asks stays is same) = subst (run.ReadCounts m words before after opened) (sym due) (ap (λ (o : Outside I O T S D). m.input_faults o.input) same, stays)
   reads opened ending (run.graph_refused given line gives refused last is same) =
@@ -187,6 +186,7 @@ module _ {I O T S D : Type 0} (m : Meaning I O T S) (words : List Text) (before 
   tree_how : (opened : TreeTold) (ending : Ending) → run.EndsAs m words before after opened ending → TreeStays (tree before) (tree after)
   tree_how opened ending (run.words_refused not line is same) =
       subst (λ (o : Outside I O T S D). TreeStays (tree before) (tree o)) (sym same) (record { files = refl; later = le_refl (m.tree_faults before.tree) })
+  tree_how opened ending (run.words_unread due is same) = subst (λ (o : Outside I O T S D). TreeStays (tree before) (tree o)) (sym same) (record { files = refl; later = le_refl (m.tree_faults before.tree) })
   tree_how opened ending (run.tree_failed due asks rose is same) = tree_as opened is asks.asked.stays
   tree_how opened ending (run.graph_unread due asks stays is same) = tree_as opened is asks.asked.stays
   tree_how opened ending (run.graph_refused given line gives refused last is same) = tree_as opened is gives.asks.asked.stays
@@ -197,6 +197,7 @@ module _ {I O T S D : Type 0} (m : Meaning I O T S) (words : List Text) (before 
 
   disk_how : (opened : TreeTold) (ending : Ending) → run.EndsAs m words before after opened ending → after.disk ≡ before.disk
   disk_how opened ending (run.words_refused not line is same) = ap (λ (o : Outside I O T S D). o.disk) same
+  disk_how opened ending (run.words_unread due is same) = ap (λ (o : Outside I O T S D). o.disk) same
   disk_how opened ending (run.tree_failed due asks rose is same) = ap (λ (o : Outside I O T S D). o.disk) same
   disk_how opened ending (run.graph_unread due asks stays is same) = ap (λ (o : Outside I O T S D). o.disk) same
   disk_how opened ending (run.graph_refused given line gives refused last is same) = ap (λ (o : Outside I O T S D). o.disk) same
@@ -212,6 +213,7 @@ module _ {I O T S D : Type 0} (m : Meaning I O T S) (words : List Text) (before 
 
   tools_how : (opened : TreeTold) (ending : Ending) → (m.spawned before.tools).running ≡ [] → run.EndsAs m words before after opened ending → ToolsStay (m.spawned before.tools).answer (m.spawned before.tools) (m.spawned after.tools)
   tools_how opened ending idle (run.words_refused not line is same) = untouched (ap (λ (o : Outside I O T S D). m.spawned o.tools) same) idle
+  tools_how opened ending idle (run.words_unread due is same) = untouched (ap (λ (o : Outside I O T S D). m.spawned o.tools) same) idle
   tools_how opened ending idle (run.tree_failed due asks rose is same) = untouched (ap (λ (o : Outside I O T S D). m.spawned o.tools) same) idle
   tools_how opened ending idle (run.graph_unread due asks stays is same) = untouched (ap (λ (o : Outside I O T S D). m.spawned o.tools) same) idle
   tools_how opened ending idle (run.graph_refused given line gives refused last is same) = untouched (ap (λ (o : Outside I O T S D). m.spawned o.tools) same) idle
@@ -225,6 +227,7 @@ module _ {I O T S D : Type 0} (m : Meaning I O T S) (words : List Text) (before 
 
   idle_how : (opened : TreeTold) (ending : Ending) → (m.spawned before.tools).running ≡ [] → ending ≢ Memory → run.EndsAs m words before after opened ending → (m.spawned after.tools).running ≡ []
   idle_how opened ending idle other (run.words_refused not line is same) = idle_still (ap (λ (o : Outside I O T S D). m.spawned o.tools) same) idle
+  idle_how opened ending idle other (run.words_unread due is same) = idle_still (ap (λ (o : Outside I O T S D). m.spawned o.tools) same) idle
   idle_how opened ending idle other (run.tree_failed due asks rose is same) = idle_still (ap (λ (o : Outside I O T S D). m.spawned o.tools) same) idle
   idle_how opened ending idle other (run.graph_unread due asks stays is same) = idle_still (ap (λ (o : Outside I O T S D). m.spawned o.tools) same) idle
   idle_how opened ending idle other (run.graph_refused given line gives refused last is same) = idle_still (ap (λ (o : Outside I O T S D). m.spawned o.tools) same) idle

@@ -12,7 +12,8 @@ use Rattle.meaning_run.specs.Endings.{input_limit, HasRead, EndsWhole, EndsCutSh
 use Rattle.odin_shell.specs.declared.ending.Ending.{Ending}
 use Rattle.odin_shell.specs.declared.ending.Ending.TheVariants.{Whole, CutShort, BadGraph, Memory, Output, Input, Usage, TooLong}
 use Rattle.odin_shell.specs.Endings.{status_of}
-use Rattle.odin_shell.specs.Words.{graph_word, IsAccepted, usage_line}
+use Rattle.odin_words.specs.Asked.{AsksFor, IsNotAccepted}
+use Rattle.odin_shell.specs.Words.{usage_line}
 use Rattle.odin_shell.specs.Opened.{ReadsAs, IsRefused}
 use Rattle.odin_shell.specs.Language.{commands}
 use Rattle.source_edits.specs.Edits.{TreeTold, IsAsked, tree_of}
@@ -101,10 +102,11 @@ module _ {I O T S D : Type 0} (m : Meaning I O T S) (words : List Text) (before 
   abbrev GraphStayed : TreeTold → Type 0
   GraphStayed opened = opened.faults ≡ m.tree_faults before.tree
 
-  -- The words name the file of a graph, and the tree was asked for it.
+  -- The words ask for the file of a graph, and the tree was asked for it.
   pub record AsksOnce (opened : TreeTold) : Type 0 where
     pub name : Text
-    pub named : graph_word words ≡ Some name
+    pub jobs : ℕ
+    pub named : AsksFor words name jobs
     pub asked : IsAsked (tree before) opened
 
   -- The tree gave this of the file.
@@ -116,7 +118,9 @@ module _ {I O T S D : Type 0} (m : Meaning I O T S) (words : List Text) (before 
   -- Each way to end, from what the tree told behind the reading of the graph. What isn't named in `after ≡ ..` is as it was.
   pub data EndsAs (opened : TreeTold) (ending : Ending) : Type 0 where
     -- the words are refused, by the usage line
-    words_refused : ¬ IsAccepted words → LastLine usage_line Usage (sink before) (sink after) ending → opened ≡ tree before → after ≡ record before { output = after.output } → EndsAs opened ending
+    words_refused : IsNotAccepted words → LastLine usage_line Usage (sink before) (sink after) ending → opened ≡ tree before → after ≡ record before { output = after.output } → EndsAs opened ending
+    -- memory was wanted while the words were read
+    words_unread : ending ≡ Memory → opened ≡ tree before → after ≡ before → EndsAs opened ending
     -- the tree failed
     tree_failed : ending ≡ Input → AsksOnce opened → GraphRose opened → opened ≡ tree after → after ≡ record before { tree = after.tree } → EndsAs opened ending
     -- memory was wanted before the graph was read

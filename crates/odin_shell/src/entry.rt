@@ -1,7 +1,6 @@
 // The entry of the program: its words, its graph, its session and its status.
-ghost use Rattle.std.specs.Prelude.{◌≡◌, ◌≢◌, [], map, string_bytes, option_map};
+ghost use Rattle.std.specs.Prelude.{◌≡◌, ◌≢◌, [], map, string_bytes};
 ghost use Rattle.meaning_graph_text.specs.Grammar.{IsSpellable};
-ghost use Rattle.odin_shell.specs.Words.{graph_word};
 ghost use Rattle.odin_shell.specs.Objects.{sink_of, source_of, told_of, outside, meaning};
 ghost use Rattle.source_edits.specs.Edits.{TreeStays, tree_of};
 ghost use Rattle.odin_shell.specs.Machine.{ToolsStay};
@@ -13,20 +12,11 @@ use crate::graph::{OpenFault, Opened, open_graph};
 use crate::input::serve_input;
 use crate::write::write_whole;
 use odin_outside::{Disk, Sink, Source, Spawner, Tree};
+use odin_words::read_words;
 use std::alloc::Global;
 use type_graph::Graph;
 
-const USAGE: &[u8] = b"usage: odin [--jobs N] GRAPH, or odin [--jobs N] --load N\n";
-
-/// The name of the graph's file, where the words are the program's name and it.
-fn graph_named(words: &[String]) -> Option<&str>
-    ensures { option_map (λ name. name.now) result ≡ graph_word (map string_bytes words.now) }
-{
-    match words {
-        [_, graph] => Some(graph.as_str()),
-        _ => None,
-    }
-}
+const USAGE: &[u8] = b"usage: odin [--jobs N] GRAPH\n";
 
 /// Writes a last line where an ending is due.
 fn end_with<O: Sink>(output: &mut O, line: &[u8], due: Ending) -> Ending
@@ -80,10 +70,12 @@ fn run_words<I: Source, O: Sink, T: Tree, D: Disk, S: Spawner>(
         let after = outside input.new output.new tree.new tools.new disk.new in
         Ended means (map string_bytes words.now) before after result }
 {
-    let Some(name) = graph_named(words) else {
-        return end_with(output, USAGE, Ending::Usage);
+    let asked = match read_words(alloc, words) {
+        Ok(Some(asked)) => asked,
+        Ok(None) => return end_with(output, USAGE, Ending::Usage),
+        Err(_) => return Ending::Memory,
     };
-    match open_graph(alloc, tree, name.as_bytes()) {
+    match open_graph(alloc, tree, asked.graph.as_bytes()) {
         Ok(Opened::Ready(graph)) => serve_graph(alloc, graph, input, output, tree, tools, disk),
         Ok(Opened::Refused(line)) => end_with(output, line.as_slice(), Ending::BadGraph),
         Err(OpenFault::Tree) => Ending::Input,

@@ -1,5 +1,5 @@
 -- What the words of the program ask for.
-use Rattle.std.specs.Prelude.{◌≡◌, ◌≢◌, ◌≤◌, ◌<◌, ℕ, List, [], Option, Some, None, codes, decimal}
+use Rattle.std.specs.Prelude.{◌≡◌, ◌≤◌, ℕ, List, [], Option, Some, None, codes, decimal}
 use Rattle.clap.specs.Words.{Row, fault_of, matches_of, first_of}
 use Rattle.odin_words.specs.Command.{command}
 

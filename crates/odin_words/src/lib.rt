@@ -12,6 +12,8 @@ use object_values::Memory;
 use odin_bytes::read_number;
 use std::alloc::Global;
 
+pub mod laws;
+
 /// How many tools may run at once, at most.
 pub const MOST_JOBS: u64 = 64;
 

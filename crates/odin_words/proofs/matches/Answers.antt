@@ -1,7 +1,6 @@
-use Rattle.std.proofs.Common.{rules, ap, ap₂, refl, true, codes, ◌≡◌, ◌≢◌, ◌∙◌, ◌⊎◌, sym, subst, inl, inr, [], ◌∷◌, Ok, Err, Result, IfOk, IfErr, List, map, string_bytes}
-use Rattle.std.proofs.lemmas.Result.{IfErr-weaker, IfOk-weaker}
-use Rattle.clap.specs.Words.{App, app_of, fault_of, is_simple, is_simple_and_free, kind_of, matches_of, new_app, new_rule, rule_of, with_rule, Kinds, IsAmong, FailsBy, Text}
-use Rattle.clap.specs.declared.builder.Command.{Command}
+use Rattle.std.proofs.Common.{rules, ap, ap₂, refl, true, ◌≡◌, ◌≢◌, ◌∙◌, subst, inl, inr, [], Ok, Err, Result, IfOk, IfErr, List, map, string_bytes}
+use Rattle.std.proofs.lemmas.Result.{IfOk-weaker}
+use Rattle.clap.specs.Words.{App, app_of, fault_of, is_simple, is_simple_and_free, kind_of, matches_of, rule_of, with_rule, Kinds, IsAmong, FailsBy, Text}
 use Rattle.clap.specs.declared.error.Error.{Error}
 use Rattle.clap.specs.declared.error.ErrorKind.TheVariants.{OutOfMemory}
 use Rattle.clap.specs.Simple.{app_of_fields}

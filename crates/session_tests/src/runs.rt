@@ -1,13 +1,27 @@
 // Runs over objects in memory, for the tests.
 ghost use Rattle.std.specs.Prelude.{◌≡◌, ◌<◌, []};
 
-use super::graphs::FILES;
-use super::tree_of;
-use object_values::{Bytes, Memory, Seq};
-use odin_fakes::{MemDisk, MemSink, MemSource, TableTools};
+use object_values::{Bytes, FileBody, Memory, Seq, Text};
+use odin_fakes::{MemDisk, MemSink, MemSource, MemTree, TableTools};
 use odin_outside::{Sink, Source, Spawner, Tree};
 use odin_shell::run;
 use std::alloc::Global;
+
+/// A tool `cc` makes an object `o` of a source `c`.
+pub const CC_ONLY: &[u8] =
+    b"type c simple;\ntype o simple;\nsuffix .c c;\ntool cc 1 from c to o run \"cc\";\n";
+
+/// A tree that holds these files, each a name with its bytes.
+pub fn tree_of(alloc: Global, listed: &[(&[u8], &[u8])]) -> Result<MemTree, Memory> {
+    let mut files = Seq::new(alloc);
+    for (name, body) in listed {
+        files.push(FileBody {
+            name: Bytes::from_slice(alloc, name)?,
+            body: Text::of(Bytes::from_slice(alloc, body)?)?,
+        })?;
+    }
+    Ok(MemTree::new(files))
+}
 
 /// A list of one number.
 pub fn only(alloc: Global, number: u32) -> Result<Seq<u32>, Memory> {
@@ -47,7 +61,7 @@ pub fn with_taken(alloc: Global, status: u8, taken: &[u8]) -> Result<(u8, Vec<u8
 }
 
 /// The status of a run over an empty disk.
-fn status_over<I: Source, O: Sink, T: Tree, S: Spawner>(
+pub fn status_over<I: Source, O: Sink, T: Tree, S: Spawner>(
     alloc: Global,
     words: &[String],
     input: &mut I,
@@ -61,19 +75,7 @@ fn status_over<I: Source, O: Sink, T: Tree, S: Spawner>(
     Ok(run(alloc, words, input, output, tree, &mut disk, tools))
 }
 
-/// The status of a run with these words over the program's graphs and the toy tools.
-pub fn status_of<I: Source, O: Sink>(
-    alloc: Global,
-    words: &[String],
-    input: &mut I,
-    output: &mut O,
-) -> Result<u8, Memory> {
-    let mut tree = tree_of(alloc, &FILES)?;
-    let mut tools = TableTools::toy(alloc, Seq::new(alloc));
-    status_over(alloc, words, input, output, &mut tree, &mut tools)
-}
-
-/// The same with words that are lent.
+/// The status of a run with these words over a tree that holds the graph `g0` alone, and the toy tools.
 pub fn status_with<I: Source, O: Sink>(
     alloc: Global,
     words: &[&str],
@@ -81,7 +83,16 @@ pub fn status_with<I: Source, O: Sink>(
     output: &mut O,
 ) -> Result<u8, Memory> {
     let owned = owned(alloc, words)?;
-    status_of(alloc, owned.as_slice(), input, output)
+    let mut tree = tree_of(alloc, &[(b"g0", CC_ONLY)])?;
+    let mut tools = TableTools::toy(alloc, Seq::new(alloc));
+    status_over(
+        alloc,
+        owned.as_slice(),
+        input,
+        output,
+        &mut tree,
+        &mut tools,
+    )
 }
 
 /// The status and the output of a run over this tree and these tools, read and written in such pieces.

@@ -1,7 +1,8 @@
 // Whole runs over a runtime in memory, whose input comes in two pieces.
-use super::runs::owned;
-use super::serve;
-use object_values::Memory;
+use super::runs::{CC_ONLY, owned, status_over, tree_of};
+use object_values::{Memory, Seq};
+use odin_fakes::TableTools;
+use odin_real::{InputSource, OutputSink};
 use std::alloc::{Allocator, Global};
 use std::cell::RefCell;
 use std::fmt::Display;
@@ -55,7 +56,24 @@ impl Print for MemRuntime {
     }
 }
 
-// The status and what was written of a run over this graph's file, with an input in these two pieces.
+// The status of a run over the runtime's input and output, with a graph and the toy tools in memory.
+fn serve(rt: &MemRuntime, alloc: Global) -> Result<u8, Memory> {
+    let words = owned(alloc, &["odin", "g0"])?;
+    let mut input = InputSource::new(rt.reader());
+    let mut output = OutputSink::new(io::writer(rt));
+    let mut tree = tree_of(alloc, &[(b"g0", CC_ONLY)])?;
+    let mut tools = TableTools::toy(alloc, Seq::new(alloc));
+    status_over(
+        alloc,
+        words.as_slice(),
+        &mut input,
+        &mut output,
+        &mut tree,
+        &mut tools,
+    )
+}
+
+// The status and what was written of a run with an input in these two pieces.
 fn served(
     alloc: Global,
     front: &'static [u8],
@@ -66,8 +84,7 @@ fn served(
         back,
         taken: RefCell::new(Vec::new(alloc)),
     };
-    let words = owned(alloc, &["odin", "g0"])?;
-    let status = serve(&rt, alloc, words.as_slice())?;
+    let status = serve(&rt, alloc)?;
     Ok((status, rt.taken.into_inner()))
 }
 

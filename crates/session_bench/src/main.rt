@@ -1,0 +1,57 @@
+//! A session over files and tools in memory: something to measure. Its words, its input and its output are those of the program.
+#![tactic(auto)]
+
+mod graphs;
+
+use graphs::FILES;
+use object_values::{Bytes, FileBody, Memory, Seq, Text};
+use odin_fakes::{MemDisk, MemTree, TableTools};
+use odin_real::{InputSource, OutputSink};
+use odin_shell::run;
+use std::alloc::Global;
+use std::process::ExitCode;
+use std::{env, io};
+
+/// The tree, which holds the sample graphs.
+fn sample_tree(alloc: Global) -> Result<MemTree, Memory> {
+    let mut files = Seq::new(alloc);
+    for (name, body) in &FILES {
+        files.push(FileBody {
+            name: Bytes::from_slice(alloc, name)?,
+            body: Text::of(Bytes::from_slice(alloc, body)?)?,
+        })?;
+    }
+    Ok(MemTree::new(files))
+}
+
+/// The exit status of a session over the standard input and output.
+fn serve(rt: &HostRuntime, alloc: Global, words: &[String]) -> Result<u8, Memory> {
+    let mut input = InputSource::new(rt.reader());
+    let mut output = OutputSink::new(io::writer(rt));
+    let mut tree = sample_tree(alloc)?;
+    let mut disk = MemDisk::new(alloc, Bytes::new(alloc), 0, 0)?;
+    let mut tools = TableTools::toy(alloc, Seq::new(alloc));
+    Ok(run(
+        alloc,
+        words,
+        &mut input,
+        &mut output,
+        &mut tree,
+        &mut disk,
+        &mut tools,
+    ))
+}
+
+/// Words that are no text count as none. Want of memory has the status 4.
+fn main(rt: HostRuntime) -> ExitCode {
+    let alloc = rt.alloc();
+    let words = match env::args(&rt) {
+        Ok(args) => args.collect(alloc),
+        Err(_) => Ok(Vec::new(alloc)),
+    };
+    let status = match words {
+        Ok(words) => serve(&rt, alloc, words.as_slice()).unwrap_or(4),
+        Err(_) => 4,
+    };
+    ExitCode::from(status)
+}
