@@ -1,0 +1,11 @@
+mod Fronts
+mod RecordFronts
+mod Payloads
+mod Loading
+mod Takes
+mod Images
+mod Refusals
+mod Alone
+mod Stores
+mod Writing
+mod NewTexts

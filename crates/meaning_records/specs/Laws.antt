@@ -1,0 +1,65 @@
+-- What the laws of kept records say.
+use Rattle.std.specs.Prelude.{◌≡◌, ◌⊎◌, ℕ, ◌≤◌, List, [], ◌∷◌, ◌++◌, length, Option, Some, IsSome, IsNone}
+use Rattle.std.specs.FinMap as map
+use Rattle.object_values.specs.declared.views.Value.{Value}
+use Rattle.object_values.specs.declared.calls.Call.{Call}
+use Rattle.object_values.specs.declared.calls.Outcome.{Outcome}
+use Rattle.object_sources.specs.Texts.{Text, Texts}
+use Rattle.meaning_texts.specs.Classes.{IsName}
+use Rattle.meaning_texts.specs.Limits.{body_limit}
+use Rattle.meaning_calls.specs.Jobs.{IsWellFormed}
+use Rattle.meaning_calls.specs.Outcomes.{OutcomeFits}
+use Rattle.meaning_records.specs.declared.items.Item.{Item}
+use Rattle.meaning_store.specs.Images.{AreRecords}
+use Rattle.meaning_records.specs.Forms.{IsOfOneThing}
+use Rattle.meaning_records.specs.Records.{item}
+use Rattle.meaning_records.specs.Tables.{Calls, kept_outcome}
+use Rattle.meaning_records.specs.Batches.{graph_batch, IsPutBatch, drop_batch, IsCallBatch}
+use Rattle.meaning_records.specs.States.{State, TakesAll, Reads}
+use Rattle.meaning_records.specs.Stands.{Stands, StandsNot, gate_behind}
+
+-- What an item is spelled tells the item, and where it ends.
+abbrev pub ItemsAreOne : Type 0
+ItemsAreOne = IsOfOneThing item
+
+-- A payload reads in one way at most behind what is kept.
+abbrev pub ReadsInOneWay : Type 0
+ReadsInOneWay = (old : State) (payload : List ℕ) (new other : State) → Reads old payload new → Reads old payload other → other ≡ new
+
+-- An image stands for one thing at most. Where it stands for one it has no offset at which it doesn't, and it has one such offset at most.
+pub record StandsForOne : Type 0 where
+  pub one : (image : List ℕ) (state other : State) → Stands image state → Stands image other → other ≡ state
+  pub none : (image : List ℕ) (at : ℕ) (state : State) → StandsNot image at → ¬ Stands image state
+  pub place : (image : List ℕ) (at other : ℕ) → StandsNot image at → StandsNot image other → other ≡ at
+
+-- Each image stands for something, or has such an offset.
+abbrev pub EachStandsOrNot : Type 0
+EachStandsOrNot = (image : List ℕ) → ((state : State) × Stands image state) ⊎ ((at : ℕ) × StandsNot image at)
+
+-- the gates of records that follow each other
+abbrev pub GatesFollow : Type 0
+GatesFollow = (image : List ℕ) (gate end : ℕ) (records : List (List ℕ)) → AreRecords image gate records end → end ≡ gate_behind gate records
+
+-- ---- what a store writes
+
+-- These items read behind what is kept. Nothing is lost of the contents, and these calls, sources and graph are kept then.
+pub record ReadAs (old : State) (items : List Item) (calls : Calls) (sources : Texts) (graph : Option Text) : Type 0 where
+  pub new : State
+  pub taken : TakesAll old items new
+  pub more : List Value
+  pub contents_are : new.tables.contents ≡ old.tables.contents ++ more
+  pub calls_are : new.tables.calls ≡ calls
+  pub sources_are : new.sources ≡ sources
+  pub graph_is : new.graph ≡ graph
+
+-- Each batch that a store writes reads as what it was asked for.
+pub record BatchesRead : Type 0 where
+  pub graph : (old : State) (text : Text) → ReadAs old (graph_batch text) old.tables.calls old.sources (Some text)
+  pub put : (old : State) (name text : Text) (items : List Item) → IsName name → length text ≤ body_limit
+      → IsPutBatch old.tables.contents name text items
+      → ReadAs old items old.tables.calls (map.insert old.sources name text) old.graph
+  pub drop : (old : State) (name : Text) → IsName name → IsSome (map.get old.sources name)
+      → ReadAs old (drop_batch name) old.tables.calls (map.remove old.sources name) old.graph
+  pub call : (old : State) (call : Call) (outcome : Outcome) (items : List Item) → IsWellFormed call → OutcomeFits call outcome
+      → IsNone (kept_outcome old.tables.calls call) → IsCallBatch old.tables.contents call outcome items
+      → ReadAs old items (old.tables.calls ++ (call, outcome) ∷ []) old.sources old.graph

@@ -1,0 +1,13 @@
+pub mod Forms
+pub mod Records
+pub mod FormLemmas
+pub mod PlaceLemmas
+pub mod Tables
+pub mod States
+pub mod Stands
+pub mod Batches
+pub mod Laws
+pub mod ByteExamples
+pub mod ItemExamples
+pub mod ImageExamples
+pub mod BatchExamples

@@ -1,0 +1,60 @@
+-- What the payloads of a store file make of what is kept: a payload is one batch, one or more items with nothing behind them.
+use Rattle.std.specs.Prelude.{◌≡◌, ◌≢◌, ℕ, List, [], ◌∷◌, Option, Some, None, IsSome}
+use Rattle.std.specs.List.{flat_map, All}
+use Rattle.std.specs.FinMap as map
+use Rattle.object_values.specs.declared.views.Value.{Value}
+use Rattle.object_sources.specs.Texts.{Text, Texts, no_texts}
+use Rattle.meaning_records.specs.declared.items.Item.{Item}
+use Rattle.meaning_records.specs.declared.items.Item.TheVariants.{Graph, Put, Dropped}
+use Rattle.meaning_records.specs.Records.{item}
+use Rattle.meaning_records.specs.Tables.{Tables, IsText, Loads}
+
+-- what is kept: the tables, the sources, and the text of the last graph
+pub record State : Type 0 where
+  pub tables : Tables
+  pub sources : Texts
+  pub graph : Option Text
+
+-- nothing
+abbrev pub nothing : State
+nothing = record { tables = record { contents = []; calls = [] }; sources = no_texts; graph = None }
+
+-- ---- items
+
+-- What an item makes of the sources. A source that is dropped is there.
+abbrev pub Edits : List Value → Item → Texts → Texts → Type 0
+Edits contents (Put name number) old new = (text : Text) × IsText contents number text × (new ≡ map.insert old name text)
+Edits contents (Dropped name) old new = IsSome (map.get old name) × (new ≡ map.remove old name)
+Edits contents other old new = new ≡ old
+
+abbrev pub graph_after : Item → Option Text → Option Text
+graph_after (Graph text) old = Some text
+graph_after other old = old
+
+-- An item may come behind what is kept, and this is kept then.
+pub record Takes (old : State) (it : Item) (new : State) : Type 0 where
+  pub loads : Loads old.tables it new.tables
+  pub edits : Edits old.tables.contents it old.sources new.sources
+  pub graph : new.graph ≡ graph_after it old.graph
+
+abbrev pub TakesAll : State → List Item → State → Type 0
+TakesAll old [] new = new ≡ old
+TakesAll old (it ∷ items) new = (next : State) × Takes old it next × TakesAll next items new
+
+-- ---- payloads
+
+-- the bytes of a batch
+abbrev pub spell_batch : List Item → List ℕ
+spell_batch = flat_map item.spell
+
+-- A payload reads behind what is kept, and this is kept then.
+pub record Reads (old : State) (payload : List ℕ) (new : State) : Type 0 where
+  pub items : List Item
+  pub some : items ≢ []
+  pub fit : All item.fits items
+  pub spelled : payload ≡ spell_batch items
+  pub taken : TakesAll old items new
+
+abbrev pub ReadsAll : State → List (List ℕ) → State → Type 0
+ReadsAll old [] new = new ≡ old
+ReadsAll old (payload ∷ payloads) new = (next : State) × Reads old payload next × ReadsAll next payloads new

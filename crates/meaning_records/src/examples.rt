@@ -1,0 +1,80 @@
+//! Worked examples of records. Each is the contract of a function with an empty body.
+ghost use Rattle.meaning_records.specs.ByteExamples.{BytesOfItems, FirstPut, StandsBetween, UnnamedNumbers, NoBatches};
+ghost use Rattle.meaning_records.specs.ItemExamples.{EditsThatRead, EditsThatDoNot, TablesThatTell, LongContents, CallsThatRead, CallsThatDoNot};
+ghost use Rattle.meaning_records.specs.BatchExamples.{BatchesOfPuts, BatchesOfCalls};
+ghost use Rattle.meaning_records.specs.ImageExamples.{WorkedStores, WorkedFaults};
+
+/// An item of each kind, byte for byte.
+pub fn bytes_of_items()
+    ensures { BytesOfItems }
+{}
+
+/// The first put of an empty text over a store that holds a graph alone.
+pub fn first_put()
+    ensures { FirstPut }
+{}
+
+/// A thing between other bytes.
+pub fn stands_between()
+    ensures { StandsBetween }
+{}
+
+/// Numbers that stand for nothing where a number tells what follows.
+pub fn unnamed_numbers()
+    ensures { UnnamedNumbers }
+{}
+
+/// Payloads that are no batch.
+pub fn no_batches()
+    ensures { NoBatches }
+{}
+
+/// Graphs, contents and edits of sources that read behind what is kept.
+pub fn edits_that_read()
+    ensures { EditsThatRead }
+{}
+
+/// Edits of sources that don't.
+pub fn edits_that_do_not()
+    ensures { EditsThatDoNot }
+{}
+
+/// Items that the tables alone let in, or not.
+pub fn tables_that_tell()
+    ensures { TablesThatTell }
+{}
+
+/// Contents at the limit of their length.
+pub fn long_contents()
+    ensures { LongContents }
+{}
+
+/// Calls that may be kept.
+pub fn calls_that_read()
+    ensures { CallsThatRead }
+{}
+
+/// Calls that may not be kept.
+pub fn calls_that_do_not()
+    ensures { CallsThatDoNot }
+{}
+
+/// What a store writes for a put.
+pub fn batches_of_puts()
+    ensures { BatchesOfPuts }
+{}
+
+/// What a store writes for a call: the texts that it needs and the file hasn't, each once.
+pub fn batches_of_calls()
+    ensures { BatchesOfCalls }
+{}
+
+/// Store files with their sizes, and what they stand for.
+pub fn worked_stores()
+    ensures { WorkedStores }
+{}
+
+/// Files that stand for nothing, each with its offset.
+pub fn worked_faults()
+    ensures { WorkedFaults }
+{}

@@ -1,0 +1,32 @@
+//! Laws of what an image stands for. Each is the contract of a function with an empty body.
+ghost use Rattle.meaning_records.specs.Laws.{ItemsAreOne, ReadsInOneWay, StandsForOne, EachStandsOrNot, GatesFollow, BatchesRead};
+
+/// What an item is spelled tells the item, and where it ends.
+pub fn items_are_one()
+    ensures { ItemsAreOne }
+{}
+
+/// A payload reads in one way at most behind what is kept.
+pub fn reads_in_one_way()
+    ensures { ReadsInOneWay }
+{}
+
+/// An image stands for one thing at most, or for none and then at one offset.
+pub fn stands_for_one()
+    ensures { StandsForOne }
+{}
+
+/// Each image stands for something, or has an offset at which it doesn't.
+pub fn each_stands_or_not()
+    ensures { EachStandsOrNot }
+{}
+
+/// The gate behind whole records is where their lengths lead.
+pub fn gates_follow()
+    ensures { GatesFollow }
+{}
+
+/// Each batch that a store writes reads as what it was asked for.
+pub fn batches_read()
+    ensures { BatchesRead }
+{}
