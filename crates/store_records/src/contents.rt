@@ -1,0 +1,41 @@
+// Contents: the record of a value, as bytes with their length.
+ghost use Rattle.std.specs.Prelude.{◌≡◌, ◌++◌, OnOk, IfOk, IfSome, IfNone};
+ghost use Rattle.meaning_records.specs.Forms.{StandsAt, StandsNowhere};
+ghost use Rattle.meaning_records.specs.Records.{content};
+
+use crate::fields::take_body;
+use crate::recorded::Recorded;
+use object_values::{Bytes, Memory, Value};
+use odin_bytes::put_u32;
+use std::alloc::Global;
+
+pub fn put_content(value: &Value, out: &mut Bytes) -> Result<(), Memory>
+    ensures ok { OnOk result (out.new ≡ out.old ++ content.spell value.now) }
+    ensures fits { OnOk result (content.fits value.now) }
+{
+    let before = out.len();
+    value.put(out)?;
+    let length = out.len() - before;
+    if length > u32::MAX as usize {
+        return Err(Memory);
+    }
+    out.truncate(before);
+    put_u32(out, length as u32)?;
+    value.put(out)
+}
+
+pub fn take_content(alloc: Global, from: &[u8], at: usize) -> Result<Option<(Value, usize)>, Memory>
+    ensures some { IfOk result (λ taken. IfSome taken (λ t. StandsAt content from.now at t.1 t.0)) }
+    ensures none { IfOk result (λ taken. IfNone taken (StandsNowhere content from.now at)) }
+{
+    let Some((start, end)) = take_body(from, at) else {
+        return Ok(None);
+    };
+    let Some((value, behind)) = Value::take(alloc, from, start)? else {
+        return Ok(None);
+    };
+    if behind != end {
+        return Ok(None);
+    }
+    Ok(Some((value, end)))
+}

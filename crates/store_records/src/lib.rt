@@ -1,0 +1,15 @@
+//! The records of a store file, written and read.
+#![tactic(auto)]
+
+mod batches;
+mod calls;
+mod contents;
+mod fields;
+mod groups;
+mod items;
+mod nodes;
+mod recorded;
+
+pub use batches::write_batch;
+pub use meaning_records::items::{Item, StoredCall, StoredOutcome, StoredOutput, StoredPart};
+pub use recorded::Recorded;

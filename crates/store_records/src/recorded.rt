@@ -1,0 +1,26 @@
+// What has a form in store files.
+ghost use Rattle.std.specs.Prelude.{◌≡◌, ◌++◌, OnOk, IfOk, IfSome, IfNone};
+ghost use Rattle.meaning_records.specs.Forms.{Form, IsOfOneThing, StandsAt, StandsNowhere};
+
+use object_values::{Bytes, Memory};
+use std::alloc::Global;
+
+/// A thing with a form in store files. docs/STORE.md has the table of forms.
+pub trait Recorded: Sized + Drop {
+    ghost form: { Form Self };
+
+    /// Adds the record of the thing at the end. A length or a count that isn't below 2^32 is answered as want of memory, and what was added by then is
+    /// to be thrown away.
+    fn put(&self, out: &mut Bytes) -> Result<(), Memory>
+        ensures ok { OnOk result (out.new ≡ out.old ++ form.spell self.now) }
+        ensures fits { OnOk result (form.fits self.now) };
+
+    /// The thing at a place, and the place behind it. `None` exactly where none stands there.
+    fn take(alloc: Global, from: &[u8], at: usize) -> Result<Option<(Self, usize)>, Memory>
+        ensures some { IfOk result
+            (λ taken. IfSome taken (λ t. StandsAt form from.now at t.1 t.0)) }
+        ensures none { IfOk result (λ taken. IfNone taken (StandsNowhere form from.now at)) };
+
+    /// A spelling is of one thing, and says where it ends.
+    ghost one: { IsOfOneThing form };
+}
