@@ -1,0 +1,3 @@
+mod BodyLemmas
+mod IndexLemmas
+pub mod Lemmas

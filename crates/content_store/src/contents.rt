@@ -1,0 +1,194 @@
+// Bodies by number.
+ghost use Rattle.std.specs.Prelude.{◌≡◌, ◌≢◌, ◌↔◌, ◌<◌, ◌∷◌, ◌++◌, [], All, IfOk, IfNone, IfSome, IsTrue, None, OnErr, OnOk, Some, length, slice_get};
+ghost use Rattle.content_store.specs.Bodies.{AreOnce, place_of, with_body};
+
+use crate::keying::Keying;
+use object_values::{Bytes, Copied, Memory, Text};
+use std::alloc::Global;
+use std::collections::HashMap;
+use std::marker::{Model, PhantomData};
+
+/// Bodies, each once, numbered from 0 in the order in which they came. A body is looked up by its
+/// key, and what is found there is compared byte by byte.
+pub struct Contents<K: Keying> {
+    bodies: Vec<Text>,
+    // the number of the first body that has the key
+    first: HashMap<[u8; 32], u64>,
+    // the numbers of the bodies whose key an earlier one has
+    clashing: Vec<u64>,
+    keying: PhantomData<K>,
+}
+
+impl<K: Keying> Drop for Contents<K> {
+    fn drop(self) {
+        let Contents {
+            bodies,
+            first,
+            clashing,
+            keying: _,
+        } = self;
+        drop(bodies);
+        drop(first);
+        drop(clashing);
+    }
+}
+
+impl<K: Keying> Model for Contents<K> {
+    ghost use Rattle.std.specs.Prelude.{nat_eq};
+    ghost use Rattle.std.specs.Cmp.Lexicographic.{pointwise};
+    ghost use Rattle.std.specs.HashMap.{get};
+    ghost use Rattle.content_store.specs.Bodies.{Bodies};
+    ghost use Rattle.content_store.specs.Index.{IsIndex};
+
+    ghost Value = { Bodies };
+
+    ghost view = { λ c. c.bodies.items };
+
+    ghost invariant = { λ c.
+        IsIndex K.key_of c.bodies.items (get (pointwise nat_eq) c.first) c.clashing.items };
+}
+
+impl<K: Keying> Contents<K> {
+    pub fn new(alloc: Global) -> Self
+        ensures { result ≡ [] }
+    {
+        Contents {
+            bodies: Vec::new(alloc),
+            first: HashMap::new(alloc),
+            clashing: Vec::new(alloc),
+            keying: PhantomData,
+        }
+    }
+
+    pub fn len(&self) -> u64
+        ensures { result ≡ length self.now }
+    {
+        self.bodies.len() as u64
+    }
+
+    /// The body that has the number.
+    pub fn text(&self, id: u64) -> &Text
+        requires { id < length self.now }
+        ensures { Some result.now ≡ slice_get self.now id }
+    {
+        &self.bodies[id as usize]
+    }
+
+    /// The bytes of the body that has the number.
+    pub fn get(&self, id: u64) -> &[u8]
+        requires { id < length self.now }
+        ensures { Some result.now ≡ slice_get self.now id }
+    {
+        self.text(id).as_slice()
+    }
+
+    /// The number of the body.
+    pub fn find(&self, body: &[u8]) -> Option<u64>
+        ensures { result ≡ place_of body.now self.now }
+    {
+        self.find_keyed(&K::key(body), body)
+    }
+
+    /// The number of the body, which is shared where it is new and then has the next number.
+    pub fn intern(&mut self, alloc: Global, body: &Text) -> Result<u64, Memory>
+        ensures number { IfOk result (λ id. place_of body.now self.new ≡ Some id) }
+        ensures bodies { OnOk result (self.new ≡ with_body body.now self.old) }
+        ensures err { OnErr result (self.new ≡ self.old) }
+    {
+        let key = K::key(body.as_slice());
+        if let Some(id) = self.find_keyed(&key, body.as_slice()) {
+            return Ok(id);
+        }
+        let copy = body.copy(alloc)?;
+        self.add(key, copy)
+    }
+
+    /// The same for bytes, which are copied where they are new.
+    pub fn intern_slice(&mut self, alloc: Global, body: &[u8]) -> Result<u64, Memory>
+        ensures number { IfOk result (λ id. place_of body.now self.new ≡ Some id) }
+        ensures bodies { OnOk result (self.new ≡ with_body body.now self.old) }
+        ensures err { OnErr result (self.new ≡ self.old) }
+    {
+        let key = K::key(body);
+        if let Some(id) = self.find_keyed(&key, body) {
+            return Ok(id);
+        }
+        let copy = Text::of(Bytes::from_slice(alloc, body)?)?;
+        self.add(key, copy)
+    }
+
+    /// Each body stands there once.
+    pub fn once(&self)
+        ensures { AreOnce self.now }
+    {
+        let _ = &self.bodies;
+    }
+
+    // The number of the body that has this key.
+    fn find_keyed(&self, key: &[u8; 32], body: &[u8]) -> Option<u64>
+        requires { key.now ≡ K.key_of body.now }
+        ensures { result ≡ place_of body.now self.now }
+    {
+        match self.first.get(key) {
+            Some(id) => find_from(&self.bodies, *id, &self.clashing, body),
+            None => None,
+        }
+    }
+
+    // Puts a body that stands nowhere behind the others.
+    #[tactic(auto, using(crate::proofs::BodyLemmas::place_new))]
+    fn add(&mut self, key: [u8; 32], body: Text) -> Result<u64, Memory>
+        requires keyed { key ≡ K.key_of body }
+        requires fresh { place_of body self.old ≡ None }
+        ensures number { IfOk result (λ id. place_of body self.new ≡ Some id) }
+        ensures bodies { OnOk result (self.new ≡ self.old ++ body ∷ []) }
+        ensures err { OnErr result (self.new ≡ self.old) }
+    {
+        let next = self.len();
+        self.bodies.reserve(1)?;
+        if self.first.contains_key(&key) {
+            self.clashing.push(next)?;
+        } else {
+            self.first.insert(key, next)?;
+        }
+        self.bodies.push(body)?;
+        Ok(next)
+    }
+}
+
+// Whether the number's body is this one.
+fn is_body(bodies: &[Text], id: u64, body: &[u8]) -> bool
+    requires { id < length bodies.now }
+    ensures { IsTrue result ↔ (slice_get bodies.now id ≡ Some body.now) }
+{
+    bodies[id as usize].as_slice() == body
+}
+
+// Which of the first number and the others has this body.
+fn find_from(bodies: &[Text], first: u64, others: &[u64], body: &[u8]) -> Option<u64>
+    requires first { first < length bodies.now }
+    requires others { All (λ id. id < length bodies.now) others.now }
+    ensures some { IfSome result (λ id. slice_get bodies.now id ≡ Some body.now) }
+    ensures not_first { IfNone result (slice_get bodies.now first ≢ Some body.now) }
+    ensures not_others { IfNone result
+        (All (λ id. slice_get bodies.now id ≢ Some body.now) others.now) }
+{
+    if is_body(bodies, first, body) {
+        return Some(first);
+    }
+    find_among(bodies, others, body)
+}
+
+// The first of the numbers whose body is this one.
+fn find_among(bodies: &[Text], ids: &[u64], body: &[u8]) -> Option<u64>
+    requires { All (λ id. id < length bodies.now) ids.now }
+    ensures some { IfSome result (λ id. slice_get bodies.now id ≡ Some body.now) }
+    ensures none { IfNone result (All (λ id. slice_get bodies.now id ≢ Some body.now) ids.now) }
+{
+    for id in ids {
+        if is_body(bodies, *id, body) {
+            return Some(*id);
+        }
+    }
+    None
+}
