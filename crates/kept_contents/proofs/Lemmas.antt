@@ -1,0 +1,6 @@
+-- The lemmas that other crates may cite.
+-- Texts that a batch adds.
+pub use Rattle.kept_contents.proofs.Batched.{adds_append, added_once, added_from, added_new, parts_stay}
+-- What numbers stand for is one thing.
+pub use Rattle.kept_contents.proofs.Resolved.{one_text, one_call, one_outcome}
+pub use Rattle.kept_contents.proofs.Numbers.{next_number}

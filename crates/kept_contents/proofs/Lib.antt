@@ -1,0 +1,5 @@
+mod Items
+mod Numbers
+mod Resolved
+mod Batched
+pub mod Lemmas

@@ -1,0 +1,24 @@
+-- The contents of a journal in memory.
+use Rattle.std.specs.Prelude.{◌≡◌, ⊤, ℕ, List, Option, Some, length, slice_get}
+use Rattle.object_values.specs.declared.views.Value.{Value}
+use Rattle.object_values.specs.declared.views.Value.TheVariants.{Simple, List as Listed, Compound}
+use Rattle.content_store.specs.Bodies.{Bodies, place_of}
+use Rattle.meaning_records.specs.Tables.{IsText}
+
+-- the contents, the texts by their numbers in memory, and for how many contents more there is room
+pub record Stock : Type 0 where
+  pub contents : List Value
+  pub texts : Bodies
+  pub room : ℕ
+
+-- a list or a compound
+abbrev pub IsOther : Value → Type 0
+IsOther (Simple text) = ⊥
+IsOther (Listed nodes) = ⊤
+IsOther (Compound parts) = ⊤
+
+-- Each text leads to a content where it is one, and to no other.
+pub record IsNumbered (contents : List Value) (texts : Bodies) (numbers : List (Option ℕ)) : Type 0 where
+  pub long : length numbers ≡ length texts
+  pub right : (id number : ℕ) → slice_get numbers id ≡ Some (Some number) → (text : List ℕ) × (place_of text texts ≡ Some id) × IsText contents number text
+  pub whole : (number : ℕ) (text : List ℕ) → IsText contents number text → (id : ℕ) × (found : ℕ) × (place_of text texts ≡ Some id) × (slice_get numbers id ≡ Some (Some found))

@@ -1,0 +1,212 @@
+// From texts to the numbers of a record: those of contents that the file has, and of those that a batch adds behind them.
+ghost use Rattle.std.specs.Prelude.{◌≡◌, ◌≢◌, ◌+◌, All, IfNone, IfOk, IfSome, OnOk, slice_get, Some};
+ghost use Rattle.meaning_records.specs.Tables.{IsText, IsPartOf, ArePartsOf, IsCallOf, IsOutputOf, AreOutputsOf, IsOutcomeOf};
+ghost use Rattle.kept_contents.specs.declared.shared.Shared.{Shared as SharedValue};
+ghost use Rattle.meaning_records.specs.Batches.{body_of};
+ghost use Rattle.kept_contents.specs.Added.{AddsOne, Adds, AreHeld, contents_with, texts_of, texts_of_parts, texts_of_outputs};
+
+use crate::shared::Shared;
+use crate::table::ContentTable;
+use meaning_records::items::{StoredCall, StoredOutcome, StoredOutput, StoredPart};
+use object_values::{Call, CallPart, Copied, Memory, Outcome, Part, Seq, Text, copy_five};
+use std::alloc::Global;
+
+/// The number of a text, which is added where neither the file nor the batch has it.
+pub fn number_text(
+    alloc: Global,
+    table: &mut ContentTable,
+    added: &mut Seq<Shared>,
+    text: &Text,
+) -> Result<u32, Memory>
+    requires { AreHeld table.old.texts added.old }
+    ensures number { IfOk result (λ n.
+        IsText (contents_with table.new.contents added.new) n text.now) }
+    ensures adds { OnOk result
+        (AddsOne table.old.contents text.now (texts_of added.old) (texts_of added.new)) }
+    ensures held { OnOk result (AreHeld table.new.texts added.new) }
+    ensures contents { table.new.contents ≡ table.old.contents }
+{
+    if let Some(number) = table.number(text.as_slice()) {
+        return Ok(number);
+    }
+    let shared = table.share(alloc, text)?;
+    if let Some(place) = place_in(added.as_slice(), shared.id) {
+        return number_behind(table.len(), place);
+    }
+    let place = added.len();
+    added.push(shared)?;
+    number_behind(table.len(), place)
+}
+
+// The place of the text that has this number in memory.
+fn place_in(added: &[Shared], id: u64) -> Option<usize>
+    ensures some { IfSome result (λ place.
+        (s : SharedValue) × (slice_get added.now place ≡ Some s) × (s.id ≡ id)) }
+    ensures none { IfNone result (All (λ (s : SharedValue). s.id ≢ id) added.now) }
+{
+    for (place, shared) in added.iter().enumerate() {
+        if shared.id == id {
+            return Some(place);
+        }
+    }
+    None
+}
+
+// The number of the content at a place behind so many.
+fn number_behind(len: usize, place: usize) -> Result<u32, Memory>
+    ensures { IfOk result (λ number. number ≡ len + place) }
+{
+    match len.checked_add(place) {
+        Some(number) if number <= u32::MAX as usize => Ok(number as u32),
+        _ => Err(Memory),
+    }
+}
+
+/// A call by the numbers of its inputs.
+pub fn stored_call(
+    alloc: Global,
+    table: &mut ContentTable,
+    added: &mut Seq<Shared>,
+    call: &Call,
+) -> Result<StoredCall, Memory>
+    requires { AreHeld table.old.texts added.old }
+    ensures call { IfOk result (λ stored.
+        IsCallOf (contents_with table.new.contents added.new) stored call.now) }
+    ensures adds { OnOk result (Adds table.old.contents (texts_of_parts call.now.parts)
+        (texts_of added.old) (texts_of added.new)) }
+    ensures held { OnOk result (AreHeld table.new.texts added.new) }
+    ensures contents { table.new.contents ≡ table.old.contents }
+{
+    let parts = number_parts(alloc, table, added, call.parts.as_slice())?;
+    let copied = copy_five(
+        alloc,
+        &call.tool,
+        &call.version,
+        &call.words,
+        &call.params,
+        &call.outs,
+    )?;
+    let (tool, version, words, params, outs) = copied;
+    Ok(StoredCall {
+        tool,
+        version,
+        words,
+        params,
+        parts,
+        outs,
+    })
+}
+
+/// An outcome by the numbers of its outputs.
+pub fn stored_outcome(
+    alloc: Global,
+    table: &mut ContentTable,
+    added: &mut Seq<Shared>,
+    outcome: &Outcome,
+) -> Result<StoredOutcome, Memory>
+    requires { AreHeld table.old.texts added.old }
+    ensures outcome { IfOk result (λ stored.
+        IsOutcomeOf (contents_with table.new.contents added.new) stored outcome.now) }
+    ensures adds { OnOk result (Adds table.old.contents (texts_of_outputs outcome.now.outputs)
+        (texts_of added.old) (texts_of added.new)) }
+    ensures held { OnOk result (AreHeld table.new.texts added.new) }
+    ensures contents { table.new.contents ≡ table.old.contents }
+{
+    let outputs = number_outputs(alloc, table, added, outcome.outputs.as_slice())?;
+    let lines = outcome.lines.copy(alloc)?;
+    Ok(StoredOutcome {
+        status: outcome.status,
+        lines,
+        outputs,
+    })
+}
+
+// The inputs of a call by number.
+fn number_parts(
+    alloc: Global,
+    table: &mut ContentTable,
+    added: &mut Seq<Shared>,
+    parts: &[CallPart],
+) -> Result<Seq<StoredPart>, Memory>
+    requires { AreHeld table.old.texts added.old }
+    ensures parts { IfOk result (λ stored.
+        ArePartsOf (contents_with table.new.contents added.new) stored parts.now) }
+    ensures adds { OnOk result (Adds table.old.contents (texts_of_parts parts.now)
+        (texts_of added.old) (texts_of added.new)) }
+    ensures held { OnOk result (AreHeld table.new.texts added.new) }
+    ensures contents { table.new.contents ≡ table.old.contents }
+{
+    let mut stored = Seq::new(alloc);
+    for part in parts {
+        stored.push(number_part(alloc, table, added, part)?)?;
+    }
+    Ok(stored)
+}
+
+fn number_part(
+    alloc: Global,
+    table: &mut ContentTable,
+    added: &mut Seq<Shared>,
+    part: &CallPart,
+) -> Result<StoredPart, Memory>
+    requires { AreHeld table.old.texts added.old }
+    ensures part { IfOk result (λ stored.
+        IsPartOf (contents_with table.new.contents added.new) stored part.now) }
+    ensures adds { OnOk result (Adds table.old.contents (body_of part.now.body)
+        (texts_of added.old) (texts_of added.new)) }
+    ensures held { OnOk result (AreHeld table.new.texts added.new) }
+    ensures contents { table.new.contents ≡ table.old.contents }
+{
+    let content = match &part.body {
+        Some(text) => Some(number_text(alloc, table, added, text)?),
+        None => None,
+    };
+    Ok(StoredPart {
+        slot: part.slot,
+        label: part.label.copy(alloc)?,
+        content,
+    })
+}
+
+// The outputs of an outcome by number.
+fn number_outputs(
+    alloc: Global,
+    table: &mut ContentTable,
+    added: &mut Seq<Shared>,
+    outputs: &[Part],
+) -> Result<Seq<StoredOutput>, Memory>
+    requires { AreHeld table.old.texts added.old }
+    ensures outputs { IfOk result (λ stored.
+        AreOutputsOf (contents_with table.new.contents added.new) stored outputs.now) }
+    ensures adds { OnOk result (Adds table.old.contents (texts_of_outputs outputs.now)
+        (texts_of added.old) (texts_of added.new)) }
+    ensures held { OnOk result (AreHeld table.new.texts added.new) }
+    ensures contents { table.new.contents ≡ table.old.contents }
+{
+    let mut stored = Seq::new(alloc);
+    for output in outputs {
+        stored.push(number_output(alloc, table, added, output)?)?;
+    }
+    Ok(stored)
+}
+
+fn number_output(
+    alloc: Global,
+    table: &mut ContentTable,
+    added: &mut Seq<Shared>,
+    output: &Part,
+) -> Result<StoredOutput, Memory>
+    requires { AreHeld table.old.texts added.old }
+    ensures output { IfOk result (λ stored.
+        IsOutputOf (contents_with table.new.contents added.new) stored output.now) }
+    ensures adds { OnOk result (AddsOne table.old.contents output.now.body
+        (texts_of added.old) (texts_of added.new)) }
+    ensures held { OnOk result (AreHeld table.new.texts added.new) }
+    ensures contents { table.new.contents ≡ table.old.contents }
+{
+    let content = number_text(alloc, table, added, &output.body)?;
+    Ok(StoredOutput {
+        name: output.name.copy(alloc)?,
+        content,
+    })
+}

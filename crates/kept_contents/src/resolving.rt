@@ -1,0 +1,172 @@
+// From the numbers of a record to its texts.
+ghost use Rattle.std.specs.Prelude.{◌≡◌, List, IfNone, IfOk, IfSome};
+ghost use Rattle.object_values.specs.declared.calls.Call.{Call as CallValue};
+ghost use Rattle.object_values.specs.declared.calls.CallPart.{CallPart as PartValue};
+ghost use Rattle.object_values.specs.declared.calls.Outcome.{Outcome as OutcomeValue};
+ghost use Rattle.object_values.specs.declared.views.Part.{Part as OutputValue};
+ghost use Rattle.meaning_records.specs.Tables.{IsPartOf, ArePartsOf, IsCallOf, IsOutputOf, AreOutputsOf, IsOutcomeOf};
+
+use crate::table::ContentTable;
+use meaning_records::items::{StoredCall, StoredOutcome, StoredOutput, StoredPart};
+use object_values::{Call, CallPart, Copied, Memory, Outcome, Part, Seq};
+use std::alloc::Global;
+
+/// The call of a record, whose inputs share the texts of the table. `None` where a content isn't there or is no text.
+pub fn call_of(
+    alloc: Global,
+    table: &ContentTable,
+    stored: StoredCall,
+) -> Result<Option<Call>, Memory>
+    ensures some { IfOk result (λ found. IfSome found (IsCallOf table.now.contents stored)) }
+    ensures none { IfOk result (λ found.
+        IfNone found ((call : CallValue) → ¬ IsCallOf table.now.contents stored call)) }
+{
+    match parts_of(alloc, table, stored.parts.as_slice())? {
+        Some(parts) => Ok(Some(with_parts(stored, parts))),
+        None => Ok(None),
+    }
+}
+
+// The call with these inputs.
+fn with_parts(stored: StoredCall, parts: Seq<CallPart>) -> Call
+    ensures { result ≡ record {
+      tool = stored.tool;
+      version = stored.version;
+      words = stored.words;
+      params = stored.params;
+      parts = parts;
+      outs = stored.outs;
+    } }
+{
+    let StoredCall {
+        tool,
+        version,
+        words,
+        params,
+        parts: numbers,
+        outs,
+    } = stored;
+    drop(numbers);
+    Call {
+        tool,
+        version,
+        words,
+        params,
+        parts,
+        outs,
+    }
+}
+
+fn parts_of(
+    alloc: Global,
+    table: &ContentTable,
+    stored: &[StoredPart],
+) -> Result<Option<Seq<CallPart>>, Memory>
+    ensures some { IfOk result (λ found. IfSome found (ArePartsOf table.now.contents stored.now)) }
+    ensures none { IfOk result (λ found. IfNone found
+        ((parts : List PartValue) → ¬ ArePartsOf table.now.contents stored.now parts)) }
+{
+    let mut parts = Seq::new(alloc);
+    for part in stored {
+        match part_of(alloc, table, part)? {
+            Some(made) => parts.push(made)?,
+            None => return Ok(None),
+        }
+    }
+    Ok(Some(parts))
+}
+
+fn part_of(
+    alloc: Global,
+    table: &ContentTable,
+    stored: &StoredPart,
+) -> Result<Option<CallPart>, Memory>
+    ensures some { IfOk result (λ found. IfSome found (IsPartOf table.now.contents stored.now)) }
+    ensures none { IfOk result (λ found.
+        IfNone found ((part : PartValue) → ¬ IsPartOf table.now.contents stored.now part)) }
+{
+    let body = match stored.content {
+        Some(number) => match table.text(number) {
+            Some(text) => Some(text.copy(alloc)?),
+            None => return Ok(None),
+        },
+        None => None,
+    };
+    Ok(Some(CallPart {
+        slot: stored.slot,
+        label: stored.label.copy(alloc)?,
+        body,
+    }))
+}
+
+/// The outcome of a record, whose outputs share the texts of the table. `None` where a content isn't there or is no text.
+pub fn outcome_of(
+    alloc: Global,
+    table: &ContentTable,
+    stored: StoredOutcome,
+) -> Result<Option<Outcome>, Memory>
+    ensures some { IfOk result (λ found. IfSome found (IsOutcomeOf table.now.contents stored)) }
+    ensures none { IfOk result (λ found.
+        IfNone found ((outcome : OutcomeValue) → ¬ IsOutcomeOf table.now.contents stored outcome)) }
+{
+    match outputs_of(alloc, table, stored.outputs.as_slice())? {
+        Some(outputs) => Ok(Some(with_outputs(stored, outputs))),
+        None => Ok(None),
+    }
+}
+
+// The outcome with these outputs.
+fn with_outputs(stored: StoredOutcome, outputs: Seq<Part>) -> Outcome
+    ensures { result ≡ record { status = stored.status; lines = stored.lines; outputs = outputs } }
+{
+    let StoredOutcome {
+        status,
+        lines,
+        outputs: numbers,
+    } = stored;
+    drop(numbers);
+    Outcome {
+        status,
+        lines,
+        outputs,
+    }
+}
+
+fn outputs_of(
+    alloc: Global,
+    table: &ContentTable,
+    stored: &[StoredOutput],
+) -> Result<Option<Seq<Part>>, Memory>
+    ensures some { IfOk result (λ found.
+        IfSome found (AreOutputsOf table.now.contents stored.now)) }
+    ensures none { IfOk result (λ found. IfNone found
+        ((outputs : List OutputValue) → ¬ AreOutputsOf table.now.contents stored.now outputs)) }
+{
+    let mut outputs = Seq::new(alloc);
+    for output in stored {
+        match output_of(alloc, table, output)? {
+            Some(made) => outputs.push(made)?,
+            None => return Ok(None),
+        }
+    }
+    Ok(Some(outputs))
+}
+
+fn output_of(
+    alloc: Global,
+    table: &ContentTable,
+    stored: &StoredOutput,
+) -> Result<Option<Part>, Memory>
+    ensures some { IfOk result (λ found. IfSome found (IsOutputOf table.now.contents stored.now)) }
+    ensures none { IfOk result (λ found.
+        IfNone found ((output : OutputValue) → ¬ IsOutputOf table.now.contents stored.now output)) }
+{
+    let Some(text) = table.text(stored.content) else {
+        return Ok(None);
+    };
+    let body = text.copy(alloc)?;
+    Ok(Some(Part {
+        name: stored.name.copy(alloc)?,
+        body,
+    }))
+}

@@ -1,0 +1,151 @@
+-- Batches that are prepared: their items, and what these make of the tables.
+use Rattle.std.proofs.Common.{◌≡◌, ◌≤◌, ℕ, List, [], ◌∷◌, ◌++◌, inl, inr, length, map, append-nil, append_assoc, ap, sym, ◌∙◌, subst, refl}
+use Rattle.std.specs.Prelude.{Option, Some, None, IfSome, reverse, Result, Ok, Err, IfOk}
+use Rattle.object_values.specs.declared.views.Part.{Part}
+use Rattle.object_values.specs.declared.views.Value.{Value}
+use Rattle.object_values.specs.declared.views.Value.TheVariants.{Simple}
+use Rattle.object_values.specs.declared.calls.CallPart.{CallPart}
+use Rattle.object_values.specs.declared.calls.Call.{Call}
+use Rattle.object_values.specs.declared.calls.Outcome.{Outcome}
+use Rattle.meaning_texts.specs.Classes.{IsName}
+use Rattle.meaning_texts.specs.Limits.{body_limit}
+use Rattle.meaning_texts.specs.Lists.{IsIn}
+use Rattle.meaning_texts.proofs.Lemmas.{in_either, from_map, from_flat, in_all, all_in}
+use Rattle.meaning_calls.specs.Jobs.{IsWellFormed, IsPartOfClass}
+use Rattle.meaning_calls.specs.Outcomes.{OutcomeFits}
+use Rattle.meaning_records.specs.declared.items.StoredCall.{StoredCall}
+use Rattle.meaning_records.specs.declared.items.StoredOutcome.{StoredOutcome}
+use Rattle.meaning_records.specs.declared.items.Item.{Item}
+use Rattle.meaning_records.specs.declared.items.Item.TheVariants.{Content, Put, Kept}
+use Rattle.meaning_records.specs.Tables.{Tables, IsText, IsNoText, IsCallOf, IsOutcomeOf, LoadsAll, Calls, with_content, with_call}
+use Rattle.meaning_records.specs.Batches.{contents_of, body_of, needed_texts, IsPutBatch, IsCallBatch}
+use Rattle.kept_contents.specs.declared.shared.Shared.{Shared}
+use Rattle.kept_contents.specs.Added.{texts_of, texts_of_parts, texts_of_outputs, contents_with, AddsOne, Adds}
+use Rattle.kept_contents.proofs.Lemmas.{added_once, added_from, added_new, next_number, parts_stay}
+use Rattle.kept_tables.specs.Holdings.{Holding, Batch, MayKeep, Makes, PreparesSome, items_with, with_batch, with_calls, calls_of}
+
+abbrev Texts : Type 0
+Texts = List (List ℕ)
+
+abbrev AreShort : Texts → Type 0
+AreShort texts = (t : List ℕ) → IsIn t texts → length t ≤ body_limit
+
+-- the tables with contents more
+abbrev with_contents : Tables → List Value → Tables
+with_contents tables more = record { contents = tables.contents ++ more; calls = tables.calls }
+
+-- contents come first, and then the rest
+loads_contents : (tables : Tables) (texts : Texts) (rest : List Item) (next : Tables) → AreShort texts → LoadsAll (with_contents tables (contents_of texts)) rest next → LoadsAll tables (map Content (contents_of texts) ++ rest) next
+loads_contents tables [] rest next short loads = subst (λ (l : List Value). LoadsAll (record { contents = l; calls = tables.calls }) rest next) (append-nil tables.contents) loads
+loads_contents tables (t ∷ texts) rest next short loads = (
+  with_content (Simple t) tables,
+  (short t (inl refl), refl),
+  loads_contents (with_content (Simple t) tables) texts rest next (λ u i. short u (inr i)) (subst (λ (l : List Value). LoadsAll (record { contents = l; calls = tables.calls }) rest next) (sym (append_assoc tables.contents (Simple t ∷ []) (contents_of texts))) loads),
+)
+
+-- ---- a call
+
+short_body : (t : List ℕ) (body : Option (List ℕ)) → IfSome body (λ (b : List ℕ). length b ≤ body_limit) → IsIn t (body_of body) → length t ≤ body_limit
+short_body t None short i = absurd i
+short_body t (Some b) short (inl e) = subst (λ (x : List ℕ). length x ≤ body_limit) (sym e) short
+short_body t (Some b) short (inr i) = absurd i
+
+needed_short : (call : Call) (outcome : Outcome) → IsWellFormed call → OutcomeFits call outcome → AreShort (needed_texts call outcome)
+needed_short call outcome formed fits t i = elim (in_either t (texts_of_parts call.parts) (texts_of_outputs outcome.outputs) i) [
+  | inl k ↦
+      let f = from_flat (λ (p : CallPart). body_of p.body) t call.parts k in
+      short_body t f.0.body (in_all IsPartOfClass call.parts formed.parts f.0 f.1).body f.2
+  | inr k ↦
+      let f = from_map (λ (o : Part). o.body) t outcome.outputs k in
+      subst (λ (x : List ℕ). length x ≤ body_limit) (sym f.2) (in_all (λ (p : Part). length p.body ≤ body_limit) outcome.outputs fits.short f.0 f.1)
+]
+
+module _ (old kept : Holding) (same : kept.tables ≡ old.tables) (added : List Shared) (batch : Batch) where
+  module _ (call : Call) (outcome : Outcome) (may : MayKeep old.tables call outcome) (adds : Adds old.tables.contents (needed_texts call outcome) [] (texts_of added)) (stored : StoredCall) (given : StoredOutcome) (called : IsCallOf (contents_with old.tables.contents added) stored call) (came : IsOutcomeOf (contents_with old.tables.contents added) given outcome) where
+    call_items : IsCallBatch old.tables.contents call outcome (items_with added (Kept stored given))
+    call_items = record {
+      added = texts_of added;
+      once = added_once old.tables.contents (needed_texts call outcome) [] (texts_of added) adds tt;
+      needed = all_in (λ (t : List ℕ). IsIn t (needed_texts call outcome)) (texts_of added) (added_from old.tables.contents (needed_texts call outcome) (texts_of added) adds);
+      new = all_in (λ (t : List ℕ). IsNoText old.tables.contents t) (texts_of added) (added_new old.tables.contents (needed_texts call outcome) (texts_of added) adds);
+      stored = stored;
+      given = given;
+      called = called;
+      came = came;
+      items_are = refl;
+    }
+
+    call_loads : LoadsAll old.tables (items_with added (Kept stored given)) (with_call call outcome (with_contents old.tables (contents_of (texts_of added))))
+    call_loads = loads_contents old.tables (texts_of added) (Kept stored given ∷ []) (with_call call outcome (with_contents old.tables (contents_of (texts_of added))))
+        (λ t i. needed_short call outcome may.formed may.fits t (added_from old.tables.contents (needed_texts call outcome) (texts_of added) adds t i))
+        (with_call call outcome (with_contents old.tables (contents_of (texts_of added))), (call, outcome, record { called = called; came = came; formed = may.formed; fits = may.fits; new = may.new }, refl), refl)
+
+    pub call_prepared : Makes added (Kept stored given) (Some (call, outcome)) kept batch → PreparesSome (IsCallBatch old.tables.contents call outcome) kept batch
+    call_prepared makes = (
+      items_with added (Kept stored given),
+      call_items,
+      record {
+        fit = makes.fit;
+        spelled = makes.spelled;
+        next = with_batch kept.tables batch;
+        loads = rw (same, makes.added_is, makes.call_is) call_loads;
+        commits = makes.commits;
+      },
+    )
+
+  module _ (name text : List ℕ) (named : IsName name) (short : length text ≤ body_limit) (adds : AddsOne old.tables.contents text [] (texts_of added)) (number : ℕ) (is : IsText (contents_with old.tables.contents added) number text) where
+    put_items : IsPutBatch old.tables.contents name text (items_with added (Put name number))
+    put_items = by_adds (texts_of added) adds is
+      where
+        by_adds : (texts : Texts) → AddsOne old.tables.contents text [] texts → IsText (old.tables.contents ++ contents_of texts) number text → IsPutBatch old.tables.contents name text (map Content (contents_of texts) ++ Put name number ∷ [])
+        by_adds texts (inl e) at = inl (number, subst (λ (l : List Value). IsText l number text) (ap (λ (t : Texts). old.tables.contents ++ contents_of t) e ∙ append-nil old.tables.contents) at, ap (λ (t : Texts). map Content (contents_of t) ++ Put name number ∷ []) e)
+        by_adds texts (inr r) at =
+            let next : number ≡ length old.tables.contents = next_number old.tables.contents text number r.2 (subst (λ (t : Texts). IsText (old.tables.contents ++ contents_of t) number text) r.0 at) in
+            inr (r.2, ap (λ (t : Texts). map Content (contents_of t) ++ Put name number ∷ []) r.0 ∙ ap (λ (n : ℕ). Content (Simple text) ∷ Put name n ∷ []) next)
+
+    put_short : AreShort (texts_of added)
+    put_short t i = by_adds (texts_of added) adds i
+      where
+        by_adds : (texts : Texts) → AddsOne old.tables.contents text [] texts → IsIn t texts → length t ≤ body_limit
+        by_adds texts (inl e) h = absurd (subst (IsIn t) e h)
+        by_adds texts (inr r) h = elim (subst (IsIn t) r.0 h) [
+          | inl same_text ↦ subst (λ (x : List ℕ). length x ≤ body_limit) (sym same_text) short
+          | inr none ↦ absurd none
+        ]
+
+    pub put_prepared : Makes added (Put name number) None kept batch → PreparesSome (IsPutBatch old.tables.contents name text) kept batch
+    put_prepared makes = (
+      items_with added (Put name number),
+      put_items,
+      record {
+        fit = makes.fit;
+        spelled = makes.spelled;
+        next = with_batch kept.tables batch;
+        loads = rw (same, makes.added_is, makes.call_is, append-nil old.tables.calls) (loads_contents old.tables (texts_of added) (Put name number ∷ []) (with_contents old.tables (contents_of (texts_of added))) put_short (with_contents old.tables (contents_of (texts_of added)), (named, (text, is), refl), refl));
+        commits = makes.commits;
+      },
+    )
+
+-- ---- answers
+
+pub if_ok : {T E : Type 0} {P Q : T → Type 0} (r : Result T E) → IfOk r P → ((x : T) → P x → Q x) → IfOk r Q
+if_ok (Ok x) p then = then x p
+if_ok (Err e) p then = tt
+
+pub call_stays : (contents : List Value) (xs : Texts) (old new : List Shared) (stored : StoredCall) (call : Call) → Adds contents xs (texts_of old) (texts_of new) → IsCallOf (contents_with contents old) stored call → IsCallOf (contents_with contents new) stored call
+call_stays contents xs old new stored call adds is = record {
+  tool = is.tool;
+  version = is.version;
+  words = is.words;
+  params = is.params;
+  parts = parts_stay contents xs old new stored.parts call.parts adds is.parts;
+  outs = is.outs;
+}
+
+-- ---- taking in
+
+pub committed : (old middle new : Tables) (batch : Batch) (added : List Shared) (call : Option (Call × Outcome)) → added ≡ batch.added → call ≡ batch.call → middle.contents ≡ contents_with old.contents (reverse added) → middle.calls ≡ old.calls → new ≡ with_calls middle (calls_of call) → new ≡ with_batch old batch
+committed old middle new batch added call added_is call_is contents calls new_is =
+    let a : middle.contents ≡ contents_with old.contents (reverse batch.added) = contents ∙ ap (λ (l : List Shared). contents_with old.contents (reverse l)) added_is in
+    let b : middle.calls ++ calls_of call ≡ old.calls ++ calls_of batch.call = ap (λ (l : Calls). l ++ calls_of call) calls ∙ ap (λ (o : Option (Call × Outcome)). old.calls ++ calls_of o) call_is in
+    new_is ∙ (λ i. record { contents = a i; calls = b i })

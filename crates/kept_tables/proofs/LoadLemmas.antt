@@ -1,0 +1,56 @@
+-- What the reading of an item brings, and where it brings nothing.
+use Rattle.std.proofs.Common.{◌≡◌, ℕ, List, subst, refl}
+use Rattle.std.specs.Prelude.{IsNone}
+use Rattle.object_values.specs.declared.calls.Call.{Call}
+use Rattle.object_values.specs.declared.calls.Outcome.{Outcome}
+use Rattle.std.specs.Bool.{Decides}
+use Rattle.meaning_texts.specs.Classes.{IsName, is_name_byte}
+use Rattle.meaning_texts.specs.Tests.{is_name}
+use Rattle.meaning_texts.proofs.Lemmas.{word_decides}
+use Rattle.meaning_calls.specs.Jobs.{IsWellFormed}
+use Rattle.meaning_calls.specs.Outcomes.{OutcomeFits}
+use Rattle.meaning_records.specs.declared.items.StoredCall.{StoredCall}
+use Rattle.meaning_records.specs.declared.items.StoredOutcome.{StoredOutcome}
+use Rattle.meaning_records.specs.declared.items.Item.{Item}
+use Rattle.meaning_records.specs.declared.items.Item.TheVariants.{Kept}
+use Rattle.meaning_records.specs.Forms.{StandsAt, StandsNowhere}
+use Rattle.meaning_records.specs.FormLemmas.{one_item}
+use Rattle.meaning_records.specs.PlaceLemmas.{one_stands}
+use Rattle.meaning_records.specs.Records.{item}
+use Rattle.meaning_records.specs.Tables.{Tables, IsCallOf, IsOutcomeOf, Loads, with_call, kept_outcome}
+use Rattle.kept_contents.proofs.Lemmas.{one_call, one_outcome}
+use Rattle.kept_tables.specs.declared.loaded.Loaded.{Loaded}
+use Rattle.kept_tables.specs.Holdings.{MayKeep}
+use Rattle.kept_tables.specs.Loading.{LoadsItem, LoadsNothing, TakesIn}
+
+module _ (payload : List ℕ) (at : ℕ) (old : Tables) where
+  pub nothing_there : StandsNowhere item payload at → LoadsNothing payload at old
+  nothing_there nowhere it end new stands loads = nowhere it end stands
+
+  pub nothing_taken : (end : ℕ) (it : Item) → StandsAt item payload at end it → ((new : Tables) → Loads old it new → ⊥) → LoadsNothing payload at old
+  nothing_taken end it stood none other last new stands loads =
+      none new (subst (λ (i : Item). Loads old i new) (one_stands item one_item payload at last end other it stands stood).0 loads)
+
+  pub taken : (end : ℕ) (it : Item) (new : Tables) (given : Loaded) → StandsAt item payload at end it → TakesIn it old new given → LoadsItem payload at end given old new
+  taken end it new given stands takes = record { it = it; stands = stands; loads = takes.loads; gives = takes.gives }
+
+module _ (old : Tables) (stored : StoredCall) (given : StoredOutcome) where
+  pub no_call : ((call : Call) → IsCallOf old.contents stored call → ⊥) → (new : Tables) → Loads old (Kept stored given) new → ⊥
+  no_call none new l = none l.0 l.2.called
+
+  pub no_outcome : ((outcome : Outcome) → IsOutcomeOf old.contents given outcome → ⊥) → (new : Tables) → Loads old (Kept stored given) new → ⊥
+  no_outcome none new l = none l.1 l.2.came
+
+  module _ (call : Call) (outcome : Outcome) (called : IsCallOf old.contents stored call) (came : IsOutcomeOf old.contents given outcome) where
+    pub not_kept : (MayKeep old call outcome → ⊥) → (new : Tables) → Loads old (Kept stored given) new → ⊥
+    not_kept unfit new l =
+        let a : l.0 ≡ call = one_call old.contents stored l.0 call l.2.called called in
+        let b : l.1 ≡ outcome = one_outcome old.contents given l.1 outcome l.2.came came in
+        let fits = subst (λ (o : Outcome). OutcomeFits call o) b (subst (λ (c : Call). OutcomeFits c l.1) a l.2.fits) in
+        unfit (record { formed = subst IsWellFormed a l.2.formed; fits = fits; new = subst (λ (c : Call). IsNone (kept_outcome old.calls c)) a l.2.new })
+
+    pub kept : MayKeep old call outcome → Loads old (Kept stored given) (with_call call outcome old)
+    kept may = (call, outcome, record { called = called; came = came; formed = may.formed; fits = may.fits; new = may.new }, refl)
+
+pub name_decides : (text : List ℕ) → Decides (is_name text) (IsName text)
+name_decides = word_decides is_name_byte

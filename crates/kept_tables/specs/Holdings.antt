@@ -1,0 +1,105 @@
+-- What tables hold in memory, and what a batch makes of it that is prepared for them.
+use Rattle.std.specs.Prelude.{◌≡◌, ◌^◌, ◌+◌, ◌<◌, ◌≤◌, ⊤, ℕ, List, [], ◌∷◌, ◌++◌, length, map, reverse, Option, Some, None, IsNone}
+use Rattle.std.specs.List.{All}
+use Rattle.object_values.specs.declared.calls.Call.{Call}
+use Rattle.object_values.specs.declared.calls.Outcome.{Outcome}
+use Rattle.meaning_calls.specs.Jobs.{IsWellFormed}
+use Rattle.meaning_calls.specs.Outcomes.{OutcomeFits}
+use Rattle.content_store.specs.Bodies.{Bodies}
+use Rattle.meaning_records.specs.declared.items.Item.{Item}
+use Rattle.meaning_records.specs.declared.items.Item.TheVariants.{Content}
+use Rattle.meaning_records.specs.Records.{item}
+use Rattle.meaning_records.specs.Batches.{contents_of}
+use Rattle.meaning_records.specs.States.{spell_batch}
+use Rattle.meaning_records.specs.Tables.{Tables, Calls, LoadsAll, kept_outcome}
+use Rattle.kept_contents.specs.declared.shared.Shared.{Shared}
+use Rattle.kept_contents.specs.Added.{AreHeld, contents_with, texts_of}
+
+-- the tables, the texts that are held in memory by their numbers there, and room for contents and calls more
+pub record Holding : Type 0 where
+  pub tables : Tables
+  pub texts : Bodies
+  pub room : ℕ
+  pub call_room : ℕ
+
+-- the bytes of a batch, the texts that it adds, the last one first, and the call that it keeps
+pub record Batch : Type 0 where
+  pub payload : List ℕ
+  pub added : List Shared
+  pub call : Option (Call × Outcome)
+
+abbrev pub calls_of : Option (Call × Outcome) → Calls
+calls_of None = []
+calls_of (Some kept) = kept ∷ []
+
+-- a call that may be kept
+pub record MayKeep (tables : Tables) (call : Call) (outcome : Outcome) : Type 0 where
+  pub formed : IsWellFormed call
+  pub fits : OutcomeFits call outcome
+  pub new : IsNone (kept_outcome tables.calls call)
+
+-- the call of a batch may be kept, and has room
+abbrev pub MayAdd : Holding → Option (Call × Outcome) → Type 0
+MayAdd kept None = ⊤
+MayAdd kept (Some (call, outcome)) = MayKeep kept.tables call outcome × (0 < kept.call_room)
+
+-- the tables with calls more
+abbrev pub with_calls : Tables → Calls → Tables
+with_calls tables more = record { contents = tables.contents; calls = tables.calls ++ more }
+
+-- the tables with what a batch adds
+abbrev pub with_batch : Tables → Batch → Tables
+with_batch tables batch = record { contents = contents_with tables.contents (reverse batch.added); calls = tables.calls ++ calls_of batch.call }
+
+-- Taking this batch into these tables, which prepared it, makes those of them.
+pub record Commits (kept : Holding) (batch : Batch) (next : Tables) : Type 0 where
+  pub held : AreHeld kept.texts batch.added
+  pub room : length batch.added ≤ kept.room
+  pub few : length kept.tables.contents + length batch.added ≤ 2 ^ 32
+  pub call : MayAdd kept batch.call
+  pub next_is : next ≡ with_batch kept.tables batch
+
+-- the call of a batch may be kept
+abbrev pub MayKeepSome : Tables → Option (Call × Outcome) → Type 0
+MayKeepSome tables None = ⊤
+MayKeepSome tables (Some (call, outcome)) = MayKeep tables call outcome
+
+-- the contents of the texts that a batch adds
+abbrev pub items_of_texts : List Shared → List Item
+items_of_texts added = map Content (contents_of (texts_of added))
+
+-- and the item behind them
+abbrev pub items_with : List Shared → Item → List Item
+items_with added last = items_of_texts added ++ last ∷ []
+
+-- A batch has the bytes of these items, and may be taken in.
+pub record Makes (added : List Shared) (last : Item) (call : Option (Call × Outcome)) (kept : Holding) (batch : Batch) : Type 0 where
+  pub fit : All item.fits (items_with added last)
+  pub spelled : batch.payload ≡ spell_batch (items_with added last)
+  pub added_is : reverse batch.added ≡ added
+  pub call_is : batch.call ≡ call
+  pub commits : Commits kept batch (with_batch kept.tables batch)
+
+-- A batch of these items is prepared: its bytes are theirs, they may come behind the tables, and taking it in makes of the tables what they make.
+pub record Prepares (items : List Item) (kept : Holding) (batch : Batch) : Type 0 where
+  pub fit : All item.fits items
+  pub spelled : batch.payload ≡ spell_batch items
+  pub next : Tables
+  pub loads : LoadsAll kept.tables items next
+  pub commits : Commits kept batch next
+
+-- a batch of some such items
+abbrev pub PreparesSome : (List Item → Type 0) → Holding → Batch → Type 0
+PreparesSome IsBatch kept batch = (items : List Item) × IsBatch items × Prepares items kept batch
+
+-- the tables prepared this batch, and have not changed since
+abbrev pub IsPrepared : Holding → Batch → Type 0
+IsPrepared kept batch = (next : Tables) × Commits kept batch next
+
+-- what taking a batch in makes of the tables that prepared it
+abbrev pub IsCommitted : Holding → Batch → Tables → Type 0
+IsCommitted kept batch new = (next : Tables) → Commits kept batch next → new ≡ next
+
+-- a kept call is well formed, and its outcome fits it
+abbrev pub IsKept : Call × Outcome → Type 0
+IsKept kept = IsWellFormed kept.0 × OutcomeFits kept.0 kept.1

@@ -1,0 +1,245 @@
+// The tables of what is kept.
+ghost use Rattle.std.specs.Prelude.{◌≡◌, ◌↔◌, [], List, ℕ, ◌+◌, ◌^◌, ◌<◌, ◌≤◌, All, length, reverse, slice_get, option_map, IfOk, IfSome, IfNone, IsTrue, OnOk};
+ghost use Rattle.object_values.specs.declared.calls.Call.{Call as CallValue};
+ghost use Rattle.object_values.specs.declared.calls.Outcome.{Outcome as OutcomeValue};
+ghost use Rattle.meaning_records.specs.Tables.{IsText, IsCallOf, IsOutcomeOf, kept_outcome, with_call, with_content};
+ghost use Rattle.kept_tables.specs.Loading.{LoadsItem, LoadsNothing};
+ghost use Rattle.indexmap.specs.IndexMap.{insert_entry, spare};
+ghost use Rattle.kept_contents.specs.Added.{AreHeld, contents_with};
+ghost use Rattle.kept_tables.specs.Holdings.{IsCommitted, IsKept, IsPrepared, MayAdd, MayKeep, calls_of, with_calls};
+
+use crate::loaded::Loaded;
+use crate::looks::Looks;
+use crate::prepared::Prepared;
+use call_classes::{fits, is_well_formed};
+use indexmap::IndexMap;
+use kept_contents::{ContentTable, Shared, call_of, outcome_of};
+use object_values::{Call, Copied, Memory, Outcome, Text, Value};
+use std::alloc::Global;
+use std::hash::Hash;
+use std::marker::Model;
+use store_records::{Item, Recorded, StoredCall, StoredOutcome};
+
+/// What is kept: contents, each once, and the calls with their outcomes. A call is looked up by its hash. Contracts see its `Tables`, and what it holds of
+/// them in memory.
+pub struct Kept {
+    pub(crate) contents: ContentTable,
+    pub(crate) calls: IndexMap<Call, Outcome>,
+}
+
+impl Drop for Kept {
+    fn drop(self) {
+        let Kept { contents, calls } = self;
+        drop(contents);
+        drop(calls);
+    }
+}
+
+impl Model for Kept {
+    ghost use Rattle.std.specs.Prelude.{All};
+    ghost use Rattle.indexmap.specs.IndexMap.{spare};
+    ghost use Rattle.kept_tables.specs.Holdings.{Holding, IsKept};
+
+    ghost Value = { Holding };
+
+    ghost view = { λ k. record {
+      tables = record { contents = k.contents.contents; calls = k.calls.entries };
+      texts = k.contents.texts;
+      room = k.contents.room;
+      call_room = spare k.calls;
+    } };
+
+    ghost invariant = { λ k. All IsKept k.calls.entries };
+}
+
+/// A kept call with its outcome.
+#[derive(Drop)]
+pub struct KeptCall {
+    pub call: Call,
+    pub outcome: Outcome,
+}
+
+impl Kept {
+    pub fn new(alloc: Global) -> Self
+        ensures contents { result.tables.contents ≡ [] }
+        ensures calls { result.tables.calls ≡ [] }
+    {
+        Kept {
+            contents: ContentTable::new(alloc),
+            calls: IndexMap::new(alloc),
+        }
+    }
+
+    /// Takes in the item that stands at a place of a payload, and gives what it brings and the place behind it. `None` where no item stands there that
+    /// may come behind what is kept, as far as the tables tell. After `None` or want of memory the tables are used no more.
+    pub fn load_item(
+        &mut self,
+        alloc: Global,
+        payload: &[u8],
+        at: usize,
+    ) -> Result<Option<(Loaded, usize)>, Memory>
+        ensures some { IfOk result (λ read. IfSome read (λ given.
+            LoadsItem payload.now at given.1 given.0 self.old.tables self.new.tables)) }
+        ensures none { IfOk result (λ read. IfNone read
+            (LoadsNothing payload.now at self.old.tables)) }
+    {
+        let Some((item, end)) = Item::take(alloc, payload, at)? else {
+            return Ok(None);
+        };
+        match self.take_in(alloc, item)? {
+            Some(loaded) => Ok(Some((loaded, end))),
+            None => Ok(None),
+        }
+    }
+
+    /// How many calls are kept.
+    pub fn calls(&self) -> u64
+        ensures { result ≡ length self.now.tables.calls }
+    {
+        self.calls.len() as u64
+    }
+
+    /// The call at a place, from 0, in the order in which they were kept.
+    pub fn call_at(&self, alloc: Global, place: u64) -> Result<Option<KeptCall>, Memory>
+        ensures { IfOk result (λ found.
+            option_map (λ k. (k.call, k.outcome)) found ≡ slice_get self.now.tables.calls place) }
+    {
+        match self.calls.get_index(place as usize) {
+            Some((call, outcome)) => {
+                let call = call.copy(alloc)?;
+                let outcome = outcome.copy(alloc)?;
+                Ok(Some(KeptCall { call, outcome }))
+            }
+            None => Ok(None),
+        }
+    }
+
+    /// The outcome that is kept of a call.
+    pub fn outcome(&self, alloc: Global, call: &Call) -> Result<Option<Outcome>, Memory>
+        ensures { IfOk result (λ found. found ≡ kept_outcome self.now.tables.calls call.now) }
+    {
+        match self.calls.get(call) {
+            Some(outcome) => Ok(Some(outcome.copy(alloc)?)),
+            None => Ok(None),
+        }
+    }
+
+    /// Each kept call is well formed, and its outcome fits it.
+    pub fn fit(&self)
+        ensures { All IsKept self.now.tables.calls }
+    {
+        let _ = &self.calls;
+    }
+
+    /// Lends the tables.
+    pub fn looks(&self) -> Looks<'_>
+        ensures { result.kept.now.tables ≡ self.now.tables }
+    {
+        Looks { kept: self }
+    }
+
+    /// Takes a batch in that these tables prepared. It takes no memory.
+    pub fn commit(&mut self, prepared: Prepared)
+        requires { IsPrepared self.old prepared }
+        ensures { IsCommitted self.old prepared self.new.tables }
+    {
+        let (added, call) = prepared.into_parts();
+        self.add_texts(added);
+        self.add_call(call);
+    }
+
+    // Adds texts that are held, the last of the list first.
+    fn add_texts(&mut self, added: Vec<Shared>)
+        requires held { AreHeld self.old.texts added.items }
+        requires room { length added.items ≤ self.old.room }
+        requires few { length self.old.tables.contents + length added.items ≤ 2 ^ 32 }
+        ensures contents { self.new.tables.contents
+            ≡ contents_with self.old.tables.contents (reverse added.items) }
+        ensures calls { self.new.tables.calls ≡ self.old.tables.calls }
+        ensures room { self.new.call_room ≡ self.old.call_room }
+    {
+        self.contents.push_all(added);
+    }
+
+    // Keeps the call of a batch, where it has one.
+    fn add_call(&mut self, call: Option<(Call, Outcome)>)
+        requires { MayAdd self.old call }
+        ensures { self.new.tables ≡ with_calls self.old.tables (calls_of call) }
+    {
+        match call {
+            Some((call, outcome)) => self.add_kept(call, outcome),
+            None => {}
+        }
+    }
+
+    // Keeps a call for which there is room.
+    fn add_kept(&mut self, call: Call, outcome: Outcome)
+        requires may { MayKeep self.old.tables call outcome }
+        requires room { 0 < self.old.call_room }
+        ensures { self.new.tables ≡ with_call call outcome self.old.tables }
+    {
+        insert_within(&mut self.calls, call, outcome);
+    }
+
+    // The text that is the content of a number.
+    pub(crate) fn text(&self, number: u32) -> Option<&Text>
+        ensures some { IfSome result (λ text. IsText self.now.tables.contents number text.now) }
+        ensures none { IfNone result
+            ((text : List ℕ) → ¬ IsText self.now.tables.contents number text) }
+    {
+        self.contents.text(number)
+    }
+
+    pub(crate) fn add_content(&mut self, alloc: Global, value: Value) -> Result<(), Memory>
+        ensures { OnOk result (self.new.tables ≡ with_content value self.old.tables) }
+    {
+        self.contents.add(alloc, value)
+    }
+
+    pub(crate) fn call_of(&self, alloc: Global, stored: StoredCall) -> Result<Option<Call>, Memory>
+        ensures some { IfOk result (λ found.
+            IfSome found (IsCallOf self.now.tables.contents stored)) }
+        ensures none { IfOk result (λ found. IfNone found
+            ((call : CallValue) → ¬ IsCallOf self.now.tables.contents stored call)) }
+    {
+        call_of(alloc, &self.contents, stored)
+    }
+
+    pub(crate) fn outcome_of(
+        &self,
+        alloc: Global,
+        stored: StoredOutcome,
+    ) -> Result<Option<Outcome>, Memory>
+        ensures some { IfOk result (λ found.
+            IfSome found (IsOutcomeOf self.now.tables.contents stored)) }
+        ensures none { IfOk result (λ found. IfNone found
+            ((outcome : OutcomeValue) → ¬ IsOutcomeOf self.now.tables.contents stored outcome)) }
+    {
+        outcome_of(alloc, &self.contents, stored)
+    }
+
+    /// Whether a call may be kept with this outcome: it is well formed, the outcome fits it, and it isn't kept.
+    pub fn may_keep(&self, call: &Call, outcome: &Outcome) -> bool
+        ensures { IsTrue result ↔ MayKeep self.now.tables call.now outcome.now }
+    {
+        is_well_formed(call) && fits(call, outcome) && !self.calls.contains_key(call)
+    }
+
+    // Keeps a call that isn't kept.
+    pub(crate) fn keep(&mut self, call: Call, outcome: Outcome) -> Result<(), Memory>
+        requires { MayKeep self.old.tables call outcome }
+        ensures { OnOk result (self.new.tables ≡ with_call call outcome self.old.tables) }
+    {
+        self.calls.reserve(1)?;
+        self.add_kept(call, outcome);
+        Ok(())
+    }
+}
+
+// Puts in an entry for which there is room.
+fn insert_within<K: Eq + Hash + Drop, V: Drop>(map: &mut IndexMap<K, V>, key: K, value: V)
+    requires { 0 < spare map.old }
+    ensures { map.new.entries ≡ insert_entry K.eq map.old.entries key value }
+{
+    let _ = map.insert(key, value);
+}

@@ -1,0 +1,15 @@
+//! What is kept, in memory: contents, each once, and the calls with their outcomes. An item of the store file is taken in as it is read, and a batch is made
+//! whole, with all memory that its taking in needs, before it is written.
+#![tactic(auto)]
+
+mod kept;
+mod loaded;
+mod loading;
+mod looks;
+mod prepared;
+mod preparing;
+
+pub use kept::{Kept, KeptCall};
+pub use loaded::Loaded;
+pub use looks::Looks;
+pub use prepared::Prepared;

@@ -1,0 +1,123 @@
+// Items of the file, taken in as they are read.
+ghost use Rattle.std.specs.Prelude.{◌≤◌, ◌↔◌, All, IfNone, IfOk, IfSome, IsTrue, length};
+ghost use Rattle.object_values.specs.declared.views.Part.{Part as PartValue};
+ghost use Rattle.meaning_texts.specs.Classes.{IsName};
+ghost use Rattle.meaning_texts.specs.Limits.{body_limit};
+ghost use Rattle.meaning_records.specs.declared.items.Item.TheVariants as item;
+ghost use Rattle.meaning_records.specs.Tables.{Tables, IsShort, Loads};
+ghost use Rattle.kept_tables.specs.Loading.{TakesIn};
+
+use crate::kept::Kept;
+use crate::loaded::Loaded;
+use object_values::{BODY_LIMIT, Bytes, Copied, Memory, Part, Value};
+use odin_bytes::is_name;
+use std::alloc::Global;
+use store_records::{Item, StoredCall, StoredOutcome};
+
+// Whether no simple value and no part is longer than the limit.
+fn is_short(value: &Value) -> bool
+    ensures { IsTrue result ↔ IsShort value.now }
+{
+    match value {
+        Value::Simple(text) => text.len() <= BODY_LIMIT,
+        Value::List(_) => true,
+        Value::Compound(parts) => are_short(parts.as_slice()),
+    }
+}
+
+// Whether the bytes are a name.
+#[tactic(auto, using(crate::proofs::LoadLemmas::name_decides))]
+fn has_name(bytes: &Bytes) -> bool
+    ensures { IsTrue result ↔ IsName bytes.now }
+{
+    is_name(bytes.as_slice())
+}
+
+fn are_short(parts: &[Part]) -> bool
+    ensures { IsTrue result ↔ All (λ (p : PartValue). length p.body ≤ body_limit) parts.now }
+{
+    parts.iter().all(|part| part.body.len() <= BODY_LIMIT)
+}
+
+impl Kept {
+    // Takes an item in, and gives what it brings. `None` where it may not come behind these tables.
+    pub(crate) fn take_in(&mut self, alloc: Global, item: Item) -> Result<Option<Loaded>, Memory>
+        ensures some { IfOk result (λ read.
+            IfSome read (TakesIn item self.old.tables self.new.tables)) }
+        ensures none { IfOk result (λ read. IfNone read
+            ((new : Tables) → ¬ Loads self.old.tables item new)) }
+    {
+        match item {
+            Item::Graph(text) => Ok(Some(Loaded::Graph(text))),
+            Item::Content(value) => self.take_content(alloc, value),
+            Item::Put(name, number) => self.take_put(alloc, name, number),
+            Item::Dropped(name) => Ok(self.take_dropped(name)),
+            Item::Kept(call, outcome) => self.take_call(alloc, call, outcome),
+        }
+    }
+
+    fn take_content(&mut self, alloc: Global, value: Value) -> Result<Option<Loaded>, Memory>
+        ensures some { IfOk result (λ read. IfSome read
+            (TakesIn (item.Content value) self.old.tables self.new.tables)) }
+        ensures none { IfOk result (λ read. IfNone read (¬ IsShort value)) }
+    {
+        if !is_short(&value) {
+            return Ok(None);
+        }
+        self.add_content(alloc, value)?;
+        Ok(Some(Loaded::Content))
+    }
+
+    fn take_put(&self, alloc: Global, name: Bytes, number: u32) -> Result<Option<Loaded>, Memory>
+        ensures some { IfOk result (λ read. IfSome read
+            (TakesIn (item.Put name number) self.now.tables self.now.tables)) }
+        ensures none { IfOk result (λ read. IfNone read
+            ((new : Tables) → ¬ Loads self.now.tables (item.Put name number) new)) }
+    {
+        if !has_name(&name) {
+            return Ok(None);
+        }
+        match self.text(number) {
+            Some(text) => {
+                let text = text.copy(alloc)?;
+                Ok(Some(Loaded::Put(name, text)))
+            }
+            None => Ok(None),
+        }
+    }
+
+    fn take_dropped(&self, name: Bytes) -> Option<Loaded>
+        ensures some { IfSome result (TakesIn (item.Dropped name) self.now.tables self.now.tables) }
+        ensures none { IfNone result
+            ((new : Tables) → ¬ Loads self.now.tables (item.Dropped name) new) }
+    {
+        if !has_name(&name) {
+            return None;
+        }
+        Some(Loaded::Dropped(name))
+    }
+
+    fn take_call(
+        &mut self,
+        alloc: Global,
+        stored: StoredCall,
+        given: StoredOutcome,
+    ) -> Result<Option<Loaded>, Memory>
+        ensures some { IfOk result (λ read. IfSome read
+            (TakesIn (item.Kept stored given) self.old.tables self.new.tables)) }
+        ensures none { IfOk result (λ read. IfNone read
+            ((new : Tables) → ¬ Loads self.old.tables (item.Kept stored given) new)) }
+    {
+        let Some(call) = self.call_of(alloc, stored)? else {
+            return Ok(None);
+        };
+        let Some(outcome) = self.outcome_of(alloc, given)? else {
+            return Ok(None);
+        };
+        if !self.may_keep(&call, &outcome) {
+            return Ok(None);
+        }
+        self.keep(call, outcome)?;
+        Ok(Some(Loaded::CallKept))
+    }
+}

@@ -1,0 +1,58 @@
+// A batch that is ready to be written and taken in.
+ghost use Rattle.std.specs.Prelude.{◌≡◌};
+
+use kept_contents::Shared;
+use object_values::{Bytes, Call, Outcome};
+use std::marker::Model;
+
+/// The bytes of a batch, with all that its taking in wants of memory.
+pub struct Prepared {
+    pub(crate) payload: Bytes,
+    // the texts that are added, the last one first
+    pub(crate) added: Vec<Shared>,
+    pub(crate) call: Option<(Call, Outcome)>,
+}
+
+impl Drop for Prepared {
+    fn drop(self) {
+        let Prepared {
+            payload,
+            added,
+            call,
+        } = self;
+        drop(payload);
+        drop(added);
+        drop(call);
+    }
+}
+
+impl Model for Prepared {
+    ghost use Rattle.kept_tables.specs.Holdings.{Batch};
+
+    ghost Value = { Batch };
+
+    ghost view = { λ p. record { payload = p.payload; added = p.added.items; call = p.call } };
+}
+
+impl Prepared {
+    /// The bytes of the batch.
+    pub fn payload(&self) -> &[u8]
+        ensures { result.now ≡ self.now.payload }
+    {
+        self.payload.as_slice()
+    }
+
+    // The texts, the last one first, and the call.
+    pub(crate) fn into_parts(self) -> (Vec<Shared>, Option<(Call, Outcome)>)
+        ensures added { result.0.items ≡ self.added }
+        ensures call { result.1 ≡ self.call }
+    {
+        let Prepared {
+            payload,
+            added,
+            call,
+        } = self;
+        drop(payload);
+        (added, call)
+    }
+}
