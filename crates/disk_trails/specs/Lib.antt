@@ -1,0 +1,4 @@
+pub mod Trails
+pub mod TrailLemmas
+pub mod WorkLemmas
+pub mod Laws

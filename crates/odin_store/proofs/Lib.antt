@@ -1,0 +1,7 @@
+mod BatchLemmas
+mod KeepingLemmas
+mod LoadLemmas
+mod OpenLemmas
+mod ReadyLemmas
+mod RecordLemmas
+mod StoreLemmas

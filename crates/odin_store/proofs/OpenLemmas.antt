@@ -1,0 +1,224 @@
+-- The opening of a store over the opening of its journal.
+use Rattle.std.specs.Prelude.{⊤}
+use Rattle.std.proofs.Common.{◌≡◌, ◌≢◌, inl, inr, ℕ, ◌+◌, ◌-◌, ◌<◌, ◌≤◌, List, [], ◌∷◌, ◌++◌, length, length-append, Some, Err, refl, sym, ap, subst, ◌∙◌, arith}
+use Rattle.std.proofs.lemmas.List.Elements.{All-nil, All-push}
+use Rattle.odin_outside.specs.Disk.{Telling, IsQuiet}
+use Rattle.odin_outside.specs.Moments.{then, weaker}
+use Rattle.object_sources.specs.Texts.{Text}
+use Rattle.meaning_store.specs.Front.{start_of, new_store}
+use Rattle.meaning_store.specs.Images.{behind, IsNew, AreRecords, IsStore, Stored}
+use Rattle.meaning_store.specs.ImageLemmas.{new_or_written, no_records, one_stored}
+use Rattle.odin_journal.specs.Faults as journal
+use Rattle.odin_journal.specs.Moments.{Untouched}
+use Rattle.odin_journal.specs.Rest.{AtRest, BeforeOrAfter, Opens, OnlyReads, KeepsRecords, Adds, KeepsOrAdds}
+use Rattle.odin_journal.specs.declared.fault.JournalFault.{JournalFault}
+use Rattle.odin_journal.specs.declared.fault.JournalFault.TheVariants as fault
+use Rattle.meaning_records.specs.declared.items.Item.TheVariants.{Graph}
+use Rattle.meaning_records.specs.Records.{item}
+use Rattle.meaning_records.specs.Batches.{graph_batch}
+use Rattle.meaning_records.specs.States.{State, nothing, Reads, ReadsAll}
+use Rattle.meaning_records.specs.Stands.{gate_behind, StandsNot}
+use Rattle.odin_store.specs.declared.store.Store.{Store}
+use Rattle.odin_store.specs.Held.{held_of, StandsFor}
+use Rattle.odin_store.specs.OnDisk.{state_in}
+use Rattle.odin_store.specs.Loading.{records_size, BreaksAt, IsLoadFault}
+use Rattle.odin_store.specs.Opening as store
+use Rattle.odin_store.specs.Opening.{graph_record, LeavesHeld, IsFull, IsOpenFault}
+use Rattle.odin_store.proofs.LoadLemmas.{reads_on}
+use Rattle.odin_store.proofs.RecordLemmas.{size-append}
+
+-- ---- a graph
+
+pub graph_reads : (graph : Text) (state : State) → length graph ≤ 1048576 → Reads state (graph_record graph) (record { tables = state.tables; sources = state.sources; graph = Some graph })
+graph_reads graph state short =
+    let fits : item.fits (Graph graph) = omega arith in
+    record {
+      items = graph_batch graph;
+      some = λ none. (let no : ⊥ = cc in no);
+      fit = All-push item.fits [] (Graph graph) (All-nil item.fits) fits;
+      spelled = refl;
+      taken = (record { tables = state.tables; sources = state.sources; graph = Some graph }, record { loads = refl; edits = refl; graph = refl }, refl);
+    }
+
+-- ---- gates
+
+whole_size : (image : List ℕ) (gate end : ℕ) (records : List (List ℕ)) → AreRecords image gate records end → end ≡ gate + records_size records
+whole_size image gate end [] whole = omega arith
+whole_size image gate end (payload ∷ records) whole = omega (arith, whole_size image (behind gate payload) end records whole.1)
+
+gate_size : (gate : ℕ) (records : List (List ℕ)) → gate_behind gate records ≡ gate + records_size records
+gate_size gate [] = omega arith
+gate_size gate (payload ∷ records) = omega (arith, gate_size (behind gate payload) records)
+
+-- ---- what a crash leaves
+
+-- the opening of the journal leaves what the file stood for
+pub held_stays : (old new : Telling) → KeepsRecords old new → LeavesHeld old new
+held_stays old new keeps state quiet stands =
+    weaker old new (Stored stands.records) (StandsFor (held_of state)) (keeps stands.records quiet stands.stored)
+    (λ image stored. (state, record { records = stands.records; stored = stored; read = stands.read }, refl))
+
+-- and so does the adding of a graph behind it
+pub held_added : (graph : Text) (old mid new : Telling) (records : List (List ℕ)) (end : ℕ) → length graph ≤ 1048576 → KeepsRecords old mid → (IsQuiet old → Opens old mid records end)
+    → KeepsOrAdds end (graph_record graph) mid new → LeavesHeld old new
+held_added graph old mid new records end short keeps opens adds state quiet stands =
+    let opened = opens quiet in
+    let same : records ≡ stands.records = one_stored old.seen stands.records records stands.stored opened.stored in
+    let rests : AtRest mid stands.records end = subst (λ r. AtRest mid r end) same opened.rests in
+    then old mid new (Stored stands.records) (BeforeOrAfter stands.records (graph_record graph)) (StandsFor (held_of state)) (keeps stands.records quiet stands.stored) (adds stands.records rests)
+    (λ image stored. (state, record { records = stands.records; stored = stored; read = stands.read }, refl)) each
+  where
+    each : (image : List ℕ) → BeforeOrAfter stands.records (graph_record graph) image → StandsFor (held_of state) image
+    each image (inl stored) = (state, record { records = stands.records; stored = stored; read = stands.read }, refl)
+    each image (inr stored) =
+        let after : State = record { tables = state.tables; sources = state.sources; graph = Some graph } in
+        (after, record { records = stands.records ++ graph_record graph ∷ []; stored = stored; read = reads_on stands.records (graph_record graph) nothing state after stands.read (graph_reads graph state short) }, refl)
+
+-- ---- faults
+
+pub journal_fault : (graph : Text) (old new : Telling) (e : JournalFault) → OnlyReads old new → journal.IsOpenFault old new e → IsOpenFault graph old new e
+journal_fault graph old new fault.Disk reads told = tt
+journal_fault graph old new (fault.NotOurs at) reads told =
+    λ quiet. (reads quiet (λ is_new. no_records old.seen at [] (told quiet) (inl (is_new, refl))), inl (told quiet))
+journal_fault graph old new (fault.Full end count) reads told = absurd told
+journal_fault graph old new fault.Memory reads told = tt
+
+-- a file that holds records isn't new
+written : (old mid : Telling) (records : List (List ℕ)) (end : ℕ) → Opens old mid records end → (IsNew old.seen → ⊥) → OnlyReads old mid → IsQuiet old → IsStore old.seen records end
+written old mid records end opened none reads quiet = subst (λ image. IsStore image records end) (reads quiet none).same opened.rests.store
+
+not_empty : (before : List (List ℕ)) (payload : List ℕ) (rest : List (List ℕ)) → before ++ payload ∷ rest ≡ [] → ⊥
+not_empty [] payload rest none = let no : ⊥ = cc in no
+not_empty (first ∷ before) payload rest none = let no : ⊥ = cc in no
+
+none_new : (image : List ℕ) (records : List (List ℕ)) → Stored records image → (records ≡ [] → ⊥) → IsNew image → ⊥
+none_new image records (inl new) some is_new = some new.1
+none_new image records (inr store) some is_new = new_or_written image is_new store.1.written
+
+bad_record : (old mid : Telling) (records : List (List ℕ)) (end at : ℕ) → OnlyReads old mid → (IsQuiet old → Opens old mid records end) → BreaksAt records end at → IsQuiet old → Untouched old mid × StandsNot old.seen at
+bad_record old mid records end at reads opens breaks quiet =
+    let opened = opens quiet in
+    let none : IsNew old.seen → ⊥ = none_new old.seen records opened.stored (λ empty. not_empty breaks.before breaks.payload breaks.rest (sym breaks.whole ∙ empty)) in
+    let there : IsStore old.seen records end = written old mid records end opened none reads quiet in
+    let start : ℕ = start_of old.seen in
+    let size : end ≡ start + records_size records = whole_size old.seen start end records there.whole in
+    let parts : records_size records ≡ records_size breaks.before + records_size (breaks.payload ∷ breaks.rest) = ap records_size breaks.whole ∙ size-append breaks.before (breaks.payload ∷ breaks.rest) in
+    let gate : gate_behind start breaks.before ≡ start + records_size breaks.before = gate_size start breaks.before in
+    let last : ℕ = records_size (breaks.payload ∷ breaks.rest) in
+    let place : at ≡ end - last = breaks.place in (
+      reads quiet none,
+      inr (record {
+        before = breaks.before;
+        payload = breaks.payload;
+        rest = breaks.rest;
+        end = end;
+        store = subst (λ r. IsStore old.seen r end) breaks.whole there;
+        state = breaks.state;
+        read = breaks.read;
+        unread = breaks.unread;
+        place = gate_place at end start (records_size breaks.before) last (gate_behind start breaks.before) place (size ∙ ap (λ n. start + n) parts) gate;
+      }),
+    )
+  where
+    gate_place : (at end start first last gate : ℕ) → at ≡ end - last → end ≡ start + (first + last) → gate ≡ start + first → at ≡ gate
+    gate_place at end start first last gate is size front = omega arith
+
+pub load_fault : (graph : Text) (old mid : Telling) (records : List (List ℕ)) (end : ℕ) (e : JournalFault) → OnlyReads old mid → (IsQuiet old → Opens old mid records end) → IsLoadFault records end e → IsOpenFault graph old mid e
+load_fault graph old mid records end fault.Disk reads opens told = tt
+load_fault graph old mid records end (fault.NotOurs at) reads opens told = bad_record old mid records end at reads opens told
+load_fault graph old mid records end (fault.Full place count) reads opens told = absurd told
+load_fault graph old mid records end fault.Memory reads opens told = tt
+
+new_start : (image : List ℕ) → start_of (new_store image) ≡ 64
+new_start image = refl
+
+-- no graph is too long for a new store
+new_fits : (graph : Text) (old mid : Telling) (records : List (List ℕ)) (end : ℕ) → length graph ≤ 1048576 → Opens old mid records end → IsNew old.seen → records ≡ [] → 1073741824 < end + 6 + length (graph_record graph) → ⊥
+new_fits graph old mid records end short opened is_new none over =
+    let whole : AreRecords mid.seen (start_of mid.seen) [] end = subst (λ r. AreRecords mid.seen (start_of mid.seen) r end) none opened.rests.store.whole in
+    let start : start_of mid.seen ≡ 64 = ap start_of (opened.made is_new) ∙ new_start old.seen in
+    let place : end ≡ start_of mid.seen = whole in
+    let long : length (graph_record graph) ≡ 5 + length graph = record_long graph in
+    omega arith
+  where
+    record_long : (text : Text) → length (graph_record text) ≡ 5 + length text
+    record_long text = omega (arith, length-append text [])
+
+full_graph : (graph : Text) (old mid : Telling) (records : List (List ℕ)) (end at count : ℕ) → length graph ≤ 1048576 → OnlyReads old mid → Opens old mid records end → IsQuiet old
+    → (1073741824 < end + 6 + length (graph_record graph)) × (at ≡ end) × (count ≡ length (graph_record graph)) → Stored records old.seen → Untouched old mid × IsFull graph old at count
+full_graph graph old mid records end at count short reads opened quiet told (inl new) = absurd (new_fits graph old mid records end short opened new.0 new.1 told.0)
+full_graph graph old mid records end at count short reads opened quiet told (inr store) =
+    let none : IsNew old.seen → ⊥ = λ is_new. new_or_written old.seen is_new store.1.written in
+    let there : IsStore old.seen records end = written old mid records end opened none reads quiet in (
+      reads quiet none,
+      record {
+        records = records;
+        rests = record { quiet = quiet; store = subst (λ e. IsStore old.seen records e) (sym told.1) there };
+        count_is = told.2;
+        over = subst (λ e. 1073741824 < e + 6 + count) (sym told.1) (subst (λ n. 1073741824 < end + 6 + n) (sym told.2) told.0);
+      },
+    )
+
+abbrev pub NotDisk : JournalFault → Type 0
+NotDisk fault.Disk = ⊥
+NotDisk other = ⊤
+
+pub refused_of : (T : Type 0) (e : JournalFault) → NotDisk e → journal.IsRefused {T = T} (Err e)
+refused_of T fault.Disk other = absurd other
+refused_of T (fault.NotOurs at) other = tt
+refused_of T (fault.Full end count) other = tt
+refused_of T fault.Memory other = tt
+
+-- the disk is as it was before the adding, but where it failed
+pub add_fault : (graph : Text) (old mid new : Telling) (records : List (List ℕ)) (end : ℕ) (e : JournalFault) → length graph ≤ 1048576 → OnlyReads old mid → (IsQuiet old → Opens old mid records end)
+    → (NotDisk e → IsOpenFault graph old mid e → IsOpenFault graph old new e)
+    → journal.IsAddFault end (length (graph_record graph)) e → IsOpenFault graph old new e
+add_fault graph old mid new records end fault.Disk short reads opens same told = tt
+add_fault graph old mid new records end (fault.NotOurs at) short reads opens same told = absurd told
+add_fault graph old mid new records end (fault.Full at count) short reads opens same told =
+    same tt (λ quiet. full_graph graph old mid records end at count short reads (opens quiet) quiet told (opens quiet).stored)
+add_fault graph old mid new records end fault.Memory short reads opens same told = tt
+
+-- ---- an opened store
+
+-- the file's last graph is this one
+pub opens_known : (graph : Text) (old mid : Telling) (store_ : Store) (records : List (List ℕ)) (end : ℕ) (state : State) → (IsQuiet old → Opens old mid records end) → ReadsAll nothing records state
+    → store_.journal.end ≡ end → state_in store_ state.graph ≡ state → state.graph ≡ Some graph → store.OpensQuiet graph old mid store_
+opens_known graph old mid store_ records end state opens read place holds known quiet =
+    let opened = opens quiet in
+    record {
+      records = records;
+      state = state;
+      stored = opened.stored;
+      read = read;
+      holds = ap held_of holds;
+      on = inl (
+        known,
+        record {
+          rests = subst (λ e. AtRest mid records e) (sym place) opened.rests;
+          read = subst (λ g. ReadsAll nothing records (state_in store_ g)) known (subst (λ s. ReadsAll nothing records s) (sym holds) read);
+        },
+      );
+    }
+
+-- or it was added
+pub opens_added : (graph : Text) (old mid new : Telling) (store_ : Store) (records : List (List ℕ)) (end : ℕ) (state : State) → length graph ≤ 1048576 → (IsQuiet old → Opens old mid records end) → ReadsAll nothing records state
+    → Adds end store_.journal.end (graph_record graph) mid new → state_in store_ state.graph ≡ state → state.graph ≢ Some graph → store.OpensQuiet graph old new store_
+opens_added graph old mid new store_ records end state short opens read adds holds other quiet =
+    let opened = opens quiet in
+    let after : State = record { tables = state.tables; sources = state.sources; graph = Some graph } in
+    let same : after ≡ state_in store_ (Some graph) = ap (λ (s : State). record { tables = s.tables; sources = s.sources; graph = Some graph }) (sym holds) in
+    record {
+      records = records;
+      state = state;
+      stored = opened.stored;
+      read = read;
+      holds = ap held_of holds;
+      on = inr (
+        other,
+        record {
+          rests = adds.rests records opened.rests;
+          read = subst (λ s. ReadsAll nothing (records ++ graph_record graph ∷ []) s) same (reads_on records (graph_record graph) nothing state after read (graph_reads graph state short));
+        },
+      );
+    }

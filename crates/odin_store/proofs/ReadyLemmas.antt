@@ -1,0 +1,92 @@
+-- A batch that is ready to be added to a store, and what its adding does.
+use Rattle.std.proofs.Common.{◌≡◌, inr, ℕ, ◌+◌, ◌≤◌, List, length, IsSome, refl, sym, ap, subst, ◌∙◌}
+use Rattle.std.specs.FinMap as map
+use Rattle.odin_outside.specs.Disk.{Telling}
+use Rattle.object_values.specs.declared.calls.Call.{Call}
+use Rattle.object_values.specs.declared.calls.Outcome.{Outcome}
+use Rattle.object_sources.specs.Texts.{Text, Texts}
+use Rattle.meaning_texts.specs.Classes.{IsName}
+use Rattle.meaning_store.specs.Front.{file_limit}
+use Rattle.odin_journal.specs.Faults.{IsAddFault}
+use Rattle.odin_journal.specs.Moments.{Works}
+use Rattle.odin_journal.specs.Rest.{Adds, KeepsOrAdds}
+use Rattle.odin_journal.specs.declared.journal.Journal.{Journal}
+use Rattle.odin_journal.specs.declared.fault.JournalFault.{JournalFault}
+use Rattle.meaning_records.specs.declared.items.Item.{Item}
+use Rattle.meaning_records.specs.Batches.{drop_batch}
+use Rattle.meaning_records.specs.Tables.{Tables, LoadsAll}
+use Rattle.meaning_records.specs.States.{spell_batch}
+use Rattle.meaning_records.specs.Laws.{ReadsInOneWay}
+use Rattle.kept_tables.specs.Holdings as kept
+use Rattle.odin_store.specs.declared.store.Store.{Store}
+use Rattle.odin_store.specs.Held.{Held, Change, puts, drops, keeps, apply}
+use Rattle.odin_store.specs.OnDisk.{held_in, LeavesChange, AddsBatch, IsChangeFault, IsUnchanged, WorksOnce}
+use Rattle.odin_store.specs.Changes.{PutBatch, DropBatch, CallBatch}
+use Rattle.odin_store.proofs.StoreLemmas.{Makes, leaves_change, appends, change_fault}
+use Rattle.odin_store.proofs.BatchLemmas.{put_makes, drop_makes, call_makes}
+
+-- these bytes are such a batch, which makes a change of what the store holds
+pub record Ready (IsBatch : List Item → Type 0) (change : Change) (store : Store) (payload : List ℕ) (next : Tables) (edited : Texts) : Type 0 where
+  pub items : List Item
+  pub batch : IsBatch items
+  pub spelled : payload ≡ spell_batch items
+  pub makes : Makes change store.kept.tables store.sources.texts (spell_batch items) next edited
+
+pub put_ready : (name text : Text) (store mid : Store) (prepared : kept.Batch) → IsUnchanged store mid → (some : kept.PreparesSome (PutBatch store name text) mid.kept prepared)
+    → Ready (PutBatch store name text) (puts name text) store prepared.payload some.2.next (map.insert store.sources.texts name text)
+put_ready name text store mid prepared same some = record {
+  items = some.0;
+  batch = some.1;
+  spelled = some.2.spelled;
+  makes = put_makes name text store.kept.tables some.2.next store.sources.texts some.0 some.1 some.2.fit (subst (λ (t : Tables). LoadsAll t some.0 some.2.next) same.tables some.2.loads);
+}
+
+pub drop_ready : (name : Text) (store : Store) (payload : List ℕ) → IsName name → IsSome (map.get store.sources.texts name) → payload ≡ spell_batch (drop_batch name)
+    → Ready (DropBatch name) (drops name) store payload store.kept.tables (map.remove store.sources.texts name)
+drop_ready name store payload named there spelled = record {
+  items = drop_batch name;
+  batch = refl;
+  spelled = spelled;
+  makes = drop_makes name store.kept.tables store.sources.texts named there;
+}
+
+pub call_ready : ReadsInOneWay → (call : Call) (outcome : Outcome) (store : Store) (mid : kept.Holding) (prepared : kept.Batch) → mid.tables ≡ store.kept.tables → kept.MayKeep store.kept.tables call outcome
+    → (some : kept.PreparesSome (CallBatch store call outcome) mid prepared) → Ready (CallBatch store call outcome) (keeps call outcome) store prepared.payload some.2.next store.sources.texts
+call_ready law call outcome store mid prepared same may some = record {
+  items = some.0;
+  batch = some.1;
+  spelled = some.2.spelled;
+  makes = call_makes law call outcome store.kept.tables some.2.next store.sources.texts some.0 may some.1 some.2.fit (subst (λ (t : Tables). LoadsAll t some.0 some.2.next) same some.2.loads);
+}
+
+-- ---- its adding, over a journal that is as it was
+
+module _ (IsBatch : List Item → Type 0) (change : Change) (store : Store) (payload bytes : List ℕ) (next : Tables) (edited : Texts) (ready : Ready IsBatch change store payload next edited) (is : bytes ≡ payload) where
+  spelled : bytes ≡ spell_batch ready.items
+  spelled = is ∙ ready.spelled
+
+  pub ready_leaves : (journal : Journal) (old new : Telling) → journal ≡ store.journal → KeepsOrAdds journal.end bytes old new → LeavesChange change store old new
+  ready_leaves journal old new same leaves =
+      leaves_change change store old new (spell_batch ready.items) next edited ready.makes
+      (subst (λ (j : Journal). KeepsOrAdds j.end (spell_batch ready.items) old new) same (subst (λ b. KeepsOrAdds journal.end b old new) spelled leaves))
+
+  pub ready_fault : (journal : Journal) → journal ≡ store.journal → (e : JournalFault) → IsAddFault journal.end (length bytes) e → IsChangeFault IsBatch store.journal.end e
+  ready_fault journal same e told = change_fault IsBatch ready.items store.journal.end bytes spelled ready.batch e (subst (λ (j : Journal). IsAddFault j.end (length bytes) e) same told)
+
+  pub ready_works : (old new : Telling) → Works (length bytes + 6) 4 old new → WorksOnce IsBatch old new
+  ready_works old new works = inr (ready.items, ready.batch, subst (λ b. Works (length b + 6) 4 old new) spelled works)
+
+  pub ready_adds : (journal : Journal) (after : Store) (old new : Telling) → journal ≡ store.journal → Adds journal.end after.journal.end bytes old new → journal.end + 6 + length bytes ≤ file_limit
+      → after.kept.tables ≡ next → after.sources.texts ≡ edited → AddsBatch IsBatch store after old new
+  ready_adds journal after old new same adds room tables sources = (
+    ready.items,
+    ready.batch,
+    appends change ready.items store after old new bytes spelled
+        (subst (λ (t : Tables). Makes change store.kept.tables store.sources.texts (spell_batch ready.items) t after.sources.texts) (sym tables)
+        (subst (λ (s : Texts). Makes change store.kept.tables store.sources.texts (spell_batch ready.items) next s) (sym sources) ready.makes))
+        (subst (λ (j : Journal). Adds j.end after.journal.end bytes old new) same adds)
+        (subst (λ (j : Journal). j.end + 6 + length bytes ≤ 1073741824) same room),
+  )
+
+  pub ready_holds : (tables : Tables) (sources : Texts) → tables ≡ next → sources ≡ edited → ◌≡◌ {A = Held} (record { sources = sources; calls = tables.calls }) (apply change (held_in store))
+  ready_holds tables sources same put = ap (λ (t : Tables). record { sources = sources; calls = t.calls }) same ∙ ap (λ (s : Texts). record { sources = s; calls = next.calls }) put ∙ ready.makes.holds

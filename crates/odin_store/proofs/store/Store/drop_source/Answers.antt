@@ -1,0 +1,57 @@
+use Rattle.std.proofs.Common.{◌≡◌, IsTrue, refl, ap, ◌∙◌, arith, rules}
+use Rattle.std.specs.FinMap as map
+use Rattle.odin_store.specs.Held.{drops}
+use Rattle.odin_store.specs.Changes.{DropBatch}
+use Rattle.odin_store.proofs.StoreLemmas.{leaves_same}
+use Rattle.odin_store.proofs.ReadyLemmas.{drop_ready, ready_leaves, ready_adds, ready_holds}
+use Rattle.odin_store.proofs.store.Store.drop_source.Goals as goal
+
+pub returns-then-not-has_source-clause-any_moment : goal.returns-then-not-has_source-clause-any_moment
+returns-then-not-has_source-clause-any_moment g c =
+    leaves_same (drops c.args.name.now) c.args.self.now (g.D.Disk.told c.args.disk.now) (λ image follows left. g.met.D.Disk.only_now c.args.disk.now image follows left)
+
+pub returns-in_err-payload-clause-any_moment : goal.returns-in_err-payload-clause-any_moment
+returns-in_err-payload-clause-any_moment g c =
+    leaves_same (drops c.args.name.now) c.args.self.now (g.D.Disk.told c.args.disk.now) (λ image follows left. g.met.D.Disk.only_now c.args.disk.now image follows left)
+
+pub returns-in_err-append-clause-any_moment : goal.returns-in_err-append-clause-any_moment
+returns-in_err-append-clause-any_moment g c =
+    let store = c.args.self.now in
+    let name = c.args.name.now in
+    let payload = c.in_ok-payload.payload in
+    let answered : IsTrue c.has_source.result = search rules in
+    let ready = drop_ready name store payload c.drop_payload.ensures.named (c.has_source.ensures.yes answered) c.in_ok-payload.ensures.bytes in
+    ready_leaves (DropBatch name) (drops name) store payload c.as_slice.result.now store.kept.tables (map.remove store.sources.texts name) ready c.as_slice.ensures
+    store.journal (g.D.Disk.told c.args.disk.now) (g.D.Disk.told c.append.new.disk) refl c.append.ensures.any_moment
+
+pub returns-clause-any_moment : goal.returns-clause-any_moment
+returns-clause-any_moment g c =
+    let store = c.args.self.now in
+    let name = c.args.name.now in
+    let payload = c.in_ok-payload.payload in
+    let answered : IsTrue c.has_source.result = search rules in
+    let ready = drop_ready name store payload c.drop_payload.ensures.named (c.has_source.ensures.yes answered) c.in_ok-payload.ensures.bytes in
+    ready_leaves (DropBatch name) (drops name) store payload c.as_slice.result.now store.kept.tables (map.remove store.sources.texts name) ready c.as_slice.ensures
+    store.journal (g.D.Disk.told c.args.disk.now) (g.D.Disk.told c.append.new.disk) refl c.append.ensures.any_moment
+
+pub returns-clause-drops : goal.returns-clause-drops
+returns-clause-drops g c =
+    let store = c.args.self.now in
+    let name = c.args.name.now in
+    let payload = c.in_ok-payload.payload in
+    let answered : IsTrue c.has_source.result = search rules in
+    let there = c.has_source.ensures.yes answered in
+    let ready = drop_ready name store payload c.drop_payload.ensures.named there c.in_ok-payload.ensures.bytes in
+    let edited = map.remove store.sources.texts name in
+    let removed : c.remove.new.self.texts ≡ edited = c.remove.ensures.removed ∙ ap (λ n. map.remove store.sources.texts n) c.as_slice-2.ensures.bytes in
+    record {
+      exact = (λ yes. there, λ some. search rules);
+      edits = λ yes. record {
+        holds = ready_holds (DropBatch name) (drops name) store payload c.as_slice.result.now store.kept.tables edited ready c.as_slice.ensures store.kept.tables c.remove.new.self.texts refl removed;
+        epoch = omega arith;
+        adds =
+            ready_adds (DropBatch name) (drops name) store payload c.as_slice.result.now store.kept.tables edited ready c.as_slice.ensures store.journal _
+            (g.D.Disk.told c.args.disk.now) (g.D.Disk.told c.append.new.disk) refl c.in_ok-append.ensures.added c.in_ok-append.ensures.full.room refl removed;
+      };
+      same = λ no. (let absurdity : ⊥ = cc in absurd absurdity);
+    }

@@ -1,0 +1,49 @@
+use Rattle.std.proofs.Common.{◌≡◌, refl}
+use Rattle.odin_store.specs.Held.{keeps}
+use Rattle.odin_store.specs.Changes.{CallBatch}
+use Rattle.odin_store.proofs.StoreLemmas.{leaves_same}
+use Rattle.odin_store.proofs.ReadyLemmas.{call_ready, ready_leaves, ready_adds, ready_holds}
+use Rattle.odin_store.proofs.store.Store.keep_call.Goals as goal
+
+pub returns-in_err-prepared-clause-any_moment : goal.returns-in_err-prepared-clause-any_moment
+returns-in_err-prepared-clause-any_moment g c =
+    leaves_same (keeps c.args.call.now c.args.outcome.now) c.args.self.now (g.D.Disk.told c.args.disk.now) (λ image follows left. g.met.D.Disk.only_now c.args.disk.now image follows left)
+
+pub returns-in_err-append-clause-any_moment : goal.returns-in_err-append-clause-any_moment
+returns-in_err-append-clause-any_moment g c =
+    let store = c.args.self.now in
+    let call = c.args.call.now in
+    let outcome = c.args.outcome.now in
+    let prepared = c.in_ok-prepared.prepared in
+    let batch = c.in_ok-prepared.ensures.ok in
+    let ready = call_ready c.reads_in_one_way.ensures call outcome store c.prepare_call.new.self prepared c.prepare_call.ensures.same c.requires.new batch in
+    ready_leaves (CallBatch store call outcome) (keeps call outcome) store prepared.payload c.payload.result.now batch.2.next store.sources.texts ready c.payload.ensures
+    store.journal (g.D.Disk.told c.args.disk.now) (g.D.Disk.told c.append.new.disk) refl c.append.ensures.any_moment
+
+pub returns-clause-any_moment : goal.returns-clause-any_moment
+returns-clause-any_moment g c =
+    let store = c.args.self.now in
+    let call = c.args.call.now in
+    let outcome = c.args.outcome.now in
+    let prepared = c.in_ok-prepared.prepared in
+    let batch = c.in_ok-prepared.ensures.ok in
+    let ready = call_ready c.reads_in_one_way.ensures call outcome store c.prepare_call.new.self prepared c.prepare_call.ensures.same c.requires.new batch in
+    ready_leaves (CallBatch store call outcome) (keeps call outcome) store prepared.payload c.payload.result.now batch.2.next store.sources.texts ready c.payload.ensures
+    store.journal (g.D.Disk.told c.args.disk.now) (g.D.Disk.told c.append.new.disk) refl c.append.ensures.any_moment
+
+pub returns-clause-keeps : goal.returns-clause-keeps
+returns-clause-keeps g c =
+    let store = c.args.self.now in
+    let call = c.args.call.now in
+    let outcome = c.args.outcome.now in
+    let prepared = c.in_ok-prepared.prepared in
+    let batch = c.in_ok-prepared.ensures.ok in
+    let ready = call_ready c.reads_in_one_way.ensures call outcome store c.prepare_call.new.self prepared c.prepare_call.ensures.same c.requires.new batch in
+    let tables : c.commit.new.self.tables ≡ batch.2.next = c.commit.ensures batch.2.next batch.2.commits in
+    record {
+      holds = ready_holds (CallBatch store call outcome) (keeps call outcome) store prepared.payload c.payload.result.now batch.2.next store.sources.texts ready c.payload.ensures c.commit.new.self.tables store.sources.texts tables refl;
+      epoch = refl;
+      adds =
+          ready_adds (CallBatch store call outcome) (keeps call outcome) store prepared.payload c.payload.result.now batch.2.next store.sources.texts ready c.payload.ensures store.journal _
+          (g.D.Disk.told c.args.disk.now) (g.D.Disk.told c.append.new.disk) refl c.in_ok-append.ensures.added c.in_ok-append.ensures.full.room tables refl;
+    }

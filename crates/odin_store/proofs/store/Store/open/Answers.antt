@@ -1,0 +1,99 @@
+use Rattle.std.proofs.Common.{◌≡◌, ℕ, length, IsTrue, IsFalse, sym, ap, ap₂, subst, ◌∙◌, rules}
+use Rattle.object_sources.specs.Texts.{Stock}
+use Rattle.odin_journal.specs.Faults.{IsAddFault}
+use Rattle.odin_journal.specs.Rest.{Adds, KeepsOrAdds}
+use Rattle.odin_journal.specs.declared.journal.Journal.{Journal}
+use Rattle.meaning_records.specs.States.{State}
+use Rattle.kept_tables.specs.Holdings.{Holding}
+use Rattle.odin_store.specs.Loading.{state_of, IsLoadFault}
+use Rattle.odin_store.specs.OnDisk.{state_in}
+use Rattle.odin_store.specs.Opening.{graph_record, IsOpenFault}
+use Rattle.odin_store.proofs.StoreLemmas.{handed}
+use Rattle.odin_store.proofs.OpenLemmas.{held_stays, held_added, journal_fault, load_fault, add_fault, refused_of, opens_known, opens_added}
+use Rattle.odin_store.proofs.store.Store.open.Goals as goal
+
+pub returns-in_err-journal-clause-any_moment : goal.returns-in_err-journal-clause-any_moment
+returns-in_err-journal-clause-any_moment g c = held_stays (g.D.Disk.told c.args.disk.now) (g.D.Disk.told c.open.new.disk) c.open.ensures.any_moment
+
+pub returns-in_err-loading-clause-any_moment : goal.returns-in_err-loading-clause-any_moment
+returns-in_err-loading-clause-any_moment g c = held_stays (g.D.Disk.told c.args.disk.now) (g.D.Disk.told c.open.new.disk) c.open.ensures.any_moment
+
+pub returns-in_err-loading-clause-refused : goal.returns-in_err-loading-clause-refused
+returns-in_err-loading-clause-refused g c =
+    let old = g.D.Disk.told c.args.disk.now in
+    let mid = g.D.Disk.told c.open.new.disk in
+    let e = c.in_err-loading.field-0.0 in
+    let records = c.in_ok-journal.records in
+    let end = c.in_ok-journal.journal.end in
+    handed (IsOpenFault c.args.graph.now old mid) c.from_residual-in_err-loading.result e c.from_residual-in_err-loading.ensures.1
+    (load_fault c.args.graph.now old mid records end e c.open.ensures.untouched c.in_ok-journal.ensures.opened (subst (λ n. IsLoadFault records n e) c.end.ensures c.in_err-loading.ensures.fault))
+
+pub returns-then-has_graph-clause-any_moment : goal.returns-then-has_graph-clause-any_moment
+returns-then-has_graph-clause-any_moment g c = held_stays (g.D.Disk.told c.args.disk.now) (g.D.Disk.told c.open.new.disk) c.open.ensures.any_moment
+
+pub returns-then-has_graph-clause-opened : goal.returns-then-has_graph-clause-opened
+returns-then-has_graph-clause-opened g c =
+    let old = g.D.Disk.told c.args.disk.now in
+    let mid = g.D.Disk.told c.open.new.disk in
+    let state : State = state_of c.in_ok-loading.loading in
+    let answered : IsTrue c.has_graph.result = search rules in
+    let store = c.of-known.result in
+    let holds : state_in store state.graph ≡ state = ap₂ (λ (k : Holding) (s : Stock). record { tables = k.tables; sources = s.texts; graph = state.graph }) c.of-known.ensures.kept c.of-known.ensures.sources in
+    opens_known c.args.graph.now old mid store c.in_ok-journal.records c.in_ok-journal.journal.end state c.in_ok-journal.ensures.opened c.in_ok-loading.ensures.read
+    (ap (λ (j : Journal). j.end) c.of-known.ensures.journal) holds (c.has_graph.ensures.yes answered)
+
+pub returns-in_err-payload-clause-any_moment : goal.returns-in_err-payload-clause-any_moment
+returns-in_err-payload-clause-any_moment g c = held_stays (g.D.Disk.told c.args.disk.now) (g.D.Disk.told c.open.new.disk) c.open.ensures.any_moment
+
+pub returns-in_err-append-clause-any_moment : goal.returns-in_err-append-clause-any_moment
+returns-in_err-append-clause-any_moment g c =
+    let mid = g.D.Disk.told c.open.new.disk in
+    let new = g.D.Disk.told c.append.new.disk in
+    let end = c.in_ok-journal.journal.end in
+    held_added c.args.graph.now (g.D.Disk.told c.args.disk.now) mid new c.in_ok-journal.records end c.requires c.open.ensures.any_moment c.in_ok-journal.ensures.opened
+    (subst (λ b. KeepsOrAdds end b mid new) (c.as_slice.ensures ∙ c.in_ok-payload.ensures) c.append.ensures.any_moment)
+
+pub returns-clause-any_moment : goal.returns-clause-any_moment
+returns-clause-any_moment g c =
+    let mid = g.D.Disk.told c.open.new.disk in
+    let new = g.D.Disk.told c.append.new.disk in
+    let end = c.in_ok-journal.journal.end in
+    held_added c.args.graph.now (g.D.Disk.told c.args.disk.now) mid new c.in_ok-journal.records end c.requires c.open.ensures.any_moment c.in_ok-journal.ensures.opened
+    (subst (λ b. KeepsOrAdds end b mid new) (c.as_slice.ensures ∙ c.in_ok-payload.ensures) c.append.ensures.any_moment)
+
+pub returns-in_err-append-clause-refused : goal.returns-in_err-append-clause-refused
+returns-in_err-append-clause-refused g c =
+    let old = g.D.Disk.told c.args.disk.now in
+    let mid = g.D.Disk.told c.open.new.disk in
+    let new = g.D.Disk.told c.append.new.disk in
+    let e = c.in_err-append.field-0.0 in
+    let records = c.in_ok-journal.records in
+    let end = c.in_ok-journal.journal.end in
+    let graph = c.args.graph.now in
+    let told : IsAddFault end (length (graph_record graph)) e = subst (λ b. IsAddFault end (length b) e) (c.as_slice.ensures ∙ c.in_ok-payload.ensures) c.in_err-append.ensures.full.err in
+    handed (IsOpenFault graph old new) c.from_residual-in_err-append.result e c.from_residual-in_err-append.ensures.1
+    (add_fault graph old mid new records end e c.requires c.open.ensures.untouched c.in_ok-journal.ensures.opened
+    (λ other there. subst (λ d. IsOpenFault graph old (g.D.Disk.told d) e) (sym (c.in_err-append.ensures.same (refused_of ℕ e other)).0) there) told)
+
+pub returns-clause-opened : goal.returns-clause-opened
+returns-clause-opened g c =
+    let old = g.D.Disk.told c.args.disk.now in
+    let mid = g.D.Disk.told c.open.new.disk in
+    let new = g.D.Disk.told c.append.new.disk in
+    let graph = c.args.graph.now in
+    let end = c.in_ok-journal.journal.end in
+    let state : State = state_of c.in_ok-loading.loading in
+    let answered : IsFalse c.has_graph.result = search rules in
+    let store = c.of-added.result in
+    let holds : state_in store state.graph ≡ state = ap₂ (λ (k : Holding) (s : Stock). record { tables = k.tables; sources = s.texts; graph = state.graph }) c.of-added.ensures.kept c.of-added.ensures.sources in
+    let adds : Adds end store.journal.end (graph_record graph) mid new =
+    subst (λ (j : Journal). Adds end j.end (graph_record graph) mid new) (sym c.of-added.ensures.journal)
+    (subst (λ b. Adds end c.append.new.self.end b mid new) (c.as_slice.ensures ∙ c.in_ok-payload.ensures) c.in_ok-append.ensures.added) in
+    opens_added graph old mid new store c.in_ok-journal.records end state c.requires c.in_ok-journal.ensures.opened c.in_ok-loading.ensures.read adds holds (c.has_graph.ensures.no answered)
+
+pub returns-in_err-journal-clause-refused : goal.returns-in_err-journal-clause-refused
+returns-in_err-journal-clause-refused g c =
+    let old = g.D.Disk.told c.args.disk.now in
+    let new = g.D.Disk.told c.open.new.disk in
+    handed (IsOpenFault c.args.graph.now old new) c.from_residual.result c.in_err-journal.field-0.0 c.from_residual.ensures.1
+    (journal_fault c.args.graph.now old new c.in_err-journal.field-0.0 c.open.ensures.untouched c.in_err-journal.ensures.refused)

@@ -1,0 +1,77 @@
+use Rattle.std.proofs.Common.{◌≡◌, ◌≢◌, Some, IsFalse, ap, ap₂, ◌∙◌, arith, rules}
+use Rattle.std.specs.FinMap as map
+use Rattle.odin_store.specs.Held.{puts}
+use Rattle.odin_store.specs.OnDisk.{IsChangeFault}
+use Rattle.odin_store.specs.Changes.{PutBatch}
+use Rattle.odin_store.proofs.StoreLemmas.{handed, leaves_same}
+use Rattle.odin_store.proofs.ReadyLemmas.{put_ready, ready_leaves, ready_fault, ready_adds, ready_holds}
+use Rattle.odin_store.proofs.store.Store.put_source.Goals as goal
+
+pub returns-then-has_text-clause-any_moment : goal.returns-then-has_text-clause-any_moment
+returns-then-has_text-clause-any_moment g c =
+    leaves_same (puts c.args.name.now c.args.text.now) c.args.self.now (g.D.Disk.told c.args.disk.now) (λ image follows left. g.met.D.Disk.only_now c.args.disk.now image follows left)
+
+pub returns-in_err-source-clause-any_moment : goal.returns-in_err-source-clause-any_moment
+returns-in_err-source-clause-any_moment g c =
+    leaves_same (puts c.args.name.now c.args.text.now) c.args.self.now (g.D.Disk.told c.args.disk.now) (λ image follows left. g.met.D.Disk.only_now c.args.disk.now image follows left)
+
+pub returns-in_err-append-clause-any_moment : goal.returns-in_err-append-clause-any_moment
+returns-in_err-append-clause-any_moment g c =
+    let store = c.args.self.now in
+    let mid = c.prepare_put.new.self in
+    let same = c.prepare_put.ensures.same in
+    let prepared = c.in_ok-source.prepared in
+    let ready = put_ready c.args.name.now c.args.text.now store mid prepared same c.in_ok-source.ensures.batch in
+    ready_leaves (PutBatch store c.args.name.now c.args.text.now) (puts c.args.name.now c.args.text.now) store prepared.payload c.payload.result.now c.in_ok-source.ensures.batch.2.next
+    (map.insert store.sources.texts c.args.name.now c.args.text.now) ready c.payload.ensures mid.journal (g.D.Disk.told c.args.disk.now) (g.D.Disk.told c.append.new.disk) same.journal c.append.ensures.any_moment
+
+pub returns-in_err-append-clause-fault : goal.returns-in_err-append-clause-fault
+returns-in_err-append-clause-fault g c =
+    let store = c.args.self.now in
+    let mid = c.prepare_put.new.self in
+    let same = c.prepare_put.ensures.same in
+    let prepared = c.in_ok-source.prepared in
+    let e = c.in_err-append.field-0.0 in
+    let ready = put_ready c.args.name.now c.args.text.now store mid prepared same c.in_ok-source.ensures.batch in
+    handed (IsChangeFault (PutBatch store c.args.name.now c.args.text.now) store.journal.end) c.from_residual-in_err-append.result e c.from_residual-in_err-append.ensures.1
+    (ready_fault (PutBatch store c.args.name.now c.args.text.now) (puts c.args.name.now c.args.text.now) store prepared.payload c.payload.result.now c.in_ok-source.ensures.batch.2.next
+    (map.insert store.sources.texts c.args.name.now c.args.text.now) ready c.payload.ensures mid.journal same.journal e c.in_err-append.ensures.full.err)
+
+pub returns-clause-any_moment : goal.returns-clause-any_moment
+returns-clause-any_moment g c =
+    let store = c.args.self.now in
+    let mid = c.prepare_put.new.self in
+    let same = c.prepare_put.ensures.same in
+    let prepared = c.in_ok-source.prepared in
+    let ready = put_ready c.args.name.now c.args.text.now store mid prepared same c.in_ok-source.ensures.batch in
+    ready_leaves (PutBatch store c.args.name.now c.args.text.now) (puts c.args.name.now c.args.text.now) store prepared.payload c.payload.result.now c.in_ok-source.ensures.batch.2.next
+    (map.insert store.sources.texts c.args.name.now c.args.text.now) ready c.payload.ensures mid.journal (g.D.Disk.told c.args.disk.now) (g.D.Disk.told c.append.new.disk) same.journal c.append.ensures.any_moment
+
+pub returns-clause-puts : goal.returns-clause-puts
+returns-clause-puts g c =
+    let store = c.args.self.now in
+    let name = c.args.name.now in
+    let text = c.args.text.now in
+    let mid = c.prepare_put.new.self in
+    let same = c.prepare_put.ensures.same in
+    let prepared = c.in_ok-source.prepared in
+    let batch = c.in_ok-source.ensures.batch in
+    let ready = put_ready name text store mid prepared same batch in
+    let edited = map.insert store.sources.texts name text in
+    let tables : c.commit.new.self.tables ≡ batch.2.next = c.commit.ensures batch.2.next batch.2.commits in
+    let put : c.put.new.self.texts ≡ edited =
+    c.put.ensures.put ∙ ap (λ m. map.insert m c.in_ok-source.source c.in_ok-source.shared) same.sources
+    ∙ ap₂ (λ n t. map.insert store.sources.texts n t) c.in_ok-source.ensures.name c.in_ok-source.ensures.text in
+    let answered : IsFalse c.has_text.result = search rules in
+    let other : map.get store.sources.texts name ≢ Some text = c.has_text.ensures.no answered in
+    record {
+      exact = (λ yes. other, λ differ. search rules);
+      edits = λ yes. record {
+        holds = ready_holds (PutBatch store name text) (puts name text) store prepared.payload c.payload.result.now batch.2.next edited ready c.payload.ensures c.commit.new.self.tables c.put.new.self.texts tables put;
+        epoch = omega (arith, same.epoch);
+        adds =
+            ready_adds (PutBatch store name text) (puts name text) store prepared.payload c.payload.result.now batch.2.next edited ready c.payload.ensures mid.journal _
+            (g.D.Disk.told c.args.disk.now) (g.D.Disk.told c.append.new.disk) same.journal c.in_ok-append.ensures.added c.in_ok-append.ensures.full.room tables put;
+      };
+      same = λ no. (let absurdity : ⊥ = cc in absurd absurdity);
+    }

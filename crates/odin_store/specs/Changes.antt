@@ -1,0 +1,66 @@
+-- What each call that changes a store does.
+use Rattle.std.specs.Prelude.{◌≡◌, ◌≢◌, ◌↔◌, ℕ, ◌+◌, ◌≤◌, List, length, Some, IsSome, Bool, IsTrue, IsFalse}
+use Rattle.std.specs.FinMap as map
+use Rattle.odin_outside.specs.Disk.{Telling}
+use Rattle.object_values.specs.declared.calls.Call.{Call}
+use Rattle.object_values.specs.declared.calls.Outcome.{Outcome}
+use Rattle.object_sources.specs.Texts.{Text}
+use Rattle.meaning_texts.specs.Limits.{body_limit}
+use Rattle.meaning_records.specs.declared.items.Item.{Item}
+use Rattle.meaning_records.specs.Batches.{drop_batch, IsPutBatch, IsCallBatch}
+use Rattle.kept_tables.specs.Holdings as kept
+use Rattle.odin_journal.specs.Rest.{IsReady}
+use Rattle.odin_store.specs.declared.store.Store.{Store}
+use Rattle.odin_store.specs.Held.{Change, puts, drops, keeps, apply}
+use Rattle.odin_store.specs.OnDisk.{held_in, IsOpen, AddsBatch, IsSame}
+
+-- ---- the batches
+
+abbrev pub PutBatch : Store → Text → Text → List Item → Type 0
+PutBatch store name text = IsPutBatch store.kept.tables.contents name text
+
+abbrev pub DropBatch : Text → List Item → Type 0
+DropBatch name items = items ≡ drop_batch name
+
+abbrev pub CallBatch : Store → Call → Outcome → List Item → Type 0
+CallBatch store call outcome = IsCallBatch store.kept.tables.contents call outcome
+
+-- ---- edits
+
+-- a text that may be put
+pub record MayPut (store : Store) (size : ℕ) (text : Text) : Type 0 where
+  pub ready : IsOpen store size
+  pub short : length text ≤ body_limit
+
+-- A change of the sources: the batch is added, what is held changes so, and the epoch rises.
+pub record Edits (IsBatch : List Item → Type 0) (change : Change) (store next : Store) (old new : Telling) : Type 0 where
+  pub holds : held_in next ≡ apply change (held_in store)
+  pub epoch : next.epoch ≡ store.epoch + 1
+  pub adds : AddsBatch IsBatch store next old new
+
+-- The sources change exactly where this is so; else nothing is written, and all is as it was.
+pub record EditsWhere {D : Type 0} (told : D → Telling) (Changes : Type 0) (IsBatch : List Item → Type 0) (change : Change) (store next : Store) (disk after : D) (changed : Bool) : Type 0 where
+  pub exact : IsTrue changed ↔ Changes
+  pub edits : IsTrue changed → Edits IsBatch change store next (told disk) (told after)
+  pub same : IsFalse changed → IsSame store next disk after
+
+-- a put changes the sources where the source has another text, or isn't there
+abbrev pub PutsText : {D : Type 0} → (D → Telling) → Text → Text → Store → Store → D → D → Bool → Type 0
+PutsText told name text store = EditsWhere told (map.get store.sources.texts name ≢ Some text) (PutBatch store name text) (puts name text) store
+
+-- a drop where it is there
+abbrev pub DropsSource : {D : Type 0} → (D → Telling) → Text → Store → Store → D → D → Bool → Type 0
+DropsSource told name store = EditsWhere told (IsSome (map.get store.sources.texts name)) (DropBatch name) (drops name) store
+
+-- ---- calls
+
+-- a call that may be kept
+pub record MayKeep (store : Store) (size : ℕ) (call : Call) (outcome : Outcome) : Type 0 where
+  pub journal : IsReady store.journal size
+  pub new : kept.MayKeep store.kept.tables call outcome
+
+-- it is kept, and the sources with their epoch are as they were
+pub record KeepsCall (call : Call) (outcome : Outcome) (store next : Store) (old new : Telling) : Type 0 where
+  pub holds : held_in next ≡ apply (keeps call outcome) (held_in store)
+  pub epoch : next.epoch ≡ store.epoch
+  pub adds : AddsBatch (CallBatch store call outcome) store next old new

@@ -1,0 +1,80 @@
+-- A store on its disk.
+use Rattle.std.specs.Prelude.{◌≡◌, ◌⊎◌, ⊤, ℕ, ◌+◌, ◌^◌, ◌<◌, List, [], ◌∷◌, ◌++◌, length, Option, IsTrue, Result, OnOk, IsErrOf}
+use Rattle.odin_outside.specs.Disk.{Telling, LeavesOnly}
+use Rattle.object_sources.specs.Texts.{Text}
+use Rattle.meaning_store.specs.Front.{file_limit}
+use Rattle.meaning_store.specs.Images.{behind}
+use Rattle.odin_journal.specs.Moments.{Works}
+use Rattle.odin_journal.specs.Rest.{AtRest, IsReady}
+use Rattle.odin_journal.specs.declared.fault.JournalFault.{JournalFault}
+use Rattle.odin_journal.specs.declared.fault.JournalFault.TheVariants as fault
+use Rattle.meaning_records.specs.declared.items.Item.{Item}
+use Rattle.meaning_records.specs.States.{State, nothing, ReadsAll, spell_batch}
+use Rattle.odin_store.specs.declared.store.Store.{Store}
+use Rattle.odin_store.specs.Held.{Held, Change, apply, StandsFor}
+
+-- what a store holds
+abbrev pub held_in : Store → Held
+held_in store = record { sources = store.sources.texts; calls = store.kept.tables.calls }
+
+abbrev pub state_in : Store → Option Text → State
+state_in store graph = record { tables = store.kept.tables; sources = store.sources.texts; graph = graph }
+
+-- The store rests on a disk with these records: nothing is pending, and they read as what the store holds, with this graph as the last.
+pub record IsOn (disk : Telling) (store : Store) (records : List (List ℕ)) (graph : Option Text) : Type 0 where
+  pub rests : AtRest disk records store.journal.end
+  pub read : ReadsAll nothing records (state_in store graph)
+
+-- a store that can be changed, on a disk of this size
+pub record IsOpen (store : Store) (size : ℕ) : Type 0 where
+  pub journal : IsReady store.journal size
+  pub early : store.epoch < 2 ^ 63
+
+-- a crash at any moment leaves what the store held, or that with the change
+abbrev pub LeavesChange : Change → Store → Telling → Telling → Type 0
+LeavesChange change store old new =
+    (records : List (List ℕ)) (graph : Option Text) → IsOn old store records graph
+    → LeavesOnly old new (λ image. StandsFor (held_in store) image ⊎ StandsFor (apply change (held_in store)) image)
+
+-- A batch of these items was added to the records, where it fitted.
+pub record Appends (items : List Item) (store next : Store) (old new : Telling) : Type 0 where
+  pub end : next.journal.end ≡ behind store.journal.end (spell_batch items)
+  pub room : next.journal.end < file_limit
+  pub on : (records : List (List ℕ)) (graph : Option Text) → IsOn old store records graph → IsOn new next (records ++ spell_batch items ∷ []) graph
+
+-- some such batch: that one, and no other
+abbrev pub AddsBatch : (List Item → Type 0) → Store → Store → Telling → Telling → Type 0
+AddsBatch IsBatch store next old new = (items : List Item) × IsBatch items × Appends items store next old new
+
+-- such a batch doesn't fit behind this end, and these are the two numbers
+pub record IsOver (items : List Item) (end at some : ℕ) : Type 0 where
+  pub at_is : at ≡ end
+  pub some_is : some ≡ length (spell_batch items)
+  pub over : file_limit < end + 6 + length (spell_batch items)
+
+-- A fault of a change that writes such a batch. `Full` tells the journal's end and the length of the batch.
+abbrev pub IsChangeFault : (List Item → Type 0) → ℕ → JournalFault → Type 0
+IsChangeFault IsBatch end (fault.Full at some) = (items : List Item) × IsBatch items × IsOver items end at some
+IsChangeFault IsBatch end (fault.NotOurs at) = ⊥
+IsChangeFault IsBatch end other = ⊤
+
+-- what a store is after a change: it can be changed on, or is spent
+pub record IsLeft {T : Type 0} (store : Store) (size : ℕ) (result : Result T JournalFault) : Type 0 where
+  pub ready : OnOk result (IsReady store.journal size)
+  pub spent : IsErrOf result fault.Disk → IsTrue store.journal.spent
+
+-- a store is as it was, but for what it has reserved
+pub record IsUnchanged (store next : Store) : Type 0 where
+  pub journal : next.journal ≡ store.journal
+  pub tables : next.kept.tables ≡ store.kept.tables
+  pub sources : next.sources.texts ≡ store.sources.texts
+  pub epoch : next.epoch ≡ store.epoch
+
+-- and so is its disk
+pub record IsSame {D : Type 0} (store next : Store) (disk after : D) : Type 0 where
+  pub disk_is : after ≡ disk
+  pub store_is : IsUnchanged store next
+
+-- the work is that of adding one such batch at most
+abbrev pub WorksOnce : (List Item → Type 0) → Telling → Telling → Type 0
+WorksOnce IsBatch old new = Works 0 0 old new ⊎ ((items : List Item) × IsBatch items × Works (length (spell_batch items) + 6) 4 old new)

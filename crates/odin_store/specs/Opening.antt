@@ -1,0 +1,54 @@
+-- The opening of a store.
+use Rattle.std.specs.Prelude.{◌≡◌, ◌≢◌, ◌⊎◌, ⊤, ℕ, ◌+◌, ◌<◌, List, [], ◌∷◌, ◌++◌, length, Some}
+use Rattle.odin_outside.specs.Disk.{Telling, IsQuiet, LeavesOnly}
+use Rattle.object_sources.specs.Texts.{Text}
+use Rattle.meaning_store.specs.Front.{file_limit}
+use Rattle.meaning_store.specs.Images.{Stored}
+use Rattle.odin_journal.specs.Moments.{Untouched}
+use Rattle.odin_journal.specs.Rest.{AtRest}
+use Rattle.odin_journal.specs.declared.fault.JournalFault.{JournalFault}
+use Rattle.odin_journal.specs.declared.fault.JournalFault.TheVariants as fault
+use Rattle.meaning_records.specs.Batches.{graph_batch}
+use Rattle.meaning_records.specs.States.{State, nothing, ReadsAll, spell_batch}
+use Rattle.meaning_records.specs.Stands.{Stands, StandsNot}
+use Rattle.odin_store.specs.declared.store.Store.{Store}
+use Rattle.odin_store.specs.Held.{held_of, StandsFor}
+use Rattle.odin_store.specs.OnDisk.{IsOn, held_in}
+
+-- the bytes of the batch of a graph
+abbrev pub graph_record : Text → List ℕ
+graph_record text = spell_batch (graph_batch text)
+
+-- The file stood for what the store holds. Its last graph is this one, or it was another or none and this one was added.
+pub record Opens (graph : Text) (old new : Telling) (store : Store) : Type 0 where
+  pub records : List (List ℕ)
+  pub state : State
+  pub stored : Stored records old.seen
+  pub read : ReadsAll nothing records state
+  pub holds : held_in store ≡ held_of state
+  pub on : ((state.graph ≡ Some graph) × IsOn new store records (Some graph)) ⊎ ((state.graph ≢ Some graph) × IsOn new store (records ++ graph_record graph ∷ []) (Some graph))
+
+-- of a disk on which nothing is pending
+abbrev pub OpensQuiet : Text → Telling → Telling → Store → Type 0
+OpensQuiet graph old new store = IsQuiet old → Opens graph old new store
+
+-- no edit was counted yet
+abbrev pub IsAtFirst : Store → Type 0
+IsAtFirst store = store.epoch ≡ 0
+
+-- a crash at any moment leaves what the file stood for
+abbrev pub LeavesHeld : Telling → Telling → Type 0
+LeavesHeld old new = (state : State) → IsQuiet old → Stands old.seen state → LeavesOnly old new (StandsFor (held_of state))
+
+-- the file is a store whose next batch, that of the graph, doesn't fit behind its end
+pub record IsFull (graph : Text) (image : Telling) (end count : ℕ) : Type 0 where
+  pub records : List (List ℕ)
+  pub rests : AtRest image records end
+  pub count_is : count ≡ length (graph_record graph)
+  pub over : file_limit < end + 6 + count
+
+-- A fault of an opening. `NotOurs` is exact: what stands for something has no such offset, and no file has two.
+abbrev pub IsOpenFault : Text → Telling → Telling → JournalFault → Type 0
+IsOpenFault graph old new (fault.NotOurs at) = IsQuiet old → Untouched old new × StandsNot old.seen at
+IsOpenFault graph old new (fault.Full end count) = IsQuiet old → Untouched old new × IsFull graph old end count
+IsOpenFault graph old new other = ⊤

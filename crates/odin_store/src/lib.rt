@@ -1,0 +1,9 @@
+//! The store: sources and kept calls in one file, which reopens after any crash to what was acknowledged.
+#![tactic(auto)]
+
+pub mod laws;
+mod loading;
+mod store;
+
+pub use odin_journal::JournalFault as StoreFault;
+pub use store::Store;

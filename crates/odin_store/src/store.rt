@@ -1,0 +1,275 @@
+// The store, over a disk that it is lent call by call.
+ghost use Rattle.std.specs.Prelude.{◌≡◌, ◌≢◌, ◌+◌, ◌≤◌, length, Some, IsSome, IfOk, IfErr, OnOk, IsTrue, IsFalse};
+ghost use Rattle.std.specs.FinMap as map;
+ghost use Rattle.odin_journal.specs.Faults.{IsCause, IsRefused};
+ghost use Rattle.odin_journal.specs.Moments.{Works};
+ghost use Rattle.odin_journal.specs.Rest.{IsReady};
+ghost use Rattle.meaning_texts.specs.Classes.{IsName};
+ghost use Rattle.meaning_texts.specs.Limits.{body_limit, graph_limit};
+ghost use Rattle.meaning_records.specs.Batches.{drop_batch};
+ghost use Rattle.meaning_records.specs.States.{spell_batch};
+ghost use Rattle.kept_tables.specs.Holdings.{PreparesSome};
+ghost use Rattle.odin_store.specs.Held.{puts, drops, keeps};
+ghost use Rattle.odin_store.specs.OnDisk.{IsChangeFault, IsLeft, IsOpen, IsSame, IsUnchanged, LeavesChange, WorksOnce};
+ghost use Rattle.odin_store.specs.Opening.{graph_record, IsAtFirst, IsOpenFault, LeavesHeld, OpensQuiet};
+ghost use Rattle.odin_store.specs.Changes.{CallBatch, DropBatch, DropsSource, KeepsCall, MayKeep, MayPut, PutBatch, PutsText};
+
+use crate::loading::{Loading, load_records};
+use kept_tables::{Kept, Prepared};
+use meaning_records::laws::reads_in_one_way;
+use object_sources::Sources;
+use object_values::{Bytes, Call, Copied, Memory, Outcome, Text};
+use odin_bytes::{Name, put_bytes, put_u8};
+use odin_journal::{Journal, JournalFault};
+use odin_outside::Disk;
+use std::alloc::Global;
+
+/// Sources and kept calls, over a disk that is lent call by call: the one of the opening, as the last call left it. After a fault of the disk it is
+/// spent.
+pub struct Store {
+    journal: Journal,
+    kept: Kept,
+    sources: Sources,
+    epoch: u64,
+}
+
+impl Drop for Store {
+    fn drop(self) {
+        let Store {
+            journal,
+            kept,
+            sources,
+            epoch: _,
+        } = self;
+        drop(journal);
+        drop(kept);
+        drop(sources);
+    }
+}
+
+impl Store {
+    /// Opens the store in a file for a graph of this text. Where the last graph text in the file is another, this one is added.
+    pub fn open<D: Disk>(alloc: Global, disk: &mut D, graph: &[u8]) -> Result<Store, JournalFault>
+        requires { length graph.now ≤ graph_limit }
+        ensures opened { IfOk result (OpensQuiet graph.now (D.told disk.old) (D.told disk.new)) }
+        ensures any_moment { LeavesHeld (D.told disk.old) (D.told disk.new) }
+        ensures refused { IfErr result
+            (IsOpenFault graph.now (D.told disk.old) (D.told disk.new)) }
+        ensures first { IfOk result IsAtFirst }
+        ensures ready { IfOk result (λ store. IsReady store.journal (D.size_of disk.new)) }
+        ensures works { D.size_of disk.old ≡ 0
+            → Works (72 + length (graph_record graph.now)) 20 (D.told disk.old) (D.told disk.new) }
+        ensures cause { IsCause (D.faults disk.old) (D.faults disk.new) result }
+    {
+        let (mut journal, records) = Journal::open(alloc, disk)?;
+        let loading = load_records(alloc, records, journal.end())?;
+        if loading.has_graph(graph) {
+            let known = Store::of(journal, loading);
+            return Ok(known);
+        }
+        let payload = graph_payload(alloc, graph)?;
+        journal.append(alloc, disk, payload.as_slice())?;
+        let added = Store::of(journal, loading);
+        Ok(added)
+    }
+
+    // What was loaded, over a journal, with no edit counted.
+    fn of(journal: Journal, loading: Loading) -> Store
+        ensures journal { result.journal ≡ journal }
+        ensures kept { result.kept ≡ loading.kept }
+        ensures sources { result.sources ≡ loading.sources }
+        ensures epoch { result.epoch ≡ 0 }
+    {
+        let (kept, sources) = loading.into_parts();
+        Store {
+            journal,
+            kept,
+            sources,
+            epoch: 0,
+        }
+    }
+
+    /// Gives a source a text. `false` where it has it, and then nothing is written.
+    pub fn put_source<D: Disk>(
+        &mut self,
+        alloc: Global,
+        disk: &mut D,
+        name: &Name,
+        text: &Text,
+    ) -> Result<bool, JournalFault>
+        requires { MayPut self.old (D.size_of disk.old) text.now }
+        ensures puts { IfOk result
+            (PutsText D.told name.now text.now self.old self.new disk.old disk.new) }
+        ensures any_moment { LeavesChange (puts name.now text.now) self.old
+            (D.told disk.old) (D.told disk.new) }
+        ensures fault { IfErr result
+            (IsChangeFault (PutBatch self.old name.now text.now) self.old.journal.end) }
+        ensures same { IsRefused result → IsSame self.old self.new disk.old disk.new }
+        ensures left { IsLeft self.new (D.size_of disk.new) result }
+        ensures works { WorksOnce (PutBatch self.old name.now text.now)
+            (D.told disk.old) (D.told disk.new) }
+        ensures cause { IsCause (D.faults disk.old) (D.faults disk.new) result }
+    {
+        if self.has_text(name, text) {
+            return Ok(false);
+        }
+        let (source, shared, prepared) = self.prepare_put(alloc, name, text)?;
+        self.journal.append(alloc, disk, prepared.payload())?;
+        self.kept.commit(prepared);
+        let _ = self.sources.put(source, shared);
+        self.epoch += 1;
+        Ok(true)
+    }
+
+    /// Takes a source away. `false` where there is none, and then nothing is written.
+    pub fn drop_source<D: Disk>(
+        &mut self,
+        alloc: Global,
+        disk: &mut D,
+        name: &Name,
+    ) -> Result<bool, JournalFault>
+        requires { IsOpen self.old (D.size_of disk.old) }
+        ensures drops { IfOk result
+            (DropsSource D.told name.now self.old self.new disk.old disk.new) }
+        ensures any_moment { LeavesChange (drops name.now) self.old
+            (D.told disk.old) (D.told disk.new) }
+        ensures fault { IfErr result (IsChangeFault (DropBatch name.now) self.old.journal.end) }
+        ensures same { IsRefused result → IsSame self.old self.new disk.old disk.new }
+        ensures left { IsLeft self.new (D.size_of disk.new) result }
+        ensures works { WorksOnce (DropBatch name.now) (D.told disk.old) (D.told disk.new) }
+        ensures cause { IsCause (D.faults disk.old) (D.faults disk.new) result }
+    {
+        if !self.has_source(name) {
+            return Ok(false);
+        }
+        let payload = drop_payload(alloc, name)?;
+        self.journal.append(alloc, disk, payload.as_slice())?;
+        let _ = self.sources.remove(name.as_slice());
+        self.epoch += 1;
+        Ok(true)
+    }
+
+    /// Keeps a call with its outcome.
+    pub fn keep_call<D: Disk>(
+        &mut self,
+        alloc: Global,
+        disk: &mut D,
+        call: &Call,
+        outcome: &Outcome,
+    ) -> Result<(), JournalFault>
+        requires { MayKeep self.old (D.size_of disk.old) call.now outcome.now }
+        ensures keeps { OnOk result (KeepsCall call.now outcome.now self.old self.new
+            (D.told disk.old) (D.told disk.new)) }
+        ensures any_moment { LeavesChange (keeps call.now outcome.now) self.old
+            (D.told disk.old) (D.told disk.new) }
+        ensures fault { IfErr result
+            (IsChangeFault (CallBatch self.old call.now outcome.now) self.old.journal.end) }
+        ensures same { IsRefused result → IsSame self.old self.new disk.old disk.new }
+        ensures left { IsLeft self.new (D.size_of disk.new) result }
+        ensures works { WorksOnce (CallBatch self.old call.now outcome.now)
+            (D.told disk.old) (D.told disk.new) }
+        ensures cause { IsCause (D.faults disk.old) (D.faults disk.new) result }
+    {
+        reads_in_one_way();
+        let prepared = self.kept.prepare_call(alloc, call, outcome)?;
+        self.journal.append(alloc, disk, prepared.payload())?;
+        self.kept.commit(prepared);
+        Ok(())
+    }
+
+    pub fn sources(&self) -> &Sources
+        ensures { result.now ≡ self.now.sources }
+    {
+        &self.sources
+    }
+
+    /// How many edits changed the sources since the opening.
+    pub fn epoch(&self) -> u64
+        ensures { result ≡ self.now.epoch }
+    {
+        self.epoch
+    }
+
+    pub fn kept(&self) -> &Kept
+        ensures { result.now ≡ self.now.kept }
+    {
+        &self.kept
+    }
+
+    /// Where the closed gate stands that ends the records.
+    pub fn end(&self) -> u64
+        ensures { result ≡ self.now.journal.end }
+    {
+        self.journal.end()
+    }
+
+    pub fn spent(&self) -> bool
+        ensures { result ≡ self.now.journal.spent }
+    {
+        self.journal.spent()
+    }
+
+    // Whether the source has this text.
+    fn has_text(&self, name: &Name, text: &Text) -> bool
+        ensures yes { IsTrue result → map.get self.now.sources.texts name.now ≡ Some text.now }
+        ensures no { IsFalse result → map.get self.now.sources.texts name.now ≢ Some text.now }
+    {
+        match self.sources.get(name.as_slice()) {
+            Some(there) => there.as_slice() == text.as_slice(),
+            None => false,
+        }
+    }
+
+    // Whether the source is there.
+    fn has_source(&self, name: &Name) -> bool
+        ensures yes { IsTrue result → IsSome (map.get self.now.sources.texts name.now) }
+        ensures no { IsFalse result → ¬ IsSome (map.get self.now.sources.texts name.now) }
+    {
+        self.sources.get(name.as_slice()).is_some()
+    }
+
+    // All that a put takes of memory: room for the name, the name, the text, which is shared, and the batch.
+    fn prepare_put(
+        &mut self,
+        alloc: Global,
+        name: &Name,
+        text: &Text,
+    ) -> Result<(Bytes, Text, Prepared), Memory>
+        requires { length text.now ≤ body_limit }
+        ensures name { IfOk result (λ made. made.0 ≡ name.now) }
+        ensures text { IfOk result (λ made. made.1 ≡ text.now) }
+        ensures batch { IfOk result (λ made.
+            PreparesSome (PutBatch self.old name.now text.now) self.new.kept made.2) }
+        ensures room { OnOk result (1 ≤ self.new.sources.spare) }
+        ensures same { IsUnchanged self.old self.new }
+    {
+        self.sources.reserve()?;
+        let source = Bytes::from_slice(alloc, name.as_slice())?;
+        let shared = text.copy(alloc)?;
+        let prepared = self.kept.prepare_text(alloc, name, text)?;
+        Ok((source, shared, prepared))
+    }
+}
+
+// The bytes of the batch of a graph.
+fn graph_payload(alloc: Global, graph: &[u8]) -> Result<Bytes, Memory>
+    requires { length graph.now ≤ graph_limit }
+    ensures { IfOk result (λ payload. payload ≡ graph_record graph.now) }
+{
+    let mut payload = Bytes::new(alloc);
+    put_u8(&mut payload, 1)?;
+    put_bytes(&mut payload, graph)?;
+    Ok(payload)
+}
+
+// The bytes of the batch that takes a source away.
+fn drop_payload(alloc: Global, name: &Name) -> Result<Bytes, Memory>
+    ensures bytes { IfOk result (λ payload. payload ≡ spell_batch (drop_batch name.now)) }
+    ensures named { IsName name.now }
+{
+    let bytes = name.as_slice();
+    let mut payload = Bytes::new(alloc);
+    put_u8(&mut payload, 4)?;
+    put_bytes(&mut payload, bytes)?;
+    Ok(payload)
+}

@@ -1,0 +1,5 @@
+use Rattle.odin_journal.specs.Rest.{IsReady}
+use Rattle.store_tests.proofs.sessions.played.Given as goal
+
+abbrev pub invariant-rows : goal.invariant-rows
+invariant-rows g l = IsReady l.store.journal (g.D.Disk.size_of l.disk)
