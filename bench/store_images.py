@@ -1,0 +1,456 @@
+#!/usr/bin/env python3
+"""Reads store files by the tables of docs/STORE.md, and compares what they stand for with what the program says of them.
+
+    store_images.py PROGRAM [COUNT [SEED]]
+
+Images are made from sessions by bytes that change, cuts, splices, records that stand twice, and items that change within whole records. PROGRAM is the
+built crates/store_bench. Each image is opened for the graph text GRAPH. Of each, both say where it isn't ours, or the sources, the calls in order, and the
+file behind the opening. It prints how many agree, and the first that don't.
+"""
+import os
+import random
+import struct
+import subprocess
+import sys
+import tempfile
+
+GRAPH = b"type c simple;"
+LIMIT = 1 << 30
+BODY = 1 << 24
+
+
+# ---- the model
+
+class NotRead(Exception):
+    """The bytes aren't what is asked for."""
+
+
+class Fields:
+    def __init__(self, data, at=0):
+        self.data = data
+        self.at = at
+
+    def take(self, count):
+        if self.at + count > len(self.data):
+            raise NotRead
+        taken = self.data[self.at:self.at + count]
+        self.at += count
+        return taken
+
+    def u8(self):
+        return self.take(1)[0]
+
+    def u32(self):
+        return int.from_bytes(self.take(4), "big")
+
+    def bytes(self):
+        return self.take(self.u32())
+
+    def named(self, names):
+        byte = self.u8()
+        if byte not in names:
+            raise NotRead
+        return byte
+
+    def option(self, member):
+        return member() if self.named((0, 1)) else None
+
+    def list(self, member):
+        # each member has a byte at least, so a count past the bytes ends the reading
+        return [member() for _ in range(self.u32())]
+
+    def pair(self):
+        return (self.bytes(), self.bytes())
+
+    def step(self):
+        return self.u32() if self.named((1, 2)) == 1 else self.bytes()
+
+    def node(self):
+        return (self.bytes(), self.list(self.pair), self.list(self.step))
+
+    def value(self):
+        kind = self.named((1, 2, 3))
+        if kind == 1:
+            return ("simple", self.bytes())
+        if kind == 2:
+            return ("list", self.list(self.node))
+        return ("compound", self.list(self.pair))
+
+    def part(self):
+        return (self.u32(), self.bytes(), self.option(self.u32))
+
+    def call(self):
+        return (self.bytes(), self.bytes(), self.list(self.bytes), self.list(self.pair), self.list(self.part), self.list(self.bytes))
+
+    def outcome(self):
+        return (self.named(range(4)), self.list(lambda: (self.named(range(4)), self.bytes())), self.list(lambda: (self.bytes(), self.u32())))
+
+
+LETTERS = frozenset(b"ABCDEFGHIJKLMNOPQRSTUVWXYZabcdefghijklmnopqrstuvwxyz")
+DIGITS = frozenset(b"0123456789")
+
+
+def is_name(text):
+    return 1 <= len(text) <= 255 and all(b in LETTERS or b in DIGITS or b in b"._-/" for b in text)
+
+
+def is_id(text):
+    return 1 <= len(text) <= 255 and text[0] in LETTERS and all(b in LETTERS or b in DIGITS or b == 95 for b in text)
+
+
+def is_value(text):
+    return all(0x21 <= b <= 0x7E and b not in b"+:%" for b in text)
+
+
+class State:
+    def __init__(self):
+        self.contents = []
+        self.sources = {}
+        self.calls = []
+        self.kept = set()
+        self.graph = None
+
+    def text(self, number):
+        if number >= len(self.contents):
+            raise NotRead
+        kind, text = self.contents[number]
+        if kind != "simple":
+            raise NotRead
+        return text
+
+    def content(self, record):
+        fields = Fields(record)
+        kind, value = fields.value()
+        if fields.at != len(record):
+            raise NotRead
+        bodies = [value] if kind == "simple" else [body for _, body in value] if kind == "compound" else []
+        if any(len(body) > BODY for body in bodies):
+            raise NotRead
+        self.contents.append((kind, value))
+
+    def keep(self, call, outcome):
+        tool, version, words, params, parts, outs = call
+        parts = [(slot, label, None if number is None else self.text(number)) for slot, label, number in parts]
+        status, lines, outputs = outcome
+        outputs = [(name, self.text(number)) for name, number in outputs]
+        formed = (is_id(tool) and is_name(version) and all(is_id(name) and is_value(value) for name, value in params)
+                  and all(b" " not in label and b"\n" not in label for _, label, _ in parts) and all(is_id(out) for out in outs))
+        fits = outputs == [] if status == 3 else [name for name, _ in outputs] == outs
+        whole = (tool, version, tuple(words), tuple(params), tuple(parts), tuple(outs))
+        if not formed or not fits or whole in self.kept:
+            raise NotRead
+        self.kept.add(whole)
+        self.calls.append((whole, (status, lines, outputs)))
+
+    def item(self, fields):
+        kind = fields.named(range(1, 6))
+        if kind == 1:
+            self.graph = fields.bytes()
+        elif kind == 2:
+            self.content(fields.bytes())
+        elif kind == 3:
+            name, number = fields.bytes(), fields.u32()
+            if not is_name(name):
+                raise NotRead
+            self.sources[name] = self.text(number)
+        elif kind == 4:
+            name = fields.bytes()
+            if not is_name(name) or name not in self.sources:
+                raise NotRead
+            del self.sources[name]
+        else:
+            self.keep(fields.call(), fields.outcome())
+
+    def payload(self, payload):
+        if not payload:
+            raise NotRead
+        fields = Fields(payload)
+        while fields.at < len(payload):
+            self.item(fields)
+
+
+def u32(n):
+    return struct.pack(">I", n)
+
+
+def u64(n):
+    return struct.pack(">Q", n)
+
+
+def blob(b):
+    return u32(len(b)) + b
+
+
+def many(items):
+    return u32(len(items)) + b"".join(items)
+
+
+def records_of(image):
+    """The records, each with its gate, and the place of the closed gate behind them; or an offset at which it isn't ours; or None where it is new."""
+    size = len(image)
+    if size > LIMIT:
+        return 0
+    if size <= 1 or image[0] == 0:
+        return None
+    if size < 65 or image[1:8] != b"DINSTO1" or any(image[9:16]) or any(image[32:64]):
+        return 0
+    start = int.from_bytes(image[24:32] if image[8] % 2 else image[16:24], "big")
+    if not 64 <= start < size:
+        return 0
+    found, at = [], start
+    while image[at] == 1:
+        if at + 5 > size:
+            return at
+        length = int.from_bytes(image[at + 1:at + 5], "big")
+        if at + 5 + length + 1 > size:
+            return at
+        found.append((at, image[at + 5:at + 5 + length]))
+        at += 5 + length
+    return found, at
+
+
+def appended(image, end, payload):
+    record = b"\1" + blob(payload) + b"\0"
+    return image[:end] + record + image[end + len(record):]
+
+
+FRONT = b"ODINSTO1" + bytes(8) + u64(64) + bytes(41)
+
+
+def opened(image):
+    """What the program is to say: the offset at which the image isn't ours, or what it stands for and the file behind the opening."""
+    told = records_of(image)
+    if isinstance(told, int):
+        return told
+    state = State()
+    if told is None:
+        return dump(state, appended(FRONT + image[65:], 64, b"\1" + blob(GRAPH)))
+    records, end = told
+    for gate, payload in records:
+        try:
+            state.payload(payload)
+        except NotRead:
+            return gate
+    if state.graph != GRAPH:
+        image = appended(image, end, b"\1" + blob(GRAPH))
+    return dump(state, image)
+
+
+def dump_call(call, outcome):
+    tool, version, words, params, parts, outs = call
+    status, lines, outputs = outcome
+    return b"".join([
+        blob(tool), blob(version), many([blob(w) for w in words]), many([blob(n) + blob(v) for n, v in params]),
+        many([u32(slot) + blob(label) + (b"\0" if body is None else b"\1" + blob(body)) for slot, label, body in parts]),
+        many([blob(o) for o in outs]), bytes([status]), many([bytes([level]) + blob(text) for level, text in lines]),
+        many([blob(name) + blob(body) for name, body in outputs])])
+
+
+def dump(state, image):
+    return b"".join([many([blob(name) + blob(text) for name, text in sorted(state.sources.items())]),
+                     many([dump_call(*kept) for kept in state.calls]), blob(image)])
+
+
+# ---- images of sessions, written by the same tables
+
+class Writer:
+    def __init__(self):
+        self.image = FRONT
+        self.end = 64
+        self.numbers = {}
+        self.count = 0
+        self.sources = {}
+        self.kept = set()
+        self.batch([b"\1" + blob(GRAPH)])
+
+    def batch(self, items):
+        payload = b"".join(items)
+        self.image = self.image[:self.end] + b"\1" + blob(payload) + b"\0"
+        self.end += 5 + len(payload)
+
+    def number(self, text, items):
+        if text not in self.numbers:
+            self.numbers[text] = self.count
+            self.count += 1
+            items.append(b"\2" + blob(b"\1" + blob(text)))
+        return u32(self.numbers[text])
+
+    def put(self, name, text):
+        if self.sources.get(name) == text:
+            return
+        items = []
+        number = self.number(text, items)
+        self.batch(items + [b"\3" + blob(name) + number])
+        self.sources[name] = text
+
+    def drop(self, name):
+        if name in self.sources:
+            del self.sources[name]
+            self.batch([b"\4" + blob(name)])
+
+    def keep(self, tool, version, words, params, parts, outs, status, lines, bodies):
+        whole = (tool, version, tuple(words), tuple(params), tuple(parts), tuple(outs))
+        if whole in self.kept:
+            return
+        self.kept.add(whole)
+        items = []
+        numbered = [u32(slot) + blob(label) + (b"\0" if body is None else b"\1" + self.number(body, items)) for slot, label, body in parts]
+        outputs = [blob(name) + self.number(body, items) for name, body in zip(outs, bodies)] if status != 3 else []
+        self.batch(items + [b"\5" + blob(tool) + blob(version) + many([blob(w) for w in words]) + many([blob(n) + blob(v) for n, v in params])
+                            + many(numbered) + many([blob(o) for o in outs]) + bytes([status])
+                            + many([bytes([level]) + blob(text) for level, text in lines]) + many(outputs)])
+
+
+TEXTS = [b"", b"\n", b"x=1\n", b"include a.h\n", b"w1=2\n", b"text " * 3]
+NAMES = [b"a.c", b"b.c", b"a.h", b"m/x-1_", b"z"]
+
+
+def session(rng):
+    writer = Writer()
+    for _ in range(rng.randrange(1, 9)):
+        what = rng.random()
+        if what < 0.45:
+            writer.put(rng.choice(NAMES), rng.choice(TEXTS))
+        elif what < 0.6:
+            writer.drop(rng.choice(NAMES))
+        elif what < 0.65:
+            writer.batch([b"\1" + blob(rng.choice([GRAPH, b"", b"param d;"]))])
+        elif what < 0.72:
+            writer.count += 1
+            writer.batch([b"\2" + blob(rng.choice([
+                b"\2" + many([blob(b"m") + many([blob(b"d") + blob(b"1")]) + many([b"\1" + u32(3), b"\2" + blob(b"k")])]),
+                b"\2" + many([]), b"\3" + many([blob(b"p") + blob(b"xy")]), b"\1" + blob(b"x=1\n")]))])
+        else:
+            outs = rng.choice([[b"o"], [b"o", b"warn"], []])
+            writer.keep(rng.choice([b"cc", b"ld"]), rng.choice([b"1", b"2.0"]), rng.choice([[], [b"cc"], [b"ld", b"-o x"]]),
+                        rng.choice([[], [(b"debug", b"")], [(b"d", b"1"), (b"d", b"2")]]),
+                        [(rng.randrange(2), rng.choice(NAMES), rng.choice(TEXTS + [None])) for _ in range(rng.randrange(3))],
+                        outs, rng.choice([0, 0, 1, 2, 3]), rng.choice([[], [(1, b"old c")], [(3, b""), (0, b"x\n")]]),
+                        [rng.choice(TEXTS) for _ in outs])
+    image = writer.image
+    if rng.random() < 0.1:
+        # the records stand elsewhere, and the second start leads to them
+        shift = rng.randrange(1, 9)
+        image = image[:8] + bytes([rng.choice([1, 3, 255])]) + image[9:24] + u64(64 + shift) + image[32:64] + bytes(shift) + image[64:]
+    if rng.random() < 0.3:
+        image += bytes(rng.randrange(256) for _ in range(rng.randrange(1, 12)))
+    return image
+
+
+# ---- mutations
+
+def spots(image):
+    told = records_of(image)
+    return [] if told is None or isinstance(told, int) else told[0]
+
+
+def rebuilt(image, payloads):
+    start = int.from_bytes(image[24:32] if image[8] % 2 else image[16:24], "big")
+    return image[:start] + b"".join(b"\1" + blob(p) for p in payloads) + b"\0"
+
+
+def flip(rng, data, most=3):
+    data = bytearray(data)
+    for _ in range(rng.randrange(1, most + 1)):
+        if data:
+            at = rng.randrange(len(data))
+            data[at] = rng.choice([data[at] ^ (1 << rng.randrange(8)), rng.randrange(256), rng.randrange(7), (data[at] + 1) % 256])
+    return bytes(data)
+
+
+def mutate(rng, image, other):
+    way = rng.randrange(12)
+    records = spots(image)
+    payloads = [payload for _, payload in records]
+    if way == 0:
+        return flip(rng, image)
+    if way == 1:
+        return image[:rng.randrange(len(image) + 1)]
+    if way == 2:
+        return image[:rng.randrange(len(image) + 1)] + other[rng.randrange(len(other) + 1):]
+    if way == 3:
+        return flip(rng, image[:64], 2) + image[64:]
+    if not payloads or image[8] % 2 and len(image) < 80:
+        return flip(rng, image)
+    at = rng.randrange(len(payloads))
+    if way in (4, 5):
+        payloads.insert(rng.randrange(len(payloads) + 1), payloads[at])
+    elif way == 6:
+        others = [payload for _, payload in spots(other)]
+        payloads[at:] = others[rng.randrange(len(others) + 1):]
+    elif way == 7:
+        del payloads[at]
+    elif way == 8:
+        payloads[at] = payloads[at][:rng.randrange(len(payloads[at]) + 1)]
+    elif way == 9 and len(payloads) > 1:
+        first = rng.randrange(len(payloads) - 1)
+        payloads[first:first + 2] = [payloads[first] + payloads[first + 1]]
+    elif way == 10:
+        payload = payloads[at]
+        place = rng.randrange(len(payload) + 1)
+        payloads[at] = payload[:place] + rng.choice([b"\0", b"\1", b"a", b" ", b"\n", b"+", bytes([rng.randrange(256)])]) + payload[place + rng.randrange(2):]
+    else:
+        payloads[at] = flip(rng, payloads[at], 2)
+    return rebuilt(image, payloads)
+
+
+def said(program, images, folder):
+    path = os.path.join(folder, "images")
+    with open(path, "wb") as out:
+        for image in images:
+            out.write(blob(image))
+    answer = subprocess.run([program, "images", path], stdout=subprocess.PIPE, check=True).stdout
+    told, at = [], 0
+    while at < len(answer):
+        if answer[at] == 0:
+            told.append(int.from_bytes(answer[at + 1:at + 9], "big"))
+            at += 9
+        else:
+            size = int.from_bytes(answer[at + 1:at + 5], "big")
+            told.append(answer[at + 5:at + 5 + size])
+            at += 5 + size
+    return told
+
+
+def main():
+    program = sys.argv[1]
+    count = int(sys.argv[2]) if len(sys.argv) > 2 else 100_000
+    rng = random.Random(int(sys.argv[3]) if len(sys.argv) > 3 else 1)
+    first = Writer()
+    assert len(first.image) == 89
+    first.put(b"a.c", b"")
+    assert len(first.image) == 116
+    done = ours = wrong = new = 0
+    with tempfile.TemporaryDirectory() as folder:
+        while done < count:
+            images = []
+            while len(images) < min(2000, count - done):
+                image, other = session(rng), session(rng)
+                if rng.random() < 0.05:
+                    images.append(image)
+                    continue
+                for _ in range(8):
+                    made = image
+                    for _ in range(rng.choice([1, 1, 1, 2])):
+                        made = mutate(rng, made, other)
+                    images.append(made)
+            images = images[:count - done]
+            answers = said(program, images, folder)
+            assert len(answers) == len(images), (len(answers), len(images))
+            for image, answer in zip(images, answers):
+                wanted = opened(image)
+                ours += isinstance(wanted, bytes)
+                new += records_of(image) is None
+                if wanted != answer:
+                    wrong += 1
+                    if wrong <= 5:
+                        print("differs", image.hex())
+                        print("  wanted", wanted.hex() if isinstance(wanted, bytes) else wanted)
+                        print("  said  ", answer.hex() if isinstance(answer, bytes) else answer)
+            done += len(images)
+    print(f"{done} images, {ours} of them stores ({new} new ones), {done - ours} not ours; {done - wrong} agree, {wrong} differ")
+    return 1 if wrong else 0
+
+
+if __name__ == "__main__":
+    sys.exit(main())
