@@ -6,12 +6,15 @@ use crate::keying::Keying;
 use object_values::{Bytes, Copied, Memory, Text};
 use std::alloc::Global;
 use std::collections::HashMap;
+use std::hash::{FoldHasher, Hasher};
 use std::marker::{Model, PhantomData};
 
 /// Bodies, each once, numbered from 0 in the order in which they came. A body is looked up by its
-/// key, and what is found there is compared byte by byte.
+/// key, and what is found there is compared byte by byte. A quick hash may find it before.
 pub struct Contents<K: Keying> {
     bodies: Vec<Text>,
+    // a number for the quick hash of each body: the latest that has it
+    hints: HashMap<u64, u64>,
     // the number of the first body that has the key
     first: HashMap<[u8; 32], u64>,
     // the numbers of the bodies whose key an earlier one has
@@ -23,11 +26,13 @@ impl<K: Keying> Drop for Contents<K> {
     fn drop(self) {
         let Contents {
             bodies,
+            hints,
             first,
             clashing,
             keying: _,
         } = self;
         drop(bodies);
+        drop(hints);
         drop(first);
         drop(clashing);
     }
@@ -54,6 +59,7 @@ impl<K: Keying> Contents<K> {
     {
         Contents {
             bodies: Vec::new(alloc),
+            hints: HashMap::new(alloc),
             first: HashMap::new(alloc),
             clashing: Vec::new(alloc),
             keying: PhantomData,
@@ -86,7 +92,10 @@ impl<K: Keying> Contents<K> {
     pub fn find(&self, body: &[u8]) -> Option<u64>
         ensures { result ≡ place_of body.now self.now }
     {
-        self.find_keyed(&K::key(body), body)
+        match self.hinted(body) {
+            Some(id) => Some(id),
+            None => self.find_keyed(&K::key(body), body),
+        }
     }
 
     /// The number of the body, which is shared where it is new and then has the next number.
@@ -95,6 +104,9 @@ impl<K: Keying> Contents<K> {
         ensures bodies { OnOk result (self.new ≡ with_body body.now self.old) }
         ensures err { OnErr result (self.new ≡ self.old) }
     {
+        if let Some(id) = self.hinted(body.as_slice()) {
+            return Ok(id);
+        }
         let key = K::key(body.as_slice());
         if let Some(id) = self.find_keyed(&key, body.as_slice()) {
             return Ok(id);
@@ -109,6 +121,9 @@ impl<K: Keying> Contents<K> {
         ensures bodies { OnOk result (self.new ≡ with_body body.now self.old) }
         ensures err { OnErr result (self.new ≡ self.old) }
     {
+        if let Some(id) = self.hinted(body) {
+            return Ok(id);
+        }
         let key = K::key(body);
         if let Some(id) = self.find_keyed(&key, body) {
             return Ok(id);
@@ -122,6 +137,17 @@ impl<K: Keying> Contents<K> {
         ensures { AreOnce self.now }
     {
         let _ = &self.bodies;
+    }
+
+    // The number of the body, where its quick hash leads to it.
+    fn hinted(&self, body: &[u8]) -> Option<u64>
+        ensures { IfSome result (λ id. place_of body.now self.now ≡ Some id) }
+    {
+        let id = *self.hints.get(&quick_hash(body))?;
+        if id < self.len() && is_body(&self.bodies, id, body) {
+            return Some(id);
+        }
+        None
     }
 
     // The number of the body that has this key.
@@ -146,6 +172,7 @@ impl<K: Keying> Contents<K> {
     {
         let next = self.len();
         self.bodies.reserve(1)?;
+        self.hints.insert(quick_hash(body.as_slice()), next)?;
         if self.first.contains_key(&key) {
             self.clashing.push(next)?;
         } else {
@@ -154,6 +181,13 @@ impl<K: Keying> Contents<K> {
         self.bodies.push(body)?;
         Ok(next)
     }
+}
+
+// A hash that is many times as quick as a digest. Nothing rests on it but time.
+fn quick_hash(body: &[u8]) -> u64 {
+    let mut hasher = FoldHasher::default();
+    hasher.write(body);
+    hasher.finish()
 }
 
 // Whether the number's body is this one.

@@ -6,14 +6,11 @@ use odin_fakes::{FailTools, TableTools};
 use std::alloc::Global;
 use std::test::Fail;
 
-// A part of an input, and its replies. Of an ask each takes three starts and three ends.
+// A part of an input, and its replies; of an ask also how many starts and ends it takes, where those before it went well.
 enum Part {
     Edits(&'static [u8], &'static [u8]),
-    Ask(&'static [u8], &'static [u8]),
+    Ask(&'static [u8], &'static [u8], u32),
 }
-
-// How many starts and ends an ask of the rows takes.
-const TRIES: u32 = 6;
 
 const EDITED: &[Part] = &[
     Part::Edits(
@@ -23,11 +20,14 @@ const EDITED: &[Part] = &[
     Part::Ask(
         b"ask m.sm:exe\n",
         b"object ok simple 4\nx=1\n\nmessages 0\n",
+        6,
     ),
+    // what is linked stays as it was
     Part::Edits(b"put a.c 11\nx=1\n//!old\n", b"put a.c 11\n"),
     Part::Ask(
         b"ask m.sm:exe\n",
         b"object warning simple 4\nx=1\n\nmessages 1\nwarning a.c:o old\n",
+        4,
     ),
 ];
 
@@ -39,36 +39,40 @@ const PACKED: &[Part] = &[
     Part::Ask(
         b"ask m.sm:kit\n",
         b"object ok compound 2\nprog 4\nx=1\n\nsrc 4\na.c\n\nmessages 0\n",
+        6,
     ),
     Part::Ask(
         b"ask m.sm:kit%src\n",
         b"object ok simple 4\na.c\n\nmessages 0\n",
+        0,
     ),
     Part::Ask(
         b"ask a.c:txt\n",
         b"object ok simple 10\nx=1\nx=1\nL\n\nmessages 0\n",
+        2,
     ),
 ];
 
-// The input, and the replies where the ask of this number, from 1, is refused.
-fn written(alloc: Global, parts: &[Part], refused: u32) -> Result<(Bytes, Bytes), Memory> {
+// The input, and the replies where the start or end of this number, from 1, fails, and its ask is refused.
+fn written(alloc: Global, parts: &[Part], number: u32) -> Result<(Bytes, Bytes), Memory> {
     let mut input = Bytes::new(alloc);
     let mut replies = Bytes::new(alloc);
-    let mut asks: u32 = 0;
+    let mut before: u32 = 0;
     for part in parts {
         match part {
             Part::Edits(text, reply) => {
                 input.extend_from_slice(text)?;
                 replies.extend_from_slice(reply)?;
             }
-            Part::Ask(text, reply) => {
-                asks = asks.saturating_add(1);
+            Part::Ask(text, reply, tries) => {
+                let last = before.saturating_add(*tries);
                 input.extend_from_slice(text)?;
-                replies.extend_from_slice(if asks == refused {
+                replies.extend_from_slice(if before < number && number <= last {
                     b"refused tool start\n".as_slice()
                 } else {
                     reply
                 })?;
+                before = last;
             }
         }
     }
@@ -80,7 +84,7 @@ fn is_right(alloc: Global, graph: Pieces, parts: &[Part], number: u32) -> Result
     let mut fails = Seq::new(alloc);
     fails.push(number)?;
     let mut tools = FailTools::new(TableTools::toy(alloc, Seq::new(alloc)), fails);
-    let (input, want) = written(alloc, parts, number.saturating_sub(1) / TRIES + 1)?;
+    let (input, want) = written(alloc, parts, number)?;
     gives(alloc, graph, input.as_slice(), want.as_slice(), &mut tools)
 }
 

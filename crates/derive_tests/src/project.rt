@@ -69,6 +69,6 @@ fn forty_units(alloc: Global) -> Result<Script, Memory> {
 #[test]
 fn links_a_project_of_forty_units(rt: HostRuntime) -> Result<(), Fail> {
     let script = forty_units(rt.alloc())?;
-    assert!(rt; script.goes(rt.alloc(), C_UNITS, 186)?);
+    assert!(rt; script.goes(rt.alloc(), C_UNITS, 99)?);
     Ok(())
 }

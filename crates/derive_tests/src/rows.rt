@@ -11,7 +11,7 @@ const ROWS: &[Row] = &[
         C_UNITS,
         b"put a.c 4\nx=1\nask a.c:o\nask a.c:o\nask a.c +debug:o\n",
         b"put a.c 4\nobject ok simple 4\nx=1\n\nmessages 0\nobject ok simple 4\nx=1\n\nmessages 0\nobject ok simple 10\ndebug\nx=1\n\nmessages 0\n",
-        6,
+        3,
     ),
     (
         C_UNITS,
@@ -31,13 +31,13 @@ const ROWS: &[Row] = &[
         C_UNITS,
         b"put a.c 16\ninclude x.h\nx=1\nask a.c:o\nput x.h 4\nw=5\nask a.c:o\n",
         b"put a.c 16\nobject ok simple 4\nx=1\n\nmessages 0\nput x.h 4\nobject ok simple 8\nx=1\nw=5\n\nmessages 0\n",
-        5,
+        4,
     ),
     (
         C_UNITS,
         b"put m.sm 4\na.c\nput a.c 4\nx=1\nask m.sm:exe\nput a.c 11\nx=1\n//!old\nask m.sm:exe\n",
         b"put m.sm 4\nput a.c 4\nobject ok simple 4\nx=1\n\nmessages 0\nput a.c 11\nobject warning simple 4\nx=1\n\nmessages 1\nwarning a.c:o old\n",
-        6,
+        5,
     ),
     (
         C_UNITS,
@@ -56,7 +56,7 @@ const ROWS: &[Row] = &[
         C_UNITS,
         b"put m.sm 8\na.c\nb.c\nput a.c 4\nx=1\nput b.c 4\ny=2\nask m.sm:objs\nask m.sm:objs%2\nask m.sm:objs%9\nask m.sm:exe\n",
         b"put m.sm 8\nput a.c 4\nput b.c 4\nobject ok list 2\na.c:o\nb.c:o\nmessages 0\nobject ok simple 4\ny=2\n\nmessages 0\nobject abort none 0\nmessages 1\nabort m.sm:units:objs%9 no element 9\nobject ok simple 8\nx=1\ny=2\n\nmessages 0\n",
-        7,
+        5,
     ),
     (
         C_UNITS,
@@ -69,7 +69,7 @@ const ROWS: &[Row] = &[
         KITS,
         b"put m.sm 4\na.c\nput a.c 4\nx=1\nput lic.h 2\nL\nask m.sm:kit\nask m.sm:kit%src\nask a.c:txt\n",
         b"put m.sm 4\nput a.c 4\nput lic.h 2\nobject ok compound 2\nprog 4\nx=1\n\nsrc 4\na.c\n\nmessages 0\nobject ok simple 4\na.c\n\nmessages 0\nobject ok simple 10\nx=1\nx=1\nL\n\nmessages 0\n",
-        9,
+        4,
     ),
     (
         JOINED_TEXTS,

@@ -44,7 +44,7 @@ pub(super) fn gives<S: Spawner>(
 {
     let words = words(alloc)?;
     let mut tree = tree_of(alloc, graph)?;
-    let mut disk = MemDisk::new(alloc, Bytes::new(alloc), 0, 0)?;
+    let mut disk = MemDisk::new(alloc, Bytes::new(alloc), 1 << 22, 4096)?;
     let mut source = MemSource::new(Bytes::from_slice(alloc, input)?, 5000);
     let mut output = MemSink::new(alloc, 5000);
     output.reserve(ROOM)?;

@@ -3,6 +3,7 @@ mod Added
 mod TopLemmas
 mod NeedLemmas
 mod ClosingLemmas
+mod LooksLemmas
 mod SourceLemmas
 mod SourceSettles
 mod GoingLemmas

@@ -7,4 +7,5 @@ pub mod States
 pub mod Paths
 pub mod Settings
 pub mod Settled
+pub mod Looks
 pub mod Laws

@@ -1,5 +1,6 @@
 // The closing of a node whose needs were all visited.
 ghost use Rattle.std.specs.Prelude.{◌≡◌, ◌+◌, OnOk, IfOk};
+ghost use Rattle.derive_walk.specs.Looks.{AreFew, lost, met_in};
 ghost use Rattle.derive_walk.specs.Paths.{IsClosing, IsLast, AreVisited};
 ghost use Rattle.derive_walk.specs.Settings.{IsSetting, world_in};
 ghost use Rattle.derive_walk.specs.States.{HoldsIn, GoesOnFrom, Visited, AfterVisit};
@@ -33,6 +34,7 @@ pub(crate) fn close<K: Known, L: Ledger>(
     ensures holds { HoldsIn (world_in K.kept setting.now) walk.new }
     ensures after { let w = world_in K.kept setting.now in
         IfOk result (AfterVisit w walk.old walk.new node) }
+    ensures counted { AreFew (met_in walk.old) (met_in walk.new) steps.old steps.new (lost result) }
 {
     let top = tallest(&walk.done, &walk.waiting, needs);
     if top >= HEIGHT_LIMIT as u32 {
@@ -65,6 +67,7 @@ fn close_seen<K: Known, L: Ledger>(
     ensures holds { HoldsIn (world_in K.kept setting.now) walk.new }
     ensures visited { let w = world_in K.kept setting.now in
         OnOk result (Visited w walk.old walk.new node) }
+    ensures counted { AreFew (met_in walk.old) (met_in walk.new) steps.old steps.new (lost result) }
 {
     match settle_node(alloc, setting, &walk.done, &walk.wanted, &node, steps)? {
         Closed::Settled(view) => {

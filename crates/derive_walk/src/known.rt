@@ -1,7 +1,6 @@
 // What is kept of calls.
 ghost use Rattle.std.specs.Prelude.{◌≡◌, ◌+◌, IfOk};
 ghost use Rattle.meaning_derive.specs.Derive.{Outcomes};
-ghost use Rattle.meaning_derive.specs.Given.{OutcomesFit};
 
 use object_values::{Call, Memory, Outcome};
 use odin_outside::Steps;
@@ -12,9 +11,6 @@ use std::sync::ledger::Ledger;
 pub trait Known {
     /// The outcome of each call that is kept.
     ghost kept: { Self → Outcomes };
-
-    /// Each fits its call.
-    ghost fit: { (known : Self) → OutcomesFit (kept known) };
 
     fn outcome<L: Ledger>(
         &self,
@@ -32,11 +28,8 @@ pub struct NothingKept;
 
 impl Known for NothingKept {
     ghost use Rattle.derive_walk.specs.Outcomes.{nothing_known};
-    ghost use Rattle.derive_walk.specs.NothingFits.{nothing_fits};
 
     ghost kept = { λ known. nothing_known };
-
-    ghost fit = { λ known. nothing_fits };
 
     fn outcome<L: Ledger>(
         &self,

@@ -7,6 +7,7 @@ ghost use Rattle.meaning_nodes.specs.Values.{inherit};
 ghost use Rattle.meaning_tasks.specs.Settle.{given_own};
 ghost use Rattle.meaning_tasks.specs.Calls.{CallOf};
 ghost use Rattle.walk_tables.specs.Tables.{results_of};
+ghost use Rattle.derive_walk.specs.Looks.{LooksOnce};
 ghost use Rattle.derive_walk.specs.Settings.{IsSetting, world_in};
 ghost use Rattle.derive_walk.specs.Settled.{AreOutside, IsClosed, SettlesIn};
 
@@ -43,8 +44,9 @@ pub(crate) fn settle_node<K: Known, L: Ledger>(
     requires set { IsSetting K.kept setting.now }
     requires fits { Fits setting.now.graph.now node.now }
     requires outside { AreOutside (world_in K.kept setting.now) wanted.now }
-    ensures { let w = world_in K.kept setting.now in
+    ensures closed { let w = world_in K.kept setting.now in
         IfOk result (IsClosed w node.now (results_of done.now)) }
+    ensures counted { LooksOnce wanted.now steps.old steps.new result }
 {
     if node.steps.is_empty() {
         let view = source_view(alloc, setting.graph, setting.sources, node)?;
@@ -72,8 +74,9 @@ fn settle_call<K: Known, L: Ledger>(
     requires outside { AreOutside (world_in K.kept setting.now) wanted.now }
     requires called { CallOf setting.now.graph.now node.now (results_of done.now) (Some call) }
     requires stepped { node.now.steps ≢ [] }
-    ensures { let w = world_in K.kept setting.now in
+    ensures closed { let w = world_in K.kept setting.now in
         IfOk result (IsClosed w node.now (results_of done.now)) }
+    ensures counted { LooksOnce wanted.now steps.old steps.new result }
 {
     if let Some(outcome) = setting.given.outcome(&call) {
         let view = settle_by(alloc, setting, done, node, Some(outcome))?;

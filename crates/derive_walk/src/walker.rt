@@ -9,6 +9,7 @@ ghost use Rattle.meaning_derive.specs.Derive.{Sources as SourceTexts, Outcomes};
 ghost use Rattle.meaning_derive.specs.Given.{AreSources, OutcomesFit};
 ghost use Rattle.path_planner.specs.Ends.{plans_of};
 ghost use Rattle.derive_walk.specs.Outcomes.{after};
+ghost use Rattle.derive_walk.specs.Looks.{AreFew, lost, met_by, met_in};
 ghost use Rattle.derive_walk.specs.Paths.{HasNoPath, AfterRoot};
 ghost use Rattle.derive_walk.specs.Settings.{IsSetting, world_in};
 ghost use Rattle.derive_walk.specs.States.{HoldsIn, GoesOnFrom, heights_in};
@@ -71,7 +72,8 @@ impl Walker {
     /// Nothing is known yet. It is right in every world that its root fits.
     pub fn new(alloc: Global, root: Node) -> Self
         ensures is { result ≡ new_walk root }
-        ensures right { (w : World) → Fits w.graph root → OutcomesFit w.outcomes → IsRight w result }
+        ensures right { (w : World) → Fits w.graph root → OutcomesFit w.outcomes →
+            IsRight w result }
     {
         Walker {
             walk: Walk {
@@ -107,6 +109,8 @@ impl Walker {
             IsRight (world graph.now sources.now.texts by) self.new }
         ensures advanced { let by = after (K.kept known.now) self.new.given in
             OnOk result (IsAdvanced (world graph.now sources.now.texts by) self.new) }
+        ensures counted { AreFew (met_by self.old) (met_by self.new)
+            steps.old steps.new (lost result) }
     {
         if self.result.is_some() {
             return Ok(());
@@ -184,6 +188,7 @@ fn walk_from_root<K: Known, L: Ledger>(
     ensures on { GoesOnFrom walk.old walk.new }
     ensures holds { HoldsIn (world_in K.kept setting.now) walk.new }
     ensures after { IfOk result (AfterRoot (world_in K.kept setting.now) walk.new) }
+    ensures counted { AreFew (met_in walk.old) (met_in walk.new) steps.old steps.new (lost result) }
 {
     if walk.root.steps.is_empty() {
         let view = source_view(alloc, setting.graph, setting.sources, &walk.root)?;

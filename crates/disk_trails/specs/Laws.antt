@@ -1,7 +1,7 @@
 -- What the laws of trails say.
 use Rattle.std.specs.Prelude.{◌≡◌, ℕ, ◌+◌, ◌≤◌, List, [], ◌∷◌, ◌++◌, Option}
 use Rattle.odin_outside.specs.Disk.{Telling, Work, LeavesOnly, MayLeave}
-use Rattle.odin_journal.specs.Moments.{WorkedWithin}
+use Rattle.odin_outside.specs.Worked.{WorkedWithin}
 use Rattle.disk_trails.specs.Trails.{Keeping, Trail, Leaves, Keeps, StopsIn, Grows, StopsWithin}
 
 module _ {Kept Change Store Disk : Type 0} (m : Keeping Kept Change Store) (told : Disk → Telling) where

@@ -1,7 +1,7 @@
 -- The work of calls on a disk, one behind another.
 use Rattle.std.proofs.Common.{ℕ, ◌+◌, ◌≤◌, Option, Some, None, refl, arith}
 use Rattle.odin_outside.specs.Disk.{Work}
-use Rattle.odin_journal.specs.Moments.{WorkedWithin}
+use Rattle.odin_outside.specs.Worked.{WorkedWithin}
 
 -- no call is no work
 pub no_work : (work : Option Work) → WorkedWithin 0 0 work work

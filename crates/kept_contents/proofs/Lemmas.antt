@@ -4,3 +4,8 @@ pub use Rattle.kept_contents.proofs.Batched.{adds_append, added_once, added_from
 -- What numbers stand for is one thing.
 pub use Rattle.kept_contents.proofs.Resolved.{one_text, one_call, one_outcome}
 pub use Rattle.kept_contents.proofs.Numbers.{next_number}
+-- Numbers of the inputs of calls.
+pub use Rattle.kept_contents.proofs.HeldCalls.{ids_grown, one_ids}
+-- Items of lists by their places.
+pub use Rattle.kept_contents.proofs.Items.{mapped}
+pub use Rattle.kept_contents.proofs.Contents.{unmapped}

@@ -1,5 +1,7 @@
+mod Batched
+mod Contents
+mod HeldCalls
 mod Items
 mod Numbers
 mod Resolved
-mod Batched
 pub mod Lemmas

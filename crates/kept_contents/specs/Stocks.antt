@@ -1,9 +1,11 @@
 -- The contents of a journal in memory.
-use Rattle.std.specs.Prelude.{◌≡◌, ⊤, ℕ, List, Option, Some, length, slice_get}
+use Rattle.std.specs.Prelude.{◌≡◌, ⊤, ℕ, List, Option, Some, length, map, slice_get}
 use Rattle.object_values.specs.declared.views.Value.{Value}
 use Rattle.object_values.specs.declared.views.Value.TheVariants.{Simple, List as Listed, Compound}
 use Rattle.content_store.specs.Bodies.{Bodies, place_of}
 use Rattle.meaning_records.specs.Tables.{IsText}
+use Rattle.kept_contents.specs.declared.shared.Content.{Content}
+use Rattle.kept_contents.specs.declared.shared.Content.TheVariants.{Text, Other}
 
 -- the contents, the texts by their numbers in memory, and for how many contents more there is room
 pub record Stock : Type 0 where
@@ -16,6 +18,19 @@ abbrev pub IsOther : Value → Type 0
 IsOther (Simple text) = ⊥
 IsOther (Listed nodes) = ⊤
 IsOther (Compound parts) = ⊤
+
+-- the value that a content is
+abbrev pub value_of : Content → Value
+value_of (Text shared) = Simple shared.text
+value_of (Other value) = value
+
+abbrev pub values_of : List Content → List Value
+values_of = map value_of
+
+-- A content that is a text is held under its number.
+abbrev pub IsHeldIn : Bodies → Content → Type 0
+IsHeldIn texts (Text shared) = place_of shared.text texts ≡ Some shared.id
+IsHeldIn texts (Other value) = IsOther value
 
 -- Each text leads to a content where it is one, and to no other.
 pub record IsNumbered (contents : List Value) (texts : Bodies) (numbers : List (Option ℕ)) : Type 0 where

@@ -1,12 +1,14 @@
 //! The contents of a journal in memory, each text once, with the ways from the numbers of a record to its texts and back.
 #![tactic(auto)]
 
+mod held;
 mod numbering;
 mod resolving;
 mod shared;
 mod table;
 
+pub use held::{HeldCall, find_call, hold_call};
 pub use numbering::{number_text, stored_call, stored_outcome};
 pub use resolving::{call_of, outcome_of};
-pub use shared::Shared;
+pub use shared::{Content, Shared};
 pub use table::ContentTable;

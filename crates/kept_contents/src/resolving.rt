@@ -4,25 +4,32 @@ ghost use Rattle.object_values.specs.declared.calls.Call.{Call as CallValue};
 ghost use Rattle.object_values.specs.declared.calls.CallPart.{CallPart as PartValue};
 ghost use Rattle.object_values.specs.declared.calls.Outcome.{Outcome as OutcomeValue};
 ghost use Rattle.object_values.specs.declared.views.Part.{Part as OutputValue};
+ghost use Rattle.kept_contents.specs.Held.{AreIdsOf, IsHeld, IsIdOf};
 ghost use Rattle.meaning_records.specs.Tables.{IsPartOf, ArePartsOf, IsCallOf, IsOutputOf, AreOutputsOf, IsOutcomeOf};
 
+use crate::held::HeldCall;
 use crate::table::ContentTable;
 use meaning_records::items::{StoredCall, StoredOutcome, StoredOutput, StoredPart};
 use object_values::{Call, CallPart, Copied, Memory, Outcome, Part, Seq};
 use std::alloc::Global;
 
-/// The call of a record, whose inputs share the texts of the table. `None` where a content isn't there or is no text.
+/// The call of a record, whose inputs share the texts of the table, with their numbers there. `None` where a content isn't there or is no text.
 pub fn call_of(
     alloc: Global,
     table: &ContentTable,
     stored: StoredCall,
-) -> Result<Option<Call>, Memory>
-    ensures some { IfOk result (λ found. IfSome found (IsCallOf table.now.contents stored)) }
+) -> Result<Option<HeldCall>, Memory>
+    ensures some { IfOk result (λ found.
+        IfSome found (λ held. IsCallOf table.now.contents stored held.call)) }
+    ensures held { IfOk result (λ found. IfSome found (IsHeld table.now.texts)) }
     ensures none { IfOk result (λ found.
         IfNone found ((call : CallValue) → ¬ IsCallOf table.now.contents stored call)) }
 {
     match parts_of(alloc, table, stored.parts.as_slice())? {
-        Some(parts) => Ok(Some(with_parts(stored, parts))),
+        Some((parts, ids)) => {
+            let call = with_parts(stored, parts);
+            Ok(Some(HeldCall { ids, call }))
+        }
         None => Ok(None),
     }
 }
@@ -61,42 +68,52 @@ fn parts_of(
     alloc: Global,
     table: &ContentTable,
     stored: &[StoredPart],
-) -> Result<Option<Seq<CallPart>>, Memory>
-    ensures some { IfOk result (λ found. IfSome found (ArePartsOf table.now.contents stored.now)) }
+) -> Result<Option<(Seq<CallPart>, Seq<Option<u64>>)>, Memory>
+    ensures some { IfOk result (λ found.
+        IfSome found (λ p. ArePartsOf table.now.contents stored.now p.0)) }
+    ensures held { IfOk result (λ found.
+        IfSome found (λ p. AreIdsOf table.now.texts p.1 p.0)) }
     ensures none { IfOk result (λ found. IfNone found
         ((parts : List PartValue) → ¬ ArePartsOf table.now.contents stored.now parts)) }
 {
     let mut parts = Seq::new(alloc);
+    let mut ids = Seq::new(alloc);
     for part in stored {
-        match part_of(alloc, table, part)? {
-            Some(made) => parts.push(made)?,
-            None => return Ok(None),
-        }
+        let Some((made, id)) = part_of(alloc, table, part)? else {
+            return Ok(None);
+        };
+        parts.push(made)?;
+        ids.push(id)?;
     }
-    Ok(Some(parts))
+    Ok(Some((parts, ids)))
 }
 
 fn part_of(
     alloc: Global,
     table: &ContentTable,
     stored: &StoredPart,
-) -> Result<Option<CallPart>, Memory>
-    ensures some { IfOk result (λ found. IfSome found (IsPartOf table.now.contents stored.now)) }
+) -> Result<Option<(CallPart, Option<u64>)>, Memory>
+    ensures some { IfOk result (λ found.
+        IfSome found (λ p. IsPartOf table.now.contents stored.now p.0)) }
+    ensures held { IfOk result (λ found.
+        IfSome found (λ p. IsIdOf table.now.texts p.1 p.0.body)) }
     ensures none { IfOk result (λ found.
         IfNone found ((part : PartValue) → ¬ IsPartOf table.now.contents stored.now part)) }
 {
-    let body = match stored.content {
-        Some(number) => match table.text(number) {
-            Some(text) => Some(text.copy(alloc)?),
+    let (body, id) = match stored.content {
+        Some(number) => match table.shared(number) {
+            Some(shared) => (Some(shared.text.copy(alloc)?), Some(shared.id)),
             None => return Ok(None),
         },
-        None => None,
+        None => (None, None),
     };
-    Ok(Some(CallPart {
+    let label = stored.label.copy(alloc)?;
+    let part = CallPart {
         slot: stored.slot,
-        label: stored.label.copy(alloc)?,
+        label,
         body,
-    }))
+    };
+    Ok(Some((part, id)))
 }
 
 /// The outcome of a record, whose outputs share the texts of the table. `None` where a content isn't there or is no text.

@@ -1,12 +1,13 @@
 // The contents of a journal, and how a text is found among them.
-ghost use Rattle.std.specs.Prelude.{◌≡◌, ℕ, List, ◌+◌, ◌-◌, ◌<◌, ◌≤◌, ◌^◌, ◌∷◌, ◌++◌, [], IfNone, IfOk, IfSome, OnOk, Some, length, option_map, reverse, slice_get, vec_capacity, vec_len};
+ghost use Rattle.std.specs.Prelude.{◌≡◌, ℕ, List, ◌+◌, ◌-◌, ◌<◌, ◌≤◌, ◌^◌, ◌∷◌, ◌++◌, [], IfNone, IfOk, IfSome, OnOk, Some, length, reverse, slice_get, vec_capacity, vec_len};
 ghost use Rattle.object_values.specs.declared.views.Value.TheVariants.{Simple};
 ghost use Rattle.meaning_records.specs.Tables.{IsText, IsNoText};
 ghost use Rattle.kept_contents.specs.Stocks.{IsOther};
+ghost use Rattle.kept_contents.specs.Held.{IsGrownFrom};
 ghost use Rattle.kept_contents.specs.Added.{AreHeld, contents_with};
-ghost use Rattle.content_store.specs.Bodies.{Bodies, place_of};
+ghost use Rattle.content_store.specs.Bodies.{place_of};
 
-use crate::shared::Shared;
+use crate::shared::{Content, Shared};
 use content_store::{Contents, ShaKeys};
 use object_values::{Copied, Memory, Text, Value};
 use std::alloc::Global;
@@ -15,7 +16,7 @@ use std::marker::Model;
 /// The contents of a journal in order, and all texts that were held, each once. Contracts see the contents, the texts by their numbers in memory, and for how
 /// many contents more there is room.
 pub struct ContentTable {
-    values: Vec<Value>,
+    contents: Vec<Content>,
     texts: Contents<ShaKeys>,
     // of each text the number of a content with its bytes
     numbers: Vec<Option<u32>>,
@@ -24,29 +25,30 @@ pub struct ContentTable {
 impl Drop for ContentTable {
     fn drop(self) {
         let ContentTable {
-            values,
+            contents,
             texts,
             numbers,
         } = self;
-        drop(values);
+        drop(contents);
         drop(texts);
         drop(numbers);
     }
 }
 
 impl Model for ContentTable {
-    ghost use Rattle.std.specs.Prelude.{◌-◌, vec_len, vec_capacity};
-    ghost use Rattle.kept_contents.specs.Stocks.{Stock, IsNumbered};
+    ghost use Rattle.std.specs.Prelude.{◌-◌, All, vec_len, vec_capacity};
+    ghost use Rattle.kept_contents.specs.Stocks.{Stock, IsNumbered, IsHeldIn, values_of};
 
     ghost Value = { Stock };
 
     ghost view = { λ t. record {
-      contents = t.values.items;
+      contents = values_of t.contents.items;
       texts = t.texts;
-      room = vec_capacity t.values - vec_len t.values;
+      room = vec_capacity t.contents - vec_len t.contents;
     } };
 
-    ghost invariant = { λ t. IsNumbered t.values.items t.texts t.numbers.items };
+    ghost invariant = { λ t. IsNumbered (values_of t.contents.items) t.texts t.numbers.items
+        × All (IsHeldIn t.texts) t.contents.items };
 }
 
 impl ContentTable {
@@ -55,7 +57,7 @@ impl ContentTable {
         ensures texts { result.texts ≡ [] }
     {
         ContentTable {
-            values: Vec::new(alloc),
+            contents: Vec::new(alloc),
             texts: Contents::new(alloc),
             numbers: Vec::new(alloc),
         }
@@ -64,14 +66,20 @@ impl ContentTable {
     pub fn len(&self) -> usize
         ensures { result ≡ length self.now.contents }
     {
-        self.values.len()
+        self.contents.len()
     }
 
-    /// The content of a number.
-    pub fn value(&self, number: u32) -> Option<&Value>
-        ensures { option_map (λ v. v.now) result ≡ slice_get self.now.contents number }
+    /// The text that is the content of a number, with its own number in memory.
+    pub fn shared(&self, number: u32) -> Option<&Shared>
+        ensures some { IfSome result (λ s. IsText self.now.contents number s.now.text) }
+        ensures held { IfSome result (λ s. place_of s.now.text self.now.texts ≡ Some s.now.id) }
+        ensures none { IfNone result ((text : List ℕ) → ¬ IsText self.now.contents number text) }
     {
-        self.values.get(number as usize)
+        match self.contents.get(number as usize) {
+            Some(Content::Text(shared)) => Some(shared),
+            Some(Content::Other(_)) => None,
+            None => None,
+        }
     }
 
     /// The text that is the content of a number.
@@ -79,21 +87,26 @@ impl ContentTable {
         ensures some { IfSome result (λ text. IsText self.now.contents number text.now) }
         ensures none { IfNone result ((text : List ℕ) → ¬ IsText self.now.contents number text) }
     {
-        match self.value(number) {
-            Some(Value::Simple(text)) => Some(text),
-            _ => None,
+        match self.shared(number) {
+            Some(shared) => Some(&shared.text),
+            None => None,
         }
     }
 
-    /// The number of a content that is this text.
-    pub fn number(&self, text: &[u8]) -> Option<u32>
-        ensures some { IfSome result (λ n. IsText self.now.contents n text.now) }
-        ensures none { IfNone result (IsNoText self.now.contents text.now) }
+    /// The number in memory of a text.
+    pub fn find(&self, text: &[u8]) -> Option<u64>
+        ensures { result ≡ place_of text.now self.now.texts }
     {
-        match self.texts.find(text) {
-            Some(id) => self.numbers[id as usize],
-            None => None,
-        }
+        self.texts.find(text)
+    }
+
+    /// The number of a content that is this text, which has this number in memory.
+    pub fn number(&self, shared: &Shared) -> Option<u32>
+        requires { place_of shared.now.text self.now.texts ≡ Some shared.now.id }
+        ensures some { IfSome result (λ n. IsText self.now.contents n shared.now.text) }
+        ensures none { IfNone result (IsNoText self.now.contents shared.now.text) }
+    {
+        self.numbers[shared.id as usize]
     }
 
     /// Holds a text in memory, once. The contents stay.
@@ -101,18 +114,18 @@ impl ContentTable {
         ensures id { IfOk result (λ s. place_of text.now self.new.texts ≡ Some s.id) }
         ensures text { IfOk result (λ s. s.text ≡ text.now) }
         ensures contents { self.new.contents ≡ self.old.contents }
-        ensures texts { (later : Bodies) × (self.new.texts ≡ self.old.texts ++ later) }
+        ensures texts { IsGrownFrom self.old.texts self.new.texts }
     {
         let id = self.hold(alloc, text)?;
         let text = self.held(alloc, id)?;
         Ok(Shared { id, text })
     }
 
-    // The number in memory of a text.
-    fn hold(&mut self, alloc: Global, text: &Text) -> Result<u64, Memory>
+    /// The number in memory of a text, which is held from now on. The contents stay.
+    pub fn hold(&mut self, alloc: Global, text: &Text) -> Result<u64, Memory>
         ensures id { IfOk result (λ id. place_of text.now self.new.texts ≡ Some id) }
         ensures contents { self.new.contents ≡ self.old.contents }
-        ensures texts { (later : Bodies) × (self.new.texts ≡ self.old.texts ++ later) }
+        ensures texts { IsGrownFrom self.old.texts self.new.texts }
     {
         self.numbers.reserve(1)?;
         let id = self.texts.intern(alloc, text)?;
@@ -136,7 +149,7 @@ impl ContentTable {
         ensures contents { self.new.contents ≡ self.old.contents }
         ensures texts { self.new.texts ≡ self.old.texts }
     {
-        self.values.reserve(more)?;
+        self.contents.reserve(more)?;
         Ok(())
     }
 
@@ -150,8 +163,8 @@ impl ContentTable {
         ensures room { self.old.room ≤ self.new.room + 1 }
     {
         let Shared { id, text } = shared;
-        self.numbers[id as usize] = Some(self.values.len() as u32);
-        push_within(&mut self.values, Value::Simple(text));
+        self.numbers[id as usize] = Some(self.contents.len() as u32);
+        push_within(&mut self.contents, Content::Text(Shared { id, text }));
     }
 
     /// Adds texts that are held as the next contents, the last of the list first. It takes no memory.
@@ -171,7 +184,8 @@ impl ContentTable {
 
     /// Adds the next content.
     pub fn add(&mut self, alloc: Global, value: Value) -> Result<(), Memory>
-        ensures { OnOk result (self.new.contents ≡ self.old.contents ++ value ∷ []) }
+        ensures contents { OnOk result (self.new.contents ≡ self.old.contents ++ value ∷ []) }
+        ensures texts { IsGrownFrom self.old.texts self.new.texts }
     {
         match value {
             Value::Simple(text) => self.add_text(alloc, &text),
@@ -180,7 +194,9 @@ impl ContentTable {
     }
 
     fn add_text(&mut self, alloc: Global, text: &Text) -> Result<(), Memory>
-        ensures { OnOk result (self.new.contents ≡ self.old.contents ++ Simple text.now ∷ []) }
+        ensures contents { OnOk result
+            (self.new.contents ≡ self.old.contents ++ Simple text.now ∷ []) }
+        ensures texts { IsGrownFrom self.old.texts self.new.texts }
     {
         if self.len() > u32::MAX as usize {
             return Err(Memory);
@@ -193,9 +209,10 @@ impl ContentTable {
 
     fn add_other(&mut self, value: Value) -> Result<(), Memory>
         requires { IsOther value }
-        ensures { OnOk result (self.new.contents ≡ self.old.contents ++ value ∷ []) }
+        ensures contents { OnOk result (self.new.contents ≡ self.old.contents ++ value ∷ []) }
+        ensures texts { IsGrownFrom self.old.texts self.new.texts }
     {
-        self.values.push(value)?;
+        self.contents.push(Content::Other(value))?;
         Ok(())
     }
 }

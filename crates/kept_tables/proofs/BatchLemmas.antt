@@ -20,6 +20,7 @@ use Rattle.meaning_records.specs.declared.items.Item.TheVariants.{Content, Put, 
 use Rattle.meaning_records.specs.Tables.{Tables, IsText, IsNoText, IsCallOf, IsOutcomeOf, LoadsAll, Calls, with_content, with_call}
 use Rattle.meaning_records.specs.Batches.{contents_of, body_of, needed_texts, IsPutBatch, IsCallBatch}
 use Rattle.kept_contents.specs.declared.shared.Shared.{Shared}
+use Rattle.kept_contents.specs.declared.held.HeldCall.{HeldCall}
 use Rattle.kept_contents.specs.Added.{texts_of, texts_of_parts, texts_of_outputs, contents_with, AddsOne, Adds}
 use Rattle.kept_contents.proofs.Lemmas.{added_once, added_from, added_new, next_number, parts_stay}
 use Rattle.kept_tables.specs.Holdings.{Holding, Batch, MayKeep, Makes, PreparesSome, items_with, with_batch, with_calls, calls_of}
@@ -61,7 +62,7 @@ needed_short call outcome formed fits t i = elim (in_either t (texts_of_parts ca
 ]
 
 module _ (old kept : Holding) (same : kept.tables ≡ old.tables) (added : List Shared) (batch : Batch) where
-  module _ (call : Call) (outcome : Outcome) (may : MayKeep old.tables call outcome) (adds : Adds old.tables.contents (needed_texts call outcome) [] (texts_of added)) (stored : StoredCall) (given : StoredOutcome) (called : IsCallOf (contents_with old.tables.contents added) stored call) (came : IsOutcomeOf (contents_with old.tables.contents added) given outcome) where
+  module _ (held : HeldCall) (call : Call) (held_is : held.call ≡ call) (outcome : Outcome) (may : MayKeep old.tables call outcome) (adds : Adds old.tables.contents (needed_texts call outcome) [] (texts_of added)) (stored : StoredCall) (given : StoredOutcome) (called : IsCallOf (contents_with old.tables.contents added) stored call) (came : IsOutcomeOf (contents_with old.tables.contents added) given outcome) where
     call_items : IsCallBatch old.tables.contents call outcome (items_with added (Kept stored given))
     call_items = record {
       added = texts_of added;
@@ -80,7 +81,7 @@ module _ (old kept : Holding) (same : kept.tables ≡ old.tables) (added : List 
         (λ t i. needed_short call outcome may.formed may.fits t (added_from old.tables.contents (needed_texts call outcome) (texts_of added) adds t i))
         (with_call call outcome (with_contents old.tables (contents_of (texts_of added))), (call, outcome, record { called = called; came = came; formed = may.formed; fits = may.fits; new = may.new }, refl), refl)
 
-    pub call_prepared : Makes added (Kept stored given) (Some (call, outcome)) kept batch → PreparesSome (IsCallBatch old.tables.contents call outcome) kept batch
+    pub call_prepared : Makes added (Kept stored given) (Some (held, outcome)) kept batch → PreparesSome (IsCallBatch old.tables.contents call outcome) kept batch
     call_prepared makes = (
       items_with added (Kept stored given),
       call_items,
@@ -88,7 +89,7 @@ module _ (old kept : Holding) (same : kept.tables ≡ old.tables) (added : List 
         fit = makes.fit;
         spelled = makes.spelled;
         next = with_batch kept.tables batch;
-        loads = rw (same, makes.added_is, makes.call_is) call_loads;
+        loads = rw (same, makes.added_is, makes.call_is, held_is) call_loads;
         commits = makes.commits;
       },
     )
@@ -144,8 +145,8 @@ call_stays contents xs old new stored call adds is = record {
 
 -- ---- taking in
 
-pub committed : (old middle new : Tables) (batch : Batch) (added : List Shared) (call : Option (Call × Outcome)) → added ≡ batch.added → call ≡ batch.call → middle.contents ≡ contents_with old.contents (reverse added) → middle.calls ≡ old.calls → new ≡ with_calls middle (calls_of call) → new ≡ with_batch old batch
+pub committed : (old middle new : Tables) (batch : Batch) (added : List Shared) (call : Option (HeldCall × Outcome)) → added ≡ batch.added → call ≡ batch.call → middle.contents ≡ contents_with old.contents (reverse added) → middle.calls ≡ old.calls → new ≡ with_calls middle (calls_of call) → new ≡ with_batch old batch
 committed old middle new batch added call added_is call_is contents calls new_is =
     let a : middle.contents ≡ contents_with old.contents (reverse batch.added) = contents ∙ ap (λ (l : List Shared). contents_with old.contents (reverse l)) added_is in
-    let b : middle.calls ++ calls_of call ≡ old.calls ++ calls_of batch.call = ap (λ (l : Calls). l ++ calls_of call) calls ∙ ap (λ (o : Option (Call × Outcome)). old.calls ++ calls_of o) call_is in
+    let b : middle.calls ++ calls_of call ≡ old.calls ++ calls_of batch.call = ap (λ (l : Calls). l ++ calls_of call) calls ∙ ap (λ (o : Option (HeldCall × Outcome)). old.calls ++ calls_of o) call_is in
     new_is ∙ (λ i. record { contents = a i; calls = b i })

@@ -1,3 +1,4 @@
 mod Added
 mod BatchLemmas
+mod HeldLemmas
 mod LoadLemmas

@@ -13,7 +13,9 @@ use Rattle.meaning_records.specs.Batches.{contents_of}
 use Rattle.meaning_records.specs.States.{spell_batch}
 use Rattle.meaning_records.specs.Tables.{Tables, Calls, LoadsAll, kept_outcome}
 use Rattle.kept_contents.specs.declared.shared.Shared.{Shared}
+use Rattle.kept_contents.specs.declared.held.HeldCall.{HeldCall}
 use Rattle.kept_contents.specs.Added.{AreHeld, contents_with, texts_of}
+use Rattle.kept_contents.specs.Held.{IsHeld}
 
 -- the tables, the texts that are held in memory by their numbers there, and room for contents and calls more
 pub record Holding : Type 0 where
@@ -26,11 +28,11 @@ pub record Holding : Type 0 where
 pub record Batch : Type 0 where
   pub payload : List ℕ
   pub added : List Shared
-  pub call : Option (Call × Outcome)
+  pub call : Option (HeldCall × Outcome)
 
-abbrev pub calls_of : Option (Call × Outcome) → Calls
+abbrev pub calls_of : Option (HeldCall × Outcome) → Calls
 calls_of None = []
-calls_of (Some kept) = kept ∷ []
+calls_of (Some (held, outcome)) = (held.call, outcome) ∷ []
 
 -- a call that may be kept
 pub record MayKeep (tables : Tables) (call : Call) (outcome : Outcome) : Type 0 where
@@ -38,10 +40,15 @@ pub record MayKeep (tables : Tables) (call : Call) (outcome : Outcome) : Type 0 
   pub fits : OutcomeFits call outcome
   pub new : IsNone (kept_outcome tables.calls call)
 
--- the call of a batch may be kept, and has room
-abbrev pub MayAdd : Holding → Option (Call × Outcome) → Type 0
+-- the call of a batch is held and may be kept
+abbrev pub MayKeepSome : Holding → Option (HeldCall × Outcome) → Type 0
+MayKeepSome kept None = ⊤
+MayKeepSome kept (Some (held, outcome)) = IsHeld kept.texts held × MayKeep kept.tables held.call outcome
+
+-- and there is room for it
+abbrev pub MayAdd : Holding → Option (HeldCall × Outcome) → Type 0
 MayAdd kept None = ⊤
-MayAdd kept (Some (call, outcome)) = MayKeep kept.tables call outcome × (0 < kept.call_room)
+MayAdd kept (Some (held, outcome)) = IsHeld kept.texts held × MayKeep kept.tables held.call outcome × (0 < kept.call_room)
 
 -- the tables with calls more
 abbrev pub with_calls : Tables → Calls → Tables
@@ -59,11 +66,6 @@ pub record Commits (kept : Holding) (batch : Batch) (next : Tables) : Type 0 whe
   pub call : MayAdd kept batch.call
   pub next_is : next ≡ with_batch kept.tables batch
 
--- the call of a batch may be kept
-abbrev pub MayKeepSome : Tables → Option (Call × Outcome) → Type 0
-MayKeepSome tables None = ⊤
-MayKeepSome tables (Some (call, outcome)) = MayKeep tables call outcome
-
 -- the contents of the texts that a batch adds
 abbrev pub items_of_texts : List Shared → List Item
 items_of_texts added = map Content (contents_of (texts_of added))
@@ -73,7 +75,7 @@ abbrev pub items_with : List Shared → Item → List Item
 items_with added last = items_of_texts added ++ last ∷ []
 
 -- A batch has the bytes of these items, and may be taken in.
-pub record Makes (added : List Shared) (last : Item) (call : Option (Call × Outcome)) (kept : Holding) (batch : Batch) : Type 0 where
+pub record Makes (added : List Shared) (last : Item) (call : Option (HeldCall × Outcome)) (kept : Holding) (batch : Batch) : Type 0 where
   pub fit : All item.fits (items_with added last)
   pub spelled : batch.payload ≡ spell_batch (items_with added last)
   pub added_is : reverse batch.added ≡ added
@@ -103,3 +105,15 @@ IsCommitted kept batch new = (next : Tables) → Commits kept batch next → new
 -- a kept call is well formed, and its outcome fits it
 abbrev pub IsKept : Call × Outcome → Type 0
 IsKept kept = IsWellFormed kept.0 × OutcomeFits kept.0 kept.1
+
+-- ---- calls as they are held
+
+abbrev pub call_in : HeldCall × Outcome → Call × Outcome
+call_in entry = (entry.0.call, entry.1)
+
+abbrev pub calls_in : List (HeldCall × Outcome) → Calls
+calls_in = map call_in
+
+-- a kept call is held
+abbrev pub IsKeptIn : Bodies → HeldCall × Outcome → Type 0
+IsKeptIn texts entry = IsHeld texts entry.0 × IsKept (call_in entry)

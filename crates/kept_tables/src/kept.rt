@@ -1,11 +1,12 @@
 // The tables of what is kept.
-ghost use Rattle.std.specs.Prelude.{◌≡◌, ◌↔◌, [], List, ℕ, ◌+◌, ◌^◌, ◌<◌, ◌≤◌, All, length, reverse, slice_get, option_map, IfOk, IfSome, IfNone, IsTrue, OnOk};
+ghost use Rattle.std.specs.Prelude.{◌≡◌, ◌↔◌, [], List, ℕ, ◌+◌, ◌^◌, ◌<◌, ◌≤◌, All, length, reverse, slice_get, option_map, is_some, IfOk, IfSome, IfNone, IsTrue, OnOk};
 ghost use Rattle.object_values.specs.declared.calls.Call.{Call as CallValue};
 ghost use Rattle.object_values.specs.declared.calls.Outcome.{Outcome as OutcomeValue};
 ghost use Rattle.meaning_records.specs.Tables.{IsText, IsCallOf, IsOutcomeOf, kept_outcome, with_call, with_content};
 ghost use Rattle.kept_tables.specs.Loading.{LoadsItem, LoadsNothing};
 ghost use Rattle.indexmap.specs.IndexMap.{insert_entry, spare};
 ghost use Rattle.kept_contents.specs.Added.{AreHeld, contents_with};
+ghost use Rattle.kept_contents.specs.Held.{IsHeld};
 ghost use Rattle.kept_tables.specs.Holdings.{IsCommitted, IsKept, IsPrepared, MayAdd, MayKeep, calls_of, with_calls};
 
 use crate::loaded::Loaded;
@@ -13,18 +14,18 @@ use crate::looks::Looks;
 use crate::prepared::Prepared;
 use call_classes::{fits, is_well_formed};
 use indexmap::IndexMap;
-use kept_contents::{ContentTable, Shared, call_of, outcome_of};
+use kept_contents::{ContentTable, HeldCall, Shared, call_of, find_call, outcome_of};
 use object_values::{Call, Copied, Memory, Outcome, Text, Value};
 use std::alloc::Global;
 use std::hash::Hash;
 use std::marker::Model;
 use store_records::{Item, Recorded, StoredCall, StoredOutcome};
 
-/// What is kept: contents, each once, and the calls with their outcomes. A call is looked up by its hash. Contracts see its `Tables`, and what it holds of
-/// them in memory.
+/// What is kept: contents, each once, and the calls with their outcomes. A call is looked up by the numbers that its texts have in memory. Contracts see its
+/// `Tables`, and what it holds of them in memory.
 pub struct Kept {
     pub(crate) contents: ContentTable,
-    pub(crate) calls: IndexMap<Call, Outcome>,
+    pub(crate) calls: IndexMap<HeldCall, Outcome>,
 }
 
 impl Drop for Kept {
@@ -38,18 +39,18 @@ impl Drop for Kept {
 impl Model for Kept {
     ghost use Rattle.std.specs.Prelude.{All};
     ghost use Rattle.indexmap.specs.IndexMap.{spare};
-    ghost use Rattle.kept_tables.specs.Holdings.{Holding, IsKept};
+    ghost use Rattle.kept_tables.specs.Holdings.{Holding, IsKeptIn, calls_in};
 
     ghost Value = { Holding };
 
     ghost view = { λ k. record {
-      tables = record { contents = k.contents.contents; calls = k.calls.entries };
+      tables = record { contents = k.contents.contents; calls = calls_in k.calls.entries };
       texts = k.contents.texts;
       room = k.contents.room;
       call_room = spare k.calls;
     } };
 
-    ghost invariant = { λ k. All IsKept k.calls.entries };
+    ghost invariant = { λ k. All (IsKeptIn k.contents.texts) k.calls.entries };
 }
 
 /// A kept call with its outcome.
@@ -105,8 +106,8 @@ impl Kept {
             option_map (λ k. (k.call, k.outcome)) found ≡ slice_get self.now.tables.calls place) }
     {
         match self.calls.get_index(place as usize) {
-            Some((call, outcome)) => {
-                let call = call.copy(alloc)?;
+            Some((held, outcome)) => {
+                let call = held.call.copy(alloc)?;
                 let outcome = outcome.copy(alloc)?;
                 Ok(Some(KeptCall { call, outcome }))
             }
@@ -118,7 +119,10 @@ impl Kept {
     pub fn outcome(&self, alloc: Global, call: &Call) -> Result<Option<Outcome>, Memory>
         ensures { IfOk result (λ found. found ≡ kept_outcome self.now.tables.calls call.now) }
     {
-        match self.calls.get(call) {
+        let Some(held) = find_call(alloc, &self.contents, call)? else {
+            return Ok(None);
+        };
+        match self.calls.get(&held) {
             Some(outcome) => Ok(Some(outcome.copy(alloc)?)),
             None => Ok(None),
         }
@@ -156,29 +160,31 @@ impl Kept {
         ensures contents { self.new.tables.contents
             ≡ contents_with self.old.tables.contents (reverse added.items) }
         ensures calls { self.new.tables.calls ≡ self.old.tables.calls }
+        ensures texts { self.new.texts ≡ self.old.texts }
         ensures room { self.new.call_room ≡ self.old.call_room }
     {
         self.contents.push_all(added);
     }
 
     // Keeps the call of a batch, where it has one.
-    fn add_call(&mut self, call: Option<(Call, Outcome)>)
+    fn add_call(&mut self, call: Option<(HeldCall, Outcome)>)
         requires { MayAdd self.old call }
         ensures { self.new.tables ≡ with_calls self.old.tables (calls_of call) }
     {
         match call {
-            Some((call, outcome)) => self.add_kept(call, outcome),
+            Some((held, outcome)) => self.add_kept(held, outcome),
             None => {}
         }
     }
 
     // Keeps a call for which there is room.
-    fn add_kept(&mut self, call: Call, outcome: Outcome)
-        requires may { MayKeep self.old.tables call outcome }
+    fn add_kept(&mut self, held: HeldCall, outcome: Outcome)
+        requires held { IsHeld self.old.texts held }
+        requires may { MayKeep self.old.tables held.call outcome }
         requires room { 0 < self.old.call_room }
-        ensures { self.new.tables ≡ with_call call outcome self.old.tables }
+        ensures { self.new.tables ≡ with_call held.call outcome self.old.tables }
     {
-        insert_within(&mut self.calls, call, outcome);
+        insert_within(&mut self.calls, held, outcome);
     }
 
     // The text that is the content of a number.
@@ -196,9 +202,14 @@ impl Kept {
         self.contents.add(alloc, value)
     }
 
-    pub(crate) fn call_of(&self, alloc: Global, stored: StoredCall) -> Result<Option<Call>, Memory>
+    pub(crate) fn call_of(
+        &self,
+        alloc: Global,
+        stored: StoredCall,
+    ) -> Result<Option<HeldCall>, Memory>
         ensures some { IfOk result (λ found.
-            IfSome found (IsCallOf self.now.tables.contents stored)) }
+            IfSome found (λ held. IsCallOf self.now.tables.contents stored held.call)) }
+        ensures held { IfOk result (λ found. IfSome found (IsHeld self.now.texts)) }
         ensures none { IfOk result (λ found. IfNone found
             ((call : CallValue) → ¬ IsCallOf self.now.tables.contents stored call)) }
     {
@@ -222,16 +233,39 @@ impl Kept {
     pub fn may_keep(&self, call: &Call, outcome: &Outcome) -> bool
         ensures { IsTrue result ↔ MayKeep self.now.tables call.now outcome.now }
     {
-        is_well_formed(call) && fits(call, outcome) && !self.calls.contains_key(call)
+        is_well_formed(call) && fits(call, outcome) && !self.has(call)
+    }
+
+    // Whether a call is kept: it is compared with one after another, which takes no memory.
+    fn has(&self, call: &Call) -> bool
+        ensures { result ≡ is_some (kept_outcome self.now.tables.calls call.now) }
+    {
+        self.calls.keys().any(|held| *call == held.call)
+    }
+
+    // Whether a call that is held may be kept with this outcome, by one look.
+    pub(crate) fn may_take(&self, held: &HeldCall, outcome: &Outcome) -> bool
+        requires { IsHeld self.now.texts held.now }
+        ensures { IsTrue result ↔ MayKeep self.now.tables held.now.call outcome.now }
+    {
+        is_well_formed(&held.call) && fits(&held.call, outcome) && !self.has_held(held)
+    }
+
+    fn has_held(&self, held: &HeldCall) -> bool
+        requires { IsHeld self.now.texts held.now }
+        ensures { result ≡ is_some (kept_outcome self.now.tables.calls held.now.call) }
+    {
+        self.calls.contains_key(held)
     }
 
     // Keeps a call that isn't kept.
-    pub(crate) fn keep(&mut self, call: Call, outcome: Outcome) -> Result<(), Memory>
-        requires { MayKeep self.old.tables call outcome }
-        ensures { OnOk result (self.new.tables ≡ with_call call outcome self.old.tables) }
+    pub(crate) fn keep(&mut self, held: HeldCall, outcome: Outcome) -> Result<(), Memory>
+        requires held { IsHeld self.old.texts held }
+        requires may { MayKeep self.old.tables held.call outcome }
+        ensures { OnOk result (self.new.tables ≡ with_call held.call outcome self.old.tables) }
     {
         self.calls.reserve(1)?;
-        self.add_kept(call, outcome);
+        self.add_kept(held, outcome);
         Ok(())
     }
 }

@@ -108,16 +108,16 @@ impl Kept {
         ensures none { IfOk result (λ read. IfNone read
             ((new : Tables) → ¬ Loads self.old.tables (item.Kept stored given) new)) }
     {
-        let Some(call) = self.call_of(alloc, stored)? else {
+        let Some(held) = self.call_of(alloc, stored)? else {
             return Ok(None);
         };
         let Some(outcome) = self.outcome_of(alloc, given)? else {
             return Ok(None);
         };
-        if !self.may_keep(&call, &outcome) {
+        if !self.may_take(&held, &outcome) {
             return Ok(None);
         }
-        self.keep(call, outcome)?;
+        self.keep(held, outcome)?;
         Ok(Some(Loaded::CallKept))
     }
 }

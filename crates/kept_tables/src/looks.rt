@@ -9,6 +9,7 @@ use std::alloc::Global;
 use std::sync::ledger::Ledger;
 
 /// Tables that are lent to be looked at, and are never handed out. Each look is counted.
+#[derive(Drop)]
 pub struct Looks<'a> {
     pub(crate) kept: &'a Kept,
 }

@@ -1,8 +1,8 @@
 // A batch that is ready to be written and taken in.
 ghost use Rattle.std.specs.Prelude.{◌≡◌};
 
-use kept_contents::Shared;
-use object_values::{Bytes, Call, Outcome};
+use kept_contents::{HeldCall, Shared};
+use object_values::{Bytes, Outcome};
 use std::marker::Model;
 
 /// The bytes of a batch, with all that its taking in wants of memory.
@@ -10,7 +10,7 @@ pub struct Prepared {
     pub(crate) payload: Bytes,
     // the texts that are added, the last one first
     pub(crate) added: Vec<Shared>,
-    pub(crate) call: Option<(Call, Outcome)>,
+    pub(crate) call: Option<(HeldCall, Outcome)>,
 }
 
 impl Drop for Prepared {
@@ -43,7 +43,7 @@ impl Prepared {
     }
 
     // The texts, the last one first, and the call.
-    pub(crate) fn into_parts(self) -> (Vec<Shared>, Option<(Call, Outcome)>)
+    pub(crate) fn into_parts(self) -> (Vec<Shared>, Option<(HeldCall, Outcome)>)
         ensures added { result.0.items ≡ self.added }
         ensures call { result.1 ≡ self.call }
     {

@@ -1,17 +1,19 @@
 // Batches, made whole with all memory that their taking in wants.
-ghost use Rattle.std.specs.Prelude.{◌≡◌, ◌≤◌, length, IfOk};
+ghost use Rattle.std.specs.Prelude.{◌≡◌, ◌≤◌, length, IfOk, OnOk};
 ghost use Rattle.meaning_texts.specs.Limits.{body_limit};
 ghost use Rattle.meaning_records.specs.Batches.{IsPutBatch, IsCallBatch};
-ghost use Rattle.kept_contents.specs.Added.{AreHeld};
+ghost use Rattle.meaning_records.specs.Tables.{IsText, IsOutcomeOf};
+ghost use Rattle.kept_contents.specs.Held.{IsGrownFrom, IsHeld};
+ghost use Rattle.kept_contents.specs.Added.{AddsOne, Adds, AreHeld, contents_with, texts_of, texts_of_outputs};
 ghost use Rattle.kept_tables.specs.Holdings.{Makes, MayKeep, MayKeepSome, PreparesSome, items_of_texts, items_with};
 
 use crate::kept::Kept;
 use crate::prepared::Prepared;
-use kept_contents::{Shared, number_text, stored_call, stored_outcome};
+use kept_contents::{HeldCall, Shared, hold_call, number_text, stored_call, stored_outcome};
 use object_values::{Call, Copied, Memory, Outcome, Seq, Text, Value};
 use odin_bytes::Name;
 use std::alloc::Global;
-use store_records::{Item, write_batch};
+use store_records::{Item, StoredOutcome, write_batch};
 
 impl Kept {
     /// The batch that gives a source a text.
@@ -27,7 +29,7 @@ impl Kept {
         ensures same { self.new.tables ≡ self.old.tables }
     {
         let mut added = Seq::new(alloc);
-        let number = number_text(alloc, &mut self.contents, &mut added, text)?;
+        let number = self.number_text(alloc, &mut added, text)?;
         let name = name.copy(alloc)?.into_bytes();
         self.prepare(alloc, added, Item::Put(name, number), None)
     }
@@ -44,11 +46,59 @@ impl Kept {
             (PreparesSome (IsCallBatch self.old.tables.contents call.now outcome.now) self.new) }
         ensures same { self.new.tables ≡ self.old.tables }
     {
+        let held = self.hold(alloc, call)?;
         let mut added = Seq::new(alloc);
-        let stored = stored_call(alloc, &mut self.contents, &mut added, call)?;
-        let given = stored_outcome(alloc, &mut self.contents, &mut added, outcome)?;
-        let kept = (call.copy(alloc)?, outcome.copy(alloc)?);
+        let stored = stored_call(alloc, &self.contents, &mut added, &held)?;
+        let given = self.stored_outcome(alloc, &mut added, outcome)?;
+        let kept = (held, outcome.copy(alloc)?);
         self.prepare(alloc, added, Item::Kept(stored, given), Some(kept))
+    }
+
+    // A call whose inputs' texts are held from now on.
+    fn hold(&mut self, alloc: Global, call: &Call) -> Result<HeldCall, Memory>
+        ensures held { IfOk result (IsHeld self.new.texts) }
+        ensures call { IfOk result (λ held. held.call ≡ call.now) }
+        ensures same { self.new.tables ≡ self.old.tables }
+    {
+        hold_call(alloc, &mut self.contents, call)
+    }
+
+    // The number of a text, which is added where neither the file nor the batch has it.
+    fn number_text(
+        &mut self,
+        alloc: Global,
+        added: &mut Seq<Shared>,
+        text: &Text,
+    ) -> Result<u32, Memory>
+        requires { AreHeld self.old.texts added.old }
+        ensures number { IfOk result (λ n.
+            IsText (contents_with self.old.tables.contents added.new) n text.now) }
+        ensures adds { OnOk result (AddsOne self.old.tables.contents text.now
+            (texts_of added.old) (texts_of added.new)) }
+        ensures held { OnOk result (AreHeld self.new.texts added.new) }
+        ensures same { self.new.tables ≡ self.old.tables }
+    {
+        number_text(alloc, &mut self.contents, added, text)
+    }
+
+    // An outcome by the numbers of its outputs.
+    fn stored_outcome(
+        &mut self,
+        alloc: Global,
+        added: &mut Seq<Shared>,
+        outcome: &Outcome,
+    ) -> Result<StoredOutcome, Memory>
+        requires { AreHeld self.old.texts added.old }
+        ensures outcome { IfOk result (λ stored.
+            IsOutcomeOf (contents_with self.old.tables.contents added.new) stored outcome.now) }
+        ensures adds { OnOk result
+            (Adds self.old.tables.contents (texts_of_outputs outcome.now.outputs)
+            (texts_of added.old) (texts_of added.new)) }
+        ensures held { OnOk result (AreHeld self.new.texts added.new) }
+        ensures same { self.new.tables ≡ self.old.tables }
+        ensures texts { IsGrownFrom self.old.texts self.new.texts }
+    {
+        stored_outcome(alloc, &mut self.contents, added, outcome)
     }
 
     // The batch of these texts and the item behind them.
@@ -57,10 +107,10 @@ impl Kept {
         alloc: Global,
         added: Seq<Shared>,
         last: Item,
-        call: Option<(Call, Outcome)>,
+        call: Option<(HeldCall, Outcome)>,
     ) -> Result<Prepared, Memory>
         requires held { AreHeld self.old.texts added }
-        requires call { MayKeepSome self.old.tables call }
+        requires call { MayKeepSome self.old call }
         ensures made { IfOk result (Makes added last call self.new) }
         ensures same { self.new.tables ≡ self.old.tables }
     {

@@ -6,10 +6,9 @@ mod faults;
 mod tests;
 
 use faults::{MEMORY, fault_of};
-use object_values::{Bytes, Memory};
+use object_values::Memory;
 use odin_children::ChildTools;
-use odin_fakes::MemDisk;
-use odin_files::FolderTree;
+use odin_files::{FileDisk, FolderTree};
 use odin_real::{InputSource, OutputSink};
 use odin_shell::run;
 use std::alloc::Global;
@@ -17,13 +16,16 @@ use std::env::Env;
 use std::process::ExitCode;
 use std::{env, io};
 
-/// The exit status of a run with these words, over the standard input and output, the files of the current folder and child programs. The disk is
-/// an empty one that nothing is kept on.
+// The file that sources and kept calls are in, in the current folder.
+const STORE: &str = "odin.store";
+
+/// The exit status of a run with these words, over the standard input and output, the files of the current folder, its store and child
+/// programs.
 fn serve(rt: &HostRuntime, alloc: Global, words: &[String]) -> Result<u8, Memory> {
     let mut input = InputSource::new(rt.reader());
     let mut output = OutputSink::new(io::writer(rt));
     let mut tree = FolderTree::new(rt);
-    let mut disk = MemDisk::new(alloc, Bytes::new(alloc), 0, 0)?;
+    let mut disk = FileDisk::open(rt, STORE);
     let mut tools = ChildTools::new(alloc, rt, rt.stderr());
     Ok(run(
         alloc,

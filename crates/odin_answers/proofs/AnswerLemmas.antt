@@ -1,104 +1,244 @@
--- Replies to texts, from what was found and what the tools did.
-use Rattle.std.proofs.Common.{◌≡◌, ◌≢◌, List, refl, ap, sym, subst, inl, inr, is_some}
-use Rattle.std.specs.Prelude.{Option, Some, None, Result, Ok, Err, OnErr}
+-- Replies to texts, from what an ask of the engine did.
+use Rattle.std.proofs.Common.{◌≡◌, ℕ, List, [], ◌∷◌, ◌++◌, refl, ap, sym, subst, ◌∙◌, inl, inr, is_some}
 use Rattle.object_values.specs.declared.nodes.Node.{Node}
 use Rattle.object_values.specs.declared.calls.Call.{Call}
-use Rattle.odin_outside.specs.Spawned.{Table, Spawned}
-use Rattle.meaning_texts.proofs.Lemmas.{same_some, some_is_none}
+use Rattle.object_values.specs.declared.calls.Outcome.{Outcome}
+use Rattle.odin_outside.specs.Disk.{Telling}
+use Rattle.odin_outside.specs.Spawned.{Spawned}
 use Rattle.meaning_graph.specs.Graphs.{Text, Graph}
-use Rattle.meaning_calls.specs.Jobs.{job_of}
-use Rattle.meaning_calls.specs.Outcomes.{OutcomeFits}
-use Rattle.meaning_calls.proofs.Lemmas.{fits}
 use Rattle.meaning_derive.specs.Derive.{Sources, Outcomes}
-use Rattle.meaning_derive.specs.Given.{table_outcomes}
 use Rattle.meaning_derive.proofs.Lemmas.{no_chain}
+use Rattle.meaning_records.specs.Tables.{Tables, Calls, kept_outcome}
 use Rattle.meaning_commands.specs.declared.replies.Reply.{Reply}
+use Rattle.meaning_commands.specs.declared.replies.Reply.TheVariants.{RefusedExpression, RefusedParam, RefusedType, RefusedPath, RefusedToolStart}
 use Rattle.meaning_answers.specs.Answers.{Refused, Asks, Answer}
+use Rattle.odin_journal.specs.declared.journal.Journal.{Journal}
+use Rattle.odin_journal.specs.declared.fault.JournalFault.{JournalFault}
+use Rattle.odin_journal.specs.declared.fault.JournalFault.TheVariants as store
+use Rattle.odin_store.specs.declared.store.Store.{Store}
+use Rattle.odin_store.specs.Held.{Change, keeps}
+use Rattle.odin_store.specs.OnDisk.{IsSame, IsOver}
+use Rattle.odin_store.specs.Going.{IsBatchOf, Goes, Stops}
+use Rattle.odin_store.proofs.Lemmas.{goes_none, goes_on, stops_behind, nothing_behind}
 use Rattle.walk_tables.specs.declared.found.Found.{Found}
 use Rattle.walk_tables.specs.declared.found.Found.TheVariants as found
-use Rattle.plain_derive.specs.declared.fault.PlainFault.{PlainFault}
-use Rattle.plain_derive.specs.declared.fault.PlainFault.TheVariants as faults
 use Rattle.derive_walk.specs.Founds.{IsFound}
-use Rattle.derive_walk.specs.Outcomes.{nothing_known}
-use Rattle.plain_derive.specs.Logs.{among, HasMade, HasBegun, HasDerived, HasGivenUp}
-use Rattle.plain_derive.specs.Made.{AreGivenBy}
-use Rattle.plain_derive.proofs.Lemmas.{found_by_all, all_are_made}
-use Rattle.odin_answers.specs.Answers.{AreAll, IsBegun, MayHaveBegun, IsReply, RefusesStart, found_reply}
+use Rattle.derive_walk.specs.Outcomes.{after}
+use Rattle.derive_walk.proofs.Lemmas.{found_stays}
+use Rattle.plain_derive.specs.declared.fault.PlainFault.{PlainFault}
+use Rattle.plain_derive.specs.declared.fault.PlainFault.TheVariants as plain
+use Rattle.plain_derive.specs.Given.{calls_of}
+use Rattle.plain_derive.specs.Logs.{after_calls}
+use Rattle.plain_derive.specs.Runs.{AreRun}
+use Rattle.plain_derive.proofs.Lemmas.{given_are_all}
+use Rattle.kept_derive.specs.Runs.{At, keeps_of}
+use Rattle.kept_derive.specs.Stops.{IsCutOff, IsUnkept}
+use Rattle.odin_engine.specs.declared.fault.AskFault.{AskFault}
+use Rattle.odin_engine.specs.declared.fault.AskFault.TheVariants as fault
+use Rattle.odin_engine.specs.Asked.{IsNodeOf}
+use Rattle.odin_engine.specs.Asking.{IsFoundFor, IsAskFault}
+use Rattle.odin_answers.specs.Answers.{AreAll, IsBegun, IsReply, MayHaveBegun, found_reply}
+use Rattle.odin_answers.specs.Faults as faults
+use Rattle.odin_answers.specs.Replied.{HasReplied, HasBegun, HasWanted, HasFailed, IsFull, HasStopped}
 
--- what was made whole was begun
-pub made_is_begun : (g : Graph) (s : Sources) (outcomes : Outcomes) (n : Node) (calls : List Call) (before now : Spawned) → HasMade g s outcomes n calls before now → HasBegun g s outcomes n faults.Memory before now
-made_is_begun g s outcomes n calls before now made = record {
-  calls = calls;
-  are = made.are;
-  cut = inl (record { memory = refl; same = made.now_is });
-  untouched = made.untouched;
-}
+-- the changes of one more call that is kept
+pub keeps_behind : (given : Calls) (call : Call) (outcome : Outcome) → keeps_of (given ++ (call, outcome) ∷ []) ≡ keeps_of given ++ keeps call outcome ∷ []
+keeps_behind [] call outcome = refl
+keeps_behind (x ∷ given) call outcome = ap (λ l. keeps x.0 x.1 ∷ l) (keeps_behind given call outcome)
 
--- outcomes that the tools may give
-record GoBy (answer : Option Table) : Type 0 where
-  outcomes : Outcomes
-  given : AreGivenBy answer outcomes
+-- ---- what was run
 
-go_by : (answer : Option Table) → GoBy answer
-go_by None = record {
-  outcomes = nothing_known;
-  given = record { fit = λ call outcome none. some_is_none (nothing_known call) outcome none refl; told = λ table none. some_is_none None table none refl };
-}
-go_by (Some table) = record {
-  outcomes = table_outcomes table;
-  given = record {
-    fit = λ call outcome is. subst (OutcomeFits call) (same_some is) (fits call (table (job_of call)));
-    told = λ other is. ap table_outcomes (same_some is);
-  };
-}
-
--- where the node has a result all its calls were made
-all_made : (g : Graph) (s : Sources) (outcomes : Outcomes) (n : Node) (calls : List Call) (f : Found) → IsFound g s (among outcomes calls) n f → AreAll g s outcomes n calls
-all_made g s outcomes n calls (found.Answer view) is founded call from = all_are_made g s outcomes n calls (ap is_some is) call from
-all_made g s outcomes n calls (found.Circular chain) is founded call from = absurd (no_chain g s outcomes n founded chain (inl (found_by_all g s outcomes n calls (found.Circular chain) is)))
-all_made g s outcomes n calls (found.Deep chain) is founded call from = absurd (no_chain g s outcomes n founded chain (inr (found_by_all g s outcomes n calls (found.Deep chain) is)))
+-- where the node has a result all its calls are known
+all_known : (g : Graph) (s : Sources) (kept : Calls) (n : Node) (given : Calls) (f : Found) → IsFound g s (after (kept_outcome kept) given) n f → AreAll g s kept n given
+all_known g s kept n given (found.Answer view) is outcomes agrees founded call from = given_are_all g s (kept_outcome kept) n given (ap is_some is) outcomes agrees call from
+all_known g s kept n given (found.Circular chain) is outcomes agrees founded call from =
+    absurd (no_chain g s outcomes n founded chain (inl (found_stays g s (after (kept_outcome kept) given) outcomes agrees n (found.Circular chain) is)))
+all_known g s kept n given (found.Deep chain) is outcomes agrees founded call from =
+    absurd (no_chain g s outcomes n founded chain (inr (found_stays g s (after (kept_outcome kept) given) outcomes agrees n (found.Deep chain) is)))
 
 answers : (g : Graph) (s : Sources) (outcomes : Outcomes) (text : Text) (n : Node) (f : Found) → Asks g text n → IsFound g s outcomes n f → Answer g s outcomes text (found_reply g f)
 answers g s outcomes text n (found.Answer view) asks is = Answer.object text n view asks is
 answers g s outcomes text n (found.Circular chain) asks is = Answer.circular text n chain asks is
 answers g s outcomes text n (found.Deep chain) asks is = Answer.deep text n chain asks is
 
-module _ (g : Graph) (s : Sources) (before now : Spawned) (n : Node) where
-  pub replied : (f : Found) (reply : Reply) → HasDerived g s n before now f → reply ≡ found_reply g f → (text : Text) → Asks g text n → IsReply g before.answer s text reply before now
-  replied f reply derived is text asks = inl (record {
-    outcomes = derived.outcomes;
-    given = derived.given;
-    answer =
-        subst (Answer g s derived.outcomes text) (sym is)
-        (answers g s derived.outcomes text n f asks (found_by_all g s derived.outcomes n derived.calls f derived.is));
-    did = inr (record { node = n; asks = asks; calls = derived.calls; made = derived.made; all = all_made g s derived.outcomes n derived.calls f derived.is });
-  })
+-- no call, and nothing is told
+none_told : (given : Calls) (before now : Spawned) → now ≡ after_calls before (calls_of given) → given ≡ [] → now ≡ before
+none_told given before now is none = is ∙ ap (λ (l : Calls). after_calls before (calls_of l)) none
 
-  -- an answer for whose reply memory was wanting
-  pub unreplied : (f : Found) → HasDerived g s n before now f → (text : Text) → Asks g text n → MayHaveBegun g before.answer s text before now
-  unreplied f derived text asks = inr (faults.Memory, record { outcomes = derived.outcomes; given = derived.given; node = n; asks = asks; begun = made_is_begun g s derived.outcomes n derived.calls before now derived.made })
+-- what was run whole was begun
+run_begun : (g : Graph) (s : Sources) (kept : Calls) (text : Text) (n : Node) (given : Calls) (before now : Spawned) → Asks g text n → AreRun g s (kept_outcome kept) n given before now → IsBegun g s kept text given plain.Memory before now
+run_begun g s kept text n given before now asks run = record {
+  node = n;
+  asks = asks;
+  mid = now;
+  run = run;
+  cut = inl (record { memory = refl; same = refl });
+  untouched = λ refused. none_told given before now run.now_is (run.untouched refused);
+}
 
-  begun_for : (fault : PlainFault) → HasGivenUp g s n before now fault → (text : Text) → Asks g text n → IsBegun g before.answer s text fault before now
-  begun_for fault given text asks = record { outcomes = given.outcomes; given = given.given; node = n; asks = asks; begun = given.begun }
+-- and so was what a reply tells
+pub reply_begun : (g : Graph) (s : Sources) (kept : Calls) (text : Text) (reply : Reply) (given : Calls) (before now : Spawned) → IsReply g s kept text reply given before now → MayHaveBegun g s kept text given before now
+reply_begun g s kept text reply given before now (inl answer) = elim answer.did [
+  | inl alone ↦ inl (record { none = alone.none; told = alone.told })
+  | inr derived ↦ inr (plain.Memory, run_begun g s kept text derived.node given before now derived.asks derived.run)
+]
+reply_begun g s kept text reply given before now (inr refused) = inr (plain.Spawn, refused.begun)
 
-  pub given_up : (fault : PlainFault) → HasGivenUp g s n before now fault → (text : Text) → Asks g text n → MayHaveBegun g before.answer s text before now
-  given_up fault given text asks = inr (fault, begun_for fault given text asks)
+-- ---- the store
 
-  pub start_refused : (fault : PlainFault) (reply : Reply) → HasGivenUp g s n before now fault → RefusesStart fault reply → (text : Text) → Asks g text n → IsReply g before.answer s text reply before now
-  start_refused faults.Spawn reply given is text asks = inr (record { is = is; begun = begun_for faults.Spawn given text asks })
-  start_refused faults.Memory reply given never text asks = absurd never
+module _ {Disk : Type 0} (told : Disk → Telling) where
+  same_at : (old new : At Disk) → new ≡ old → IsSame old.store new.store old.disk new.disk
+  same_at old new e =
+      subst (λ (z : At Disk). IsSame old.store z.store old.disk z.disk) (sym e) (record { disk_is = refl; store_is = record { journal = refl; tables = refl; sources = refl; epoch = refl } })
 
--- a refused start is no want of memory
-pub is_idle : {A : Type 0} (fault : PlainFault) (reply : Reply) → RefusesStart fault reply → (◌≢◌ {A = Result Found PlainFault} (Err fault) (Err faults.Memory) → A) → A
-is_idle faults.Spawn reply is rest = rest (λ e. cc)
-is_idle faults.Memory reply never rest = absurd never
+  pub goes_same : (changes : List Change) (store mid next : Store) (disk between after : Disk) → Goes told changes store mid disk between → IsSame mid next between after → Goes told changes store next disk after
+  goes_same changes store mid next disk between after goes same =
+      subst (λ c. Goes told c store next disk after) (nothing_behind changes)
+      (goes_on told changes [] store mid next disk between after goes (goes_none told mid next between after same))
 
-pub refused : (g : Graph) (s : Sources) (text : Text) (reply : Reply) (told : Spawned) → Refused g text reply → IsReply g told.answer s text reply told told
-refused g s text reply told is =
-    let by = go_by told.answer in
-    inl (record { outcomes = by.outcomes; given = by.given; answer = Answer.refused text reply is; did = inl (record { refused = is; told = refl }) })
+  module _ (g : Graph) (text : Text) (old new : At Disk) where
+    record IsCutFor (f : PlainFault) : Type 0 where
+      node : Node
+      is : IsNodeOf g text node
+      cut : IsCutOff told g node f old new
 
--- what holds anyway holds at `Err`
-pub on_err : {T E P : Type 0} (result : Result T E) → P → OnErr result P
-on_err (Ok x) p = tt
-on_err (Err e) p = p
+    record IsUnkeptFor (f : JournalFault) : Type 0 where
+      node : Node
+      is : IsNodeOf g text node
+      unkept : IsUnkept told g node f old new
+
+    -- ---- nothing was done
+
+    untouched : new ≡ old → HasWanted told g text old new
+    untouched e = record {
+      given = [];
+      begun = inl (record { none = refl; told = ap (λ (z : At Disk). z.tools) e });
+      goes = goes_none told old.store new.store old.disk new.disk (same_at old new e);
+    }
+
+    refused_reply : (reply : Reply) → Refused g text reply → new ≡ old → HasReplied told g text old new reply
+    refused_reply reply refused e = record {
+      given = [];
+      is = inl (record {
+        answer = λ outcomes agrees. Answer.refused text reply refused;
+        did = inl (record { refused = refused; none = refl; told = ap (λ (z : At Disk). z.tools) e });
+      });
+      goes = goes_none told old.store new.store old.disk new.disk (same_at old new e);
+      epoch = ap (λ (z : At Disk). z.store.epoch) e;
+    }
+
+    -- ---- what was found
+
+    abbrev sources : Sources
+    sources = old.store.sources.texts
+
+    abbrev kept : Calls
+    kept = old.store.kept.tables.calls
+
+    pub replied : (f : Found) (reply : Reply) → IsFoundFor told g text old new f → reply ≡ found_reply g f → HasReplied told g text old new reply
+    replied f reply for is =
+        let given = for.has.given in
+        record {
+          given = given;
+          is = inl (record {
+            answer = λ outcomes agrees.
+                subst (Answer g sources outcomes text) (sym is)
+                (answers g sources outcomes text for.node f for.is.asks (found_stays g sources (after (kept_outcome kept) given) outcomes agrees for.node f for.has.is));
+            did = inr (record { node = for.node; asks = for.is.asks; run = for.has.run.run; all = all_known g sources kept for.node given f for.has.is });
+          });
+          goes = for.has.run.goes;
+          epoch = for.has.run.epoch;
+        }
+
+    -- of which the reply was not written
+    pub unreplied : (f : Found) → IsFoundFor told g text old new f → HasWanted told g text old new
+    unreplied f for = record {
+      given = for.has.given;
+      begun = inr (plain.Memory, run_begun g sources kept text for.node for.has.given old.tools new.tools for.is.asks for.has.run.run);
+      goes = for.has.run.goes;
+    }
+
+    -- ---- faults
+
+    -- cut off behind the calls that were kept
+    goes_cut : (f : PlainFault) (for : IsCutFor f) → Goes told (keeps_of for.cut.given) old.store new.store old.disk new.disk
+    goes_cut f for = goes_same (keeps_of for.cut.given) old.store for.cut.mid.store new.store old.disk for.cut.mid.disk new.disk for.cut.run.goes for.cut.same
+
+    cut_begun : (f : PlainFault) (for : IsCutFor f) → IsBegun g sources kept text for.cut.given f old.tools new.tools
+    cut_begun f for = record {
+      node = for.node;
+      asks = for.is.asks;
+      mid = for.cut.mid.tools;
+      run = for.cut.run.run;
+      cut = for.cut.cut;
+      untouched = for.cut.untouched;
+    }
+
+    start_refused : (reply : Reply) → IsCutFor plain.Spawn → reply ≡ RefusedToolStart → HasReplied told g text old new reply
+    start_refused reply for is = record {
+      given = for.cut.given;
+      is = inr (record { is = is; begun = cut_begun plain.Spawn for });
+      goes = goes_cut plain.Spawn for;
+      epoch = for.cut.same.store_is.epoch ∙ for.cut.run.epoch;
+    }
+
+    wanted : IsCutFor plain.Memory → HasWanted told g text old new
+    wanted for = record { given = for.cut.given; begun = inr (plain.Memory, cut_begun plain.Memory for); goes = goes_cut plain.Memory for }
+
+    -- run to its end, but not kept
+    unkept_begun : (f : JournalFault) (for : IsUnkeptFor f) → HasBegun told g text old new (for.unkept.given ++ (for.unkept.call, for.unkept.outcome) ∷ [])
+    unkept_begun f for = inr (plain.Memory, run_begun g sources kept text for.node _ old.tools new.tools for.is.asks for.unkept.ran)
+
+    failed : IsUnkeptFor store.Disk → HasFailed told g text old new
+    failed for =
+        let u = for.unkept in
+        record {
+          given = u.given ++ (u.call, u.outcome) ∷ [];
+          begun = unkept_begun store.Disk for;
+          stops = subst (λ c. Stops told c old.store old.disk new.disk) (sym (keeps_behind u.given u.call u.outcome))
+              (stops_behind told (keeps_of u.given) (keeps u.call u.outcome ∷ []) old.store u.mid.store old.disk u.mid.disk new.disk u.run.goes u.failed);
+        }
+
+    full : (at size : ℕ) → IsUnkeptFor (store.Full at size) → IsFull told g text old new at size
+    full at size for =
+        let u = for.unkept in
+        let same = u.failed.0 in
+        record {
+          given = u.given;
+          call = u.call;
+          outcome = u.outcome;
+          begun = unkept_begun (store.Full at size) for;
+          goes = goes_same (keeps_of u.given) old.store u.mid.store new.store old.disk u.mid.disk new.disk u.run.goes same;
+          items = u.failed.1.0;
+          batch = subst (λ (t : Tables). IsBatchOf t.contents (keeps u.call u.outcome) u.failed.1.0) (sym same.store_is.tables) u.failed.1.1;
+          over = subst (λ (j : Journal). IsOver u.failed.1.0 j.end at size) (sym same.store_is.journal) u.failed.1.2;
+        }
+
+    -- ---- by the fault
+
+    pub refused : (f : AskFault) (reply : Reply) → IsAskFault told g text old new f → faults.Refuses g f reply → HasReplied told g text old new reply
+    refused (fault.Expression place) reply is says = subst (HasReplied told g text old new) (sym says) (refused_reply (RefusedExpression place) is.0 is.1)
+    refused (fault.UnknownType name) reply is says = subst (HasReplied told g text old new) (sym says) (refused_reply (RefusedType name) is.0 is.1)
+    refused (fault.UnknownParam name) reply is says = subst (HasReplied told g text old new) (sym says) (refused_reply (RefusedParam name) is.0 is.1)
+    refused (fault.Path step) reply is says = subst (HasReplied told g text old new) (sym says) (refused_reply (RefusedPath step) is.0 is.1)
+    refused (fault.Circular chain) reply is says = replied (found.Circular chain) reply is says
+    refused (fault.Deep chain) reply is says = replied (found.Deep chain) reply is says
+    refused fault.Spawn reply is says = start_refused reply (record { node = is.node; is = is.is; cut = is.stopped }) says
+    refused fault.Disk reply is says = absurd says
+    refused (fault.Full at size) reply is says = absurd says
+    refused fault.Memory reply is says = absurd says
+
+    pub stopped : (f : AskFault) (why : JournalFault) → IsAskFault told g text old new f → faults.Stops f why → HasStopped told g text old new why
+    stopped (fault.Expression place) why is says = subst (HasStopped told g text old new) (sym says) (untouched is.1)
+    stopped (fault.UnknownType name) why is says = subst (HasStopped told g text old new) (sym says) (untouched is.1)
+    stopped (fault.UnknownParam name) why is says = subst (HasStopped told g text old new) (sym says) (untouched is.1)
+    stopped (fault.Path step) why is says = subst (HasStopped told g text old new) (sym says) (untouched is.1)
+    stopped (fault.Circular chain) why is says = subst (HasStopped told g text old new) (sym says) (unreplied (found.Circular chain) is)
+    stopped (fault.Deep chain) why is says = subst (HasStopped told g text old new) (sym says) (unreplied (found.Deep chain) is)
+    stopped fault.Spawn why is says = absurd says
+    stopped fault.Disk why is says = subst (HasStopped told g text old new) (sym says) (failed (record { node = is.node; is = is.is; unkept = is.stopped }))
+    stopped (fault.Full at size) why is says = subst (HasStopped told g text old new) (sym says) (full at size (record { node = is.node; is = is.is; unkept = is.stopped }))
+    stopped fault.Memory why is says = subst (HasStopped told g text old new) (sym says) (elim is [
+      | inl same ↦ untouched same
+      | inr ended ↦ wanted (record { node = ended.node; is = ended.is; cut = ended.stopped })
+    ])

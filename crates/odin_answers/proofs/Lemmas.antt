@@ -1,7 +1,7 @@
 -- The lemmas that other crates may cite.
--- What was made whole was begun.
-pub use Rattle.odin_answers.proofs.AnswerLemmas.{made_is_begun}
--- The count of the tools' faults over replies.
-pub use Rattle.odin_answers.proofs.CountLemmas.{answer_uncounted, refusal_counted, begun_later}
--- A text has one answer.
-pub use Rattle.odin_answers.proofs.OnceLemmas.{no_calls, one_reply}
+-- What stays of the tools over replies, and the count of their faults.
+pub use Rattle.odin_answers.proofs.CountLemmas.{answer_uncounted, refusal_counted, begun_later, reply_later, begun_answer, reply_answer}
+-- A text has one answer, and what is kept stays true.
+pub use Rattle.odin_answers.proofs.OnceLemmas.{one_reply, reply_true, begun_true}
+-- A reply is one of an ask that was begun, and one more call is one more change.
+pub use Rattle.odin_answers.proofs.AnswerLemmas.{reply_begun, keeps_behind}

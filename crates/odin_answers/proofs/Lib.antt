@@ -1,5 +1,5 @@
 mod AnswerLemmas
-mod AskedLemmas
 mod CountLemmas
+mod FaultLemmas
 mod OnceLemmas
 pub mod Lemmas

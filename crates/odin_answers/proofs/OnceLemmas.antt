@@ -1,87 +1,157 @@
--- A text has one answer, but for the choice of the chain, and the same calls are made for it.
-use Rattle.std.proofs.Common.{◌≡◌, ◌⊎◌, [], ap, refl, sym, ◌∙◌, subst, inl, inr, is_some}
-use Rattle.std.specs.Prelude.{Option, Some, None}
-use Rattle.object_values.specs.declared.views.View.{View}
+-- What was run for a text, that what is kept stays true, and that a text has one answer, but for the choice of the chain.
+use Rattle.std.proofs.Common.{◌≡◌, ◌⊎◌, Bool, true, false, cond, [], ◌∷◌, ◌++◌, ap, refl, sym, ◌∙◌, subst, inl, inr, is_some}
+use Rattle.std.specs.Prelude.{Option, Some, None, IsSome}
+use Rattle.object_values.specs.declared.calls.Call.{Call}
+use Rattle.object_values.specs.declared.calls.Outcome.{Outcome}
+use Rattle.object_values.specs.contracts.calls.CallPartialEq.TheImpl.{ghosts as call_eq}
+use Rattle.object_values.specs.Exact.{call_exact}
 use Rattle.odin_outside.specs.Spawned.{Table, Spawned}
+use Rattle.meaning_texts.specs.Lists.{IsIn}
 use Rattle.meaning_graph.specs.Graphs.{Text, Graph}
-use Rattle.meaning_derive.specs.Derive.{Sources, Outcomes, derived, IsFounded}
+use Rattle.meaning_derive.specs.Derive.{Sources, Outcomes, derived}
+use Rattle.meaning_derive.specs.Calls.{IsCallFrom}
 use Rattle.meaning_derive.specs.Given.{table_outcomes}
+use Rattle.meaning_derive.specs.Laws.{HasMore}
+use Rattle.meaning_records.specs.Tables.{Calls, kept_outcome}
 use Rattle.meaning_commands.specs.declared.replies.Reply.{Reply}
 use Rattle.meaning_answers.specs.Answers.{Answer}
 use Rattle.meaning_answers.specs.Laws.{BothShowChains}
-use Rattle.meaning_answers.proofs.Lemmas.{not_refused, one_node, one_refusal, founded_shown, others_chained}
-use Rattle.plain_derive.proofs.Lemmas.{made_are_calls, made_are_once}
-use Rattle.odin_answers.specs.Answers.{IsLeftAlone, IsDerived, HasAnswer}
-use Rattle.odin_answers.specs.Laws.{AreItsCalls, SameCalls, SameAnswers}
+use Rattle.meaning_answers.proofs.Lemmas.{not_refused, one_node, one_answer}
+use Rattle.walk_tables.specs.Calls.{outcome_in}
+use Rattle.derive_walk.specs.Outcomes.{after, given_or}
+use Rattle.plain_derive.specs.Given.{calls_of, HaveCome, AreGiven, IsRefusedBy}
+use Rattle.plain_derive.specs.Logs.{after_calls}
+use Rattle.plain_derive.proofs.Lemmas.{kept_stays, given_are_calls, given_are_new, none_is_given, given_are_true, given_is_in}
+use Rattle.odin_answers.specs.Answers.{Agrees, IsKnown, AreAll, IsLeftAlone, IsDerived, HasAnswer, IsReply, MayHaveBegun}
+use Rattle.odin_answers.specs.Laws.{AreItsCalls, IsTrueFor}
+use Rattle.odin_answers.proofs.CountLemmas.{begun_answer, reply_answer}
 
--- what was made for a text are calls of its node
-pub its_own : (g : Graph) (s : Sources) (outcomes : Outcomes) (text : Text) (before now : Spawned) → (d : IsDerived g s outcomes text before now) → AreItsCalls g s outcomes d.node d.calls
-its_own g s outcomes text before now d = record {
-  only = made_are_calls g s outcomes d.node d.calls d.made.are;
-  once = made_are_once g s outcomes d.node d.calls d.made.are;
-  all = d.all;
+-- ---- the calls
+
+pub its_own : (g : Graph) (s : Sources) (kept : Calls) (text : Text) (given : Calls) (before now : Spawned) → (d : IsDerived g s kept text given before now) → AreItsCalls g s kept d.node given
+its_own g s kept text given before now d =
+    let new = given_are_new g s (kept_outcome kept) d.node given d.run.are in
+    record {
+      only = λ outcomes agrees call i. given_are_calls g s (kept_outcome kept) d.node given d.run.are outcomes agrees call i;
+      once = new.once;
+      new = new.none;
+      all = d.all;
+    }
+
+-- ---- the same text again
+
+-- a call that is known is kept, where all that is known is
+known_kept : (kept given later : Calls) → Agrees kept given (kept_outcome later) → ((call : Call) → IsIn call (calls_of given) → IsSome (after (kept_outcome kept) given call))
+    → HasMore (kept_outcome kept) (after (kept_outcome kept) given) → (call : Call) → IsKnown kept given call → IsSome (kept_outcome later call)
+known_kept kept given later agrees here stays call (inl there) = some_of (kept_outcome kept call) refl there
+  where
+    some_of : (o : Option Outcome) → kept_outcome kept call ≡ o → IsSome o → IsSome (kept_outcome later call)
+    some_of (Some o) e there = ap is_some (agrees call o (stays call o e))
+    some_of None e there = absurd (let no : ⊥ = cc in no)
+known_kept kept given later agrees here stays call (inr i) = some_of (after (kept_outcome kept) given call) refl (here call i)
+  where
+    some_of : (o : Option Outcome) → after (kept_outcome kept) given call ≡ o → IsSome o → IsSome (kept_outcome later call)
+    some_of (Some o) e there = ap is_some (agrees call o e)
+    some_of None e there = absurd (let no : ⊥ = cc in no)
+
+-- a call that was given an outcome has one
+given_known : (kept : Outcomes) (given : Calls) (call : Call) → IsIn call (calls_of given) → IsSome (after kept given call)
+given_known kept [] call i = absurd i
+given_known kept (x ∷ given) call i = by_test (call_eq.eq call x.0) refl (λ j. given_known kept given call j)
+  where
+    by_test : (b : Bool) → call_eq.eq call x.0 ≡ b → (IsIn call (calls_of given) → IsSome (after kept given call)) → IsSome (given_or (cond b (Some x.1) (outcome_in given call)) (kept call))
+    by_test true same there = refl
+    by_test false other there = elim i [
+      | inl e ↦ let yes : call_eq.eq call x.0 ≡ true = (call_exact call x.0).1 e in absurd (let no : ⊥ = cc in no)
+      | inr j ↦ there j
+    ]
+
+more_itself : (outcomes : Outcomes) → HasMore outcomes outcomes
+more_itself outcomes call o e = e
+
+none_more : (before now : Spawned) (more : Calls) → more ≡ [] → now ≡ after_calls before (calls_of more) → (more ≡ []) × (now ≡ before)
+none_more before now more none is = (none, is ∙ ap (λ (l : Calls). after_calls before (calls_of l)) none)
+
+module _ (g : Graph) (s : Sources) (kept later : Calls) (text : Text) (given more : Calls) (before now before' now' : Spawned) (agrees : Agrees kept given (kept_outcome later)) where
+  -- by the answer from what is kept then
+  by_answer : (reply : Reply) → Answer g s (kept_outcome later) text reply → (d : IsDerived g s kept text given before now) → (e : IsDerived g s later text more before' now') → more ≡ []
+  by_answer reply (Answer.refused _ _ refused) d e = absurd (not_refused g text reply d.node d.asks refused)
+  by_answer reply (Answer.object _ n view asks is) d e =
+      let first : d.node ≡ n = one_node g text n d.node asks d.asks in
+      let second : e.node ≡ n = one_node g text n e.node asks e.asks in
+      let all : AreAll g s kept n given = subst (λ m. AreAll g s kept m given) first d.all in
+      let stays : HasMore (kept_outcome kept) (after (kept_outcome kept) given) = kept_stays g s (kept_outcome kept) d.node given d.run.are in
+      let there : (call : Call) → IsCallFrom g (derived g s (kept_outcome later)) n call → IsSome (kept_outcome later call) =
+      λ call from. known_kept kept given later agrees (λ c i. given_known (kept_outcome kept) given c i) stays call (all (kept_outcome later) agrees (ap is_some is) call from) in
+      none_is_given g s (kept_outcome later) n (kept_outcome later) (more_itself (kept_outcome later)) there more (subst (λ m. AreGiven g s (kept_outcome later) m more) second e.run.are)
+  by_answer reply (Answer.circular _ n chain asks is) d e =
+      let second : e.node ≡ n = one_node g text n e.node asks e.asks in
+      e.run.untouched (subst (IsRefusedBy g s (kept_outcome later)) (sym second) (record { chain = chain; is = inl is }))
+  by_answer reply (Answer.deep _ n chain asks is) d e =
+      let second : e.node ≡ n = one_node g text n e.node asks e.asks in
+      e.run.untouched (subst (IsRefusedBy g s (kept_outcome later)) (sym second) (record { chain = chain; is = inr is }))
+
+  pub asked_again : (reply other : Reply) → HasAnswer g s kept text reply given before now → HasAnswer g s later text other more before' now' → (more ≡ []) × (now' ≡ before')
+  asked_again reply other first second = by_work first.did second.did
+    where
+      by_work : IsLeftAlone g text reply given before now ⊎ IsDerived g s kept text given before now → IsLeftAlone g text other more before' now' ⊎ IsDerived g s later text more before' now' → (more ≡ []) × (now' ≡ before')
+      by_work did (inl alone) = (alone.none, alone.told)
+      by_work (inl alone) (inr e) = absurd (not_refused g text reply e.node e.asks alone.refused)
+      by_work (inr d) (inr e) = none_more before' now' more (by_answer reply (first.answer (kept_outcome later) agrees) d e) e.run.now_is
+
+-- ---- the table
+
+-- what is kept behind others is one or the other
+kept_or_given : (kept given : Calls) (call : Call) (o : Outcome) → kept_outcome (kept ++ given) call ≡ Some o → (kept_outcome kept call ≡ Some o) ⊎ (outcome_in given call ≡ Some o)
+kept_or_given [] given call o e = inr e
+kept_or_given (x ∷ kept) given call o e = by_test (call_eq.eq call x.0) e (kept_or_given kept given call o)
+  where
+    by_test : (b : Bool) → cond b (Some x.1) (kept_outcome (kept ++ given) call) ≡ Some o → (kept_outcome (kept ++ given) call ≡ Some o → (kept_outcome kept call ≡ Some o) ⊎ (outcome_in given call ≡ Some o))
+        → (cond b (Some x.1) (kept_outcome kept call) ≡ Some o) ⊎ (outcome_in given call ≡ Some o)
+    by_test true e more = inl e
+    by_test false e more = more e
+
+true_behind : (table : Table) (kept given : Calls) (now : Spawned) → now.answer ≡ Some table → HasMore (kept_outcome kept) (table_outcomes table) → HaveCome (Some table) given → IsTrueFor table now (kept ++ given)
+true_behind table kept given now told right came = record {
+  told = told;
+  gives = λ call o e. elim (kept_or_given kept given call o e) [
+    | inl there ↦ right call o there
+    | inr there ↦ (came call o (given_is_in given call o there)).told table refl
+  ];
 }
 
--- no call
-pub no_calls : (before now before' now' : Spawned) → now ≡ before → now' ≡ before' → SameCalls before now before' now'
-no_calls before now before' now' one other = record {
-  calls = [];
-  others = [];
-  one = one;
-  other = other;
-  once = tt;
-  others_once = tt;
-  same = λ call. (λ i. i, λ i. i);
-}
+none_come_yet : (table : Table) (given : Calls) → given ≡ [] → HaveCome (Some table) given
+none_come_yet table given none = subst (HaveCome (Some table)) (sym none) (λ call o i. absurd i)
 
-module _ (g : Graph) (s : Sources) (outcomes : Outcomes) (text : Text) (before now before' now' : Spawned) where
-  -- the calls of one node that has a result
-  same_calls : (a : IsDerived g s outcomes text before now) (b : IsDerived g s outcomes text before' now') (view : View) → derived g s outcomes a.node ≡ Some view → SameCalls before now before' now'
-  same_calls a b view is =
-      let node : b.node ≡ a.node = one_node g text a.node b.node a.asks b.asks in
-      let mine = its_own g s outcomes text before now a in
-      let others : AreItsCalls g s outcomes a.node b.calls = subst (λ n. AreItsCalls g s outcomes n b.calls) node (its_own g s outcomes text before' now' b) in
-      let founded : IsFounded g s outcomes a.node = ap is_some is in
-      record {
-        calls = a.calls;
-        others = b.calls;
-        one = a.made.now_is;
-        other = b.made.now_is;
-        once = mine.once;
-        others_once = others.once;
-        same = λ call. (λ i. others.all founded call (mine.only call i), λ i. mine.all founded call (others.only call i));
-      }
+come_by : (table : Table) (before : Spawned) (given : Calls) → before.answer ≡ Some table → HaveCome before.answer given → HaveCome (Some table) given
+come_by table before given told came = subst (λ a. HaveCome a given) told came
 
-  module _ (reply other : Reply) (mine : Answer g s outcomes text reply) (yours : Answer g s outcomes text other) where
-    -- by whether the node has a result
-    by_result : (a : IsDerived g s outcomes text before now) (b : IsDerived g s outcomes text before' now') (found : Option View) → derived g s outcomes a.node ≡ found
-        → SameAnswers reply other before now before' now' ⊎ BothShowChains g s outcomes text reply other
-    by_result a b (Some view) is =
-        inl (record {
-          reply = founded_shown g s outcomes text other a.node view a.asks is yours ∙ sym (founded_shown g s outcomes text reply a.node view a.asks is mine);
-          calls = same_calls a b view is;
-        })
-    by_result a b None is =
-        inr (record {
-          node = a.node;
-          asked = a.asks;
-          one = others_chained g s outcomes text reply a.node a.asks is mine;
-          another = others_chained g s outcomes text other a.node a.asks is yours;
-        })
+module _ (g : Graph) (table : Table) (s : Sources) (kept : Calls) (text : Text) (given : Calls) (before now : Spawned) (right : IsTrueFor table before kept) where
+  answered_came : (reply : Reply) → HasAnswer g s kept text reply given before now → HaveCome (Some table) given
+  answered_came reply answer = elim answer.did [
+    | inl alone ↦ none_come_yet table given alone.none
+    | inr derived ↦ come_by table before given right.told derived.run.came
+  ]
 
-    by_work : IsLeftAlone g text reply before now ⊎ IsDerived g s outcomes text before now → IsLeftAlone g text other before' now' ⊎ IsDerived g s outcomes text before' now'
-        → SameAnswers reply other before now before' now' ⊎ BothShowChains g s outcomes text reply other
-    by_work (inl a) (inl b) = inl (record { reply = one_refusal g text reply other a.refused b.refused; calls = no_calls before now before' now' a.told b.told })
-    by_work (inl a) (inr b) = absurd (not_refused g text reply b.node b.asks a.refused)
-    by_work (inr a) (inl b) = absurd (not_refused g text other a.node a.asks b.refused)
-    by_work (inr a) (inr b) = by_result a b _ refl
+  reply_came : (reply : Reply) → IsReply g s kept text reply given before now → HaveCome (Some table) given
+  reply_came reply (inl answer) = answered_came reply answer
+  reply_came reply (inr refused) = come_by table before given right.told refused.begun.run.came
 
--- where a table is told both go by its outcomes
-pub one_reply : (g : Graph) (table : Table) (s : Sources) (text : Text) (reply other : Reply) (before now before' now' : Spawned) → HasAnswer g (Some table) s text reply before now → HasAnswer g (Some table) s text other before' now'
-    → SameAnswers reply other before now before' now' ⊎ BothShowChains g s (table_outcomes table) text reply other
-one_reply g table s text reply other before now before' now' a b =
-    by_work g s (table_outcomes table) text before now before' now' reply other
-    (subst (λ (o : Outcomes). Answer g s o text reply) (a.given.told table refl) a.answer)
-    (subst (λ (o : Outcomes). Answer g s o text other) (b.given.told table refl) b.answer)
-    (subst (λ (o : Outcomes). IsLeftAlone g text reply before now ⊎ IsDerived g s o text before now) (a.given.told table refl) a.did)
-    (subst (λ (o : Outcomes). IsLeftAlone g text other before' now' ⊎ IsDerived g s o text before' now') (b.given.told table refl) b.did)
+  begun_came : MayHaveBegun g s kept text given before now → HaveCome (Some table) given
+  begun_came (inl untouched) = none_come_yet table given untouched.none
+  begun_came (inr begun) = come_by table before given right.told begun.1.run.came
+
+  pub reply_true : (reply : Reply) → IsReply g s kept text reply given before now → IsTrueFor table now (kept ++ given)
+  reply_true reply is = true_behind table kept given now (reply_answer g s kept text reply given before now is ∙ right.told) right.gives (reply_came reply is)
+
+  pub begun_true : MayHaveBegun g s kept text given before now → IsTrueFor table now (kept ++ given)
+  begun_true begun = true_behind table kept given now (begun_answer g s kept text given before now begun ∙ right.told) right.gives (begun_came begun)
+
+  pub fresh : (reply : Reply) → HasAnswer g s kept text reply given before now → Answer g s (table_outcomes table) text reply
+  fresh reply answer = answer.answer (table_outcomes table) (given_are_true table (kept_outcome kept) given right.gives (answered_came reply answer))
+
+pub one_reply : (g : Graph) (table : Table) (s : Sources) (kept kept' : Calls) (text : Text) (reply other : Reply) (given given' : Calls) (before now before' now' : Spawned)
+    → IsTrueFor table before kept → IsTrueFor table before' kept' → HasAnswer g s kept text reply given before now → HasAnswer g s kept' text other given' before' now'
+    → (other ≡ reply) ⊎ BothShowChains g s (table_outcomes table) text reply other
+one_reply g table s kept kept' text reply other given given' before now before' now' right right' a b =
+    one_answer g s (table_outcomes table) text reply other (fresh g table s kept text given before now right reply a) (fresh g table s kept' text given' before' now' right' other b)

@@ -1,6 +1,6 @@
--- What follows from replies: how the count of the tools' faults goes on, which calls were made, and
--- that an answer is one.
-use Rattle.std.specs.Prelude.{◌≡◌, ◌≤◌, ◌⊎◌, ◌↔◌, List, Option, Some}
+-- What follows from replies: how the count of the tools' faults goes on, which calls were run, that what is kept stays true, and that an
+-- answer is one.
+use Rattle.std.specs.Prelude.{◌≡◌, ◌≤◌, ◌⊎◌, [], ◌++◌, None, Some}
 use Rattle.object_values.specs.declared.nodes.Node.{Node}
 use Rattle.object_values.specs.declared.calls.Call.{Call}
 use Rattle.odin_outside.specs.Causes.{IsCounted}
@@ -10,70 +10,90 @@ use Rattle.meaning_graph.specs.Graphs.{Text, Graph}
 use Rattle.meaning_derive.specs.Derive.{Sources, Outcomes, derived}
 use Rattle.meaning_derive.specs.Calls.{IsCallFrom}
 use Rattle.meaning_derive.specs.Given.{table_outcomes}
+use Rattle.meaning_derive.specs.Laws.{HasMore}
+use Rattle.meaning_records.specs.Tables.{Calls, kept_outcome}
 use Rattle.meaning_commands.specs.declared.replies.Reply.{Reply}
+use Rattle.meaning_answers.specs.Answers.{Answer}
 use Rattle.meaning_answers.specs.Laws.{BothShowChains}
 use Rattle.walk_tables.specs.Calls.{AreOnce}
-use Rattle.plain_derive.specs.Logs.{after_calls}
-use Rattle.odin_answers.specs.Answers.{AreAll, IsDerived, HasAnswer, IsStartRefused, MayHaveBegun}
+use Rattle.plain_derive.specs.Given.{calls_of}
+use Rattle.odin_answers.specs.Answers.{Agrees, AreAll, IsDerived, HasAnswer, IsStartRefused, IsReply, MayHaveBegun}
+
+-- ---- counts
 
 -- An answer leaves it as it was.
 abbrev pub AnswersCountNone : Type 0
 AnswersCountNone =
-    (g : Graph) (table : Option Table) (s : Sources) (text : Text) (reply : Reply)
-    (before now : Spawned) → HasAnswer g table s text reply before now
+    (g : Graph) (s : Sources) (kept : Calls) (text : Text) (reply : Reply) (given : Calls)
+    (before now : Spawned) → HasAnswer g s kept text reply given before now
     → now.faults ≡ before.faults
 
 -- A refused start raised it.
 abbrev pub RefusalsAreCounted : Type 0
 RefusalsAreCounted =
-    (g : Graph) (table : Option Table) (s : Sources) (text : Text) (reply : Reply)
-    (before now : Spawned) → IsStartRefused g table s text reply before now
+    (g : Graph) (s : Sources) (kept : Calls) (text : Text) (reply : Reply) (given : Calls)
+    (before now : Spawned) → IsStartRefused g s kept text reply given before now
     → IsCounted before.faults now.faults
 
 -- Without a reply it never falls.
 abbrev pub NoneIsTakenBack : Type 0
 NoneIsTakenBack =
-    (g : Graph) (table : Option Table) (s : Sources) (text : Text) (before now : Spawned)
-    → MayHaveBegun g table s text before now → before.faults ≤ now.faults
+    (g : Graph) (s : Sources) (kept : Calls) (text : Text) (given : Calls) (before now : Spawned)
+    → MayHaveBegun g s kept text given before now → before.faults ≤ now.faults
 
 -- ---- the calls
 
--- These are calls of the node, each once, and all of them where the node has a result.
-pub record AreItsCalls (g : Graph) (s : Sources) (outcomes : Outcomes) (n : Node)
-    (calls : List Call) : Type 0 where
-  pub only : (call : Call) → IsIn call calls → IsCallFrom g (derived g s outcomes) n call
-  pub once : AreOnce calls
-  pub all : AreAll g s outcomes n calls
+-- These are calls of the node, whatever else is known; each once, and none that was kept; and all of the others where the node has a result.
+pub record AreItsCalls (g : Graph) (s : Sources) (kept : Calls) (n : Node) (given : Calls) : Type 0 where
+  pub only : (outcomes : Outcomes) → Agrees kept given outcomes → (call : Call)
+      → IsIn call (calls_of given) → IsCallFrom g (derived g s outcomes) n call
+  pub once : AreOnce (calls_of given)
+  pub new : (call : Call) → IsIn call (calls_of given) → kept_outcome kept call ≡ None
+  pub all : AreAll g s kept n given
 
--- What was made for a text are calls of its node.
+-- What was run for a text are calls of its node.
 abbrev pub CallsAreItsOwn : Type 0
 CallsAreItsOwn =
-    (g : Graph) (s : Sources) (outcomes : Outcomes) (text : Text) (before now : Spawned)
-    → (d : IsDerived g s outcomes text before now) → AreItsCalls g s outcomes d.node d.calls
+    (g : Graph) (s : Sources) (kept : Calls) (text : Text) (given : Calls) (before now : Spawned)
+    → (d : IsDerived g s kept text given before now) → AreItsCalls g s kept d.node given
 
--- ---- one answer
+-- What was answered once is answered from what is kept then, from the same sources: nothing is run.
+abbrev pub AskedAgain : Type 0
+AskedAgain =
+    (g : Graph) (s : Sources) (kept later : Calls) (text : Text) (reply other : Reply)
+    (given more : Calls) (before now before' now' : Spawned)
+    → HasAnswer g s kept text reply given before now → Agrees kept given (kept_outcome later)
+    → HasAnswer g s later text other more before' now' → (more ≡ []) × (now' ≡ before')
 
--- The same calls were made, each once, in whatever order, and nothing else happened.
-pub record SameCalls (before now before' now' : Spawned) : Type 0 where
-  pub calls : List Call
-  pub others : List Call
-  pub one : now ≡ after_calls before calls
-  pub other : now' ≡ after_calls before' others
-  pub once : AreOnce calls
-  pub others_once : AreOnce others
-  pub same : (call : Call) → IsIn call calls ↔ IsIn call others
+-- ---- the table
 
--- The replies are the same, and so are the calls that were made.
-pub record SameAnswers (one other : Reply) (before now before' now' : Spawned) : Type 0 where
-  pub reply : other ≡ one
-  pub calls : SameCalls before now before' now'
+-- The tools answer by this table, and each call that is kept has the outcome that it gives.
+pub record IsTrueFor (table : Table) (tools : Spawned) (kept : Calls) : Type 0 where
+  pub told : tools.answer ≡ Some table
+  pub gives : HasMore (kept_outcome kept) (table_outcomes table)
 
--- Where a table is told, a text has one answer from the same sources, whenever it is asked for, but
--- for the choice of the chain that a refusal shows.
+-- By a table what is kept stays true, with a reply and without one.
+pub record KeptStaysTrue : Type 0 where
+  pub replied : (g : Graph) (table : Table) (s : Sources) (kept : Calls) (text : Text) (reply : Reply)
+      (given : Calls) (before now : Spawned) → IsTrueFor table before kept
+      → IsReply g s kept text reply given before now → IsTrueFor table now (kept ++ given)
+  pub begun : (g : Graph) (table : Table) (s : Sources) (kept : Calls) (text : Text)
+      (given : Calls) (before now : Spawned) → IsTrueFor table before kept
+      → MayHaveBegun g s kept text given before now → IsTrueFor table now (kept ++ given)
+
+-- By a table a reply that is no refused start is what is derived with nothing kept.
+abbrev pub AnswersAreFresh : Type 0
+AnswersAreFresh =
+    (g : Graph) (table : Table) (s : Sources) (kept : Calls) (text : Text) (reply : Reply)
+    (given : Calls) (before now : Spawned) → IsTrueFor table before kept
+    → HasAnswer g s kept text reply given before now → Answer g s (table_outcomes table) text reply
+
+-- By a table a text has one answer from the same sources, whatever is kept, but for the choice of the chain that a refusal shows.
 abbrev pub AnswerIsOne : Type 0
 AnswerIsOne =
-    (g : Graph) (table : Table) (s : Sources) (text : Text) (reply other : Reply)
-    (before now before' now' : Spawned) → HasAnswer g (Some table) s text reply before now
-    → HasAnswer g (Some table) s text other before' now'
-    → SameAnswers reply other before now before' now'
-    ⊎ BothShowChains g s (table_outcomes table) text reply other
+    (g : Graph) (table : Table) (s : Sources) (kept kept' : Calls) (text : Text)
+    (reply other : Reply) (given given' : Calls) (before now before' now' : Spawned)
+    → IsTrueFor table before kept → IsTrueFor table before' kept'
+    → HasAnswer g s kept text reply given before now
+    → HasAnswer g s kept' text other given' before' now'
+    → (other ≡ reply) ⊎ BothShowChains g s (table_outcomes table) text reply other

@@ -1,4 +1,5 @@
-pub mod Asked
 pub mod Answers
+pub mod Faults
 pub mod Laws
 pub mod Planned
+pub mod Replied

@@ -1,104 +1,112 @@
 // The replies to texts.
-ghost use Rattle.std.specs.Prelude.{◌≡◌, ◌≤◌, [], length, IfOk, OnOk, OnErr};
-ghost use Rattle.meaning_graph.specs.Graphs.{Text};
-ghost use Rattle.meaning_graph_text.specs.Grammar.{IsSpellable};
-ghost use Rattle.meaning_answers.specs.Answers.{Asks};
-ghost use Rattle.meaning_nodes.specs.Nodes.{Fits};
-ghost use Rattle.meaning_derive.specs.Given.{AreSources};
-ghost use Rattle.odin_answers.specs.Answers.{AreFew, IsReply, MayHaveBegun, RefusesStart};
+ghost use Rattle.std.specs.Prelude.{◌≡◌, ◌<◌, IfOk, IfErr};
+ghost use Rattle.kept_derive.specs.Calls.{IsIdle};
+ghost use Rattle.kept_derive.specs.Rests.{ComesToRest};
+ghost use Rattle.kept_derive.specs.Runs.{at};
+ghost use Rattle.odin_journal.specs.Faults.{IsCause};
+ghost use Rattle.odin_journal.specs.declared.fault.JournalFault.TheVariants as fault;
+ghost use Rattle.odin_store.specs.OnDisk.{IsLeft};
+ghost use Rattle.odin_answers.specs.Faults.{Refuses, Stops};
 ghost use Rattle.odin_answers.specs.Planned.{IsPlanned};
-ghost use Rattle.path_planner.specs.Ends.{plans_of};
+ghost use Rattle.odin_answers.specs.Replied.{HasReplied, HasStopped};
 
-use crate::asked::{Asked, read_asked};
 use crate::plan::{Planned, plan_text};
-use crate::shown::found_reply;
+use crate::shown::{node_texts, shown};
 use meaning_commands::Reply;
-use object_sources::Sources;
-use object_values::{Memory, Node};
-use odin_outside::Spawner;
-use path_planner::Plans;
-use plain_derive::{PlainFault, derive_plain};
+use object_values::Memory;
+use odin_engine::{AskFault, Engine, StoreFault};
+use odin_outside::{Disk, Spawner, Steps};
 use std::alloc::Global;
+use std::marker::Brand;
+use std::sync::ledger::{Blank, Ledger};
 use type_graph::Graph;
 
-/// The reply to a text that asks for an object. After want of memory one tool may still run.
-pub fn answer_ask<S: Spawner>(
+/// The reply to a text that asks for an object. Each call that is run for it is kept as its tool ends. After `Memory` one tool may still run.
+pub fn answer_ask<D: Disk, S: Spawner>(
     alloc: Global,
-    graph: &Graph,
-    plans: &Plans,
-    sources: &Sources,
+    engine: &mut Engine,
+    disk: &mut D,
     text: &[u8],
     tools: &mut S,
-) -> Result<Reply, Memory>
-    requires spellable { IsSpellable graph.now }
-    requires made { plans.now ≡ plans_of graph.now }
-    requires sources { AreSources sources.now.texts }
-    requires idle { (S.told tools.old).running ≡ [] }
-    ensures ok { IfOk result (λ reply. IsReply graph.now (S.told tools.old).answer
-        sources.now.texts text.now reply (S.told tools.old) (S.told tools.new)) }
-    ensures begun { OnErr result (MayHaveBegun graph.now (S.told tools.old).answer
-        sources.now.texts text.now (S.told tools.old) (S.told tools.new)) }
-    ensures idle { OnOk result ((S.told tools.new).running ≡ []) }
-    ensures one { length (S.told tools.new).running ≤ 1 }
-    ensures answer { (S.told tools.new).answer ≡ (S.told tools.old).answer }
+) -> Result<Reply, StoreFault>
+    requires { IsIdle engine.old.store (D.size_of disk.old) (S.told tools.old) }
+    ensures ok { let old = at engine.old.store disk.old (S.told tools.old) in
+        IfOk result (HasReplied D.told engine.old.graph text.now
+        old (at engine.new.store disk.new (S.told tools.new))) }
+    ensures err { let old = at engine.old.store disk.old (S.told tools.old) in
+        IfErr result (HasStopped D.told engine.old.graph text.now
+        old (at engine.new.store disk.new (S.told tools.new))) }
+    ensures graph { engine.new.graph ≡ engine.old.graph }
+    ensures rest { ComesToRest fault.Memory (S.told tools.old) (S.told tools.new) result }
+    ensures left { IsLeft engine.new.store (D.size_of disk.new) result }
+    ensures cause { IsCause (D.faults disk.old) (D.faults disk.new) result }
 {
-    match read_asked(alloc, graph, plans, text)? {
-        Asked::Node(node) => answer_node(alloc, graph, plans, sources, &node, tools),
-        Asked::Refused(reply) => Ok(reply),
-    }
+    answer_counted::<D, S, Brand>(alloc, engine, disk, text, tools, Blank::new(1))
 }
 
-// What is found of a node, or that a tool was not started.
-fn answer_node<S: Spawner>(
+// The same with a counter of steps, which nobody reads.
+fn answer_counted<D: Disk, S: Spawner, L: Ledger>(
     alloc: Global,
-    graph: &Graph,
-    plans: &Plans,
-    sources: &Sources,
-    node: &Node,
+    engine: &mut Engine,
+    disk: &mut D,
+    text: &[u8],
     tools: &mut S,
-) -> Result<Reply, Memory>
-    requires spellable { IsSpellable graph.now }
-    requires made { plans.now ≡ plans_of graph.now }
-    requires sources { AreSources sources.now.texts }
-    requires fits { Fits graph.now node.now }
-    requires idle { (S.told tools.old).running ≡ [] }
-    ensures ok { IfOk result (λ reply. (text : Text) → Asks graph.now text node.now →
-        IsReply graph.now (S.told tools.old).answer sources.now.texts
-        text reply (S.told tools.old) (S.told tools.new)) }
-    ensures begun { OnErr result ((text : Text) → Asks graph.now text node.now →
-        MayHaveBegun graph.now (S.told tools.old).answer sources.now.texts
-        text (S.told tools.old) (S.told tools.new)) }
-    ensures idle { OnOk result ((S.told tools.new).running ≡ []) }
-    ensures few { AreFew (S.told tools.old) (S.told tools.new) }
+    blank: Blank,
+) -> Result<Reply, StoreFault>
+    requires blank { (blank.name ≡ L.name) × (blank.parts ≡ L.parts) × (0 < L.parts) }
+    requires idle { IsIdle engine.old.store (D.size_of disk.old) (S.told tools.old) }
+    ensures ok { let old = at engine.old.store disk.old (S.told tools.old) in
+        IfOk result (HasReplied D.told engine.old.graph text.now
+        old (at engine.new.store disk.new (S.told tools.new))) }
+    ensures err { let old = at engine.old.store disk.old (S.told tools.old) in
+        IfErr result (HasStopped D.told engine.old.graph text.now
+        old (at engine.new.store disk.new (S.told tools.new))) }
+    ensures graph { engine.new.graph ≡ engine.old.graph }
+    ensures rest { ComesToRest fault.Memory (S.told tools.old) (S.told tools.new) result }
+    ensures left { IsLeft engine.new.store (D.size_of disk.new) result }
+    ensures cause { IsCause (D.faults disk.old) (D.faults disk.new) result }
 {
-    match derive_plain(alloc, graph, plans, sources, node, tools) {
-        Ok(found) => found_reply(alloc, graph, found),
-        Err(fault) => refused_start(fault),
-    }
-}
-
-// The refusal of a derivation that was given up.
-fn refused_start(fault: PlainFault) -> Result<Reply, Memory>
-    ensures { IfOk result (RefusesStart fault) }
-{
-    match fault {
-        PlainFault::Spawn => Ok(Reply::RefusedToolStart),
-        PlainFault::Memory => Err(Memory),
+    let mut steps = Steps::<L>::new(blank);
+    match engine.ask(alloc, disk, tools, text, &mut steps) {
+        Ok(view) => Ok(shown(alloc, engine.graph(), view)?),
+        Err(fault) => refused(alloc, engine.graph(), fault),
     }
 }
 
 /// The reply to a text that asks for the steps to an object.
-pub fn answer_plan(
-    alloc: Global,
-    graph: &Graph,
-    plans: &Plans,
-    text: &[u8],
-) -> Result<Planned, Memory>
-    requires made { plans.now ≡ plans_of graph.now }
-    ensures { IfOk result (IsPlanned graph.now text.now) }
+pub fn answer_plan(alloc: Global, engine: &Engine, text: &[u8]) -> Result<Planned, Memory>
+    ensures { IfOk result (IsPlanned engine.now.graph text.now) }
 {
-    match read_asked(alloc, graph, plans, text)? {
-        Asked::Node(node) => Ok(Planned::Steps(plan_text(alloc, graph, &node)?)),
-        Asked::Refused(reply) => Ok(Planned::Refused(reply)),
+    match engine.plan(alloc, text) {
+        Ok(node) => Ok(Planned::Steps(plan_text(alloc, engine.graph(), &node)?)),
+        Err(fault) => match refused(alloc, engine.graph(), fault) {
+            Ok(reply) => Ok(Planned::Refused(reply)),
+            Err(_) => Err(Memory),
+        },
+    }
+}
+
+// The reply for a fault, or why there is none.
+fn refused(alloc: Global, graph: &Graph, fault: AskFault) -> Result<Reply, StoreFault>
+    ensures ok { IfOk result (Refuses graph.now fault) }
+    ensures err { IfErr result (Stops fault) }
+{
+    match fault {
+        AskFault::Expression(place) => Ok(Reply::RefusedExpression(u64::from(place))),
+        AskFault::UnknownType(name) => Ok(Reply::RefusedType(name)),
+        AskFault::UnknownParam(name) => Ok(Reply::RefusedParam(name)),
+        AskFault::Path(step) => Ok(Reply::RefusedPath(u64::from(step))),
+        AskFault::Circular(chain) => {
+            Ok(Reply::RefusedCircular(node_texts(alloc, graph, chain.as_slice())?))
+        }
+        AskFault::Deep(chain) => Ok(Reply::RefusedDeep(node_texts(
+            alloc,
+            graph,
+            chain.as_slice(),
+        )?)),
+        AskFault::Spawn => Ok(Reply::RefusedToolStart),
+        AskFault::Disk => Err(StoreFault::Disk),
+        AskFault::Full(end, length) => Err(StoreFault::Full(end, length)),
+        AskFault::Memory => Err(StoreFault::Memory),
     }
 }

@@ -1,5 +1,5 @@
 //! Laws of replies. Each is the contract of a function with an empty body.
-ghost use Rattle.odin_answers.specs.Laws.{AnswersCountNone, RefusalsAreCounted, NoneIsTakenBack, CallsAreItsOwn, AnswerIsOne};
+ghost use Rattle.odin_answers.specs.Laws.{AnswersCountNone, RefusalsAreCounted, NoneIsTakenBack, CallsAreItsOwn, AskedAgain, KeptStaysTrue, AnswersAreFresh, AnswerIsOne};
 
 /// An answer leaves the count of the tools' faults as it was, and a refused start raised it.
 pub fn replies_are_counted()
@@ -8,13 +8,23 @@ pub fn replies_are_counted()
     ensures none { NoneIsTakenBack }
 {}
 
-/// What was made for a text are calls of its node, each once, and all of them where it has a result.
+/// What was run for a text are calls of its node that weren't kept, each once, and all of these where it has a result.
 pub fn calls_are_its_own()
     ensures { CallsAreItsOwn }
 {}
 
-/// Where the tools answer by a table, a text has one answer from the same sources, and the same calls
-/// are made for it; or two answers show chains, of which there may be more than one.
+/// Nothing is run for a text that was answered, from the same sources and over all that was kept and given then.
+pub fn asked_again()
+    ensures { AskedAgain }
+{}
+
+/// Where the tools answer by a table, and what is kept is what it gives, that stays so; and an answer is what is derived with nothing kept.
+pub fn kept_stays_true()
+    ensures kept { KeptStaysTrue }
+    ensures fresh { AnswersAreFresh }
+{}
+
+/// There a text has one answer from the same sources, whatever is kept; or two answers show chains, of which there may be more than one.
 pub fn answer_is_one()
     ensures { AnswerIsOne }
 {}

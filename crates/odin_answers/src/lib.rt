@@ -2,7 +2,6 @@
 #![tactic(auto)]
 
 mod answer;
-mod asked;
 pub mod laws;
 mod plan;
 mod shown;

@@ -1,29 +1,15 @@
-// The replies that show what is found of a node.
+// The replies that show views and nodes.
 ghost use Rattle.std.specs.Prelude.{◌≡◌, IfOk};
 ghost use Rattle.meaning_answers.specs.Replies.{node_texts, shown_body, shown};
-ghost use Rattle.odin_answers.specs.Answers.{found_reply};
 
 use meaning_commands::{Reply, ShownBody};
 use object_values::{Bytes, Memory, Node, Seq, Value, View};
 use odin_nodes::node_text;
-use plain_derive::Found;
 use std::alloc::Global;
 use type_graph::Graph;
 
-/// The reply that shows what was found.
-pub(crate) fn found_reply(alloc: Global, graph: &Graph, found: Found) -> Result<Reply, Memory>
-    ensures { IfOk result (λ reply. reply ≡ found_reply graph.now found) }
-{
-    match found {
-        Found::Answer(view) => shown(alloc, graph, view),
-        Found::Circular(chain) => {
-            Ok(Reply::RefusedCircular(node_texts(alloc, graph, chain.as_slice())?))
-        }
-        Found::Deep(chain) => Ok(Reply::RefusedDeep(node_texts(alloc, graph, chain.as_slice())?)),
-    }
-}
-
-fn shown(alloc: Global, graph: &Graph, view: View) -> Result<Reply, Memory>
+/// The reply that shows a view.
+pub(crate) fn shown(alloc: Global, graph: &Graph, view: View) -> Result<Reply, Memory>
     ensures { IfOk result (λ reply. reply ≡ shown graph.now view) }
 {
     let View {
@@ -53,7 +39,8 @@ fn shown_body(alloc: Global, graph: &Graph, value: Option<Value>) -> Result<Show
     }
 }
 
-fn node_texts(alloc: Global, graph: &Graph, nodes: &[Node]) -> Result<Seq<Bytes>, Memory>
+/// The texts of nodes.
+pub(crate) fn node_texts(alloc: Global, graph: &Graph, nodes: &[Node]) -> Result<Seq<Bytes>, Memory>
     ensures { IfOk result (λ texts. texts ≡ node_texts graph.now nodes.now) }
 {
     let mut texts = Seq::new(alloc);

@@ -9,5 +9,6 @@ mod write;
 
 pub use command::{body_size, ends_run};
 pub use meaning_commands::{Command, Reply, ShownBody};
+pub use objects::write_each_message;
 pub use read::read_command;
 pub use write::{text_of, write_reply};

@@ -79,7 +79,8 @@ fn write_message(message: &Message, out: &mut Bytes) -> Result<(), Memory>
     write_escaped(message.text.as_slice(), out)
 }
 
-fn write_each_message(messages: &[Message], out: &mut Bytes) -> Result<(), Memory>
+/// Adds a line for each message at the end: its level, its label and its escaped text. Where memory is wanted, it leaves what it began.
+pub fn write_each_message(messages: &[Message], out: &mut Bytes) -> Result<(), Memory>
     ensures { Adds result out.old out.new (flat_map message_text messages.now) }
 {
     for message in messages {

@@ -1,6 +1,7 @@
 -- What calls on a disk leave of it.
-use Rattle.std.specs.Prelude.{◌≡◌, ℕ, max, ◌+◌, ◌<◌, ◌≤◌, IsTrue, IsFalse, List, Option, Some, None, length, slice_range}
-use Rattle.odin_outside.specs.Disk.{Telling, Work, LeavesOnly, IsQuiet, Written, Torn}
+use Rattle.std.specs.Prelude.{◌≡◌, ℕ, max, ◌+◌, ◌<◌, ◌≤◌, IsTrue, IsFalse, List, length, slice_range}
+use Rattle.odin_outside.specs.Disk.{Telling, LeavesOnly, IsQuiet, Written, Torn}
+use Rattle.odin_outside.specs.Worked.{WorkedWithin}
 use Rattle.meaning_store.specs.Front.{file_limit}
 use Rattle.meaning_store.specs.Images.{IsNew, IsWritten}
 use Rattle.odin_journal.specs.declared.front.Looked.{Looked}
@@ -11,13 +12,7 @@ pub record Untouched (old new : Telling) : Type 0 where
   pub same : new.seen ≡ old.seen
   pub leaves : LeavesOnly old new (λ image. image ≡ old.seen)
 
--- the work rose by at most so many bytes and calls, where it is told
-abbrev pub WorkedWithin : ℕ → ℕ → Option Work → Option Work → Type 0
-WorkedWithin bytes calls None new = new ≡ None
-WorkedWithin bytes calls (Some old) None = ⊥
-WorkedWithin bytes calls (Some old) (Some new) = (new.bytes ≤ old.bytes + bytes) × (new.calls ≤ old.calls + calls)
-
--- the same of a disk
+-- the work of a disk rose by at most so many bytes and calls, where it is told
 abbrev pub Works : ℕ → ℕ → Telling → Telling → Type 0
 Works bytes calls old new = WorkedWithin bytes calls old.work new.work
 

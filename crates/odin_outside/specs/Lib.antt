@@ -5,3 +5,4 @@ pub mod Moments
 pub mod Spawned
 pub mod Steps
 pub mod Told
+pub mod Worked

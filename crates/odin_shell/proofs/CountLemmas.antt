@@ -1,17 +1,19 @@
 -- Replies that tell a fault: no other reply is like them, and there are no more than faults were counted.
-use Rattle.std.proofs.Common.{◌≡◌, ◌≢◌, ℕ, ◌+◌, ◌≤◌, min, Bool, true, false, List, [], ◌∷◌, get_or, ap, sym, refl, ◌∙◌, arith, inl, inr}
+use Rattle.std.proofs.Common.{◌≡◌, ◌≢◌, ℕ, ◌+◌, ◌≤◌, min, Bool, true, false, List, [], ◌∷◌, length, get_or, ap, sym, refl, ◌∙◌, arith, inl, inr}
 use Rattle.std.specs.Prelude.{Option, Some, None, if◌then◌else◌}
 use Rattle.std.specs.Str.{bytes_eq}
 use Rattle.std.proofs.lemmas.Slice.Eq.{bytes_eq-Decides}
 use Rattle.object_sources.specs.Texts.{Texts}
 use Rattle.odin_outside.specs.Causes.{last_count}
-use Rattle.odin_outside.specs.Spawned.{Table, Spawned}
+use Rattle.odin_outside.specs.Spawned.{Spawned}
 use Rattle.meaning_graph.specs.Graphs.{Text, Graph}
 use Rattle.meaning_derive.specs.Derive.{Sources as Given, Outcomes}
+use Rattle.meaning_records.specs.Tables.{kept_outcome}
 use Rattle.meaning_answers.specs.Answers.{Refused, Answer, Plan as Steps}
 use Rattle.meaning_run.specs.Items.{Item}
 use Rattle.meaning_run.specs.Machines.{Transcript}
-use Rattle.odin_answers.proofs.Lemmas.{refusal_counted}
+use Rattle.derive_walk.specs.Outcomes.{after}
+use Rattle.odin_answers.proofs.Lemmas.{refusal_counted, reply_later}
 use Rattle.meaning_commands.specs.declared.commands.Command.{Command}
 use Rattle.meaning_commands.specs.declared.commands.Command.TheVariants.{Put, Take, Remove, Ask, Plan, Sources, Kept, Quit, Nothing, Bad, BadName}
 use Rattle.meaning_commands.specs.declared.replies.Reply.{Reply}
@@ -21,7 +23,6 @@ use Rattle.odin_shell.specs.Language.{commands}
 use Rattle.source_edits.specs.Edits.{TreeTold, Inserts, TakesFile, RemovesText, source_lines}
 use Rattle.odin_shell.specs.Machine.{State, Step}
 use Rattle.odin_shell.specs.Laws.{count_of, FitsCounts}
-use Rattle.odin_shell.proofs.ServeLemmas.{reply_later}
 
 -- ---- bytes
 
@@ -165,15 +166,15 @@ no_reply old bytes new none same =
     (not_one bytes (reply_text reply.RefusedRead) _ refl (λ e. clash [] (reply_text reply.RefusedRead) (sym none ∙ e) 0 0 114 refl refl (λ z. omega arith)))
     (tools_later old new (ap (λ (s : State). s.tools) same)) (tree_later old new (ap (λ (s : State). s.tree) same))
 
-pub counted : (g : Graph) (table : Option Table) (old : State) (c : Command) (body bytes : List ℕ) (new : State) → Step g table old c body bytes new → Counts old bytes new
-counted g table old (Put name count) body bytes new step =
+pub counted : (g : Graph) (old : State) (c : Command) (body bytes : List ℕ) (new : State) → Step g old c body bytes new → Counts old bytes new
+counted g old (Put name count) body bytes new step =
     by_silent old bytes new step.says.said step.says.bytes_are
-    (inserted_silent old.texts name body count (reply.Put name count) step.says.said new.texts (record { no_start = λ z. cc; no_read = λ z. cc }) step.says.holds)
+    (inserted_silent old.held.sources name body count (reply.Put name count) step.says.said new.held.sources (record { no_start = λ z. cc; no_read = λ z. cc }) step.says.holds)
     (tools_later old new step.tools) (tree_later old new step.tree)
-counted g table old (Take name) body bytes new step =
+counted g old (Take name) body bytes new step =
     let tree = step.asked.stays.later in
     elim step.says.holds [
-      | inl taken ↦ by_silent old bytes new step.says.said step.says.bytes_are (taken_silent old.texts name taken.file step.says.said new.texts taken.takes) (tools_later old new step.tools) tree
+      | inl taken ↦ by_silent old bytes new step.says.said step.says.bytes_are (taken_silent old.held.sources name taken.file step.says.said new.held.sources taken.takes) (tools_later old new step.tools) tree
       | inr unread ↦
           let rose = unread.failed.rose in
           let few = at_most_one (bytes_eq bytes (reply_text reply.RefusedRead)) in
@@ -181,41 +182,43 @@ counted g table old (Take name) body bytes new step =
           let tools = tools_later old new step.tools in
           record { starts = omega (arith, none, tools); reads = omega (arith, rose, few) }
     ]
-counted g table old (Remove name) body bytes new step =
-    by_silent old bytes new step.says.said step.says.bytes_are (removed_silent _ old.texts name step.says.said new.texts step.says.holds) (tools_later old new step.tools) (tree_later old new step.tree)
-counted g table old (Ask text) body bytes new step =
-    let tools = reply_later g table old.texts text step.says.said old.tools new.tools step.says.holds in
+counted g old (Remove name) body bytes new step =
+    by_silent old bytes new step.says.said step.says.bytes_are (removed_silent _ old.held.sources name step.says.said new.held.sources step.says.holds) (tools_later old new step.tools) (tree_later old new step.tree)
+counted g old (Ask text) body bytes new step =
+    let tools = reply_later g old.held.sources old.held.calls text step.says.said step.given old.tools new.tools step.says.holds in
     elim step.says.holds [
-      | inl answered ↦ by_silent old bytes new step.says.said step.says.bytes_are (answer_silent g old.texts answered.outcomes text step.says.said answered.answer) tools (tree_later old new step.tree)
+      | inl answered ↦
+          let outcomes = after (kept_outcome old.held.calls) step.given in
+          by_silent old bytes new step.says.said step.says.bytes_are (answer_silent g old.held.sources outcomes text step.says.said (answered.answer outcomes (λ call o e. e))) tools (tree_later old new step.tree)
       | inr refused ↦
-          let counted = refusal_counted g table old.texts text step.says.said old.tools new.tools refused in
+          let counted = refusal_counted g old.held.sources old.held.calls text step.says.said step.given old.tools new.tools refused in
           let rose = counted.rose in
           let few = at_most_one (bytes_eq bytes (reply_text reply.RefusedToolStart)) in
           let none = no_read_in bytes step.says.said step.says.bytes_are (λ z. let is : step.says.said ≡ reply.RefusedToolStart = refused.is in let clashing : reply.RefusedToolStart ≡ reply.RefusedRead = sym is ∙ z in cc) in
           let tree = tree_later old new step.tree in
           record { starts = omega (arith, rose, few); reads = omega (arith, none, tree) }
     ]
-counted g table old (Plan text) body bytes new step = no_change old bytes new step.says.said step.says.bytes_are (steps_silent g text step.says.said step.says.holds) step.same
-counted g table old Sources body bytes new step = no_change old bytes new (reply.Sources (source_lines old.texts)) step.0 (record { no_start = λ z. cc; no_read = λ z. cc }) step.1
-counted g table old Kept body bytes new step = no_change old bytes new reply.RefusedCommand step.0 (record { no_start = λ z. cc; no_read = λ z. cc }) step.1
-counted g table old Quit body bytes new step = no_change old bytes new reply.Bye step.0 (record { no_start = λ z. cc; no_read = λ z. cc }) step.1
-counted g table old Nothing body bytes new step = no_reply old bytes new step.0 step.1
-counted g table old Bad body bytes new step = no_change old bytes new reply.RefusedCommand step.0 (record { no_start = λ z. cc; no_read = λ z. cc }) step.1
-counted g table old (BadName count) body bytes new step = no_change old bytes new reply.RefusedName step.0 (record { no_start = λ z. cc; no_read = λ z. cc }) step.1
+counted g old (Plan text) body bytes new step = no_change old bytes new step.says.said step.says.bytes_are (steps_silent g text step.says.said step.says.holds) step.same
+counted g old Sources body bytes new step = no_change old bytes new (reply.Sources (source_lines old.held.sources)) step.0 (record { no_start = λ z. cc; no_read = λ z. cc }) step.1
+counted g old Kept body bytes new step = no_change old bytes new (reply.Kept (length old.held.calls)) step.0 (record { no_start = λ z. cc; no_read = λ z. cc }) step.1
+counted g old Quit body bytes new step = no_change old bytes new reply.Bye step.0 (record { no_start = λ z. cc; no_read = λ z. cc }) step.1
+counted g old Nothing body bytes new step = no_reply old bytes new step.0 step.1
+counted g old Bad body bytes new step = no_change old bytes new reply.RefusedCommand step.0 (record { no_start = λ z. cc; no_read = λ z. cc }) step.1
+counted g old (BadName count) body bytes new step = no_change old bytes new reply.RefusedName step.0 (record { no_start = λ z. cc; no_read = λ z. cc }) step.1
 
 both : (f a r m s : ℕ) → min (f + a) last_count ≤ m → min (m + r) last_count ≤ s → min (f + (a + r)) last_count ≤ s
 both f a r m s first rest = omega arith
 
-pub counts : (g : Graph) (table : Option Table) (first last : State) (items : List Item) (replies : List (List ℕ)) → Transcript commands (Step g table) first items replies last → FitsCounts first last replies
-counts g table first last [] [] run =
+pub counts : (g : Graph) (first last : State) (items : List Item) (replies : List (List ℕ)) → Transcript commands (Step g) first items replies last → FitsCounts first last replies
+counts g first last [] [] run =
     let tools : last.tools.faults ≡ first.tools.faults = ap (λ (s : State). s.tools.faults) run in
     let tree : last.tree.faults ≡ first.tree.faults = ap (λ (s : State). s.tree.faults) run in
     record { starts = omega arith; reads = omega arith }
-counts g table first last [] (reply ∷ replies) run = absurd run
-counts g table first last (item ∷ items) [] run = absurd run
-counts g table first last (item ∷ items) (bytes ∷ replies) run =
-    let step = counted g table first run.1.command item.body bytes run.0 run.1.step in
-    let rest = counts g table run.0 last items replies run.2 in
+counts g first last [] (reply ∷ replies) run = absurd run
+counts g first last (item ∷ items) [] run = absurd run
+counts g first last (item ∷ items) (bytes ∷ replies) run =
+    let step = counted g first run.1.command item.body bytes run.0 run.1.step in
+    let rest = counts g run.0 last items replies run.2 in
     record {
       starts = both first.tools.faults (starts_in bytes) (count_of reply.RefusedToolStart replies) run.0.tools.faults last.tools.faults step.starts rest.starts;
       reads = both first.tree.faults (reads_in bytes) (count_of reply.RefusedRead replies) run.0.tree.faults last.tree.faults step.reads rest.reads;

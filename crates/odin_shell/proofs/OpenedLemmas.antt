@@ -1,5 +1,5 @@
 -- A graph file is opened, and in one way only.
-use Rattle.std.proofs.Common.{◌≡◌, ap, subst, refl, inl, inr}
+use Rattle.std.proofs.Common.{◌≡◌, ap, sym, ◌∙◌, subst, refl, inl, inr}
 use Rattle.std.specs.Prelude.{Option, Some, None}
 use Rattle.meaning_graph.specs.Graphs.{Text, Graph}
 use Rattle.meaning_graph_text.proofs.Lemmas.{one_graph}
@@ -30,11 +30,12 @@ read_not_refused given text g line there read (not_read same f n refuses) =
     not_refused text g f n read (subst (λ (t : Text). Refuses t f) is refuses)
 
 pub opened_is_one : (given : Option Text) (o p : Opened) → IsOpened given o → IsOpened given p → p ≡ o
-opened_is_one given (opened.Ready g) (opened.Ready h) a b =
-    let same : b.text ≡ a.text = cc in
-    ap opened.Ready (read_is_one a.text g h a.read (subst (λ (t : Text). IsRead t h) same b.read))
-opened_is_one given (opened.Ready g) (opened.Refused line) a b = absurd (read_not_refused given a.text g line a.there a.read b)
-opened_is_one given (opened.Refused line) (opened.Ready g) a b = absurd (read_not_refused given b.text g line b.there b.read a)
+opened_is_one given (opened.Ready text g) (opened.Ready other h) a b =
+    let same : other ≡ text = (let is : Some other ≡ Some text = sym b.there ∙ a.there in cc) in
+    let one : h ≡ g = read_is_one text g h a.read (subst (λ (t : Text). IsRead t h) same b.read) in
+    λ i. opened.Ready (same i) (one i)
+opened_is_one given (opened.Ready text g) (opened.Refused line) a b = absurd (read_not_refused given text g line a.there a.read b)
+opened_is_one given (opened.Refused line) (opened.Ready text g) a b = absurd (read_not_refused given text g line b.there b.read a)
 opened_is_one given (opened.Refused line) (opened.Refused other) a b = ap opened.Refused (refused_is_one given line a given other refl b)
 
 -- ---- each file
@@ -42,6 +43,6 @@ opened_is_one given (opened.Refused line) (opened.Refused other) a b = ap opened
 pub each_is_opened : (given : Option Text) → (o : Opened) × IsOpened given o
 each_is_opened None = (opened.Refused no_file_line, no_file)
 each_is_opened (Some text) = elim (read_or_refused text) [
-  | inl read ↦ (opened.Ready read.0, record { text = text; there = refl; read = read.1 })
+  | inl read ↦ (opened.Ready text read.0, record { there = refl; read = read.1 })
   | inr refused ↦ (opened.Refused (fault_line refused.0), not_read text refused.0 refused.1 refused.2)
 ]

@@ -1,253 +1,171 @@
--- A command served: its change, its reply, and where it stops.
-use Rattle.std.proofs.Common.{◌≡◌, ℕ, ◌≤◌, true, false, Result, Ok, Err, OnErr, IfErr, IsErrAnd, inl, inr, List, [], length, Option, ap, sym, refl, ◌∙◌, subst, arith}
-use Rattle.std.specs.FinMap.{insert}
-use Rattle.std.proofs.Math.Nat.{le_refl}
-use Rattle.std.proofs.lemmas.Bool.{le-leb}
-use Rattle.std.proofs.lemmas.Result.{err_from_is_err_and}
-use Rattle.odin_outside.specs.Spawned.{Table, Spawned}
-use Rattle.object_sources.specs.Texts.{Text, Texts}
-use Rattle.meaning_texts.specs.Limits.{body_limit}
-use Rattle.meaning_graph.specs.Graphs.{Graph}
-use Rattle.meaning_derive.specs.Derive.{Sources as Given}
-use Rattle.meaning_run.specs.Objects.{took, TookPart}
-use Rattle.meaning_run.specs.Items.{SameBody}
-use Rattle.plain_derive.specs.declared.fault.PlainFault.TheVariants as fault
-use Rattle.odin_answers.specs.Answers.{IsReply, MayHaveBegun}
-use Rattle.odin_answers.proofs.Lemmas.{made_is_begun, answer_uncounted, refusal_counted, begun_later}
-use Rattle.meaning_commands.specs.declared.commands.Command.{Command}
-use Rattle.meaning_commands.specs.declared.commands.Command.TheVariants.{Put, Take, Remove, Ask, Plan, Sources, Kept, Quit, Nothing, Bad, BadName}
-use Rattle.meaning_commands.specs.declared.replies.Reply.{Reply}
+-- A command served: its reply behind its change, and where it stops.
+use Rattle.std.proofs.Common.{◌≡◌, ◌≢◌, ℕ, ◌+◌, ◌≤◌, true, false, List, [], ap, refl, ◌∙◌, subst, arith}
+use Rattle.odin_outside.specs.Spawned.{Spawned}
+use Rattle.meaning_graph.specs.Graphs.{Text, Graph}
+use Rattle.meaning_run.specs.Objects.{SinkTold, took, TookPart}
 use Rattle.meaning_commands.specs.Commands.{ends_run}
+use Rattle.odin_journal.specs.Faults.{IsCauseOf}
+use Rattle.odin_journal.specs.Rest.{IsReady}
+use Rattle.odin_journal.specs.declared.fault.JournalFault.{JournalFault}
+use Rattle.odin_journal.specs.declared.fault.JournalFault.TheVariants as fault
+use Rattle.odin_engine.specs.Engaged.{Engaged}
+use Rattle.source_edits.specs.Edits.{TreeTold}
 use Rattle.odin_shell.specs.declared.whole.Whole.{Whole}
-use Rattle.odin_shell.specs.declared.serve.Stop.{Stop}
-use Rattle.odin_shell.specs.declared.serve.Stop.TheVariants as stop
-use Rattle.odin_shell.specs.Language.{commands}
-use Rattle.source_edits.specs.Edits.{TreeTold, TreeStays, Puts}
-use Rattle.odin_shell.specs.Machine.{State, holding, Told, Belongs, Step, MayLeave, ToolsStay}
+use Rattle.odin_shell.specs.declared.stop.Stop.{Stop}
+use Rattle.odin_shell.specs.declared.stop.Stop.TheVariants as stop
+use Rattle.odin_shell.specs.Endings.{stop_of}
+use Rattle.odin_shell.specs.Filed.{DiskMeaning}
+use Rattle.odin_shell.specs.Machine.{State, Told, Belongs, IsLeft}
+use Rattle.odin_shell.specs.Served.{telling, MayServe, IsOnward, Counts, Answers, Halts}
 use Rattle.odin_shell.specs.Sessions.{Serves, StopsServing}
+use Rattle.odin_shell.proofs.StateLemmas.{rests}
 
--- where none runs at most one does
-pub idle_one : (tools : Spawned) → tools.running ≡ [] → length tools.running ≤ 1
-idle_one tools idle = let none : length tools.running ≡ 0 = ap length idle in omega arith
+-- ---- how many edits were made
 
--- what holds at the one error holds where the result is that error
-pub at_stop : {T : Type 0} (r : Result T Stop) (s : Stop) (Q : Stop → Type 0) → IsErrAnd r (λ e. e ≡ s) → Q s → IfErr r Q
-at_stop r s Q is q =
-    let p = err_from_is_err_and r is in
-    subst (λ v. IfErr v Q) (sym p.1) (subst Q (sym p.2) q)
+module _ {D : Type 0} (disk : DiskMeaning D) where
+  pub onward_none : (most : ℕ) (code : Engaged) (now : D) → IsReady code.store.journal (disk.size now) → IsOnward disk most code code now now
+  onward_none most code now ready = record { epoch = omega arith; ready = ready; faults = refl }
 
--- what holds in any case holds at an error
-pub on_err : {T E : Type 0} (r : Result T E) (P : Type 0) → P → OnErr r P
-on_err (Ok v) P p = tt
-on_err (Err e) P p = p
+  pub onward_on : (most more : ℕ) (code code' code'' : Engaged) (now now' now'' : D) → IsOnward disk most code code' now now' → IsOnward disk more code' code'' now' now'' → IsOnward disk (most + more) code code'' now now''
+  onward_on most more code code' code'' now now' now'' first second =
+      let one = first.epoch in
+      let two = second.epoch in
+      record { epoch = omega (arith, one, two); ready = second.ready; faults = second.faults ∙ first.faults }
 
--- ---- asks
+  -- behind some bytes, at least one
+  pub onward_more : (most count : ℕ) (code code' code'' : Engaged) (now now' now'' : D) → 1 ≤ count → IsOnward disk most code code' now now' → IsOnward disk 1 code' code'' now' now'' → IsOnward disk (most + count) code code'' now now''
+  onward_more most count code code' code'' now now' now'' some first second =
+      let one = first.epoch in
+      let two = second.epoch in
+      record { epoch = omega (arith, some, one, two); ready = second.ready; faults = second.faults ∙ first.faults }
 
--- what is answered was begun
-pub reply_begun : (g : Graph) (table : Option Table) (s : Given) (text : Text) (reply : Reply) (before now : Spawned) → IsReply g table s text reply before now → MayHaveBegun g table s text before now
-reply_begun g table s text reply before now (inl answered) = elim answered.did [
-  | inl alone ↦ inl alone.told
-  | inr derived ↦ inr (
-    fault.Memory,
-    record {
-      outcomes = answered.outcomes;
-      given = answered.given;
-      node = derived.node;
-      asks = derived.asks;
-      begun = made_is_begun g s answered.outcomes derived.node derived.calls before now derived.made;
-    },
-  )
-]
-reply_begun g table s text reply before now (inr refused) = inr (fault.Spawn, refused.begun)
+  pub onward_all : (most : ℕ) (all : ℕ) (code code' : Engaged) (now now' : D) → most ≤ all → IsOnward disk most code code' now now' → IsOnward disk all code code' now now'
+  onward_all most all code code' now now' within onward = let one = onward.epoch in record { epoch = omega (arith, one, within); ready = onward.ready; faults = onward.faults }
 
--- no reply lets the count of faults fall
-pub reply_later : (g : Graph) (table : Option Table) (s : Given) (text : Text) (reply : Reply) (before now : Spawned) → IsReply g table s text reply before now → before.faults ≤ now.faults
-reply_later g table s text reply before now (inl answered) = let same = answer_uncounted g table s text reply before now answered in omega (arith, same)
-reply_later g table s text reply before now (inr refused) = let counted = refusal_counted g table s text reply before now refused in counted.later
+  pub onward_as : (most all : ℕ) (code code' : Engaged) (now now' : D) → most ≡ all → IsOnward disk most code code' now now' → IsOnward disk all code code' now now'
+  onward_as most all code code' now now' same onward = subst (λ n. IsOnward disk n code code' now now') same onward
 
--- what stays of the tools in an ask
-pub begun_stays : (g : Graph) (table : Option Table) (s : Given) (text : Text) (before now : Spawned) → MayHaveBegun g table s text before now → now.answer ≡ before.answer → length now.running ≤ 1
-    → ToolsStay before.answer before now
-begun_stays g table s text before now begun answers few = record { answers = answers; few = few; later = begun_later g table s text before now begun }
+  -- of so many commands one more may be served behind some of them
+  pub may_go_on : (all : ℕ) (most : ℕ) (code code' : Engaged) (now now' : D) (tools tools' : Spawned) → most + 1 ≤ all → MayServe all code (disk.size now) tools → IsOnward disk most code code' now now' → tools'.running ≡ []
+      → MayServe 1 code' (disk.size now') tools'
+  may_go_on all most code code' now now' tools tools' within may onward idle =
+      let early = may.early in
+      let one = onward.epoch in
+      record { ready = onward.ready; early = omega (arith, within, early, one); idle = idle }
 
-pub reply_stays : (g : Graph) (table : Option Table) (s : Given) (text : Text) (reply : Reply) (before now : Spawned) → IsReply g table s text reply before now → now.answer ≡ before.answer → length now.running ≤ 1
-    → ToolsStay before.answer before now
-reply_stays g table s text reply before now is answers few = record { answers = answers; few = few; later = reply_later g table s text reply before now is }
+-- a stop counts what its fault does
+pub counts_of : (why : JournalFault) (before now : ℕ) → before ≤ now → IsCauseOf before now why → Counts (stop_of why) before now
+counts_of fault.Disk before now later cause = record { later = later; rose = cause }
+counts_of (fault.NotOurs at) before now later cause = cause
+counts_of (fault.Full at size) before now later cause = cause
+counts_of fault.Memory before now later cause = cause
 
--- ---- the tree
+pub counted_behind : (s : Stop) (first mid last : ℕ) → mid ≡ first → Counts s mid last → Counts s first last
+counted_behind s first mid last same counted = subst (λ n. Counts s n last) same counted
 
-same_tree : (old new : TreeTold) → new ≡ old → TreeStays old new
-same_tree old new same = let count : new.faults ≡ old.faults = ap (λ (t : TreeTold). t.faults) same in record { files = ap (λ (t : TreeTold). t.files) same; later = omega arith }
+module _ {D : Type 0} (disk : DiskMeaning D) where
+  -- what the sink took is no part of it
+  module _ (g : Graph) (text : Text) (first : State) (start : Told D) (s s' : SinkTold) (tools : Spawned) (tree : TreeTold) (d : D) where
+    on_sink : (code : Engaged) (state : State) → Belongs disk g text first start code state (telling s tools tree d) → Belongs disk g text first start code state (telling s' tools tree d)
+    on_sink code state fits = record {
+      graph = fits.graph;
+      held = fits.held;
+      tools = fits.tools;
+      tree = fits.tree;
+      stay = fits.stay;
+      tree_stays = fits.tree_stays;
+      idle = fits.idle;
+      ready = fits.ready;
+      faults = fits.faults;
+      trail = fits.trail;
+      written = fits.written;
+      within = refl;
+    }
 
-same_state : (old new : State) → new ≡ old → TreeStays old.tree new.tree
-same_state old new same = same_tree old.tree new.tree (ap (λ (s : State). s.tree) same)
+    left_sink : (state furthest : State) → IsLeft disk g text first start state furthest (telling s tools tree d) → IsLeft disk g text first start state furthest (telling s' tools tree d)
+    left_sink state furthest left = record {
+      tools = left.tools;
+      tree = left.tree;
+      counted = left.counted;
+      tree_counted = left.tree_counted;
+      stay = left.stay;
+      tree_stays = left.tree_stays;
+      safe = left.safe;
+      full = left.full;
+    }
 
--- what stays of the tree in a command
-pub step_tree : (g : Graph) (table : Option Table) (old : State) (c : Command) (body bytes : List ℕ) (new : State) → Step g table old c body bytes new → TreeStays old.tree new.tree
-step_tree g table old (Put name count) body bytes new step = same_tree old.tree new.tree step.tree
-step_tree g table old (Take name) body bytes new step = step.asked.stays
-step_tree g table old (Remove name) body bytes new step = same_tree old.tree new.tree step.tree
-step_tree g table old (Ask text) body bytes new step = same_tree old.tree new.tree step.tree
-step_tree g table old (Plan text) body bytes new step = same_state old new step.same
-step_tree g table old Sources body bytes new step = same_state old new step.1
-step_tree g table old Kept body bytes new step = same_state old new step.1
-step_tree g table old Quit body bytes new step = same_state old new step.1
-step_tree g table old Nothing body bytes new step = same_state old new step.1
-step_tree g table old Bad body bytes new step = same_state old new step.1
-step_tree g table old (BadName count) body bytes new step = same_state old new step.1
+  module _ (code code' : Engaged) (whole : Whole) (given reply : List ℕ) (s s' : SinkTold) (tools tools' : Spawned) (tree tree' : TreeTold) (d d' : D) where
+    abbrev before : Told D
+    before = telling s tools tree d
 
--- and in one without a reply
-left_tree : (g : Graph) (table : Option Table) (old : State) (c : Command) (new : State) → MayLeave g table old c new → TreeStays old.tree new.tree
-left_tree g table old (Put name count) new may = same_state old new may
-left_tree g table old (Take name) new may = may.asked.stays
-left_tree g table old (Remove name) new may = same_state old new may
-left_tree g table old (Ask text) new may = same_tree old.tree new.tree may.tree
-left_tree g table old (Plan text) new may = same_state old new may
-left_tree g table old Sources new may = same_state old new may
-left_tree g table old Kept new may = same_state old new may
-left_tree g table old Quit new may = same_state old new may
-left_tree g table old Nothing new may = same_state old new may
-left_tree g table old Bad new may = same_state old new may
-left_tree g table old (BadName count) new may = same_state old new may
+    abbrev mid : Told D
+    mid = telling s tools' tree' d'
 
--- what stays in two calls stays in both
-pub stay_on : {table : Option Table} {a b c : Spawned} → ToolsStay table a b → ToolsStay b.answer b c → ToolsStay table a c
-stay_on first second = let l = first.later in let m = second.later in record { answers = second.answers ∙ first.answers; few = second.few; later = omega arith }
+    abbrev after : Told D
+    after = telling s' tools' tree' d'
 
-pub tree_on : {a b c : TreeTold} → TreeStays a b → TreeStays b c → TreeStays a c
-tree_on first second = let l = first.later in let m = second.later in record { files = second.files ∙ first.files; later = omega arith }
-
--- ---- bytes that are passed over
-
-put_any : (old : Texts) (name : Text) (count : ℕ) (body kept : Text) (said : Reply) (new : Texts) → SameBody commands (Put name count) body kept → Puts old name count kept said new → Puts old name count body said new
-put_any old name count body kept said new same (inl is) =
-    inl (record { fits = is.fits; is = is.is; put = subst (λ (b : Text). new ≡ insert old name b) (sym (same (le-leb count body_limit is.fits))) is.put })
-put_any old name count body kept said new same (inr is) = inr is
-
--- a command does the same, whatever the bytes are that it passes over
-any_body : (g : Graph) (table : Option Table) (old : State) (c : Command) (body kept bytes : List ℕ) (new : State) → SameBody commands c body kept → Step g table old c kept bytes new → Step g table old c body bytes new
-any_body g table old (Put name count) body kept bytes new same step = record {
-  says = record { said = step.says.said; bytes_are = step.says.bytes_are; holds = put_any old.texts name count body kept step.says.said new.texts same step.says.holds };
-  tools = step.tools;
-  tree = step.tree;
-}
-any_body g table old (Take name) body kept bytes new same step = step
-any_body g table old (Remove name) body kept bytes new same step = step
-any_body g table old (Ask text) body kept bytes new same step = step
-any_body g table old (Plan text) body kept bytes new same step = step
-any_body g table old Sources body kept bytes new same step = step
-any_body g table old Kept body kept bytes new same step = step
-any_body g table old Quit body kept bytes new same step = step
-any_body g table old Nothing body kept bytes new same step = step
-any_body g table old Bad body kept bytes new same step = step
-any_body g table old (BadName count) body kept bytes new same step = step
-
--- ---- a command served
-
-module _ {Disk : Type 0} (g : Graph) (table : Option Table) (start : Told Disk) (old : Texts) (before : Told Disk) (state : State) (fits : Belongs table start old state before) where
-  -- what the code holds and what is told is the state
-  state_is : holding old before.tools before.tree ≡ state
-  state_is = λ i. record { texts = fits.sources i; tools = fits.tools i; tree = fits.tree i }
-
-  -- the step of an answer is one from the state
-  stepped : (new : State) (c : Command) (body kept bytes : List ℕ) → SameBody commands c body kept → Step g before.tools.answer (holding old before.tools before.tree) c kept bytes new → Step g table state c body bytes new
-  stepped new c body kept bytes same step =
-      any_body g table state c body kept bytes new same
-      (subst (λ (t : Option Table). Step g t state c kept bytes new) fits.stay.answers
-      (subst (λ (s : State). Step g before.tools.answer s c kept bytes new) state_is step))
-
-  -- and so is what is left without one
-  broken : (new : State) (c : Command) → MayLeave g before.tools.answer (holding old before.tools before.tree) c new → MayLeave g table state c new
-  broken new c may =
-      subst (λ (t : Option Table). MayLeave g t state c new) fits.stay.answers
-      (subst (λ (s : State). MayLeave g before.tools.answer s c new) state_is may)
-
-module _ {Disk : Type 0} (g : Graph) (old new : Texts) (whole : Whole) (given reply : List ℕ) (before after : Told Disk) where
-  abbrev next : State
-  next = holding new after.tools after.tree
-
-  abbrev IsStep : Type 0
-  IsStep = Step g before.tools.answer (holding old before.tools before.tree) whole.command whole.body reply next
-
-  pub serves : ends_run whole.command ≡ false → given ≡ reply → IsStep → after.sink ≡ took before.sink given → ToolsStay before.tools.answer before.tools after.tools → after.tools.running ≡ []
-      → after.disk ≡ before.disk → Serves g old new whole before after
-  serves on is step wrote stay idle disk = record {
-    on = on;
-    rests = record {
-      idle = idle;
-      over = λ table first start state body same fits. record {
-        reply = reply;
-        new = next;
-        step = stepped g table start old before state fits next whole.command body whole.body reply same step;
-        wrote = wrote ∙ ap (took before.sink) is;
-        fits = record {
-          sources = refl;
-          tools = refl;
-          tree = refl;
-          stay = stay_on fits.stay stay;
-          tree_stays = tree_on fits.tree_stays (step_tree g before.tools.answer (holding old before.tools before.tree) whole.command whole.body reply next step);
+    module _ (is : given ≡ reply) (answers : Answers disk code whole.command whole.body before reply code' mid) (idle : tools'.running ≡ []) where
+      pub serves : ends_run whole.command ≡ false → s' ≡ took s given → Serves disk code code' whole before after
+      serves on wrote = record {
+        on = on;
+        rests = record {
           idle = idle;
-          disk = disk ∙ fits.disk;
+          over = λ g text first start state body same fits.
+              let stepped = answers g text first start state body same fits in
+              record {
+                reply = reply;
+                new = stepped.new;
+                step = stepped.step;
+                wrote = wrote ∙ ap (took s) is;
+                fits = on_sink g text first start s s' tools' tree' d' code' stepped.new stepped.fits;
+              };
         };
-      };
-    };
-  }
+      }
 
-  pub stops_reply : given ≡ reply → IsStep → TookPart given before.sink after.sink → ToolsStay before.tools.answer before.tools after.tools → after.tools.running ≡ [] → after.disk ≡ before.disk
-      → StopsServing g stop.Output old whole before after
-  stops_reply is step wrote stay idle disk = record {
-    idle = λ other. idle;
-    over = λ table first start state body same fits.
-        let later = stay.later in
-        let tools : before.tools.faults ≡ state.tools.faults = ap (λ (t : Spawned). t.faults) fits.tools in
-        let tree : before.tree.faults ≡ state.tree.faults = ap (λ (t : TreeTold). t.faults) fits.tree in
-        let stays = step_tree g before.tools.answer (holding old before.tools before.tree) whole.command whole.body reply next step in
-        let tree_later = stays.later in
-        record {
-          reply = reply;
-          new = next;
-          step = stepped g table start old before state fits next whole.command body whole.body reply same step;
-          wrote = subst (λ r. TookPart r before.sink after.sink) is wrote;
-          exit = record { tools = refl; tree = refl; counted = omega arith; tree_counted = omega arith; stay = stay_on fits.stay stay; tree_stays = tree_on fits.tree_stays stays; disk = disk ∙ fits.disk };
-        };
-  }
+      pub stops_reply : TookPart given s s' → StopsServing disk stop.Output code whole before after
+      stops_reply wrote = record {
+        idle = λ other. idle;
+        over = λ g text first start state body same fits.
+            let stepped = answers g text first start state body same fits in
+            record {
+              reply = reply;
+              new = stepped.new;
+              step = stepped.step;
+              wrote = subst (λ r. TookPart r s s') is wrote;
+              exit = left_sink g text first start s s' tools' tree' d' state stepped.new stepped.left;
+            };
+      }
 
-  pub stops_quit : ends_run whole.command ≡ true → given ≡ reply → IsStep → after.sink ≡ took before.sink given → ToolsStay before.tools.answer before.tools after.tools → after.tools.running ≡ []
-      → after.disk ≡ before.disk → StopsServing g stop.Quit old whole before after
-  stops_quit ends is step wrote stay idle disk = record {
-    idle = λ other. idle;
-    over = λ table first start state body same fits. record {
-      ends = ends;
-      reply = reply;
-      new = next;
-      step = stepped g table start old before state fits next whole.command body whole.body reply same step;
-      wrote = wrote ∙ ap (took before.sink) is;
-      exit = record {
-        tools = refl;
-        tree = refl;
-        counted = le_refl after.tools.faults;
-        tree_counted = le_refl after.tree.faults;
-        stay = stay_on fits.stay stay;
-        tree_stays = tree_on fits.tree_stays (step_tree g before.tools.answer (holding old before.tools before.tree) whole.command whole.body reply next step);
-        disk = disk ∙ fits.disk;
-      };
-    };
-  }
+      pub stops_quit : ends_run whole.command ≡ true → s' ≡ took s given → StopsServing disk stop.Quit code whole before after
+      stops_quit ends wrote = record {
+        idle = λ other. idle;
+        over = λ g text first start state body same fits.
+            let stepped = answers g text first start state body same fits in
+            record {
+              ends = ends;
+              reply = reply;
+              new = stepped.new;
+              step = stepped.step;
+              wrote = wrote ∙ ap (took s) is;
+              exit = rests disk g text first start code' stepped.new after (on_sink g text first start s s' tools' tree' d' code' stepped.new stepped.fits);
+            };
+      }
 
-  pub stops_answer : MayLeave g before.tools.answer (holding old before.tools before.tree) whole.command next → after.sink ≡ before.sink → ToolsStay before.tools.answer before.tools after.tools
-      → after.disk ≡ before.disk → StopsServing g stop.Memory old whole before after
-  stops_answer may same_sink stay disk = record {
-    idle = λ other. absurd (other refl);
-    over = λ table first start state body same fits.
-        let later = stay.later in
-        let tools : before.tools.faults ≡ state.tools.faults = ap (λ (t : Spawned). t.faults) fits.tools in
-        let tree : before.tree.faults ≡ state.tree.faults = ap (λ (t : TreeTold). t.faults) fits.tree in
-        let stays = left_tree g before.tools.answer (holding old before.tools before.tree) whole.command next may in
-        let tree_later = stays.later in
-        record {
-          furthest = next;
-          may = broken g table start old before state fits next whole.command may;
-          wrote = same_sink;
-          exit = record { tools = refl; tree = refl; counted = omega arith; tree_counted = omega arith; stay = stay_on fits.stay stay; tree_stays = tree_on fits.tree_stays stays; disk = disk ∙ fits.disk };
-        };
-  }
+  module _ (code : Engaged) (whole : Whole) (s : SinkTold) (tools tools' : Spawned) (tree tree' : TreeTold) (d d' : D) where
+    pub stops_answer : (why : JournalFault) → Halts disk code whole.command whole.body (telling s tools tree d) why (telling s tools' tree' d') → (why ≢ fault.Memory → tools'.running ≡ []) → StopsServing disk (stop_of why) code whole (telling s tools tree d) (telling s tools' tree' d')
+    stops_answer fault.Disk halts idle = record {
+      idle = λ other. idle (λ e. cc);
+      over = λ g text first start state body same fits. (let left = halts g text first start state body same fits in record { furthest = left.furthest; may = left.may; wrote = refl; exit = left.exit });
+    }
+    stops_answer (fault.Full at size) halts idle = record {
+      idle = λ other. idle (λ e. cc);
+      over = λ g text first start state body same fits. (let left = halts g text first start state body same fits in record { furthest = left.furthest; may = left.may; wrote = refl; exit = left.exit });
+    }
+    stops_answer (fault.NotOurs at) halts idle = record {
+      idle = λ other. absurd (other refl);
+      over = λ g text first start state body same fits. (let left = halts g text first start state body same fits in record { furthest = left.furthest; may = left.may; wrote = refl; exit = left.exit });
+    }
+    stops_answer fault.Memory halts idle = record {
+      idle = λ other. absurd (other refl);
+      over = λ g text first start state body same fits. (let left = halts g text first start state body same fits in record { furthest = left.furthest; may = left.may; wrote = refl; exit = left.exit });
+    }

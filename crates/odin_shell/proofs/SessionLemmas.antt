@@ -1,11 +1,11 @@
 -- A session of these commands: it goes on through bytes, and stops, by what its cutter makes of them.
 use Rattle.std.proofs.Common.{◌≡◌, ◌≢◌, ℕ, ◌+◌, ◌-◌, ◌<◌, ◌≤◌, List, [], ◌++◌, take, drop, length, Option, Some, None, ap, sym, refl, ◌∙◌, subst, arith, inr}
 use Rattle.std.proofs.lemmas.List.{take-append-drop, take_all, length-take-le}
-use Rattle.std.proofs.Math.Nat.{le_refl}
 use Rattle.std.proofs.Math.Seq.{take-add}
-use Rattle.object_sources.specs.Texts.{Texts, no_texts}
-use Rattle.odin_outside.specs.Spawned.{Table, Spawned}
-use Rattle.meaning_graph.specs.Graphs.{Graph}
+use Rattle.odin_outside.specs.Spawned.{Spawned}
+use Rattle.meaning_graph.specs.Graphs.{Text, Graph}
+use Rattle.meaning_run.specs.Objects.{SinkTold}
+use Rattle.source_edits.specs.Edits.{TreeTold}
 use Rattle.meaning_run.specs.Machines.{Machine}
 use Rattle.meaning_run.specs.Endings.{HasRead, EndsStopped}
 use Rattle.meaning_run.specs.Streams as streams
@@ -15,139 +15,162 @@ use Rattle.meaning_run.proofs.Lemmas.{Reading-none}
 use Rattle.meaning_commands.specs.declared.commands.Command.{Command}
 use Rattle.odin_shell.specs.declared.cutter.Cutter.{Cutter}
 use Rattle.odin_shell.specs.declared.whole.Whole.{Whole}
-use Rattle.odin_shell.specs.declared.serve.Stop.{Stop}
-use Rattle.odin_shell.specs.declared.serve.Stop.TheVariants.{Memory, Output, Quit}
+use Rattle.odin_shell.specs.declared.stop.Stop.{Stop}
+use Rattle.odin_shell.specs.declared.stop.Stop.TheVariants.{Disk, Memory, Output, Full, Quit}
 use Rattle.odin_shell.specs.Language.{commands}
 use Rattle.odin_shell.specs.Held.{Keeps}
 use Rattle.odin_shell.specs.Cuts.{Takes, IsLast}
-use Rattle.odin_shell.specs.declared.ending.Ending.{Ending}
+use Rattle.odin_shell.specs.declared.ending.Ending.TheVariants as ending
+use Rattle.odin_outside.specs.Causes.{IsCounted}
 use Rattle.odin_shell.specs.Endings.{ending_of}
 use Rattle.odin_shell.specs.Objects.{SourceTold}
-use Rattle.source_edits.specs.Edits.{TreeTold}
-use Rattle.odin_shell.specs.Machine.{State, at_first, Told, machine as machine_of, halt_of}
+use Rattle.odin_store.specs.Held.{Held}
+use Rattle.odin_engine.specs.Engaged.{Engaged}
+use Rattle.odin_shell.specs.Filed.{DiskMeaning}
+use Rattle.odin_shell.specs.Machine.{State, at_first, Told, machine as machine_of, halt_of, stopped}
 use Rattle.odin_shell.specs.Sessions.{Rests, Halts, Serves, StopsServing}
-use Rattle.odin_shell.specs.Run.{SessionEnds}
-use Rattle.odin_shell.proofs.ServeLemmas.{idle_one}
-
--- what fits between two commands is kept at an exit
-pub rests : {Disk : Type 0} (g : Graph) (table : Option Table) (first : State) (start : Told Disk) (code : Texts) (state : State) (told : Told Disk) → (machine_of g table).Invariant first start code state told → (machine_of g table).AtExit first start state state told
-rests g table first start code state told fits =
-    let tools : told.tools.faults ≡ state.tools.faults = ap (λ (t : Spawned). t.faults) fits.tools in
-    let tree : told.tree.faults ≡ state.tree.faults = ap (λ (t : TreeTold). t.faults) fits.tree in
-    record { tools = fits.tools; tree = fits.tree; counted = omega arith; tree_counted = omega arith; stay = fits.stay; tree_stays = fits.tree_stays; disk = fits.disk }
+use Rattle.odin_shell.specs.Run.{SessionLeaves, InputCount, DiskCount}
+use Rattle.odin_shell.specs.Served.{telling, Counts}
+use Rattle.odin_shell.specs.Begun.{BeginsWith}
+use Rattle.odin_shell.proofs.StateLemmas.{rests}
 
 some_taken : (piece : List ℕ) (n : ℕ) → 0 < n → n ≤ length piece → 0 < length (take n piece)
 some_taken piece n some within = let size = length-take-le n piece within in omega arith
 
-module _ {Disk : Type 0} (g : Graph) where
-  abbrev machine : Option Table → Machine Command Texts State (Told Disk)
-  machine = machine_of g
+module _ {D : Type 0} (disk : DiskMeaning D) where
+  abbrev machine : Graph → Text → Machine Command Engaged State (Told D)
+  machine = machine_of disk
+
+  -- where no batch is told that doesn't fit, none is told at want of memory
+  still : (told : Told D) → told.over ≡ None → told ≡ stopped Memory told
+  still told none = λ i. record told { over = none i }
 
   -- no command was made whole
-  pub part_goes : (bytes : List ℕ) (told : Told Disk) (texts : Texts) (held held' : Cutter) → told.tools.running ≡ [] → Takes bytes held None held'
-      → Rests (λ table. streams.GoesOn commands Keeps (machine table) bytes told texts held told texts held') told.tools
-  part_goes bytes told texts held held' idle f = record { idle = idle; over = λ table. stream.GoesOn-part commands Keeps (machine table) bytes told texts held held' f }
+  pub part_goes : (bytes : List ℕ) (told : Told D) (code : Engaged) (held held' : Cutter) → told.tools.running ≡ [] → Takes bytes held None held'
+      → Rests (λ g text. streams.GoesOn commands Keeps (machine g text) bytes told code held told code held') told.tools
+  part_goes bytes told code held held' idle f = record { idle = idle; over = λ g text. stream.GoesOn-part commands Keeps (machine g text) bytes told code held held' f }
 
   -- the command that the bytes made whole was served
-  pub whole_goes : (bytes : List ℕ) (told told' : Told Disk) (texts texts' : Texts) (held held' : Cutter) (whole : Whole) → Takes bytes held (Some whole) held' → Serves g texts texts' whole told told'
-      → Rests (λ table. streams.GoesOn commands Keeps (machine table) bytes told texts held told' texts' held') told'.tools
-  whole_goes bytes told told' texts texts' held held' whole f served = record {
+  pub whole_goes : (bytes : List ℕ) (told told' : Told D) (code code' : Engaged) (held held' : Cutter) (whole : Whole) → Takes bytes held (Some whole) held' → Serves disk code code' whole told told'
+      → Rests (λ g text. streams.GoesOn commands Keeps (machine g text) bytes told code held told' code' held') told'.tools
+  whole_goes bytes told told' code code' held held' whole f served = record {
     idle = served.rests.idle;
-    over = λ table. stream.GoesOn-item commands Keeps (machine table) bytes told told' texts texts' held held' whole.command whole.body f.0 served.on f.1 (served.rests.over table);
+    over = λ g text. stream.GoesOn-item commands Keeps (machine g text) bytes told told' code code' held held' whole.command whole.body f.0 served.on f.1 (served.rests.over g text);
   }
 
   -- memory was wanted before a command was made whole
-  pub part_stops : (bytes : List ℕ) (told : Told Disk) (texts : Texts) (held : Cutter)
-      → Halts (λ table. streams.StopsOn commands Keeps (machine table) (halt_of Memory) bytes told texts held told) Memory told.tools
-  part_stops bytes told texts held = record { idle = λ other. absurd (other refl); over = λ table. stream.StopsOn-part commands Keeps (machine table) (rests g table) bytes told texts held }
+  pub part_stops : (bytes : List ℕ) (told : Told D) (code : Engaged) (held : Cutter) → told.over ≡ None
+      → Halts (λ g text. streams.StopsOn commands Keeps (machine g text) (halt_of Memory) bytes told code held (stopped Memory told)) Memory told.tools
+  part_stops bytes told code held none = record {
+    idle = λ other. absurd (other refl);
+    over = λ g text. subst (λ t. streams.StopsOn commands Keeps (machine g text) (halt_of Memory) bytes told code held t) (still told none)
+        (stream.StopsOn-part commands Keeps (machine g text) (rests disk g text) bytes told code held);
+  }
 
   -- the serving of the command stopped
-  pub whole_stops : (stop : Stop) (piece : List ℕ) (n : ℕ) (told told' : Told Disk) (texts : Texts) (held held' : Cutter) (whole : Whole) → 0 < n → n ≤ length piece → Takes (take n piece) held (Some whole) held' → StopsServing g stop texts whole told told'
-      → Halts (λ table. streams.StopsOn commands Keeps (machine table) (halt_of stop) piece told texts held told') stop told'.tools
-  whole_stops stop piece n told told' texts held held' whole some within f stops = record {
+  pub whole_stops : (stop : Stop) (piece : List ℕ) (n : ℕ) (told : Told D) (sink : SinkTold) (tools : Spawned) (tree : TreeTold) (now : D) (code : Engaged) (held held' : Cutter) (whole : Whole) → 0 < n → n ≤ length piece → Takes (take n piece) held (Some whole) held' → StopsServing disk stop code whole told (telling sink tools tree now)
+      → Halts (λ g text. streams.StopsOn commands Keeps (machine g text) (halt_of stop) piece told code held (stopped stop (telling sink tools tree now))) stop tools
+  whole_stops stop piece n told sink tools tree now code held held' whole some within f stops = record {
     idle = stops.idle;
-    over = λ table. subst (λ t. streams.StopsOn commands Keeps (machine table) (halt_of stop) t told texts held told') (take-append-drop n piece)
-        (stream.StopsOn-more commands Keeps (machine table) (halt_of stop) (take n piece) (drop n piece) told told' texts held
-        (stream.StopsOn-item commands Keeps (machine table) (halt_of stop) (take n piece) told told' texts held whole.command whole.body (some_taken piece n some within) f.0 (stops.over table)));
+    over = λ g text. subst (λ t. streams.StopsOn commands Keeps (machine g text) (halt_of stop) t told code held (stopped stop (telling sink tools tree now))) (take-append-drop n piece)
+        (stream.StopsOn-more commands Keeps (machine g text) (halt_of stop) (take n piece) (drop n piece) told (stopped stop (telling sink tools tree now)) code held
+        (stream.StopsOn-item commands Keeps (machine g text) (halt_of stop) (take n piece) told (stopped stop (telling sink tools tree now)) code held whole.command whole.body (some_taken piece n some within) f.0 (stops.over g text)));
   }
 
   -- no bytes of a piece
-  pub none_goes : (piece : List ℕ) (told : Told Disk) (texts : Texts) (held : Cutter) → told.tools.running ≡ [] → Rests (λ table. streams.GoesOn commands Keeps (machine table) (take 0 piece) told texts held told texts held) told.tools
-  none_goes piece told texts held idle = record { idle = idle; over = λ table. stream.GoesOn-none commands Keeps (machine table) told texts held }
+  pub none_goes : (piece : List ℕ) (told : Told D) (code : Engaged) (held : Cutter) → told.tools.running ≡ [] → Rests (λ g text. streams.GoesOn commands Keeps (machine g text) (take 0 piece) told code held told code held) told.tools
+  none_goes piece told code held idle = record { idle = idle; over = λ g text. stream.GoesOn-none commands Keeps (machine g text) told code held }
 
   -- the next bytes of a piece, behind those that were taken
-  pub piece_goes : (piece : List ℕ) (at n : ℕ) (told told' told'' : Told Disk) (texts texts' texts'' : Texts) (held held' held'' : Cutter)
-      → Rests (λ table. streams.GoesOn commands Keeps (machine table) (take at piece) told texts held told' texts' held') told'.tools
-      → Rests (λ table. streams.GoesOn commands Keeps (machine table) (take n (take (length piece - at) (drop at piece))) told' texts' held' told'' texts'' held'') told''.tools
-      → Rests (λ table. streams.GoesOn commands Keeps (machine table) (take (at + n) piece) told texts held told'' texts'' held'') told''.tools
-  piece_goes piece at n told told' told'' texts texts' texts'' held held' held'' first second = record {
+  pub piece_goes : (piece : List ℕ) (at n : ℕ) (told told' told'' : Told D) (code code' code'' : Engaged) (held held' held'' : Cutter)
+      → Rests (λ g text. streams.GoesOn commands Keeps (machine g text) (take at piece) told code held told' code' held') told'.tools
+      → Rests (λ g text. streams.GoesOn commands Keeps (machine g text) (take n (take (length piece - at) (drop at piece))) told' code' held' told'' code'' held'') told''.tools
+      → Rests (λ g text. streams.GoesOn commands Keeps (machine g text) (take (at + n) piece) told code held told'' code'' held'') told''.tools
+  piece_goes piece at n told told' told'' code code' code'' held held' held'' first second = record {
     idle = second.idle;
-    over = λ table. subst (λ t. streams.GoesOn commands Keeps (machine table) t told texts held told'' texts'' held'') (ap (λ t. take at piece ++ take n t) (rest_is piece at) ∙ sym (take-add at n piece))
-        (stream.GoesOn-append commands Keeps (machine table) (take at piece) _ told told' told'' texts texts' texts'' held held' held'' (first.over table) (second.over table));
+    over = λ g text. subst (λ t. streams.GoesOn commands Keeps (machine g text) t told code held told'' code'' held'') (ap (λ t. take at piece ++ take n t) (rest_is piece at) ∙ sym (take-add at n piece))
+        (stream.GoesOn-append commands Keeps (machine g text) (take at piece) _ told told' told'' code code' code'' held held' held'' (first.over g text) (second.over g text));
   }
 
   -- all of a piece
-  pub all_goes : (piece : List ℕ) (at : ℕ) (told told' : Told Disk) (texts texts' : Texts) (held held' : Cutter) → at ≤ length piece → length piece ≤ at
-      → Rests (λ table. streams.GoesOn commands Keeps (machine table) (take at piece) told texts held told' texts' held') told'.tools
-      → Rests (λ table. streams.GoesOn commands Keeps (machine table) piece told texts held told' texts' held') told'.tools
-  all_goes piece at told told' texts texts' held held' within all goes = record {
+  pub all_goes : (piece : List ℕ) (at : ℕ) (told told' : Told D) (code code' : Engaged) (held held' : Cutter) → at ≤ length piece → length piece ≤ at
+      → Rests (λ g text. streams.GoesOn commands Keeps (machine g text) (take at piece) told code held told' code' held') told'.tools
+      → Rests (λ g text. streams.GoesOn commands Keeps (machine g text) piece told code held told' code' held') told'.tools
+  all_goes piece at told told' code code' held held' within all goes = record {
     idle = goes.idle;
-    over = λ table. subst (λ t. streams.GoesOn commands Keeps (machine table) t told texts held told' texts' held') (take_all at piece all) (goes.over table);
+    over = λ g text. subst (λ t. streams.GoesOn commands Keeps (machine g text) t told code held told' code' held') (take_all at piece all) (goes.over g text);
   }
 
-  pub piece_stops : (stop : Stop) (piece : List ℕ) (at : ℕ) (told told' told'' : Told Disk) (texts texts' : Texts) (held held' : Cutter)
-      → Rests (λ table. streams.GoesOn commands Keeps (machine table) (take at piece) told texts held told' texts' held') told'.tools
-      → Halts (λ table. streams.StopsOn commands Keeps (machine table) (halt_of stop) (take (length piece - at) (drop at piece)) told' texts' held' told'') stop told''.tools
-      → Halts (λ table. streams.StopsOn commands Keeps (machine table) (halt_of stop) piece told texts held told'') stop told''.tools
-  piece_stops stop piece at told told' told'' texts texts' held held' goes stops = record {
+  pub piece_stops : (stop : Stop) (piece : List ℕ) (at : ℕ) (told told' : Told D) (sink : SinkTold) (tools : Spawned) (tree : TreeTold) (now : D) (code code' : Engaged) (held held' : Cutter)
+      → Rests (λ g text. streams.GoesOn commands Keeps (machine g text) (take at piece) told code held told' code' held') told'.tools
+      → Halts (λ g text. streams.StopsOn commands Keeps (machine g text) (halt_of stop) (take (length piece - at) (drop at piece)) told' code' held' (stopped stop (telling sink tools tree now))) stop tools
+      → Halts (λ g text. streams.StopsOn commands Keeps (machine g text) (halt_of stop) piece told code held (stopped stop (telling sink tools tree now))) stop tools
+  piece_stops stop piece at told told' sink tools tree now code code' held held' goes stops = record {
     idle = stops.idle;
-    over = λ table. subst (λ t. streams.StopsOn commands Keeps (machine table) (halt_of stop) t told texts held told'') (ap (λ t. take at piece ++ t) (rest_is piece at) ∙ take-append-drop at piece)
-        (stream.StopsOn-after commands Keeps (machine table) (halt_of stop) (take at piece) _ told told' told'' texts texts' held held' (goes.over table) (stops.over table));
+    over = λ g text. subst (λ t. streams.StopsOn commands Keeps (machine g text) (halt_of stop) t told code held (stopped stop (telling sink tools tree now))) (ap (λ t. take at piece ++ t) (rest_is piece at) ∙ take-append-drop at piece)
+        (stream.StopsOn-after commands Keeps (machine g text) (halt_of stop) (take at piece) _ told told' (stopped stop (telling sink tools tree now)) code code' held held' (goes.over g text) (stops.over g text));
   }
 
   -- the end of the input
-  pub inside_finishes : (told : Told Disk) (texts : Texts) (held : Cutter) → told.tools.running ≡ [] → IsLast held None → Rests (λ table. streams.FinishesCutShort commands Keeps (machine table) told texts held told) told.tools
-  inside_finishes told texts held idle last = record { idle = idle; over = λ table. stream.Finishes-cut_short commands Keeps (machine table) (rests g table) told texts held last }
+  pub inside_finishes : (told : Told D) (code : Engaged) (held : Cutter) → told.tools.running ≡ [] → IsLast held None → Rests (λ g text. streams.FinishesCutShort commands Keeps (machine g text) told code held told) told.tools
+  inside_finishes told code held idle last = record { idle = idle; over = λ g text. stream.Finishes-cut_short commands Keeps (machine g text) (rests disk g text) told code held last }
 
-  pub line_finishes : (told told' : Told Disk) (texts texts' : Texts) (held : Cutter) (whole : Whole) → IsLast held (Some whole) → Serves g texts texts' whole told told'
-      → Rests (λ table. streams.FinishesWhole commands Keeps (machine table) told texts held told') told'.tools
-  line_finishes told told' texts texts' held whole last served = record {
+  pub line_finishes : (told told' : Told D) (code code' : Engaged) (held : Cutter) (whole : Whole) → IsLast held (Some whole) → Serves disk code code' whole told told'
+      → Rests (λ g text. streams.FinishesWhole commands Keeps (machine g text) told code held told') told'.tools
+  line_finishes told told' code code' held whole last served = record {
     idle = served.rests.idle;
-    over = λ table. stream.Finishes-line commands Keeps (machine table) (rests g table) told told' texts texts' held whole.command whole.body last.0 last.1 (served.rests.over table);
+    over = λ g text. stream.Finishes-line commands Keeps (machine g text) (rests disk g text) told told' code code' held whole.command whole.body last.0 last.1 (served.rests.over g text);
   }
 
-  pub part_stops_at_end : (told : Told Disk) (texts : Texts) (held : Cutter) → Halts (λ table. streams.StopsAtEnd commands Keeps (machine table) (halt_of Memory) told texts held told) Memory told.tools
-  part_stops_at_end told texts held = record { idle = λ other. absurd (other refl); over = λ table. stream.StopsAtEnd-part commands Keeps (machine table) (rests g table) told texts held }
+  pub part_stops_at_end : (told : Told D) (code : Engaged) (held : Cutter) → told.over ≡ None
+      → Halts (λ g text. streams.StopsAtEnd commands Keeps (machine g text) (halt_of Memory) told code held (stopped Memory told)) Memory told.tools
+  part_stops_at_end told code held none = record {
+    idle = λ other. absurd (other refl);
+    over = λ g text. subst (λ t. streams.StopsAtEnd commands Keeps (machine g text) (halt_of Memory) told code held t) (still told none)
+        (stream.StopsAtEnd-part commands Keeps (machine g text) (rests disk g text) told code held);
+  }
 
-  pub line_stops_at_end : (stop : Stop) (told told' : Told Disk) (texts : Texts) (held : Cutter) (whole : Whole) → IsLast held (Some whole) → StopsServing g stop texts whole told told'
-      → Halts (λ table. streams.StopsAtEnd commands Keeps (machine table) (halt_of stop) told texts held told') stop told'.tools
-  line_stops_at_end stop told told' texts held whole last stops = record {
+  pub line_stops_at_end : (stop : Stop) (told : Told D) (sink : SinkTold) (tools : Spawned) (tree : TreeTold) (now : D) (code : Engaged) (held : Cutter) (whole : Whole) → IsLast held (Some whole) → StopsServing disk stop code whole told (telling sink tools tree now)
+      → Halts (λ g text. streams.StopsAtEnd commands Keeps (machine g text) (halt_of stop) told code held (stopped stop (telling sink tools tree now))) stop tools
+  line_stops_at_end stop told sink tools tree now code held whole last stops = record {
     idle = stops.idle;
-    over = λ table. stream.StopsAtEnd-line commands Keeps (machine table) (halt_of stop) told told' texts held whole.command whole.body last.0 last.1 (stops.over table);
+    over = λ g text. stream.StopsAtEnd-line commands Keeps (machine g text) (halt_of stop) told (stopped stop (telling sink tools tree now)) code held whole.command whole.body last.0 last.1 (stops.over g text);
   }
 
   -- before the first byte
-  pub reads_none : (start : Told Disk) (left : Option (List ℕ)) (texts : Texts) (held : Cutter) → start.tools.running ≡ [] → texts ≡ no_texts → Keeps held []
-      → streams.Reading commands Keeps (machine start.tools.answer) (at_first start.tools start.tree) start left left 0 start texts held
-  reads_none start left texts held idle sources keeps =
-      Reading-none commands Keeps (machine start.tools.answer) (at_first start.tools start.tree) start start texts held left refl
-      (record {
-        sources = sources;
-        tools = refl;
-        tree = refl;
-        stay = record { answers = refl; later = le_refl start.tools.faults; few = idle_one start.tools idle };
-        tree_stays = record { files = refl; later = le_refl start.tree.faults };
-        idle = idle;
-        disk = refl;
-      }) keeps
+  pub reads_none : (g : Graph) (text : Text) (held : Held) (start before : Told D) (left : Option (List ℕ)) (code : Engaged) (cutter : Cutter) → BeginsWith disk g text held start code before → Keeps cutter []
+      → streams.Reading commands Keeps (machine g text) (at_first held start.tools start.tree) start left left 0 before code cutter
+  reads_none g text held start before left code cutter begins keeps =
+      Reading-none commands Keeps (machine g text) (at_first held start.tools start.tree) start before code cutter left begins.sink begins.fits keeps
 
   -- the run ends where the serving stopped
-  pub stopped_ends : (stop : Stop) (ending : Ending) (input left : SourceTold) (start now : Told Disk) → ending ≡ ending_of stop
-      → HasRead (EndsStopped commands (machine start.tools.answer) (halt_of stop) (at_first start.tools start.tree) start now) input.left left.left
-      → left.faults ≡ input.faults → (stop ≢ Memory → now.tools.running ≡ []) → SessionEnds g input left start now ending
-  stopped_ends Memory ending input left start now is read same idle =
-      subst (λ (e : Ending). SessionEnds g input left start now e) (sym is) (record { leaves = read; read = same; idle = λ other. absurd (other refl) })
-  stopped_ends Output ending input left start now is read same idle =
-      subst (λ (e : Ending). SessionEnds g input left start now e) (sym is) (record { leaves = read; read = same; idle = λ other. idle (λ e. cc) })
-  stopped_ends Quit ending input left start now is read same idle =
-      subst (λ (e : Ending). SessionEnds g input left start now e) (sym is) (record { leaves = inr read; read = same; idle = λ other. idle (λ e. cc) })
+  module _ (g : Graph) (text : Text) (held : Held) (input left : SourceTold) (start now : Told D) where
+    pub stopped_leaves : (stop : Stop) → HasRead (EndsStopped commands (machine g text) (halt_of stop) (at_first held start.tools start.tree) start (stopped stop now)) input.left left.left → now.over ≡ None
+        → SessionLeaves disk g text held (ending_of stop) input.left left.left start now
+    stopped_leaves Disk read none = subst (λ t. HasRead (EndsStopped commands (machine g text) (halt_of Disk) (at_first held start.tools start.tree) start t) input.left left.left) (sym (λ i. record now { over = none i })) read
+    stopped_leaves Memory read none = subst (λ t. HasRead (EndsStopped commands (machine g text) (halt_of Memory) (at_first held start.tools start.tree) start t) input.left left.left) (sym (λ i. record now { over = none i })) read
+    stopped_leaves Output read none = subst (λ t. HasRead (EndsStopped commands (machine g text) (halt_of Output) (at_first held start.tools start.tree) start t) input.left left.left) (sym (λ i. record now { over = none i })) read
+    stopped_leaves (Full at size) read none = read
+    stopped_leaves Quit read none = inr (subst (λ t. HasRead (EndsStopped commands (machine g text) (halt_of Quit) (at_first held start.tools start.tree) start t) input.left left.left) (sym (λ i. record now { over = none i })) read)
+
+-- what the counts say of why the serving stopped
+pub stopped_input : (stop : Stop) (before now : ℕ) → now ≡ before → InputCount (ending_of stop) before now
+stopped_input Disk before now same = same
+stopped_input Memory before now same = same
+stopped_input Output before now same = same
+stopped_input (Full at size) before now same = same
+stopped_input Quit before now same = same
+
+pub stopped_disk : (stop : Stop) (before mid now : ℕ) → mid ≡ before → Counts stop mid now → DiskCount (ending_of stop) before now
+stopped_disk Disk before mid now same counted = subst (λ n. IsCounted n now) same counted
+stopped_disk Memory before mid now same counted = counted ∙ same
+stopped_disk Output before mid now same counted = counted ∙ same
+stopped_disk (Full at size) before mid now same counted = counted ∙ same
+stopped_disk Quit before mid now same counted = counted ∙ same
+
+pub stopped_idle : {P : Type 0} (stop : Stop) → (stop ≢ Memory → P) → ending_of stop ≢ ending.Memory → P
+stopped_idle Disk idle other = idle (λ e. cc)
+stopped_idle Memory idle other = absurd (other refl)
+stopped_idle Output idle other = idle (λ e. cc)
+stopped_idle (Full at size) idle other = idle (λ e. cc)
+stopped_idle Quit idle other = idle (λ e. cc)

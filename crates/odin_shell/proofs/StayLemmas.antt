@@ -1,15 +1,13 @@
 -- Behind each command the sources are names with texts that are not too long.
 use Rattle.std.proofs.Common.{◌≡◌, ◌≢◌, ℕ, ◌≤◌, Bool, true, false, inl, inr, List, length, ap, sym, refl, ◌∙◌, subst, arith}
-use Rattle.std.specs.Prelude.{Option, Some, None}
-use Rattle.std.specs.FinMap.{get, insert, remove, get-empty}
+use Rattle.std.specs.Prelude.{⊤, Option, Some, None}
+use Rattle.std.specs.FinMap.{get, insert, remove}
 use Rattle.std.specs.Str.{bytes_eq}
 use Rattle.std.proofs.lemmas.Slice.Eq.{bytes_eq-Decides}
-use Rattle.object_sources.specs.Texts.{Text, Texts, no_texts}
+use Rattle.object_sources.specs.Texts.{Text, Texts}
 use Rattle.object_sources.specs.Gets.{put_here, put_other, remove_here, remove_other}
-use Rattle.odin_outside.specs.Spawned.{Table}
 use Rattle.meaning_texts.specs.Classes.{IsName}
 use Rattle.meaning_texts.specs.Limits.{body_limit}
-use Rattle.meaning_texts.proofs.Lemmas.{some_is_none}
 use Rattle.meaning_graph.specs.Graphs.{Graph}
 use Rattle.meaning_derive.specs.Given.{IsSource, AreSources}
 use Rattle.meaning_run.specs.Items.{Item, IsItem}
@@ -18,11 +16,21 @@ use Rattle.meaning_commands.specs.declared.commands.Command.TheVariants.{Put, Ta
 use Rattle.meaning_commands.specs.declared.replies.Reply.{Reply}
 use Rattle.meaning_commands.specs.Commands as spelling
 use Rattle.meaning_commands.specs.Commands.{takes}
-use Rattle.odin_shell.specs.Language.{BringsName, commands}
+use Rattle.disk_trails.specs.Trails.{after}
+use Rattle.odin_store.specs.Held.{Held, Change, drops, apply}
+use Rattle.odin_store.specs.Keeping.{store_keeping}
+use Rattle.odin_shell.specs.Language.{commands}
 use Rattle.source_edits.specs.Edits.{Inserts, TakesFile, RemovesText}
-use Rattle.odin_shell.specs.Machine.{State, Step, MayLeave}
+use Rattle.odin_shell.specs.Machine.{State, Step, PutIsDue, TakeIsDue, MayEdit, MayLeave}
+use Rattle.odin_shell.proofs.MadeLemmas.{kept_sources}
 
 -- ---- names
+
+-- the name of a source that a command may bring is one
+abbrev BringsName : Command → Type 0
+BringsName (Put name count) = IsName name
+BringsName (Take name) = IsName name
+BringsName other = ⊤
 
 form_names : (line : List ℕ) (c : Command) → spelling.IsForm line c → BringsName c
 form_names line _ (spelling.put name count is named) = named
@@ -84,46 +92,60 @@ remove_stays (Some text) old name said new are removes = subst AreSources (sym r
 
 -- ---- commands
 
-same_stays : (old new : State) → AreSources old.texts → new ≡ old → AreSources new.texts
-same_stays old new are same = subst (λ (s : State). AreSources s.texts) (sym same) are
+same_stays : (old new : State) → AreSources old.held.sources → new ≡ old → AreSources new.held.sources
+same_stays old new are same = subst (λ (s : State). AreSources s.held.sources) (sym same) are
 
 -- a command whose bytes are not too long
-pub step_stays : (g : Graph) (table : Option Table) (old new : State) (command : Command) (body reply : List ℕ) → AreSources old.texts → BringsName command → (takes command ≤ body_limit → length body ≤ body_limit)
-    → Step g table old command body reply new → AreSources new.texts
-step_stays g table old new (Put name count) body reply are named short step = insert_stays old.texts name body count _ step.says.said new.texts are named short step.says.holds
-step_stays g table old new (Take name) body reply are named short step = elim step.says.holds [
-  | inl taken ↦ take_stays old.texts name taken.file step.says.said new.texts are named taken.takes
+step_stays : (g : Graph) (old new : State) (command : Command) (body reply : List ℕ) → AreSources old.held.sources → BringsName command → (takes command ≤ body_limit → length body ≤ body_limit)
+    → Step g old command body reply new → AreSources new.held.sources
+step_stays g old new (Put name count) body reply are named short step = insert_stays old.held.sources name body count _ step.says.said new.held.sources are named short step.says.holds
+step_stays g old new (Take name) body reply are named short step = elim step.says.holds [
+  | inl taken ↦ take_stays old.held.sources name taken.file step.says.said new.held.sources are named taken.takes
   | inr unread ↦ subst AreSources (sym unread.same) are
 ]
-step_stays g table old new (Remove name) body reply are named short step = remove_stays (get old.texts name) old.texts name step.says.said new.texts are step.says.holds
-step_stays g table old new (Ask text) body reply are named short step = subst AreSources (sym step.texts) are
-step_stays g table old new (Plan text) body reply are named short step = same_stays old new are step.same
-step_stays g table old new Sources body reply are named short step = same_stays old new are step.1
-step_stays g table old new Kept body reply are named short step = same_stays old new are step.1
-step_stays g table old new Quit body reply are named short step = same_stays old new are step.1
-step_stays g table old new Nothing body reply are named short step = same_stays old new are step.1
-step_stays g table old new Bad body reply are named short step = same_stays old new are step.1
-step_stays g table old new (BadName count) body reply are named short step = same_stays old new are step.1
+step_stays g old new (Remove name) body reply are named short step = remove_stays (get old.held.sources name) old.held.sources name step.says.said new.held.sources are step.says.holds
+step_stays g old new (Ask text) body reply are named short step = subst AreSources (sym (ap (λ (h : Held). h.sources) step.makes.held ∙ kept_sources step.given old.held)) are
+step_stays g old new (Plan text) body reply are named short step = same_stays old new are step.same
+step_stays g old new Sources body reply are named short step = same_stays old new are step.1
+step_stays g old new Kept body reply are named short step = same_stays old new are step.1
+step_stays g old new Quit body reply are named short step = same_stays old new are step.1
+step_stays g old new Nothing body reply are named short step = same_stays old new are step.1
+step_stays g old new Bad body reply are named short step = same_stays old new are step.1
+step_stays g old new (BadName count) body reply are named short step = same_stays old new are step.1
 
--- a command without its reply changes no source
-pub left_stays : (g : Graph) (table : Option Table) (old new : State) (command : Command) → AreSources old.texts → MayLeave g table old command new → AreSources new.texts
-left_stays g table old new (Put name count) are may = same_stays old new are may
-left_stays g table old new (Take name) are may = subst AreSources (sym may.texts) are
-left_stays g table old new (Remove name) are may = same_stays old new are may
-left_stays g table old new (Ask text) are may = subst AreSources (sym may.texts) are
-left_stays g table old new (Plan text) are may = same_stays old new are may
-left_stays g table old new Sources are may = same_stays old new are may
-left_stays g table old new Kept are may = same_stays old new are may
-left_stays g table old new Quit are may = same_stays old new are may
-left_stays g table old new Nothing are may = same_stays old new are may
-left_stays g table old new Bad are may = same_stays old new are may
-left_stays g table old new (BadName count) are may = same_stays old new are may
-
-pub stay : (g : Graph) (table : Option Table) (old new : State) (item : Item) (command : Command) (reply : List ℕ) → AreSources old.texts → IsItem commands item command → Step g table old command item.body reply new → AreSources new.texts
-stay g table old new item command reply are i step =
+pub stay : (g : Graph) (old new : State) (item : Item) (command : Command) (reply : List ℕ) → AreSources old.held.sources → IsItem commands item command → Step g old command item.body reply new
+    → AreSources new.held.sources
+stay g old new item command reply are i step =
     let size = i.size in
-    step_stays g table old new command item.body reply are (names _ command i.spelled) (λ few. omega (arith, size, few)) step
+    step_stays g old new command item.body reply are (names _ command i.spelled) (λ few. omega (arith, size, few)) step
 
--- before the first command there are none
-pub none_are : (texts : Texts) → texts ≡ no_texts → AreSources texts
-none_are texts none = subst AreSources (sym none) (λ name text is. some_is_none (get no_texts name) text is (get-empty _ name))
+-- ---- without a reply
+
+due_stays : (IsDue : Change → Type 0) (old new : State) → ((change : Change) → IsDue change → AreSources (apply change old.held).sources) → AreSources old.held.sources → MayEdit IsDue old new → AreSources new.held.sources
+due_stays IsDue old new each are may = subst (λ (h : Held). AreSources h.sources) (sym may.makes.held) (elim may.due [
+  | inl none ↦ subst (λ c. AreSources (after store_keeping c old.held).sources) (sym none) are
+  | inr one ↦ subst (λ c. AreSources (after store_keeping c old.held).sources) (sym one.2) (each one.0 one.1)
+])
+
+step_left : (g : Graph) (old new : State) (command : Command) (body : List ℕ) → AreSources old.held.sources → BringsName command → (takes command ≤ body_limit → length body ≤ body_limit)
+    → MayLeave g old command body new → AreSources new.held.sources
+step_left g old new (Put name count) body are named short may =
+    due_stays (PutIsDue name count body) old new (λ change due. subst (λ c. AreSources (apply c old.held).sources) (sym due.1) (put_stays old.held.sources name body are named (short due.0))) are may.0
+step_left g old new (Take name) body are named short may =
+    due_stays (TakeIsDue name old.tree) old new (λ change due. subst (λ c. AreSources (apply c old.held).sources) (sym due.3) (put_stays old.held.sources name due.0 are named due.1)) are may.0
+step_left g old new (Remove name) body are named short may =
+    due_stays (λ change. change ≡ drops name) old new (λ change due. subst (λ c. AreSources (apply c old.held).sources) (sym due) (drop_stays old.held.sources name are)) are may.0
+step_left g old new (Ask text) body are named short may = subst AreSources (sym (ap (λ (h : Held). h.sources) may.makes.held ∙ kept_sources may.given old.held)) are
+step_left g old new (Plan text) body are named short may = same_stays old new are may
+step_left g old new Sources body are named short may = same_stays old new are may
+step_left g old new Kept body are named short may = same_stays old new are may
+step_left g old new Quit body are named short may = same_stays old new are may
+step_left g old new Nothing body are named short may = same_stays old new are may
+step_left g old new Bad body are named short may = same_stays old new are may
+step_left g old new (BadName count) body are named short may = same_stays old new are may
+
+pub stay_left : (g : Graph) (old furthest : State) (item : Item) (command : Command) → AreSources old.held.sources → IsItem commands item command → MayLeave g old command item.body furthest
+    → AreSources furthest.held.sources
+stay_left g old furthest item command are i may =
+    let size = i.size in
+    step_left g old furthest command item.body are (names _ command i.spelled) (λ few. omega (arith, size, few)) may

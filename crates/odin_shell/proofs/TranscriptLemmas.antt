@@ -1,4 +1,5 @@
--- Where no fault of the tools or of the tree is counted, items have one transcript at most, but for the chains that refusals show.
+-- Where no fault of the tools or of the tree is counted, items have one transcript at most, but for the chains that refusals show and the
+-- number of kept calls.
 use Rattle.std.proofs.Common.{◌≡◌, ℕ, ◌<◌, ◌+◌, ◌≤◌, min, List, [], ◌∷◌, ap, sym, ◌∙◌, subst, arith, inl, inr}
 use Rattle.std.specs.Prelude.{Option, Some, None}
 use Rattle.std.specs.FinMap.{get}
@@ -8,23 +9,27 @@ use Rattle.odin_outside.specs.Files.{Files, IsGiven}
 use Rattle.odin_outside.specs.Spawned.{Table}
 use Rattle.meaning_texts.specs.Lines.{without_cr}
 use Rattle.meaning_graph.specs.Graphs.{Text, Graph}
+use Rattle.meaning_records.specs.Tables.{Calls}
 use Rattle.meaning_answers.proofs.Lemmas.{one_plan}
 use Rattle.meaning_run.specs.Items.{Item}
 use Rattle.meaning_run.specs.Machines.{Transcript, AnswersItem}
 use Rattle.odin_answers.specs.Answers.{IsReply, HasAnswer}
-use Rattle.odin_answers.proofs.Lemmas.{refusal_counted, no_calls, one_reply}
+use Rattle.odin_answers.specs.Laws.{IsTrueFor}
+use Rattle.odin_answers.proofs.Lemmas.{refusal_counted, one_reply}
 use Rattle.meaning_commands.specs.declared.commands.Command.{Command}
 use Rattle.meaning_commands.specs.declared.commands.Command.TheVariants.{Put, Take, Remove, Ask, Plan, Sources, Kept, Quit, Nothing, Bad, BadName}
 use Rattle.meaning_commands.specs.declared.replies.Reply.{Reply}
 use Rattle.meaning_commands.specs.declared.replies.Reply.TheVariants as reply
 use Rattle.meaning_commands.specs.Replies.{reply_text}
 use Rattle.meaning_commands.proofs.Lemmas.{one_command}
+use Rattle.odin_store.specs.Held.{Held}
 use Rattle.odin_shell.specs.Language.{commands}
-use Rattle.source_edits.specs.Edits.{Says, TreeTold, Inserts, Puts, TakesFile, Takes, IsTaken, IsAsked, RemovesText, Removes, source_lines}
+use Rattle.source_edits.specs.Edits.{Says, TreeTold, TreeStays, Inserts, Puts, TakesFile, Takes, IsTaken, IsAsked, RemovesText, Removes, source_lines}
 use Rattle.odin_shell.specs.Machine.{State, Step, Edits, EditsByFile, Asks}
-use Rattle.odin_shell.specs.Laws.{NoFault, CountsNone, AreAlike, AreSideBySide, AreSame}
+use Rattle.odin_shell.specs.Laws.{NoFault, CountsNone, AreAlike, AreSideBySide, AreSame, IsToldBy}
 use Rattle.odin_shell.proofs.CountLemmas.{counted, counts}
-use Rattle.odin_shell.proofs.ServeLemmas.{step_tree}
+use Rattle.odin_shell.proofs.MadeLemmas.{kept_sources, step_true}
+use Rattle.odin_shell.proofs.StateLemmas.{same_tree}
 
 -- ---- counts
 
@@ -73,124 +78,142 @@ asked_once before = record { files = before.files; faults = before.faults; reads
 tree_is : (before now : TreeTold) → IsAsked before now → now.faults ≡ before.faults → now ≡ asked_once before
 tree_is before now asked unfailed = λ i. record { files = asked.stays.files i; faults = unfailed i; reads = asked.once i }
 
+-- what stays of the tree over one command
+same_state : (old new : State) → new ≡ old → TreeStays old.tree new.tree
+same_state old new same = same_tree old.tree new.tree (ap (λ (s : State). s.tree) same)
+
+step_tree : (g : Graph) (old : State) (c : Command) (body bytes : List ℕ) (new : State) → Step g old c body bytes new → TreeStays old.tree new.tree
+step_tree g old (Put name count) body bytes new step = same_tree old.tree new.tree step.tree
+step_tree g old (Take name) body bytes new step = step.asked.stays
+step_tree g old (Remove name) body bytes new step = same_tree old.tree new.tree step.tree
+step_tree g old (Ask text) body bytes new step = same_tree old.tree new.tree step.tree
+step_tree g old (Plan text) body bytes new step = same_state old new step.same
+step_tree g old Sources body bytes new step = same_state old new step.1
+step_tree g old Kept body bytes new step = same_state old new step.1
+step_tree g old Quit body bytes new step = same_state old new step.1
+step_tree g old Nothing body bytes new step = same_state old new step.1
+step_tree g old Bad body bytes new step = same_state old new step.1
+step_tree g old (BadName count) body bytes new step = same_state old new step.1
+
 -- ---- one step
 
 -- an answer, since a refusal is counted
-answered : (g : Graph) (table : Table) (old new : State) (text : Text) (said : Reply) → CountsNone old new → IsReply g (Some table) old.texts text said old.tools new.tools → HasAnswer g (Some table) old.texts text said old.tools new.tools
-answered g table old new text said none (inl is) = is
-answered g table old new text said none (inr refused) = absurd (not_counted old.tools.faults new.tools.faults none.tools (refusal_counted g (Some table) old.texts text said old.tools new.tools refused))
+answered : (g : Graph) (old new : State) (text : Text) (said : Reply) (given : Calls) → CountsNone old new → IsReply g old.held.sources old.held.calls text said given old.tools new.tools
+    → HasAnswer g old.held.sources old.held.calls text said given old.tools new.tools
+answered g old new text said given none (inl is) = is
+answered g old new text said given none (inr refused) =
+    absurd (not_counted old.tools.faults new.tools.faults none.tools (refusal_counted g old.held.sources old.held.calls text said given old.tools new.tools refused))
+
+-- what an ask leaves of the sources
+asked_sources : (g : Graph) (text : Text) (old new : State) (bytes : List ℕ) → Asks g text old bytes new → new.held.sources ≡ old.held.sources
+asked_sources g text old new bytes asks = ap (λ (h : Held). h.sources) asks.makes.held ∙ kept_sources asks.given old.held
 
 -- what is the same behind one command
 record IsSame (g : Graph) (table : Table) (bytes bytes' : List ℕ) (old new old' new' : State) : Type 0 where
-  alike : AreAlike g table bytes bytes' old new old' new'
-  texts : new'.texts ≡ new.texts
+  alike : AreAlike g table bytes bytes' old old'
+  sources : new'.held.sources ≡ new.held.sources
   tree : old'.tree ≡ old.tree → new'.tree ≡ new.tree
 
 same_bytes : (P Q : Reply → Type 0) (bytes bytes' : List ℕ) (a : Says P bytes) (b : Says Q bytes') → b.said ≡ a.said → bytes' ≡ bytes
 same_bytes P Q bytes bytes' a b same = b.bytes_are ∙ ap reply_text same ∙ sym a.bytes_are
 
-module _ (g : Graph) (table : Table) (files : Files) (old new old' new' : State) (same : old'.texts ≡ old.texts) where
-  unchanged : (bytes bytes' : List ℕ) → bytes' ≡ bytes → new ≡ old → new' ≡ old' → IsSame g table bytes bytes' old new old' new'
-  unchanged bytes bytes' is stays stays' = record {
-    alike = inl (record { reply = is; calls = no_calls old.tools new.tools old'.tools new'.tools (ap (λ (s : State). s.tools) stays) (ap (λ (s : State). s.tools) stays') });
-    texts = ap (λ (s : State). s.texts) stays' ∙ same ∙ sym (ap (λ (s : State). s.texts) stays);
+module _ (g : Graph) (table : Table) (files : Files) (old new old' new' : State) (same : old'.held.sources ≡ old.held.sources) where
+  unchanged : (bytes bytes' : List ℕ) → AreAlike g table bytes bytes' old old' → new ≡ old → new' ≡ old' → IsSame g table bytes bytes' old new old' new'
+  unchanged bytes bytes' alike stays stays' = record {
+    alike = alike;
+    sources = ap (λ (s : State). s.held.sources) stays' ∙ same ∙ sym (ap (λ (s : State). s.held.sources) stays);
     tree = λ (e : old'.tree ≡ old.tree). ap (λ (s : State). s.tree) stays' ∙ e ∙ sym (ap (λ (s : State). s.tree) stays);
   }
 
-  edited : (P Q : Reply → Texts → Type 0) (bytes bytes' : List ℕ) (a : Edits P old bytes new) (b : Edits Q old' bytes' new') → IsOne a.says.said b.says.said new.texts new'.texts → IsSame g table bytes bytes' old new old' new'
-  edited P Q bytes bytes' a b one = record {
-    alike = inl (record {
-      reply = same_bytes (λ said. P said new.texts) (λ said. Q said new'.texts) bytes bytes' a.says b.says one.says;
-      calls = no_calls old.tools new.tools old'.tools new'.tools a.tools b.tools;
-    });
-    texts = one.texts;
+  edited : (name : Text) (P Q : Reply → Texts → Type 0) (bytes bytes' : List ℕ) (a : Edits name P old bytes new) (b : Edits name Q old' bytes' new') → IsOne a.says.said b.says.said new.held.sources new'.held.sources
+      → IsSame g table bytes bytes' old new old' new'
+  edited name P Q bytes bytes' a b one = record {
+    alike = inl (same_bytes (λ said. P said new.held.sources) (λ said. Q said new'.held.sources) bytes bytes' a.says b.says one.says);
+    sources = one.texts;
     tree = λ (e : old'.tree ≡ old.tree). b.tree ∙ e ∙ sym a.tree;
   }
 
   file_same : (name : Text) (bytes bytes' : List ℕ) → old.tree.files ≡ Some files → old'.tree.files ≡ Some files → CountsNone old new → CountsNone old' new' → EditsByFile name old bytes new → EditsByFile name old' bytes' new'
       → IsSame g table bytes bytes' old new old' new'
   file_same name bytes bytes' told told' none none' a b =
-      let t = taken old.texts name old.tree a.says.said new.texts new.tree none.tree a.says.holds in
-      let t' = taken old'.texts name old'.tree b.says.said new'.texts new'.tree none'.tree b.says.holds in
+      let t = taken old.held.sources name old.tree a.says.said new.held.sources new.tree none.tree a.says.holds in
+      let t' = taken old'.held.sources name old'.tree b.says.said new'.held.sources new'.tree none'.tree b.says.holds in
       let given = subst (λ (f : Option Files). IsGiven f name t.file) told t.given in
       let given' = subst (λ (f : Option Files). IsGiven f name t'.file) told' t'.given in
-      let takes' = subst (λ (f : Option Text). TakesFile old.texts name f b.says.said new'.texts) (given' ∙ sym given) (subst (λ (x : Texts). TakesFile x name t'.file b.says.said new'.texts) same t'.takes) in
-      let one = one_file old.texts name t.file a.says.said b.says.said new.texts new'.texts t.takes takes' in
+      let takes' = subst (λ (f : Option Text). TakesFile old.held.sources name f b.says.said new'.held.sources) (given' ∙ sym given) (subst (λ (x : Texts). TakesFile x name t'.file b.says.said new'.held.sources) same t'.takes) in
+      let one = one_file old.held.sources name t.file a.says.said b.says.said new.held.sources new'.held.sources t.takes takes' in
       record {
-        alike = inl (record {
-          reply = same_bytes (λ said. Takes old.texts name old.tree said new.texts new.tree) (λ said. Takes old'.texts name old'.tree said new'.texts new'.tree) bytes bytes' a.says b.says one.says;
-          calls = no_calls old.tools new.tools old'.tools new'.tools a.tools b.tools;
-        });
-        texts = one.texts;
+        alike = inl (same_bytes (λ said. Takes old.held.sources name old.tree said new.held.sources new.tree) (λ said. Takes old'.held.sources name old'.tree said new'.held.sources new'.tree) bytes bytes' a.says b.says one.says);
+        sources = one.texts;
         tree = λ (e : old'.tree ≡ old.tree). tree_is old'.tree new'.tree b.asked t'.unfailed ∙ ap asked_once e ∙ sym (tree_is old.tree new.tree a.asked t.unfailed);
       }
 
-  asked : (text : Text) (bytes bytes' : List ℕ) → CountsNone old new → CountsNone old' new' → Asks g (Some table) text old bytes new → Asks g (Some table) text old' bytes' new' → IsSame g table bytes bytes' old new old' new'
-  asked text bytes bytes' none none' a b =
-      let one = answered g table old new text a.says.said none a.says.holds in
-      let other = subst (λ (t : Texts). HasAnswer g (Some table) t text b.says.said old'.tools new'.tools) same (answered g table old' new' text b.says.said none' b.says.holds) in
+  asked : (text : Text) (bytes bytes' : List ℕ) → IsTrueFor table old.tools old.held.calls → IsTrueFor table old'.tools old'.held.calls → CountsNone old new → CountsNone old' new'
+      → Asks g text old bytes new → Asks g text old' bytes' new' → IsSame g table bytes bytes' old new old' new'
+  asked text bytes bytes' right right' none none' a b =
+      let one = answered g old new text a.says.said a.given none a.says.holds in
+      let other = subst (λ (t : Texts). HasAnswer g t old'.held.calls text b.says.said b.given old'.tools new'.tools) same (answered g old' new' text b.says.said b.given none' b.says.holds) in
       record {
-        alike = elim (one_reply g table old.texts text a.says.said b.says.said old.tools new.tools old'.tools new'.tools one other) [
-          | inl both ↦ inl (record {
-            reply = same_bytes (λ said. IsReply g (Some table) old.texts text said old.tools new.tools) (λ said. IsReply g (Some table) old'.texts text said old'.tools new'.tools) bytes bytes' a.says b.says both.reply;
-            calls = both.calls;
-          })
-          | inr chains ↦ inr (record { text = text; reply = a.says.said; other = b.says.said; bytes_are = a.says.bytes_are; others_are = b.says.bytes_are; chains = chains })
+        alike = elim (one_reply g table old.held.sources old.held.calls old'.held.calls text a.says.said b.says.said a.given b.given old.tools new.tools old'.tools new'.tools right right' one other) [
+          | inl said ↦ inl (b.says.bytes_are ∙ ap reply_text said ∙ sym a.says.bytes_are)
+          | inr chains ↦ inr (inr (record { text = text; reply = a.says.said; other = b.says.said; bytes_are = a.says.bytes_are; others_are = b.says.bytes_are; chains = chains }))
         ];
-        texts = b.texts ∙ same ∙ sym a.texts;
+        sources = asked_sources g text old' new' bytes' b ∙ same ∙ sym (asked_sources g text old new bytes a);
         tree = λ (e : old'.tree ≡ old.tree). b.tree ∙ e ∙ sym a.tree;
       }
 
-  module _ (told : old.tree.files ≡ Some files) (told' : old'.tree.files ≡ Some files) (none : CountsNone old new) (none' : CountsNone old' new') where
-    one_step : (c : Command) (body bytes bytes' : List ℕ) → Step g (Some table) old c body bytes new → Step g (Some table) old' c body bytes' new' → IsSame g table bytes bytes' old new old' new'
+  module _ (told : IsToldBy table files old) (told' : IsToldBy table files old') (none : CountsNone old new) (none' : CountsNone old' new') where
+    one_step : (c : Command) (body bytes bytes' : List ℕ) → Step g old c body bytes new → Step g old' c body bytes' new' → IsSame g table bytes bytes' old new old' new'
     one_step (Put name count) body bytes bytes' a b =
-        edited (Puts old.texts name count body) (Puts old'.texts name count body) bytes bytes' a b
-        (one_insert old.texts name body count _ a.says.said b.says.said new.texts new'.texts a.says.holds (subst (λ (t : Texts). Puts t name count body b.says.said new'.texts) same b.says.holds))
-    one_step (Take name) body bytes bytes' a b = file_same name bytes bytes' told told' none none' a b
+        edited name (Puts old.held.sources name count body) (Puts old'.held.sources name count body) bytes bytes' a b
+        (one_insert old.held.sources name body count _ a.says.said b.says.said new.held.sources new'.held.sources a.says.holds (subst (λ (t : Texts). Puts t name count body b.says.said new'.held.sources) same b.says.holds))
+    one_step (Take name) body bytes bytes' a b = file_same name bytes bytes' told.files_are told'.files_are none none' a b
     one_step (Remove name) body bytes bytes' a b =
-        edited (Removes old.texts name) (Removes old'.texts name) bytes bytes' a b
-        (one_remove (get old.texts name) old.texts name a.says.said b.says.said new.texts new'.texts a.says.holds (subst (λ (t : Texts). Removes t name b.says.said new'.texts) same b.says.holds))
-    one_step (Ask text) body bytes bytes' a b = asked text bytes bytes' none none' a b
+        edited name (Removes old.held.sources name) (Removes old'.held.sources name) bytes bytes' a b
+        (one_remove (get old.held.sources name) old.held.sources name a.says.said b.says.said new.held.sources new'.held.sources a.says.holds (subst (λ (t : Texts). Removes t name b.says.said new'.held.sources) same b.says.holds))
+    one_step (Ask text) body bytes bytes' a b = asked text bytes bytes' told.right told'.right none none' a b
     one_step (Plan text) body bytes bytes' a b =
-        unchanged bytes bytes' (same_bytes _ _ bytes bytes' a.says b.says (one_plan g text a.says.said b.says.said a.says.holds b.says.holds)) a.same b.same
-    one_step Sources body bytes bytes' a b = unchanged bytes bytes' (b.0 ∙ ap (λ (t : Texts). reply_text (reply.Sources (source_lines t))) same ∙ sym a.0) a.1 b.1
-    one_step Kept body bytes bytes' a b = unchanged bytes bytes' (b.0 ∙ sym a.0) a.1 b.1
-    one_step Quit body bytes bytes' a b = unchanged bytes bytes' (b.0 ∙ sym a.0) a.1 b.1
-    one_step Nothing body bytes bytes' a b = unchanged bytes bytes' (b.0 ∙ sym a.0) a.1 b.1
-    one_step Bad body bytes bytes' a b = unchanged bytes bytes' (b.0 ∙ sym a.0) a.1 b.1
-    one_step (BadName count) body bytes bytes' a b = unchanged bytes bytes' (b.0 ∙ sym a.0) a.1 b.1
+        unchanged bytes bytes' (inl (same_bytes _ _ bytes bytes' a.says b.says (one_plan g text a.says.said b.says.said a.says.holds b.says.holds))) a.same b.same
+    one_step Sources body bytes bytes' a b = unchanged bytes bytes' (inl (b.0 ∙ ap (λ (t : Texts). reply_text (reply.Sources (source_lines t))) same ∙ sym a.0)) a.1 b.1
+    one_step Kept body bytes bytes' a b = unchanged bytes bytes' (inr (inl (record { bytes_are = a.0; others_are = b.0 }))) a.1 b.1
+    one_step Quit body bytes bytes' a b = unchanged bytes bytes' (inl (b.0 ∙ sym a.0)) a.1 b.1
+    one_step Nothing body bytes bytes' a b = unchanged bytes bytes' (inl (b.0 ∙ sym a.0)) a.1 b.1
+    one_step Bad body bytes bytes' a b = unchanged bytes bytes' (inl (b.0 ∙ sym a.0)) a.1 b.1
+    one_step (BadName count) body bytes bytes' a b = unchanged bytes bytes' (inl (b.0 ∙ sym a.0)) a.1 b.1
 
     -- an item is one command
-    one_item : (item : Item) (bytes bytes' : List ℕ) → AnswersItem commands (Step g (Some table)) old item bytes new → AnswersItem commands (Step g (Some table)) old' item bytes' new' → IsSame g table bytes bytes' old new old' new'
+    one_item : (item : Item) (bytes bytes' : List ℕ) → AnswersItem commands (Step g) old item bytes new → AnswersItem commands (Step g) old' item bytes' new' → IsSame g table bytes bytes' old new old' new'
     one_item item bytes bytes' a b =
         let command : b.command ≡ a.command = one_command a.command b.command (without_cr item.line) a.item_is.spelled b.item_is.spelled in
-        one_step a.command item.body bytes bytes' a.step (subst (λ (c : Command). Step g (Some table) old' c item.body bytes' new') command b.step)
+        one_step a.command item.body bytes bytes' a.step (subst (λ (c : Command). Step g old' c item.body bytes' new') command b.step)
 
 -- ---- a transcript
 
 -- no fault is counted on the way
-parts : (g : Graph) (table : Table) (first last : State) (item : Item) (items : List Item) (bytes : List ℕ) (replies : List (List ℕ)) (mid : State)
-    → (a : AnswersItem commands (Step g (Some table)) first item bytes mid) → Transcript commands (Step g (Some table)) mid items replies last → CountsNone first last → CountsNone first mid × CountsNone mid last
-parts g table first last item items bytes replies mid a run none =
-    let step = counted g (Some table) first a.command item.body bytes mid a.step in
-    let rest = counts g (Some table) mid last items replies run in
+parts : (g : Graph) (first last : State) (item : Item) (items : List Item) (bytes : List ℕ) (replies : List (List ℕ)) (mid : State)
+    → (a : AnswersItem commands (Step g) first item bytes mid) → Transcript commands (Step g) mid items replies last → CountsNone first last → CountsNone first mid × CountsNone mid last
+parts g first last item items bytes replies mid a run none =
+    let step = counted g first a.command item.body bytes mid a.step in
+    let rest = counts g mid last items replies run in
     let tools = between first.tools.faults mid.tools.faults last.tools.faults _ _ step.starts rest.starts none.tools in
     let tree = between first.tree.faults mid.tree.faults last.tree.faults _ _ step.reads rest.reads none.tree in
     (record { tools = tools.0; tree = tree.0 }, record { tools = tools.1; tree = tree.1 })
 
 module _ (g : Graph) (table : Table) (files : Files) where
-  told_on : (first mid : State) (item : Item) (bytes : List ℕ) → AnswersItem commands (Step g (Some table)) first item bytes mid → first.tree.files ≡ Some files → mid.tree.files ≡ Some files
-  told_on first mid item bytes a told = let stays = step_tree g (Some table) first a.command item.body bytes mid a.step in stays.files ∙ told
+  told_on : (first mid : State) (item : Item) (bytes : List ℕ) → AnswersItem commands (Step g) first item bytes mid → IsToldBy table files first → IsToldBy table files mid
+  told_on first mid item bytes a told =
+      let stays = step_tree g first a.command item.body bytes mid a.step in
+      record { right = step_true g table first mid told.right a.command item.body bytes a.step; files_are = stays.files ∙ told.files_are }
 
   -- nothing is left to answer
-  ended : (first last first' last' : State) → first'.texts ≡ first.texts → last ≡ first → last' ≡ first' → AreSame g table [] [] [] first last first' last'
+  ended : (first last first' last' : State) → first'.held.sources ≡ first.held.sources → last ≡ first → last' ≡ first' → AreSame g table [] [] [] first last first' last'
   ended first last first' last' same run run' =
       subst (λ (z : State). AreSame g table [] [] [] first z first' last') (sym run)
       (subst (λ (z : State). AreSame g table [] [] [] first first first' z) (sym run')
-      (record { replies = AreSideBySide.at_end first first'; texts = same; tree = λ (e : first'.tree ≡ first.tree). e }))
+      (record { replies = AreSideBySide.at_end first first'; sources = same; tree = λ (e : first'.tree ≡ first.tree). e }))
 
-  once : (items : List Item) (one other : List (List ℕ)) (first last first' last' : State) → first'.texts ≡ first.texts → first.tree.files ≡ Some files → first'.tree.files ≡ Some files
-      → Transcript commands (Step g (Some table)) first items one last → Transcript commands (Step g (Some table)) first' items other last'
+  once : (items : List Item) (one other : List (List ℕ)) (first last first' last' : State) → first'.held.sources ≡ first.held.sources → IsToldBy table files first → IsToldBy table files first'
+      → Transcript commands (Step g) first items one last → Transcript commands (Step g) first' items other last'
       → CountsNone first last → CountsNone first' last' → AreSame g table items one other first last first' last'
   once [] [] [] first last first' last' same told told' run run' none none' = ended first last first' last' same run run'
   once [] (bytes ∷ one) other first last first' last' same told told' run run' none none' = absurd run
@@ -198,19 +221,19 @@ module _ (g : Graph) (table : Table) (files : Files) where
   once (item ∷ items) [] other first last first' last' same told told' run run' none none' = absurd run
   once (item ∷ items) (bytes ∷ one) [] first last first' last' same told told' run run' none none' = absurd run'
   once (item ∷ items) (bytes ∷ one) (bytes' ∷ other) first last first' last' same told told' run run' none none' =
-      let here = parts g table first last item items bytes one run.0 run.1 run.2 none in
-      let here' = parts g table first' last' item items bytes' other run'.0 run'.1 run'.2 none' in
+      let here = parts g first last item items bytes one run.0 run.1 run.2 none in
+      let here' = parts g first' last' item items bytes' other run'.0 run'.1 run'.2 none' in
       let step = one_item g table files first run.0 first' run'.0 same told told' here.0 here'.0 item bytes bytes' run.1 run'.1 in
-      let rest = once items one other run.0 last run'.0 last' step.texts (told_on first run.0 item bytes run.1 told) (told_on first' run'.0 item bytes' run'.1 told') run.2 run'.2 here.1 here'.1 in
+      let rest = once items one other run.0 last run'.0 last' step.sources (told_on first run.0 item bytes run.1 told) (told_on first' run'.0 item bytes' run'.1 told') run.2 run'.2 here.1 here'.1 in
       record {
-        replies = AreSideBySide.one_more item items bytes bytes' one other first run.0 first' run'.0 last last' run.1 run'.1 step.alike step.texts rest.replies;
-        texts = rest.texts;
+        replies = AreSideBySide.one_more item items bytes bytes' one other first run.0 first' run'.0 last last' run.1 run'.1 step.alike step.sources rest.replies;
+        sources = rest.sources;
         tree = λ (e : first'.tree ≡ first.tree). rest.tree (step.tree e);
       }
 
-pub one_transcript : (g : Graph) (table : Table) (files : Files) (items : List Item) (one other : List (List ℕ)) (first last first' last' : State) → first'.texts ≡ first.texts
-    → first.tree.files ≡ Some files → first'.tree.files ≡ Some files
-    → Transcript commands (Step g (Some table)) first items one last → CountsNone first last
-    → Transcript commands (Step g (Some table)) first' items other last' → CountsNone first' last' → AreSame g table items one other first last first' last'
+pub one_transcript : (g : Graph) (table : Table) (files : Files) (items : List Item) (one other : List (List ℕ)) (first last first' last' : State) → first'.held.sources ≡ first.held.sources
+    → IsToldBy table files first → IsToldBy table files first'
+    → Transcript commands (Step g) first items one last → CountsNone first last
+    → Transcript commands (Step g) first' items other last' → CountsNone first' last' → AreSame g table items one other first last first' last'
 one_transcript g table files items one other first last first' last' same told told' run none run' none' =
     once g table files items one other first last first' last' same told told' run run' none none'

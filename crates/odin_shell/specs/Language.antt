@@ -1,10 +1,9 @@
 -- The commands of a session, as the language of its input.
-use Rattle.std.specs.Prelude.{⊤, ℕ, Bool, false, cond, nat_le}
-use Rattle.meaning_texts.specs.Classes.{IsName}
+use Rattle.std.specs.Prelude.{ℕ, Bool, false, cond, nat_le}
 use Rattle.meaning_texts.specs.Limits.{body_limit}
 use Rattle.meaning_run.specs.Items.{Language}
 use Rattle.meaning_commands.specs.declared.commands.Command.{Command}
-use Rattle.meaning_commands.specs.declared.commands.Command.TheVariants.{Put, Take}
+use Rattle.meaning_commands.specs.declared.commands.Command.TheVariants.{Put}
 use Rattle.meaning_commands.specs.Commands.{Spells, takes, ends_run}
 
 -- The bytes behind a `put` are kept where they are a text. All others are passed over.
@@ -15,12 +14,6 @@ keeps_body other = false
 -- how many of so many bytes are kept
 abbrev pub kept_of : Command → ℕ → ℕ
 kept_of command count = cond (keeps_body command) count 0
-
--- The name of a source that a command may bring is one.
-abbrev pub BringsName : Command → Type 0
-BringsName (Put name count) = IsName name
-BringsName (Take name) = IsName name
-BringsName other = ⊤
 
 abbrev pub commands : Language Command
 commands = record {

@@ -1,9 +1,10 @@
 -- What holds of every input and of every session.
-use Rattle.std.specs.Prelude.{◌≡◌, ℕ, ◌+◌, ◌<◌, ◌≤◌, ◌⊎◌, min, List, [], ◌∷◌, bytes_eq, if◌then◌else◌, Option, Some}
+use Rattle.std.specs.Prelude.{◌≡◌, ℕ, ◌+◌, ◌<◌, ◌≤◌, ◌⊎◌, min, List, [], ◌∷◌, ◌++◌, length, bytes_eq, if◌then◌else◌, Option, Some}
 use Rattle.object_sources.specs.Texts.{Texts}
 use Rattle.odin_outside.specs.Causes.{last_count}
 use Rattle.odin_outside.specs.Files.{Files}
 use Rattle.odin_outside.specs.Spawned.{Table}
+use Rattle.disk_trails.specs.Trails.{after}
 use Rattle.meaning_graph.specs.Graphs.{Text, Graph}
 use Rattle.meaning_derive.specs.Given.{AreSources, table_outcomes}
 use Rattle.meaning_run.specs.Items.{Item, IsItem, OneCut}
@@ -11,21 +12,21 @@ use Rattle.meaning_run.specs.Machines.{AnswersItem, Transcript}
 use Rattle.meaning_answers.specs.Laws.{BothShowChains}
 use Rattle.meaning_commands.specs.declared.commands.Command.{Command}
 use Rattle.meaning_commands.specs.declared.replies.Reply.{Reply}
-use Rattle.meaning_commands.specs.declared.replies.Reply.TheVariants.{RefusedRead, RefusedToolStart}
+use Rattle.meaning_commands.specs.declared.replies.Reply.TheVariants.{Kept, RefusedRead, RefusedToolStart}
 use Rattle.meaning_commands.specs.Replies.{reply_text}
-use Rattle.odin_answers.specs.Laws.{SameCalls}
+use Rattle.odin_store.specs.Held.{Change}
+use Rattle.odin_store.specs.Keeping.{store_keeping}
+use Rattle.odin_answers.specs.Laws.{IsTrueFor}
 use Rattle.odin_shell.specs.Language.{commands}
-use Rattle.odin_shell.specs.Machine.{State, Step}
+use Rattle.odin_shell.specs.Machine.{State, Step, MayLeave}
 use Rattle.odin_shell.specs.declared.graph.Opened.{Opened}
 use Rattle.odin_shell.specs.Opened.{IsOpened}
+
+-- ---- inputs and graphs
 
 -- an input is cut in one way only into commands and less than a command
 abbrev pub InputIsCutOnce : Type 0
 InputIsCutOnce = OneCut commands
-
--- behind each command the sources are names with texts that are not too long
-abbrev pub SourcesStay : Type 0
-SourcesStay = (g : Graph) (table : Option Table) (old new : State) (item : Item) (command : Command) (reply : List ℕ) → AreSources old.texts → IsItem commands item command → Step g table old command item.body reply new → AreSources new.texts
 
 -- each file is opened: it is one of a checked graph, or is refused by a last line
 abbrev pub EachIsOpened : Type 0
@@ -35,19 +36,59 @@ EachIsOpened = (given : Option Text) → (o : Opened) × IsOpened given o
 abbrev pub OpenedIsOne : Type 0
 OpenedIsOne = (given : Option Text) (o p : Opened) → IsOpened given o → IsOpened given p → p ≡ o
 
+-- ---- what is held
+
+-- Behind each command, with its reply or without, the sources are names with texts that are not too long.
+pub record SourcesStay : Type 0 where
+  pub replied : (g : Graph) (old new : State) (item : Item) (command : Command) (reply : List ℕ)
+      → AreSources old.held.sources → IsItem commands item command
+      → Step g old command item.body reply new → AreSources new.held.sources
+  pub left : (g : Graph) (old furthest : State) (item : Item) (command : Command)
+      → AreSources old.held.sources → IsItem commands item command
+      → MayLeave g old command item.body furthest → AreSources furthest.held.sources
+
+-- These changes were made on the way, and what is held at its end is what they make of what was held before it.
+pub record IsMade (first last : State) : Type 0 where
+  pub made : List Change
+  pub list : last.changes ≡ first.changes ++ made
+  pub held : last.held ≡ after store_keeping made first.held
+
+-- What is held behind a transcript is what its changes made, and so is what a command without a reply leaves.
+pub record HeldIsMade : Type 0 where
+  pub replied : (g : Graph) (first last : State) (items : List Item) (replies : List (List ℕ))
+      → Transcript commands (Step g) first items replies last → IsMade first last
+  pub left : (g : Graph) (old furthest : State) (command : Command) (body : List ℕ)
+      → MayLeave g old command body furthest → IsMade old furthest
+
+-- Where the tools answer by a table what is kept stays what it gives, whatever is kept more.
+pub record KeptStaysTrue : Type 0 where
+  pub replied : (g : Graph) (table : Table) (first last : State) (items : List Item)
+      (replies : List (List ℕ)) → IsTrueFor table first.tools first.held.calls
+      → Transcript commands (Step g) first items replies last
+      → IsTrueFor table last.tools last.held.calls
+  pub left : (g : Graph) (table : Table) (old furthest : State) (command : Command)
+      (body : List ℕ) → IsTrueFor table old.tools old.held.calls
+      → MayLeave g old command body furthest → IsTrueFor table furthest.tools furthest.held.calls
+
+-- ---- replies that tell faults
+
 -- how many of these are the reply
 abbrev pub count_of : Reply → List (List ℕ) → ℕ
 count_of reply [] = 0
-count_of reply (bytes ∷ rest) = (if bytes_eq bytes (reply_text reply) then 1 else 0) + count_of reply rest
+count_of reply (bytes ∷ rest) =
+    (if bytes_eq bytes (reply_text reply) then 1 else 0) + count_of reply rest
 
 -- No more replies are these than the counts of faults rose, each a count that stands still at the end
 -- of its type.
 pub record FitsCounts (first last : State) (replies : List (List ℕ)) : Type 0 where
-  pub starts : min (first.tools.faults + count_of RefusedToolStart replies) last_count ≤ last.tools.faults
+  pub starts : min (first.tools.faults + count_of RefusedToolStart replies) last_count
+      ≤ last.tools.faults
   pub reads : min (first.tree.faults + count_of RefusedRead replies) last_count ≤ last.tree.faults
 
 abbrev pub RefusalsAreCounted : Type 0
-RefusalsAreCounted = (g : Graph) (table : Option Table) (first last : State) (items : List Item) (replies : List (List ℕ)) → Transcript commands (Step g table) first items replies last → FitsCounts first last replies
+RefusalsAreCounted =
+    (g : Graph) (first last : State) (items : List Item) (replies : List (List ℕ))
+    → Transcript commands (Step g) first items replies last → FitsCounts first last replies
 
 -- From the one count to the other no fault was counted. A count at its last number may hide one.
 pub record NoFault (first last : ℕ) : Type 0 where
@@ -59,6 +100,8 @@ pub record CountsNone (first last : State) : Type 0 where
   pub tools : NoFault first.tools.faults last.tools.faults
   pub tree : NoFault first.tree.faults last.tree.faults
 
+-- ---- transcripts of the same items
+
 -- Both replies show chains of the node of one text over these sources.
 pub record BothRefuse (g : Graph) (table : Table) (texts : Texts)
     (bytes others : List ℕ) : Type 0 where
@@ -69,15 +112,17 @@ pub record BothRefuse (g : Graph) (table : Table) (texts : Texts)
   pub others_are : others ≡ reply_text other
   pub chains : BothShowChains g texts (table_outcomes table) text reply other
 
--- The replies are the same, and so are the calls that were made.
-pub record SameReplies (bytes others : List ℕ) (old new old' new' : State) : Type 0 where
-  pub reply : others ≡ bytes
-  pub calls : SameCalls old.tools new.tools old'.tools new'.tools
+-- Both tell how many calls are kept.
+pub record BothCountKept (bytes others : List ℕ) (old old' : State) : Type 0 where
+  pub bytes_are : bytes ≡ reply_text (Kept (length old.held.calls))
+  pub others_are : others ≡ reply_text (Kept (length old'.held.calls))
 
--- The same item is answered alike, but for the choice of the chain that a refusal shows.
-abbrev pub AreAlike : Graph → Table → List ℕ → List ℕ → State → State → State → State → Type 0
-AreAlike g table bytes others old new old' new' =
-    SameReplies bytes others old new old' new' ⊎ BothRefuse g table old.texts bytes others
+-- The same item is answered alike: by the same reply, but for the number of kept calls, where it is asked for, and for the choice of the
+-- chain that a refusal shows.
+abbrev pub AreAlike : Graph → Table → List ℕ → List ℕ → State → State → Type 0
+AreAlike g table bytes others old old' =
+    (others ≡ bytes) ⊎ BothCountKept bytes others old old'
+    ⊎ BothRefuse g table old.held.sources bytes others
 
 -- Two transcripts of the same items, side by side: each item is answered alike, and the sources
 -- behind it are the same.
@@ -86,9 +131,9 @@ pub data AreSideBySide (g : Graph) (table : Table)
   at_end : (last last' : State) → AreSideBySide g table last last' [] [] [] last last'
   one_more : (item : Item) (items : List Item) (bytes others : List ℕ)
       (replies rest : List (List ℕ)) (old new old' new' last last' : State)
-      → AnswersItem commands (Step g (Some table)) old item bytes new
-      → AnswersItem commands (Step g (Some table)) old' item others new'
-      → AreAlike g table bytes others old new old' new' → new'.texts ≡ new.texts
+      → AnswersItem commands (Step g) old item bytes new
+      → AnswersItem commands (Step g) old' item others new'
+      → AreAlike g table bytes others old old' → new'.held.sources ≡ new.held.sources
       → AreSideBySide g table new new' items replies rest last last'
       → AreSideBySide g table old old' (item ∷ items) (bytes ∷ replies) (others ∷ rest) last last'
 
@@ -97,17 +142,21 @@ pub data AreSideBySide (g : Graph) (table : Table)
 pub record AreSame (g : Graph) (table : Table) (items : List Item) (one other : List (List ℕ))
     (first last first' last' : State) : Type 0 where
   pub replies : AreSideBySide g table first first' items one other last last'
-  pub texts : last'.texts ≡ last.texts
+  pub sources : last'.held.sources ≡ last.held.sources
   pub tree : first'.tree ≡ first.tree → last'.tree ≡ last.tree
 
--- Where a table and the files are told and no fault is counted, items have one transcript at most,
--- but for the choice of the chains that refusals show: what is replied, and what is called for it,
--- follows from them and from the sources at the start alone.
+-- Tools that answer by the table, true kept calls, and a tree of these files.
+pub record IsToldBy (table : Table) (files : Files) (first : State) : Type 0 where
+  pub right : IsTrueFor table first.tools first.held.calls
+  pub files_are : first.tree.files ≡ Some files
+
+-- Where a table and the files are told and no fault is counted, items have one transcript at most from the same sources, whatever is kept:
+-- so with nothing kept, too.
 abbrev pub TranscriptIsOne : Type 0
 TranscriptIsOne =
     (g : Graph) (table : Table) (files : Files) (items : List Item) (one other : List (List ℕ))
-    (first last first' last' : State) → first'.texts ≡ first.texts
-    → first.tree.files ≡ Some files → first'.tree.files ≡ Some files
-    → Transcript commands (Step g (Some table)) first items one last → CountsNone first last
-    → Transcript commands (Step g (Some table)) first' items other last' → CountsNone first' last'
+    (first last first' last' : State) → first'.held.sources ≡ first.held.sources
+    → IsToldBy table files first → IsToldBy table files first'
+    → Transcript commands (Step g) first items one last → CountsNone first last
+    → Transcript commands (Step g) first' items other last' → CountsNone first' last'
     → AreSame g table items one other first last first' last'

@@ -6,6 +6,9 @@ pub mod Opened
 pub mod Language
 pub mod Held
 pub mod Cuts
+pub mod Filed
 pub mod Machine
+pub mod Served
+pub mod Begun
 pub mod Sessions
 pub mod Laws

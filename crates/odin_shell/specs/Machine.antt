@@ -1,58 +1,82 @@
--- The machine of a session: what each command replies, what the outside does for it, and which sources come after it.
-use Rattle.std.specs.Prelude.{◌≡◌, ℕ, ◌≤◌, List, [], length, Option}
-use Rattle.object_sources.specs.Texts.{Texts, no_texts}
-use Rattle.odin_outside.specs.Spawned.{Table, Spawned}
+-- The machine of a session: what each command replies, what the outside does for it, and what is held after it.
+use Rattle.std.specs.Prelude.{◌≡◌, ◌⊎◌, ℕ, ◌≤◌, List, [], ◌∷◌, ◌++◌, length, Option, Some, None}
+use Rattle.odin_outside.specs.Disk.{IsQuiet}
+use Rattle.odin_outside.specs.Spawned.{Spawned}
+use Rattle.disk_trails.specs.Trails.{Trail, after}
+use Rattle.object_sources.specs.Texts.{Texts}
 use Rattle.meaning_graph.specs.Graphs.{Text, Graph}
+use Rattle.meaning_records.specs.Tables.{Calls}
 use Rattle.meaning_run.specs.Objects.{SinkTold}
 use Rattle.meaning_run.specs.Machines.{Machine, Halt, before_reply, within_reply, behind_reply}
 use Rattle.meaning_answers.specs.Answers as answers
+use Rattle.odin_journal.specs.Rest.{IsReady}
+use Rattle.odin_store.specs.Held.{Held, Change, puts, drops}
+use Rattle.odin_outside.specs.Files.{IsGiven}
+use Rattle.meaning_texts.specs.Limits.{body_limit}
+use Rattle.odin_store.specs.OnDisk.{held_in}
+use Rattle.odin_store.specs.Keeping.{store_keeping}
+use Rattle.odin_engine.specs.Engaged.{Engaged}
+use Rattle.kept_derive.specs.Runs.{keeps_of}
 use Rattle.odin_answers.specs.Answers.{IsReply, MayHaveBegun}
 use Rattle.meaning_commands.specs.declared.commands.Command.{Command}
 use Rattle.meaning_commands.specs.declared.commands.Command.TheVariants.{Put, Take, Remove, Ask, Plan, Sources, Kept, Quit, Nothing, Bad, BadName}
 use Rattle.meaning_commands.specs.declared.replies.Reply.{Reply}
 use Rattle.meaning_commands.specs.declared.replies.Reply.TheVariants as reply
 use Rattle.meaning_commands.specs.Replies.{reply_text}
-use Rattle.odin_shell.specs.declared.serve.Stop.{Stop}
-use Rattle.odin_shell.specs.declared.serve.Stop.TheVariants as stop
+use Rattle.odin_shell.specs.declared.stop.Stop.{Stop}
+use Rattle.odin_shell.specs.declared.stop.Stop.TheVariants as stop
+use Rattle.odin_shell.specs.Filed.{DiskMeaning, HasWritten, IsFull, IsSafe}
 use Rattle.source_edits.specs.Edits.{Says, TreeTold, TreeStays, IsAsked, Puts, Takes, Removes, source_lines}
+use Rattle.source_edits.specs.Changes.{edit_changes}
 
--- the sources, and what is told of the tools and of the tree
+-- What is held: the sources, and the calls that are kept; the changes since the start that made it so; and what is told of the tools and
+-- of the tree.
 pub record State : Type 0 where
-  pub texts : Texts
+  pub held : Held
+  pub changes : List Change
   pub tools : Spawned
   pub tree : TreeTold
 
-abbrev pub holding : Texts → Spawned → TreeTold → State
-holding texts tools tree = record { texts = texts; tools = tools; tree = tree }
+-- with no change yet
+abbrev pub at_first : Held → Spawned → TreeTold → State
+at_first held tools tree = record { held = held; changes = []; tools = tools; tree = tree }
 
--- no source, and the tools and the tree as they are told
-abbrev pub at_first : Spawned → TreeTold → State
-at_first tools tree = holding no_texts tools tree
-
--- what is told of the sink, of the tools and of the tree, and the disk itself
+-- What is told of the sink, of the tools and of the tree, and the disk itself. Where the session stopped at a batch that doesn't fit, the two
+-- numbers that tell it: where the records end, and how long it is.
 pub record Told (Disk : Type 0) : Type 0 where
   pub sink : SinkTold
   pub tools : Spawned
   pub tree : TreeTold
   pub disk : Disk
+  pub over : Option (ℕ × ℕ)
 
--- A reply of which this holds, and no other change than one of the sources.
-pub record Edits (P : Reply → Texts → Type 0) (old : State) (bytes : List ℕ) (new : State) : Type 0 where
-  pub says : Says (λ said. P said new.texts) bytes
+-- ---- commands
+
+-- These changes are made of what is held, and no others.
+pub record Makes (changes : List Change) (old new : State) : Type 0 where
+  pub held : new.held ≡ after store_keeping changes old.held
+  pub list : new.changes ≡ old.changes ++ changes
+
+-- A reply of which this holds, and no change but that of this source.
+pub record Edits (name : Text) (P : Reply → Texts → Type 0) (old : State) (bytes : List ℕ) (new : State) : Type 0 where
+  pub says : Says (λ said. P said new.held.sources) bytes
+  pub makes : Makes (edit_changes name old.held.sources new.held.sources) old new
   pub tools : new.tools ≡ old.tools
   pub tree : new.tree ≡ old.tree
 
 -- The tree is asked for a file.
 pub record EditsByFile (name : Text) (old : State) (bytes : List ℕ) (new : State) : Type 0 where
-  pub says : Says (λ said. Takes old.texts name old.tree said new.texts new.tree) bytes
+  pub says : Says (λ said. Takes old.held.sources name old.tree said new.held.sources new.tree) bytes
+  pub makes : Makes (edit_changes name old.held.sources new.held.sources) old new
   pub asked : IsAsked old.tree new.tree
   pub tools : new.tools ≡ old.tools
 
 -- The object of a text is answered as it is derived from the present sources with nothing kept; it may be refused where the count of the
--- tools' faults rose. Tools run only as its derivation calls them.
-pub record Asks (g : Graph) (table : Option Table) (text : Text) (old : State) (bytes : List ℕ) (new : State) : Type 0 where
-  pub says : Says (λ said. IsReply g table old.texts text said old.tools new.tools) bytes
-  pub texts : new.texts ≡ old.texts
+-- tools' faults rose. Tools run only as its derivation calls them, and each outcome is kept.
+pub record Asks (g : Graph) (text : Text) (old : State) (bytes : List ℕ) (new : State) : Type 0 where
+  pub given : Calls
+  pub says : Says (λ said. IsReply g old.held.sources old.held.calls text said given old.tools new.tools) bytes
+  pub makes : Makes (keeps_of given) old new
   pub tree : new.tree ≡ old.tree
 
 -- A reply of which this holds, and no change.
@@ -65,76 +89,109 @@ abbrev pub Replies : Reply → State → List ℕ → State → Type 0
 Replies said old bytes new = (bytes ≡ reply_text said) × (new ≡ old)
 
 -- From the old state the command with these bytes behind its line gets this reply, and the new state comes after it.
-abbrev pub Step : Graph → Option Table → State → Command → List ℕ → List ℕ → State → Type 0
-Step g table old (Put name count) body bytes new = Edits (Puts old.texts name count body) old bytes new
-Step g table old (Take name) body bytes new = EditsByFile name old bytes new
-Step g table old (Remove name) body bytes new = Edits (Removes old.texts name) old bytes new
-Step g table old (Ask text) body bytes new = Asks g table text old bytes new
-Step g table old (Plan text) body bytes new = Shows (answers.Plan g text) old bytes new
-Step g table old Sources body bytes new = Replies (reply.Sources (source_lines old.texts)) old bytes new
-Step g table old Kept body bytes new = Replies reply.RefusedCommand old bytes new
-Step g table old Quit body bytes new = Replies reply.Bye old bytes new
-Step g table old Nothing body bytes new = (bytes ≡ []) × (new ≡ old)
-Step g table old Bad body bytes new = Replies reply.RefusedCommand old bytes new
-Step g table old (BadName count) body bytes new = Replies reply.RefusedName old bytes new
+abbrev pub Step : Graph → State → Command → List ℕ → List ℕ → State → Type 0
+Step g old (Put name count) body bytes new = Edits name (Puts old.held.sources name count body) old bytes new
+Step g old (Take name) body bytes new = EditsByFile name old bytes new
+Step g old (Remove name) body bytes new = Edits name (Removes old.held.sources name) old bytes new
+Step g old (Ask text) body bytes new = Asks g text old bytes new
+Step g old (Plan text) body bytes new = Shows (answers.Plan g text) old bytes new
+Step g old Sources body bytes new = Replies (reply.Sources (source_lines old.held.sources)) old bytes new
+Step g old Kept body bytes new = Replies (reply.Kept (length old.held.calls)) old bytes new
+Step g old Quit body bytes new = Replies reply.Bye old bytes new
+Step g old Nothing body bytes new = (bytes ≡ []) × (new ≡ old)
+Step g old Bad body bytes new = Replies reply.RefusedCommand old bytes new
+Step g old (BadName count) body bytes new = Replies reply.RefusedName old bytes new
 
--- An `ask` may have begun its derivation.
-pub record MayHaveAsked (g : Graph) (table : Option Table) (text : Text) (old new : State) : Type 0 where
-  pub begun : MayHaveBegun g table old.texts text old.tools new.tools
-  pub texts : new.texts ≡ old.texts
-  pub tree : new.tree ≡ old.tree
+-- ---- commands without a reply
 
--- A `take` may have asked the tree.
-pub record MayHaveRead (old new : State) : Type 0 where
-  pub asked : IsAsked old.tree new.tree
-  pub texts : new.texts ≡ old.texts
+-- the change of a `put` without a reply, and of a `take`: with a text that isn't too long
+abbrev pub PutIsDue : Text → ℕ → Text → Change → Type 0
+PutIsDue name count body change = (count ≤ body_limit) × (change ≡ puts name body)
+
+abbrev pub TakeIsDue : Text → TreeTold → Change → Type 0
+TakeIsDue name tree change = (text : Text) × (length text ≤ body_limit) × IsGiven tree.files name (Some text) × (change ≡ puts name text)
+
+-- A change of which this holds was due, or none was.
+pub record MayEdit (IsDue : Change → Type 0) (old new : State) : Type 0 where
+  pub changes : List Change
+  pub due : (changes ≡ []) ⊎ ((change : Change) × IsDue change × (changes ≡ change ∷ []))
+  pub makes : Makes changes old new
   pub tools : new.tools ≡ old.tools
 
--- What a command without its reply may leave: of an `ask` its derivation, as far as it was begun, and of a `take` that the tree was asked; of
--- any other command nothing.
-abbrev pub MayLeave : Graph → Option Table → State → Command → State → Type 0
-MayLeave g table old (Ask text) new = MayHaveAsked g table text old new
-MayLeave g table old (Take name) new = MayHaveRead old new
-MayLeave g table old other new = new ≡ old
+-- An `ask` may have begun its derivation.
+pub record MayHaveAsked (g : Graph) (text : Text) (old new : State) : Type 0 where
+  pub given : Calls
+  pub begun : MayHaveBegun g old.held.sources old.held.calls text given old.tools new.tools
+  pub makes : Makes (keeps_of given) old new
+  pub tree : new.tree ≡ old.tree
+
+-- What a command without its reply may leave: of an edit its change; of an `ask` its derivation, as far as it was begun; of a `take` that the
+-- tree was asked; of any other command nothing.
+abbrev pub MayLeave : Graph → State → Command → List ℕ → State → Type 0
+MayLeave g old (Put name count) body new = MayEdit (PutIsDue name count body) old new × (new.tree ≡ old.tree)
+MayLeave g old (Take name) body new = MayEdit (TakeIsDue name old.tree) old new × IsAsked old.tree new.tree
+MayLeave g old (Remove name) body new = MayEdit (λ change. change ≡ drops name) old new × (new.tree ≡ old.tree)
+MayLeave g old (Ask text) body new = MayHaveAsked g text old new
+MayLeave g old other body new = new ≡ old
+
+-- ---- between two commands, and at an exit
 
 -- What stays of the tools: their answers; no count of faults falls, and at most one of them runs.
-pub record ToolsStay (table : Option Table) (start now : Spawned) : Type 0 where
-  pub answers : now.answer ≡ table
+pub record ToolsStay (start now : Spawned) : Type 0 where
+  pub answers : now.answer ≡ start.answer
   pub later : start.faults ≤ now.faults
   pub few : length now.running ≤ 1
 
--- Between two commands the code holds the sources, and tools and tree are told as in the state: no tool runs. The disk is as it was.
-pub record Belongs {Disk : Type 0} (table : Option Table) (start : Told Disk) (code : Texts) (state : State) (now : Told Disk) : Type 0 where
-  pub sources : code ≡ state.texts
-  pub tools : now.tools ≡ state.tools
-  pub tree : now.tree ≡ state.tree
-  pub stay : ToolsStay table start.tools now.tools
-  pub tree_stays : TreeStays start.tree now.tree
-  pub idle : now.tools.running ≡ []
-  pub disk : now.disk ≡ start.disk
+module _ {Disk : Type 0} (disk : DiskMeaning Disk) (g : Graph) (text : Text) where
+  -- Between two commands the store holds what the state does, and rests on its file; tools and tree are told as in the state, and no tool
+  -- runs. No fault of the disk was counted.
+  pub record Belongs (first : State) (start : Told Disk) (code : Engaged) (state : State) (now : Told Disk) : Type 0 where
+    pub graph : code.graph ≡ g
+    pub held : held_in code.store ≡ state.held
+    pub tools : now.tools ≡ state.tools
+    pub tree : now.tree ≡ state.tree
+    pub stay : ToolsStay start.tools now.tools
+    pub tree_stays : TreeStays start.tree now.tree
+    pub idle : now.tools.running ≡ []
+    pub ready : IsReady code.store.journal (disk.size now.disk)
+    pub faults : disk.faults now.disk ≡ disk.faults start.disk
+    pub trail : IsQuiet (disk.told start.disk) → Trail store_keeping first.held (disk.told start.disk) state.changes code.store (disk.told now.disk)
+    pub written : IsQuiet (disk.told start.disk) → HasWritten text state.changes (disk.told start.disk) code.store (disk.told now.disk)
+    pub within : now.over ≡ None
 
--- At an exit tools and tree have done what they did in the furthest state, and no more, and no fault is acknowledged that they have not
--- counted. Nothing is kept on the disk yet: it is as it was.
-pub record IsLeft {Disk : Type 0} (table : Option Table) (start : Told Disk) (acknowledged furthest : State) (now : Told Disk) : Type 0 where
-  pub tools : now.tools ≡ furthest.tools
-  pub tree : now.tree ≡ furthest.tree
-  pub counted : acknowledged.tools.faults ≤ now.tools.faults
-  pub tree_counted : acknowledged.tree.faults ≤ now.tree.faults
-  pub stay : ToolsStay table start.tools now.tools
-  pub tree_stays : TreeStays start.tree now.tree
-  pub disk : now.disk ≡ start.disk
+  -- At an exit tools and tree have done what they did in the furthest state, and no more, and no fault is acknowledged that they have not
+  -- counted. All changes that are acknowledged are in every image that a crash may leave.
+  pub record IsLeft (first : State) (start : Told Disk) (acknowledged furthest : State) (now : Told Disk) : Type 0 where
+    pub tools : now.tools ≡ furthest.tools
+    pub tree : now.tree ≡ furthest.tree
+    pub counted : acknowledged.tools.faults ≤ now.tools.faults
+    pub tree_counted : acknowledged.tree.faults ≤ now.tree.faults
+    pub stay : ToolsStay start.tools now.tools
+    pub tree_stays : TreeStays start.tree now.tree
+    pub safe : IsSafe text first.held acknowledged.changes furthest.changes (disk.told start.disk) (disk.told now.disk) (disk.faults start.disk) (disk.faults now.disk)
+    pub full : (at size : ℕ) → now.over ≡ Some (at, size) → IsFull text furthest.changes (disk.told start.disk) (disk.told now.disk) at size
 
-abbrev pub machine : {Disk : Type 0} → Graph → Option Table → Machine Command Texts State (Told Disk)
-machine g table = record {
-  sink = λ told. told.sink;
-  Step = Step g table;
-  MayLeave = λ state command body furthest. MayLeave g table state command furthest;
-  Invariant = λ first start code state now. Belongs table start code state now;
-  AtExit = λ first start acknowledged furthest now. IsLeft table start acknowledged furthest now;
-}
+  abbrev pub machine : Machine Command Engaged State (Told Disk)
+  machine = record {
+    sink = λ told. told.sink;
+    Step = Step g;
+    MayLeave = λ state command body furthest. MayLeave g state command body furthest;
+    Invariant = λ first start code state now. Belongs first start code state now;
+    AtExit = λ first start acknowledged furthest now. IsLeft first start acknowledged furthest now;
+  }
 
 -- where a session may stop at a command
 abbrev pub halt_of : Stop → Halt
 halt_of stop.Memory = before_reply
+halt_of stop.Disk = before_reply
+halt_of (stop.Full at size) = before_reply
 halt_of stop.Output = within_reply
 halt_of stop.Quit = behind_reply
+
+-- what is told where it stops: the numbers of a batch that doesn't fit
+abbrev pub over_of : Stop → Option (ℕ × ℕ)
+over_of (stop.Full at size) = Some (at, size)
+over_of other = None
+
+abbrev pub stopped : {Disk : Type 0} → Stop → Told Disk → Told Disk
+stopped s told = record told { over = over_of s }

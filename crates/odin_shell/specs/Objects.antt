@@ -1,9 +1,10 @@
 -- The objects of the outside that a run works on, and what they tell.
-use Rattle.std.specs.Prelude.{ℕ, List, Option}
+use Rattle.std.specs.Prelude.{ℕ, List, Option, None}
 use Rattle.odin_outside.specs.Files.{Files}
 use Rattle.odin_outside.specs.Spawned.{Spawned}
 use Rattle.meaning_run.specs.Objects.{SinkTold}
 use Rattle.source_edits.specs.Edits.{tree_of}
+use Rattle.odin_shell.specs.Filed.{DiskMeaning}
 use Rattle.odin_shell.specs.Machine.{Told}
 
 -- what is left of an input, where it tells that, and the count of its faults
@@ -24,6 +25,7 @@ told_of taken faults files tree_faults reads told output tree tools disk = recor
   tools = told tools;
   tree = tree_of files tree_faults reads tree;
   disk = disk;
+  over = None;
 }
 
 -- all the objects, at one moment
@@ -38,7 +40,7 @@ abbrev pub outside : {I O T S D : Type 0} → I → O → T → S → D → Outs
 outside input output tree tools disk = record { input = input; output = output; tree = tree; tools = tools; disk = disk }
 
 -- what each of them tells
-pub record Meaning (I O T S : Type 0) : Type 0 where
+pub record Meaning (I O T S D : Type 0) : Type 1 where
   pub left : I → Option (List ℕ)
   pub input_faults : I → ℕ
   pub taken : O → Option (List ℕ)
@@ -47,9 +49,10 @@ pub record Meaning (I O T S : Type 0) : Type 0 where
   pub tree_faults : T → ℕ
   pub reads : T → ℕ
   pub spawned : S → Spawned
+  pub disk : DiskMeaning D
 
-abbrev pub meaning : {I O T S : Type 0} → (I → Option (List ℕ)) → (I → ℕ) → (O → Option (List ℕ)) → (O → ℕ) → (T → Option Files) → (T → ℕ) → (T → ℕ) → (S → Spawned) → Meaning I O T S
-meaning left input_faults taken output_faults files tree_faults reads spawned = record {
+abbrev pub meaning : {I O T S D : Type 0} → (I → Option (List ℕ)) → (I → ℕ) → (O → Option (List ℕ)) → (O → ℕ) → (T → Option Files) → (T → ℕ) → (T → ℕ) → (S → Spawned) → DiskMeaning D → Meaning I O T S D
+meaning left input_faults taken output_faults files tree_faults reads spawned disk = record {
   left = left;
   input_faults = input_faults;
   taken = taken;
@@ -58,4 +61,5 @@ meaning left input_faults taken output_faults files tree_faults reads spawned = 
   tree_faults = tree_faults;
   reads = reads;
   spawned = spawned;
+  disk = disk;
 }

@@ -34,11 +34,16 @@ fault_line (Syntax line column) = with_lf (codes "graph: line " ++ decimal line 
 fault_line (Check line fault) = at_line line (fault_words fault)
 fault_line Memory = []
 
+abbrev pub not_ours_line : ℕ → Text
+not_ours_line at = with_lf (codes "store: not ours at " ++ decimal at)
+
+abbrev pub full_line : ℕ → ℕ → Text
+full_line at size = with_lf (codes "store: full " ++ decimal at ++ codes " " ++ decimal size)
+
 -- ---- graphs
 
--- The file is one of a checked graph.
-pub record ReadsAs (given : Option Text) (g : Graph) : Type 0 where
-  pub text : Text
+-- The file has this text, which is one of a checked graph.
+pub record ReadsAs (given : Option Text) (text : Text) (g : Graph) : Type 0 where
   pub there : given ≡ Some text
   pub read : IsRead text g
 
@@ -48,7 +53,7 @@ pub data IsRefused : Option Text → Text → Type 0 where
   not_read : (text : Text) (fault : ReadFault) → fault ≢ Memory → Refuses text fault → IsRefused (Some text) (fault_line fault)
 
 abbrev pub IsOpened : Option Text → Opened → Type 0
-IsOpened given (opened.Ready g) = ReadsAs given g
+IsOpened given (opened.Ready text g) = ReadsAs given text g
 IsOpened given (opened.Refused line) = IsRefused given line
 
 -- what the tree gives of the file of this name is opened so

@@ -1,21 +1,28 @@
--- How a run ends: what it has read and written by then, what its tools and the tree did, and which count of faults rose.
+-- How a run ends: what it has read and written by then, what its tools and the tree did, what its file has, and which count of faults rose.
 --
--- A run works in three parts, one after another: its words, the graph in the file that they name, and the session over that graph. Each way
--- to end is a constructor of `EndsAs`, or a case of `SessionLeaves`, which `EndsAs` has in it.
-use Rattle.std.specs.Prelude.{◌≡◌, ◌≢◌, ⊤, ℕ, ◌<◌, ◌≤◌, List, [], length, take, Option, Some, IfSome, ◌⊎◌}
+-- A run works in four parts, one after another: its words, the graph in the file that they name, the store, and the session over them. Each
+-- way to end is a constructor of `EndsAs`, or a case of `SessionLeaves`, which `EndsAs` has in it.
+use Rattle.std.specs.Prelude.{◌≡◌, ◌≢◌, ⊤, ℕ, ◌<◌, ◌≤◌, ◌⊎◌, List, [], length, take, Option, Some, None, IfSome}
 use Rattle.odin_outside.specs.Causes.{IsCounted}
+use Rattle.odin_outside.specs.Disk.{Telling}
 use Rattle.odin_outside.specs.Files.{IsGiven}
+use Rattle.odin_journal.specs.Faults.{IsCauseOf}
+use Rattle.odin_journal.specs.declared.fault.JournalFault.{JournalFault}
+use Rattle.odin_journal.specs.declared.fault.JournalFault.TheVariants as fault
 use Rattle.meaning_graph.specs.Graphs.{Text, Graph}
 use Rattle.meaning_run.specs.Objects.{SinkTold, took, TookPart}
 use Rattle.meaning_run.specs.Items.{EndsInside, SaysEnd}
 use Rattle.meaning_run.specs.Endings.{input_limit, HasRead, EndsWhole, EndsCutShort, EndsUnread, EndsAtLimit, EndsBeforeReply, EndsWithinReply, EndsAtWord}
+use Rattle.odin_store.specs.Held.{Held}
+use Rattle.odin_store.specs.Opening as store
 use Rattle.odin_shell.specs.declared.ending.Ending.{Ending}
-use Rattle.odin_shell.specs.declared.ending.Ending.TheVariants.{Whole, CutShort, BadGraph, Memory, Output, Input, Usage, TooLong}
+use Rattle.odin_shell.specs.declared.ending.Ending.TheVariants.{Whole, CutShort, BadGraph, Disk, Memory, Output, Input, NotOurs, Full, Usage, TooLong}
 use Rattle.odin_shell.specs.Endings.{status_of}
 use Rattle.odin_words.specs.Asked.{AsksFor, IsNotAccepted}
 use Rattle.odin_shell.specs.Words.{usage_line}
-use Rattle.odin_shell.specs.Opened.{ReadsAs, IsRefused}
+use Rattle.odin_shell.specs.Opened.{ReadsAs, IsRefused, not_ours_line, full_line}
 use Rattle.odin_shell.specs.Language.{commands}
+use Rattle.odin_shell.specs.Filed.{DiskMeaning, StartsFrom}
 use Rattle.source_edits.specs.Edits.{TreeTold, IsAsked, tree_of}
 use Rattle.odin_shell.specs.Machine.{at_first, Told, machine}
 use Rattle.odin_shell.specs.Objects.{SourceTold, source_of, sink_of, Outside, Meaning}
@@ -29,29 +36,56 @@ pub data LastLine (line : Text) (due : Ending) (before now : SinkTold) : Ending 
 
 -- ---- a session
 
--- What a session over a graph has read of its input and written, from no sources at the start, and what its tools and the tree did, by the
--- way it ended. Its input was read to the end, or up to the command that ends the run.
-abbrev pub SessionLeaves : {Disk : Type 0} → Graph → Ending → Option (List ℕ) → Option (List ℕ) → Told Disk → Told Disk → Type 0
-SessionLeaves g Whole input left start now =
-    HasRead (EndsWhole commands (machine g start.tools.answer) (at_first start.tools start.tree) start now) input left
-    ⊎ HasRead (EndsAtWord commands (machine g start.tools.answer) (at_first start.tools start.tree) start now) input left
-SessionLeaves g CutShort input left start now = HasRead (EndsCutShort commands (machine g start.tools.answer) (at_first start.tools start.tree) start now) input left
-SessionLeaves g Memory input left start now = HasRead (EndsBeforeReply commands (machine g start.tools.answer) (at_first start.tools start.tree) start now) input left
-SessionLeaves g Output input left start now = HasRead (EndsWithinReply commands (machine g start.tools.answer) (at_first start.tools start.tree) start now) input left
-SessionLeaves g Input input left start now = HasRead (EndsUnread commands (machine g start.tools.answer) (at_first start.tools start.tree) start now) input left
-SessionLeaves g TooLong input left start now = HasRead (EndsAtLimit commands (machine g start.tools.answer) (at_first start.tools start.tree) start now) input left
-SessionLeaves g other input left start now = ⊥
+-- What a session has read of its input and written, from what its file stood for at the start, what its tools and the tree did, and what
+-- its file has, by the way it ended. At 0 its input was read to the end, or up to the command that ends the run.
+abbrev pub SessionLeaves : {D : Type 0} → DiskMeaning D → Graph → Text → Held → Ending → Option (List ℕ) → Option (List ℕ) → Told D → Told D → Type 0
+SessionLeaves disk g text held Whole input left start now =
+    HasRead (EndsWhole commands (machine disk g text) (at_first held start.tools start.tree) start now) input left
+    ⊎ HasRead (EndsAtWord commands (machine disk g text) (at_first held start.tools start.tree) start now) input left
+SessionLeaves disk g text held CutShort input left start now = HasRead (EndsCutShort commands (machine disk g text) (at_first held start.tools start.tree) start now) input left
+SessionLeaves disk g text held Disk input left start now = HasRead (EndsBeforeReply commands (machine disk g text) (at_first held start.tools start.tree) start now) input left
+SessionLeaves disk g text held Memory input left start now = HasRead (EndsBeforeReply commands (machine disk g text) (at_first held start.tools start.tree) start now) input left
+SessionLeaves disk g text held Output input left start now = HasRead (EndsWithinReply commands (machine disk g text) (at_first held start.tools start.tree) start now) input left
+SessionLeaves disk g text held Input input left start now = HasRead (EndsUnread commands (machine disk g text) (at_first held start.tools start.tree) start now) input left
+SessionLeaves disk g text held (Full at size) input left start now =
+    HasRead (EndsBeforeReply commands (machine disk g text) (at_first held start.tools start.tree) start (record now { over = Some (at, size) })) input left
+SessionLeaves disk g text held TooLong input left start now = HasRead (EndsAtLimit commands (machine disk g text) (at_first held start.tools start.tree) start now) input left
+SessionLeaves disk g text held other input left start now = ⊥
 
 -- the count of the input's faults rises at this ending alone
 abbrev pub InputCount : Ending → ℕ → ℕ → Type 0
 InputCount Input before now = IsCounted before now
 InputCount other before now = now ≡ before
 
--- A session over a graph ended so.
-pub record SessionEnds {Disk : Type 0} (g : Graph) (input left : SourceTold) (start now : Told Disk) (ending : Ending) : Type 0 where
-  pub leaves : SessionLeaves g ending input.left left.left start now
+-- and that of the disk's at this
+abbrev pub DiskCount : Ending → ℕ → ℕ → Type 0
+DiskCount Disk before now = IsCounted before now
+DiskCount other before now = now ≡ before
+
+-- A session over a graph ended so, from what its file stood for.
+pub record SessionEnds {D : Type 0} (disk : DiskMeaning D) (g : Graph) (text : Text) (input left : SourceTold) (start now : Told D) (ending : Ending) : Type 0 where
+  pub held : Held
+  pub starts : StartsFrom (disk.told start.disk) held
+  pub leaves : SessionLeaves disk g text held ending input.left left.left start now
   pub read : InputCount ending input.faults left.faults
+  pub counted : DiskCount ending (disk.faults start.disk) (disk.faults now.disk)
   pub idle : ending ≢ Memory → now.tools.running ≡ []
+
+-- A last line where this ending is due, or want of memory before it.
+abbrev pub Says : Text → Ending → SinkTold → SinkTold → Ending → Type 0
+Says line due before now ending = LastLine line due before now ending ⊎ ((now ≡ before) × (ending ≡ Memory))
+
+-- What a session leaves to be written: its last line, where the file is full.
+abbrev pub Closes : Ending → SinkTold → SinkTold → Ending → Type 0
+Closes (Full at size) before now ending = Says (full_line at size) (Full at size) before now ending
+Closes due before now ending = (now ≡ before) × (ending ≡ due)
+
+-- What is written where the store was not opened for this fault.
+abbrev pub ClosesFor : JournalFault → SinkTold → SinkTold → Ending → Type 0
+ClosesFor fault.Disk before now ending = (now ≡ before) × (ending ≡ Disk)
+ClosesFor (fault.NotOurs at) before now ending = Says (not_ours_line at) (NotOurs at) before now ending
+ClosesFor (fault.Full at size) before now ending = Says (full_line at size) (Full at size) before now ending
+ClosesFor fault.Memory before now ending = (now ≡ before) × (ending ≡ Memory)
 
 -- ---- what every way to end says
 
@@ -72,27 +106,49 @@ abbrev pub OutputCount : Ending → ℕ → ℕ → Type 0
 OutputCount Output before now = IsCounted before now
 OutputCount other before now = now ≡ before
 
+-- ---- a store, and the session over it
+
+module _ {I O T S D : Type 0} (m : Meaning I O T S D) where
+  abbrev pub source : Outside I O T S D → SourceTold
+  source o = source_of m.left m.input_faults o.input
+
+  abbrev pub sink : Outside I O T S D → SinkTold
+  sink o = sink_of m.taken m.output_faults o.output
+
+  abbrev pub tree : Outside I O T S D → TreeTold
+  tree o = tree_of m.files m.tree_faults m.reads o.tree
+
+  abbrev pub disk : Outside I O T S D → Telling
+  disk o = m.disk.told o.disk
+
+  -- what is told of the objects of a session
+  abbrev pub told : Outside I O T S D → Told D
+  told o = record { sink = sink o; tools = m.spawned o.tools; tree = tree o; disk = o.disk; over = None }
+
+  -- The store was not opened for this fault: a crash leaves what the file stood for.
+  pub record IsUnopened (text : Text) (before after : Outside I O T S D) (fault : JournalFault) : Type 0 where
+    pub refused : store.IsOpenFault text (disk before) (disk after) fault
+    pub crash : store.LeavesHeld (disk before) (disk after)
+    pub later : m.disk.faults before.disk ≤ m.disk.faults after.disk
+    pub cause : IsCauseOf (m.disk.faults before.disk) (m.disk.faults after.disk) fault
+
+  -- Each way to end over the text of a graph.
+  pub data StoreEnds (text : Text) (g : Graph) (before after : Outside I O T S D) (ending : Ending) : Type 0 where
+    -- the store was not opened, and nothing else was done but that its last line was written
+    unopened : (fault : JournalFault) → IsUnopened text before after fault → ClosesFor fault (sink before) (sink after) ending
+        → after ≡ record before { output = after.output; disk = after.disk } → StoreEnds text g before after ending
+    -- a session was served over the graph and what the file stood for
+    served : (due : Ending) (written : SinkTold) → SessionEnds m.disk g text (source before) (source after) (told before) (record (told after) { sink = written }) due
+        → Closes due written (sink after) ending → StoreEnds text g before after ending
+
 -- ---- a run
 
-module _ {I O T S D : Type 0} (m : Meaning I O T S) (words : List Text) (before after : Outside I O T S D) where
+module _ {I O T S D : Type 0} (m : Meaning I O T S D) (words : List Text) (before after : Outside I O T S D) where
   abbrev InputRose : Type 0
   InputRose = IsCounted (m.input_faults before.input) (m.input_faults after.input)
 
   abbrev InputStayed : Type 0
   InputStayed = m.input_faults after.input ≡ m.input_faults before.input
-
-  abbrev source : Outside I O T S D → SourceTold
-  source o = source_of m.left m.input_faults o.input
-
-  abbrev sink : Outside I O T S D → SinkTold
-  sink o = sink_of m.taken m.output_faults o.output
-
-  abbrev tree : Outside I O T S D → TreeTold
-  tree o = tree_of m.files m.tree_faults m.reads o.tree
-
-  -- what is told of the objects of a session, and of the tree this
-  abbrev told_with : TreeTold → Outside I O T S D → Told D
-  told_with opened o = record { sink = sink o; tools = m.spawned o.tools; tree = opened; disk = o.disk }
 
   -- ---- what the tree told behind the reading of the graph
 
@@ -107,7 +163,7 @@ module _ {I O T S D : Type 0} (m : Meaning I O T S) (words : List Text) (before 
     pub name : Text
     pub jobs : ℕ
     pub named : AsksFor words name jobs
-    pub asked : IsAsked (tree before) opened
+    pub asked : IsAsked (tree m before) opened
 
   -- The tree gave this of the file.
   pub record Gives (opened : TreeTold) (given : Option Text) : Type 0 where
@@ -115,22 +171,28 @@ module _ {I O T S D : Type 0} (m : Meaning I O T S) (words : List Text) (before 
     pub is : IsGiven (m.files before.tree) asks.name given
     pub unfailed : GraphStayed opened
 
+  -- The tree gave the text of a checked graph.
+  pub record GivesGraph (opened : TreeTold) (text : Text) (g : Graph) : Type 0 where
+    pub given : Option Text
+    pub gives : Gives opened given
+    pub reads : ReadsAs given text g
+
   -- Each way to end, from what the tree told behind the reading of the graph. What isn't named in `after ≡ ..` is as it was.
   pub data EndsAs (opened : TreeTold) (ending : Ending) : Type 0 where
     -- the words are refused, by the usage line
-    words_refused : IsNotAccepted words → LastLine usage_line Usage (sink before) (sink after) ending → opened ≡ tree before → after ≡ record before { output = after.output } → EndsAs opened ending
+    words_refused : IsNotAccepted words → LastLine usage_line Usage (sink m before) (sink m after) ending → opened ≡ tree m before → after ≡ record before { output = after.output } → EndsAs opened ending
     -- memory was wanted while the words were read
-    words_unread : ending ≡ Memory → opened ≡ tree before → after ≡ before → EndsAs opened ending
+    words_unread : ending ≡ Memory → opened ≡ tree m before → after ≡ before → EndsAs opened ending
     -- the tree failed
-    tree_failed : ending ≡ Input → AsksOnce opened → GraphRose opened → opened ≡ tree after → after ≡ record before { tree = after.tree } → EndsAs opened ending
+    tree_failed : ending ≡ Input → AsksOnce opened → GraphRose opened → opened ≡ tree m after → after ≡ record before { tree = after.tree } → EndsAs opened ending
     -- memory was wanted before the graph was read
-    graph_unread : ending ≡ Memory → AsksOnce opened → GraphStayed opened → opened ≡ tree after → after ≡ record before { tree = after.tree } → EndsAs opened ending
+    graph_unread : ending ≡ Memory → AsksOnce opened → GraphStayed opened → opened ≡ tree m after → after ≡ record before { tree = after.tree } → EndsAs opened ending
     -- the file is refused, by this line
-    graph_refused : (given : Option Text) (line : Text) → Gives opened given → IsRefused given line → LastLine line BadGraph (sink before) (sink after) ending
-        → opened ≡ tree after → after ≡ record before { output = after.output; tree = after.tree } → EndsAs opened ending
-    -- the file is one of this graph, over which a session was served
-    served : (given : Option Text) (g : Graph) → Gives opened given → ReadsAs given g
-        → SessionEnds g (source before) (source after) (told_with opened before) (told_with (tree after) after) ending → EndsAs opened ending
+    graph_refused : (given : Option Text) (line : Text) → Gives opened given → IsRefused given line → LastLine line BadGraph (sink m before) (sink m after) ending
+        → opened ≡ tree m after → after ≡ record before { output = after.output; tree = after.tree } → EndsAs opened ending
+    -- the file is one of this graph, and the run ended over it
+    graph_read : (text : Text) (g : Graph) (mid : Outside I O T S D) → GivesGraph opened text g → mid ≡ record before { tree = mid.tree } → opened ≡ tree m mid
+        → StoreEnds m text g mid after ending → EndsAs opened ending
 
   -- the input's count rose, or the tree's while the graph was read; and neither at any other ending
   abbrev pub ReadCounts : TreeTold → Ending → Type 0
@@ -150,3 +212,4 @@ module _ {I O T S D : Type 0} (m : Meaning I O T S) (words : List Text) (before 
     pub exact : IfSome (m.left before.input) (AllowedBy ending)
     pub output : OutputCount ending (m.output_faults before.output) (m.output_faults after.output)
     pub reads : ReadCounts ended.opened ending
+    pub disk : DiskCount ending (m.disk.faults before.disk) (m.disk.faults after.disk)

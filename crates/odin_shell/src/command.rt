@@ -1,4 +1,4 @@
-// Which bytes behind its line a command keeps, and the source that it may bring.
+// Which bytes behind its line a command keeps.
 ghost use Rattle.std.specs.Prelude.{◌≡◌};
 ghost use Rattle.odin_shell.specs.Language as language;
 
@@ -12,17 +12,5 @@ pub(crate) fn keeps_body(command: &Command) -> bool
     match command {
         Command::Put(_, count) => *count <= TEXT_LIMIT,
         _ => false,
-    }
-}
-
-/// The name of a source that the command may bring is one.
-pub(crate) fn brings_name(command: &Command)
-    ensures { language.BringsName command.now }
-{
-    match command {
-        Command::Put(name, _) | Command::Take(name) => {
-            let _ = name.as_slice();
-        }
-        _ => {}
     }
 }

@@ -8,9 +8,14 @@ pub(crate) enum Ending {
     Whole,
     CutShort,
     BadGraph,
+    Disk,
     Memory,
     Output,
     Input,
+    /// The offset at which the file is not a store's.
+    NotOurs(u64),
+    /// Where the records of the file end, and the length of the batch that doesn't fit behind them.
+    Full(u64, u64),
     Usage,
     TooLong,
 }
@@ -23,9 +28,12 @@ impl Ending {
             Ending::Whole => 0,
             Ending::CutShort => 1,
             Ending::BadGraph => 2,
+            Ending::Disk => 3,
             Ending::Memory => 4,
             Ending::Output => 5,
             Ending::Input => 6,
+            Ending::NotOurs(_) => 7,
+            Ending::Full(_, _) => 8,
             Ending::Usage => 9,
             Ending::TooLong => 10,
         }

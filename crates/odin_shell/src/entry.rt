@@ -1,17 +1,20 @@
-// The entry of the program: its words, its graph, its session and its status.
+// The entry of the program: its words, its graph, its store, its session and its status.
 ghost use Rattle.std.specs.Prelude.{◌≡◌, ◌≢◌, [], map, string_bytes};
-ghost use Rattle.meaning_graph_text.specs.Grammar.{IsSpellable};
-ghost use Rattle.odin_shell.specs.Objects.{sink_of, source_of, told_of, outside, meaning};
+ghost use Rattle.dg_reader.specs.Files.{IsRead};
+ghost use Rattle.odin_shell.specs.Filed.{disk_meaning};
+ghost use Rattle.odin_shell.specs.Objects.{sink_of, outside, meaning};
 ghost use Rattle.source_edits.specs.Edits.{TreeStays, tree_of};
 ghost use Rattle.odin_shell.specs.Machine.{ToolsStay};
-ghost use Rattle.odin_shell.specs.Run.{LastLine, SessionEnds, Ended, RunEnds};
+ghost use Rattle.odin_shell.specs.Run.{Closes, ClosesFor, LastLine, StoreEnds, Ended, RunEnds};
 
-use crate::deriver::Deriver;
 use crate::ending::Ending;
 use crate::graph::{OpenFault, Opened, open_graph};
 use crate::input::serve_input;
+use crate::lines::{line_full, line_not_ours};
 use crate::write::write_whole;
+use odin_engine::{Engine, StoreFault};
 use odin_outside::{Disk, Sink, Source, Spawner, Tree};
+use odin_store::laws::keeps_changes;
 use odin_words::read_words;
 use std::alloc::Global;
 use type_graph::Graph;
@@ -29,9 +32,40 @@ fn end_with<O: Sink>(output: &mut O, line: &[u8], due: Ending) -> Ending
     }
 }
 
-/// Serves the commands of the input over a graph.
-fn serve_graph<I: Source, O: Sink, T: Tree, S: Spawner, D: Disk>(
+/// Ends a session, by the last line of a file that is full.
+fn close<O: Sink>(alloc: Global, output: &mut O, due: Ending) -> Ending
+    ensures { let sink = sink_of O.taken O.faults in
+        Closes due (sink output.old) (sink output.new) result }
+{
+    match due {
+        Ending::Full(at, size) => match line_full(alloc, at, size) {
+            Ok(line) => end_with(output, line.as_slice(), due),
+            Err(_) => Ending::Memory,
+        },
+        other => other,
+    }
+}
+
+/// Ends a run whose store was not opened.
+fn end_unopened<O: Sink>(alloc: Global, output: &mut O, fault: StoreFault) -> Ending
+    ensures { let sink = sink_of O.taken O.faults in
+        ClosesFor fault (sink output.old) (sink output.new) result }
+{
+    match fault {
+        StoreFault::Disk => Ending::Disk,
+        StoreFault::NotOurs(at) => match line_not_ours(alloc, at) {
+            Ok(line) => end_with(output, line.as_slice(), Ending::NotOurs(at)),
+            Err(_) => Ending::Memory,
+        },
+        StoreFault::Full(at, size) => close(alloc, output, Ending::Full(at, size)),
+        StoreFault::Memory => Ending::Memory,
+    }
+}
+
+/// Opens the store, and serves the commands of the input over it.
+fn serve_store<I: Source, O: Sink, T: Tree, S: Spawner, D: Disk>(
     alloc: Global,
+    text: &[u8],
     graph: Graph,
     input: &mut I,
     output: &mut O,
@@ -39,21 +73,25 @@ fn serve_graph<I: Source, O: Sink, T: Tree, S: Spawner, D: Disk>(
     tools: &mut S,
     disk: &mut D,
 ) -> Ending
-    requires spellable { IsSpellable graph }
+    requires read { IsRead text.now graph }
     requires idle { (S.told tools.old).running ≡ [] }
-    ensures { let source = source_of I.left I.faults in
-        let told = told_of O.taken O.faults T.files T.faults T.reads S.told in
-        let before = told output.old tree.old tools.old disk.old in
-        let after = told output.new tree.new tools.new disk.new in
-        SessionEnds graph (source input.old) (source input.new) before after result }
+    ensures { let on = disk_meaning D.told D.size_of D.faults in let means =
+        meaning I.left I.faults O.taken O.faults T.files T.faults T.reads S.told on in
+        let before = outside input.old output.old tree.old tools.old disk.old in
+        let after = outside input.new output.new tree.new tools.new disk.new in
+        StoreEnds means text.now graph before after result }
 {
-    match Deriver::new(alloc, graph) {
-        Ok(deriver) => serve_input(alloc, &deriver, input, output, tree, tools, disk),
-        Err(_) => Ending::Memory,
+    keeps_changes::<D>();
+    match Engine::open(alloc, disk, graph, text, 1) {
+        Ok(engine) => {
+            let due = serve_input(alloc, engine, input, output, tree, tools, disk);
+            close(alloc, output, due)
+        }
+        Err(fault) => end_unopened(alloc, output, fault),
     }
 }
 
-/// Reads the words and the graph, and serves the commands of the input.
+/// Reads the words and the graph, opens the store, and serves the commands of the input.
 fn run_words<I: Source, O: Sink, T: Tree, D: Disk, S: Spawner>(
     alloc: Global,
     words: &[String],
@@ -64,8 +102,8 @@ fn run_words<I: Source, O: Sink, T: Tree, D: Disk, S: Spawner>(
     tools: &mut S,
 ) -> Ending
     requires { (S.told tools.old).running ≡ [] }
-    ensures { let means =
-        meaning I.left I.faults O.taken O.faults T.files T.faults T.reads S.told in
+    ensures { let on = disk_meaning D.told D.size_of D.faults in let means =
+        meaning I.left I.faults O.taken O.faults T.files T.faults T.reads S.told on in
         let before = outside input.old output.old tree.old tools.old disk.old in
         let after = outside input.new output.new tree.new tools.new disk.new in
         Ended means (map string_bytes words.now) before after result }
@@ -76,14 +114,25 @@ fn run_words<I: Source, O: Sink, T: Tree, D: Disk, S: Spawner>(
         Err(_) => return Ending::Memory,
     };
     match open_graph(alloc, tree, asked.graph.as_bytes()) {
-        Ok(Opened::Ready(graph)) => serve_graph(alloc, graph, input, output, tree, tools, disk),
+        Ok(Opened::Ready(text, graph)) => {
+            serve_store(
+                alloc,
+                text.as_slice(),
+                graph,
+                input,
+                output,
+                tree,
+                tools,
+                disk,
+            )
+        }
         Ok(Opened::Refused(line)) => end_with(output, line.as_slice(), Ending::BadGraph),
         Err(OpenFault::Tree) => Ending::Input,
         Err(OpenFault::Memory) => Ending::Memory,
     }
 }
 
-/// Runs the program: reads the words and the graph, then serves the commands of the input, and gives the exit status.
+/// Runs the program: reads the words and the graph, opens the store, then serves the commands of the input, and gives the exit status.
 /// docs/SESSIONS.md tells the commands, the replies and the statuses.
 pub fn run<I: Source, O: Sink, T: Tree, D: Disk, S: Spawner>(
     alloc: Global,
@@ -96,20 +145,18 @@ pub fn run<I: Source, O: Sink, T: Tree, D: Disk, S: Spawner>(
 ) -> u8
     requires { (S.told tools.old).running ≡ [] }
 
-    // By the status: what was read and written, what the tools did, and which count of faults rose.
-    ensures ends { let means =
-        meaning I.left I.faults O.taken O.faults T.files T.faults T.reads S.told in
+    // By the status: what was read and written, what the tools did, what the file has, and which count of faults rose.
+    ensures ends { let on = disk_meaning D.told D.size_of D.faults in let means =
+        meaning I.left I.faults O.taken O.faults T.files T.faults T.reads S.told on in
         let before = outside input.old output.old tree.old tools.old disk.old in
         let after = outside input.new output.new tree.new tools.new disk.new in
         RunEnds means (map string_bytes words.now) before after result }
 
-    // The tree keeps its files and the tools their answers, no count falls, no tool runs on but for want of memory, and nothing is kept on the
-    // disk yet.
+    // The tree keeps its files and the tools their answers, no count falls, and no tool runs on but for want of memory.
     ensures tree { let told = tree_of T.files T.faults T.reads in
         TreeStays (told tree.old) (told tree.new) }
-    ensures tools { ToolsStay (S.told tools.old).answer (S.told tools.old) (S.told tools.new) }
+    ensures tools { ToolsStay (S.told tools.old) (S.told tools.new) }
     ensures idle { result ≢ 4 → (S.told tools.new).running ≡ [] }
-    ensures disk { disk.new ≡ disk.old }
 {
     run_words(alloc, words, input, output, tree, disk, tools).status()
 }

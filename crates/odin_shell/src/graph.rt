@@ -10,10 +10,10 @@ use odin_outside::{Tree, TreeFault};
 use std::alloc::Global;
 use type_graph::Graph;
 
-/// A graph that a run works by, or the last line of the run.
+/// The text of a graph that a run works by, with that graph; or the last line of the run.
 #[derive(Drop)]
 pub(crate) enum Opened {
-    Ready(Graph),
+    Ready(Bytes, Graph),
     Refused(Bytes),
 }
 
@@ -88,24 +88,24 @@ fn line_of_fault(alloc: Global, fault: ReadFault) -> Result<Bytes, Memory>
 // ---- graphs
 
 // The graph in a text.
-fn read_text(alloc: Global, text: &[u8]) -> Result<Opened, Memory>
-    ensures { IfOk result (IsOpened (Some text.now)) }
+fn read_text(alloc: Global, text: Bytes) -> Result<Opened, Memory>
+    ensures { IfOk result (IsOpened (Some text)) }
 {
-    match read_graph_file(alloc, text) {
+    match read_graph_file(alloc, text.as_slice()) {
         Ok(file) => {
             file.graph.checked();
-            Ok(Opened::Ready(file.into_graph()))
+            Ok(Opened::Ready(text, file.into_graph()))
         }
         Err(fault) => Ok(Opened::Refused(line_of_fault(alloc, fault)?)),
     }
 }
 
 // The graph in what a tree gives.
-fn read_given(alloc: Global, given: &Option<Bytes>) -> Result<Opened, Memory>
-    ensures { IfOk result (IsOpened given.now) }
+fn read_given(alloc: Global, given: Option<Bytes>) -> Result<Opened, Memory>
+    ensures { IfOk result (IsOpened given) }
 {
     match given {
-        Some(text) => read_text(alloc, text.as_slice()),
+        Some(text) => read_text(alloc, text),
         None => Ok(Opened::Refused(Bytes::from_slice(alloc, b"graph: no file\n")?)),
     }
 }
@@ -122,7 +122,7 @@ pub(crate) fn open_graph<T: Tree>(
     ensures cause { HasCauseBut OpenFault.Memory (T.faults tree.old) (T.faults tree.new) result }
 {
     match tree.read(alloc, name) {
-        Ok(given) => Ok(read_given(alloc, &given)?),
+        Ok(given) => Ok(read_given(alloc, given)?),
         Err(TreeFault::Failed) => Err(OpenFault::Tree),
         Err(TreeFault::Memory) => Err(OpenFault::Memory),
     }

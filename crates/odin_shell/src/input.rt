@@ -1,15 +1,16 @@
 // The whole input of a session.
-ghost use Rattle.std.specs.Prelude.{◌≡◌, ◌<◌, ◌≤◌, [], length, vec_len, take, IfOk, OnErr};
+ghost use Rattle.std.specs.Prelude.{◌≡◌, ◌<◌, ◌≤◌, length, vec_len, take, IfOk, OnErr};
 ghost use Rattle.odin_outside.specs.Causes.{HasCause};
 ghost use Rattle.odin_outside.specs.Told.{prepended};
 ghost use Rattle.meaning_run.specs.Endings.{IsSpent, piece_limit};
 ghost use Rattle.odin_shell.specs.Objects.{source_of, told_of};
-ghost use Rattle.odin_shell.specs.Run.{SessionEnds};
+ghost use Rattle.odin_shell.specs.Filed.{disk_meaning};
+ghost use Rattle.odin_shell.specs.Begun.{MayBegin, SessionServes};
 
-use crate::deriver::Deriver;
 use crate::ending::Ending;
 use crate::session::{Finish, Session};
 use object_values::{INPUT_LIMIT, Memory};
+use odin_engine::Engine;
 use odin_outside::{Disk, Failed, Sink, Source, Spawner, Tree};
 use std::alloc::Global;
 
@@ -43,7 +44,7 @@ fn make_buffer(alloc: Global) -> Result<Vec<u8>, Memory>
 // Answers the input piece by piece.
 fn serve_pieces<I: Source, O: Sink, T: Tree, S: Spawner, D: Disk>(
     alloc: Global,
-    deriver: &Deriver,
+    engine: Engine,
     buffer: &mut [u8],
     input: &mut I,
     output: &mut O,
@@ -53,27 +54,28 @@ fn serve_pieces<I: Source, O: Sink, T: Tree, S: Spawner, D: Disk>(
 ) -> Ending
     requires some { 0 < length buffer.old }
     requires few { length buffer.old ≤ piece_limit }
-    requires idle { (S.told tools.old).running ≡ [] }
+    requires may { MayBegin engine (D.size_of disk.old) (S.told tools.old) }
     ensures { let source = source_of I.left I.faults in
         let told = told_of O.taken O.faults T.files T.faults T.reads S.told in
         let before = told output.old tree.old tools.old disk.old in
         let after = told output.new tree.new tools.new disk.new in
-        SessionEnds deriver.now (source input.old) (source input.new) before after result }
+        let on = disk_meaning D.told D.size_of D.faults in
+        SessionServes on engine (source input.old) (source input.new) before after result }
 {
-    let mut session = Session::new(alloc);
+    let mut session = Session::new(alloc, engine);
     let mut count: usize = 0;
     while count < INPUT_LIMIT {
         let Ok(size) = read_piece(input, buffer, INPUT_LIMIT - count) else {
             return Ending::Input;
         };
         if size == 0 {
-            return match session.finish(alloc, deriver, output, tree, tools, disk) {
+            return match session.finish(alloc, output, tree, tools, disk) {
                 Ok(Finish::Whole) => Ending::Whole,
                 Ok(Finish::CutShort) => Ending::CutShort,
                 Err(stop) => stop.ending(),
             };
         }
-        match session.take_piece(alloc, deriver, &buffer[..size], output, tree, tools, disk) {
+        match session.take_piece(alloc, &buffer[..size], output, tree, tools, disk) {
             Ok(()) => count += size,
             Err(stop) => return stop.ending(),
         }
@@ -84,32 +86,24 @@ fn serve_pieces<I: Source, O: Sink, T: Tree, S: Spawner, D: Disk>(
 /// Answers the input, as far as it may be read.
 pub(crate) fn serve_input<I: Source, O: Sink, T: Tree, S: Spawner, D: Disk>(
     alloc: Global,
-    deriver: &Deriver,
+    engine: Engine,
     input: &mut I,
     output: &mut O,
     tree: &mut T,
     tools: &mut S,
     disk: &mut D,
 ) -> Ending
-    requires { (S.told tools.old).running ≡ [] }
+    requires { MayBegin engine (D.size_of disk.old) (S.told tools.old) }
     ensures { let source = source_of I.left I.faults in
         let told = told_of O.taken O.faults T.files T.faults T.reads S.told in
         let before = told output.old tree.old tools.old disk.old in
         let after = told output.new tree.new tools.new disk.new in
-        SessionEnds deriver.now (source input.old) (source input.new) before after result }
+        let on = disk_meaning D.told D.size_of D.faults in
+        SessionServes on engine (source input.old) (source input.new) before after result }
 {
     match make_buffer(alloc) {
         Ok(mut buffer) => {
-            serve_pieces(
-                alloc,
-                deriver,
-                &mut buffer,
-                input,
-                output,
-                tree,
-                tools,
-                disk,
-            )
+            serve_pieces(alloc, engine, &mut buffer, input, output, tree, tools, disk)
         }
         Err(_) => Ending::Memory,
     }

@@ -1,20 +1,9 @@
 // Laws over inputs and sessions.
-ghost use Rattle.odin_shell.specs.Laws.{InputIsCutOnce, SourcesStay, EachIsOpened, OpenedIsOne, RefusalsAreCounted, TranscriptIsOne};
+ghost use Rattle.odin_shell.specs.Laws.{InputIsCutOnce, SourcesStay, EachIsOpened, OpenedIsOne, HeldIsMade, KeptStaysTrue, RefusalsAreCounted, TranscriptIsOne};
 
 /// An input is cut into commands in one way only.
 pub fn input_is_cut_once()
     ensures { InputIsCutOnce }
-{}
-
-/// The sources of a session are always names with texts of at most 16,777,216 bytes.
-pub fn sources_stay_sources()
-    ensures { SourcesStay }
-{}
-
-/// There are at most as many replies `refused tool start` as the count of the tools' faults rose, and at most as many `refused read` as
-/// that of the tree rose.
-pub fn refusals_are_counted()
-    ensures { RefusalsAreCounted }
 {}
 
 /// Each graph file is one of a checked graph, or is refused by a last line.
@@ -27,8 +16,29 @@ pub fn opened_is_one()
     ensures { OpenedIsOne }
 {}
 
-/// Where the tools answer by a table, the tree tells its files and no fault of either is counted, an input has one transcript, but for
-/// the chains that refusals show.
+/// The sources of a session are always names with texts of at most 16,777,216 bytes.
+pub fn sources_stay_sources()
+    ensures { SourcesStay }
+{}
+
+/// What a session holds is what its changes made of what its file stood for.
+pub fn held_is_made()
+    ensures { HeldIsMade }
+{}
+
+/// Where the tools answer by a table, and what was kept is what it gives, that stays so.
+pub fn kept_stays_true()
+    ensures { KeptStaysTrue }
+{}
+
+/// There are at most as many replies `refused tool start` as the count of the tools' faults rose, and at most as many `refused read` as
+/// that of the tree rose.
+pub fn refusals_are_counted()
+    ensures { RefusalsAreCounted }
+{}
+
+/// Where the tools answer by a table, the tree tells its files and no fault of either is counted, an input has one transcript, whatever is
+/// kept, but for the chains that refusals show and the number of kept calls.
 pub fn transcript_is_one()
     ensures { TranscriptIsOne }
 {}

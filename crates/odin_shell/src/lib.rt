@@ -3,16 +3,17 @@
 
 mod command;
 mod cutter;
-mod deriver;
 mod ending;
 mod entry;
 mod graph;
 mod holding;
 mod input;
 pub mod laws;
+mod lines;
 mod pending;
 mod serve;
 mod session;
+mod stop;
 mod whole;
 mod write;
 

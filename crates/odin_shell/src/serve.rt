@@ -1,136 +1,130 @@
 // One command: its change, and its reply.
-ghost use Rattle.std.specs.Prelude.{◌≡◌, [], IfOk, OnOk, OnErr, IfErr};
-ghost use Rattle.meaning_derive.specs.Given.{AreSources};
-ghost use Rattle.odin_shell.specs.Endings.{ending_of};
-ghost use Rattle.source_edits.specs.Edits.{tree_of};
+ghost use Rattle.std.specs.Prelude.{◌≡◌, IfOk, OnOk, IfErr};
+ghost use Rattle.meaning_answers.specs.Answers as answers;
+ghost use Rattle.meaning_run.specs.Objects.{SinkTold};
+ghost use Rattle.odin_journal.specs.Faults.{IsCause};
+ghost use Rattle.source_edits.specs.Edits.{Says, tree_of};
+ghost use Rattle.odin_shell.specs.Filed.{disk_meaning};
 ghost use Rattle.odin_shell.specs.Objects.{told_of};
-ghost use Rattle.odin_shell.specs.Machine.{holding, Step, MayLeave, ToolsStay};
+ghost use Rattle.odin_shell.specs.Served.{telling, MayServe, Answers, Halts, AnswersAsk, HaltsAsk, Counts, IsOnward, IsIdle};
 ghost use Rattle.odin_shell.specs.Sessions.{Serves, StopsServing};
 
-use crate::command::brings_name;
-use crate::deriver::Deriver;
-use crate::ending::Ending;
+use crate::stop::Stop;
 use crate::whole::Whole;
 use crate::write::write_whole;
-use object_sources::Sources;
 use object_values::{Bytes, Memory};
+use odin_answers::{Planned, answer_ask, answer_plan};
 use odin_commands::{Command, Reply, ends_run, text_of};
-use odin_outside::{Disk, Failed, Sink, Spawner, Tree};
+use odin_engine::{Engine, StoreFault};
+use odin_outside::{Disk, Sink, Spawner, Tree};
 use source_edits::{list, put, refuse_name, remove, take};
 use std::alloc::Global;
 
-/// Why serving stopped.
-#[derive(Clone, Copy)]
-pub(crate) enum Stop {
-    Memory,
-    Output,
-    /// The command ends the run.
-    Quit,
-}
-
-impl Stop {
-    pub(crate) fn ending(self) -> Ending
-        ensures { result ≡ ending_of self }
-    {
-        match self {
-            Stop::Memory => Ending::Memory,
-            Stop::Output => Ending::Output,
-            Stop::Quit => Ending::Whole,
-        }
-    }
-}
-
-impl From<Memory> for Stop {
-    ghost use Rattle.odin_shell.specs.declared.serve.Stop.TheVariants.{Memory};
-
-    ghost from_gives = { λ _ stop. stop ≡ Memory };
-
-    fn from(_: Memory) -> Self {
-        Stop::Memory
-    }
-}
-
-impl From<Failed> for Stop {
-    ghost use Rattle.odin_shell.specs.declared.serve.Stop.TheVariants.{Output};
-
-    ghost from_gives = { λ _ stop. stop ≡ Output };
-
-    fn from(_: Failed) -> Self {
-        Stop::Output
-    }
-}
-
-/// Makes the change of a command, and its reply.
-#[tactic(auto, using(crate::proofs::ServeLemmas::idle_one))]
-fn answer<T: Tree, S: Spawner>(
-    alloc: Global,
-    deriver: &Deriver,
-    sources: &mut Sources,
-    whole: Whole,
-    tree: &mut T,
-    tools: &mut S,
-) -> Result<Bytes, Memory>
-    requires sources { AreSources sources.old.texts }
-    requires idle { (S.told tools.old).running ≡ [] }
-    ensures ok { let told = tree_of T.files T.faults T.reads in
-        let old = holding sources.old.texts (S.told tools.old) (told tree.old) in
-        let new = holding sources.new.texts (S.told tools.new) (told tree.new) in
-        IfOk result (λ reply.
-        Step deriver.now old.tools.answer old whole.command whole.body reply new) }
-    ensures err { let told = tree_of T.files T.faults T.reads in
-        let old = holding sources.old.texts (S.told tools.old) (told tree.old) in
-        let new = holding sources.new.texts (S.told tools.new) (told tree.new) in
-        OnErr result (MayLeave deriver.now old.tools.answer old whole.command new) }
-    ensures idle { OnOk result ((S.told tools.new).running ≡ []) }
-    ensures stay { ToolsStay (S.told tools.old).answer (S.told tools.old) (S.told tools.new) }
-{
-    let (command, body) = whole.into_parts();
-    match command {
-        Command::Put(name, count) => put(alloc, sources, name, count, body),
-        Command::Take(name) => take(alloc, sources, name, tree),
-        Command::Remove(name) => remove(alloc, sources, name),
-        Command::Ask(text) => deriver.ask(alloc, sources, text.as_slice(), tools),
-        Command::Plan(text) => deriver.plan(alloc, text.as_slice()),
-        Command::Sources => list(alloc, sources),
-        Command::Kept => text_of(alloc, Reply::RefusedCommand),
-        Command::Quit => text_of(alloc, Reply::Bye),
-        Command::Nothing => Ok(Bytes::new(alloc)),
-        Command::Bad => text_of(alloc, Reply::RefusedCommand),
-        Command::BadName(count) => refuse_name(alloc, count),
-    }
-}
-
 /// Serves a command: its change, and then its reply, which is taken whole.
-#[tactic(auto, using(crate::proofs::ServeLemmas::idle_one))]
 pub(crate) fn serve_command<O: Sink, T: Tree, S: Spawner, D: Disk>(
     alloc: Global,
-    deriver: &Deriver,
-    sources: &mut Sources,
+    engine: &mut Engine,
     whole: Whole,
     output: &mut O,
     tree: &mut T,
     tools: &mut S,
     disk: &mut D,
 ) -> Result<(), Stop>
-    requires sources { AreSources sources.old.texts }
-    requires idle { (S.told tools.old).running ≡ [] }
+    requires { MayServe 1 engine.old (D.size_of disk.old) (S.told tools.old) }
     ensures ok { let told = told_of O.taken O.faults T.files T.faults T.reads S.told in
         let before = told output.old tree.old tools.old disk.old in
         let after = told output.new tree.new tools.new disk.new in
-        OnOk result (Serves deriver.now sources.old.texts sources.new.texts whole before after) }
+        let on = disk_meaning D.told D.size_of D.faults in
+        OnOk result (Serves on engine.old engine.new whole before after) }
     ensures err { let told = told_of O.taken O.faults T.files T.faults T.reads S.told in
         let before = told output.old tree.old tools.old disk.old in
         let after = told output.new tree.new tools.new disk.new in
-        IfErr result (λ stop.
-        StopsServing deriver.now stop sources.old.texts whole before after) }
-    ensures sources { AreSources sources.new.texts }
+        let on = disk_meaning D.told D.size_of D.faults in
+        IfErr result (λ stop. StopsServing on stop engine.old whole before after) }
+    ensures counted { IfErr result (λ stop. Counts stop (D.faults disk.old) (D.faults disk.new)) }
+    ensures onward { let on = disk_meaning D.told D.size_of D.faults in
+        OnOk result (IsOnward on 1 engine.old engine.new disk.old disk.new) }
 {
-    brings_name(&whole.command);
     let last = ends_run(&whole.command);
-    let reply = answer(alloc, deriver, sources, whole, tree, tools)?;
+    let reply = answer(alloc, engine, whole, tree, tools, disk)?;
     write_whole(output, reply.as_slice())?;
     if last {
         return Err(Stop::Quit);
     }
     Ok(())
+}
+
+// Makes the change of a command, and its reply.
+fn answer<T: Tree, S: Spawner, D: Disk>(
+    alloc: Global,
+    engine: &mut Engine,
+    whole: Whole,
+    tree: &mut T,
+    tools: &mut S,
+    disk: &mut D,
+) -> Result<Bytes, StoreFault>
+    requires { MayServe 1 engine.old (D.size_of disk.old) (S.told tools.old) }
+    ensures ok { let on = disk_meaning D.told D.size_of D.faults in
+        let told = tree_of T.files T.faults T.reads in
+        IfOk result (λ reply. (sink : SinkTold) → Answers on engine.old whole.command whole.body
+        (telling sink (S.told tools.old) (told tree.old) disk.old) reply engine.new
+        (telling sink (S.told tools.new) (told tree.new) disk.new)) }
+    ensures err { let on = disk_meaning D.told D.size_of D.faults in
+        let told = tree_of T.files T.faults T.reads in
+        IfErr result (λ why. (sink : SinkTold) → Halts on engine.old whole.command whole.body
+        (telling sink (S.told tools.old) (told tree.old) disk.old) why
+        (telling sink (S.told tools.new) (told tree.new) disk.new)) }
+    ensures cause { IsCause (D.faults disk.old) (D.faults disk.new) result }
+    ensures onward { let on = disk_meaning D.told D.size_of D.faults in
+        OnOk result (IsOnward on 1 engine.old engine.new disk.old disk.new) }
+    ensures idle { IsIdle (S.told tools.new) result }
+{
+    let (command, body) = whole.into_parts();
+    match command {
+        Command::Put(name, count) => put(alloc, engine, disk, name, count, body),
+        Command::Take(name) => take(alloc, engine, disk, name, tree),
+        Command::Remove(name) => remove(alloc, engine, disk, name),
+        Command::Ask(text) => ask(alloc, engine, text.as_slice(), tools, disk),
+        Command::Plan(text) => Ok(plan(alloc, engine, text.as_slice())?),
+        Command::Sources => Ok(list(alloc, engine)?),
+        Command::Kept => Ok(text_of(alloc, Reply::Kept(engine.store().kept().calls()))?),
+        Command::Quit => Ok(text_of(alloc, Reply::Bye)?),
+        Command::Nothing => Ok(Bytes::new(alloc)),
+        Command::Bad => Ok(text_of(alloc, Reply::RefusedCommand)?),
+        Command::BadName(count) => Ok(refuse_name(alloc, count)?),
+    }
+}
+
+// The reply to a text that asks for an object.
+fn ask<S: Spawner, D: Disk>(
+    alloc: Global,
+    engine: &mut Engine,
+    text: &[u8],
+    tools: &mut S,
+    disk: &mut D,
+) -> Result<Bytes, StoreFault>
+    requires { MayServe 1 engine.old (D.size_of disk.old) (S.told tools.old) }
+    ensures ok { let on = disk_meaning D.told D.size_of D.faults in
+        let asks = AnswersAsk on engine.old text.now (S.told tools.old) disk.old in
+        IfOk result (λ reply. asks reply engine.new (S.told tools.new) disk.new) }
+    ensures err { let on = disk_meaning D.told D.size_of D.faults in
+        let halts = HaltsAsk on engine.old text.now (S.told tools.old) disk.old in
+        IfErr result (λ why. halts why (S.told tools.new) disk.new) }
+    ensures cause { IsCause (D.faults disk.old) (D.faults disk.new) result }
+    ensures onward { let on = disk_meaning D.told D.size_of D.faults in
+        OnOk result (IsOnward on 1 engine.old engine.new disk.old disk.new) }
+    ensures idle { IsIdle (S.told tools.new) result }
+{
+    let reply = answer_ask(alloc, engine, disk, text, tools)?;
+    Ok(text_of(alloc, reply)?)
+}
+
+// The reply to a text that asks for the steps to an object.
+fn plan(alloc: Global, engine: &Engine, text: &[u8]) -> Result<Bytes, Memory>
+    ensures { IfOk result (Says (answers.Plan engine.now.graph text.now)) }
+{
+    match answer_plan(alloc, engine, text)? {
+        Planned::Steps(bytes) => Ok(bytes),
+        Planned::Refused(reply) => text_of(alloc, reply),
+    }
 }

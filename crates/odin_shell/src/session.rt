@@ -1,29 +1,29 @@
 // A session between two bytes of its input.
-ghost use Rattle.std.specs.Prelude.{◌≡◌, ◌≤◌, ◌<◌, [], length, take, OnOk, IfOk, IfErr};
-ghost use Rattle.object_sources.specs.Texts.{no_texts};
-ghost use Rattle.meaning_derive.specs.Given.{AreSources};
+ghost use Rattle.std.specs.Prelude.{◌≡◌, ◌+◌, ◌≤◌, ◌<◌, [], length, take, OnOk, IfOk, IfErr};
+ghost use Rattle.odin_shell.specs.Filed.{disk_meaning};
 ghost use Rattle.odin_shell.specs.Held.{Keeps};
 ghost use Rattle.odin_shell.specs.Objects.{told_of};
+ghost use Rattle.odin_shell.specs.Served.{Counts, IsOnward, MayServe};
+ghost use Rattle.odin_shell.specs.Sessions.{Goes, StopsIn, Finishes, StopsAtEnd};
 
 use crate::cutter::{Cutter, Front};
-use crate::deriver::Deriver;
-use crate::serve::{Stop, serve_command};
-use object_sources::Sources;
+use crate::serve::serve_command;
+use crate::stop::Stop;
+use odin_engine::Engine;
 use odin_outside::{Disk, Sink, Spawner, Tree};
 use std::alloc::Global;
 
-/// The state between two bytes of the input. The sources have names and texts of their classes.
+/// The state between two bytes of the input.
 pub(crate) struct Session {
     cutter: Cutter,
-    sources: Sources,
-    ghost are: { AreSources sources.texts },
+    engine: Engine,
 }
 
 impl Drop for Session {
     fn drop(self) {
-        let Session { cutter, sources } = self;
+        let Session { cutter, engine } = self;
         drop(cutter);
-        drop(sources);
+        drop(engine);
     }
 }
 
@@ -35,15 +35,13 @@ pub(crate) enum Finish {
 }
 
 impl Session {
-    ghost use Rattle.odin_shell.specs.Sessions.{Goes, StopsIn, Finishes, StopsAtEnd};
-
-    pub(crate) fn new(alloc: Global) -> Self
-        ensures sources { result.sources.texts ≡ no_texts }
+    pub(crate) fn new(alloc: Global, engine: Engine) -> Self
+        ensures engine { result.engine ≡ engine }
         ensures held { Keeps result.cutter [] }
     {
         Session {
             cutter: Cutter::new(alloc),
-            sources: Sources::new(alloc),
+            engine,
         }
     }
 
@@ -51,7 +49,6 @@ impl Session {
     fn take_front<O: Sink, T: Tree, S: Spawner, D: Disk>(
         &mut self,
         alloc: Global,
-        deriver: &Deriver,
         piece: &[u8],
         output: &mut O,
         tree: &mut T,
@@ -59,29 +56,26 @@ impl Session {
         disk: &mut D,
     ) -> Result<usize, Stop>
         requires some { 0 < length piece.now }
-        requires idle { (S.told tools.old).running ≡ [] }
+        requires may { MayServe 1 self.old.engine (D.size_of disk.old) (S.told tools.old) }
         ensures ok { let told = told_of O.taken O.faults T.files T.faults T.reads S.told in
             let before = told output.old tree.old tools.old disk.old in
             let after = told output.new tree.new tools.new disk.new in
-            IfOk result (λ n. Goes deriver.now (take n piece.now) before self.old after self.new) }
+            let on = disk_meaning D.told D.size_of D.faults in
+            IfOk result (λ n. Goes on (take n piece.now) before self.old after self.new) }
         ensures front { IfOk result (λ n. (0 < n) × (n ≤ length piece.now)) }
         ensures err { let told = told_of O.taken O.faults T.files T.faults T.reads S.told in
             let before = told output.old tree.old tools.old disk.old in
             let after = told output.new tree.new tools.new disk.new in
-            IfErr result (λ stop. StopsIn deriver.now stop piece.now before self.old after) }
+            let on = disk_meaning D.told D.size_of D.faults in
+            IfErr result (λ stop. StopsIn on stop piece.now before self.old after) }
+        ensures counted { IfErr result (λ stop.
+            Counts stop (D.faults disk.old) (D.faults disk.new)) }
+        ensures onward { let on = disk_meaning D.told D.size_of D.faults in
+            OnOk result (IsOnward on 1 self.old.engine self.new.engine disk.old disk.new) }
     {
         let Front { count, whole } = self.cutter.take(alloc, piece)?;
         if let Some(whole) = whole {
-            serve_command(
-                alloc,
-                deriver,
-                &mut self.sources,
-                whole,
-                output,
-                tree,
-                tools,
-                disk,
-            )?;
+            serve_command(alloc, &mut self.engine, whole, output, tree, tools, disk)?;
         }
         Ok(count)
     }
@@ -90,26 +84,33 @@ impl Session {
     pub(crate) fn take_piece<O: Sink, T: Tree, S: Spawner, D: Disk>(
         &mut self,
         alloc: Global,
-        deriver: &Deriver,
         piece: &[u8],
         output: &mut O,
         tree: &mut T,
         tools: &mut S,
         disk: &mut D,
     ) -> Result<(), Stop>
-        requires { (S.told tools.old).running ≡ [] }
+        requires { let most = length piece.now in
+            MayServe most self.old.engine (D.size_of disk.old) (S.told tools.old) }
         ensures ok { let told = told_of O.taken O.faults T.files T.faults T.reads S.told in
             let before = told output.old tree.old tools.old disk.old in
             let after = told output.new tree.new tools.new disk.new in
-            OnOk result (Goes deriver.now piece.now before self.old after self.new) }
+            let on = disk_meaning D.told D.size_of D.faults in
+            OnOk result (Goes on piece.now before self.old after self.new) }
         ensures err { let told = told_of O.taken O.faults T.files T.faults T.reads S.told in
             let before = told output.old tree.old tools.old disk.old in
             let after = told output.new tree.new tools.new disk.new in
-            IfErr result (λ stop. StopsIn deriver.now stop piece.now before self.old after) }
+            let on = disk_meaning D.told D.size_of D.faults in
+            IfErr result (λ stop. StopsIn on stop piece.now before self.old after) }
+        ensures counted { IfErr result (λ stop.
+            Counts stop (D.faults disk.old) (D.faults disk.new)) }
+        ensures onward { let on = disk_meaning D.told D.size_of D.faults in
+            let most = length piece.now in
+            OnOk result (IsOnward on most self.old.engine self.new.engine disk.old disk.new) }
     {
         let mut at = 0;
         while at < piece.len() {
-            at += self.take_front(alloc, deriver, &piece[at..], output, tree, tools, disk)?;
+            at += self.take_front(alloc, &piece[at..], output, tree, tools, disk)?;
         }
         Ok(())
     }
@@ -118,35 +119,30 @@ impl Session {
     pub(crate) fn finish<O: Sink, T: Tree, S: Spawner, D: Disk>(
         mut self,
         alloc: Global,
-        deriver: &Deriver,
         output: &mut O,
         tree: &mut T,
         tools: &mut S,
         disk: &mut D,
     ) -> Result<Finish, Stop>
-        requires { (S.told tools.old).running ≡ [] }
+        requires { MayServe 1 self.engine (D.size_of disk.old) (S.told tools.old) }
         ensures ok { let told = told_of O.taken O.faults T.files T.faults T.reads S.told in
             let before = told output.old tree.old tools.old disk.old in
             let after = told output.new tree.new tools.new disk.new in
-            IfOk result (λ finish. Finishes deriver.now finish before self after) }
+            let on = disk_meaning D.told D.size_of D.faults in
+            IfOk result (λ finish. Finishes on finish before self after) }
         ensures err { let told = told_of O.taken O.faults T.files T.faults T.reads S.told in
             let before = told output.old tree.old tools.old disk.old in
             let after = told output.new tree.new tools.new disk.new in
-            IfErr result (λ stop. StopsAtEnd deriver.now stop before self after) }
+            let on = disk_meaning D.told D.size_of D.faults in
+            IfErr result (λ stop. StopsAtEnd on stop before self after) }
+        ensures counted { IfErr result (λ stop.
+            Counts stop (D.faults disk.old) (D.faults disk.new)) }
+        ensures unfailed { OnOk result (D.faults disk.new ≡ D.faults disk.old) }
     {
         let Some(whole) = self.cutter.last(alloc)? else {
             return Ok(Finish::CutShort);
         };
-        serve_command(
-            alloc,
-            deriver,
-            &mut self.sources,
-            whole,
-            output,
-            tree,
-            tools,
-            disk,
-        )?;
+        serve_command(alloc, &mut self.engine, whole, output, tree, tools, disk)?;
         Ok(Finish::Whole)
     }
 }

@@ -11,7 +11,7 @@ use Rattle.meaning_records.specs.Tables.{Tables}
 use Rattle.meaning_records.specs.States.{nothing, ReadsAll, spell_batch}
 use Rattle.odin_store.specs.declared.store.Store.{Store}
 use Rattle.odin_store.specs.Held.{Held, Change, apply, StandsFor}
-use Rattle.odin_store.specs.OnDisk.{held_in, IsOn, LeavesChange, Appends, IsUnchanged, IsSame}
+use Rattle.odin_store.specs.OnDisk.{held_in, state_in, IsOn, LeavesChange, Appends, IsUnchanged, IsSame}
 use Rattle.odin_store.specs.Opening.{graph_record, Opens, LeavesHeld}
 use Rattle.odin_store.specs.Keeping.{Rests, store_keeping}
 use Rattle.odin_store.proofs.StoreLemmas.{held_left}
@@ -41,7 +41,12 @@ same_on disk store next records graph same on = record {
       (subst (λ (s : Texts). ReadsAll nothing records (record { tables = store.kept.tables; sources = s; graph = graph })) (sym same.sources) on.read);
 }
 
-same_held : (store next : Store) → IsUnchanged store next → held_in next ≡ held_in store
+pub same_state : (store next : Store) (graph : Option Text) → IsUnchanged store next → state_in next graph ≡ state_in store graph
+same_state store next graph same =
+    ap (λ (t : Tables). record { tables = t; sources = next.sources.texts; graph = graph }) same.tables
+    ∙ ap (λ (s : Texts). record { tables = store.kept.tables; sources = s; graph = graph }) same.sources
+
+pub same_held : (store next : Store) → IsUnchanged store next → held_in next ≡ held_in store
 same_held store next same =
     ap (λ (t : Tables). record { sources = next.sources.texts; calls = t.calls }) same.tables ∙ ap (λ (s : Texts). record { sources = s; calls = store.kept.tables.calls }) same.sources
 

@@ -1,7 +1,10 @@
 mod BatchLemmas
+mod GoingLemmas
 mod KeepingLemmas
 mod LoadLemmas
 mod OpenLemmas
 mod ReadyLemmas
 mod RecordLemmas
+mod SourceLemmas
 mod StoreLemmas
+pub mod Lemmas

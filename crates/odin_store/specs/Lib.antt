@@ -4,3 +4,6 @@ pub mod Changes
 pub mod Loading
 pub mod Opening
 pub mod Keeping
+pub mod Going
+pub mod Edited
+pub mod FaultLemmas

@@ -1,9 +1,31 @@
-//! Laws of stores. Each is the contract of a function with an empty body.
+//! Laws of stores. Each is the contract of a function that does nothing.
 ghost use Rattle.odin_store.specs.Keeping.{KeepsChanges};
+ghost use Rattle.odin_store.specs.Going.{ChangesFollow, ChangesStop};
+ghost use Rattle.odin_store.specs.Edited.{EditsAreTold};
 
+use meaning_records::laws::reads_in_one_way;
 use odin_outside::Disk;
 
 /// A store keeps its changes on a disk one behind another.
 pub fn keeps_changes<D: Disk>()
     ensures { KeepsChanges D.told }
 {}
+
+/// What calls of a store do follows each other as one list of changes.
+pub fn changes_follow<D: Disk>()
+    ensures { ChangesFollow D.told }
+{
+    reads_in_one_way();
+}
+
+/// And it can be stopped at any moment.
+pub fn changes_stop<D: Disk>()
+    ensures { ChangesStop D.told }
+{}
+
+/// What an edit of the sources does, told without the inside of a store.
+pub fn edits_are_told<D: Disk>()
+    ensures { EditsAreTold D.told }
+{
+    reads_in_one_way();
+}

@@ -6,13 +6,11 @@ ghost use Rattle.odin_journal.specs.Moments.{Works};
 ghost use Rattle.odin_journal.specs.Rest.{IsReady};
 ghost use Rattle.meaning_texts.specs.Classes.{IsName};
 ghost use Rattle.meaning_texts.specs.Limits.{body_limit, graph_limit};
-ghost use Rattle.meaning_records.specs.Batches.{drop_batch};
+ghost use Rattle.meaning_derive.specs.Given.{AreSources};
+ghost use Rattle.meaning_records.specs.Batches.{drop_batch, graph_batch};
 ghost use Rattle.meaning_records.specs.States.{spell_batch};
 ghost use Rattle.kept_tables.specs.Holdings.{PreparesSome};
 ghost use Rattle.odin_store.specs.Held.{puts, drops, keeps};
-ghost use Rattle.odin_store.specs.OnDisk.{IsChangeFault, IsLeft, IsOpen, IsSame, IsUnchanged, LeavesChange, WorksOnce};
-ghost use Rattle.odin_store.specs.Opening.{graph_record, IsAtFirst, IsOpenFault, LeavesHeld, OpensQuiet};
-ghost use Rattle.odin_store.specs.Changes.{CallBatch, DropBatch, DropsSource, KeepsCall, MayKeep, MayPut, PutBatch, PutsText};
 
 use crate::loading::{Loading, load_records};
 use kept_tables::{Kept, Prepared};
@@ -25,12 +23,13 @@ use odin_outside::Disk;
 use std::alloc::Global;
 
 /// Sources and kept calls, over a disk that is lent call by call: the one of the opening, as the last call left it. After a fault of the disk it is
-/// spent.
+/// spent. Whatever its file had, the sources are names with texts of at most 16,777,216 bytes.
 pub struct Store {
     journal: Journal,
     kept: Kept,
     sources: Sources,
     epoch: u64,
+    ghost are: { AreSources sources.texts },
 }
 
 impl Drop for Store {
@@ -48,6 +47,10 @@ impl Drop for Store {
 }
 
 impl Store {
+    ghost use Rattle.odin_store.specs.OnDisk.{IsChangeFault, IsLeft, IsOpen, IsSame, IsUnchanged, LeavesChange, WorksOnce};
+    ghost use Rattle.odin_store.specs.Opening.{graph_record, IsAtFirst, IsOpenFault, LeavesHeld, OpensQuiet};
+    ghost use Rattle.odin_store.specs.Changes.{CallBatch, DropBatch, DropsSource, KeepsCall, MayKeep, MayPut, PutBatch, PutsText};
+
     /// Opens the store in a file for a graph of this text. Where the last graph text in the file is another, this one is added.
     pub fn open<D: Disk>(alloc: Global, disk: &mut D, graph: &[u8]) -> Result<Store, JournalFault>
         requires { length graph.now ≤ graph_limit }
@@ -75,6 +78,7 @@ impl Store {
 
     // What was loaded, over a journal, with no edit counted.
     fn of(journal: Journal, loading: Loading) -> Store
+        requires { AreSources loading.sources.texts }
         ensures journal { result.journal ≡ journal }
         ensures kept { result.kept ≡ loading.kept }
         ensures sources { result.sources ≡ loading.sources }
@@ -236,6 +240,7 @@ impl Store {
         text: &Text,
     ) -> Result<(Bytes, Text, Prepared), Memory>
         requires { length text.now ≤ body_limit }
+        ensures named { OnOk result (IsName name.now) }
         ensures name { IfOk result (λ made. made.0 ≡ name.now) }
         ensures text { IfOk result (λ made. made.1 ≡ text.now) }
         ensures batch { IfOk result (λ made.
@@ -254,7 +259,7 @@ impl Store {
 // The bytes of the batch of a graph.
 fn graph_payload(alloc: Global, graph: &[u8]) -> Result<Bytes, Memory>
     requires { length graph.now ≤ graph_limit }
-    ensures { IfOk result (λ payload. payload ≡ graph_record graph.now) }
+    ensures { IfOk result (λ payload. payload ≡ spell_batch (graph_batch graph.now)) }
 {
     let mut payload = Bytes::new(alloc);
     put_u8(&mut payload, 1)?;

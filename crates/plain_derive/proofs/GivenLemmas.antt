@@ -21,7 +21,7 @@ use Rattle.walk_tables.specs.Calls.{Outcomes as Listed, outcome_in, call_in}
 use Rattle.derive_walk.specs.Outcomes.{nothing_known, given_or, after}
 use Rattle.plain_derive.specs.Logs.{among, AreMade}
 use Rattle.plain_derive.specs.Made.{IsOutcomeOf, AreGivenBy}
-use Rattle.plain_derive.specs.Ways.{calls_of, AreGiven}
+use Rattle.plain_derive.specs.Given.{calls_of, AreGiven}
 
 -- ---- the outcome of a call among those that were given
 
@@ -41,7 +41,7 @@ in_given (x ∷ given) call = by_test (call_eq.eq call x.0) (in_given given call
     by_test true h = refl
     by_test false h = h
 
-given_is_in : (given : Listed) (call : Call) (outcome : Outcome) → outcome_in given call ≡ Some outcome → IsIn (call, outcome) given
+pub given_is_in : (given : Listed) (call : Call) (outcome : Outcome) → outcome_in given call ≡ Some outcome → IsIn (call, outcome) given
 given_is_in [] call outcome e = cc
 given_is_in (x ∷ given) call outcome e = by_test (call_eq.eq call x.0) refl e (given_is_in given call outcome)
   where
@@ -52,7 +52,7 @@ given_is_in (x ∷ given) call outcome e = by_test (call_eq.eq call x.0) refl e 
         inl (λ i. (key i, value i))
     by_test false same e more = inr (more e)
 
-first_stays : (given : Listed) (x : Call × Outcome) (call : Call) (outcome : Outcome) → outcome_in given call ≡ Some outcome → outcome_in (given ++ x ∷ []) call ≡ Some outcome
+pub first_stays : (given : Listed) (x : Call × Outcome) (call : Call) (outcome : Outcome) → outcome_in given call ≡ Some outcome → outcome_in (given ++ x ∷ []) call ≡ Some outcome
 first_stays [] x call outcome e = cc
 first_stays (y ∷ given) x call outcome e = by_test (call_eq.eq call y.0) e (first_stays given x call outcome)
   where
@@ -68,7 +68,7 @@ last_found (y ∷ given) call outcome e = by_test (call_eq.eq call y.0) e (last_
     by_test true e more = cc
     by_test false e more = more e
 
-one_more_call : (given : Listed) (call : Call) (outcome : Outcome) → calls_of (given ++ (call, outcome) ∷ []) ≡ calls_of given ++ call ∷ []
+pub one_more_call : (given : Listed) (call : Call) (outcome : Outcome) → calls_of (given ++ (call, outcome) ∷ []) ≡ calls_of given ++ call ∷ []
 one_more_call [] call outcome = refl
 one_more_call (x ∷ given) call outcome = ap (λ l. x.0 ∷ l) (one_more_call given call outcome)
 
@@ -97,7 +97,7 @@ frontier_among g s n given outcomes has call stops = subst (λ (p : Outcomes). I
 fewer : (given : Listed) (x : Call × Outcome) (outcomes : Outcomes) → HasMore (after nothing_known (given ++ x ∷ [])) outcomes → HasMore (after nothing_known given) outcomes
 fewer given x outcomes has call o e = has call o (ap (λ z. given_or z None) (first_stays given x call o (was_given (outcome_in given call) o e)))
 
-pub are_made : (g : Graph) (s : Sources) (n : Node) (given : Listed) → AreGiven g s n given → (outcomes : Outcomes) → HasMore (after nothing_known given) outcomes → AreMade g s outcomes n (calls_of given)
+pub are_made : (g : Graph) (s : Sources) (n : Node) (given : Listed) → AreGiven g s nothing_known n given → (outcomes : Outcomes) → HasMore (after nothing_known given) outcomes → AreMade g s outcomes n (calls_of given)
 are_made g s n given AreGiven.none_given outcomes has = AreMade.none_made
 are_made g s n given (AreGiven.one_more front call outcome are stops) outcomes has =
     let low : HasMore (after nothing_known front) outcomes = fewer front (call, outcome) outcomes has in

@@ -1,4 +1,5 @@
 mod GivenLemmas
+mod KeptLemmas
 mod LogLemmas
 mod MadeLemmas
 mod OnLemmas

@@ -21,11 +21,11 @@ pub same_answer : (before : Spawned) (calls : List Call) → (after_calls before
 same_answer before [] = refl
 same_answer before (call ∷ calls) = same_answer (closed before call (Ended 0)) calls
 
-none_run : (before : Spawned) (calls : List Call) → before.running ≡ [] → (after_calls before calls).running ≡ []
+pub none_run : (before : Spawned) (calls : List Call) → before.running ≡ [] → (after_calls before calls).running ≡ []
 none_run before [] idle = idle
 none_run before (call ∷ calls) idle = none_run (closed before call (Ended 0)) calls refl
 
-same_faults : (before : Spawned) (calls : List Call) → (after_calls before calls).faults ≡ before.faults
+pub same_faults : (before : Spawned) (calls : List Call) → (after_calls before calls).faults ≡ before.faults
 same_faults before [] = refl
 same_faults before (call ∷ calls) = same_faults (closed before call (Ended 0)) calls
 
@@ -34,12 +34,19 @@ same_faults before (call ∷ calls) = same_faults (closed before call (Ended 0))
 pub uncounted : (g : Graph) (s : Sources) (outcomes : Outcomes) (n : Node) (calls : List Call) (before now : Spawned) → HasMade g s outcomes n calls before now → now.faults ≡ before.faults
 uncounted g s outcomes n calls before now made = ap (λ (z : Spawned). z.faults) made.now_is ∙ same_faults before calls
 
-cut_counted : (call : Call) (fault : PlainFault) (before now : Spawned) → IsCut fault call before now → CountedFor fault before now
+pub cut_counted : (call : Call) (fault : PlainFault) (before now : Spawned) → IsCut fault call before now → CountedFor fault before now
 cut_counted call Spawn before now (inl fails) = fails.counted
 cut_counted call Spawn before now (inr lost) = lost.counted
 cut_counted call Memory before now (inl e) = ap (λ (z : Spawned). z.faults) e
 cut_counted call Memory before now (inr (inl e)) = ap (λ (z : Spawned). z.faults) e
 cut_counted call Memory before now (inr (inr e)) = ap (λ (z : Spawned). z.faults) e
+
+pub cut_answer : (call : Call) (fault : PlainFault) (before now : Spawned) → IsCut fault call before now → now.answer ≡ before.answer
+cut_answer call Spawn before now (inl fails) = ap (λ (z : Spawned). z.answer) fails.is
+cut_answer call Spawn before now (inr lost) = ap (λ (z : Spawned). z.answer) lost.is
+cut_answer call Memory before now (inl e) = ap (λ (z : Spawned). z.answer) e
+cut_answer call Memory before now (inr (inl e)) = ap (λ (z : Spawned). z.answer) e
+cut_answer call Memory before now (inr (inr e)) = ap (λ (z : Spawned). z.answer) e
 
 -- over the calls that were made before
 moved : (fault : PlainFault) (before mid now : Spawned) → mid.faults ≡ before.faults → CountedFor fault mid now → CountedFor fault before now
@@ -54,7 +61,7 @@ given_up_counted g s outcomes n fault before now begun = moved fault before (aft
 
 -- ---- at rest
 
-few_run : (now : Spawned) → now.running ≡ [] → length now.running ≤ 1
+pub few_run : (now : Spawned) → now.running ≡ [] → length now.running ≤ 1
 few_run now idle = let e : length now.running ≡ 0 = ap length idle in omega (arith, e)
 
 -- none runs, and the tools answer as before
@@ -66,7 +73,7 @@ found_rests g s n before now found idle so =
     let is = so.made.now_is in
     calm (Ok found) before now (ap (λ (z : Spawned). z.answer) is ∙ same_answer before so.calls) (ap (λ (z : Spawned). z.running) is ∙ none_run before so.calls idle)
 
-cut_rests : (fault : PlainFault) (call : Call) (mid now : Spawned) → mid.running ≡ [] → IsCut fault call mid now → ComeToRest mid now (Err fault)
+pub cut_rests : (fault : PlainFault) (call : Call) (mid now : Spawned) → mid.running ≡ [] → IsCut fault call mid now → ComeToRest mid now (Err fault)
 cut_rests Memory call mid now idle (inl e) = calm (Err Memory) mid now (ap (λ (z : Spawned). z.answer) e) (ap (λ (z : Spawned). z.running) e ∙ idle)
 cut_rests Memory call mid now idle (inr (inl e)) =
     let one : length now.running ≡ 1 = ap (λ (z : Spawned). length z.running) e ∙ ap (λ l. length (l ++ (record { slot = 0; job = job_of call }) ∷ [])) idle in

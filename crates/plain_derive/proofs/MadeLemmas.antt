@@ -53,7 +53,7 @@ made_are_calls g s outcomes n calls (AreMade.one_more front last are stops there
   | inr (inr none) ↦ absurd none
 ]
 
-once_more : (calls : List Call) (call : Call) → AreOnce calls → (IsIn call calls → ⊥) → AreOnce (calls ++ call ∷ [])
+pub once_more : (calls : List Call) (call : Call) → AreOnce calls → (IsIn call calls → ⊥) → AreOnce (calls ++ call ∷ [])
 once_more [] call once new = (λ i. i, tt)
 once_more (other ∷ calls) call once new = (
   λ i. elim (in_either other calls (call ∷ []) i) [

@@ -24,7 +24,8 @@ use Rattle.plain_derive.specs.declared.fault.PlainFault.{PlainFault}
 use Rattle.plain_derive.specs.declared.fault.PlainFault.TheVariants.{Memory}
 use Rattle.plain_derive.specs.Logs.{closed, IsCut, IsWanted, after_calls, IsRefusedAtOnce, HasDerived, HasGivenUp}
 use Rattle.plain_derive.specs.Made.{IsOutcomeOf}
-use Rattle.plain_derive.specs.Ways.{calls_of, AreGiven, IsSoFar, Stops}
+use Rattle.plain_derive.specs.Given.{calls_of, AreGiven}
+use Rattle.plain_derive.specs.Ways.{IsSoFar, Stops}
 use Rattle.plain_derive.proofs.GivenLemmas.{among_is, frontier_among, are_made, go_by}
 use Rattle.plain_derive.proofs.LogLemmas.{same_answer}
 
@@ -32,7 +33,7 @@ pub first_in : (call : Call) (calls : List Call) → slice_get calls 0 ≡ Some 
 first_in call [] e = cc
 first_in call (other ∷ calls) e = inl cc
 
-one_more_made : (before : Spawned) (given : Listed) (call : Call) (outcome : Outcome) → after_calls before (calls_of (given ++ (call, outcome) ∷ [])) ≡ closed (after_calls before (calls_of given)) call (Ended 0)
+pub one_more_made : (before : Spawned) (given : Listed) (call : Call) (outcome : Outcome) → after_calls before (calls_of (given ++ (call, outcome) ∷ [])) ≡ closed (after_calls before (calls_of given)) call (Ended 0)
 one_more_made before [] call outcome = refl
 one_more_made before (x ∷ given) call outcome = one_more_made (closed before x.0 (Ended 0)) given call outcome
 
@@ -44,8 +45,8 @@ start g s n before walked root is same fits right =
     let fit : OutcomesFit (after nothing_known walked.given) = subst (λ l. OutcomesFit (after nothing_known l)) (sym none) nothing_fits in
     record {
       root = ap (λ (z : Walked). z.root) is ∙ same;
-      are = subst (AreGiven g s n) (sym none) AreGiven.none_given;
-      outcomes = λ call outcome i. absurd (subst (IsIn (call, outcome)) none i);
+      are = subst (AreGiven g s nothing_known n) (sym none) AreGiven.none_given;
+      came = λ call outcome i. absurd (subst (IsIn (call, outcome)) none i);
       now_is = ap (λ l. after_calls before (calls_of l)) (sym none);
       right = right (world g s (after nothing_known walked.given)) (subst (Fits g) (sym same) fits) fit;
     }
@@ -59,8 +60,8 @@ module _ (g : Graph) (s : Sources) (n : Node) (before : Spawned) (walked : Walke
   pub advanced : (walked' : Walked) → WalkGoesOn walked walked' → IsRight (world g s (after nothing_known walked'.given)) walked' → IsSoFar g s n before walked' mid
   advanced walked' on right = record {
     root = on.root ∙ so.root;
-    are = subst (AreGiven g s n) (sym on.given) so.are;
-    outcomes = λ call outcome i. so.outcomes call outcome (subst (IsIn (call, outcome)) on.given i);
+    are = subst (AreGiven g s nothing_known n) (sym on.given) so.are;
+    came = λ call outcome i. so.came call outcome (subst (IsIn (call, outcome)) on.given i);
     now_is = so.now_is ∙ ap (λ l. after_calls before (calls_of l)) (sym on.given);
     right = right;
   }
@@ -69,9 +70,9 @@ module _ (g : Graph) (s : Sources) (n : Node) (before : Spawned) (walked : Walke
       → IsRight (world g s (after nothing_known walked'.given)) walked' → IsSoFar g s n before walked' now
   goes_on walked' now call outcome i of made is right = record {
     root = is.root ∙ so.root;
-    are = subst (AreGiven g s n) (sym is.given) (AreGiven.one_more walked.given call outcome so.are (stops_at call i));
-    outcomes = λ c o j. elim (in_either (c, o) walked.given ((call, outcome) ∷ []) (subst (IsIn (c, o)) is.given j)) [
-      | inl k ↦ so.outcomes c o k
+    are = subst (AreGiven g s nothing_known n) (sym is.given) (AreGiven.one_more walked.given call outcome so.are (stops_at call i));
+    came = λ c o j. elim (in_either (c, o) walked.given ((call, outcome) ∷ []) (subst (IsIn (c, o)) is.given j)) [
+      | inl k ↦ so.came c o k
       | inr (inl e) ↦ subst (λ (z : Call × Outcome). IsOutcomeOf before.answer z.0 z.1) (sym e) (subst (λ a. IsOutcomeOf a call outcome) (ap (λ (z : Spawned). z.answer) so.now_is ∙ same_answer before (calls_of walked.given)) of)
       | inr (inr none) ↦ absurd none
     ];
@@ -87,7 +88,7 @@ module _ (g : Graph) (s : Sources) (n : Node) (before : Spawned) (walked : Walke
 
   pub given_up : (fault : PlainFault) (now : Spawned) → IsStop fault now → (IsRefusedAtOnce g s n → now ≡ before) → HasGivenUp g s n before now fault
   given_up fault now stop untouched =
-      let way = go_by before.answer walked.given so.outcomes in
+      let way = go_by before.answer walked.given so.came in
       record {
         outcomes = way.outcomes;
         given = way.by;
@@ -110,7 +111,7 @@ module _ (g : Graph) (s : Sources) (n : Node) (before : Spawned) (walked : Walke
 
   pub ends : (found : Found) → walked.result ≡ Some found → (IsRefusedAtOnce g s n → mid ≡ before) → HasDerived g s n before mid found
   ends found is untouched =
-      let way = go_by before.answer walked.given so.outcomes in
+      let way = go_by before.answer walked.given so.came in
       let of_root : IsFound g s (after nothing_known walked.given) walked.root found = subst (λ r. IfSome r (IsFound g s (after nothing_known walked.given) walked.root)) is so.right.found in
       let of_node : IsFound g s (after nothing_known walked.given) n found = subst (λ z. IsFound g s (after nothing_known walked.given) z found) so.root of_root in
       record {

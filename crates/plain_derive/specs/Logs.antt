@@ -8,8 +8,7 @@ use Rattle.odin_outside.specs.Causes.{IsCounted}
 use Rattle.odin_outside.specs.Spawned.{Spawned, begun, noted, Fails}
 use Rattle.meaning_calls.specs.Jobs.{job_of}
 use Rattle.meaning_graph.specs.Graphs.{Graph}
-use Rattle.meaning_derive.specs.Derive.{Sources, Outcomes, derived}
-use Rattle.meaning_derive.specs.Chains.{IsRefusal}
+use Rattle.meaning_derive.specs.Derive.{Sources, Outcomes}
 use Rattle.meaning_derive.specs.Calls.{IsFrontier}
 use Rattle.walk_tables.specs.Calls.{call_in}
 use Rattle.walk_tables.specs.declared.found.Found.{Found}
@@ -17,6 +16,7 @@ use Rattle.derive_walk.specs.Founds.{IsFound}
 use Rattle.derive_walk.specs.Outcomes.{nothing_known}
 use Rattle.plain_derive.specs.declared.fault.PlainFault.{PlainFault}
 use Rattle.plain_derive.specs.declared.fault.PlainFault.TheVariants.{Spawn, Memory}
+use Rattle.plain_derive.specs.Given.{IsRefusedBy}
 use Rattle.plain_derive.specs.Made.{AreGivenBy}
 
 -- ---- one call, made while nothing else runs
@@ -70,10 +70,9 @@ pub data AreMade (g : Graph) (s : Sources) (outcomes : Outcomes) (n : Node)
       → IsFrontier g s (among outcomes calls) n call → IsSome (outcomes call)
       → AreMade g s outcomes n (calls ++ call ∷ [])
 
--- With nothing known the node has a chain for which it is refused.
-pub record IsRefusedAtOnce (g : Graph) (s : Sources) (n : Node) : Type 0 where
-  pub chain : List Node
-  pub is : IsRefusal g (derived g s nothing_known) n chain
+-- with nothing known the node has a chain for which it is refused
+abbrev pub IsRefusedAtOnce : Graph → Sources → Node → Type 0
+IsRefusedAtOnce g s n = IsRefusedBy g s nothing_known n
 
 -- These calls of the derivation were made, and nothing else happened; nothing at all for a node that
 -- is refused at once.

@@ -1,39 +1,23 @@
 -- A derivation on its way.
-use Rattle.std.specs.Prelude.{◌≡◌, List, [], ◌∷◌, ◌++◌, map}
+use Rattle.std.specs.Prelude.{◌≡◌}
 use Rattle.object_values.specs.declared.nodes.Node.{Node}
-use Rattle.object_values.specs.declared.calls.Call.{Call}
-use Rattle.object_values.specs.declared.calls.Outcome.{Outcome}
 use Rattle.odin_outside.specs.Spawned.{Spawned}
-use Rattle.meaning_texts.specs.Lists.{IsIn}
 use Rattle.meaning_graph.specs.Graphs.{Graph}
 use Rattle.meaning_derive.specs.Derive.{Sources}
-use Rattle.meaning_derive.specs.Calls.{IsFrontier}
-use Rattle.walk_tables.specs.Calls.{Outcomes as Listed}
 use Rattle.derive_walk.specs.Outcomes.{nothing_known, after}
 use Rattle.derive_walk.specs.Walks.{Walked, IsRight}
 use Rattle.derive_walk.specs.Worlds.{world}
 use Rattle.plain_derive.specs.declared.fault.PlainFault.{PlainFault}
+use Rattle.plain_derive.specs.Given.{calls_of, AreGiven, HaveCome}
 use Rattle.plain_derive.specs.Logs.{after_calls, IsRefusedAtOnce, HasGivenUp}
-use Rattle.plain_derive.specs.Made.{IsOutcomeOf}
-
-abbrev pub calls_of : Listed → List Call
-calls_of given = map (λ (x : Call × Outcome). x.0) given
-
--- Each call was one at which the derivation stopped by those before it.
-pub data AreGiven (g : Graph) (s : Sources) (n : Node) : Listed → Type 0 where
-  none_given : AreGiven g s n []
-  one_more : (given : Listed) (call : Call) (outcome : Outcome) → AreGiven g s n given
-      → IsFrontier g s (after nothing_known given) n call
-      → AreGiven g s n (given ++ (call, outcome) ∷ [])
 
 -- The calls that were given outcomes were made, each outcome came of its call, and the walk is right
 -- by them.
 pub record IsSoFar (g : Graph) (s : Sources) (n : Node) (before : Spawned) (walked : Walked)
     (now : Spawned) : Type 0 where
   pub root : walked.root ≡ n
-  pub are : AreGiven g s n walked.given
-  pub outcomes : (call : Call) (outcome : Outcome) → IsIn (call, outcome) walked.given
-      → IsOutcomeOf before.answer call outcome
+  pub are : AreGiven g s nothing_known n walked.given
+  pub came : HaveCome before.answer walked.given
   pub now_is : now ≡ after_calls before (calls_of walked.given)
   pub right : IsRight (world g s (after nothing_known walked.given)) walked
 

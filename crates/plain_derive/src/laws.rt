@@ -1,4 +1,5 @@
 //! Laws of what a derivation made. Each is the contract of a function with an empty body.
+ghost use Rattle.plain_derive.specs.GivenLaws.{GivenAreAll, GivenAreCalls, GivenAreNew, GivenAreTrue, GivenFit, KeptStays, NoneIsGiven};
 ghost use Rattle.plain_derive.specs.Laws.{FoundByAll, MadeAreCalls, MadeAreOnce, AllAreMade, MadeCountsNone, GivenUpIsCounted};
 
 /// What is found by the calls that were made is found by all outcomes.
@@ -17,4 +18,21 @@ pub fn made_are_calls()
 pub fn faults_are_counted()
     ensures made { MadeCountsNone }
     ensures given_up { GivenUpIsCounted }
+{}
+
+/// The calls that were given outcomes over what is kept are calls of the node that are not kept, each
+/// once; all that are not kept where it has a result, and none where all are kept.
+pub fn given_are_calls()
+    ensures each { GivenAreCalls }
+    ensures new { GivenAreNew }
+    ensures all { GivenAreAll }
+    ensures none { NoneIsGiven }
+{}
+
+/// What is kept stays as outcomes are given. All of them fit, and are true where those that are kept
+/// are and the others came of their calls.
+pub fn given_are_known()
+    ensures stays { KeptStays }
+    ensures fit { GivenFit }
+    ensures right { GivenAreTrue }
 {}

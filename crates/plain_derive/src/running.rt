@@ -54,8 +54,12 @@ fn run_first<S: Spawner>(
     Ok(())
 }
 
-// Runs the tool of a call to its end.
-fn run_call<S: Spawner>(alloc: Global, call: &Call, tools: &mut S) -> Result<Outcome, PlainFault>
+/// Runs the tool of a call to its end, while no other runs.
+pub fn run_call<S: Spawner>(
+    alloc: Global,
+    call: &Call,
+    tools: &mut S,
+) -> Result<Outcome, PlainFault>
     requires { (S.told tools.old).running ≡ [] }
     ensures outcome { IfOk result (IsOutcomeOf (S.told tools.old).answer call.now) }
     ensures made { OnOk result (S.told tools.new ≡ closed (S.told tools.old) call.now (Ended 0)) }

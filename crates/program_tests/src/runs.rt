@@ -34,7 +34,7 @@ pub fn status_over<I: Read + Drop, O: Write + Drop>(
     let mut input = InputSource::new(input);
     let mut output = OutputSink::new(output);
     let mut tree = FolderTree::new(rt);
-    let mut disk = MemDisk::new(alloc, Bytes::new(alloc), 0, 0)?;
+    let mut disk = MemDisk::new(alloc, Bytes::new(alloc), 1 << 22, 4096)?;
     let mut tools = ChildTools::new(alloc, rt, rt.stderr());
     Ok(run(
         alloc,

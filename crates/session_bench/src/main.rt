@@ -29,7 +29,7 @@ fn serve(rt: &HostRuntime, alloc: Global, words: &[String]) -> Result<u8, Memory
     let mut input = InputSource::new(rt.reader());
     let mut output = OutputSink::new(io::writer(rt));
     let mut tree = sample_tree(alloc)?;
-    let mut disk = MemDisk::new(alloc, Bytes::new(alloc), 0, 0)?;
+    let mut disk = MemDisk::new(alloc, Bytes::new(alloc), 1 << 22, 4096)?;
     let mut tools = TableTools::toy(alloc, Seq::new(alloc));
     Ok(run(
         alloc,

@@ -11,7 +11,7 @@ use std::alloc::Global;
 use std::test::Fail;
 
 // Units with headers are scanned, compiled and linked.
-const C_UNITS: &[u8] =
+pub(super) const C_UNITS: &[u8] =
     b"type hdr simple;\ntype c simple is hdr;\ntype sm simple;\ntype inc simple;\ntype o simple;\ntype exe simple;\ntype units list of c;\ntype objs list of o;\nsuffix .h hdr;\nsuffix .c c;\nsuffix .sm sm;\nparam debug;\ntool scan 1 from hdr to inc run \"scan\";\ntool cc 1 from c to o run \"cc\" uses debug closure inc;\nread rd from sm to units;\neach comp from units to objs;\ntool ld 1 from objs to exe run \"ld\";\n";
 
 const TWO_WAYS: &[u8] =
@@ -32,7 +32,7 @@ const ROWS: [Row; 16] = [
         b"put a.c 4\nx=1\nask a.c:o\nask a.c:o\n",
         0,
         b"put a.c 4\nobject ok simple 4\nx=1\n\nmessages 0\nobject ok simple 4\nx=1\n\nmessages 0\n",
-        4,
+        2,
     ),
     (
         GRAPH,
@@ -284,16 +284,9 @@ fn failing_tools(alloc: Global, number: u32) -> Result<(u8, Vec<u8>, usize), Mem
 
 #[test]
 fn refuses_one_ask_where_a_tool_fails(rt: HostRuntime) -> Result<(), Fail> {
-    // The number of the start or end that fails, the ask that is refused, and how many starts and ends are noted.
-    for (number, refused, events) in [
-        (1, 1, 4),
-        (2, 1, 6),
-        (3, 2, 4),
-        (4, 2, 6),
-        (5, 3, 4),
-        (6, 3, 6),
-        (7, 0, 6),
-    ] {
+    // The number of the start or end that fails, the ask that is refused, and how many starts and ends are noted: the next ask runs the call, and
+    // the others find it kept.
+    for (number, refused, events) in [(1, 1, 2), (2, 1, 4), (3, 0, 2)] {
         let (status, output, counted) = failing_tools(rt.alloc(), number)?;
         let mut want = Vec::new(rt.alloc());
         put_replies(&mut want, refused)?;

@@ -82,7 +82,7 @@ const ROWS: [(&[u8], u8, &[u8]); 24] = [
         b"sources 0\nput b 3\nput a/1 0\nput a 2\nput b 1\nsources 3\na 2\na/1 0\nb 1\nrefused command\n",
     ),
     (b"take g0\ntake z.c\ntake a?c\ntake \n", 0, TAKEN),
-    (b"kept\nquit", 0, b"refused command\nbye\n"),
+    (b"kept\nquit", 0, b"kept 0\nbye\n"),
     (b"quit\n", 0, b"bye\n"),
     (
         b"quit x\nquit\r\nfrob\nput a.c 9\nx=1",

@@ -6,6 +6,8 @@ mod graphs;
 #[cfg(test)]
 mod inputs;
 #[cfg(test)]
+mod keeping;
+#[cfg(test)]
 mod runs;
 #[cfg(test)]
 mod serving;

@@ -37,6 +37,11 @@ pub fn source(alloc: Global, text: &[u8], piece: usize) -> Result<MemSource, Mem
     Ok(MemSource::new(Bytes::from_slice(alloc, text)?, piece))
 }
 
+/// Room on a disk for the longest text and some more, in bytes, and for the calls of each session here.
+pub const DISK_BYTES: usize = 20_000_000;
+
+pub const DISK_CALLS: usize = 4096;
+
 /// An output with room for so many bytes, taken in such pieces.
 pub fn sink(alloc: Global, room: usize, piece: usize) -> Result<MemSink, Memory>
     requires { 0 < piece }
@@ -71,7 +76,7 @@ pub fn status_over<I: Source, O: Sink, T: Tree, S: Spawner>(
 ) -> Result<u8, Memory>
     requires { (S.told tools.old).running ≡ [] }
 {
-    let mut disk = MemDisk::new(alloc, Bytes::new(alloc), 0, 0)?;
+    let mut disk = MemDisk::new(alloc, Bytes::new(alloc), DISK_BYTES, DISK_CALLS)?;
     Ok(run(alloc, words, input, output, tree, &mut disk, tools))
 }
 

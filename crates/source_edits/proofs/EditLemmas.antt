@@ -1,6 +1,6 @@
 -- What edits of the sources say.
 use Rattle.std.proofs.Common.{true, false, ◌≡◌, ℕ, ◌<◌, ◌≤◌, List, length, ap, refl, sym, ◌∙◌, subst, inl, inr}
-use Rattle.std.specs.Prelude.{Option, Some, None, is_none}
+use Rattle.std.specs.Prelude.{Option, Some, None, IsSome, is_none}
 use Rattle.std.specs.Option.{option_map}
 use Rattle.std.specs.FinMap.{get, insert, remove}
 use Rattle.object_sources.specs.Texts.{Text, Texts}
@@ -77,3 +77,10 @@ dropped f o old new name asked bytes there slice some is removed =
     let found = some_there f o (get old asked) there some in
     let present : get old name ≡ Some found.0 = ap (get old) (sym slice) ∙ found.1 in
     says (λ said. Removes old name said new) (reply.Dropped name) bytes (subst (λ (t : Option Text). RemovesText t old name (reply.Dropped name) new) (sym present) (refl, removed)) is
+
+-- a source that is there
+pub is_source : {A : Type 0} (f : A → Text) (o : Option A) (old : Texts) (name asked : Text) → option_map f o ≡ get old asked → asked ≡ name → is_none o ≡ false → IsSome (get old name)
+is_source f o old name asked there slice some =
+    let found = some_there f o (get old asked) there some in
+    let present : get old name ≡ Some found.0 = ap (get old) (sym slice) ∙ found.1 in
+    subst (λ (t : Option Text). IsSome t) (sym present) refl

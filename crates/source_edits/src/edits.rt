@@ -1,49 +1,86 @@
-// Commands on sources. The bytes of a reply are made before the sources change.
-ghost use Rattle.std.specs.Prelude.{◌≡◌, IfOk, OnOk, OnErr};
-ghost use Rattle.std.specs.FinMap.{insert};
+// Commands on sources. The bytes of a reply are made before the change is written.
+ghost use Rattle.std.specs.Prelude.{◌≡◌, IfOk, IfErr, OnOk};
 ghost use Rattle.meaning_commands.specs.Replies.{reply_text, counted};
+ghost use Rattle.odin_journal.specs.Faults.{IsCause};
+ghost use Rattle.odin_store.specs.Held.{puts, drops};
+ghost use Rattle.odin_store.specs.OnDisk.{IsLeft, IsOpen};
+ghost use Rattle.odin_store.specs.Changes.{MayPut};
+ghost use Rattle.odin_store.specs.Edited.{HasFailed};
 ghost use Rattle.source_edits.specs.Edits as edits;
+ghost use Rattle.source_edits.specs.Changes.{EditsSource, HasFailedToPut, IsPut, IsTaken, MayBeTaken, MayPutCounted, PutsSource};
 ghost use Rattle.source_edits.specs.Edits.{Says, IsAsked, tree_of};
 
 use object_sources::Sources;
 use object_values::{BODY_LIMIT, Bytes, Memory, Seq, Text};
 use odin_bytes::{Name, write_number};
 use odin_commands::{Reply, text_of};
-use odin_outside::{Tree, TreeFault};
+use odin_engine::{Engine, StoreFault};
+use odin_outside::{Disk, Tree, TreeFault};
+use odin_store::laws::changes_follow;
 use std::alloc::Global;
 
 /// The longest text of a source, in bytes.
 pub const TEXT_LIMIT: u64 = BODY_LIMIT as u64;
 
-// Gives a source a text. The text is made of the bytes before the sources change.
-fn set_text(sources: &mut Sources, name: Name, text: Bytes) -> Result<(), Memory>
-    ensures ok { OnOk result (sources.new.texts ≡ insert sources.old.texts name text) }
-    ensures err { OnErr result (sources.new.texts ≡ sources.old.texts) }
+// A reply that changes nothing.
+fn say(alloc: Global, reply: Reply) -> Result<Bytes, StoreFault>
+    ensures ok { IfOk result (λ bytes. bytes ≡ reply_text reply) }
+    ensures err { IfErr result (λ fault. fault ≡ StoreFault.Memory) }
+{
+    let bytes = text_of(alloc, reply)?;
+    Ok(bytes)
+}
+
+// Gives a source a text.
+fn set_text<D: Disk>(
+    alloc: Global,
+    engine: &mut Engine,
+    disk: &mut D,
+    name: &Name,
+    text: Bytes,
+) -> Result<(), StoreFault>
+    requires { MayPut engine.old.store (D.size_of disk.old) text }
+    ensures ok { OnOk result (PutsSource D.told name.now text
+        engine.old.store engine.new.store disk.old disk.new) }
+    ensures err { IfErr result (HasFailed D.told (puts name.now text)
+        engine.old.store engine.new.store disk.old disk.new) }
+    ensures graph { engine.new.graph ≡ engine.old.graph }
+    ensures left { IsLeft engine.new.store (D.size_of disk.new) result }
+    ensures cause { IsCause (D.faults disk.old) (D.faults disk.new) result }
 {
     let text = Text::of(text)?;
-    sources.reserve()?;
-    let _ = sources.put(name.into_bytes(), text);
+    let _ = engine.put(alloc, disk, name, &text)?;
     Ok(())
 }
 
 /// `put`, with the bytes behind it where it keeps them.
-pub fn put(
+pub fn put<D: Disk>(
     alloc: Global,
-    sources: &mut Sources,
+    engine: &mut Engine,
+    disk: &mut D,
     name: Name,
     count: u64,
     text: Bytes,
-) -> Result<Bytes, Memory>
-    ensures ok { let old = sources.old.texts in
-        IfOk result (Says (λ said. edits.Puts old name count text said sources.new.texts)) }
-    ensures err { OnErr result (sources.new.texts ≡ sources.old.texts) }
+) -> Result<Bytes, StoreFault>
+    requires { MayPutCounted engine.old.store (D.size_of disk.old) count text }
+    ensures says { let old = engine.old.store.sources.texts in
+        let new = engine.new.store.sources.texts in
+        IfOk result (Says (λ said. edits.Puts old name count text said new)) }
+    ensures ok { OnOk result
+        (EditsSource D.told name engine.old.store engine.new.store disk.old disk.new) }
+    ensures err { IfErr result (HasFailedToPut D.told (IsPut count text) name
+        engine.old.store engine.new.store disk.old disk.new) }
+    ensures graph { engine.new.graph ≡ engine.old.graph }
+    ensures left { IsLeft engine.new.store (D.size_of disk.new) result }
+    ensures cause { IsCause (D.faults disk.old) (D.faults disk.new) result }
 {
+    changes_follow::<D>();
     if count > TEXT_LIMIT {
-        return text_of(alloc, Reply::RefusedSize);
+        return say(alloc, Reply::RefusedSize);
     }
     let said = Bytes::from_slice(alloc, name.as_slice())?;
-    let reply = text_of(alloc, Reply::Put(said, count))?;
-    set_text(sources, name, text)?;
+    let reply = say(alloc, Reply::Put(said, count))?;
+    set_text(alloc, engine, disk, &name, text)?;
     Ok(reply)
 }
 
@@ -55,63 +92,97 @@ pub fn refuse_name(alloc: Global, _count: u64) -> Result<Bytes, Memory>
 }
 
 // `take` of what the tree gave.
-fn take_file(
+fn take_file<D: Disk>(
     alloc: Global,
-    sources: &mut Sources,
+    engine: &mut Engine,
+    disk: &mut D,
     name: Name,
     file: Option<Bytes>,
-) -> Result<Bytes, Memory>
-    ensures ok { let old = sources.old.texts in
-        IfOk result (Says (λ said. edits.TakesFile old name file said sources.new.texts)) }
-    ensures err { OnErr result (sources.new.texts ≡ sources.old.texts) }
+) -> Result<Bytes, StoreFault>
+    requires { IsOpen engine.old.store (D.size_of disk.old) }
+    ensures says { let old = engine.old.store.sources.texts in
+        let new = engine.new.store.sources.texts in
+        IfOk result (Says (λ said. edits.TakesFile old name file said new)) }
+    ensures ok { OnOk result
+        (EditsSource D.told name engine.old.store engine.new.store disk.old disk.new) }
+    ensures err { IfErr result (HasFailedToPut D.told (IsTaken file) name
+        engine.old.store engine.new.store disk.old disk.new) }
+    ensures graph { engine.new.graph ≡ engine.old.graph }
+    ensures left { IsLeft engine.new.store (D.size_of disk.new) result }
+    ensures cause { IsCause (D.faults disk.old) (D.faults disk.new) result }
 {
+    changes_follow::<D>();
     let Some(text) = file else {
-        return text_of(alloc, Reply::NoFile(name.into_bytes()));
+        return say(alloc, Reply::NoFile(name.into_bytes()));
     };
     let count = text.len() as u64;
     if count > TEXT_LIMIT {
-        return text_of(alloc, Reply::RefusedSize);
+        return say(alloc, Reply::RefusedSize);
     }
     let said = Bytes::from_slice(alloc, name.as_slice())?;
-    let reply = text_of(alloc, Reply::Took(said, count))?;
-    set_text(sources, name, text)?;
+    let reply = say(alloc, Reply::Took(said, count))?;
+    set_text(alloc, engine, disk, &name, text)?;
     Ok(reply)
 }
 
 /// `take`. The tree is asked once, whatever comes of it.
-pub fn take<T: Tree>(
+pub fn take<D: Disk, T: Tree>(
     alloc: Global,
-    sources: &mut Sources,
+    engine: &mut Engine,
+    disk: &mut D,
     name: Name,
     tree: &mut T,
-) -> Result<Bytes, Memory>
-    ensures ok { let old = sources.old.texts in
+) -> Result<Bytes, StoreFault>
+    requires { IsOpen engine.old.store (D.size_of disk.old) }
+    ensures says { let old = engine.old.store.sources.texts in
+        let new = engine.new.store.sources.texts in
         let told = tree_of T.files T.faults T.reads in
         IfOk result (Says (λ said.
-        edits.Takes old name (told tree.old) said sources.new.texts (told tree.new))) }
-    ensures err { OnErr result (sources.new.texts ≡ sources.old.texts) }
+        edits.Takes old name (told tree.old) said new (told tree.new))) }
+    ensures ok { OnOk result
+        (EditsSource D.told name engine.old.store engine.new.store disk.old disk.new) }
+    ensures err { IfErr result (HasFailedToPut D.told (MayBeTaken (T.files tree.old) name) name
+        engine.old.store engine.new.store disk.old disk.new) }
+    ensures graph { engine.new.graph ≡ engine.old.graph }
+    ensures left { IsLeft engine.new.store (D.size_of disk.new) result }
+    ensures cause { IsCause (D.faults disk.old) (D.faults disk.new) result }
     ensures asked { let told = tree_of T.files T.faults T.reads in
         IsAsked (told tree.old) (told tree.new) }
 {
+    changes_follow::<D>();
     match tree.read(alloc, name.as_slice()) {
-        Ok(file) => take_file(alloc, sources, name, file),
-        Err(TreeFault::Failed) => text_of(alloc, Reply::RefusedRead),
-        Err(TreeFault::Memory) => Err(Memory),
+        Ok(file) => take_file(alloc, engine, disk, name, file),
+        Err(TreeFault::Failed) => say(alloc, Reply::RefusedRead),
+        Err(TreeFault::Memory) => Err(StoreFault::Memory),
     }
 }
 
 /// `drop`. The text that the source had is given up.
-pub fn remove(alloc: Global, sources: &mut Sources, name: Name) -> Result<Bytes, Memory>
-    ensures ok { let old = sources.old.texts in
-        IfOk result (Says (λ said. edits.Removes old name said sources.new.texts)) }
-    ensures err { OnErr result (sources.new.texts ≡ sources.old.texts) }
+pub fn remove<D: Disk>(
+    alloc: Global,
+    engine: &mut Engine,
+    disk: &mut D,
+    name: Name,
+) -> Result<Bytes, StoreFault>
+    requires { IsOpen engine.old.store (D.size_of disk.old) }
+    ensures says { let old = engine.old.store.sources.texts in
+        let new = engine.new.store.sources.texts in
+        IfOk result (Says (λ said. edits.Removes old name said new)) }
+    ensures ok { OnOk result
+        (EditsSource D.told name engine.old.store engine.new.store disk.old disk.new) }
+    ensures err { IfErr result (HasFailed D.told (drops name)
+        engine.old.store engine.new.store disk.old disk.new) }
+    ensures graph { engine.new.graph ≡ engine.old.graph }
+    ensures left { IsLeft engine.new.store (D.size_of disk.new) result }
+    ensures cause { IsCause (D.faults disk.old) (D.faults disk.new) result }
 {
-    if sources.get(name.as_slice()).is_none() {
-        return text_of(alloc, Reply::NoSource(name.into_bytes()));
+    changes_follow::<D>();
+    if engine.store().sources().get(name.as_slice()).is_none() {
+        return say(alloc, Reply::NoSource(name.into_bytes()));
     }
     let said = Bytes::from_slice(alloc, name.as_slice())?;
-    let reply = text_of(alloc, Reply::Dropped(said))?;
-    let _ = sources.remove(name.as_slice());
+    let reply = say(alloc, Reply::Dropped(said))?;
+    let _ = engine.remove(alloc, disk, &name)?;
     Ok(reply)
 }
 
@@ -137,9 +208,10 @@ fn source_lines(alloc: Global, sources: &Sources) -> Result<Seq<Bytes>, Memory>
 }
 
 /// `sources`, each with its length in bytes.
-pub fn list(alloc: Global, sources: &Sources) -> Result<Bytes, Memory>
-    ensures { let lines = edits.source_lines sources.now.texts in
+pub fn list(alloc: Global, engine: &Engine) -> Result<Bytes, Memory>
+    ensures { let lines = edits.source_lines engine.now.store.sources.texts in
         IfOk result (λ bytes. bytes ≡ reply_text (Reply.Sources lines)) }
 {
-    text_of(alloc, Reply::Sources(source_lines(alloc, sources)?))
+    let lines = source_lines(alloc, engine.store().sources())?;
+    text_of(alloc, Reply::Sources(lines))
 }

@@ -1,9 +1,11 @@
-use Rattle.std.proofs.Common.{sym, subst}
+use Rattle.std.proofs.Common.{refl, sym, subst}
+use Rattle.std.proofs.lemmas.Result.{err_from_is_err_and}
 use Rattle.walk_tables.specs.Tables.{results_of}
 use Rattle.derive_walk.specs.Settings.{world_in}
 use Rattle.derive_walk.specs.Settled.{IsClosed}
 use Rattle.derive_walk.specs.States.{HoldsIn, GoesOnFrom}
 use Rattle.derive_walk.specs.Worlds.{World}
+use Rattle.derive_walk.proofs.LooksLemmas.{few_at, few_wider, few_settled, few_stops, few_lost}
 use Rattle.derive_walk.proofs.Tables.{not_done, not_waiting}
 use Rattle.derive_walk.proofs.ClosingLemmas.{last_fits, last_is_new}
 use Rattle.derive_walk.proofs.GoingLemmas.{goes_with_done, visited_with_done, goes_with_waiting, visited_with_waiting}
@@ -34,7 +36,7 @@ returns-in_ok-add-in-Settled-clause-on g c = goes_with_done (world_in g.K.Known.
 pub returns-in_ok-add-in-Settled-clause-holds : goal.returns-in_ok-add-in-Settled-clause-holds
 returns-in_ok-add-in-Settled-clause-holds g c =
     settled_holds (world_in g.K.Known.kept c.args.setting.now) c.args.walk.now c.requires.holds c.args.node c.args.height c.requires.last c.requires.closing c.in-Settled.view
-    (subst (IsClosed (world_in g.K.Known.kept c.args.setting.now) c.args.node (results_of c.args.walk.now.done)) c.in-Settled.is c.in_ok-view.ensures)
+    (subst (IsClosed (world_in g.K.Known.kept c.args.setting.now) c.args.node (results_of c.args.walk.now.done)) c.in-Settled.is c.in_ok-view.ensures.closed)
     c.add.new.self c.in_ok-add-in-Settled.ensures.ok
 
 pub returns-in_ok-add-in-Settled-clause-visited : goal.returns-in_ok-add-in-Settled-clause-visited
@@ -51,7 +53,7 @@ returns-in_err-add-in-Stops-2-clause-on g c = subst (λ z. GoesOnFrom c.args.wal
 pub returns-in_err-add-in-Stops-2-clause-holds : goal.returns-in_err-add-in-Stops-2-clause-holds
 returns-in_err-add-in-Stops-2-clause-holds g c =
     let w : World = world_in g.K.Known.kept c.args.setting.now in
-    let stop = subst (IsClosed w c.args.node (results_of c.args.walk.now.done)) c.in-Stops.is c.in_ok-view.ensures in
+    let stop = subst (IsClosed w c.args.node (results_of c.args.walk.now.done)) c.in-Stops.is c.in_ok-view.ensures.closed in
     subst (λ z. HoldsIn w (record c.args.walk.now { wanted = c.add-in-Stops.new.self; waiting = z })) (sym c.in_err-add-in-Stops-2.ensures.err)
     (wanted_holds w c.args.walk.now c.requires.holds c.args.node c.args.height c.requires.last c.requires.closing c.in-Stops.call stop c.add-in-Stops.new.self c.in_ok-add-in-Stops.ensures.ok)
 
@@ -61,8 +63,37 @@ returns-in_ok-add-in-Stops-2-clause-on g c = goes_with_waiting (world_in g.K.Kno
 pub returns-in_ok-add-in-Stops-2-clause-holds : goal.returns-in_ok-add-in-Stops-2-clause-holds
 returns-in_ok-add-in-Stops-2-clause-holds g c =
     let w : World = world_in g.K.Known.kept c.args.setting.now in
-    let stop = subst (IsClosed w c.args.node (results_of c.args.walk.now.done)) c.in-Stops.is c.in_ok-view.ensures in
+    let stop = subst (IsClosed w c.args.node (results_of c.args.walk.now.done)) c.in-Stops.is c.in_ok-view.ensures.closed in
     stopped_holds w c.args.walk.now c.requires.holds c.args.node c.args.height c.requires.last c.requires.closing c.in-Stops.call stop c.add-in-Stops.new.self c.in_ok-add-in-Stops.ensures.ok c.add-in-Stops-2.new.self c.in_ok-add-in-Stops-2.ensures.ok
 
 pub returns-in_ok-add-in-Stops-2-clause-visited : goal.returns-in_ok-add-in-Stops-2-clause-visited
 returns-in_ok-add-in-Stops-2-clause-visited g c = visited_with_waiting (world_in g.K.Known.kept c.args.setting.now) c.args.walk.now c.args.node c.requires.last c.args.height c.add-in-Stops-2.new.self c.in_ok-add-in-Stops-2.ensures.ok c.add-in-Stops.new.self
+
+-- ---- looks
+
+pub returns-in_err-view-clause-counted : goal.returns-in_err-view-clause-counted
+returns-in_err-view-clause-counted g c =
+    let given = err_from_is_err_and _ c.from_residual.ensures.1 in
+    few_at _ _ _ _ _ _ given.1 (few_lost c.args.walk.now.done c.args.walk.now.wanted _ _ _ _ _ refl refl c.in_err-view.ensures.counted)
+
+pub returns-in_err-add-in-Settled-clause-counted : goal.returns-in_err-add-in-Settled-clause-counted
+returns-in_err-add-in-Settled-clause-counted g c =
+    let given = err_from_is_err_and _ c.from_residual-in_err-add-in-Settled.ensures.1 in
+    few_at _ _ _ _ _ _ given.1 (few_lost c.args.walk.now.done c.args.walk.now.wanted _ _ _ _ _ c.in_err-add-in-Settled.ensures.err refl c.in_ok-view.ensures.counted)
+
+pub returns-in_ok-add-in-Settled-clause-counted : goal.returns-in_ok-add-in-Settled-clause-counted
+returns-in_ok-add-in-Settled-clause-counted g c =
+    few_settled c.args.walk.now.done c.args.walk.now.wanted _ _ _ _ _ _ c.in-Settled.view c.in-Settled.is c.in_ok-add-in-Settled.ensures.ok c.in_ok-view.ensures.counted
+
+pub returns-in_err-add-in-Stops-clause-counted : goal.returns-in_err-add-in-Stops-clause-counted
+returns-in_err-add-in-Stops-clause-counted g c =
+    let given = err_from_is_err_and _ c.from_residual-in_err-add-in-Stops.ensures.1 in
+    few_at _ _ _ _ _ _ given.1 (few_lost c.args.walk.now.done c.args.walk.now.wanted _ _ _ _ _ refl c.in_err-add-in-Stops.ensures.err c.in_ok-view.ensures.counted)
+
+pub returns-in_err-add-in-Stops-2-clause-counted : goal.returns-in_err-add-in-Stops-2-clause-counted
+returns-in_err-add-in-Stops-2-clause-counted g c =
+    few_wider _ _ _ _ _ (few_stops c.args.walk.now.done c.args.walk.now.wanted _ _ _ _ c.in-Stops.call c.in-Stops.is c.in_ok-add-in-Stops.ensures.ok c.in_ok-view.ensures.counted)
+
+pub returns-in_ok-add-in-Stops-2-clause-counted : goal.returns-in_ok-add-in-Stops-2-clause-counted
+returns-in_ok-add-in-Stops-2-clause-counted g c =
+    few_stops c.args.walk.now.done c.args.walk.now.wanted _ _ _ _ c.in-Stops.call c.in-Stops.is c.in_ok-add-in-Stops.ensures.ok c.in_ok-view.ensures.counted

@@ -1,4 +1,5 @@
 use Rattle.std.proofs.Common.{◌≡◌, ◌-◌, length, drop}
+use Rattle.derive_walk.specs.Looks.{AreFew, met_in}
 use Rattle.derive_walk.specs.Settings.{world_in}
 use Rattle.derive_walk.specs.States.{heights_in}
 use Rattle.derive_walk.proofs.HeightLemmas.{unseen_count}
@@ -14,10 +15,14 @@ abbrev pub invariant-rounds : goal.invariant-rounds
 invariant-rounds g l = record {
   so : SoFar (world_in g.K.Known.kept l.setting) l.fn.walk l.walk l.node;
   length : l.length ≡ length l.fn.walk.path;
+  counted : AreFew (met_in l.fn.walk) (met_in l.walk) l.fn.steps l.steps 0;
 }
 
 abbrev pub decreases-rounds : goal.decreases-rounds
 decreases-rounds g l = unseen_count (heights_in l.walk) (needs_in (world_in g.K.Known.kept l.setting) l.node)
 
 abbrev pub invariant-loop-need : goal.invariant-loop-need
-invariant-loop-need g l = InRound (world_in g.K.Known.kept l.setting) l.fn.walk l.initial.walk l.walk l.node l.needs (drop l.need-index l.needs) l.whole
+invariant-loop-need g l = record {
+  round : InRound (world_in g.K.Known.kept l.setting) l.fn.walk l.initial.walk l.walk l.node l.needs (drop l.need-index l.needs) l.whole;
+  counted : AreFew (met_in l.fn.walk) (met_in l.walk) l.fn.steps l.steps 0;
+}

@@ -1,6 +1,7 @@
 use Rattle.std.proofs.Common.{◌<◌, ◌∙◌, length, arith}
 use Rattle.kept_contents.specs.Added.{texts_of}
 use Rattle.kept_contents.proofs.Batched.{outputs_step, outputs_adds}
+use Rattle.kept_contents.proofs.HeldCalls.{grown_twice}
 use Rattle.kept_contents.proofs.numbering.number_outputs.Goals as goal
 
 pub loop-output-preserved : goal.loop-output-preserved
@@ -12,4 +13,5 @@ loop-output-preserved c =
       outputs_adds c.args.outputs.now c.loop-output.output-index here within c.output-item.is c.args.table.now.contents c.loop-output.table.contents (texts_of c.args.added.now) (texts_of c.loop-output.added) (texts_of c.number_output.new.added) c.loop-output.invariant.3 c.loop-output.invariant.1 made.adds,
       made.held,
       made.contents ∙ c.loop-output.invariant.3,
+      grown_twice c.args.table.now.texts c.loop-output.table.texts c.number_output.new.table.texts c.loop-output.invariant.4 made.texts,
     )

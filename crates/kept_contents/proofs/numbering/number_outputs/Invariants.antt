@@ -1,6 +1,7 @@
 use Rattle.std.proofs.Common.{◌≡◌, take}
 use Rattle.meaning_records.specs.Tables.{AreOutputsOf}
 use Rattle.kept_contents.specs.Added.{AreHeld, Adds, contents_with, texts_of, texts_of_outputs}
+use Rattle.kept_contents.specs.Held.{IsGrownFrom}
 use Rattle.kept_contents.proofs.numbering.number_outputs.Given as goal
 
 abbrev pub invariant-loop-output : goal.invariant-loop-output
@@ -9,3 +10,4 @@ invariant-loop-output l =
     × Adds l.fn.table.contents (texts_of_outputs (take l.output-index l.outputs)) (texts_of l.fn.added) (texts_of l.added)
     × AreHeld l.table.texts l.added
     × (l.table.contents ≡ l.fn.table.contents)
+    × IsGrownFrom l.fn.table.texts l.table.texts

@@ -1,6 +1,6 @@
 use Rattle.std.proofs.Common.{ap, ◌∙◌}
 use Rattle.odin_shell.specs.Endings.{status_of}
-use Rattle.odin_shell.proofs.RunLemmas.{run_ends, tree_stays, disk_kept, tools_stay, tools_idle}
+use Rattle.odin_shell.proofs.RunLemmas.{run_ends, tree_stays, tools_stay, tools_idle}
 use Rattle.odin_shell.proofs.entry.run.Goals as goal
 
 pub returns-clause-ends : goal.returns-clause-ends
@@ -14,6 +14,3 @@ returns-clause-tools g c = tools_stay _ _ _ _ c.run_words.result c.requires c.ru
 
 pub returns-clause-idle : goal.returns-clause-idle
 returns-clause-idle g c = λ other. tools_idle _ _ _ _ c.run_words.result c.requires (λ e. other (c.status.ensures ∙ ap status_of e)) c.run_words.ensures
-
-pub returns-clause-disk : goal.returns-clause-disk
-returns-clause-disk g c = disk_kept _ _ _ _ c.run_words.result c.run_words.ensures

@@ -1,7 +1,8 @@
 use Rattle.std.proofs.Common.{◌≡◌, ℕ, List, Err, ap, sym, refl, subst}
 use Rattle.meaning_graph.specs.Graphs.{Text}
+use Rattle.dg_reader.specs.Files.{IsRead}
 use Rattle.odin_words.specs.Asked.{AsksFor}
-use Rattle.odin_shell.specs.Run.{words_refused, words_unread, tree_failed, graph_unread, graph_refused, served}
+use Rattle.odin_shell.specs.Run.{words_refused, words_unread, tree_failed, graph_unread, graph_refused, graph_read}
 use Rattle.odin_shell.proofs.RunLemmas.{asks, gives}
 use Rattle.odin_shell.proofs.entry.run_words.Goals as goal
 
@@ -15,8 +16,8 @@ returns-in-Ok-None g c = record { opened = _; how = words_refused (rw c.in-Ok-No
 pub returns-in-Err : goal.returns-in-Err
 returns-in-Err g c = record { opened = _; how = words_unread refl refl refl }
 
-pub serve_graph-requires-clause-spellable : goal.serve_graph-requires-clause-spellable
-serve_graph-requires-clause-spellable g c = let opens = rw c.in-Ok-Ready.field-0-is at c.in-Ok-Ready.ensures.ok in opens.opened.read.spelled.spelled.spellable
+pub serve_store-requires-clause-read : goal.serve_store-requires-clause-read
+serve_store-requires-clause-read g c = let opens = rw c.in-Ok-Ready.field-0-is at c.in-Ok-Ready.ensures.ok in subst (λ t. IsRead t c.in-Ok-Ready.graph) (sym c.as_slice.ensures) opens.opened.read
 
 pub returns-in-Ok-Ready : goal.returns-in-Ok-Ready
 returns-in-Ok-Ready g c =
@@ -24,7 +25,7 @@ returns-in-Ok-Ready g c =
     let opens = rw c.in-Ok-Ready.field-0-is at c.in-Ok-Ready.ensures.ok in
     record {
       opened = _;
-      how = served opens.given _ (gives _ _ _ _ _ _ _ _ (named _ _ _ _ c.as_bytes.ensures.value asked) opens c.in-Ok-Ready.ensures.once c.in-Ok-Ready.ensures.kept c.in-Ok-Ready.ensures.cause.later c.in-Ok-Ready.ensures.cause.ok) opens.opened c.serve_graph.ensures;
+      how = graph_read _ _ _ (record { given = opens.given; gives = gives _ _ _ _ _ _ _ _ (named _ _ _ _ c.as_bytes.ensures.value asked) opens c.in-Ok-Ready.ensures.once c.in-Ok-Ready.ensures.kept c.in-Ok-Ready.ensures.cause.later c.in-Ok-Ready.ensures.cause.ok; reads = opens.opened }) refl refl (rw c.as_slice.ensures at c.serve_store.ensures);
     }
 
 pub returns-in-Ok-Refused : goal.returns-in-Ok-Refused
@@ -33,7 +34,7 @@ returns-in-Ok-Refused g c =
     let opens = rw c.in-Ok-Refused.field-0-is at c.in-Ok-Refused.ensures.ok in
     record {
       opened = _;
-      how = graph_refused opens.given _ (gives _ _ _ _ _ _ _ _ (named _ _ _ _ c.as_bytes.ensures.value asked) opens c.in-Ok-Refused.ensures.once c.in-Ok-Refused.ensures.kept c.in-Ok-Refused.ensures.cause.later c.in-Ok-Refused.ensures.cause.ok) opens.opened (rw c.as_slice.ensures at c.end_with-in-Ok-Refused.ensures) refl refl;
+      how = graph_refused opens.given _ (gives _ _ _ _ _ _ _ _ (named _ _ _ _ c.as_bytes.ensures.value asked) opens c.in-Ok-Refused.ensures.once c.in-Ok-Refused.ensures.kept c.in-Ok-Refused.ensures.cause.later c.in-Ok-Refused.ensures.cause.ok) opens.opened (rw c.as_slice-in-Ok-Refused.ensures at c.end_with-in-Ok-Refused.ensures) refl refl;
     }
 
 pub returns-in-Err-Tree : goal.returns-in-Err-Tree

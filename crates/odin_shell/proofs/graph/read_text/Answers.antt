@@ -7,10 +7,11 @@ use Rattle.odin_shell.proofs.graph.read_text.Goals as goal
 
 pub returns-in_ok-line_of_fault-in-Err : goal.returns-in_ok-line_of_fault-in-Err
 returns-in_ok-line_of_fault-in-Err c =
-    subst (λ (line : Text). IsRefused (Some c.args.text.now) line) (sym c.in_ok-line_of_fault-in-Err.ensures.ok)
-    (not_read c.args.text.now c.in-Err.fault (λ e. let err = rw c.in_ok-line_of_fault-in-Err.was at (c.line_of_fault.ensures.memory e) in cc) c.in-Err.ensures.err)
+    subst (λ (line : Text). IsRefused (Some c.args.text) line) (sym c.in_ok-line_of_fault-in-Err.ensures.ok)
+    (not_read c.args.text c.in-Err.fault (λ e. let err = rw c.in_ok-line_of_fault-in-Err.was at (c.line_of_fault.ensures.memory e) in cc) (rw c.as_slice.ensures at c.in-Err.ensures.err))
 
 pub returns-in-Ok : goal.returns-in-Ok
 returns-in-Ok c =
-    subst (λ (g : Graph). ReadsAs (Some c.args.text.now) g) (sym c.into_graph.ensures)
-    (record { text = c.args.text.now; there = refl; read = record { short = c.in-Ok.ensures.ok.short; spelled = c.in-Ok.ensures.ok.spelled; checked = c.checked.ensures } })
+    let ok = rw c.as_slice.ensures at c.in-Ok.ensures.ok in
+    subst (λ (g : Graph). ReadsAs (Some c.args.text) c.args.text g) (sym c.into_graph.ensures)
+    (record { there = refl; read = record { short = ok.short; spelled = ok.spelled; checked = c.checked.ensures } })

@@ -1,6 +1,5 @@
-use Rattle.std.proofs.Common.{rules}
-use Rattle.odin_shell.proofs.RunLemmas.{unread_ends}
+use Rattle.odin_shell.proofs.InputLemmas.{ends_unbegun}
 use Rattle.odin_shell.proofs.input.serve_input.Goals as goal
 
 pub returns-in-Err : goal.returns-in-Err
-returns-in-Err g c = search (rules, unread_ends, c.requires)
+returns-in-Err g c = ends_unbegun _ _ _ _ c.requires.idle

@@ -1,8 +1,10 @@
 use Rattle.std.proofs.Common.{sym, subst, ◌∙◌}
+use Rattle.std.proofs.lemmas.Result.{err_from_is_err_and}
 use Rattle.derive_walk.specs.Outcomes.{after}
 use Rattle.derive_walk.specs.Walks.{Walked, IsRight}
 use Rattle.derive_walk.specs.Worlds.{world}
 use Rattle.derive_walk.proofs.AdvanceLemmas.{seen_so, goes_on, stays_right, still_found}
+use Rattle.derive_walk.proofs.LooksLemmas.{few_at, few_seen}
 use Rattle.derive_walk.proofs.RootLemmas.{found_of}
 use Rattle.derive_walk.proofs.walker.Walker.advance.Goals as goal
 
@@ -38,3 +40,11 @@ returns-clause-right g c =
     let right : IsRight (world c.args.graph.now c.args.sources.now.texts (after kept c.self.inside.given)) (seen_so c.self.inside.walk c.self.inside.given c.self.inside.result) = subst (λ (s : Walked). IsRight (world c.args.graph.now c.args.sources.now.texts (after kept s.given)) s) (sym c.self.view_is) c.requires.right in
     stays_right _ c.walk_from_root.new.walk c.walk_from_root.ensures.on c.self.inside.given c.self.inside.result w right c.walk_from_root.ensures.holds c.in_ok-self-inside.field-0
     (found_of w c.walk_from_root.new.walk.root c.walk_from_root.new.walk.wanted c.in_ok-self-inside.field-0 c.in_ok-self-inside.ensures.after)
+
+pub returns-in_err-self-inside-clause-counted : goal.returns-in_err-self-inside-clause-counted
+returns-in_err-self-inside-clause-counted g c =
+    let given = err_from_is_err_and _ c.from_residual.ensures.1 in
+    few_at _ _ _ _ _ _ given.1 (few_seen c.self.inside.walk c.self.inside.given c.self.inside.result _ _ _ _ _ c.self.view_is c.in_err-self-inside.ensures.counted)
+
+pub returns-clause-counted : goal.returns-clause-counted
+returns-clause-counted g c = few_seen c.self.inside.walk c.self.inside.given c.self.inside.result _ _ _ _ _ c.self.view_is c.in_ok-self-inside.ensures.counted

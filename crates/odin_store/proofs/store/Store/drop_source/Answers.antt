@@ -1,7 +1,9 @@
-use Rattle.std.proofs.Common.{◌≡◌, IsTrue, refl, ap, ◌∙◌, arith, rules}
+use Rattle.std.proofs.Common.{◌≡◌, IsTrue, refl, sym, ap, subst, ◌∙◌, arith, rules}
 use Rattle.std.specs.FinMap as map
+use Rattle.meaning_derive.specs.Given.{AreSources}
 use Rattle.odin_store.specs.Held.{drops}
 use Rattle.odin_store.specs.Changes.{DropBatch}
+use Rattle.odin_store.proofs.SourceLemmas.{drop_stays}
 use Rattle.odin_store.proofs.StoreLemmas.{leaves_same}
 use Rattle.odin_store.proofs.ReadyLemmas.{drop_ready, ready_leaves, ready_adds, ready_holds}
 use Rattle.odin_store.proofs.store.Store.drop_source.Goals as goal
@@ -55,3 +57,9 @@ returns-clause-drops g c =
       };
       same = λ no. (let absurdity : ⊥ = cc in absurd absurdity);
     }
+
+pub invariant_of-self-2 : goal.invariant_of-self-2
+invariant_of-self-2 g c =
+    let texts = c.args.self.now.sources.texts in
+    let removed : c.remove.new.self.texts ≡ map.remove texts c.args.name.now = c.remove.ensures.removed ∙ ap (map.remove texts) c.as_slice-2.ensures.bytes in
+    record { are = subst AreSources (sym removed) (drop_stays texts c.args.name.now c.args.self.now.are) }

@@ -1,6 +1,8 @@
-use Rattle.std.proofs.Common.{◌≡◌, ℕ, length, IsTrue, IsFalse, sym, ap, ap₂, subst, ◌∙◌, rules}
+use Rattle.std.proofs.Common.{◌≡◌, ℕ, ◌+◌, length, IsTrue, IsFalse, sym, ap, ap₂, subst, ◌∙◌, arith, rules}
 use Rattle.object_sources.specs.Texts.{Stock}
+use Rattle.disk_trails.specs.WorkLemmas.{more_work, add_work}
 use Rattle.odin_journal.specs.Faults.{IsAddFault}
+use Rattle.odin_journal.specs.Moments.{Works}
 use Rattle.odin_journal.specs.Rest.{Adds, KeepsOrAdds}
 use Rattle.odin_journal.specs.declared.journal.Journal.{Journal}
 use Rattle.meaning_records.specs.States.{State}
@@ -9,6 +11,7 @@ use Rattle.odin_store.specs.Loading.{state_of, IsLoadFault}
 use Rattle.odin_store.specs.OnDisk.{state_in}
 use Rattle.odin_store.specs.Opening.{graph_record, IsOpenFault}
 use Rattle.odin_store.proofs.StoreLemmas.{handed}
+use Rattle.odin_store.proofs.SourceLemmas.{sources_read}
 use Rattle.odin_store.proofs.OpenLemmas.{held_stays, held_added, journal_fault, load_fault, add_fault, refused_of, opens_known, opens_added}
 use Rattle.odin_store.proofs.store.Store.open.Goals as goal
 
@@ -97,3 +100,18 @@ returns-in_err-journal-clause-refused g c =
     let new = g.D.Disk.told c.open.new.disk in
     handed (IsOpenFault c.args.graph.now old new) c.from_residual.result c.in_err-journal.field-0.0 c.from_residual.ensures.1
     (journal_fault c.args.graph.now old new c.in_err-journal.field-0.0 c.open.ensures.untouched c.in_err-journal.ensures.refused)
+
+pub of-known-requires : goal.of-known-requires
+of-known-requires g c = sources_read c.in_ok-journal.records (state_of c.in_ok-loading.loading) c.in_ok-loading.ensures.read
+
+pub of-added-requires : goal.of-added-requires
+of-added-requires g c = sources_read c.in_ok-journal.records (state_of c.in_ok-loading.loading) c.in_ok-loading.ensures.read
+
+pub returns-clause-works : goal.returns-clause-works
+returns-clause-works g c empty =
+    let old = g.D.Disk.told c.args.disk.now in
+    let mid = g.D.Disk.told c.open.new.disk in
+    let new = g.D.Disk.told c.append.new.disk in
+    let bytes = graph_record c.args.graph.now in
+    let added : Works (length bytes + 6) 4 mid new = subst (λ b. Works (length b + 6) 4 mid new) (c.as_slice.ensures ∙ c.in_ok-payload.ensures) c.in_ok-append.ensures.works in
+    more_work (66 + (length bytes + 6)) 20 (72 + length bytes) 20 old.work new.work (omega arith) (omega arith) (add_work 66 16 (length bytes + 6) 4 old.work mid.work new.work (c.open.ensures.works empty) added)

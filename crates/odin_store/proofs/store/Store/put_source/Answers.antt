@@ -1,8 +1,10 @@
-use Rattle.std.proofs.Common.{◌≡◌, ◌≢◌, Some, IsFalse, ap, ap₂, ◌∙◌, arith, rules}
+use Rattle.std.proofs.Common.{◌≡◌, ◌≢◌, Some, IsFalse, sym, ap, ap₂, subst, ◌∙◌, arith, rules}
 use Rattle.std.specs.FinMap as map
+use Rattle.meaning_derive.specs.Given.{AreSources}
 use Rattle.odin_store.specs.Held.{puts}
 use Rattle.odin_store.specs.OnDisk.{IsChangeFault}
 use Rattle.odin_store.specs.Changes.{PutBatch}
+use Rattle.odin_store.proofs.SourceLemmas.{put_stays}
 use Rattle.odin_store.proofs.StoreLemmas.{handed, leaves_same}
 use Rattle.odin_store.proofs.ReadyLemmas.{put_ready, ready_leaves, ready_fault, ready_adds, ready_holds}
 use Rattle.odin_store.proofs.store.Store.put_source.Goals as goal
@@ -75,3 +77,13 @@ returns-clause-puts g c =
       };
       same = λ no. (let absurdity : ⊥ = cc in absurd absurdity);
     }
+
+pub invariant_of-self-2 : goal.invariant_of-self-2
+invariant_of-self-2 g c =
+    let store = c.args.self.now in
+    let name = c.args.name.now in
+    let text = c.args.text.now in
+    let put : c.put.new.self.texts ≡ map.insert store.sources.texts name text =
+    c.put.ensures.put ∙ ap (λ m. map.insert m c.in_ok-source.source c.in_ok-source.shared) c.prepare_put.ensures.same.sources
+    ∙ ap₂ (λ n t. map.insert store.sources.texts n t) c.in_ok-source.ensures.name c.in_ok-source.ensures.text in
+    record { are = subst AreSources (sym put) (put_stays store.sources.texts name text store.are c.in_ok-source.ensures.named c.requires.short) }

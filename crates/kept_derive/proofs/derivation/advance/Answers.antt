@@ -1,0 +1,16 @@
+use Rattle.std.proofs.Common.{OnOk, sym, ap, subst, ◌∙◌}
+use Rattle.meaning_derive.specs.Given.{AreSources}
+use Rattle.meaning_records.specs.Tables.{Tables}
+use Rattle.kept_tables.specs.Holdings.{Holding}
+use Rattle.derive_walk.specs.Walks.{IsAdvanced}
+use Rattle.derive_core.specs.Kept.{kept_world}
+use Rattle.kept_derive.proofs.derivation.advance.Goals as goal
+
+pub advance-requires-clause-sources : goal.advance-requires-clause-sources
+advance-requires-clause-sources g c = subst AreSources (sym (ap (λ z. z.texts) c.sources.ensures)) c.args.store.now.are
+
+pub returns-clause-advanced : goal.returns-clause-advanced
+returns-clause-advanced g c =
+    let sources = ap (λ z. z.texts) c.sources.ensures in
+    let calls = ap (λ (z : Tables). z.calls) (c.looks-looks.ensures ∙ ap (λ (z : Holding). z.tables) c.kept.ensures) in
+    subst (λ w. OnOk c.advance.result (IsAdvanced w c.advance.new.self)) (λ i. kept_world c.args.graph.now (sources i) (calls i) c.advance.new.self.given) c.advance.ensures.advanced

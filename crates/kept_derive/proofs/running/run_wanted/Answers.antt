@@ -1,0 +1,18 @@
+use Rattle.std.proofs.Common.{ap, ◌∙◌}
+use Rattle.std.specs.Prelude.{Err}
+use Rattle.std.proofs.lemmas.Result.{err_from_is_err_and}
+use Rattle.kept_derive.proofs.WayLemmas.{way_stops_at}
+use Rattle.kept_derive.proofs.running.run_wanted.Goals as goal
+
+pub returns-in_err-run_first-clause-stops : goal.returns-in_err-run_first-clause-stops
+returns-in_err-run_first-clause-stops g c =
+    let given = err_from_is_err_and _ c.from_residual.ensures.1 in
+    way_stops_at _ _ _ _ _ _ (given.1 ∙ ap (λ f. Err f) given.2)
+    (λ g' n first calm way. c.in_err-run_first.ensures.stops g' n first calm (c.loop.invariant.on g' n first calm way))
+
+pub loop-preserved : goal.loop-preserved
+loop-preserved g c = record {
+  on = λ g' n first calm way. c.in_ok-run_first.ensures.on g' n first calm (c.loop.invariant.on g' n first calm way);
+  may = c.in_ok-run_first.ensures.may;
+  cause = c.in_ok-run_first.ensures.cause.ok ∙ c.loop.invariant.cause;
+}

@@ -1,0 +1,43 @@
+-- The fault of a derivation, by that of the tools or of the store, and what it leaves of the store and of its disk's count of faults.
+use Rattle.std.specs.Prelude.{◌≡◌, ◌≤◌, ℕ, IsTrue, Result, OnOk, IfErr}
+use Rattle.odin_outside.specs.Causes.{Rose}
+use Rattle.odin_journal.specs.declared.fault.JournalFault.{JournalFault}
+use Rattle.odin_journal.specs.declared.fault.JournalFault.TheVariants as store
+use Rattle.odin_journal.specs.Rest.{IsReady}
+use Rattle.odin_store.specs.declared.store.Store.{Store}
+use Rattle.plain_derive.specs.declared.fault.PlainFault.{PlainFault}
+use Rattle.plain_derive.specs.declared.fault.PlainFault.TheVariants as plain
+use Rattle.kept_derive.specs.declared.fault.KeptFault.{KeptFault}
+use Rattle.kept_derive.specs.declared.fault.KeptFault.TheVariants.{Spawn, Disk, Full, Memory}
+
+abbrev pub of_plain : PlainFault → KeptFault
+of_plain plain.Spawn = Spawn
+of_plain plain.Memory = Memory
+
+-- A change never finds that a file is not ours.
+abbrev pub of_store : JournalFault → KeptFault
+of_store store.Disk = Disk
+of_store (store.NotOurs at) = Memory
+of_store (store.Full at some) = Full at some
+of_store store.Memory = Memory
+
+-- what a fault leaves of a store: it is spent where the disk failed, and else can be changed on
+abbrev pub IsLeftBy : Store → ℕ → KeptFault → Type 0
+IsLeftBy store size Disk = IsTrue store.journal.spent
+IsLeftBy store size other = IsReady store.journal size
+
+-- what any answer leaves of it
+pub record IsLeft {T : Type 0} (store : Store) (size : ℕ) (result : Result T KeptFault) : Type 0 where
+  pub ready : OnOk result (IsReady store.journal size)
+  pub left : IfErr result (IsLeftBy store size)
+
+-- the disk's count of faults rose where the disk failed, and else is as it was
+abbrev pub IsCauseOf : ℕ → ℕ → KeptFault → Type 0
+IsCauseOf before now Disk = Rose before now
+IsCauseOf before now other = now ≡ before
+
+-- and what any answer says of it
+pub record IsCause {T : Type 0} (before now : ℕ) (result : Result T KeptFault) : Type 0 where
+  pub later : before ≤ now
+  pub ok : OnOk result (now ≡ before)
+  pub err : IfErr result (IsCauseOf before now)

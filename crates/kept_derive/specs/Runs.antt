@@ -1,0 +1,53 @@
+-- Calls of a derivation that are run over what a store keeps, each kept as its tool ends.
+use Rattle.std.specs.Prelude.{◌≡◌, List, map}
+use Rattle.object_values.specs.declared.nodes.Node.{Node}
+use Rattle.object_values.specs.declared.calls.Call.{Call}
+use Rattle.object_values.specs.declared.calls.Outcome.{Outcome}
+use Rattle.odin_outside.specs.Disk.{Telling}
+use Rattle.odin_outside.specs.Spawned.{Spawned}
+use Rattle.meaning_graph.specs.Graphs.{Graph}
+use Rattle.meaning_derive.specs.Derive.{Outcomes}
+use Rattle.meaning_records.specs.Tables.{Calls, kept_outcome}
+use Rattle.odin_store.specs.declared.store.Store.{Store}
+use Rattle.odin_store.specs.Held.{Change, keeps}
+use Rattle.odin_store.specs.Going.{Goes}
+use Rattle.walk_tables.specs.declared.found.Found.{Found}
+use Rattle.derive_walk.specs.Founds.{IsFound}
+use Rattle.derive_walk.specs.Laws.{NodesFit}
+use Rattle.derive_walk.specs.Outcomes.{after}
+use Rattle.derive_walk.specs.Worlds.{World}
+use Rattle.derive_core.specs.Kept.{kept_world}
+use Rattle.plain_derive.specs.Runs.{AreRun}
+
+-- a store, its disk, and what is told of the tools, at one moment
+pub record At (Disk : Type 0) : Type 0 where
+  pub store : Store
+  pub disk : Disk
+  pub tools : Spawned
+
+abbrev pub at : {Disk : Type 0} → Store → Disk → Spawned → At Disk
+at store disk tools = record { store = store; disk = disk; tools = tools }
+
+-- the outcome of each kept call
+abbrev pub known_in : Store → Outcomes
+known_in store = kept_outcome store.kept.tables.calls
+
+-- what a derivation goes by, after these outcomes were given
+abbrev pub world_in : Graph → Store → Calls → World
+world_in g store given = kept_world g store.sources.texts store.kept.tables.calls given
+
+abbrev pub keeps_of : Calls → List Change
+keeps_of given = map (λ (x : Call × Outcome). keeps x.0 x.1) given
+
+-- Calls of the node's derivation were run, each was kept as its tool ended, and nothing else happened.
+pub record HasRun {Disk : Type 0} (told : Disk → Telling) (g : Graph) (n : Node) (old : At Disk) (given : Calls) (new : At Disk) : Type 0 where
+  pub run : AreRun g old.store.sources.texts (known_in old.store) n given old.tools new.tools
+  pub goes : Goes told (keeps_of given) old.store new.store old.disk new.disk
+  pub epoch : new.store.epoch ≡ old.store.epoch
+
+-- What is found of the node, by what was kept and by the calls that were run; the nodes that it shows fit the graph.
+pub record HasFound {Disk : Type 0} (told : Disk → Telling) (g : Graph) (n : Node) (old new : At Disk) (found : Found) : Type 0 where
+  pub given : Calls
+  pub run : HasRun told g n old given new
+  pub is : IsFound g old.store.sources.texts (after (known_in old.store) given) n found
+  pub fit : NodesFit g found

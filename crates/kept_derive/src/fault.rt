@@ -1,0 +1,55 @@
+// Why a node was not derived.
+use object_values::Memory;
+use odin_store::StoreFault;
+use plain_derive::PlainFault;
+
+/// Why a node was not derived. `Spawn`: a child program was not started, or its end was lost. `Disk`: the store is spent. `Full`: a record of
+/// this length doesn't fit behind this end of the store.
+#[derive(Clone, Copy, Debug, PartialEq, Eq)]
+pub enum KeptFault {
+    Spawn,
+    Disk,
+    Full(u64, u64),
+    Memory,
+}
+
+impl From<Memory> for KeptFault {
+    ghost use Rattle.kept_derive.specs.declared.fault.KeptFault.{KeptFault};
+    ghost use Rattle.std.specs.Prelude.{◌≡◌};
+
+    ghost from_gives = { λ _ fault. fault ≡ KeptFault.Memory };
+
+    fn from(_: Memory) -> Self {
+        KeptFault::Memory
+    }
+}
+
+impl From<PlainFault> for KeptFault {
+    ghost use Rattle.kept_derive.specs.Faults.{of_plain};
+    ghost use Rattle.std.specs.Prelude.{◌≡◌};
+
+    ghost from_gives = { λ given fault. fault ≡ of_plain given };
+
+    fn from(fault: PlainFault) -> Self {
+        match fault {
+            PlainFault::Spawn => KeptFault::Spawn,
+            PlainFault::Memory => KeptFault::Memory,
+        }
+    }
+}
+
+impl From<StoreFault> for KeptFault {
+    ghost use Rattle.kept_derive.specs.Faults.{of_store};
+    ghost use Rattle.std.specs.Prelude.{◌≡◌};
+
+    ghost from_gives = { λ given fault. fault ≡ of_store given };
+
+    fn from(fault: StoreFault) -> Self {
+        match fault {
+            StoreFault::Disk => KeptFault::Disk,
+            StoreFault::NotOurs(_) => KeptFault::Memory,
+            StoreFault::Full(end, count) => KeptFault::Full(end, count),
+            StoreFault::Memory => KeptFault::Memory,
+        }
+    }
+}

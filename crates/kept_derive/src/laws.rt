@@ -1,0 +1,32 @@
+//! Laws of calls that were run and kept. Each is the contract of a function with an empty body.
+ghost use Rattle.kept_derive.specs.Laws.{AllAreKept, AnswerStays, FoundIsTrue, NoneIsRunAgain, RunsAreNew, RunsAreTrue};
+ghost use Rattle.kept_derive.specs.StopLaws.{DiskStops, StopsAreTrue, StopsKeep};
+
+use odin_outside::Disk;
+use odin_store::laws::{changes_follow, changes_stop};
+
+/// What is run are calls of the node that are not kept, each once; they are kept then, and nothing is
+/// run for the node again.
+pub fn runs_are_new<D: Disk>()
+    ensures new { RunsAreNew D.told }
+    ensures all { AllAreKept D.told }
+    ensures none { NoneIsRunAgain D.told }
+    ensures same { AnswerStays D.told }
+{}
+
+/// Where the tools answer by a table, all is true for it that is kept and found.
+pub fn runs_are_true<D: Disk>()
+    ensures kept { RunsAreTrue D.told }
+    ensures found { FoundIsTrue D.told }
+{}
+
+/// What is left of a store where a derivation stopped: the calls that were run before are kept, and
+/// true where the others are; after a fault of the disk some first ones are.
+pub fn stops_keep<D: Disk>()
+    ensures keep { StopsKeep D.told }
+    ensures disk { DiskStops D.told }
+    ensures right { StopsAreTrue D.told }
+{
+    changes_follow::<D>();
+    changes_stop::<D>();
+}

@@ -1,0 +1,94 @@
+-- What an ask without a view leaves of tools, store and disk, by its reply or by the fault for which it has none.
+use Rattle.std.proofs.Common.{◌≡◌, ◌≤◌, ℕ, ap, refl, sym, subst}
+use Rattle.std.specs.Prelude.{Result, Ok, Err, IfOk, IfErr, IsErrOf, IsErrAnd}
+use Rattle.std.proofs.lemmas.Result.{err_from_is_err_and}
+use Rattle.object_values.specs.declared.views.View.{View}
+use Rattle.odin_outside.specs.Spawned.{Spawned}
+use Rattle.meaning_graph.specs.Graphs.{Graph}
+use Rattle.meaning_commands.specs.declared.replies.Reply.{Reply}
+use Rattle.odin_journal.specs.Faults.{IsCause, IsCauseOf}
+use Rattle.odin_journal.specs.Rest.{IsReady}
+use Rattle.odin_journal.specs.declared.fault.JournalFault.{JournalFault}
+use Rattle.odin_journal.specs.declared.fault.JournalFault.TheVariants as store
+use Rattle.odin_store.specs.declared.store.Store.{Store}
+use Rattle.odin_store.specs.OnDisk.{IsLeft}
+use Rattle.kept_derive.specs.Rests.{ComesToRest}
+use Rattle.odin_engine.specs.declared.fault.AskFault.{AskFault}
+use Rattle.odin_engine.specs.declared.fault.AskFault.TheVariants as fault
+use Rattle.odin_engine.specs.Asking as asking
+use Rattle.odin_answers.specs.Faults.{Refuses, Stops}
+
+-- ---- answers that are no fault of the disk
+
+ready_left : (made : Store) (size : ℕ) (r : Result Reply JournalFault) → (IsErrOf r store.Disk → ⊥) → IsReady made.journal size → IsLeft made size r
+ready_left made size (Ok reply) not ready = record { ready = ready; spent = λ e. absurd (not e) }
+ready_left made size (Err why) not ready = record { ready = tt; spent = λ e. absurd (not e) }
+
+uncounted : (before now : ℕ) (why : JournalFault) → (why ≡ store.Disk → ⊥) → now ≡ before → IsCauseOf before now why
+uncounted before now store.Disk not same = absurd (not refl)
+uncounted before now (store.NotOurs at) not same = same
+uncounted before now (store.Full end size) not same = same
+uncounted before now store.Memory not same = same
+
+same_cause : (before now : ℕ) (r : Result Reply JournalFault) → (IsErrOf r store.Disk → ⊥) → before ≤ now → now ≡ before → IsCause before now r
+same_cause before now (Ok reply) not later same = record { later = later; ok = same; err = tt }
+same_cause before now (Err why) not later same = record { later = later; ok = tt; err = uncounted before now why (λ e. not (ap (λ w. Err w) e)) same }
+
+-- want of memory, and a batch that doesn't fit, are none
+wanted : (r : Result Reply JournalFault) → IfErr r (λ why. why ≡ store.Memory) → IsErrOf r store.Disk → ⊥
+wanted (Ok reply) says e = cc
+wanted (Err why) says e = cc
+
+full : (end size : ℕ) (r : Result Reply JournalFault) → IfErr r (λ why. why ≡ store.Full end size) → IsErrOf r store.Disk → ⊥
+full end size (Ok reply) says e = cc
+full end size (Err why) says e = cc
+
+-- what holds at want of memory holds where the result is that
+pub at_want : (r : Result Reply JournalFault) (Q : JournalFault → Type 0) → IsErrAnd r (λ e. e ≡ store.Memory) → Q store.Memory → IfErr r Q
+at_want r Q is q =
+    let p = err_from_is_err_and r is in
+    subst (λ v. IfErr v Q) (sym p.1) (subst Q (sym p.2) q)
+
+-- ---- behind a fault
+
+module _ (g : Graph) where
+  pub refused_rests : (before now : Spawned) (f : AskFault) (r : Result Reply JournalFault) → IfOk r (Refuses g f) → IfErr r (Stops f) → ComesToRest {T = View} fault.Memory before now (Err f) → ComesToRest store.Memory before now r
+  refused_rests before now (fault.Expression place) r ok err rest = record { answer = rest.answer; one = rest.one; idle = λ differs. rest.idle (λ e. cc) }
+  refused_rests before now (fault.UnknownType name) r ok err rest = record { answer = rest.answer; one = rest.one; idle = λ differs. rest.idle (λ e. cc) }
+  refused_rests before now (fault.UnknownParam name) r ok err rest = record { answer = rest.answer; one = rest.one; idle = λ differs. rest.idle (λ e. cc) }
+  refused_rests before now (fault.Path step) r ok err rest = record { answer = rest.answer; one = rest.one; idle = λ differs. rest.idle (λ e. cc) }
+  refused_rests before now (fault.Circular chain) r ok err rest = record { answer = rest.answer; one = rest.one; idle = λ differs. rest.idle (λ e. cc) }
+  refused_rests before now (fault.Deep chain) r ok err rest = record { answer = rest.answer; one = rest.one; idle = λ differs. rest.idle (λ e. cc) }
+  refused_rests before now fault.Spawn r ok err rest = record { answer = rest.answer; one = rest.one; idle = λ differs. rest.idle (λ e. cc) }
+  refused_rests before now fault.Disk r ok err rest = record { answer = rest.answer; one = rest.one; idle = λ differs. rest.idle (λ e. cc) }
+  refused_rests before now (fault.Full end size) r ok err rest = record { answer = rest.answer; one = rest.one; idle = λ differs. rest.idle (λ e. cc) }
+  refused_rests before now fault.Memory (Ok reply) ok err rest = absurd ok
+  refused_rests before now fault.Memory (Err why) ok err rest = record { answer = rest.answer; one = rest.one; idle = λ differs. absurd (differs (ap (λ w. Err w) err)) }
+
+  pub refused_left : (made : Store) (size : ℕ) (f : AskFault) (r : Result Reply JournalFault) → IfOk r (Refuses g f) → IfErr r (Stops f) → asking.IsLeftBy made size f → IsLeft made size r
+  refused_left made size (fault.Expression place) r ok err left = ready_left made size r (wanted r err) left
+  refused_left made size (fault.UnknownType name) r ok err left = ready_left made size r (wanted r err) left
+  refused_left made size (fault.UnknownParam name) r ok err left = ready_left made size r (wanted r err) left
+  refused_left made size (fault.Path step) r ok err left = ready_left made size r (wanted r err) left
+  refused_left made size (fault.Circular chain) r ok err left = ready_left made size r (wanted r err) left
+  refused_left made size (fault.Deep chain) r ok err left = ready_left made size r (wanted r err) left
+  refused_left made size fault.Memory r ok err left = ready_left made size r (wanted r err) left
+  refused_left made size fault.Spawn (Ok reply) ok err left = ready_left made size (Ok reply) (λ e. cc) left
+  refused_left made size fault.Spawn (Err why) ok err left = absurd err
+  refused_left made size fault.Disk (Ok reply) ok err left = absurd ok
+  refused_left made size fault.Disk (Err why) ok err left = record { ready = tt; spent = λ e. left }
+  refused_left made size (fault.Full end most) r ok err left = ready_left made size r (full end most r err) left
+
+  pub refused_cause : (before now : ℕ) (f : AskFault) (r : Result Reply JournalFault) → IfOk r (Refuses g f) → IfErr r (Stops f) → before ≤ now → asking.IsCauseOf before now f → IsCause before now r
+  refused_cause before now (fault.Expression place) r ok err later cause = same_cause before now r (wanted r err) later cause
+  refused_cause before now (fault.UnknownType name) r ok err later cause = same_cause before now r (wanted r err) later cause
+  refused_cause before now (fault.UnknownParam name) r ok err later cause = same_cause before now r (wanted r err) later cause
+  refused_cause before now (fault.Path step) r ok err later cause = same_cause before now r (wanted r err) later cause
+  refused_cause before now (fault.Circular chain) r ok err later cause = same_cause before now r (wanted r err) later cause
+  refused_cause before now (fault.Deep chain) r ok err later cause = same_cause before now r (wanted r err) later cause
+  refused_cause before now fault.Memory r ok err later cause = same_cause before now r (wanted r err) later cause
+  refused_cause before now fault.Spawn (Ok reply) ok err later cause = same_cause before now (Ok reply) (λ e. cc) later cause
+  refused_cause before now fault.Spawn (Err why) ok err later cause = absurd err
+  refused_cause before now fault.Disk (Ok reply) ok err later cause = absurd ok
+  refused_cause before now fault.Disk (Err why) ok err later cause = record { later = later; ok = tt; err = subst (IsCauseOf before now) (sym err) cause }
+  refused_cause before now (fault.Full end most) r ok err later cause = same_cause before now r (full end most r err) later cause

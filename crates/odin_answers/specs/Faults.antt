@@ -1,0 +1,30 @@
+-- An ask without a view: the reply that refuses it, or the fault of the store for which it has none.
+use Rattle.std.specs.Prelude.{◌≡◌}
+use Rattle.meaning_graph.specs.Graphs.{Graph}
+use Rattle.meaning_commands.specs.declared.replies.Reply.{Reply}
+use Rattle.meaning_commands.specs.declared.replies.Reply.TheVariants.{RefusedExpression, RefusedParam, RefusedType, RefusedPath, RefusedToolStart}
+use Rattle.meaning_answers.specs.Replies.{refused_circular, refused_deep}
+use Rattle.odin_journal.specs.declared.fault.JournalFault.{JournalFault}
+use Rattle.odin_journal.specs.declared.fault.JournalFault.TheVariants as store
+use Rattle.odin_engine.specs.declared.fault.AskFault.{AskFault}
+use Rattle.odin_engine.specs.declared.fault.AskFault.TheVariants as fault
+
+-- the reply for a fault; the store's faults and want of memory have none
+abbrev pub Refuses : Graph → AskFault → Reply → Type 0
+Refuses g (fault.Expression place) reply = reply ≡ RefusedExpression place
+Refuses g (fault.UnknownType name) reply = reply ≡ RefusedType name
+Refuses g (fault.UnknownParam name) reply = reply ≡ RefusedParam name
+Refuses g (fault.Path step) reply = reply ≡ RefusedPath step
+Refuses g (fault.Circular chain) reply = reply ≡ refused_circular g chain
+Refuses g (fault.Deep chain) reply = reply ≡ refused_deep g chain
+Refuses g fault.Spawn reply = reply ≡ RefusedToolStart
+Refuses g fault.Disk reply = ⊥
+Refuses g (fault.Full end length) reply = ⊥
+Refuses g fault.Memory reply = ⊥
+
+-- why there is no reply: the store's fault, or want of memory; a refused start always has one
+abbrev pub Stops : AskFault → JournalFault → Type 0
+Stops fault.Spawn why = ⊥
+Stops fault.Disk why = why ≡ store.Disk
+Stops (fault.Full end length) why = why ≡ store.Full end length
+Stops other why = why ≡ store.Memory

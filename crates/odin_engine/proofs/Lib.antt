@@ -1,0 +1,4 @@
+mod AskLemmas
+mod AskLawLemmas
+mod AskedLemmas
+mod EngineLemmas

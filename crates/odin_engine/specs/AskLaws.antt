@@ -1,0 +1,23 @@
+-- What an ask of an engine leaves of its store, whatever it answers.
+use Rattle.std.specs.Prelude.{◌≢◌}
+use Rattle.object_values.specs.declared.views.View.{View}
+use Rattle.odin_outside.specs.Disk.{Telling}
+use Rattle.meaning_graph.specs.Graphs.{Text, Graph}
+use Rattle.kept_derive.specs.Runs.{At}
+use Rattle.kept_derive.specs.StopLaws.{KeepsCalls, StopsInCalls}
+use Rattle.odin_engine.specs.declared.fault.AskFault.{AskFault}
+use Rattle.odin_engine.specs.declared.fault.AskFault.TheVariants as fault
+use Rattle.odin_engine.specs.Asking.{IsAnswered, IsAskFault}
+
+module _ {Disk : Type 0} (told : Disk → Telling) where
+  -- An answer keeps calls, and nothing else changes.
+  abbrev pub AnswersKeep : Type 0
+  AnswersKeep = (g : Graph) (text : Text) (old new : At Disk) (view : View) → IsAnswered told g text old new view → KeepsCalls told old new
+
+  -- So does each fault that is not the disk's.
+  abbrev pub FaultsKeep : Type 0
+  FaultsKeep = (g : Graph) (text : Text) (old new : At Disk) (given : AskFault) → given ≢ fault.Disk → IsAskFault told g text old new given → KeepsCalls told old new
+
+  -- After a fault of the disk some first ones of such calls are there.
+  abbrev pub DiskStopsAsk : Type 0
+  DiskStopsAsk = (g : Graph) (text : Text) (old new : At Disk) → IsAskFault told g text old new fault.Disk → StopsInCalls told old new

@@ -1,0 +1,5 @@
+pub mod Engaged
+pub mod Asked
+pub mod Opened
+pub mod Asking
+pub mod AskLaws

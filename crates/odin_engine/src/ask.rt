@@ -1,0 +1,95 @@
+// The asking of an engine.
+ghost use Rattle.std.specs.Prelude.{◌≡◌, IfOk, IfErr};
+ghost use Rattle.kept_derive.specs.Calls.{IsIdle};
+ghost use Rattle.meaning_nodes.specs.Nodes.{Fits};
+ghost use Rattle.kept_derive.specs.Faults.{IsCause as IsKeptCause, IsLeft as IsKeptLeft};
+ghost use Rattle.kept_derive.specs.Rests.{ComesToRest};
+ghost use Rattle.kept_derive.specs.Runs.{at, HasFound};
+ghost use Rattle.kept_derive.specs.Stops.{IsStopped};
+ghost use Rattle.odin_engine.specs.Asking.{answer_of, IsAnswered, IsAskFault, IsCause, IsLeft};
+
+use crate::engine::Engine;
+use crate::fault::AskFault;
+use kept_derive::{Found, KeptFault, derive_kept};
+use object_values::{Node, View};
+use odin_outside::{Disk, Spawner, Steps};
+use std::alloc::Global;
+use std::sync::ledger::Ledger;
+
+impl Engine {
+    /// The view of the object that a text asks for. What was kept is not run again. Each look at a kept call is a step. Tools run one after
+    /// another, and each call is kept as its tool ends; after `Memory` one may still run.
+    pub fn ask<D: Disk, S: Spawner, L: Ledger>(
+        &mut self,
+        alloc: Global,
+        disk: &mut D,
+        tools: &mut S,
+        text: &[u8],
+        steps: &mut Steps<L>,
+    ) -> Result<View, AskFault>
+        requires { IsIdle self.old.store (D.size_of disk.old) (S.told tools.old) }
+        ensures ok { let old = at self.old.store disk.old (S.told tools.old) in
+            IfOk result (IsAnswered D.told self.old.graph text.now
+            old (at self.new.store disk.new (S.told tools.new))) }
+        ensures err { let old = at self.old.store disk.old (S.told tools.old) in
+            IfErr result (IsAskFault D.told self.old.graph text.now
+            old (at self.new.store disk.new (S.told tools.new))) }
+        ensures graph { self.new.graph ≡ self.old.graph }
+        ensures rest { ComesToRest AskFault.Memory (S.told tools.old) (S.told tools.new) result }
+        ensures left { IsLeft self.new.store (D.size_of disk.new) result }
+        ensures cause { IsCause (D.faults disk.old) (D.faults disk.new) result }
+    {
+        let node = self.plan(alloc, text)?;
+        let derived = self.derive(alloc, disk, tools, &node, steps);
+        answer_of(derived)
+    }
+
+    // What is found of a node.
+    fn derive<D: Disk, S: Spawner, L: Ledger>(
+        &mut self,
+        alloc: Global,
+        disk: &mut D,
+        tools: &mut S,
+        node: &Node,
+        steps: &mut Steps<L>,
+    ) -> Result<Found, KeptFault>
+        requires fits { Fits self.old.graph node.now }
+        requires idle { IsIdle self.old.store (D.size_of disk.old) (S.told tools.old) }
+        ensures found { let old = at self.old.store disk.old (S.told tools.old) in
+            IfOk result (HasFound D.told self.old.graph node.now
+            old (at self.new.store disk.new (S.told tools.new))) }
+        ensures stopped { let old = at self.old.store disk.old (S.told tools.old) in
+            IfErr result (IsStopped D.told self.old.graph node.now
+            old (at self.new.store disk.new (S.told tools.new))) }
+        ensures graph { self.new.graph ≡ self.old.graph }
+        ensures left { IsKeptLeft self.new.store (D.size_of disk.new) result }
+        ensures cause { IsKeptCause (D.faults disk.old) (D.faults disk.new) result }
+        ensures rest { ComesToRest KeptFault.Memory (S.told tools.old) (S.told tools.new) result }
+    {
+        derive_kept(
+            alloc,
+            &self.graph,
+            &self.plans,
+            &mut self.store,
+            disk,
+            node,
+            tools,
+            steps,
+        )
+    }
+}
+
+// The answer, by what the derivation came to.
+fn answer_of(derived: Result<Found, KeptFault>) -> Result<View, AskFault>
+    ensures { result ≡ answer_of derived }
+{
+    match derived {
+        Ok(Found::Answer(view)) => Ok(view),
+        Ok(Found::Circular(chain)) => Err(AskFault::Circular(chain)),
+        Ok(Found::Deep(chain)) => Err(AskFault::Deep(chain)),
+        Err(KeptFault::Spawn) => Err(AskFault::Spawn),
+        Err(KeptFault::Disk) => Err(AskFault::Disk),
+        Err(KeptFault::Full(end, count)) => Err(AskFault::Full(end, count)),
+        Err(KeptFault::Memory) => Err(AskFault::Memory),
+    }
+}

@@ -1,0 +1,163 @@
+// The engine: its opening, and the edits of the sources.
+ghost use Rattle.std.specs.Prelude.{◌≡◌, ◌+◌, ℕ, length, IfOk, IfErr};
+ghost use Rattle.path_planner.specs.Ends.{plans_of};
+ghost use Rattle.odin_journal.specs.Faults.{IsCause};
+ghost use Rattle.odin_journal.specs.Moments.{Works};
+ghost use Rattle.odin_store.specs.Held.{puts, drops};
+ghost use Rattle.odin_store.specs.OnDisk.{IsLeft, IsOpen, WorksOnce};
+ghost use Rattle.odin_store.specs.Opening.{graph_record, IsOpenFault, LeavesHeld, OpensQuiet};
+ghost use Rattle.odin_store.specs.Changes.{DropBatch, MayPut, PutBatch};
+ghost use Rattle.odin_store.specs.Edited.{HasFailed, HasPut, HasDropped};
+ghost use Rattle.odin_engine.specs.Asked.{IsNodeOf, IsRefusedFor};
+ghost use Rattle.odin_engine.specs.Opened.{IsNew, MayOpen};
+
+use crate::asked::node_of_text;
+use crate::fault::AskFault;
+use object_values::{Node, Text};
+use odin_bytes::Name;
+use odin_outside::Disk;
+use odin_store::laws::edits_are_told;
+use odin_store::{Store, StoreFault};
+use path_planner::Plans;
+use std::alloc::Global;
+use std::marker::Model;
+use type_graph::Graph;
+
+/// A graph with its paths, over a store of sources and kept calls. Its disk is lent to it call by call: the one of the opening, as the last call left
+/// it. After a fault of the disk it is used no more.
+pub struct Engine {
+    pub(crate) graph: Graph,
+    pub(crate) plans: Plans,
+    pub(crate) store: Store,
+}
+
+impl Drop for Engine {
+    fn drop(self) {
+        let Engine {
+            graph,
+            plans,
+            store,
+        } = self;
+        drop(graph);
+        drop(plans);
+        drop(store);
+    }
+}
+
+impl Model for Engine {
+    ghost use Rattle.std.specs.Prelude.{◌≡◌};
+    ghost use Rattle.meaning_graph_text.specs.Grammar.{IsSpellable};
+    ghost use Rattle.path_planner.specs.Ends.{plans_of};
+    ghost use Rattle.std.specs.Coded.{codes};
+    ghost use Rattle.odin_store.specs.contracts.store.Store as held;
+    ghost use Rattle.odin_engine.specs.Engaged.{Engaged};
+
+    ghost Value = { Engaged };
+
+    ghost coded = { Prim.hlevel (codes, held.the_row.coded) };
+
+    ghost view = { λ e. record { graph = e.graph; store = e.store } };
+
+    ghost invariant = { λ e. (e.plans ≡ plans_of e.graph) × IsSpellable e.graph };
+}
+
+impl Engine {
+    /// Opens the store in a file for the graph of this text. At most so many tools run at a time.
+    pub fn open<D: Disk>(
+        alloc: Global,
+        disk: &mut D,
+        graph: Graph,
+        text: &[u8],
+        jobs: u32,
+    ) -> Result<Engine, StoreFault>
+        requires { MayOpen text.now graph jobs }
+        ensures opened { IfOk result (λ engine.
+            OpensQuiet text.now (D.told disk.old) (D.told disk.new) engine.store) }
+        ensures new { IfOk result (IsNew graph (D.size_of disk.new)) }
+        ensures any_moment { LeavesHeld (D.told disk.old) (D.told disk.new) }
+        ensures refused { IfErr result
+            (IsOpenFault text.now (D.told disk.old) (D.told disk.new)) }
+        ensures works { D.size_of disk.old ≡ 0
+            → Works (72 + length (graph_record text.now)) 20 (D.told disk.old) (D.told disk.new) }
+        ensures cause { IsCause (D.faults disk.old) (D.faults disk.new) result }
+    {
+        prove!(jobs == 1);
+        let plans = Plans::new(alloc, &graph)?;
+        let store = Store::open(alloc, disk, text)?;
+        Ok(Engine {
+            graph,
+            plans,
+            store,
+        })
+    }
+
+    /// Gives a source a text. `false` where it has it, and then nothing is written.
+    pub fn put<D: Disk>(
+        &mut self,
+        alloc: Global,
+        disk: &mut D,
+        name: &Name,
+        text: &Text,
+    ) -> Result<bool, StoreFault>
+        requires { MayPut self.old.store (D.size_of disk.old) text.now }
+        ensures ok { IfOk result
+            (HasPut D.told name.now text.now self.old.store self.new.store disk.old disk.new) }
+        ensures err { IfErr result (HasFailed D.told (puts name.now text.now)
+            self.old.store self.new.store disk.old disk.new) }
+        ensures graph { self.new.graph ≡ self.old.graph }
+        ensures left { IsLeft self.new.store (D.size_of disk.new) result }
+        ensures works { WorksOnce (PutBatch self.old.store name.now text.now)
+            (D.told disk.old) (D.told disk.new) }
+        ensures cause { IsCause (D.faults disk.old) (D.faults disk.new) result }
+    {
+        edits_are_told::<D>();
+        self.store.put_source(alloc, disk, name, text)
+    }
+
+    /// Takes a source away. `false` where there is none, and then nothing is written.
+    pub fn remove<D: Disk>(
+        &mut self,
+        alloc: Global,
+        disk: &mut D,
+        name: &Name,
+    ) -> Result<bool, StoreFault>
+        requires { IsOpen self.old.store (D.size_of disk.old) }
+        ensures ok { IfOk result
+            (HasDropped D.told name.now self.old.store self.new.store disk.old disk.new) }
+        ensures err { IfErr result (HasFailed D.told (drops name.now)
+            self.old.store self.new.store disk.old disk.new) }
+        ensures graph { self.new.graph ≡ self.old.graph }
+        ensures left { IsLeft self.new.store (D.size_of disk.new) result }
+        ensures works { WorksOnce (DropBatch name.now) (D.told disk.old) (D.told disk.new) }
+        ensures cause { IsCause (D.faults disk.old) (D.faults disk.new) result }
+    {
+        edits_are_told::<D>();
+        self.store.drop_source(alloc, disk, name)
+    }
+
+    /// The node that a text asks for.
+    pub fn plan(&self, alloc: Global, text: &[u8]) -> Result<Node, AskFault>
+        ensures ok { IfOk result (IsNodeOf self.now.graph text.now) }
+        ensures err { IfErr result (IsRefusedFor self.now.graph text.now) }
+    {
+        node_of_text(alloc, &self.graph, &self.plans, text)
+    }
+
+    pub fn store(&self) -> &Store
+        ensures { result.now ≡ self.now.store }
+    {
+        &self.store
+    }
+
+    pub fn graph(&self) -> &Graph
+        ensures { result.now ≡ self.now.graph }
+    {
+        &self.graph
+    }
+
+    pub(crate) fn plans(&self) -> &Plans
+        ensures { result.now ≡ plans_of self.now.graph }
+    {
+        &self.plans
+    }
+}

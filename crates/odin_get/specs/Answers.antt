@@ -1,0 +1,44 @@
+-- The reply by which a session ends for whoever asked, and the exit status that tells it.
+use Rattle.std.specs.Prelude.{ℕ, Bool, true, false, List, [], ◌∷◌, Option, Some, None, if◌then◌else◌}
+use Rattle.object_values.specs.declared.messages.Status.{Status}
+use Rattle.object_values.specs.declared.messages.Status.TheVariants.{Ok, Warning, Error, Abort}
+use Rattle.meaning_commands.specs.declared.replies.Reply.{Reply}
+use Rattle.meaning_commands.specs.declared.replies.Reply.TheVariants as reply
+
+-- The reply answers an ask. A refusal of `plan` has the same text as one of `ask`, so it counts too.
+abbrev pub answers_ask : Reply → Bool
+answers_ask (reply.Shown status body messages) = true
+answers_ask (reply.RefusedExpression place) = true
+answers_ask (reply.RefusedParam name) = true
+answers_ask (reply.RefusedType name) = true
+answers_ask (reply.RefusedPath step) = true
+answers_ask (reply.RefusedCircular lines) = true
+answers_ask (reply.RefusedDeep lines) = true
+answers_ask reply.RefusedToolStart = true
+answers_ask other = false
+
+-- the reply, where it does
+abbrev pub answer_of : Reply → Option Reply
+answer_of reply = if answers_ask reply then Some reply else None
+
+-- the later of two
+abbrev pub later : Option Reply → Option Reply → Option Reply
+later first None = first
+later first (Some reply) = Some reply
+
+-- the last of the replies that answers an ask
+abbrev pub last_answer : List Reply → Option Reply
+last_answer [] = None
+last_answer (reply ∷ rest) = later (answer_of reply) (last_answer rest)
+
+-- how an object is
+abbrev pub status_of : Status → ℕ
+status_of Ok = 0
+status_of Warning = 1
+status_of Error = 2
+status_of Abort = 2
+
+-- the exit status: how the object is, or 2 where there is none
+abbrev pub exit_status : Option Reply → ℕ
+exit_status (Some (reply.Shown status body messages)) = status_of status
+exit_status other = 2

@@ -1,0 +1,26 @@
+-- The command by which the words are read: the option `-o` with one value and the flag `-m`, each at most once. There is no help flag.
+use Rattle.std.specs.Prelude.{◌≡◌, ◌↔◌, ℕ, IsTrue, Bool, List, [], Option, Some, true, codes}
+use Rattle.clap.specs.Words.{App, Rule, fault_of, matches_of, first_of, new_app, new_rule, with_rule}
+use Rattle.clap.specs.declared.builder.ArgAction.TheVariants.{Set, SetTrue}
+
+-- `-o`, and `-m`
+abbrev pub file : Rule
+file = record (new_rule (codes "file")) { short = Some 111; action = Some Set }
+
+abbrev pub messages : Rule
+messages = record (new_rule (codes "messages")) { short = Some 109; action = Some SetTrue }
+
+abbrev pub bare : App
+bare =
+    let app = new_app (codes "odin_get") in
+    record app { top = record app.top { disable_help_flag = true } }
+
+abbrev pub command : App
+command = with_rule (with_rule bare file) messages
+
+-- The command takes the words, which name this file and ask for the messages or don't.
+pub record AsksFor (words : List (List ℕ)) (name : Option (List ℕ)) (wanted : Bool) : Type 0 where
+  pub taken : fault_of command words ≡ []
+  pub named : first_of (codes "file") (matches_of command words) ≡ name
+  pub flag : IsTrue wanted
+      ↔ (first_of (codes "messages") (matches_of command words) ≡ Some (codes "true"))

@@ -1,0 +1,80 @@
+-- One command: its change and its reply, over every history that fits before it.
+use Rattle.std.specs.Prelude.{◌≡◌, ◌≢◌, ◌+◌, ◌≤◌, ◌^◌, ℕ, List, [], None, Result, OnOk, IfErr}
+use Rattle.odin_outside.specs.Causes.{IsCounted}
+use Rattle.odin_outside.specs.Spawned.{Spawned}
+use Rattle.meaning_graph.specs.Graphs.{Text, Graph}
+use Rattle.meaning_run.specs.Items.{SameBody}
+use Rattle.meaning_run.specs.Objects.{SinkTold}
+use Rattle.meaning_commands.specs.declared.commands.Command.{Command}
+use Rattle.meaning_commands.specs.declared.commands.Command.TheVariants.{Ask}
+use Rattle.odin_journal.specs.Rest.{IsReady}
+use Rattle.odin_journal.specs.declared.fault.JournalFault.{JournalFault}
+use Rattle.odin_journal.specs.declared.fault.JournalFault.TheVariants as fault
+use Rattle.odin_engine.specs.Engaged.{Engaged}
+use Rattle.source_edits.specs.Edits.{TreeTold}
+use Rattle.odin_shell.specs.declared.stop.Stop.{Stop}
+use Rattle.odin_shell.specs.declared.stop.Stop.TheVariants as stop
+use Rattle.odin_shell.specs.Endings.{stop_of}
+use Rattle.odin_shell.specs.Filed.{DiskMeaning}
+use Rattle.odin_shell.specs.Language.{commands}
+use Rattle.odin_shell.specs.Machine.{State, Told, Step, MayLeave, Belongs, IsLeft, stopped}
+
+-- all that is told between two commands
+abbrev pub telling : {D : Type 0} → SinkTold → Spawned → TreeTold → D → Told D
+telling sink tools tree disk = record { sink = sink; tools = tools; tree = tree; disk = disk; over = None }
+
+-- So many commands may be served: the store can be changed, the count of its edits has room for them, and no tool runs.
+pub record MayServe (most : ℕ) (code : Engaged) (size : ℕ) (tools : Spawned) : Type 0 where
+  pub ready : IsReady code.store.journal size
+  pub early : code.store.epoch + most ≤ 2 ^ 63
+  pub idle : tools.running ≡ []
+
+-- At most so many edits were made, and more can be; no fault of the disk was counted.
+pub record IsOnward {D : Type 0} (disk : DiskMeaning D) (most : ℕ) (old new : Engaged) (before after : D) : Type 0 where
+  pub epoch : new.store.epoch ≤ old.store.epoch + most
+  pub ready : IsReady new.store.journal (disk.size after)
+  pub faults : disk.faults after ≡ disk.faults before
+
+-- the count of the disk's faults rises where it is why the serving stopped
+abbrev pub Counts : Stop → ℕ → ℕ → Type 0
+Counts stop.Disk before after = IsCounted before after
+Counts other before after = after ≡ before
+
+-- No tool runs, but for want of memory, where one may.
+pub record IsIdle {T : Type 0} (tools : Spawned) (result : Result T JournalFault) : Type 0 where
+  pub ok : OnOk result (tools.running ≡ [])
+  pub err : IfErr result (λ why. why ≢ fault.Memory → tools.running ≡ [])
+
+module _ {D : Type 0} (disk : DiskMeaning D) where
+  -- The command with the bytes that were kept of it gets this reply, and what comes after it fits; and it may be left before that.
+  pub record HasStepped (g : Graph) (text : Text) (first : State) (start : Told D) (state : State) (command : Command) (body reply : List ℕ) (code : Engaged) (now : Told D) : Type 0 where
+    pub new : State
+    pub step : Step g state command body reply new
+    pub fits : Belongs disk g text first start code new now
+    pub left : IsLeft disk g text first start state new now
+
+  abbrev pub Answers : Engaged → Command → List ℕ → Told D → List ℕ → Engaged → Told D → Type 0
+  Answers code command kept told reply code' told' =
+      (g : Graph) (text : Text) (first : State) (start : Told D) (state : State) (body : List ℕ) → SameBody commands command body kept
+      → Belongs disk g text first start code state told → HasStepped g text first start state command body reply code' told'
+
+  -- The command gets no reply, for a fault of the store or for want of memory, and this may be left of it.
+  pub record HasHalted (g : Graph) (text : Text) (first : State) (start : Told D) (state : State) (command : Command) (body : List ℕ) (now : Told D) : Type 0 where
+    pub furthest : State
+    pub may : MayLeave g state command body furthest
+    pub exit : IsLeft disk g text first start state furthest now
+
+  abbrev pub Halts : Engaged → Command → List ℕ → Told D → JournalFault → Told D → Type 0
+  Halts code command kept told why told' =
+      (g : Graph) (text : Text) (first : State) (start : Told D) (state : State) (body : List ℕ) → SameBody commands command body kept
+      → Belongs disk g text first start code state told → HasHalted g text first start state command body (stopped (stop_of why) told')
+
+  -- ---- the object of a text, whatever was kept of the command, and whatever is told of sink and tree
+
+  abbrev pub AnswersAsk : Engaged → Text → Spawned → D → List ℕ → Engaged → Spawned → D → Type 0
+  AnswersAsk code query tools now reply code' tools' now' =
+      (kept : List ℕ) (sink : SinkTold) (tree : TreeTold) → Answers code (Ask query) kept (telling sink tools tree now) reply code' (telling sink tools' tree now')
+
+  abbrev pub HaltsAsk : Engaged → Text → Spawned → D → JournalFault → Spawned → D → Type 0
+  HaltsAsk code query tools now why tools' now' =
+      (kept : List ℕ) (sink : SinkTold) (tree : TreeTold) → Halts code (Ask query) kept (telling sink tools tree now) why (telling sink tools' tree now')

@@ -1,0 +1,126 @@
+-- What calls of a store do, as changes one after another.
+use Rattle.std.proofs.Common.{◌≡◌, ◌≢◌, ℕ, Bool, true, false, List, [], ◌∷◌, ◌++◌, refl, sym, ap, subst, ◌∙◌, append_assoc, arith}
+use Rattle.odin_outside.specs.Disk.{Telling}
+use Rattle.disk_trails.specs.Trails as trails
+use Rattle.disk_trails.specs.TrailLemmas.{after-append, keeps_grows, stops_within, untouched_grows, grows_on, grows_stops, grows_left, stops_longer}
+use Rattle.odin_journal.specs.declared.fault.JournalFault.{JournalFault}
+use Rattle.odin_journal.specs.declared.fault.JournalFault.TheVariants as fault
+use Rattle.meaning_records.specs.declared.items.Item.{Item}
+use Rattle.meaning_records.specs.Laws.{ReadsInOneWay}
+use Rattle.meaning_records.specs.States.{State, nothing, Reads, ReadsAll, spell_batch}
+use Rattle.odin_store.specs.declared.store.Store.{Store}
+use Rattle.odin_store.specs.Held.{Change, apply}
+use Rattle.odin_store.specs.OnDisk.{held_in, state_in, IsOn, LeavesChange, AddsBatch, IsChangeFault, IsSame}
+use Rattle.odin_store.specs.Changes.{EditsWhere}
+use Rattle.odin_store.specs.Keeping.{store_keeping}
+use Rattle.odin_store.specs.Going.{IsBatchOf, AreBatches, HasBatches, Goes, Stops}
+use Rattle.odin_store.specs.Edited.{HasEdited, HasFailed}
+use Rattle.odin_store.proofs.KeepingLemmas.{kept_on, stops_in, same_on, same_held, same_state, same_rests, left_durably}
+
+-- ---- the batches
+
+pub nothing_behind : {A : Type 0} (xs : List A) → xs ++ [] ≡ xs
+nothing_behind [] = refl
+nothing_behind (x ∷ xs) = ap (λ l. x ∷ l) (nothing_behind xs)
+
+-- what the last of some payloads makes of what the others made
+last_read : ReadsInOneWay → (payloads : List (List ℕ)) (payload : List ℕ) (first mid new : State) → ReadsAll first payloads mid → ReadsAll first (payloads ++ payload ∷ []) new → Reads mid payload new
+last_read law [] payload first mid new before read = subst (λ s. Reads mid payload s) (sym read.2) (subst (λ s. Reads s payload read.0) (sym before) read.1)
+last_read law (front ∷ payloads) payload first mid new before read =
+    let same : read.0 ≡ before.0 = law first front before.0 read.0 before.1 read.1 in
+    last_read law payloads payload before.0 mid new before.2 (subst (λ s. ReadsAll s (payloads ++ payload ∷ []) new) same read.2)
+
+-- one batch behind none
+alone : (change : Change) (items : List Item) (old new : State) → IsBatchOf old.tables.contents change items → Reads old (spell_batch items) new → AreBatches old (change ∷ []) (spell_batch items ∷ []) new
+alone change items old new batch reads = AreBatches.one_batch [] [] old change items new AreBatches.no_batches batch reads
+
+-- batches behind batches
+pub batches_on : (old mid : State) (some : List Change) (payloads : List (List ℕ)) → AreBatches old some payloads mid → (more : List Change) (others : List (List ℕ)) (new : State) → AreBatches mid more others new
+    → AreBatches old (some ++ more) (payloads ++ others) new
+batches_on old mid some payloads first _ _ _ AreBatches.no_batches =
+    subst (λ c. AreBatches old c (payloads ++ []) mid) (sym (nothing_behind some)) (subst (λ p. AreBatches old some p mid) (sym (nothing_behind payloads)) first)
+batches_on old mid some payloads first _ _ _ (AreBatches.one_batch changes before between change items new are batch reads) =
+    subst (λ c. AreBatches old c (payloads ++ (before ++ spell_batch items ∷ [])) new) (append_assoc some changes (change ∷ []))
+    (subst (λ p. AreBatches old ((some ++ changes) ++ change ∷ []) p new) (append_assoc payloads before (spell_batch items ∷ []))
+    (AreBatches.one_batch (some ++ changes) (payloads ++ before) between change items new (batches_on old mid some payloads first changes before between are) batch reads))
+
+-- ---- changes
+
+module _ {Disk : Type 0} (told : Disk → Telling) where
+  pub goes_none : (store next : Store) (disk after : Disk) → IsSame store next disk after → Goes told [] store next disk after
+  goes_none store next disk after same = record {
+    holds = same_held store next same.store_is;
+    grows = untouched_grows store_keeping told disk after store next same.disk_is
+        (λ held rests. same_rests told store next disk disk held (record { disk_is = refl; store_is = same.store_is }) rests);
+    batches = λ records graph on. record {
+      payloads = [];
+      are = subst (λ s. AreBatches (state_in store graph) [] [] s) (sym (same_state store next graph same.store_is)) AreBatches.no_batches;
+      on =
+          subst (λ r. IsOn (told after) next r graph) (sym (nothing_behind records))
+          (subst (λ d. IsOn (told d) next records graph) (sym same.disk_is) (same_on (told disk) store next records graph same.store_is on));
+    };
+  }
+
+  pub goes_one : ReadsInOneWay → (change : Change) (store next : Store) (disk after : Disk) → held_in next ≡ apply change (held_in store)
+      → AddsBatch (IsBatchOf store.kept.tables.contents change) store next (told disk) (told after)
+      → LeavesChange change store (told disk) (told after) → Goes told (change ∷ []) store next disk after
+  goes_one law change store next disk after holds (items, batch, appends) leaves = record {
+    holds = holds;
+    grows = keeps_grows store_keeping told change disk after store next (kept_on items change store next (told disk) (told after) holds appends leaves);
+    batches = λ records graph on.
+        let now : IsOn (told after) next (records ++ spell_batch items ∷ []) graph = appends.on records graph on in
+        record {
+          payloads = spell_batch items ∷ [];
+          are = alone change items (state_in store graph) (state_in next graph) batch (last_read law records (spell_batch items) nothing (state_in store graph) (state_in next graph) on.read now.read);
+          on = now;
+        };
+  }
+
+  pub goes_on : (some more : List Change) (store mid next : Store) (disk between after : Disk) → Goes told some store mid disk between → Goes told more mid next between after → Goes told (some ++ more) store next disk after
+  goes_on some more store mid next disk between after first second = record {
+    holds = second.holds ∙ ap (trails.after store_keeping more) first.holds ∙ sym (after-append store_keeping some more (held_in store));
+    grows = grows_on store_keeping told some more disk between after store mid next first.grows second.grows;
+    batches = λ records graph on.
+        let one : HasBatches some store mid (told between) records graph = first.batches records graph on in
+        let two : HasBatches more mid next (told after) (records ++ one.payloads) graph = second.batches (records ++ one.payloads) graph one.on in
+        record {
+          payloads = one.payloads ++ two.payloads;
+          are = batches_on (state_in store graph) (state_in mid graph) some one.payloads one.are more two.payloads (state_in next graph) two.are;
+          on = subst (λ r. IsOn (told after) next r graph) (append_assoc records one.payloads two.payloads) two.on;
+        };
+  }
+
+  -- ---- where they stop
+
+  pub stops_failed : (change : Change) (store : Store) (disk after : Disk) → LeavesChange change store (told disk) (told after) → Stops told (change ∷ []) store disk after
+  stops_failed change store disk after leaves = stops_within store_keeping told change disk after store (stops_in change store (told disk) (told after) leaves)
+
+  pub stops_behind : (some more : List Change) (store mid : Store) (disk between after : Disk) → Goes told some store mid disk between → Stops told more mid between after → Stops told (some ++ more) store disk after
+  stops_behind some more store mid disk between after goes stops = grows_stops store_keeping told some more disk between after store mid goes.grows stops
+
+  pub stops_left : (changes : List Change) (store next : Store) (disk after : Disk) → Goes told changes store next disk after → Stops told changes store disk after
+  stops_left changes store next disk after goes = grows_left store_keeping told changes disk after store next (λ held rests. left_durably (told after) next held rests) goes.grows
+
+  pub stops_more : (changes more : List Change) (store : Store) (disk after : Disk) → Stops told changes store disk after → Stops told (changes ++ more) store disk after
+  stops_more changes more store disk after stops = stops_longer store_keeping told changes more disk after store stops
+
+  -- ---- edits
+
+  pub edited : ReadsInOneWay → (Changes : Type 0) (change : Change) (store next : Store) (disk after : Disk) (changed : Bool)
+      → EditsWhere told Changes (IsBatchOf store.kept.tables.contents change) change store next disk after changed
+      → LeavesChange change store (told disk) (told after) → HasEdited told Changes change store next disk after changed
+  edited law Changes change store next disk after true where_ leaves =
+      let edits = where_.edits refl in
+      let epoch = edits.epoch in
+      record { exact = where_.exact; goes = goes_one law change store next disk after edits.holds edits.adds leaves; same = where_.same; epoch = omega arith }
+  edited law Changes change store next disk after false where_ leaves =
+      let same = where_.same refl in
+      let epoch = same.store_is.epoch in
+      record { exact = where_.exact; goes = goes_none store next disk after same; same = where_.same; epoch = omega arith }
+
+  pub has_failed : (change : Change) (store next : Store) (disk after : Disk) (e : JournalFault) → IsChangeFault (IsBatchOf store.kept.tables.contents change) store.journal.end e
+      → (e ≢ fault.Disk → IsSame store next disk after) → LeavesChange change store (told disk) (told after) → HasFailed told change store next disk after e
+  has_failed change store next disk after fault.Disk told_ same leaves = stops_failed change store disk after leaves
+  has_failed change store next disk after (fault.NotOurs at) told_ same leaves = told_
+  has_failed change store next disk after (fault.Full at some) told_ same leaves = (same (λ is. (let no : ⊥ = cc in no)), told_)
+  has_failed change store next disk after fault.Memory told_ same leaves = same (λ is. (let no : ⊥ = cc in no))

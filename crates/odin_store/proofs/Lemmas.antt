@@ -1,0 +1,3 @@
+-- The lemmas that other crates may cite.
+-- Changes one after another, and where they stop.
+pub use Rattle.odin_store.proofs.GoingLemmas.{nothing_behind, batches_on, goes_none, goes_on, stops_left, stops_more, stops_behind}

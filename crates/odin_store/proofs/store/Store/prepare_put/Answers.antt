@@ -1,0 +1,15 @@
+use Rattle.std.proofs.Common.{sym, subst}
+use Rattle.meaning_derive.specs.Given.{AreSources}
+use Rattle.odin_store.proofs.store.Store.prepare_put.Goals as goal
+
+pub invariant_of-self : goal.invariant_of-self
+invariant_of-self c = record { are = subst AreSources (sym c.reserve.ensures.same) c.args.self.now.are }
+
+pub invariant_of-self-in-Break-branch-2 : goal.invariant_of-self-in-Break-branch-2
+invariant_of-self-in-Break-branch-2 c = record { are = subst AreSources (sym c.reserve.ensures.same) c.args.self.now.are }
+
+pub invariant_of-self-in-Break-branch-3 : goal.invariant_of-self-in-Break-branch-3
+invariant_of-self-in-Break-branch-3 c = record { are = subst AreSources (sym c.reserve.ensures.same) c.args.self.now.are }
+
+pub invariant_of-self-2 : goal.invariant_of-self-2
+invariant_of-self-2 c = record { are = subst AreSources (sym c.reserve.ensures.same) c.args.self.now.are }

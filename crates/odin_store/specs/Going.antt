@@ -1,0 +1,68 @@
+-- Changes of a store, one after another.
+use Rattle.std.specs.Prelude.{◌≡◌, ℕ, List, [], ◌∷◌, ◌++◌, Option}
+use Rattle.odin_outside.specs.Disk.{Telling}
+use Rattle.object_values.specs.declared.views.Value.{Value}
+use Rattle.object_values.specs.declared.calls.Call.{Call}
+use Rattle.object_values.specs.declared.calls.Outcome.{Outcome}
+use Rattle.object_sources.specs.Texts.{Text}
+use Rattle.disk_trails.specs.Trails as trails
+use Rattle.meaning_records.specs.declared.items.Item.{Item}
+use Rattle.meaning_records.specs.Batches.{drop_batch, IsPutBatch, IsCallBatch}
+use Rattle.meaning_records.specs.States.{State, Reads, spell_batch}
+use Rattle.odin_store.specs.declared.store.Store.{Store}
+use Rattle.odin_store.specs.Held.{Change, puts, drops, keeps}
+use Rattle.odin_store.specs.OnDisk.{held_in, state_in, IsOn, IsSame, LeavesChange}
+use Rattle.odin_store.specs.Changes.{PutBatch, DropBatch, Edits, KeepsCall}
+use Rattle.odin_store.specs.Keeping.{store_keeping}
+
+-- the batch of a change, behind these contents
+abbrev pub IsBatchOf : List Value → Change → List Item → Type 0
+IsBatchOf contents (puts name text) items = IsPutBatch contents name text items
+IsBatchOf contents (drops name) items = items ≡ drop_batch name
+IsBatchOf contents (keeps call outcome) items = IsCallBatch contents call outcome items
+
+-- One batch for each change, in their order, and no others: each is of its change behind what was read before it, and reads there.
+pub data AreBatches (old : State) : List Change → List (List ℕ) → State → Type 0 where
+  no_batches : AreBatches old [] [] old
+  one_batch : (changes : List Change) (payloads : List (List ℕ)) (mid : State) (change : Change) (items : List Item) (new : State)
+      → AreBatches old changes payloads mid → IsBatchOf mid.tables.contents change items → Reads mid (spell_batch items) new
+      → AreBatches old (changes ++ change ∷ []) (payloads ++ spell_batch items ∷ []) new
+
+-- The disk has these records and behind them the batches of these changes, and no others.
+pub record HasBatches (changes : List Change) (store next : Store) (now : Telling) (records : List (List ℕ)) (graph : Option Text) : Type 0 where
+  pub payloads : List (List ℕ)
+  pub are : AreBatches (state_in store graph) changes payloads (state_in next graph)
+  pub on : IsOn now next (records ++ payloads) graph
+
+-- These changes were made, one after another, and nothing else.
+pub record Goes {Disk : Type 0} (told : Disk → Telling) (changes : List Change) (store next : Store) (disk after : Disk) : Type 0 where
+  pub holds : held_in next ≡ trails.after store_keeping changes (held_in store)
+  pub grows : trails.Grows store_keeping told changes disk store after next
+  pub batches : (records : List (List ℕ)) (graph : Option Text) → IsOn (told disk) store records graph → HasBatches changes store next (told after) records graph
+
+-- Of these changes some first ones were made, and none that came before is lost.
+abbrev pub Stops : {Disk : Type 0} → (Disk → Telling) → List Change → Store → Disk → Disk → Type 0
+Stops told changes store disk after = trails.StopsWithin store_keeping told changes disk store after
+
+-- ---- what the calls do, as changes one after another
+
+module _ {Disk : Type 0} (told : Disk → Telling) where
+  -- The clauses of the calls make these changes; none where all is as it was; and changes follow changes.
+  pub record ChangesFollow : Type 0 where
+    pub none : (store next : Store) (disk after : Disk) → IsSame store next disk after → Goes told [] store next disk after
+    pub put : (name text : Text) (store next : Store) (disk after : Disk) → Edits (PutBatch store name text) (puts name text) store next (told disk) (told after)
+        → LeavesChange (puts name text) store (told disk) (told after) → Goes told (puts name text ∷ []) store next disk after
+    pub drop : (name : Text) (store next : Store) (disk after : Disk) → Edits (DropBatch name) (drops name) store next (told disk) (told after)
+        → LeavesChange (drops name) store (told disk) (told after) → Goes told (drops name ∷ []) store next disk after
+    pub keep : (call : Call) (outcome : Outcome) (store next : Store) (disk after : Disk) → KeepsCall call outcome store next (told disk) (told after)
+        → LeavesChange (keeps call outcome) store (told disk) (told after) → Goes told (keeps call outcome ∷ []) store next disk after
+    pub behind : (some more : List Change) (store mid next : Store) (disk between after : Disk)
+        → Goes told some store mid disk between → Goes told more mid next between after → Goes told (some ++ more) store next disk after
+
+  -- Where changes stop: within one that failed, behind others, or at any moment; and more of them may have been meant.
+  pub record ChangesStop : Type 0 where
+    pub failed : (change : Change) (store : Store) (disk after : Disk) → LeavesChange change store (told disk) (told after) → Stops told (change ∷ []) store disk after
+    pub behind : (some more : List Change) (store mid : Store) (disk between after : Disk)
+        → Goes told some store mid disk between → Stops told more mid between after → Stops told (some ++ more) store disk after
+    pub left : (changes : List Change) (store next : Store) (disk after : Disk) → Goes told changes store next disk after → Stops told changes store disk after
+    pub longer : (changes more : List Change) (store : Store) (disk after : Disk) → Stops told changes store disk after → Stops told (changes ++ more) store disk after

@@ -1,0 +1,3 @@
+mod PathLemmas
+mod LineLemmas
+mod ListedLemmas

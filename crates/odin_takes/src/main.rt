@@ -1,0 +1,20 @@
+//! Prints the commands that take the files below some folders.
+#![tactic(auto)]
+
+mod listed;
+mod paths;
+mod run;
+mod walk;
+
+use run::run;
+use std::process::ExitCode;
+
+fn main(rt: HostRuntime) -> ExitCode {
+    match run(&rt) {
+        Ok(status) => ExitCode::from(status),
+        Err(fault) => {
+            let _ = rt.eprintln(&fault);
+            ExitCode::from(fault.status())
+        }
+    }
+}

@@ -1,0 +1,6 @@
+mod TextLemmas
+mod ItemLemmas
+mod ObjectLemmas
+mod VerbLemmas
+mod PlaceLemmas
+pub mod Lemmas
