@@ -1,6 +1,7 @@
 mod Batched
 mod Contents
 mod HeldCalls
+mod IndexLemmas
 mod Items
 mod Numbers
 mod Resolved

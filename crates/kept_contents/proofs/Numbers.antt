@@ -1,16 +1,18 @@
 -- Which content a text leads to.
-use Rattle.std.proofs.Common.{◌≡◌, ◌<◌, ℕ, true, false, cond, List, [], ◌∷◌, ◌++◌, inl, inr, length, length-append, ap, sym, ◌∙◌, subst, refl, arith}
+use Rattle.std.proofs.Common.{◌≡◌, ◌<◌, ℕ, true, false, cond, List, [], ◌∷◌, ◌++◌, inl, inr, get_or, length, length-append, ap, sym, ◌∙◌, subst, refl, arith}
 use Rattle.std.proofs.Math.ListN.{set, length-set}
 use Rattle.std.specs.Prelude.{Option, Some, None, is_some, slice_get, IfSome, IfNone}
 use Rattle.std.proofs.lemmas.Bool.{cases_eq}
-use Rattle.std.proofs.lemmas.Option.{none-some, same_Some}
+use Rattle.std.proofs.lemmas.Option.{none-some, same_Some, slice_get-get_or}
 use Rattle.object_values.specs.declared.views.Value.{Value}
 use Rattle.object_values.specs.declared.views.Value.TheVariants.{Simple}
 use Rattle.content_store.specs.Bodies.{Bodies, place_of, with_body}
 use Rattle.content_store.proofs.Lemmas.{place_stands, place_kept}
 use Rattle.meaning_records.specs.Tables.{IsText, IsNoText}
+use Rattle.meaning_records.specs.Numbers.{number_of}
+use Rattle.meaning_records.proofs.Lemmas.{leads_back, nowhere_none, number_stays, number_behind}
 use Rattle.kept_contents.specs.Stocks.{IsNumbered, IsOther}
-use Rattle.kept_contents.proofs.Items.{kept, last_or_before, last_item, set_there, set_elsewhere, has_place}
+use Rattle.kept_contents.proofs.Items.{kept, last_or_before, set_there, set_elsewhere, has_place}
 
 pub same_text : (a b : List ℕ) → Simple a ≡ Simple b → a ≡ b
 same_text a b e = cc
@@ -32,8 +34,11 @@ numbered_none = record {
 
 module _ (contents : List Value) (texts : Bodies) (numbers : List (Option ℕ)) (index : IsNumbered contents texts numbers) where
   -- what is found of a text
+  leads_number : (text : List ℕ) (id number : ℕ) → place_of text texts ≡ Some id → slice_get numbers id ≡ Some (Some number) → number_of (Simple text) contents ≡ Some number
+  leads_number text id number at h = let r = index.right id number h in subst (λ (t : List ℕ). number_of (Simple t) contents ≡ Some number) (one_of texts r.0 text id r.1 at) r.2
+
   pub leads : (text : List ℕ) (id number : ℕ) → place_of text texts ≡ Some id → slice_get numbers id ≡ Some (Some number) → IsText contents number text
-  leads text id number at h = let r = index.right id number h in subst (λ t. IsText contents number t) (one_of texts r.0 text id r.1 at) r.2
+  leads text id number at h = leads_back (Simple text) contents number (leads_number text id number at h)
 
   pub leads_nowhere : (text : List ℕ) (id : ℕ) → place_of text texts ≡ Some id → slice_get numbers id ≡ Some None → IsNoText contents text
   leads_nowhere text id at h number is =
@@ -46,8 +51,16 @@ module _ (contents : List Value) (texts : Bodies) (numbers : List (Option ℕ)) 
   led text id (Some n) at h = (leads text id n at h, tt)
   led text id None at h = (tt, leads_nowhere text id at h)
 
+  -- the number of a text that is held
+  pub number_found : (text : List ℕ) (id : ℕ) (found : Option ℕ) → place_of text texts ≡ Some id → slice_get numbers id ≡ Some found → found ≡ number_of (Simple text) contents
+  number_found text id (Some n) at h = sym (leads_number text id n at h)
+  number_found text id None at h = sym (nowhere_none (Simple text) contents (leads_nowhere text id at h))
+
   pub not_held : (text : List ℕ) → place_of text texts ≡ None → IsNoText contents text
   not_held text none number is = let w = index.whole number text is in none-some w.0 (sym none ∙ w.2)
+
+  pub number_missed : (text : List ℕ) → place_of text texts ≡ None → number_of (Simple text) contents ≡ None
+  number_missed text none = nowhere_none (Simple text) contents (not_held text none)
 
   pub id_within : (text : List ℕ) (id : ℕ) → place_of text texts ≡ Some id → id < length numbers
   id_within text id at = subst (λ n. id < n) (sym index.long) (has_place texts text id (place_stands text texts id at))
@@ -76,16 +89,27 @@ module _ (contents : List Value) (texts : Bodies) (numbers : List (Option ℕ)) 
   ]) no_longer
 
   -- a text that is the next content
-  pub pushed : (text : List ℕ) (id : ℕ) → place_of text texts ≡ Some id → IsNumbered (contents ++ Simple text ∷ []) texts (set numbers id (Some (length contents)))
-  pushed text id at = record {
+  pushed_known : (text : List ℕ) (id n : ℕ) → place_of text texts ≡ Some id → slice_get numbers id ≡ Some (Some n) → IsNumbered (contents ++ Simple text ∷ []) texts numbers
+  pushed_known text id n at known = record {
+    long = index.long;
+    right = λ other number h. let r = index.right other number h in (r.0, r.1, number_stays (Simple r.0) contents (Simple text ∷ []) number r.2);
+    whole = λ number t is. elim (last_or_before contents (Simple text) (Simple t) number is) [
+      | inl before ↦ index.whole number t before
+      | inr last ↦ (id, n, ap (λ b. place_of b texts) (same_text t text last.1) ∙ at, known)
+    ];
+  }
+
+  pushed_fresh : (text : List ℕ) (id : ℕ) → place_of text texts ≡ Some id → slice_get numbers id ≡ Some None → IsNumbered (contents ++ Simple text ∷ []) texts (set numbers id (Some (length contents)))
+  pushed_fresh text id at fresh = record {
     long = omega (arith, length-set {A = Option ℕ} numbers id (Some (length contents)), index.long);
     right = λ other number h. elim (cases_eq id other) [
       | inl same ↦
           let is : length contents ≡ number = same_Some _ _ (same_Some _ _ (sym (set_there numbers id (Some (length contents)) (id_within text id at)) ∙ ap (slice_get (set numbers id (Some (length contents)))) same ∙ h)) in
-          (text, at ∙ ap Some same, subst (λ n. IsText (contents ++ Simple text ∷ []) n text) is (last_item contents (Simple text)))
+          let none = nowhere_none (Simple text) contents (leads_nowhere text id at fresh) in
+          (text, at ∙ ap Some same, number_behind (Simple text) contents none ∙ ap Some is)
       | inr apart ↦
           let r = index.right other number (sym (set_elsewhere numbers id other (Some (length contents)) apart) ∙ h) in
-          (r.0, r.1, kept contents (Simple text ∷ []) (Simple r.0) number r.2)
+          (r.0, r.1, number_stays (Simple r.0) contents (Simple text ∷ []) number r.2)
     ];
     whole = λ number t is. elim (last_or_before contents (Simple text) (Simple t) number is) [
       | inl before ↦ let w = index.whole number t before in elim (cases_eq id w.0) [
@@ -96,11 +120,18 @@ module _ (contents : List Value) (texts : Bodies) (numbers : List (Option ℕ)) 
     ];
   }
 
+  pub pushed : (text : List ℕ) (id : ℕ) (next : List (Option ℕ)) → place_of text texts ≡ Some id → ((n : ℕ) → slice_get numbers id ≡ Some (Some n) → next ≡ numbers) → (slice_get numbers id ≡ Some None → next ≡ set numbers id (Some (length contents))) → IsNumbered (contents ++ Simple text ∷ []) texts next
+  pushed text id next at known fresh = by_entry (get_or numbers id None) (slice_get-get_or numbers id None (id_within text id at))
+    where
+      by_entry : (found : Option ℕ) → slice_get numbers id ≡ Some found → IsNumbered (contents ++ Simple text ∷ []) texts next
+      by_entry (Some n) h = subst (IsNumbered (contents ++ Simple text ∷ []) texts) (sym (known n h)) (pushed_known text id n at h)
+      by_entry None h = subst (IsNumbered (contents ++ Simple text ∷ []) texts) (sym (fresh h)) (pushed_fresh text id at h)
+
   -- a content that is no text
   pub pushed_other : (value : Value) → IsOther value → IsNumbered (contents ++ value ∷ []) texts numbers
   pushed_other value other = record {
     long = index.long;
-    right = λ id number h. let r = index.right id number h in (r.0, r.1, kept contents (value ∷ []) (Simple r.0) number r.2);
+    right = λ id number h. let r = index.right id number h in (r.0, r.1, number_stays (Simple r.0) contents (value ∷ []) number r.2);
     whole = λ number t is. elim (last_or_before contents value (Simple t) number is) [
       | inl before ↦ index.whole number t before
       | inr last ↦ absurd (subst IsOther (sym last.1) other)

@@ -4,6 +4,7 @@ use Rattle.object_values.specs.declared.views.Value.{Value}
 use Rattle.object_values.specs.declared.views.Value.TheVariants.{Simple, List as Listed, Compound}
 use Rattle.content_store.specs.Bodies.{Bodies, place_of}
 use Rattle.meaning_records.specs.Tables.{IsText}
+use Rattle.meaning_records.specs.Numbers.{number_of}
 use Rattle.kept_contents.specs.declared.shared.Content.{Content}
 use Rattle.kept_contents.specs.declared.shared.Content.TheVariants.{Text, Other}
 
@@ -32,8 +33,8 @@ abbrev pub IsHeldIn : Bodies → Content → Type 0
 IsHeldIn texts (Text shared) = place_of shared.text texts ≡ Some shared.id
 IsHeldIn texts (Other value) = IsOther value
 
--- Each text leads to a content where it is one, and to no other.
+-- Each text leads to its number where it is a content, and to no other.
 pub record IsNumbered (contents : List Value) (texts : Bodies) (numbers : List (Option ℕ)) : Type 0 where
   pub long : length numbers ≡ length texts
-  pub right : (id number : ℕ) → slice_get numbers id ≡ Some (Some number) → (text : List ℕ) × (place_of text texts ≡ Some id) × IsText contents number text
+  pub right : (id number : ℕ) → slice_get numbers id ≡ Some (Some number) → (text : List ℕ) × (place_of text texts ≡ Some id) × (number_of (Simple text) contents ≡ Some number)
   pub whole : (number : ℕ) (text : List ℕ) → IsText contents number text → (id : ℕ) × (found : ℕ) × (place_of text texts ≡ Some id) × (slice_get numbers id ≡ Some (Some found))

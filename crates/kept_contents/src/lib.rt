@@ -1,7 +1,8 @@
-//! The contents of a journal in memory, each text once, with the ways from the numbers of a record to its texts and back.
+//! The contents of a journal in memory, each text once, with the number of each value, and the ways from the numbers of a record to its texts and back.
 #![tactic(auto)]
 
 mod held;
+mod index;
 mod numbering;
 mod resolving;
 mod shared;

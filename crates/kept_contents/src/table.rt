@@ -1,12 +1,14 @@
 // The contents of a journal, and how a text is found among them.
-ghost use Rattle.std.specs.Prelude.{◌≡◌, ℕ, List, ◌+◌, ◌-◌, ◌<◌, ◌≤◌, ◌^◌, ◌∷◌, ◌++◌, [], IfNone, IfOk, IfSome, OnOk, Some, length, reverse, slice_get, vec_capacity, vec_len};
+ghost use Rattle.std.specs.Prelude.{◌≡◌, ℕ, List, ◌+◌, ◌-◌, ◌<◌, ◌≤◌, ◌^◌, ◌∷◌, ◌++◌, [], IfNone, IfOk, IfSome, OnOk, None, Some, length, reverse, slice_get, slice_set, vec_capacity, vec_len};
 ghost use Rattle.object_values.specs.declared.views.Value.TheVariants.{Simple};
 ghost use Rattle.meaning_records.specs.Tables.{IsText, IsNoText};
+ghost use Rattle.meaning_records.specs.Numbers.{number_of};
 ghost use Rattle.kept_contents.specs.Stocks.{IsOther};
 ghost use Rattle.kept_contents.specs.Held.{IsGrownFrom};
 ghost use Rattle.kept_contents.specs.Added.{AreHeld, contents_with};
 ghost use Rattle.content_store.specs.Bodies.{place_of};
 
+use crate::index::OtherIndex;
 use crate::shared::{Content, Shared};
 use content_store::{Contents, ShaKeys};
 use object_values::{Copied, Memory, Text, Value};
@@ -18,8 +20,10 @@ use std::marker::Model;
 pub struct ContentTable {
     contents: Vec<Content>,
     texts: Contents<ShaKeys>,
-    // of each text the number of a content with its bytes
+    // of each text its number as a content, where it is one
     numbers: Vec<Option<u32>>,
+    // the numbers of lists and compounds
+    others: OtherIndex,
 }
 
 impl Drop for ContentTable {
@@ -28,15 +32,18 @@ impl Drop for ContentTable {
             contents,
             texts,
             numbers,
+            others,
         } = self;
         drop(contents);
         drop(texts);
         drop(numbers);
+        drop(others);
     }
 }
 
 impl Model for ContentTable {
     ghost use Rattle.std.specs.Prelude.{◌-◌, All, vec_len, vec_capacity};
+    ghost use Rattle.kept_contents.specs.Index.{IsIndexed};
     ghost use Rattle.kept_contents.specs.Stocks.{Stock, IsNumbered, IsHeldIn, values_of};
 
     ghost Value = { Stock };
@@ -48,7 +55,8 @@ impl Model for ContentTable {
     } };
 
     ghost invariant = { λ t. IsNumbered (values_of t.contents.items) t.texts t.numbers.items
-        × All (IsHeldIn t.texts) t.contents.items };
+        × All (IsHeldIn t.texts) t.contents.items
+        × IsIndexed (values_of t.contents.items) t.others };
 }
 
 impl ContentTable {
@@ -60,6 +68,7 @@ impl ContentTable {
             contents: Vec::new(alloc),
             texts: Contents::new(alloc),
             numbers: Vec::new(alloc),
+            others: OtherIndex::new(alloc),
         }
     }
 
@@ -107,6 +116,37 @@ impl ContentTable {
         ensures none { IfNone result (IsNoText self.now.contents shared.now.text) }
     {
         self.numbers[shared.id as usize]
+    }
+
+    /// The number of a value: that of the first content that is the value. It takes no memory, and looks at a text once.
+    pub fn number_of_value(&self, value: &Value) -> Option<u64>
+        ensures { result ≡ number_of value.now self.now.contents }
+    {
+        match value {
+            Value::Simple(text) => self.text_number(text.as_slice()),
+            other => self.others.find(self.contents.as_slice(), other),
+        }
+    }
+
+    fn text_number(&self, text: &[u8]) -> Option<u64>
+        ensures { result ≡ number_of (Simple text.now) self.now.contents }
+    {
+        let id = self.texts.find(text)?;
+        match self.numbers[id as usize] {
+            Some(number) => Some(number as u64),
+            None => None,
+        }
+    }
+
+    /// The content of a number. It shares the bytes of texts and of parts.
+    pub fn value(&self, alloc: Global, number: u64) -> Result<Value, Memory>
+        requires { number < length self.now.contents }
+        ensures { IfOk result (λ value. slice_get self.now.contents number ≡ Some value) }
+    {
+        match &self.contents[number as usize] {
+            Content::Text(shared) => Ok(Value::Simple(shared.text.copy(alloc)?)),
+            Content::Other(value) => value.copy(alloc),
+        }
     }
 
     /// Holds a text in memory, once. The contents stay.
@@ -163,7 +203,7 @@ impl ContentTable {
         ensures room { self.old.room ≤ self.new.room + 1 }
     {
         let Shared { id, text } = shared;
-        self.numbers[id as usize] = Some(self.contents.len() as u32);
+        set_first(&mut self.numbers, id, self.contents.len() as u32);
         push_within(&mut self.contents, Content::Text(Shared { id, text }));
     }
 
@@ -212,8 +252,23 @@ impl ContentTable {
         ensures contents { OnOk result (self.new.contents ≡ self.old.contents ++ value ∷ []) }
         ensures texts { IsGrownFrom self.old.texts self.new.texts }
     {
-        self.contents.push(Content::Other(value))?;
+        self.contents.reserve(1)?;
+        self.others.add(self.contents.as_slice(), &value)?;
+        push_within(&mut self.contents, Content::Other(value));
         Ok(())
+    }
+}
+
+// Gives a text its number, where it has none.
+fn set_first(numbers: &mut Vec<Option<u32>>, id: u64, number: u32)
+    requires { id < length numbers.old.items }
+    ensures known { (n : ℕ) → slice_get numbers.old.items id ≡ Some (Some n)
+        → numbers.new.items ≡ numbers.old.items }
+    ensures fresh { slice_get numbers.old.items id ≡ Some None
+        → numbers.new.items ≡ slice_set numbers.old.items id (Some number) }
+{
+    if numbers[id as usize].is_none() {
+        numbers[id as usize] = Some(number);
     }
 }
 

@@ -1,7 +1,8 @@
 // The tables of what is kept.
-ghost use Rattle.std.specs.Prelude.{◌≡◌, ◌↔◌, [], List, ℕ, ◌+◌, ◌^◌, ◌<◌, ◌≤◌, All, length, reverse, slice_get, option_map, is_some, IfOk, IfSome, IfNone, IsTrue, OnOk};
+ghost use Rattle.std.specs.Prelude.{◌≡◌, ◌↔◌, [], List, ℕ, ◌+◌, ◌^◌, ◌<◌, ◌≤◌, All, length, reverse, slice_get, option_map, is_some, Some, IfOk, IfSome, IfNone, IsTrue, OnOk};
 ghost use Rattle.object_values.specs.declared.calls.Call.{Call as CallValue};
 ghost use Rattle.object_values.specs.declared.calls.Outcome.{Outcome as OutcomeValue};
+ghost use Rattle.meaning_records.specs.Numbers.{number_of};
 ghost use Rattle.meaning_records.specs.Tables.{IsText, IsCallOf, IsOutcomeOf, kept_outcome, with_call, with_content};
 ghost use Rattle.kept_tables.specs.Loading.{LoadsItem, LoadsNothing};
 ghost use Rattle.indexmap.specs.IndexMap.{insert_entry, spare};
@@ -100,7 +101,7 @@ impl Kept {
         self.calls.len() as u64
     }
 
-    /// The call at a place, from 0, in the order in which they were kept.
+    /// The call at a place, from 0, in the order in which they were kept. `None` from place `calls()` on.
     pub fn call_at(&self, alloc: Global, place: u64) -> Result<Option<KeptCall>, Memory>
         ensures { IfOk result (λ found.
             option_map (λ k. (k.call, k.outcome)) found ≡ slice_get self.now.tables.calls place) }
@@ -113,6 +114,28 @@ impl Kept {
             }
             None => Ok(None),
         }
+    }
+
+    /// How many contents there are.
+    pub fn contents(&self) -> u64
+        ensures { result ≡ length self.now.tables.contents }
+    {
+        self.contents.len() as u64
+    }
+
+    /// The number of a value that is a content. It takes no memory. A text is found by one look, a list or a compound by its hash.
+    pub fn id_of(&self, value: &Value) -> Result<Option<u64>, Memory>
+        ensures { result ≡ Ok (number_of value.now self.now.tables.contents) }
+    {
+        Ok(self.contents.number_of_value(value))
+    }
+
+    /// The value that is the content of a number. It shares the bytes of texts and of parts.
+    pub fn value(&self, alloc: Global, id: u64) -> Result<Value, Memory>
+        requires { id < length self.now.tables.contents }
+        ensures { IfOk result (λ value. slice_get self.now.tables.contents id ≡ Some value) }
+    {
+        self.contents.value(alloc, id)
     }
 
     /// The outcome that is kept of a call.

@@ -1,14 +1,15 @@
 // Tables that are lent to be looked at.
-ghost use Rattle.std.specs.Prelude.{◌≡◌, ◌+◌, IfOk};
+ghost use Rattle.std.specs.Prelude.{◌≡◌, ◌+◌, ◌<◌, IfOk, Some, length, slice_get};
+ghost use Rattle.meaning_records.specs.Numbers.{number_of};
 ghost use Rattle.meaning_records.specs.Tables.{kept_outcome};
 
 use crate::kept::Kept;
-use object_values::{Call, Memory, Outcome};
+use object_values::{Call, Memory, Outcome, Value};
 use odin_outside::Steps;
 use std::alloc::Global;
 use std::sync::ledger::Ledger;
 
-/// Tables that are lent to be looked at, and are never handed out. Each look is counted.
+/// Tables that are lent to be looked at, and are never handed out. Each look for a call is counted.
 #[derive(Drop)]
 pub struct Looks<'a> {
     pub(crate) kept: &'a Kept,
@@ -28,5 +29,21 @@ impl Looks<'_> {
     {
         steps.tick();
         self.kept.outcome(alloc, call)
+    }
+
+    /// The number of a value that is a content. It takes no memory.
+    pub fn id_of(&self, value: &Value) -> Result<Option<u64>, Memory>
+        ensures { result ≡ Ok (number_of value.now self.now.kept.now.tables.contents) }
+    {
+        self.kept.id_of(value)
+    }
+
+    /// The value that is the content of a number.
+    pub fn value(&self, alloc: Global, id: u64) -> Result<Value, Memory>
+        requires { id < length self.now.kept.now.tables.contents }
+        ensures { IfOk result (λ value.
+            slice_get self.now.kept.now.tables.contents id ≡ Some value) }
+    {
+        self.kept.value(alloc, id)
     }
 }

@@ -9,3 +9,5 @@ mod Alone
 mod Stores
 mod Writing
 mod NewTexts
+mod NumberLemmas
+pub mod Lemmas

@@ -3,6 +3,7 @@ pub mod Records
 pub mod FormLemmas
 pub mod PlaceLemmas
 pub mod Tables
+pub mod Numbers
 pub mod States
 pub mod Stands
 pub mod Batches

@@ -1,5 +1,6 @@
 //! Laws of what an image stands for. Each is the contract of a function with an empty body.
 ghost use Rattle.meaning_records.specs.Laws.{ItemsAreOne, ReadsInOneWay, StandsForOne, EachStandsOrNot, GatesFollow, BatchesRead};
+ghost use Rattle.meaning_records.specs.Numbers.{NumbersTellValues};
 
 /// What an item is spelled tells the item, and where it ends.
 pub fn items_are_one()
@@ -29,4 +30,9 @@ pub fn gates_follow()
 /// Each batch that a store writes reads as what it was asked for.
 pub fn batches_read()
     ensures { BatchesRead }
+{}
+
+/// The number of a value leads back to it and stays, and of two numbers the values are equal exactly where the numbers are.
+pub fn numbers_tell_values()
+    ensures { NumbersTellValues }
 {}

@@ -133,6 +133,8 @@ fn a_call_is_kept_once_and_read_by_others(rt: HostRuntime) -> Result<(), Fail> {
     assert!(rt; read == (2, true));
     let found = other.call_at(alloc, 0)?;
     assert!(rt; found.is_some_and(|found| found.call == call && found.outcome == outcome));
+    let behind = (other.call_at(alloc, 1)?, other.call_at(alloc, u64::MAX)?);
+    assert!(rt; behind.0.is_none() && behind.1.is_none());
     let again = load_all(alloc, &mut other, payload.as_slice())?;
     assert!(rt; again == (1, false));
     Ok(())

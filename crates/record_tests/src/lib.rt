@@ -6,4 +6,6 @@ mod contents;
 #[cfg(test)]
 mod kept;
 #[cfg(test)]
+mod numbers;
+#[cfg(test)]
 mod records;

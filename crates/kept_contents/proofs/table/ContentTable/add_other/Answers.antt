@@ -1,4 +1,6 @@
+use Rattle.std.proofs.Common.{◌≡◌, ◌++◌, ◌∷◌, [], refl}
 use Rattle.kept_contents.specs.declared.shared.Content.TheVariants.{Other}
+use Rattle.kept_contents.specs.Index.{IsIndexed}
 use Rattle.kept_contents.specs.Stocks.{values_of}
 use Rattle.kept_contents.proofs.Contents.{held_push, values_push}
 use Rattle.kept_contents.proofs.Numbers.{pushed_other}
@@ -7,7 +9,11 @@ use Rattle.kept_contents.proofs.table.ContentTable.add_other.Goals as goal
 pub invariant_of-self-2 : goal.invariant_of-self-2
 invariant_of-self-2 c =
     let items = c.self.inside.contents.items in
-    let texts = c.self.inside.texts in (
-      rw (c.in_ok-push.ensures.items, values_push items (Other c.args.value)) (pushed_other (values_of items) texts c.self.inside.numbers.items c.self.invariant.0 c.args.value c.requires),
-      rw c.in_ok-push.ensures.items (held_push texts items (Other c.args.value) c.self.invariant.1 c.requires),
+    let texts = c.self.inside.texts in
+    let value = c.args.value in
+    let now : c.push_within.new.items.items ≡ items ++ Other value ∷ [] = rw (c.push_within.ensures.items, c.reserve.ensures.items) refl in
+    let indexed : IsIndexed (values_of items ++ value ∷ []) c.add.new.self = rw (c.as_slice.ensures.value, c.reserve.ensures.items) at c.in_ok-add.ensures.ok in (
+      rw (now, values_push items (Other value)) (pushed_other (values_of items) texts c.self.inside.numbers.items c.self.invariant.0 value c.requires),
+      rw now (held_push texts items (Other value) c.self.invariant.1 c.requires),
+      rw (now, values_push items (Other value)) indexed,
     )

@@ -17,6 +17,7 @@ invariant_of-self-in-Continue-branch-3 c =
     let longer : length c.self.inside.numbers.items < length (with_body c.args.text.now texts) = omega (arith, lent, kept, made) in (
       rw (c.in_ok-id.ensures.bodies, c.in_ok-push.ensures.items, c.reserve.ensures.items) (held_new (values_of items) texts c.self.inside.numbers.items c.self.invariant.0 c.args.text.now longer),
       rw c.in_ok-id.ensures.bodies (held_with c.args.text.now texts items c.self.invariant.1),
+      c.self.invariant.2,
     )
 
 pub returns-in_ok-push-clause-texts : goal.returns-in_ok-push-clause-texts

@@ -1,0 +1,155 @@
+// The numbers of lists and compounds.
+ghost use Rattle.std.specs.Prelude.{◌≡◌, ◌≢◌, ◌↔◌, ◌∷◌, ◌++◌, [], All, IfNone, IfSome, IsTrue, OnErr, OnOk, Some};
+ghost use Rattle.std.specs.List.{flat_map, fold};
+ghost use Rattle.meaning_records.specs.Numbers.{number_of};
+ghost use Rattle.kept_contents.specs.Index.{IsIndexed, IsNumber, hash_of, part_fed, value_fed};
+ghost use Rattle.kept_contents.specs.Stocks.{IsOther, values_of};
+
+use crate::shared::Content;
+use object_values::{Memory, Part, Value};
+use std::alloc::Global;
+use std::collections::HashMap;
+use std::hash::{FoldHasher, Hash, Hasher};
+
+/// The numbers of the lists and compounds among contents. A value is looked up by its hash, and what is found there is compared.
+pub struct OtherIndex {
+    // the number of the first value that has the hash
+    first: HashMap<u64, u64>,
+    // the numbers of the values whose hash an earlier one has
+    clashing: Vec<u64>,
+}
+
+impl Drop for OtherIndex {
+    fn drop(self) {
+        let OtherIndex { first, clashing } = self;
+        drop(first);
+        drop(clashing);
+    }
+}
+
+impl OtherIndex {
+    pub fn new(alloc: Global) -> Self
+        ensures { IsIndexed [] result }
+    {
+        OtherIndex {
+            first: HashMap::new(alloc),
+            clashing: Vec::new(alloc),
+        }
+    }
+
+    /// The number of a list or a compound among the contents.
+    pub fn find(&self, contents: &[Content], value: &Value) -> Option<u64>
+        requires index { IsIndexed (values_of contents.now) self.now }
+        requires other { IsOther value.now }
+        ensures { result ≡ number_of value.now (values_of contents.now) }
+    {
+        self.find_hashed(quick_hash(value), contents, value)
+    }
+
+    /// Takes in the list or the compound that is the next content.
+    pub fn add(&mut self, contents: &[Content], value: &Value) -> Result<(), Memory>
+        requires index { IsIndexed (values_of contents.now) self.old }
+        requires other { IsOther value.now }
+        ensures ok { OnOk result (IsIndexed (values_of contents.now ++ value.now ∷ []) self.new) }
+        ensures err { OnErr result (IsIndexed (values_of contents.now) self.new) }
+    {
+        let hash = quick_hash(value);
+        if self.find_hashed(hash, contents, value).is_some() {
+            return Ok(());
+        }
+        let number = contents.len() as u64;
+        if self.first.contains_key(&hash) {
+            self.clashing.push(number)?;
+        } else {
+            self.first.insert(hash, number)?;
+        }
+        Ok(())
+    }
+
+    // The number of the value that has this hash.
+    fn find_hashed(&self, hash: u64, contents: &[Content], value: &Value) -> Option<u64>
+        requires index { IsIndexed (values_of contents.now) self.now }
+        requires other { IsOther value.now }
+        requires hash { hash ≡ hash_of value.now }
+        ensures { result ≡ number_of value.now (values_of contents.now) }
+    {
+        match self.first.get(&hash) {
+            Some(first) => find_from(contents, *first, self.clashing.as_slice(), value),
+            None => None,
+        }
+    }
+}
+
+// A hash that is many times as quick as a digest. Nothing rests on it but time.
+fn quick_hash(value: &Value) -> u64
+    ensures { result ≡ hash_of value.now }
+{
+    let mut state = FoldHasher::default();
+    feed(value, &mut state);
+    state.finish()
+}
+
+fn feed<H: Hasher>(value: &Value, state: &mut H)
+    ensures { state.new ≡ fold H.write state.old (value_fed value.now) }
+{
+    match value {
+        Value::Simple(text) => text.hash(state),
+        Value::List(nodes) => nodes.hash(state),
+        Value::Compound(parts) => feed_parts(parts.as_slice(), state),
+    }
+}
+
+fn feed_parts<H: Hasher>(parts: &[Part], state: &mut H)
+    ensures { state.new ≡ fold H.write state.old (flat_map part_fed parts.now) }
+{
+    for part in parts {
+        part.name.hash(state);
+        part.body.hash(state);
+    }
+}
+
+// Whether the number is that of the value.
+fn is_number(contents: &[Content], number: u64, value: &Value) -> bool
+    requires number { IsNumber (values_of contents.now) number }
+    requires other { IsOther value.now }
+    ensures { IsTrue result ↔ (number_of value.now (values_of contents.now) ≡ Some number) }
+{
+    match contents.get(number as usize) {
+        Some(Content::Other(other)) => other == value,
+        Some(Content::Text(_)) => false,
+        None => false,
+    }
+}
+
+// Which of the first number and the others is that of the value.
+fn find_from(contents: &[Content], first: u64, others: &[u64], value: &Value) -> Option<u64>
+    requires first { IsNumber (values_of contents.now) first }
+    requires others { All (IsNumber (values_of contents.now)) others.now }
+    requires other { IsOther value.now }
+    ensures some { IfSome result (λ n. number_of value.now (values_of contents.now) ≡ Some n) }
+    ensures not_first { IfNone result
+        (number_of value.now (values_of contents.now) ≢ Some first) }
+    ensures not_others { IfNone result
+        (All (λ n. number_of value.now (values_of contents.now) ≢ Some n) others.now) }
+{
+    if is_number(contents, first, value) {
+        return Some(first);
+    }
+    find_among(contents, others, value)
+}
+
+// The first of the numbers that is that of the value.
+fn find_among(contents: &[Content], numbers: &[u64], value: &Value) -> Option<u64>
+    requires numbers { All (IsNumber (values_of contents.now)) numbers.now }
+    requires other { IsOther value.now }
+    ensures some { IfSome result (λ n. number_of value.now (values_of contents.now) ≡ Some n) }
+    ensures none { IfNone result
+        (All (λ n. number_of value.now (values_of contents.now) ≢ Some n) numbers.now) }
+{
+    for number in numbers {
+        if is_number(contents, *number, value) {
+            return Some(*number);
+        }
+    }
+    None
+}
