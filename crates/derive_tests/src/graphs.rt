@@ -9,9 +9,6 @@ const UNITS: &[u8] =
 
 pub(super) const C_UNITS: Pieces = &[UNITS];
 
-/// What is linked is a source again.
-pub(super) const C_UNITS_BACK: Pieces = &[UNITS, b"tool back 1 from exe to c run \"ld\";\n"];
-
 /// With these the graph has a declaration of every kind.
 pub(super) const KITS: Pieces = &[
     UNITS,

@@ -9,8 +9,9 @@ use faults::{MEMORY, fault_of};
 use object_values::Memory;
 use odin_children::ChildTools;
 use odin_files::{FileDisk, FolderTree};
-use odin_real::{InputSource, OutputSink};
+use odin_real::{ClosedStreams, InputSource, OutputSink};
 use odin_shell::run;
+use odin_words::{Work, read_words};
 use std::alloc::Global;
 use std::env::Env;
 use std::process::ExitCode;
@@ -19,13 +20,24 @@ use std::{env, io};
 // The file that sources and kept calls are in, in the current folder.
 const STORE: &str = "odin.store";
 
+/// Where the store of these words is: nowhere where they ask for no graph, so that no file is made for them.
+fn store_of(alloc: Global, words: &[String]) -> Result<&'static str, Memory> {
+    let Some(asked) = read_words(alloc, words)? else {
+        return Ok("");
+    };
+    match asked.work {
+        Work::Serve(_) => Ok(STORE),
+        Work::Load(_) => Ok(""),
+    }
+}
+
 /// The exit status of a run with these words, over the standard input and output, the files of the current folder, its store and child
 /// programs.
 fn serve(rt: &HostRuntime, alloc: Global, words: &[String]) -> Result<u8, Memory> {
     let mut input = InputSource::new(rt.reader());
     let mut output = OutputSink::new(io::writer(rt));
     let mut tree = FolderTree::new(rt);
-    let mut disk = FileDisk::open(rt, STORE);
+    let mut disk = FileDisk::open(rt, store_of(alloc, words)?);
     let mut tools = ChildTools::new(alloc, rt, rt.stderr());
     Ok(run(
         alloc,
@@ -63,6 +75,7 @@ fn run_words(rt: &HostRuntime) -> Result<u8, Memory> {
 }
 
 fn main(rt: HostRuntime) -> ExitCode {
+    let closed = ClosedStreams::hold(&rt);
     let status = match run_words(&rt) {
         Ok(status) => status,
         Err(Memory) => MEMORY,
@@ -70,5 +83,6 @@ fn main(rt: HostRuntime) -> ExitCode {
     if let Some(fault) = fault_of(status) {
         let _ = rt.eprintln(fault);
     }
+    drop(closed);
     ExitCode::from(status)
 }

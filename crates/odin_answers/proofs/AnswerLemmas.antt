@@ -37,9 +37,9 @@ use Rattle.odin_engine.specs.declared.fault.AskFault.{AskFault}
 use Rattle.odin_engine.specs.declared.fault.AskFault.TheVariants as fault
 use Rattle.odin_engine.specs.Asked.{IsNodeOf}
 use Rattle.odin_engine.specs.Asking.{IsFoundFor, IsAskFault}
-use Rattle.odin_answers.specs.Answers.{AreAll, IsBegun, IsReply, MayHaveBegun, found_reply}
+use Rattle.odin_answers.specs.Answers.{AreAll, IsBegun, HaveRun, IsReply, MayHaveBegun, found_reply}
 use Rattle.odin_answers.specs.Faults as faults
-use Rattle.odin_answers.specs.Replied.{HasReplied, HasBegun, HasWanted, HasFailed, IsFull, HasStopped}
+use Rattle.odin_answers.specs.Replied.{HasReplied, HasRun, HasWanted, HasFailed, IsFull, HasStopped}
 
 -- the changes of one more call that is kept
 pub keeps_behind : (given : Calls) (call : Call) (outcome : Outcome) → keeps_of (given ++ (call, outcome) ∷ []) ≡ keeps_of given ++ keeps call outcome ∷ []
@@ -75,6 +75,9 @@ run_begun g s kept text n given before now asks run = record {
   cut = inl (record { memory = refl; same = refl });
   untouched = λ refused. none_told given before now run.now_is (run.untouched refused);
 }
+
+pub ran_begun : (g : Graph) (s : Sources) (kept : Calls) (text : Text) (given : Calls) (before now : Spawned) → HaveRun g s kept text given before now → MayHaveBegun g s kept text given before now
+ran_begun g s kept text given before now ran = inr (plain.Memory, run_begun g s kept text ran.node given before now ran.asks ran.run)
 
 -- and so was what a reply tells
 pub reply_begun : (g : Graph) (s : Sources) (kept : Calls) (text : Text) (reply : Reply) (given : Calls) (before now : Spawned) → IsReply g s kept text reply given before now → MayHaveBegun g s kept text given before now
@@ -186,15 +189,15 @@ module _ {Disk : Type 0} (told : Disk → Telling) where
     wanted for = record { given = for.cut.given; begun = inr (plain.Memory, cut_begun plain.Memory for); goes = goes_cut plain.Memory for }
 
     -- run to its end, but not kept
-    unkept_begun : (f : JournalFault) (for : IsUnkeptFor f) → HasBegun told g text old new (for.unkept.given ++ (for.unkept.call, for.unkept.outcome) ∷ [])
-    unkept_begun f for = inr (plain.Memory, run_begun g sources kept text for.node _ old.tools new.tools for.is.asks for.unkept.ran)
+    unkept_ran : (f : JournalFault) (for : IsUnkeptFor f) → HasRun told g text old new (for.unkept.given ++ (for.unkept.call, for.unkept.outcome) ∷ [])
+    unkept_ran f for = record { node = for.node; asks = for.is.asks; run = for.unkept.ran }
 
     failed : IsUnkeptFor store.Disk → HasFailed told g text old new
     failed for =
         let u = for.unkept in
         record {
           given = u.given ++ (u.call, u.outcome) ∷ [];
-          begun = unkept_begun store.Disk for;
+          ran = unkept_ran store.Disk for;
           stops = subst (λ c. Stops told c old.store old.disk new.disk) (sym (keeps_behind u.given u.call u.outcome))
               (stops_behind told (keeps_of u.given) (keeps u.call u.outcome ∷ []) old.store u.mid.store old.disk u.mid.disk new.disk u.run.goes u.failed);
         }
@@ -207,7 +210,7 @@ module _ {Disk : Type 0} (told : Disk → Telling) where
           given = u.given;
           call = u.call;
           outcome = u.outcome;
-          begun = unkept_begun (store.Full at size) for;
+          ran = unkept_ran (store.Full at size) for;
           goes = goes_same (keeps_of u.given) old.store u.mid.store new.store old.disk u.mid.disk new.disk u.run.goes same;
           items = u.failed.1.0;
           batch = subst (λ (t : Tables). IsBatchOf t.contents (keeps u.call u.outcome) u.failed.1.0) (sym same.store_is.tables) u.failed.1.1;

@@ -13,7 +13,7 @@ use Rattle.plain_derive.specs.Given.{calls_of}
 use Rattle.plain_derive.specs.Laws.{CountedFor}
 use Rattle.plain_derive.specs.Runs.{AreRun, IsGivenUp}
 use Rattle.plain_derive.proofs.Lemmas.{same_faults, same_answer, cut_counted, cut_answer}
-use Rattle.odin_answers.specs.Answers.{HasAnswer, IsBegun, IsStartRefused, IsReply, MayHaveBegun}
+use Rattle.odin_answers.specs.Answers.{HasAnswer, IsBegun, IsStartRefused, HaveRun, IsReply, MayHaveBegun}
 
 -- ---- counts
 
@@ -25,6 +25,10 @@ answer_uncounted g s kept text reply given before now answer = elim answer.did [
   | inl alone ↦ ap (λ (z : Spawned). z.faults) alone.told
   | inr derived ↦ run_uncounted g s (kept_outcome kept) derived.node given before now derived.run
 ]
+
+-- nor do calls that were run with no refused start among them
+pub ran_uncounted : (g : Graph) (s : Sources) (kept : Calls) (text : Text) (given : Calls) (before now : Spawned) → HaveRun g s kept text given before now → now.faults ≡ before.faults
+ran_uncounted g s kept text given before now ran = run_uncounted g s (kept_outcome kept) ran.node given before now ran.run
 
 given_up_counted : (g : Graph) (s : Sources) (kept : Outcomes) (n : Node) (given : Calls) (fault : PlainFault) (before now : Spawned) → IsGivenUp g s kept n given fault before now → CountedFor fault before now
 given_up_counted g s kept n given fault before now (inl wanted) = subst (λ f. CountedFor f before now) (sym wanted.memory) (ap (λ (z : Spawned). z.faults) wanted.same)

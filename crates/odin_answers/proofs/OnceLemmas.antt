@@ -1,4 +1,4 @@
--- What was run for a text, that what is kept stays true, and that a text has one answer, but for the choice of the chain.
+-- What was run for a text, and that what is kept stays true.
 use Rattle.std.proofs.Common.{◌≡◌, ◌⊎◌, Bool, true, false, cond, [], ◌∷◌, ◌++◌, ap, refl, sym, ◌∙◌, subst, inl, inr, is_some}
 use Rattle.std.specs.Prelude.{Option, Some, None, IsSome}
 use Rattle.object_values.specs.declared.calls.Call.{Call}
@@ -15,8 +15,7 @@ use Rattle.meaning_derive.specs.Laws.{HasMore}
 use Rattle.meaning_records.specs.Tables.{Calls, kept_outcome}
 use Rattle.meaning_commands.specs.declared.replies.Reply.{Reply}
 use Rattle.meaning_answers.specs.Answers.{Answer}
-use Rattle.meaning_answers.specs.Laws.{BothShowChains}
-use Rattle.meaning_answers.proofs.Lemmas.{not_refused, one_node, one_answer}
+use Rattle.meaning_answers.proofs.Lemmas.{not_refused, one_node}
 use Rattle.walk_tables.specs.Calls.{outcome_in}
 use Rattle.derive_walk.specs.Outcomes.{after, given_or}
 use Rattle.plain_derive.specs.Given.{calls_of, HaveCome, AreGiven, IsRefusedBy}
@@ -102,7 +101,7 @@ module _ (g : Graph) (s : Sources) (kept later : Calls) (text : Text) (given mor
 -- ---- the table
 
 -- what is kept behind others is one or the other
-kept_or_given : (kept given : Calls) (call : Call) (o : Outcome) → kept_outcome (kept ++ given) call ≡ Some o → (kept_outcome kept call ≡ Some o) ⊎ (outcome_in given call ≡ Some o)
+pub kept_or_given : (kept given : Calls) (call : Call) (o : Outcome) → kept_outcome (kept ++ given) call ≡ Some o → (kept_outcome kept call ≡ Some o) ⊎ (outcome_in given call ≡ Some o)
 kept_or_given [] given call o e = inr e
 kept_or_given (x ∷ kept) given call o e = by_test (call_eq.eq call x.0) e (kept_or_given kept given call o)
   where
@@ -123,7 +122,7 @@ true_behind table kept given now told right came = record {
 none_come_yet : (table : Table) (given : Calls) → given ≡ [] → HaveCome (Some table) given
 none_come_yet table given none = subst (HaveCome (Some table)) (sym none) (λ call o i. absurd i)
 
-come_by : (table : Table) (before : Spawned) (given : Calls) → before.answer ≡ Some table → HaveCome before.answer given → HaveCome (Some table) given
+pub come_by : (table : Table) (before : Spawned) (given : Calls) → before.answer ≡ Some table → HaveCome before.answer given → HaveCome (Some table) given
 come_by table before given told came = subst (λ a. HaveCome a given) told came
 
 module _ (g : Graph) (table : Table) (s : Sources) (kept : Calls) (text : Text) (given : Calls) (before now : Spawned) (right : IsTrueFor table before kept) where
@@ -149,9 +148,3 @@ module _ (g : Graph) (table : Table) (s : Sources) (kept : Calls) (text : Text) 
 
   pub fresh : (reply : Reply) → HasAnswer g s kept text reply given before now → Answer g s (table_outcomes table) text reply
   fresh reply answer = answer.answer (table_outcomes table) (given_are_true table (kept_outcome kept) given right.gives (answered_came reply answer))
-
-pub one_reply : (g : Graph) (table : Table) (s : Sources) (kept kept' : Calls) (text : Text) (reply other : Reply) (given given' : Calls) (before now before' now' : Spawned)
-    → IsTrueFor table before kept → IsTrueFor table before' kept' → HasAnswer g s kept text reply given before now → HasAnswer g s kept' text other given' before' now'
-    → (other ≡ reply) ⊎ BothShowChains g s (table_outcomes table) text reply other
-one_reply g table s kept kept' text reply other given given' before now before' now' right right' a b =
-    one_answer g s (table_outcomes table) text reply other (fresh g table s kept text given before now right reply a) (fresh g table s kept' text given' before' now' right' other b)

@@ -61,6 +61,12 @@ pub record IsBegun (g : Graph) (s : Sources) (kept : Calls) (text : Text) (given
   pub cut : IsGivenUp g s (kept_outcome kept) node given fault mid now
   pub untouched : IsRefusedBy g s (kept_outcome kept) node → now ≡ before
 
+-- Such calls were run for a text of a node, and nothing else happened.
+pub record HaveRun (g : Graph) (s : Sources) (kept : Calls) (text : Text) (given : Calls) (before now : Spawned) : Type 0 where
+  pub node : Node
+  pub asks : Asks g text node
+  pub run : AreRun g s (kept_outcome kept) node given before now
+
 -- nothing was done
 pub record IsUntouched (given : Calls) (before now : Spawned) : Type 0 where
   pub none : given ≡ []

@@ -1,6 +1,6 @@
 -- What follows from replies: how the count of the tools' faults goes on, which calls were run, that what is kept stays true, and that an
 -- answer is one.
-use Rattle.std.specs.Prelude.{◌≡◌, ◌≤◌, ◌⊎◌, [], ◌++◌, None, Some}
+use Rattle.std.specs.Prelude.{◌≡◌, ◌≤◌, ◌⊎◌, ◌↔◌, [], ◌++◌, None, Some}
 use Rattle.object_values.specs.declared.nodes.Node.{Node}
 use Rattle.object_values.specs.declared.calls.Call.{Call}
 use Rattle.odin_outside.specs.Causes.{IsCounted}
@@ -88,6 +88,22 @@ AnswersAreFresh =
     (given : Calls) (before now : Spawned) → IsTrueFor table before kept
     → HasAnswer g s kept text reply given before now → Answer g s (table_outcomes table) text reply
 
+-- ---- one answer
+
+-- the same calls are kept, each with the same outcome
+abbrev pub KeepSame : Calls → Calls → Type 0
+KeepSame kept other = (call : Call) → kept_outcome other call ≡ kept_outcome kept call
+
+-- The same calls were given outcomes, and so the same are kept then.
+pub record RunSame (kept kept' given given' : Calls) : Type 0 where
+  pub calls : (call : Call) → IsIn call (calls_of given) ↔ IsIn call (calls_of given')
+  pub keep : KeepSame (kept ++ given) (kept' ++ given')
+
+-- The replies are the same; and where the same calls are kept, the same are run.
+pub record AreSameAnswers (kept kept' given given' : Calls) (reply other : Reply) : Type 0 where
+  pub same : other ≡ reply
+  pub run : KeepSame kept kept' → RunSame kept kept' given given'
+
 -- By a table a text has one answer from the same sources, whatever is kept, but for the choice of the chain that a refusal shows.
 abbrev pub AnswerIsOne : Type 0
 AnswerIsOne =
@@ -96,4 +112,5 @@ AnswerIsOne =
     → IsTrueFor table before kept → IsTrueFor table before' kept'
     → HasAnswer g s kept text reply given before now
     → HasAnswer g s kept' text other given' before' now'
-    → (other ≡ reply) ⊎ BothShowChains g s (table_outcomes table) text reply other
+    → AreSameAnswers kept kept' given given' reply other
+    ⊎ BothShowChains g s (table_outcomes table) text reply other

@@ -13,7 +13,7 @@ use Rattle.odin_store.specs.Held.{keeps}
 use Rattle.odin_store.specs.OnDisk.{IsOver}
 use Rattle.odin_store.specs.Going.{IsBatchOf, Goes, Stops}
 use Rattle.kept_derive.specs.Runs.{At, keeps_of}
-use Rattle.odin_answers.specs.Answers.{IsReply, MayHaveBegun}
+use Rattle.odin_answers.specs.Answers.{IsReply, HaveRun, MayHaveBegun}
 
 module _ {Disk : Type 0} (told : Disk → Telling) (g : Graph) (text : Text) (old new : At Disk) where
   -- This is the reply, and each call that was run for it is kept. That is no edit.
@@ -23,20 +23,20 @@ module _ {Disk : Type 0} (told : Disk → Telling) (g : Graph) (text : Text) (ol
     pub goes : Goes told (keeps_of given) old.store new.store old.disk new.disk
     pub epoch : new.store.epoch ≡ old.store.epoch
 
-  -- the ask was begun, and these calls came to outcomes
-  abbrev pub HasBegun : Calls → Type 0
-  HasBegun given = MayHaveBegun g old.store.sources.texts old.store.kept.tables.calls text given old.tools new.tools
+  -- these calls were run to their outcomes, and nothing else happened: no start was refused
+  abbrev pub HasRun : Calls → Type 0
+  HasRun given = HaveRun g old.store.sources.texts old.store.kept.tables.calls text given old.tools new.tools
 
   -- Memory was wanting: each call that came to an outcome is kept.
   pub record HasWanted : Type 0 where
     pub given : Calls
-    pub begun : HasBegun given
+    pub begun : MayHaveBegun g old.store.sources.texts old.store.kept.tables.calls text given old.tools new.tools
     pub goes : Goes told (keeps_of given) old.store new.store old.disk new.disk
 
   -- The disk failed while the last of the calls was kept.
   pub record HasFailed : Type 0 where
     pub given : Calls
-    pub begun : HasBegun given
+    pub ran : HasRun given
     pub stops : Stops told (keeps_of given) old.store old.disk new.disk
 
   -- The batch of the last of the calls, of this length, doesn't fit behind this end. The others are kept.
@@ -44,7 +44,7 @@ module _ {Disk : Type 0} (told : Disk → Telling) (g : Graph) (text : Text) (ol
     pub given : Calls
     pub call : Call
     pub outcome : Outcome
-    pub begun : HasBegun (given ++ (call, outcome) ∷ [])
+    pub ran : HasRun (given ++ (call, outcome) ∷ [])
     pub goes : Goes told (keeps_of given) old.store new.store old.disk new.disk
     pub items : List Item
     pub batch : IsBatchOf new.store.kept.tables.contents (keeps call outcome) items

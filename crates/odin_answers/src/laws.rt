@@ -24,7 +24,8 @@ pub fn kept_stays_true()
     ensures fresh { AnswersAreFresh }
 {}
 
-/// There a text has one answer from the same sources, whatever is kept; or two answers show chains, of which there may be more than one.
+/// There a text has one answer from the same sources, whatever is kept, and the same calls are run for it where the same are kept; or two
+/// answers show chains, of which there may be more than one.
 pub fn answer_is_one()
     ensures { AnswerIsOne }
 {}

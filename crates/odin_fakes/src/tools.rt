@@ -112,6 +112,13 @@ impl TableTools {
         &self.log
     }
 
+    /// How many were started so far.
+    pub fn starts(&self) -> u64
+        ensures { result ≡ self.now.starts }
+    {
+        self.starts
+    }
+
     fn next_place(&self) -> usize
         requires { 0 < length self.now.running }
         ensures { result ≡ next_place self.now }

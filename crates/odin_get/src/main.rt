@@ -6,15 +6,19 @@ mod files;
 mod run;
 mod words;
 
+use odin_real::ClosedStreams;
 use run::{Fault, run};
 use std::process::ExitCode;
 
 fn main(rt: HostRuntime) -> ExitCode {
-    match run(&rt) {
-        Ok(status) => ExitCode::from(status),
+    let closed = ClosedStreams::hold(&rt);
+    let status = match run(&rt) {
+        Ok(status) => status,
         Err(fault) => {
             let _ = rt.eprintln(&fault);
-            ExitCode::from(fault.status())
+            fault.status()
         }
-    }
+    };
+    drop(closed);
+    ExitCode::from(status)
 }

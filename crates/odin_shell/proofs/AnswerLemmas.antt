@@ -25,7 +25,7 @@ use Rattle.odin_engine.specs.Engaged.{Engaged}
 use Rattle.kept_derive.specs.Runs.{At, at, keeps_of}
 use Rattle.odin_answers.specs.Answers.{IsReply, MayHaveBegun}
 use Rattle.odin_answers.specs.Replied.{HasReplied, HasStopped}
-use Rattle.odin_answers.proofs.Lemmas.{keeps_behind, reply_begun, reply_later, begun_later}
+use Rattle.odin_answers.proofs.Lemmas.{keeps_behind, reply_begun, reply_later, begun_later, ran_begun, ran_uncounted}
 use Rattle.source_edits.specs.Edits.{Says, TreeTold, TreeStays, IsAsked, Takes}
 use Rattle.source_edits.specs.Changes.{edit_changes}
 use Rattle.odin_shell.specs.declared.stop.Stop.TheVariants as stop
@@ -33,7 +33,7 @@ use Rattle.odin_shell.specs.Endings.{stop_of}
 use Rattle.odin_shell.specs.Filed.{DiskMeaning, IsFull, IsSafe}
 use Rattle.odin_shell.specs.Machine.{State, Told, Makes, Edits, EditsByFile, Asks, Step, MayEdit, MayHaveAsked, MayLeave, Belongs, IsLeft, ToolsStay, stopped}
 use Rattle.odin_shell.specs.Served.{telling, Answers, Halts, AnswersAsk, HaltsAsk}
-use Rattle.odin_shell.proofs.StateLemmas.{next_state, makes_next, belongs_on, left_by, safe_made, safe_failed, safe_full, is_full, rests, same_tools, same_tree}
+use Rattle.odin_shell.proofs.StateLemmas.{next_state, makes_next, belongs_on, left_by, safe_made, safe_failed, safe_full, is_full, rests, not_stopped, same_tools, same_tree}
 
 -- what holds at the one error holds where the result is that error
 pub at_stop : {T E : Type 0} (r : Result T E) (s : E) (Q : E → Type 0) → IsErrAnd r (λ e. e ≡ s) → Q s → IfErr r Q
@@ -112,7 +112,7 @@ module _ {D : Type 0} (disk : DiskMeaning D) where
       pub edit_leaves : disk.faults told'.disk ≡ disk.faults told.disk → told'.tools ≡ told.tools → TreeStays told.tree told'.tree → told'.over ≡ None → IsLeft disk g text first start state new told'
       edit_leaves faults tools tree within =
           left_by disk g text first start code state told fits told' (same_tools told.tools told'.tools tools fits.stay.few) tree edited
-          (safe_made disk g text first start code state told fits edited code'.store told'.disk goes faults) (λ at size some. (let no : ⊥ = cc in absurd no))
+          (safe_made disk g text first start code state told fits edited code'.store told'.disk goes faults) (λ at size some. (let no : ⊥ = cc in absurd no)) (λ stopped. ap (λ (t : Spawned). t.faults) tools)
 
     -- ---- edits that failed
 
@@ -127,7 +127,7 @@ module _ {D : Type 0} (disk : DiskMeaning D) where
             record { changes = change ∷ []; due = inr (change, due (λ e. let no : ⊥ = cc in no), refl); makes = makes_next state (change ∷ []) told'.tools told'.tree; tools = tools ∙ fits.tools },
             refl,
             left_by disk g text first start code state told fits (stopped stop.Disk told') (same_tools told.tools told'.tools tools fits.stay.few) tree (change ∷ [])
-                (safe_failed disk g text first start code state told fits (change ∷ []) told'.disk failed later cause) (λ at size some. (let no : ⊥ = cc in absurd no)),
+                (safe_failed disk g text first start code state told fits (change ∷ []) told'.disk failed later cause) (λ at size some. (let no : ⊥ = cc in absurd no)) (λ stopped. ap (λ (t : Spawned). t.faults) tools),
           ),
         )
     edit_left change IsDue next told' (fault.NotOurs at) due failed later cause tools tree = absurd failed
@@ -146,7 +146,8 @@ module _ {D : Type 0} (disk : DiskMeaning D) where
                 let same_size : size ≡ s = ap (λ (p : ℕ × ℕ). p.1) (same_some some) in
                 subst (λ x. IsFull text (state.changes ++ change ∷ []) (disk.told start.disk) (disk.told told'.disk) x s) same_at
                 (subst (λ x. IsFull text (state.changes ++ change ∷ []) (disk.told start.disk) (disk.told told'.disk) at x) same_size
-                (is_full disk g text first start code state told fits [] change code.store told'.disk failed.1.0 at size goes failed.1.1 failed.1.2))),
+                (is_full disk g text first start code state told fits [] change code.store told'.disk failed.1.0 at size goes failed.1.1 failed.1.2)))
+                (λ stopped. ap (λ (t : Spawned). t.faults) tools),
           ),
         )
     edit_left change IsDue next told' fault.Memory due failed later cause tools tree =
@@ -157,7 +158,7 @@ module _ {D : Type 0} (disk : DiskMeaning D) where
             record { changes = []; due = inl refl; makes = makes_next state [] told'.tools told'.tree; tools = tools ∙ fits.tools },
             refl,
             left_by disk g text first start code state told fits (stopped stop.Memory told') (same_tools told.tools told'.tools tools fits.stay.few) tree []
-                (safe_made disk g text first start code state told fits [] next told'.disk goes cause) (λ at size some. (let no : ⊥ = cc in absurd no)),
+                (safe_made disk g text first start code state told fits [] next told'.disk goes cause) (λ at size some. (let no : ⊥ = cc in absurd no)) (λ stopped. ap (λ (t : Spawned). t.faults) tools),
           ),
         )
 
@@ -204,6 +205,7 @@ module _ {D : Type 0} (disk : DiskMeaning D) where
     asked_leaves given store told' goes faults stay tree within =
         left_by disk g text first start code state told fits told' stay (same_tree told.tree told'.tree tree) (keeps_of given)
         (safe_made disk g text first start code state told fits (keeps_of given) store told'.disk goes faults) (λ at size some. (let no : ⊥ = cc in absurd no))
+        (not_stopped disk g text start told' (told'.tools.faults ≡ told.tools.faults) (faults ∙ fits.faults) within)
 
     may_have_asked : (query : Text) (given : Calls) (told' : Told D) → MayHaveBegun code.graph code.store.sources.texts code.store.kept.tables.calls query given told.tools told'.tools → told'.tree ≡ told.tree
         → MayHaveAsked g query state (next_state state (keeps_of given) told'.tools told'.tree)
@@ -221,9 +223,10 @@ module _ {D : Type 0} (disk : DiskMeaning D) where
         → (furthest : State) × MayHaveAsked g query state furthest × IsLeft disk g text first start state furthest (stopped (stop_of e) told')
     ask_left query next told' fault.Disk failed later cause stay tree = (
       next_state state (keeps_of failed.given) told'.tools told'.tree,
-      may_have_asked query failed.given told' failed.begun tree,
+      may_have_asked query failed.given told' (ran_begun code.graph code.store.sources.texts code.store.kept.tables.calls query failed.given told.tools told'.tools failed.ran) tree,
       left_by disk g text first start code state told fits (stopped stop.Disk told') stay (same_tree told.tree told'.tree tree) (keeps_of failed.given)
-          (safe_failed disk g text first start code state told fits (keeps_of failed.given) told'.disk failed.stops later cause) (λ at size some. (let no : ⊥ = cc in absurd no)),
+          (safe_failed disk g text first start code state told fits (keeps_of failed.given) told'.disk failed.stops later cause) (λ at size some. (let no : ⊥ = cc in absurd no))
+          (λ stopped. ran_uncounted code.graph code.store.sources.texts code.store.kept.tables.calls query failed.given told.tools told'.tools failed.ran),
     )
     ask_left query next told' (fault.NotOurs place) failed later cause stay tree = absurd failed
     ask_left query next told' (fault.Full end size) failed later cause stay tree =
@@ -231,7 +234,7 @@ module _ {D : Type 0} (disk : DiskMeaning D) where
         let given : Calls = failed.given ++ (failed.call, failed.outcome) ∷ [] in
         let list : keeps_of given ≡ keeps_of failed.given ++ last ∷ [] = keeps_behind failed.given failed.call failed.outcome in (
           next_state state (keeps_of given) told'.tools told'.tree,
-          may_have_asked query given told' failed.begun tree,
+          may_have_asked query given told' (ran_begun code.graph code.store.sources.texts code.store.kept.tables.calls query given told.tools told'.tools failed.ran) tree,
           left_by disk g text first start code state told fits (stopped (stop.Full end size) told') stay (same_tree told.tree told'.tree tree) (keeps_of given)
               (subst (λ l. IsSafe text first.held state.changes (state.changes ++ l) (disk.told start.disk) (disk.told told'.disk) (disk.faults start.disk) (disk.faults told'.disk)) (sym list)
               (safe_full disk g text first start code state told fits (keeps_of failed.given) last next told'.disk failed.goes cause))
@@ -241,21 +244,26 @@ module _ {D : Type 0} (disk : DiskMeaning D) where
               subst (λ l. IsFull text (state.changes ++ l) (disk.told start.disk) (disk.told told'.disk) a s) (sym list)
               (subst (λ x. IsFull text (state.changes ++ (keeps_of failed.given ++ last ∷ [])) (disk.told start.disk) (disk.told told'.disk) x s) same_at
               (subst (λ x. IsFull text (state.changes ++ (keeps_of failed.given ++ last ∷ [])) (disk.told start.disk) (disk.told told'.disk) end x) same_size
-              (is_full disk g text first start code state told fits (keeps_of failed.given) last next told'.disk failed.items end size failed.goes failed.batch failed.over)))),
+              (is_full disk g text first start code state told fits (keeps_of failed.given) last next told'.disk failed.items end size failed.goes failed.batch failed.over))))
+              (λ stopped. ran_uncounted code.graph code.store.sources.texts code.store.kept.tables.calls query given told.tools told'.tools failed.ran),
         )
     ask_left query next told' fault.Memory wanted later cause stay tree = (
       next_state state (keeps_of wanted.given) told'.tools told'.tree,
       may_have_asked query wanted.given told' wanted.begun tree,
       left_by disk g text first start code state told fits (stopped stop.Memory told') stay (same_tree told.tree told'.tree tree) (keeps_of wanted.given)
-          (safe_made disk g text first start code state told fits (keeps_of wanted.given) next told'.disk wanted.goes cause) (λ at size some. (let no : ⊥ = cc in absurd no)),
+          (safe_made disk g text first start code state told fits (keeps_of wanted.given) next told'.disk wanted.goes cause) (λ at size some. (let no : ⊥ = cc in absurd no))
+          (not_stopped disk g text start (stopped stop.Memory told') (told'.tools.faults ≡ told.tools.faults) (cause ∙ fits.faults) refl),
     )
 
   -- ---- by what an ask did
 
   stopped_later : (on : Graph) (query : Text) (was is : At D) (e : JournalFault) → HasStopped disk.told on query was is e → was.tools.faults ≤ is.tools.faults
-  stopped_later on query was is fault.Disk has = begun_later on was.store.sources.texts was.store.kept.tables.calls query has.given was.tools is.tools has.begun
+  stopped_later on query was is fault.Disk has =
+      begun_later on was.store.sources.texts was.store.kept.tables.calls query has.given was.tools is.tools (ran_begun on was.store.sources.texts was.store.kept.tables.calls query has.given was.tools is.tools has.ran)
   stopped_later on query was is (fault.NotOurs place) has = absurd has
-  stopped_later on query was is (fault.Full end size) has = begun_later on was.store.sources.texts was.store.kept.tables.calls query (has.given ++ (has.call, has.outcome) ∷ []) was.tools is.tools has.begun
+  stopped_later on query was is (fault.Full end size) has =
+      let given = has.given ++ (has.call, has.outcome) ∷ [] in
+      begun_later on was.store.sources.texts was.store.kept.tables.calls query given was.tools is.tools (ran_begun on was.store.sources.texts was.store.kept.tables.calls query given was.tools is.tools has.ran)
   stopped_later on query was is fault.Memory has = begun_later on was.store.sources.texts was.store.kept.tables.calls query has.given was.tools is.tools has.begun
 
   -- what stays of the tools over an ask

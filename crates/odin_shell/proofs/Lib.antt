@@ -1,11 +1,13 @@
 mod AnswerLemmas
 mod CommandLemmas
 mod CountLemmas
+mod CrashLemmas
 mod CutLemmas
 mod EditLemmas
 mod HeldLemmas
 mod InputLemmas
 mod LineLemmas
+mod LoadLemmas
 mod MadeLemmas
 mod OpenedLemmas
 mod OpeningLemmas

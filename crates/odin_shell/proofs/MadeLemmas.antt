@@ -24,7 +24,7 @@ use Rattle.odin_shell.specs.Laws.{IsMade}
 -- ---- changes
 
 -- changes one behind another
-after_both : (made more : List Change) (held : Held) → after store_keeping (made ++ more) held ≡ after store_keeping more (after store_keeping made held)
+pub after_both : (made more : List Change) (held : Held) → after store_keeping (made ++ more) held ≡ after store_keeping more (after store_keeping made held)
 after_both [] more held = refl
 after_both (change ∷ made) more held = after_both made more (apply change held)
 
@@ -48,23 +48,23 @@ edit_calls name (Some old) (Some text) held = by_test (bytes_eq old text)
     by_test true = refl
     by_test false = refl
 
-edits_keep : (name : Text) (old new : State) → Makes (edit_changes name old.held.sources new.held.sources) old new → new.held.calls ≡ old.held.calls
+pub edits_keep : (name : Text) (old new : State) → Makes (edit_changes name old.held.sources new.held.sources) old new → new.held.calls ≡ old.held.calls
 edits_keep name old new makes = ap (λ (h : Held). h.calls) makes.held ∙ edit_calls name (get old.held.sources name) (get new.held.sources name) old.held
 
 -- nor does a change that may be due
-abbrev KeepsCalls : Change → Type 0
+abbrev pub KeepsCalls : Change → Type 0
 KeepsCalls change = (held : Held) → (apply change held).calls ≡ held.calls
 
-edit_keeps : (IsDue : Change → Type 0) (old new : State) → ((change : Change) → IsDue change → KeepsCalls change) → MayEdit IsDue old new → new.held.calls ≡ old.held.calls
+pub edit_keeps : (IsDue : Change → Type 0) (old new : State) → ((change : Change) → IsDue change → KeepsCalls change) → MayEdit IsDue old new → new.held.calls ≡ old.held.calls
 edit_keeps IsDue old new due may = ap (λ (h : Held). h.calls) may.makes.held ∙ elim may.due [
   | inl none ↦ ap (λ c. (after store_keeping c old.held).calls) none
   | inr one ↦ ap (λ c. (after store_keeping c old.held).calls) one.2 ∙ due one.0 one.1 old.held
 ]
 
-puts_keep : (name text : Text) (change : Change) → change ≡ puts name text → KeepsCalls change
+pub puts_keep : (name text : Text) (change : Change) → change ≡ puts name text → KeepsCalls change
 puts_keep name text change is held = ap (λ c. (apply c held).calls) is
 
-drops_keep : (name : Text) (change : Change) → change ≡ drops name → KeepsCalls change
+pub drops_keep : (name : Text) (change : Change) → change ≡ drops name → KeepsCalls change
 drops_keep name change is held = ap (λ c. (apply c held).calls) is
 
 -- ---- what is held is made
@@ -75,7 +75,7 @@ none_made old new same = record { made = []; list = ap (λ (s : State). s.change
 made_by : (changes : List Change) (old new : State) → Makes changes old new → IsMade old new
 made_by changes old new makes = record { made = changes; list = makes.list; held = makes.held }
 
-made_on : (first mid last : State) → IsMade first mid → IsMade mid last → IsMade first last
+pub made_on : (first mid last : State) → IsMade first mid → IsMade mid last → IsMade first last
 made_on first mid last begins goes = record {
   made = begins.made ++ goes.made;
   list = goes.list ∙ ap (λ l. l ++ goes.made) begins.list ∙ append_assoc first.changes begins.made goes.made;

@@ -1,20 +1,22 @@
 -- What every way to end says: which counts of faults rose, what the input says of the status, and what stays of tree and tools.
 use Rattle.std.proofs.Common.{◌≡◌, ◌≢◌, ℕ, ◌≤◌, List, [], IfSome, ap, sym, refl, ◌∙◌, subst, inl, inr}
+use Rattle.std.specs.Prelude.{⊤}
 use Rattle.std.proofs.Math.Nat.{le_refl}
 use Rattle.odin_outside.specs.Causes.{once_more}
 use Rattle.odin_outside.specs.Spawned.{Spawned}
 use Rattle.meaning_graph.specs.Graphs.{Text}
 use Rattle.odin_shell.specs.declared.ending.Ending.{Ending}
-use Rattle.odin_shell.specs.declared.ending.Ending.TheVariants.{Whole, CutShort, BadGraph, Disk, Memory, Output, Input, NotOurs, Full, Usage, TooLong}
+use Rattle.odin_shell.specs.declared.ending.Ending.TheVariants.{Whole, CutShort, BadGraph, Disk, Memory, Output, Input, NotOurs, Full, Usage, TooLong, Loaded, Room}
 use Rattle.odin_shell.specs.declared.graph.Opened.{Opened}
 use Rattle.odin_shell.specs.Endings.{status_of}
-use Rattle.odin_words.specs.Asked.{AsksFor}
+use Rattle.odin_words.specs.Asked.{AsksFor, Serve}
 use Rattle.odin_shell.specs.Opened.{Opens}
 use Rattle.source_edits.specs.Edits.{TreeTold, TreeStays, tree_of}
 use Rattle.odin_shell.specs.Machine.{ToolsStay}
 use Rattle.odin_shell.specs.Objects.{Outside, Meaning}
 use Rattle.odin_shell.specs.Run as run
 use Rattle.odin_shell.specs.Run.{InputCount, DiskCount, OutputCount, AllowedBy}
+use Rattle.odin_shell.proofs.LoadLemmas.{at_load, load_output}
 use Rattle.odin_shell.proofs.StateLemmas.{idle_one, tree_on}
 use Rattle.odin_shell.proofs.StoreLemmas.{at_end, line_output, anything, store_exact, store_output, store_input, store_disk, store_tree, store_tools, store_idle}
 
@@ -24,12 +26,12 @@ module _ {I O T S D : Type 0} (m : Meaning I O T S D) (words : List Text) (befor
   tree o = tree_of m.files m.tree_faults m.reads o.tree
 
   -- the tree was asked for the file of the words
-  pub asks : (name : Text) (jobs : ℕ) (opened : TreeTold) → AsksFor words name jobs → opened.reads ≡ once_more (m.reads before.tree) → opened.files ≡ m.files before.tree → m.tree_faults before.tree ≤ opened.faults
+  pub asks : (name : Text) (jobs : ℕ) (opened : TreeTold) → AsksFor words (Serve name) jobs → opened.reads ≡ once_more (m.reads before.tree) → opened.files ≡ m.files before.tree → m.tree_faults before.tree ≤ opened.faults
       → run.AsksOnce m words before after opened
   asks name jobs opened named once kept later = record { name = name; jobs = jobs; named = named; asked = record { stays = record { files = kept; later = later }; once = once } }
 
   -- and gave it
-  pub gives : (name : Text) (jobs : ℕ) (opened : TreeTold) (o : Opened) → AsksFor words name jobs → (opens : Opens (m.files before.tree) name o) → opened.reads ≡ once_more (m.reads before.tree) → opened.files ≡ m.files before.tree
+  pub gives : (name : Text) (jobs : ℕ) (opened : TreeTold) (o : Opened) → AsksFor words (Serve name) jobs → (opens : Opens (m.files before.tree) name o) → opened.reads ≡ once_more (m.reads before.tree) → opened.files ≡ m.files before.tree
       → m.tree_faults before.tree ≤ opened.faults → opened.faults ≡ m.tree_faults before.tree → run.Gives m words before after opened opens.given
   gives name jobs opened o named opens once kept later unfailed = record { asks = record { name = name; jobs = jobs; named = named; asked = record { stays = record { files = kept; later = later }; once = once } }; is = opens.is; unfailed = unfailed }
 
@@ -45,6 +47,8 @@ module _ {I O T S D : Type 0} (m : Meaning I O T S D) (words : List Text) (befor
   reads_of opened (Full at size) input tree = (input, tree)
   reads_of opened Usage input tree = (input, tree)
   reads_of opened TooLong input tree = (input, tree)
+  reads_of opened Loaded input tree = (input, tree)
+  reads_of opened Room input tree = (input, tree)
 
   -- before the store is opened
   abbrev exact_by : Ending → Type 0
@@ -53,6 +57,9 @@ module _ {I O T S D : Type 0} (m : Meaning I O T S D) (words : List Text) (befor
   exact : (opened : TreeTold) (ending : Ending) → run.EndsAs m words before after opened ending → exact_by ending
   exact opened ending (run.words_refused not line is same) = at_end _ _ _ _ ending exact_by line (anything (m.left before.input)) (anything (m.left before.input))
   exact opened ending (run.words_unread due is same) = subst exact_by (sym due) (anything (m.left before.input))
+  exact opened ending (run.load_ended units jobs asks ends is same) =
+      let free : IfSome (m.left before.input) (λ text. ⊤) = anything (m.left before.input) in
+      at_load units _ _ ending exact_by (record { loaded = free; room = free; full = λ at size. free; memory = free; output = free }) ends
   exact opened ending (run.tree_failed due asks rose is same) = subst exact_by (sym due) (anything (m.left before.input))
   exact opened ending (run.graph_unread due asks stays is same) = subst exact_by (sym due) (anything (m.left before.input))
   exact opened ending (run.graph_refused given line gives refused last is same) = at_end _ _ _ _ ending exact_by last (anything (m.left before.input)) (anything (m.left before.input))
@@ -65,6 +72,7 @@ module _ {I O T S D : Type 0} (m : Meaning I O T S D) (words : List Text) (befor
   output : (opened : TreeTold) (ending : Ending) → run.EndsAs m words before after opened ending → output_by ending
   output opened ending (run.words_refused not line is same) = line_output _ _ _ _ ending (λ e. e) line
   output opened ending (run.words_unread due is same) = subst output_by (sym due) (ap (λ (o : Outside I O T S D). m.output_faults o.output) same)
+  output opened ending (run.load_ended units jobs asks ends is same) = load_output units _ _ ending ends
   output opened ending (run.tree_failed due asks rose is same) = subst output_by (sym due) (ap (λ (o : Outside I O T S D). m.output_faults o.output) same)
   output opened ending (run.graph_unread due asks stays is same) = subst output_by (sym due) (ap (λ (o : Outside I O T S D). m.output_faults o.output) same)
   output opened ending (run.graph_refused given line gives refused last is same) = line_output _ _ _ _ ending (λ e. e) last
@@ -80,6 +88,9 @@ module _ {I O T S D : Type 0} (m : Meaning I O T S D) (words : List Text) (befor
   disk : (opened : TreeTold) (ending : Ending) → run.EndsAs m words before after opened ending → disk_by ending
   disk opened ending (run.words_refused not line is same) = at_end _ _ _ _ ending disk_by line (ap (λ (o : Outside I O T S D). m.disk.faults o.disk) same) (ap (λ (o : Outside I O T S D). m.disk.faults o.disk) same)
   disk opened ending (run.words_unread due is same) = subst disk_by (sym due) (ap (λ (o : Outside I O T S D). m.disk.faults o.disk) same)
+  disk opened ending (run.load_ended units jobs asks ends is same) =
+      let still : m.disk.faults after.disk ≡ m.disk.faults before.disk = ap (λ (o : Outside I O T S D). m.disk.faults o.disk) same in
+      at_load units _ _ ending disk_by (record { loaded = still; room = still; full = λ at size. still; memory = still; output = still }) ends
   disk opened ending (run.tree_failed due asks rose is same) = subst disk_by (sym due) (ap (λ (o : Outside I O T S D). m.disk.faults o.disk) same)
   disk opened ending (run.graph_unread due asks stays is same) = subst disk_by (sym due) (ap (λ (o : Outside I O T S D). m.disk.faults o.disk) same)
   disk opened ending (run.graph_refused given line gives refused last is same) = at_end _ _ _ _ ending disk_by last (disk_same same) (disk_same same)
@@ -94,6 +105,9 @@ module _ {I O T S D : Type 0} (m : Meaning I O T S D) (words : List Text) (befor
       let both : stayed opened = (ap (λ (o : Outside I O T S D). m.input_faults o.input) same, ap (λ (t : TreeTold). t.faults) is) in
       at_end _ _ _ _ ending (run.ReadCounts m words before after opened) line both both
   reads opened ending (run.words_unread due is same) = subst (run.ReadCounts m words before after opened) (sym due) (ap (λ (o : Outside I O T S D). m.input_faults o.input) same, ap (λ (t : TreeTold). t.faults) is)
+  reads opened ending (run.load_ended units jobs asks ends is same) =
+      let both : stayed opened = (ap (λ (o : Outside I O T S D). m.input_faults o.input) same, ap (λ (t : TreeTold). t.faults) is) in
+      at_load units _ _ ending (run.ReadCounts m words before after opened) (record { loaded = both; room = both; full = λ at size. both; memory = both; output = both }) ends
   reads opened ending (run.tree_failed due asks rose is same) = subst (run.ReadCounts m words before after opened) (sym due) (inr (ap (λ (o : Outside I O T S D). m.input_faults o.input) same, rose))
   reads opened ending (run.graph_unread due asks stays is same) = subst (run.ReadCounts m words before after opened) (sym due) (ap (λ (o : Outside I O T S D). m.input_faults o.input) same, stays)
   reads opened ending (run.graph_refused given line gives refused last is same) =
@@ -122,6 +136,8 @@ module _ {I O T S D : Type 0} (m : Meaning I O T S D) (words : List Text) (befor
   tree_how opened ending (run.words_refused not line is same) =
       subst (λ (o : Outside I O T S D). TreeStays (tree before) (tree o)) (sym same) (record { files = refl; later = le_refl (m.tree_faults before.tree) })
   tree_how opened ending (run.words_unread due is same) = subst (λ (o : Outside I O T S D). TreeStays (tree before) (tree o)) (sym same) (record { files = refl; later = le_refl (m.tree_faults before.tree) })
+  tree_how opened ending (run.load_ended units jobs asks ends is same) =
+      subst (λ (o : Outside I O T S D). TreeStays (tree before) (tree o)) (sym same) (record { files = refl; later = le_refl (m.tree_faults before.tree) })
   tree_how opened ending (run.tree_failed due asks rose is same) = tree_as opened is asks.asked.stays
   tree_how opened ending (run.graph_unread due asks stays is same) = tree_as opened is asks.asked.stays
   tree_how opened ending (run.graph_refused given line gives refused last is same) = tree_as opened is gives.asks.asked.stays
@@ -142,6 +158,7 @@ module _ {I O T S D : Type 0} (m : Meaning I O T S D) (words : List Text) (befor
   tools_how : (opened : TreeTold) (ending : Ending) → (m.spawned before.tools).running ≡ [] → run.EndsAs m words before after opened ending → ToolsStay (m.spawned before.tools) (m.spawned after.tools)
   tools_how opened ending idle (run.words_refused not line is same) = tools_as (ap (λ (o : Outside I O T S D). m.spawned o.tools) same) idle
   tools_how opened ending idle (run.words_unread due is same) = tools_as (ap (λ (o : Outside I O T S D). m.spawned o.tools) same) idle
+  tools_how opened ending idle (run.load_ended units jobs asks ends is same) = tools_as (ap (λ (o : Outside I O T S D). m.spawned o.tools) same) idle
   tools_how opened ending idle (run.tree_failed due asks rose is same) = tools_as (ap (λ (o : Outside I O T S D). m.spawned o.tools) same) idle
   tools_how opened ending idle (run.graph_unread due asks stays is same) = tools_as (ap (λ (o : Outside I O T S D). m.spawned o.tools) same) idle
   tools_how opened ending idle (run.graph_refused given line gives refused last is same) = tools_as (ap (λ (o : Outside I O T S D). m.spawned o.tools) same) idle
@@ -157,6 +174,7 @@ module _ {I O T S D : Type 0} (m : Meaning I O T S D) (words : List Text) (befor
   idle_how : (opened : TreeTold) (ending : Ending) → (m.spawned before.tools).running ≡ [] → ending ≢ Memory → run.EndsAs m words before after opened ending → (m.spawned after.tools).running ≡ []
   idle_how opened ending idle other (run.words_refused not line is same) = still_idle (ap (λ (o : Outside I O T S D). m.spawned o.tools) same) idle
   idle_how opened ending idle other (run.words_unread due is same) = still_idle (ap (λ (o : Outside I O T S D). m.spawned o.tools) same) idle
+  idle_how opened ending idle other (run.load_ended units jobs asks ends is same) = still_idle (ap (λ (o : Outside I O T S D). m.spawned o.tools) same) idle
   idle_how opened ending idle other (run.tree_failed due asks rose is same) = still_idle (ap (λ (o : Outside I O T S D). m.spawned o.tools) same) idle
   idle_how opened ending idle other (run.graph_unread due asks stays is same) = still_idle (ap (λ (o : Outside I O T S D). m.spawned o.tools) same) idle
   idle_how opened ending idle other (run.graph_refused given line gives refused last is same) = still_idle (ap (λ (o : Outside I O T S D). m.spawned o.tools) same) idle

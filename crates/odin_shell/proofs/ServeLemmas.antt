@@ -90,6 +90,7 @@ module _ {D : Type 0} (disk : DiskMeaning D) where
       tree_counted = left.tree_counted;
       stay = left.stay;
       tree_stays = left.tree_stays;
+      unrefused = left.unrefused;
       safe = left.safe;
       full = left.full;
     }

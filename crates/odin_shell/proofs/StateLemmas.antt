@@ -17,7 +17,7 @@ use Rattle.odin_store.proofs.Lemmas.{nothing_behind, batches_on, goes_none, stop
 use Rattle.odin_engine.specs.Engaged.{Engaged}
 use Rattle.source_edits.specs.Edits.{TreeTold, TreeStays}
 use Rattle.odin_shell.specs.Filed.{DiskMeaning, HasWritten, IsFull, IsSafe}
-use Rattle.odin_shell.specs.Machine.{State, Told, Makes, Belongs, IsLeft, ToolsStay}
+use Rattle.odin_shell.specs.Machine.{State, Told, Makes, Belongs, StoreStopped, IsLeft, ToolsStay}
 
 -- where none runs at most one does
 pub idle_one : (tools : Spawned) → tools.running ≡ [] → length tools.running ≤ 1
@@ -58,6 +58,11 @@ written_on told text changes more start store next disk after w goes =
       are = batches_on w.opened (state_in store (Some text)) changes w.payloads w.are more more_batches.payloads (state_in next (Some text)) more_batches.are;
       on = subst (λ r. IsOn (told after) next r (Some text)) (append_assoc (w.records ++ w.opening) w.payloads more_batches.payloads) more_batches.on;
     }
+
+-- no store stopped what counted no fault of the disk and told no batch
+pub not_stopped : {D : Type 0} (disk : DiskMeaning D) (g : Graph) (text : Text) (start now : Told D) (P : Type 0) → disk.faults now.disk ≡ disk.faults start.disk → now.over ≡ None → StoreStopped disk g text start now → P
+not_stopped disk g text start now P faults within (inl rose) = absurd (rose faults)
+not_stopped disk g text start now P faults within (inr over) = absurd (over within)
 
 -- ---- the next state
 
@@ -101,14 +106,15 @@ module _ {D : Type 0} (disk : DiskMeaning D) (g : Graph) (text : Text) (first : 
 
     pub left_by : (changes : List Change) → IsSafe text first.held state.changes (state.changes ++ changes) (disk.told start.disk) (disk.told told'.disk) (disk.faults start.disk) (disk.faults told'.disk)
         → ((at size : ℕ) → told'.over ≡ Some (at, size) → IsFull text (state.changes ++ changes) (disk.told start.disk) (disk.told told'.disk) at size)
-        → IsLeft disk g text first start state (next_state state changes told'.tools told'.tree) told'
-    left_by changes safe full = record {
+        → (StoreStopped disk g text start told' → told'.tools.faults ≡ told.tools.faults) → IsLeft disk g text first start state (next_state state changes told'.tools told'.tree) told'
+    left_by changes safe full unrefused = record {
       tools = refl;
       tree = refl;
       counted = tools_counted;
       tree_counted = tree_counted;
       stay = stay_on fits.stay stay;
       tree_stays = tree_on fits.tree_stays tree;
+      unrefused = λ stopped. unrefused stopped ∙ ap (λ (t : Spawned). t.faults) fits.tools;
       safe = safe;
       full = full;
     }
@@ -187,6 +193,7 @@ rests disk g text first start code state told fits =
       tree_counted = omega arith;
       stay = fits.stay;
       tree_stays = fits.tree_stays;
+      unrefused = λ stopped. refl;
       safe = subst (λ l. IsSafe text first.held state.changes l (disk.told start.disk) (disk.told told.disk) (disk.faults start.disk) (disk.faults told.disk)) (nothing_behind state.changes)
           (safe_made disk g text first start code state told fits [] code.store told.disk goes refl);
       full = λ at size some. (let no : ⊥ = cc (fits.within) in absurd no);

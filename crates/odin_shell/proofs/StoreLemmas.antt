@@ -12,7 +12,7 @@ use Rattle.odin_journal.specs.declared.fault.JournalFault.{JournalFault}
 use Rattle.odin_journal.specs.declared.fault.JournalFault.TheVariants as fault
 use Rattle.odin_store.specs.Held.{Held}
 use Rattle.odin_shell.specs.declared.ending.Ending.{Ending}
-use Rattle.odin_shell.specs.declared.ending.Ending.TheVariants.{Whole, CutShort, BadGraph, Disk, Memory, Output, Input, NotOurs, Full, Usage, TooLong}
+use Rattle.odin_shell.specs.declared.ending.Ending.TheVariants.{Whole, CutShort, BadGraph, Disk, Memory, Output, Input, NotOurs, Full, Usage, TooLong, Loaded, Room}
 use Rattle.odin_shell.specs.Opened.{not_ours_line, full_line}
 use Rattle.odin_shell.specs.Filed.{DiskMeaning}
 use Rattle.odin_shell.specs.Language.{commands}
@@ -21,7 +21,7 @@ use Rattle.source_edits.specs.Edits.{TreeTold, TreeStays, tree_of}
 use Rattle.odin_shell.specs.Machine.{at_first, Told, ToolsStay, machine}
 use Rattle.odin_shell.specs.Objects.{Outside, Meaning}
 use Rattle.odin_shell.specs.Run as run
-use Rattle.odin_shell.specs.Run.{LastLine, whole, cut_off, SessionLeaves, InputCount, DiskCount, OutputCount, AllowedBy, Closes, ClosesFor}
+use Rattle.odin_shell.specs.Run.{LastLine, whole, cut_off, SessionLeaves, InputCount, DiskCount, OutputCount, AllowedBy, Closes, ClosesFor, Says}
 use Rattle.meaning_commands.proofs.Lemmas.{one_command}
 use Rattle.odin_shell.proofs.StateLemmas.{idle_one, same_tools, same_tree}
 
@@ -36,6 +36,16 @@ pub line_output : (line : Text) (due : Ending) (before now : SinkTold) (ending :
     → OutputCount ending before.faults now.faults
 line_output line due before now ending other (whole is) = other (ap (λ (s : SinkTold). s.faults) is)
 line_output line due before now ending other (cut_off part) = part.counted
+
+-- the same of a line that may want memory before it
+pub at_says : (line : Text) (due : Ending) (before now : SinkTold) (ending : Ending) (P : Ending → Type 0) → Says line due before now ending → P due → P Output → P Memory → P ending
+at_says line due before now ending P (inl last) p q m = at_end line due before now ending P last p q
+at_says line due before now ending P (inr none) p q m = subst P (sym none.1) m
+
+pub says_output : (line : Text) (due : Ending) (before now : SinkTold) (ending : Ending) → (now.faults ≡ before.faults → OutputCount due before.faults now.faults) → Says line due before now ending
+    → OutputCount ending before.faults now.faults
+says_output line due before now ending other (inl last) = line_output line due before now ending other last
+says_output line due before now ending other (inr none) = subst (λ e. OutputCount e before.faults now.faults) (sym none.1) (ap (λ (s : SinkTold). s.faults) none.0)
 
 pub anything : (o : Option (List ℕ)) → IfSome o (λ text. ⊤)
 anything None = tt
@@ -55,6 +65,8 @@ at_close Input before now ending P closes p more = subst P (sym closes.1) p
 at_close (NotOurs at) before now ending P closes p more = subst P (sym closes.1) p
 at_close Usage before now ending P closes p more = subst P (sym closes.1) p
 at_close TooLong before now ending P closes p more = subst P (sym closes.1) p
+at_close Loaded before now ending P closes p more = subst P (sym closes.1) p
+at_close Room before now ending P closes p more = subst P (sym closes.1) p
 
 -- the count of the output's faults behind it
 close_output : (due : Ending) (first before now : SinkTold) (ending : Ending) → OutputCount due first.faults before.faults → Closes due before now ending → OutputCount ending first.faults now.faults
@@ -71,6 +83,8 @@ close_output Input first before now ending counted closes = subst (λ e. OutputC
 close_output (NotOurs at) first before now ending counted closes = subst (λ e. OutputCount e first.faults now.faults) (sym closes.1) (subst (λ (s : SinkTold). OutputCount (NotOurs at) first.faults s.faults) (sym closes.0) counted)
 close_output Usage first before now ending counted closes = subst (λ e. OutputCount e first.faults now.faults) (sym closes.1) (subst (λ (s : SinkTold). OutputCount Usage first.faults s.faults) (sym closes.0) counted)
 close_output TooLong first before now ending counted closes = subst (λ e. OutputCount e first.faults now.faults) (sym closes.1) (subst (λ (s : SinkTold). OutputCount TooLong first.faults s.faults) (sym closes.0) counted)
+close_output Loaded first before now ending counted closes = subst (λ e. OutputCount e first.faults now.faults) (sym closes.1) (subst (λ (s : SinkTold). OutputCount Loaded first.faults s.faults) (sym closes.0) counted)
+close_output Room first before now ending counted closes = subst (λ e. OutputCount e first.faults now.faults) (sym closes.1) (subst (λ (s : SinkTold). OutputCount Room first.faults s.faults) (sym closes.0) counted)
 
 -- the last lines of a store
 pub closes_full : (at size : ℕ) (due : Ending) (line : Text) (before now : SinkTold) (ending : Ending) → due ≡ Full at size → line ≡ full_line at size → LastLine line (Full at size) before now ending → Closes due before now ending
@@ -96,6 +110,8 @@ module _ {D : Type 0} (disk : DiskMeaning D) (g : Graph) (text : Text) (held : H
   session_output (Full at size) l = ap (λ (s : SinkTold). s.faults) l.ends.wrote
   session_output Usage l = absurd l
   session_output TooLong l = ap (λ (s : SinkTold). s.faults) l.ends.up_to.replied.wrote
+  session_output Loaded l = absurd l
+  session_output Room l = absurd l
 
   session_stay : (ending : Ending) → SessionLeaves disk g text held ending input left start now → ToolsStay start.tools now.tools
   session_stay Whole (inl l) = l.ends.replied.exit.stay
@@ -110,6 +126,8 @@ module _ {D : Type 0} (disk : DiskMeaning D) (g : Graph) (text : Text) (held : H
   session_stay (Full at size) l = l.ends.exit.stay
   session_stay Usage l = absurd l
   session_stay TooLong l = l.ends.up_to.replied.exit.stay
+  session_stay Loaded l = absurd l
+  session_stay Room l = absurd l
 
   session_tree : (ending : Ending) → SessionLeaves disk g text held ending input left start now → TreeStays start.tree now.tree
   session_tree Whole (inl l) = l.ends.replied.exit.tree_stays
@@ -124,6 +142,8 @@ module _ {D : Type 0} (disk : DiskMeaning D) (g : Graph) (text : Text) (held : H
   session_tree (Full at size) l = l.ends.exit.tree_stays
   session_tree Usage l = absurd l
   session_tree TooLong l = l.ends.up_to.replied.exit.tree_stays
+  session_tree Loaded l = absurd l
+  session_tree Room l = absurd l
 
   session_exact : (ending : Ending) → SessionLeaves disk g text held ending input left start now → IfSome input (AllowedBy ending)
   session_exact Whole (inl l) = not_inside commands Keeps (machine disk g text) one_command (at_first held start.tools start.tree) start now input left l
@@ -138,6 +158,8 @@ module _ {D : Type 0} (disk : DiskMeaning D) (g : Graph) (text : Text) (held : H
   session_exact (Full at size) l = anything input
   session_exact Usage l = absurd l
   session_exact TooLong l = is_long commands Keeps (machine disk g text) one_command (at_first held start.tools start.tree) start now input left l
+  session_exact Loaded l = absurd l
+  session_exact Room l = absurd l
 
 -- ---- a store, and the session over it
 

@@ -1,6 +1,6 @@
 -- Where no fault of the tools or of the tree is counted, items have one transcript at most, but for the chains that refusals show and the
 -- number of kept calls.
-use Rattle.std.proofs.Common.{◌≡◌, ℕ, ◌<◌, ◌+◌, ◌≤◌, min, List, [], ◌∷◌, ap, sym, ◌∙◌, subst, arith, inl, inr}
+use Rattle.std.proofs.Common.{◌≡◌, ℕ, ◌<◌, ◌+◌, ◌≤◌, min, List, [], ◌∷◌, ◌++◌, ◌⊎◌, ap, sym, ◌∙◌, subst, arith, inl, inr}
 use Rattle.std.specs.Prelude.{Option, Some, None}
 use Rattle.std.specs.FinMap.{get}
 use Rattle.object_sources.specs.Texts.{Texts}
@@ -9,13 +9,13 @@ use Rattle.odin_outside.specs.Files.{Files, IsGiven}
 use Rattle.odin_outside.specs.Spawned.{Table}
 use Rattle.meaning_texts.specs.Lines.{without_cr}
 use Rattle.meaning_graph.specs.Graphs.{Text, Graph}
-use Rattle.meaning_records.specs.Tables.{Calls}
+use Rattle.meaning_records.specs.Tables.{Calls, kept_outcome}
 use Rattle.meaning_answers.proofs.Lemmas.{one_plan}
 use Rattle.meaning_run.specs.Items.{Item}
 use Rattle.meaning_run.specs.Machines.{Transcript, AnswersItem}
 use Rattle.odin_answers.specs.Answers.{IsReply, HasAnswer}
-use Rattle.odin_answers.specs.Laws.{IsTrueFor}
-use Rattle.odin_answers.proofs.Lemmas.{refusal_counted, one_reply}
+use Rattle.odin_answers.specs.Laws.{IsTrueFor, KeepSame}
+use Rattle.odin_answers.proofs.Lemmas.{refusal_counted, same_answers}
 use Rattle.meaning_commands.specs.declared.commands.Command.{Command}
 use Rattle.meaning_commands.specs.declared.commands.Command.TheVariants.{Put, Take, Remove, Ask, Plan, Sources, Kept, Quit, Nothing, Bad, BadName}
 use Rattle.meaning_commands.specs.declared.replies.Reply.{Reply}
@@ -26,9 +26,9 @@ use Rattle.odin_store.specs.Held.{Held}
 use Rattle.odin_shell.specs.Language.{commands}
 use Rattle.source_edits.specs.Edits.{Says, TreeTold, TreeStays, Inserts, Puts, TakesFile, Takes, IsTaken, IsAsked, RemovesText, Removes, source_lines}
 use Rattle.odin_shell.specs.Machine.{State, Step, Edits, EditsByFile, Asks}
-use Rattle.odin_shell.specs.Laws.{NoFault, CountsNone, AreAlike, AreSideBySide, AreSame, IsToldBy}
+use Rattle.odin_shell.specs.Laws.{NoFault, CountsNone, BothCountKept, AreAlike, AreSideBySide, AreSame, IsToldBy}
 use Rattle.odin_shell.proofs.CountLemmas.{counted, counts}
-use Rattle.odin_shell.proofs.MadeLemmas.{kept_sources, step_true}
+use Rattle.odin_shell.proofs.MadeLemmas.{kept_calls, kept_sources, edits_keep, step_true}
 use Rattle.odin_shell.proofs.StateLemmas.{same_tree}
 
 -- ---- counts
@@ -110,17 +110,28 @@ asked_sources g text old new bytes asks = ap (λ (h : Held). h.sources) asks.mak
 
 -- what is the same behind one command
 record IsSame (g : Graph) (table : Table) (bytes bytes' : List ℕ) (old new old' new' : State) : Type 0 where
-  alike : AreAlike g table bytes bytes' old old'
+  alike : AreAlike g table bytes bytes' old new old' new'
   sources : new'.held.sources ≡ new.held.sources
   tree : old'.tree ≡ old.tree → new'.tree ≡ new.tree
 
 same_bytes : (P Q : Reply → Type 0) (bytes bytes' : List ℕ) (a : Says P bytes) (b : Says Q bytes') → b.said ≡ a.said → bytes' ≡ bytes
 same_bytes P Q bytes bytes' a b same = b.bytes_are ∙ ap reply_text same ∙ sym a.bytes_are
 
+-- the same calls are kept where neither changes them
+calls_stay : (calls more calls' more' : Calls) → more ≡ calls → more' ≡ calls' → KeepSame calls calls' → KeepSame more more'
+calls_stay calls more calls' more' stays stays' same call = ap (λ l. kept_outcome l call) stays' ∙ same call ∙ sym (ap (λ l. kept_outcome l call) stays)
+
+-- those behind an ask
+asked_calls : (g : Graph) (text : Text) (old new : State) (bytes : List ℕ) → (a : Asks g text old bytes new) → new.held.calls ≡ old.held.calls ++ a.given
+asked_calls g text old new bytes a = ap (λ (h : Held). h.calls) a.makes.held ∙ kept_calls a.given old.held
+
 module _ (g : Graph) (table : Table) (files : Files) (old new old' new' : State) (same : old'.held.sources ≡ old.held.sources) where
-  unchanged : (bytes bytes' : List ℕ) → AreAlike g table bytes bytes' old old' → new ≡ old → new' ≡ old' → IsSame g table bytes bytes' old new old' new'
-  unchanged bytes bytes' alike stays stays' = record {
-    alike = alike;
+  unchanged : (bytes bytes' : List ℕ) → (bytes' ≡ bytes) ⊎ BothCountKept bytes bytes' old old' → new ≡ old → new' ≡ old' → IsSame g table bytes bytes' old new old' new'
+  unchanged bytes bytes' reply stays stays' = record {
+    alike = inl (record {
+      reply = reply;
+      kept = calls_stay old.held.calls new.held.calls old'.held.calls new'.held.calls (ap (λ (s : State). s.held.calls) stays) (ap (λ (s : State). s.held.calls) stays');
+    });
     sources = ap (λ (s : State). s.held.sources) stays' ∙ same ∙ sym (ap (λ (s : State). s.held.sources) stays);
     tree = λ (e : old'.tree ≡ old.tree). ap (λ (s : State). s.tree) stays' ∙ e ∙ sym (ap (λ (s : State). s.tree) stays);
   }
@@ -128,7 +139,10 @@ module _ (g : Graph) (table : Table) (files : Files) (old new old' new' : State)
   edited : (name : Text) (P Q : Reply → Texts → Type 0) (bytes bytes' : List ℕ) (a : Edits name P old bytes new) (b : Edits name Q old' bytes' new') → IsOne a.says.said b.says.said new.held.sources new'.held.sources
       → IsSame g table bytes bytes' old new old' new'
   edited name P Q bytes bytes' a b one = record {
-    alike = inl (same_bytes (λ said. P said new.held.sources) (λ said. Q said new'.held.sources) bytes bytes' a.says b.says one.says);
+    alike = inl (record {
+      reply = inl (same_bytes (λ said. P said new.held.sources) (λ said. Q said new'.held.sources) bytes bytes' a.says b.says one.says);
+      kept = calls_stay old.held.calls new.held.calls old'.held.calls new'.held.calls (edits_keep name old new a.makes) (edits_keep name old' new' b.makes);
+    });
     sources = one.texts;
     tree = λ (e : old'.tree ≡ old.tree). b.tree ∙ e ∙ sym a.tree;
   }
@@ -143,7 +157,10 @@ module _ (g : Graph) (table : Table) (files : Files) (old new old' new' : State)
       let takes' = subst (λ (f : Option Text). TakesFile old.held.sources name f b.says.said new'.held.sources) (given' ∙ sym given) (subst (λ (x : Texts). TakesFile x name t'.file b.says.said new'.held.sources) same t'.takes) in
       let one = one_file old.held.sources name t.file a.says.said b.says.said new.held.sources new'.held.sources t.takes takes' in
       record {
-        alike = inl (same_bytes (λ said. Takes old.held.sources name old.tree said new.held.sources new.tree) (λ said. Takes old'.held.sources name old'.tree said new'.held.sources new'.tree) bytes bytes' a.says b.says one.says);
+        alike = inl (record {
+          reply = inl (same_bytes (λ said. Takes old.held.sources name old.tree said new.held.sources new.tree) (λ said. Takes old'.held.sources name old'.tree said new'.held.sources new'.tree) bytes bytes' a.says b.says one.says);
+          kept = calls_stay old.held.calls new.held.calls old'.held.calls new'.held.calls (edits_keep name old new a.makes) (edits_keep name old' new' b.makes);
+        });
         sources = one.texts;
         tree = λ (e : old'.tree ≡ old.tree). tree_is old'.tree new'.tree b.asked t'.unfailed ∙ ap asked_once e ∙ sym (tree_is old.tree new.tree a.asked t.unfailed);
       }
@@ -154,9 +171,12 @@ module _ (g : Graph) (table : Table) (files : Files) (old new old' new' : State)
       let one = answered g old new text a.says.said a.given none a.says.holds in
       let other = subst (λ (t : Texts). HasAnswer g t old'.held.calls text b.says.said b.given old'.tools new'.tools) same (answered g old' new' text b.says.said b.given none' b.says.holds) in
       record {
-        alike = elim (one_reply g table old.held.sources old.held.calls old'.held.calls text a.says.said b.says.said a.given b.given old.tools new.tools old'.tools new'.tools right right' one other) [
-          | inl said ↦ inl (b.says.bytes_are ∙ ap reply_text said ∙ sym a.says.bytes_are)
-          | inr chains ↦ inr (inr (record { text = text; reply = a.says.said; other = b.says.said; bytes_are = a.says.bytes_are; others_are = b.says.bytes_are; chains = chains }))
+        alike = elim (same_answers g table old.held.sources old.held.calls old'.held.calls text a.says.said b.says.said a.given b.given old.tools new.tools old'.tools new'.tools right right' one other) [
+          | inl answers ↦ inl (record {
+            reply = inl (b.says.bytes_are ∙ ap reply_text answers.same ∙ sym a.says.bytes_are);
+            kept = λ keep. (let run = answers.run keep in calls_stay (old.held.calls ++ a.given) new.held.calls (old'.held.calls ++ b.given) new'.held.calls (asked_calls g text old new bytes a) (asked_calls g text old' new' bytes' b) run.keep);
+          })
+          | inr chains ↦ inr (record { text = text; reply = a.says.said; other = b.says.said; bytes_are = a.says.bytes_are; others_are = b.says.bytes_are; chains = chains })
         ];
         sources = asked_sources g text old' new' bytes' b ∙ same ∙ sym (asked_sources g text old new bytes a);
         tree = λ (e : old'.tree ≡ old.tree). b.tree ∙ e ∙ sym a.tree;
@@ -175,7 +195,7 @@ module _ (g : Graph) (table : Table) (files : Files) (old new old' new' : State)
     one_step (Plan text) body bytes bytes' a b =
         unchanged bytes bytes' (inl (same_bytes _ _ bytes bytes' a.says b.says (one_plan g text a.says.said b.says.said a.says.holds b.says.holds))) a.same b.same
     one_step Sources body bytes bytes' a b = unchanged bytes bytes' (inl (b.0 ∙ ap (λ (t : Texts). reply_text (reply.Sources (source_lines t))) same ∙ sym a.0)) a.1 b.1
-    one_step Kept body bytes bytes' a b = unchanged bytes bytes' (inr (inl (record { bytes_are = a.0; others_are = b.0 }))) a.1 b.1
+    one_step Kept body bytes bytes' a b = unchanged bytes bytes' (inr (record { bytes_are = a.0; others_are = b.0 })) a.1 b.1
     one_step Quit body bytes bytes' a b = unchanged bytes bytes' (inl (b.0 ∙ sym a.0)) a.1 b.1
     one_step Nothing body bytes bytes' a b = unchanged bytes bytes' (inl (b.0 ∙ sym a.0)) a.1 b.1
     one_step Bad body bytes bytes' a b = unchanged bytes bytes' (inl (b.0 ∙ sym a.0)) a.1 b.1

@@ -1,7 +1,7 @@
 -- The ways in which a run ends, each with its status.
 use Rattle.std.specs.Prelude.{ℕ}
 use Rattle.odin_shell.specs.declared.ending.Ending.{Ending}
-use Rattle.odin_shell.specs.declared.ending.Ending.TheVariants.{Whole, CutShort, BadGraph, Disk, Memory, Output, Input, NotOurs, Full, Usage, TooLong}
+use Rattle.odin_shell.specs.declared.ending.Ending.TheVariants.{Whole, CutShort, BadGraph, Disk, Memory, Output, Input, NotOurs, Full, Usage, TooLong, Loaded, Room}
 use Rattle.odin_journal.specs.declared.fault.JournalFault.{JournalFault}
 use Rattle.odin_journal.specs.declared.fault.JournalFault.TheVariants as fault
 use Rattle.odin_shell.specs.declared.stop.Stop.{Stop}
@@ -19,6 +19,8 @@ status_of (NotOurs at) = 7
 status_of (Full at size) = 8
 status_of Usage = 9
 status_of TooLong = 10
+status_of Loaded = 0
+status_of Room = 3
 
 -- how a run ends whose serving stopped
 abbrev pub ending_of : Stop → Ending

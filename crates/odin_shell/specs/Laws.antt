@@ -16,7 +16,7 @@ use Rattle.meaning_commands.specs.declared.replies.Reply.TheVariants.{Kept, Refu
 use Rattle.meaning_commands.specs.Replies.{reply_text}
 use Rattle.odin_store.specs.Held.{Change}
 use Rattle.odin_store.specs.Keeping.{store_keeping}
-use Rattle.odin_answers.specs.Laws.{IsTrueFor}
+use Rattle.odin_answers.specs.Laws.{IsTrueFor, KeepSame}
 use Rattle.odin_shell.specs.Language.{commands}
 use Rattle.odin_shell.specs.Machine.{State, Step, MayLeave}
 use Rattle.odin_shell.specs.declared.graph.Opened.{Opened}
@@ -117,12 +117,16 @@ pub record BothCountKept (bytes others : List ℕ) (old old' : State) : Type 0 w
   pub bytes_are : bytes ≡ reply_text (Kept (length old.held.calls))
   pub others_are : others ≡ reply_text (Kept (length old'.held.calls))
 
--- The same item is answered alike: by the same reply, but for the number of kept calls, where it is asked for, and for the choice of the
--- chain that a refusal shows.
-abbrev pub AreAlike : Graph → Table → List ℕ → List ℕ → State → State → Type 0
-AreAlike g table bytes others old old' =
-    (others ≡ bytes) ⊎ BothCountKept bytes others old old'
-    ⊎ BothRefuse g table old.held.sources bytes others
+-- The replies are the same, but for the number of kept calls where it is asked for; and where the same calls are kept before, the same are
+-- behind it, and so the same are run.
+pub record SaysSame (bytes others : List ℕ) (old new old' new' : State) : Type 0 where
+  pub reply : (others ≡ bytes) ⊎ BothCountKept bytes others old old'
+  pub kept : KeepSame old.held.calls old'.held.calls → KeepSame new.held.calls new'.held.calls
+
+-- The same item is answered alike: by the same reply, but for the choice of the chain that a refusal shows.
+abbrev pub AreAlike : Graph → Table → List ℕ → List ℕ → State → State → State → State → Type 0
+AreAlike g table bytes others old new old' new' =
+    SaysSame bytes others old new old' new' ⊎ BothRefuse g table old.held.sources bytes others
 
 -- Two transcripts of the same items, side by side: each item is answered alike, and the sources
 -- behind it are the same.
@@ -133,7 +137,7 @@ pub data AreSideBySide (g : Graph) (table : Table)
       (replies rest : List (List ℕ)) (old new old' new' last last' : State)
       → AnswersItem commands (Step g) old item bytes new
       → AnswersItem commands (Step g) old' item others new'
-      → AreAlike g table bytes others old old' → new'.held.sources ≡ new.held.sources
+      → AreAlike g table bytes others old new old' new' → new'.held.sources ≡ new.held.sources
       → AreSideBySide g table new new' items replies rest last last'
       → AreSideBySide g table old old' (item ∷ items) (bytes ∷ replies) (others ∷ rest) last last'
 

@@ -11,4 +11,6 @@ pub mod Machine
 pub mod Served
 pub mod Begun
 pub mod Sessions
+pub mod Crashes
 pub mod Laws
+pub mod Loading

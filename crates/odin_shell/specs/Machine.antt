@@ -1,5 +1,5 @@
 -- The machine of a session: what each command replies, what the outside does for it, and what is held after it.
-use Rattle.std.specs.Prelude.{◌≡◌, ◌⊎◌, ℕ, ◌≤◌, List, [], ◌∷◌, ◌++◌, length, Option, Some, None}
+use Rattle.std.specs.Prelude.{◌≡◌, ◌≢◌, ◌⊎◌, ℕ, ◌≤◌, List, [], ◌∷◌, ◌++◌, length, Option, Some, None}
 use Rattle.odin_outside.specs.Disk.{IsQuiet}
 use Rattle.odin_outside.specs.Spawned.{Spawned}
 use Rattle.disk_trails.specs.Trails.{Trail, after}
@@ -159,8 +159,13 @@ module _ {Disk : Type 0} (disk : DiskMeaning Disk) (g : Graph) (text : Text) whe
     pub written : IsQuiet (disk.told start.disk) → HasWritten text state.changes (disk.told start.disk) code.store (disk.told now.disk)
     pub within : now.over ≡ None
 
+  -- the store stopped the session: its disk failed, or a batch didn't fit
+  abbrev pub StoreStopped : Told Disk → Told Disk → Type 0
+  StoreStopped start now = (disk.faults now.disk ≢ disk.faults start.disk) ⊎ (now.over ≢ None)
+
   -- At an exit tools and tree have done what they did in the furthest state, and no more, and no fault is acknowledged that they have not
-  -- counted. All changes that are acknowledged are in every image that a crash may leave.
+  -- counted. Where the store stopped the session, no start was refused behind what is acknowledged. All changes that are acknowledged are in
+  -- every image that a crash may leave.
   pub record IsLeft (first : State) (start : Told Disk) (acknowledged furthest : State) (now : Told Disk) : Type 0 where
     pub tools : now.tools ≡ furthest.tools
     pub tree : now.tree ≡ furthest.tree
@@ -168,6 +173,7 @@ module _ {Disk : Type 0} (disk : DiskMeaning Disk) (g : Graph) (text : Text) whe
     pub tree_counted : acknowledged.tree.faults ≤ now.tree.faults
     pub stay : ToolsStay start.tools now.tools
     pub tree_stays : TreeStays start.tree now.tree
+    pub unrefused : StoreStopped start now → furthest.tools.faults ≡ acknowledged.tools.faults
     pub safe : IsSafe text first.held acknowledged.changes furthest.changes (disk.told start.disk) (disk.told now.disk) (disk.faults start.disk) (disk.faults now.disk)
     pub full : (at size : ℕ) → now.over ≡ Some (at, size) → IsFull text furthest.changes (disk.told start.disk) (disk.told now.disk) at size
 

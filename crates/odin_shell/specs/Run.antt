@@ -16,10 +16,13 @@ use Rattle.meaning_run.specs.Endings.{input_limit, HasRead, EndsWhole, EndsCutSh
 use Rattle.odin_store.specs.Held.{Held}
 use Rattle.odin_store.specs.Opening as store
 use Rattle.odin_shell.specs.declared.ending.Ending.{Ending}
-use Rattle.odin_shell.specs.declared.ending.Ending.TheVariants.{Whole, CutShort, BadGraph, Disk, Memory, Output, Input, NotOurs, Full, Usage, TooLong}
+use Rattle.odin_shell.specs.declared.ending.Ending.TheVariants.{Whole, CutShort, BadGraph, Disk, Memory, Output, Input, NotOurs, Full, Usage, TooLong, Loaded, Room}
 use Rattle.odin_shell.specs.Endings.{status_of}
-use Rattle.odin_words.specs.Asked.{AsksFor, IsNotAccepted}
+use Rattle.odin_words.specs.Asked.{AsksFor, IsNotAccepted, Serve, Load}
+use Rattle.load_session.specs.declared.loaded.Loaded.{Loaded as Counts}
+use Rattle.load_session.specs.Loads.{IsLoaded, IsLoadFault}
 use Rattle.odin_shell.specs.Words.{usage_line}
+use Rattle.odin_shell.specs.Loading.{load_lines}
 use Rattle.odin_shell.specs.Opened.{ReadsAs, IsRefused, not_ours_line, full_line}
 use Rattle.odin_shell.specs.Language.{commands}
 use Rattle.odin_shell.specs.Filed.{DiskMeaning, StartsFrom}
@@ -86,6 +89,20 @@ ClosesFor fault.Disk before now ending = (now ≡ before) × (ending ≡ Disk)
 ClosesFor (fault.NotOurs at) before now ending = Says (not_ours_line at) (NotOurs at) before now ending
 ClosesFor (fault.Full at size) before now ending = Says (full_line at size) (Full at size) before now ending
 ClosesFor fault.Memory before now ending = (now ≡ before) × (ending ≡ Memory)
+
+-- ---- a load session
+
+-- What is written where a load session failed so. Where its own disk has no more room nothing is. That its file is not ours never comes.
+abbrev pub ClosesLoad : JournalFault → SinkTold → SinkTold → Ending → Type 0
+ClosesLoad fault.Disk before now ending = (now ≡ before) × (ending ≡ Room)
+ClosesLoad (fault.NotOurs at) before now ending = (now ≡ before) × (ending ≡ Memory)
+ClosesLoad (fault.Full at size) before now ending = Says (full_line at size) (Full at size) before now ending
+ClosesLoad fault.Memory before now ending = (now ≡ before) × (ending ≡ Memory)
+
+-- A load session of so many units was served, and its lines are due; or it failed.
+pub data LoadEnds (units : ℕ) (before now : SinkTold) (ending : Ending) : Type 0 where
+  load_served : (loaded : Counts) → IsLoaded units loaded → Says (load_lines units loaded) Loaded before now ending → LoadEnds units before now ending
+  load_failed : (fault : JournalFault) → IsLoadFault units fault → ClosesLoad fault before now ending → LoadEnds units before now ending
 
 -- ---- what every way to end says
 
@@ -162,7 +179,7 @@ module _ {I O T S D : Type 0} (m : Meaning I O T S D) (words : List Text) (befor
   pub record AsksOnce (opened : TreeTold) : Type 0 where
     pub name : Text
     pub jobs : ℕ
-    pub named : AsksFor words name jobs
+    pub named : AsksFor words (Serve name) jobs
     pub asked : IsAsked (tree m before) opened
 
   -- The tree gave this of the file.
@@ -183,6 +200,8 @@ module _ {I O T S D : Type 0} (m : Meaning I O T S D) (words : List Text) (befor
     words_refused : IsNotAccepted words → LastLine usage_line Usage (sink m before) (sink m after) ending → opened ≡ tree m before → after ≡ record before { output = after.output } → EndsAs opened ending
     -- memory was wanted while the words were read
     words_unread : ending ≡ Memory → opened ≡ tree m before → after ≡ before → EndsAs opened ending
+    -- the words ask for a load session, which ended so: nothing was read, and nothing written but its lines
+    load_ended : (units jobs : ℕ) → AsksFor words (Load units) jobs → LoadEnds units (sink m before) (sink m after) ending → opened ≡ tree m before → after ≡ record before { output = after.output } → EndsAs opened ending
     -- the tree failed
     tree_failed : ending ≡ Input → AsksOnce opened → GraphRose opened → opened ≡ tree m after → after ≡ record before { tree = after.tree } → EndsAs opened ending
     -- memory was wanted before the graph was read

@@ -18,6 +18,10 @@ pub(crate) enum Ending {
     Full(u64, u64),
     Usage,
     TooLong,
+    /// A load session was served.
+    Loaded,
+    /// A load session passed the room of its own disk.
+    Room,
 }
 
 impl Ending {
@@ -36,6 +40,8 @@ impl Ending {
             Ending::Full(_, _) => 8,
             Ending::Usage => 9,
             Ending::TooLong => 10,
+            Ending::Loaded => 0,
+            Ending::Room => 3,
         }
     }
 }

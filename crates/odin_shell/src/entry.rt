@@ -11,18 +11,19 @@ use crate::ending::Ending;
 use crate::graph::{OpenFault, Opened, open_graph};
 use crate::input::serve_input;
 use crate::lines::{line_full, line_not_ours};
+use crate::load::run_load;
 use crate::write::write_whole;
 use odin_engine::{Engine, StoreFault};
 use odin_outside::{Disk, Sink, Source, Spawner, Tree};
 use odin_store::laws::keeps_changes;
-use odin_words::read_words;
+use odin_words::{Work, read_words};
 use std::alloc::Global;
 use type_graph::Graph;
 
-const USAGE: &[u8] = b"usage: odin [--jobs N] GRAPH\n";
+const USAGE: &[u8] = b"usage: odin [--jobs N] GRAPH, or odin [--jobs N] --load N\n";
 
 /// Writes a last line where an ending is due.
-fn end_with<O: Sink>(output: &mut O, line: &[u8], due: Ending) -> Ending
+pub(crate) fn end_with<O: Sink>(output: &mut O, line: &[u8], due: Ending) -> Ending
     ensures { let sink = sink_of O.taken O.faults in
         LastLine line.now due (sink output.old) (sink output.new) result }
 {
@@ -33,7 +34,7 @@ fn end_with<O: Sink>(output: &mut O, line: &[u8], due: Ending) -> Ending
 }
 
 /// Ends a session, by the last line of a file that is full.
-fn close<O: Sink>(alloc: Global, output: &mut O, due: Ending) -> Ending
+pub(crate) fn close<O: Sink>(alloc: Global, output: &mut O, due: Ending) -> Ending
     ensures { let sink = sink_of O.taken O.faults in
         Closes due (sink output.old) (sink output.new) result }
 {
@@ -91,7 +92,7 @@ fn serve_store<I: Source, O: Sink, T: Tree, S: Spawner, D: Disk>(
     }
 }
 
-/// Reads the words and the graph, opens the store, and serves the commands of the input.
+/// Reads the words. Where they ask for a load session it is served; else the graph is read, the store opened, and the commands of the input served.
 fn run_words<I: Source, O: Sink, T: Tree, D: Disk, S: Spawner>(
     alloc: Global,
     words: &[String],
@@ -113,7 +114,11 @@ fn run_words<I: Source, O: Sink, T: Tree, D: Disk, S: Spawner>(
         Ok(None) => return end_with(output, USAGE, Ending::Usage),
         Err(_) => return Ending::Memory,
     };
-    match open_graph(alloc, tree, asked.graph.as_bytes()) {
+    let name = match asked.work {
+        Work::Serve(name) => name,
+        Work::Load(units) => return run_load(alloc, output, units),
+    };
+    match open_graph(alloc, tree, name.as_bytes()) {
         Ok(Opened::Ready(text, graph)) => {
             serve_store(
                 alloc,
@@ -132,8 +137,9 @@ fn run_words<I: Source, O: Sink, T: Tree, D: Disk, S: Spawner>(
     }
 }
 
-/// Runs the program: reads the words and the graph, opens the store, then serves the commands of the input, and gives the exit status.
-/// docs/SESSIONS.md tells the commands, the replies and the statuses.
+/// Runs the program: reads the words and the graph, opens the store, then serves the commands of the input, and gives the exit status. Where the words
+/// ask for a load session it is served in place of the input, over a disk and tools of its own. docs/SESSIONS.md tells the commands, the
+/// replies and the statuses.
 pub fn run<I: Source, O: Sink, T: Tree, D: Disk, S: Spawner>(
     alloc: Global,
     words: &[String],

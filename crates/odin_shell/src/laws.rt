@@ -1,5 +1,9 @@
 // Laws over inputs and sessions.
+ghost use Rattle.odin_shell.specs.Crashes.{ImagesHoldOurs};
+ghost use Rattle.odin_shell.specs.Filed.{disk_meaning};
 ghost use Rattle.odin_shell.specs.Laws.{InputIsCutOnce, SourcesStay, EachIsOpened, OpenedIsOne, HeldIsMade, KeptStaysTrue, RefusalsAreCounted, TranscriptIsOne};
+
+use odin_outside::Disk;
 
 /// An input is cut into commands in one way only.
 pub fn input_is_cut_once()
@@ -38,7 +42,14 @@ pub fn refusals_are_counted()
 {}
 
 /// Where the tools answer by a table, the tree tells its files and no fault of either is counted, an input has one transcript, whatever is
-/// kept, but for the chains that refusals show and the number of kept calls.
+/// kept, but for the chains that refusals show and the number of kept calls. Where the same calls are kept, the same are run.
 pub fn transcript_is_one()
     ensures { TranscriptIsOne }
+{}
+
+/// Whenever a session is stopped, each image that a crash may leave stands for what the first of its changes made, with all that are
+/// acknowledged; and each call that is kept in it was kept at the start, or is one of the node of an ask of the session. Where the tools answer
+/// by a table, all of them are true.
+pub fn images_hold_calls_of_asks<D: Disk>()
+    ensures { let on = disk_meaning D.told D.size_of D.faults in ImagesHoldOurs on }
 {}

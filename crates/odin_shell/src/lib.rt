@@ -10,6 +10,7 @@ mod holding;
 mod input;
 pub mod laws;
 mod lines;
+mod load;
 mod pending;
 mod serve;
 mod session;

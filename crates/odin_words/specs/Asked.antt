@@ -1,37 +1,65 @@
 -- What the words of the program ask for.
 use Rattle.std.specs.Prelude.{◌≡◌, ◌≤◌, ℕ, List, [], Option, Some, None, codes, decimal}
 use Rattle.clap.specs.Words.{Row, fault_of, matches_of, first_of}
+use Rattle.odin_words.specs.declared.Work.{Work}
+use Rattle.odin_words.specs.declared.Work.TheVariants as code
 use Rattle.odin_words.specs.Command.{command}
 
--- the digits of a number from 1 to 64
-pub record IsCount (word : List ℕ) (count : ℕ) : Type 0 where
-  pub spelled : word ≡ decimal count
-  pub some : 1 ≤ count
-  pub most : count ≤ 64
+-- the digits of a number from 1 to the most
+pub record IsNumber (most : ℕ) (word : List ℕ) (number : ℕ) : Type 0 where
+  pub spelled : word ≡ decimal number
+  pub some : 1 ≤ number
+  pub few : number ≤ most
 
 -- of none
-abbrev pub IsNoCount : List ℕ → Type 0
-IsNoCount word = (count : ℕ) → ¬ IsCount word count
+abbrev pub IsNoNumber : ℕ → List ℕ → Type 0
+IsNoNumber most word = (number : ℕ) → ¬ IsNumber most word number
 
--- the count of jobs by the value of `--jobs`: 1 where there is none
+-- ---- jobs
+
+-- the count of jobs by the value of `--jobs`, from 1 to 64: 1 where there is none
 abbrev pub IsJobs : Option (List ℕ) → ℕ → Type 0
 IsJobs None jobs = jobs ≡ 1
-IsJobs (Some word) jobs = IsCount word jobs
+IsJobs (Some word) jobs = IsNumber 64 word jobs
 
--- The values of the words have this graph and these jobs.
-pub record HasAsked (rows : List Row) (graph : List ℕ) (jobs : ℕ) : Type 0 where
-  pub graph_is : first_of (codes "graph") rows ≡ Some graph
+abbrev pub IsNoJobs : Option (List ℕ) → Type 0
+IsNoJobs value = (jobs : ℕ) → ¬ IsJobs value jobs
+
+-- ---- the work
+
+-- what the program is to do: serve a session over the graph in a file of this name, or the load session of so many units
+pub data AskedWork : Type 0 where
+  Serve : List ℕ → AskedWork
+  Load : ℕ → AskedWork
+
+abbrev pub work_of : Work → AskedWork
+work_of (code.Serve name) = Serve name.now
+work_of (code.Load units) = Load units
+
+-- The work by the word GRAPH and the value of `--load`: exactly one of them is there, and that of `--load` is a number from 1 to 2,000.
+pub data IsWork : Option (List ℕ) → Option (List ℕ) → AskedWork → Type 0 where
+  serves : (name : List ℕ) → IsWork (Some name) None (Serve name)
+  loads : (word : List ℕ) (units : ℕ) → IsNumber 2000 word units → IsWork None (Some word) (Load units)
+
+abbrev pub IsNoWork : Option (List ℕ) → Option (List ℕ) → Type 0
+IsNoWork graph load = (work : AskedWork) → ¬ IsWork graph load work
+
+-- ---- the words
+
+-- The values of the words have this work and these jobs.
+pub record HasAsked (rows : List Row) (work : AskedWork) (jobs : ℕ) : Type 0 where
+  pub work_is : IsWork (first_of (codes "graph") rows) (first_of (codes "load") rows) work
   pub jobs_is : IsJobs (first_of (codes "jobs") rows) jobs
 
--- They have no graph, or no jobs.
+-- They have no work, or no jobs.
 abbrev pub HasNone : List Row → Type 0
-HasNone rows = (graph : List ℕ) (jobs : ℕ) → ¬ HasAsked rows graph jobs
+HasNone rows = (work : AskedWork) (jobs : ℕ) → ¬ HasAsked rows work jobs
 
 -- The command takes the words, whose values are these.
-pub record AsksFor (words : List (List ℕ)) (graph : List ℕ) (jobs : ℕ) : Type 0 where
+pub record AsksFor (words : List (List ℕ)) (work : AskedWork) (jobs : ℕ) : Type 0 where
   pub taken : fault_of command words ≡ []
-  pub has : HasAsked (matches_of command words) graph jobs
+  pub has : HasAsked (matches_of command words) work jobs
 
 -- There is nothing that they ask for.
 abbrev pub IsNotAccepted : List (List ℕ) → Type 0
-IsNotAccepted words = (graph : List ℕ) (jobs : ℕ) → ¬ AsksFor words graph jobs
+IsNotAccepted words = (work : AskedWork) (jobs : ℕ) → ¬ AsksFor words work jobs

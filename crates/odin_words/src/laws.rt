@@ -1,7 +1,7 @@
 //! What words ask for. Each law is the contract of a function with an empty body.
 ghost use Rattle.odin_words.specs.Laws.{AskedIsOne, EachIsAcceptedOrNot};
 
-/// Words ask for one graph at most, and for one number of jobs.
+/// Words ask for one work at most, and for one number of jobs.
 pub fn asked_is_one()
     ensures { AskedIsOne }
 {}

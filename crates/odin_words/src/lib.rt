@@ -1,10 +1,11 @@
 //! The words of the program, read by `clap`.
 #![tactic(auto)]
 
-ghost use Rattle.std.specs.Prelude.{◌≡◌, ◌≢◌, IfOk, IfErr, IfSome, IfNone, [], map, option_map, string_bytes};
+ghost use Rattle.std.specs.Prelude.{◌≡◌, ◌≢◌, IfOk, IfErr, IfSome, IfNone, [], map, string_bytes};
+ghost use Rattle.std.specs.Option.{option_copied};
 ghost use Rattle.clap.specs.Words.{fault_of, matches_of, first_of, rows_of, found_of, kind_of};
 ghost use Rattle.odin_words.specs.Command.{command};
-ghost use Rattle.odin_words.specs.Asked.{HasAsked, HasNone, AsksFor, IsNotAccepted, IsCount, IsNoCount};
+ghost use Rattle.odin_words.specs.Asked.{IsNumber, IsNoNumber, IsJobs, IsNoJobs, IsWork, IsNoWork, HasAsked, HasNone, AsksFor, IsNotAccepted, work_of};
 
 use clap::error::ErrorKind;
 use clap::{Arg, ArgAction, ArgMatches, Command, Error};
@@ -17,10 +18,25 @@ pub mod laws;
 /// How many tools may run at once, at most.
 pub const MOST_JOBS: u64 = 64;
 
-/// What the words ask for: the file of the graph, and how many tools may run at once.
+/// How many units a load session has, at most.
+pub const MOST_UNITS: u64 = 2000;
+
+// The smallest number that a word may spell.
+const LEAST: u64 = 1;
+
+/// What the program is to do.
+#[derive(Clone, Copy)]
+pub enum Work<'a> {
+    /// Serve the commands of the input over the graph in the file of this name.
+    Serve(&'a str),
+    /// Serve the load session of so many units.
+    Load(u32),
+}
+
+/// What the words ask for: the work, and how many tools may run at once.
 #[derive(Clone, Copy)]
 pub struct Asked<'a> {
-    pub graph: &'a str,
+    pub work: Work<'a>,
     pub jobs: u64,
 }
 
@@ -33,10 +49,12 @@ fn matches<'a>(alloc: Global, words: &'a [String]) -> Result<ArgMatches<'a>, Err
         fault_of command (map string_bytes words.entry.now) ≢ []) }
 {
     let jobs = Arg::new(alloc, "jobs").long("jobs").action(ArgAction::Set);
+    let load = Arg::new(alloc, "load").long("load").action(ArgAction::Set);
     let graph = Arg::new(alloc, "graph").action(ArgAction::Set);
     let command = Command::new(alloc, "odin")
         .disable_help_flag(true)
         .arg(jobs)?
+        .arg(load)?
         .arg(graph)?;
     command.try_get_matches_from(words)
 }
@@ -44,41 +62,65 @@ fn matches<'a>(alloc: Global, words: &'a [String]) -> Result<ArgMatches<'a>, Err
 /// The first value of an option or a word of the command.
 fn value_of<'a>(found: &ArgMatches<'a>, id: &str) -> Option<&'a str>
     ensures { let rows = rows_of (found_of found.now) in
-        option_map (λ word. word.now) result ≡ first_of id.now rows }
+        option_copied result ≡ first_of id.now rows }
 {
     found.get_str(id)
 }
 
-/// The count that a word spells.
-fn read_count(word: &str) -> Option<u64>
-    ensures some { IfSome result (IsCount word.now) }
-    ensures none { IfNone result (IsNoCount word.now) }
+/// The number up to `most` that a word spells.
+fn read_up_to(most: u64, word: &str) -> Option<u64>
+    ensures some { IfSome result (IsNumber most word.now) }
+    ensures none { IfNone result (IsNoNumber most word.now) }
 {
-    let count = read_number(word.as_bytes())?;
-    if count == 0 || count > MOST_JOBS {
+    let number = read_number(word.as_bytes())?;
+    if number < LEAST || number > most {
         return None;
     }
-    Some(count)
+    Some(number)
+}
+
+/// How many tools may run at once, by the value of `--jobs`.
+fn jobs_by(value: Option<&str>) -> Option<u64>
+    ensures some { IfSome result (IsJobs (option_copied value.entry)) }
+    ensures none { IfNone result (IsNoJobs (option_copied value.entry)) }
+{
+    match value {
+        Some(word) => read_up_to(MOST_JOBS, word),
+        None => Some(1),
+    }
+}
+
+/// The work, by the word GRAPH and the value of `--load`, of which exactly one is there.
+fn work_by<'a>(graph: Option<&'a str>, load: Option<&'a str>) -> Option<Work<'a>>
+    ensures some { let name = option_copied graph.entry in let word = option_copied load.entry in
+        IfSome result (λ work. IsWork name word (work_of work)) }
+    ensures none { let name = option_copied graph.entry in let word = option_copied load.entry in
+        IfNone result (IsNoWork name word) }
+{
+    match graph {
+        Some(name) => match load {
+            None => Some(Work::Serve(name)),
+            Some(_) => None,
+        },
+        None => Some(Work::Load(read_up_to(MOST_UNITS, load?)? as u32)),
+    }
 }
 
 /// What the values ask for, where the words were taken.
 fn asked_of<'a>(found: &ArgMatches<'a>) -> Option<Asked<'a>>
     ensures some { IfSome result (λ asked.
-        HasAsked (rows_of (found_of found.now)) asked.graph.now asked.jobs) }
+        HasAsked (rows_of (found_of found.now)) (work_of asked.work) asked.jobs) }
     ensures none { IfNone result (HasNone (rows_of (found_of found.now))) }
 {
-    let graph = value_of(found, "graph")?;
-    let jobs = match value_of(found, "jobs") {
-        Some(word) => read_count(word)?,
-        None => 1,
-    };
-    Some(Asked { graph, jobs })
+    let work = work_by(value_of(found, "graph"), value_of(found, "load"))?;
+    let jobs = jobs_by(value_of(found, "jobs"))?;
+    Some(Asked { work, jobs })
 }
 
 /// What the words ask for, of which the first is the program's name. `None` is said where they are not accepted.
 pub fn read_words<'a>(alloc: Global, words: &'a [String]) -> Result<Option<Asked<'a>>, Memory>
     ensures asked { IfOk result (λ found. IfSome found (λ asked.
-        AsksFor (map string_bytes words.entry.now) asked.graph.now asked.jobs)) }
+        AsksFor (map string_bytes words.entry.now) (work_of asked.work) asked.jobs)) }
     ensures none { IfOk result (λ found. IfNone found
         (IsNotAccepted (map string_bytes words.entry.now))) }
 {

@@ -1,4 +1,4 @@
-//! A session over files and tools in memory: something to measure. Its words, its input and its output are those of the program.
+//! A session over files, a disk and tools in memory: something to measure. Its words, its input and its output are those of the program.
 #![tactic(auto)]
 
 mod graphs;
@@ -11,6 +11,11 @@ use odin_shell::run;
 use std::alloc::Global;
 use std::process::ExitCode;
 use std::{env, io};
+
+/// Room on the disk in memory, in bytes and in calls. It is taken as it is written.
+const DISK_BYTES: usize = 1 << 29;
+
+const DISK_CALLS: usize = 1 << 18;
 
 /// The tree, which holds the sample graphs.
 fn sample_tree(alloc: Global) -> Result<MemTree, Memory> {
@@ -29,7 +34,7 @@ fn serve(rt: &HostRuntime, alloc: Global, words: &[String]) -> Result<u8, Memory
     let mut input = InputSource::new(rt.reader());
     let mut output = OutputSink::new(io::writer(rt));
     let mut tree = sample_tree(alloc)?;
-    let mut disk = MemDisk::new(alloc, Bytes::new(alloc), 1 << 22, 4096)?;
+    let mut disk = MemDisk::new(alloc, Bytes::new(alloc), DISK_BYTES, DISK_CALLS)?;
     let mut tools = TableTools::toy(alloc, Seq::new(alloc));
     Ok(run(
         alloc,

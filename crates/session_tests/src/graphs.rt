@@ -4,15 +4,12 @@ ghost use Rattle.std.specs.Prelude.{◌≡◌, ◌<◌, []};
 use super::runs::{
     CC_ONLY as GRAPH, only, outcome_over, sink, source, status_with, tree_of, with_taken,
 };
+use super::samples::C_UNITS;
 use object_values::{Memory, Seq};
 use odin_fakes::{FailSink, FailTools, FailTree, TableTools};
 use odin_outside::Spawner;
 use std::alloc::Global;
 use std::test::Fail;
-
-// Units with headers are scanned, compiled and linked.
-pub(super) const C_UNITS: &[u8] =
-    b"type hdr simple;\ntype c simple is hdr;\ntype sm simple;\ntype inc simple;\ntype o simple;\ntype exe simple;\ntype units list of c;\ntype objs list of o;\nsuffix .h hdr;\nsuffix .c c;\nsuffix .sm sm;\nparam debug;\ntool scan 1 from hdr to inc run \"scan\";\ntool cc 1 from c to o run \"cc\" uses debug closure inc;\nread rd from sm to units;\neach comp from units to objs;\ntool ld 1 from objs to exe run \"ld\";\n";
 
 const TWO_WAYS: &[u8] =
     b"type a simple;\ntype b simple;\ntype c simple;\ntype d simple;\nsuffix .a a;\ntool p 1 from a to b run \"ld\";\ntool q 1 from a to c run \"ld\";\ntool r 1 from c to d run \"ld\";\ntool s 1 from b to d run \"ld\";\n";

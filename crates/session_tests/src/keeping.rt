@@ -1,61 +1,16 @@
 // Runs one after another over one file: what was acknowledged is there, and what was kept is not run again.
-ghost use Rattle.std.specs.Prelude.{◌≡◌, []};
-
-use super::graphs::C_UNITS;
-use super::runs::{DISK_BYTES, DISK_CALLS, only, owned, sink, source, tree_of};
+use super::runs::{only, sink};
+use super::samples::C_UNITS;
+use super::stored::{NONE, Ran, Text, crashed, disk_of, run_on, status_on};
 use object_values::{Bytes, Memory, Seq};
-use odin_fakes::{CrashDisk, FailDisk, FailSink, FailTools, MemDisk, TableTools};
-use odin_outside::{Disk, Sink, Spawner};
-use odin_shell::run;
+use odin_fakes::{FailDisk, FailSink, FailTools, MemDisk, TableTools};
+use odin_outside::Disk;
 use std::alloc::Global;
 use std::test::Fail;
 
-type Text = &'static [u8];
-
-// A file with these bytes as a disk.
-fn disk_of(alloc: Global, image: &[u8]) -> Result<MemDisk, Memory> {
-    MemDisk::new(
-        alloc,
-        Bytes::from_slice(alloc, image)?,
-        DISK_BYTES,
-        DISK_CALLS,
-    )
-}
-
-// The status of a run over the graph of units.
-fn status_on<D: Disk, O: Sink, S: Spawner>(
-    alloc: Global,
-    disk: &mut D,
-    text: &[u8],
-    output: &mut O,
-    tools: &mut S,
-) -> Result<u8, Memory>
-    requires { (S.told tools.old).running ≡ [] }
-{
-    let words = owned(alloc, &["odin", "g0"])?;
-    let mut tree = tree_of(alloc, &[(b"g0", C_UNITS)])?;
-    let mut input = source(alloc, text, 5000)?;
-    Ok(run(
-        alloc,
-        words.as_slice(),
-        &mut input,
-        output,
-        &mut tree,
-        disk,
-        tools,
-    ))
-}
-
-// The status and the output of a run with the toy tools, and how many were started.
-fn session<D: Disk>(
-    alloc: Global,
-    disk: &mut D,
-    text: &[u8],
-) -> Result<(u8, Vec<u8>, usize), Memory> {
-    let mut tools = TableTools::toy(alloc, Seq::new(alloc));
-    let mut output = sink(alloc, 20_000, 5000)?;
-    let status = status_on(alloc, disk, text, &mut output, &mut tools)?;
-    Ok((status, output.taken().to_vec(alloc)?, tools.log().len() / 2))
+// A run over the graph of units.
+fn session<D: Disk>(alloc: Global, disk: &mut D, text: &[u8]) -> Result<Ran, Memory> {
+    run_on(alloc, &[C_UNITS], disk, text)
 }
 
 // Whether a run over a disk takes all of the input, with this output and so many starts.
@@ -66,8 +21,8 @@ fn goes<D: Disk>(
     want: &[u8],
     starts: usize,
 ) -> Result<bool, Memory> {
-    let (status, output, started) = session(alloc, disk, text)?;
-    Ok(status == 0 && output.as_slice() == want && started == starts)
+    let ran = session(alloc, disk, text)?;
+    Ok(ran.replied(want) && ran.starts.count() == starts)
 }
 
 // An input, its replies, and how many tools are started.
@@ -171,10 +126,10 @@ const KINDS: &[(Text, Text)] = &[
 // Whether the reply is the same in this run and in the next one, which starts no tool.
 fn is_kept(alloc: Global, put: &[u8], reply: &[u8]) -> Result<bool, Memory> {
     let mut disk = disk_of(alloc, b"")?;
-    let (status, _, _) = session(alloc, &mut disk, put)?;
+    let edited = session(alloc, &mut disk, put)?;
     let first = goes(alloc, &mut disk, b"ask a.c:o\n", reply, 2)?;
     let again = goes(alloc, &mut disk, b"ask a.c:o\n", reply, 0)?;
-    Ok(status == 0 && first && again)
+    Ok(edited.status == 0 && first && again)
 }
 
 #[test]
@@ -194,7 +149,7 @@ fn refused_first(alloc: Global, number: u32) -> Result<(u8, Vec<u8>, usize), Mem
     let mut disk = disk_of(alloc, b"")?;
     let mut output = sink(alloc, 20_000, 5000)?;
     let text = b"put a.c 4\nx=1\nask a.c:o\nkept\nask a.c:o\nkept\nask a.c:o\nkept\n";
-    let status = status_on(alloc, &mut disk, text, &mut output, &mut tools)?;
+    let status = status_on(alloc, &[C_UNITS], &mut disk, text, &mut output, &mut tools)?;
     Ok((
         status,
         output.taken().to_vec(alloc)?,
@@ -239,8 +194,9 @@ const STRANGE: &[(Text, Text)] = &[
 // Whether a run over the file ends with this line, and leaves it as it was.
 fn is_refused(alloc: Global, image: &[u8], line: &[u8]) -> Result<bool, Memory> {
     let mut disk = disk_of(alloc, image)?;
-    let (status, output, starts) = session(alloc, &mut disk, b"put a.c 0\nask a.c\n")?;
-    Ok(status == 7 && output.as_slice() == line && starts == 0 && disk.image() == image)
+    let ran = session(alloc, &mut disk, b"put a.c 0\nask a.c\n")?;
+    let told = ran.status == 7 && ran.output.as_slice() == line && ran.starts == NONE;
+    Ok(told && disk.image() == image)
 }
 
 // The status where the line of such a file is not written.
@@ -248,7 +204,7 @@ fn unwritten(alloc: Global, image: &[u8]) -> Result<u8, Memory> {
     let mut disk = disk_of(alloc, image)?;
     let mut output = FailSink::new(sink(alloc, 100, 7)?, only(alloc, 1)?);
     let mut tools = TableTools::toy(alloc, Seq::new(alloc));
-    status_on(alloc, &mut disk, b"", &mut output, &mut tools)
+    status_on(alloc, &[C_UNITS], &mut disk, b"", &mut output, &mut tools)
 }
 
 #[test]
@@ -303,9 +259,9 @@ fn dropped_before(alloc: Global) -> Result<Vec<u8>, Memory> {
 fn go_on(alloc: Global, image: &[u8], from: usize) -> Result<bool, Memory> {
     let mut disk = disk_of(alloc, image)?;
     let (text, replies) = played(alloc, &STEPS[from.min(7)..])?;
-    let (status, output, _) = session(alloc, &mut disk, text.as_slice())?;
-    let as_dropped = from == DROP && output == dropped_before(alloc)?;
-    Ok(status == 0 && (output == replies || as_dropped))
+    let ran = session(alloc, &mut disk, text.as_slice())?;
+    let as_dropped = from == DROP && ran.replied(dropped_before(alloc)?.as_slice());
+    Ok(ran.replied(replies.as_slice()) || as_dropped)
 }
 
 // How many steps the output has the replies of.
@@ -323,15 +279,15 @@ fn answered(alloc: Global, output: &[u8]) -> Result<Option<usize>, Memory> {
 fn fails_well(alloc: Global, number: u32) -> Result<Option<bool>, Memory> {
     let mut disk = FailDisk::new(disk_of(alloc, b"")?, only(alloc, number)?);
     let (text, replies) = played(alloc, &STEPS)?;
-    let (status, output, _) = session(alloc, &mut disk, text.as_slice())?;
-    if status == 0 {
-        return Ok((output == replies).then_some(true));
+    let ran = session(alloc, &mut disk, text.as_slice())?;
+    if ran.status == 0 {
+        return Ok(ran.replied(replies.as_slice()).then_some(true));
     }
-    let Some(count) = answered(alloc, output.as_slice())? else {
+    let Some(count) = answered(alloc, ran.output.as_slice())? else {
         return Ok(None);
     };
     let goes_on = go_on(alloc, disk.inner().image(), count)?;
-    Ok((status == 3 && goes_on).then_some(false))
+    Ok((ran.status == 3 && goes_on).then_some(false))
 }
 
 #[test]
@@ -349,14 +305,6 @@ fn a_fault_of_the_disk_ends_a_session_that_can_be_gone_on_with(
     let (_, calls) = left_by(rt.alloc(), played(rt.alloc(), &STEPS)?.0.as_slice())?;
     assert!(rt; faults as usize == calls);
     Ok(())
-}
-
-// What a stop leaves, where there was that call.
-fn crashed(alloc: Global, disk: &CrashDisk, moment: usize, choice: u64) -> Result<Bytes, Memory> {
-    if moment > disk.calls() || moment > 1000 {
-        return Err(Memory);
-    }
-    disk.crash(alloc, moment as u32, choice)
 }
 
 // Whether a session can be gone on with that was stopped within a step, from 1; 0 is the opening.

@@ -1,6 +1,8 @@
-//! Worked rows of inputs, words, graphs and tools through whole runs, over objects in memory. It holds tests alone.
+//! Worked rows of inputs, words, graphs, tools and a store through whole runs, over objects in memory, with faults and stops. It holds tests alone.
 #![tactic(auto)]
 
+#[cfg(test)]
+mod failing;
 #[cfg(test)]
 mod graphs;
 #[cfg(test)]
@@ -8,8 +10,16 @@ mod inputs;
 #[cfg(test)]
 mod keeping;
 #[cfg(test)]
+mod rows;
+#[cfg(test)]
 mod runs;
 #[cfg(test)]
+mod samples;
+#[cfg(test)]
 mod serving;
+#[cfg(test)]
+mod stops;
+#[cfg(test)]
+mod stored;
 #[cfg(test)]
 mod words;

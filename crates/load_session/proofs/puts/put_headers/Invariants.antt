@@ -1,0 +1,7 @@
+use Rattle.std.proofs.Common.{[]}
+use Rattle.load_session.specs.Session.{header_steps}
+use Rattle.load_session.specs.Moments.{HasServed}
+use Rattle.load_session.proofs.puts.put_headers.Given as goal
+
+abbrev pub invariant-loop-before : goal.invariant-loop-before
+invariant-loop-before l = HasServed l.initial.session (header_steps l.before) [] l.session

@@ -1,0 +1,56 @@
+-- A whole load: what it tells, and why it ends before.
+use Rattle.std.specs.Prelude.{◌≡◌, ⊤, ℕ, List, [], ◌∷◌, ◌++◌, length}
+use Rattle.odin_fakes.specs.declared.answers.Answers.TheVariants.{Toys}
+use Rattle.odin_fakes.specs.Tools as tools
+use Rattle.dg_reader.specs.Files.{IsRead}
+use Rattle.meaning_graph.specs.Graphs.{Graph}
+use Rattle.meaning_records.specs.Tables.{Calls}
+use Rattle.meaning_commands.specs.declared.replies.Reply.{Reply}
+use Rattle.odin_journal.specs.declared.fault.JournalFault.{JournalFault}
+use Rattle.odin_journal.specs.declared.fault.JournalFault.TheVariants as fault
+use Rattle.odin_store.specs.Opening.{OpensQuiet}
+use Rattle.load_session.specs.declared.loaded.Loaded.{Loaded}
+use Rattle.load_session.specs.Graph.{graph_text}
+use Rattle.load_session.specs.Room.{empty_disk, told_of_disk}
+use Rattle.load_session.specs.Session.{load_steps}
+use Rattle.load_session.specs.Served.{Moment, Serves, StopsAt, shown_length}
+
+-- The graph is that of the text, and its store was opened over the empty disk and tools that did nothing yet.
+pub record IsOpened (g : Graph) (now : Moment) : Type 0 where
+  pub read : IsRead graph_text g
+  pub opened : OpensQuiet graph_text (told_of_disk empty_disk) (told_of_disk now.disk) now.store
+  pub tools_are : now.tools ≡ tools.told_of (tools.new_tools Toys [])
+
+-- The store was opened, all steps were served, and this is told of the three asks.
+pub record IsLoaded (units : ℕ) (loaded : Loaded) : Type 0 where
+  pub graph : Graph
+  pub start : Moment
+  pub opened : IsOpened graph start
+  pub first : Calls × Reply
+  pub second : Calls × Reply
+  pub third : Calls × Reply
+  pub end : Moment
+  pub serves : Serves graph start (load_steps units) (first ∷ second ∷ third ∷ []) end
+  pub starts : loaded.starts ≡ length first.0 ∷ length second.0 ∷ length third.0 ∷ []
+  pub length_is : loaded.length ≡ shown_length third.1
+  pub kept : loaded.kept ≡ length (first.0 ++ second.0 ++ third.0)
+  pub all : end.store.kept.tables.calls ≡ first.0 ++ second.0 ++ third.0
+
+-- Why a store is not opened over the empty disk: want of memory alone, since an empty file is a store's, and there is room for the graph.
+abbrev pub IsOpeningFault : JournalFault → Type 0
+IsOpeningFault fault.Memory = ⊤
+IsOpeningFault other = ⊥
+
+-- The store was opened, and a step failed for this fault.
+pub record LoadFails (units : ℕ) (fault : JournalFault) : Type 0 where
+  pub graph : Graph
+  pub start : Moment
+  pub opened : IsOpened graph start
+  pub stops : StopsAt graph start (load_steps units) fault
+
+-- Want of memory says nothing, and the file is always the store's own.
+abbrev pub IsLoadFault : ℕ → JournalFault → Type 0
+IsLoadFault units fault.Disk = LoadFails units fault.Disk
+IsLoadFault units (fault.NotOurs at) = ⊥
+IsLoadFault units (fault.Full at size) = LoadFails units (fault.Full at size)
+IsLoadFault units fault.Memory = ⊤

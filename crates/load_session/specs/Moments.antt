@@ -1,0 +1,58 @@
+-- A session of a load between two steps.
+use Rattle.std.specs.Prelude.{◌≡◌, ◌+◌, ◌^◌, ◌<◌, ◌≤◌, ℕ, List, [], ◌∷◌, ◌++◌, length}
+use Rattle.odin_fakes.specs.File.{image_of}
+use Rattle.odin_fakes.specs.Tools as tools
+use Rattle.meaning_records.specs.Tables.{Calls}
+use Rattle.meaning_commands.specs.declared.replies.Reply.{Reply}
+use Rattle.odin_journal.specs.declared.fault.JournalFault.{JournalFault}
+use Rattle.kept_derive.specs.Calls.{IsIdle}
+use Rattle.kept_derive.specs.Runs.{at}
+use Rattle.load_session.specs.declared.session.Session.{Session}
+use Rattle.load_session.specs.declared.asked.Asked.{Asked}
+use Rattle.load_session.specs.Session.{LoadStep}
+use Rattle.load_session.specs.Served.{Moment, Serves, Stops, shown_length}
+use Rattle.load_session.specs.Loads.{IsOpened}
+
+abbrev pub moment : Session → Moment
+moment session = at session.engine.store session.disk (tools.told_of session.tools)
+
+-- the calls that are kept
+abbrev pub calls_in : Session → Calls
+calls_in session = session.engine.store.kept.tables.calls
+
+-- The store can be changed, no tool runs, and as many were started as calls are kept.
+pub record IsAtRest (session : Session) : Type 0 where
+  pub idle : IsIdle session.engine.store (length (image_of session.disk.file)) (tools.told_of session.tools)
+  pub counted : session.tools.starts ≡ length (calls_in session)
+
+-- And so many more edits are counted.
+pub record MayServe (more : ℕ) (session : Session) : Type 0 where
+  pub rests : IsAtRest session
+  pub early : session.engine.store.epoch + more < 2 ^ 63
+
+-- It was opened just now.
+pub record IsNew (session : Session) : Type 0 where
+  pub opened : IsOpened session.engine.graph (moment session)
+  pub rests : IsAtRest session
+  pub none_kept : calls_in session ≡ []
+  pub first : session.engine.store.epoch ≡ 0
+
+-- These steps were served.
+pub record HasServed (old : Session) (steps : List LoadStep) (answers : List (Calls × Reply)) (new : Session) : Type 0 where
+  pub graph : new.engine.graph ≡ old.engine.graph
+  pub serves : Serves old.engine.graph (moment old) steps answers (moment new)
+  pub rests : IsAtRest new
+  pub epoch : new.engine.store.epoch ≤ old.engine.store.epoch + length steps
+
+-- The last of them was an ask, the only one, and this is noted of it.
+pub record HasAsked (old : Session) (steps : List LoadStep) (new : Session) (asked : Asked) : Type 0 where
+  pub given : Calls
+  pub reply : Reply
+  pub served : HasServed old steps ((given, reply) ∷ []) new
+  pub starts : asked.starts ≡ length given
+  pub length_is : asked.length ≡ shown_length reply
+  pub kept : asked.kept ≡ length (calls_in new)
+
+-- They were stopped for this fault.
+abbrev pub StopsIn : Session → List LoadStep → JournalFault → Type 0
+StopsIn session steps = Stops session.engine.graph (moment session) steps

@@ -1,0 +1,74 @@
+-- What steps of a load do to a store, its disk and its tools, and where they stop.
+use Rattle.std.specs.Prelude.{◌≡◌, ⊤, ℕ, Bool, List, [], ◌∷◌, ◌++◌, length}
+use Rattle.meaning_graph.specs.Graphs.{Text, Graph}
+use Rattle.meaning_records.specs.Tables.{Calls}
+use Rattle.meaning_commands.specs.declared.replies.Reply.{Reply}
+use Rattle.meaning_commands.specs.declared.replies.Reply.TheVariants.{Shown}
+use Rattle.meaning_commands.specs.declared.replies.ShownBody.TheVariants.{Simple}
+use Rattle.odin_journal.specs.Faults.{IsCauseOf}
+use Rattle.odin_journal.specs.declared.fault.JournalFault.{JournalFault}
+use Rattle.odin_journal.specs.declared.fault.JournalFault.TheVariants as fault
+use Rattle.odin_store.specs.Held as held
+use Rattle.odin_store.specs.Going.{Goes}
+use Rattle.odin_store.specs.Edited.{HasPut, HasFailed}
+use Rattle.kept_derive.specs.Runs.{At, keeps_of}
+use Rattle.odin_answers.specs.Answers.{HasAnswer}
+use Rattle.odin_answers.specs.Replied.{HasStopped}
+use Rattle.load_session.specs.Room.{LoadFile, told_of_disk, PassesRoom}
+use Rattle.load_session.specs.Session.{LoadStep, puts, asks, asked_text}
+
+-- a store over its disk, and what is told of tools, at one moment
+abbrev pub Moment : Type 0
+Moment = At LoadFile
+
+-- The program was answered, and each call that was run for that is kept. No start was refused.
+pub record HasAnswered (g : Graph) (old : Moment) (given : Calls) (reply : Reply) (new : Moment) : Type 0 where
+  pub is : HasAnswer g old.store.sources.texts old.store.kept.tables.calls asked_text reply given old.tools new.tools
+  pub goes : Goes told_of_disk (keeps_of given) old.store new.store old.disk new.disk
+  pub epoch : new.store.epoch ≡ old.store.epoch
+
+-- Steps were served, one after another, from one moment to another; for each ask, the calls that were run and the reply.
+pub data Serves (g : Graph) (old : Moment) : List LoadStep → List (Calls × Reply) → Moment → Type 0 where
+  none : Serves g old [] [] old
+  put : (steps : List LoadStep) (answers : List (Calls × Reply)) (mid new : Moment) (name text : Text) (changed : Bool)
+      → Serves g old steps answers mid → HasPut told_of_disk name text mid.store new.store mid.disk new.disk changed → new.tools ≡ mid.tools
+      → Serves g old (steps ++ puts name text ∷ []) answers new
+  ask : (steps : List LoadStep) (answers : List (Calls × Reply)) (mid new : Moment) (given : Calls) (reply : Reply)
+      → Serves g old steps answers mid → HasAnswered g mid given reply new
+      → Serves g old (steps ++ asks ∷ []) (answers ++ (given, reply) ∷ []) new
+
+-- A step failed, and why.
+abbrev pub StepFails : Graph → LoadStep → Moment → Moment → JournalFault → Type 0
+StepFails g (puts name text) old new = HasFailed told_of_disk (held.puts name text) old.store new.store old.disk new.disk
+StepFails g asks old new = HasStopped told_of_disk g asked_text old new
+
+-- A disk fails only past its room.
+abbrev pub PassesFor : JournalFault → LoadFile → Type 0
+PassesFor fault.Disk disk = PassesRoom disk
+PassesFor other disk = ⊤
+
+-- Some first ones of these steps were served, and the next one failed for this fault.
+pub record StopsAt (g : Graph) (old : Moment) (steps : List LoadStep) (fault : JournalFault) : Type 0 where
+  pub served : List LoadStep
+  pub step : LoadStep
+  pub more : List LoadStep
+  pub whole : steps ≡ served ++ step ∷ more
+  pub answers : List (Calls × Reply)
+  pub mid : Moment
+  pub serves : Serves g old served answers mid
+  pub new : Moment
+  pub fails : StepFails g step mid new fault
+  pub cause : IsCauseOf mid.disk.file.faults new.disk.file.faults fault
+  pub room : PassesFor fault new.disk
+
+-- Want of memory says nothing, and the file is always the store's own.
+abbrev pub Stops : Graph → Moment → List LoadStep → JournalFault → Type 0
+Stops g old steps fault.Disk = StopsAt g old steps fault.Disk
+Stops g old steps (fault.NotOurs at) = ⊥
+Stops g old steps (fault.Full at size) = StopsAt g old steps (fault.Full at size)
+Stops g old steps fault.Memory = ⊤
+
+-- how many bytes the object of a reply has, and 0 where it shows no simple one
+abbrev pub shown_length : Reply → ℕ
+shown_length (Shown status (Simple text) messages) = length text
+shown_length other = 0

@@ -1,0 +1,219 @@
+-- What a crash leaves of a session.
+use Rattle.std.proofs.Common.{◌≡◌, ◌⊎◌, ℕ, ◌≤◌, List, [], ◌∷◌, ◌++◌, length, take, drop, Bool, true, false, cond, append_assoc, ap, sym, refl, ◌∙◌, subst, inl, inr, is_some}
+use Rattle.std.specs.Prelude.{Option, Some, None, IsSome}
+use Rattle.std.proofs.lemmas.List.{take-append-drop}
+use Rattle.object_values.specs.declared.nodes.Node.{Node}
+use Rattle.object_values.specs.declared.calls.Call.{Call}
+use Rattle.object_values.specs.declared.calls.Outcome.{Outcome}
+use Rattle.odin_outside.specs.Disk.{IsQuiet, MayLeave as MayBeLeft}
+use Rattle.odin_outside.specs.Spawned.{Table, Spawned}
+use Rattle.disk_trails.specs.Trails.{after, IsPrefix}
+use Rattle.meaning_graph.specs.Graphs.{Text, Graph}
+use Rattle.meaning_derive.specs.Derive.{Outcomes, derived}
+use Rattle.meaning_derive.specs.Calls.{IsCallFrom}
+use Rattle.meaning_derive.specs.Given.{table_outcomes}
+use Rattle.meaning_derive.specs.Laws.{HasMore}
+use Rattle.meaning_texts.specs.Lists.{IsIn}
+use Rattle.meaning_records.specs.Tables.{Calls, kept_outcome}
+use Rattle.meaning_answers.specs.Answers as answers
+use Rattle.meaning_run.specs.Items.{Item, IsItem}
+use Rattle.meaning_run.specs.Machines.{AnswersItem, Transcript}
+use Rattle.meaning_commands.specs.declared.commands.Command.{Command}
+use Rattle.meaning_commands.specs.declared.commands.Command.TheVariants.{Put, Take, Remove, Ask, Plan, Sources, Kept, Quit, Nothing, Bad, BadName}
+use Rattle.meaning_commands.specs.declared.replies.Reply.{Reply}
+use Rattle.plain_derive.specs.Given.{calls_of, AreGiven}
+use Rattle.plain_derive.proofs.Lemmas.{given_are_calls}
+use Rattle.odin_store.specs.Held.{Held, Change, puts, drops, keeps, apply, StandsFor}
+use Rattle.odin_store.specs.Keeping.{store_keeping}
+use Rattle.kept_derive.specs.Runs.{keeps_of}
+use Rattle.odin_answers.specs.Answers.{Agrees, IsReply, MayHaveBegun}
+use Rattle.odin_answers.specs.Laws.{IsTrueFor}
+use Rattle.odin_answers.proofs.Lemmas.{kept_first, kept_by_either}
+use Rattle.odin_shell.specs.Filed.{DiskMeaning}
+use Rattle.odin_shell.specs.Language.{commands}
+use Rattle.odin_shell.specs.Machine.{State, Told, Makes, Step, MayLeave, IsLeft}
+use Rattle.odin_shell.specs.Laws.{IsMade}
+use Rattle.odin_shell.specs.Crashes.{ComesTo, IsCallOfAsk, ComesOfAsk, IsOurs, HoldsOurs, LeavesOurs}
+use Rattle.odin_shell.proofs.MadeLemmas.{after_both, kept_calls, edits_keep, edit_keeps, puts_keep, drops_keep, is_made, left_made, made_on, stays_true, left_true}
+
+-- ---- calls that are kept stay
+
+grows : (changes : List Change) (held : Held) (call : Call) (o : Outcome) → kept_outcome held.calls call ≡ Some o → kept_outcome (after store_keeping changes held).calls call ≡ Some o
+grows [] held call o e = e
+grows (puts name text ∷ changes) held call o e = grows changes (apply (puts name text) held) call o e
+grows (drops name ∷ changes) held call o e = grows changes (apply (drops name) held) call o e
+grows (keeps c outcome ∷ changes) held call o e = grows changes (apply (keeps c outcome) held) call o (kept_first held.calls ((c, outcome) ∷ []) call o e)
+
+-- what the first changes keep, all keep
+first_grows : (k : ℕ) (changes : List Change) (held : Held) (call : Call) (o : Outcome) → kept_outcome (after store_keeping (take k changes) held).calls call ≡ Some o
+    → kept_outcome (after store_keeping changes held).calls call ≡ Some o
+first_grows k changes held call o e =
+    ap (λ l. kept_outcome (after store_keeping l held).calls call) (sym (take-append-drop k changes))
+    ∙ ap (λ (h : Held). kept_outcome h.calls call) (after_both (take k changes) (drop k changes) held)
+    ∙ grows (drop k changes) (after store_keeping (take k changes) held) call o e
+
+there : (x y : Option Outcome) → ((o : Outcome) → x ≡ Some o → y ≡ Some o) → IsSome x → IsSome y
+there (Some o) y grows is = ap is_some (grows o refl)
+there None y grows is = absurd (let no : ⊥ = cc in no)
+
+-- ---- one item
+
+-- calls that an ask was given
+module _ (g : Graph) (old : State) (item : Item) (text : Text) (given : Calls) (is : IsItem commands item (Ask text)) where
+  run_ours : (n : Node) → answers.Asks g text n → AreGiven g old.held.sources (kept_outcome old.held.calls) n given → (call : Call) → IsIn call (calls_of given) → IsCallOfAsk g old item call
+  run_ours n asks are call i = record {
+    text = text;
+    is = is;
+    node = n;
+    asks = asks;
+    given = given;
+    from = λ outcomes agrees. given_are_calls g old.held.sources (kept_outcome old.held.calls) n given are outcomes agrees call i;
+  }
+
+  reply_ours : (said : Reply) (before now : Spawned) → IsReply g old.held.sources old.held.calls text said given before now → (call : Call) → IsIn call (calls_of given) → IsCallOfAsk g old item call
+  reply_ours said before now (inl answer) call i = elim answer.did [
+    | inl alone ↦ absurd (subst (λ (l : Calls). IsIn call (calls_of l)) alone.none i)
+    | inr d ↦ run_ours d.node d.asks d.run.are call i
+  ]
+  reply_ours said before now (inr refused) call i = run_ours refused.begun.node refused.begun.asks refused.begun.run.are call i
+
+  begun_ours : (before now : Spawned) → MayHaveBegun g old.held.sources old.held.calls text given before now → (call : Call) → IsIn call (calls_of given) → IsCallOfAsk g old item call
+  begun_ours before now (inl untouched) call i = absurd (subst (λ (l : Calls). IsIn call (calls_of l)) untouched.none i)
+  begun_ours before now (inr b) call i = run_ours b.1.node b.1.asks b.1.run.are call i
+
+-- a call that is kept behind an item was kept before it, or is one of its ask
+abbrev Either : Graph → State → Item → State → Call → Type 0
+Either g old item new call = IsSome (kept_outcome new.held.calls call) → IsSome (kept_outcome old.held.calls call) ⊎ IsCallOfAsk g old item call
+
+module _ (g : Graph) (old new : State) (item : Item) (call : Call) where
+  same_calls : new.held.calls ≡ old.held.calls → Either g old item new call
+  same_calls same kept = inl (subst (λ l. IsSome (kept_outcome l call)) same kept)
+
+  same_state : new ≡ old → Either g old item new call
+  same_state same = same_calls (ap (λ (s : State). s.held.calls) same)
+
+  more_calls : (given : Calls) → Makes (keeps_of given) old new → ((c : Call) → IsIn c (calls_of given) → IsCallOfAsk g old item c) → Either g old item new call
+  more_calls given makes ours kept =
+      elim (kept_by_either old.held.calls given call (subst (λ l. IsSome (kept_outcome l call)) (ap (λ (h : Held). h.calls) makes.held ∙ kept_calls given old.held) kept)) [
+        | inl was ↦ inl was
+        | inr i ↦ inr (ours call i)
+      ]
+
+  step_ours : (c : Command) (bytes : List ℕ) → IsItem commands item c → Step g old c item.body bytes new → Either g old item new call
+  step_ours (Put name count) bytes is step = same_calls (edits_keep name old new step.makes)
+  step_ours (Take name) bytes is step = same_calls (edits_keep name old new step.makes)
+  step_ours (Remove name) bytes is step = same_calls (edits_keep name old new step.makes)
+  step_ours (Ask text) bytes is step = more_calls step.given step.makes (reply_ours g old item text step.given is step.says.said old.tools new.tools step.says.holds)
+  step_ours (Plan text) bytes is step = same_state step.same
+  step_ours Sources bytes is step = same_state step.1
+  step_ours Kept bytes is step = same_state step.1
+  step_ours Quit bytes is step = same_state step.1
+  step_ours Nothing bytes is step = same_state step.1
+  step_ours Bad bytes is step = same_state step.1
+  step_ours (BadName count) bytes is step = same_state step.1
+
+  left_ours : (c : Command) → IsItem commands item c → MayLeave g old c item.body new → Either g old item new call
+  left_ours (Put name count) is may = same_calls (edit_keeps _ old new (λ change due. puts_keep name item.body change due.1) may.0)
+  left_ours (Take name) is may = same_calls (edit_keeps _ old new (λ change due. puts_keep name due.0 change due.3) may.0)
+  left_ours (Remove name) is may = same_calls (edit_keeps _ old new (drops_keep name) may.0)
+  left_ours (Ask text) is may = more_calls may.given may.makes (begun_ours g old item text may.given is old.tools new.tools may.begun)
+  left_ours (Plan text) is may = same_state may
+  left_ours Sources is may = same_state may
+  left_ours Kept is may = same_state may
+  left_ours Quit is may = same_state may
+  left_ours Nothing is may = same_state may
+  left_ours Bad is may = same_state may
+  left_ours (BadName count) is may = same_state may
+
+-- ---- all items
+
+-- an ask behind one more item
+behind_one : (g : Graph) (first mid : State) (item : Item) (items : List Item) (bytes : List ℕ) → AnswersItem commands (Step g) first item bytes mid → (call : Call) → ComesOfAsk g mid items call → ComesOfAsk g first (item ∷ items) call
+behind_one g first mid item items bytes a call c = record {
+  front = item ∷ c.front;
+  item = c.item;
+  rest = c.rest;
+  cuts = ap (λ l. item ∷ l) c.cuts;
+  replies = bytes ∷ c.replies;
+  old = c.old;
+  run = (mid, a, c.run);
+  is = c.is;
+}
+
+-- one of the first of the items, or of the one behind them
+at_front : (g : Graph) (first : State) (item : Item) (items : List Item) (call : Call) → IsCallOfAsk g first item call → ComesOfAsk g first (item ∷ items) call
+at_front g first item items call is = record { front = []; item = item; rest = items; cuts = refl; replies = []; old = first; run = refl; is = is }
+
+all_ours : (g : Graph) (first last : State) (items : List Item) (replies : List (List ℕ)) → Transcript commands (Step g) first items replies last → (call : Call) → IsSome (kept_outcome last.held.calls call) → IsOurs g first items call
+all_ours g first last [] [] run call kept = inl (subst (λ (s : State). IsSome (kept_outcome s.held.calls call)) run kept)
+all_ours g first last [] (bytes ∷ replies) run call kept = absurd run
+all_ours g first last (item ∷ items) [] run call kept = absurd run
+all_ours g first last (item ∷ items) (bytes ∷ replies) run call kept = elim (all_ours g run.0 last items replies run.2 call kept) [
+  | inl mid ↦ elim (step_ours g first run.0 item call run.1.command bytes run.1.item_is run.1.step mid) [
+    | inl was ↦ inl was
+    | inr is ↦ inr (at_front g first item items call is)
+  ]
+  | inr c ↦ inr (behind_one g first run.0 item items bytes run.1 call c)
+]
+
+longer : (g : Graph) (first : State) (items : List Item) (item : Item) (call : Call) → ComesOfAsk g first items call → ComesOfAsk g first (items ++ item ∷ []) call
+longer g first items item call c = record {
+  front = c.front;
+  item = c.item;
+  rest = c.rest ++ item ∷ [];
+  cuts = ap (λ l. l ++ item ∷ []) c.cuts ∙ append_assoc c.front (c.item ∷ c.rest) (item ∷ []);
+  replies = c.replies;
+  old = c.old;
+  run = c.run;
+  is = c.is;
+}
+
+come_ours : (g : Graph) (first : State) (items : List Item) (furthest : State) → ComesTo g first items furthest → (call : Call) → IsSome (kept_outcome furthest.held.calls call) → IsOurs g first items call
+come_ours g first items furthest (ComesTo.answered _ replies _ run) call kept = all_ours g first furthest items replies run call kept
+come_ours g first _ furthest (ComesTo.begun items replies state item command _ run is may) call kept = elim (left_ours g state furthest item call command is may kept) [
+  | inl was ↦ elim (all_ours g first state items replies run call was) [
+    | inl first_kept ↦ inl first_kept
+    | inr c ↦ inr (longer g first items item call c)
+  ]
+  | inr ask ↦ inr (record { front = items; item = item; rest = []; cuts = refl; replies = replies; old = state; run = run; is = ask })
+]
+
+come_made : (g : Graph) (first : State) (items : List Item) (furthest : State) → ComesTo g first items furthest → IsMade first furthest
+come_made g first items furthest (ComesTo.answered _ replies _ run) = is_made g first furthest items replies run
+come_made g first _ furthest (ComesTo.begun items replies state item command _ run is may) = made_on first state furthest (is_made g first state items replies run) (left_made g state furthest command item.body may)
+
+come_true : (g : Graph) (table : Table) (first : State) (items : List Item) (furthest : State) → IsTrueFor table first.tools first.held.calls → ComesTo g first items furthest → IsTrueFor table furthest.tools furthest.held.calls
+come_true g table first items furthest right (ComesTo.answered _ replies _ run) = stays_true g table first furthest items replies right run
+come_true g table first _ furthest right (ComesTo.begun items replies state item command _ run is may) =
+    left_true g table state furthest command item.body (stays_true g table first state items replies right run) may
+
+-- ---- images
+
+module _ (g : Graph) (first : State) (items : List Item) (furthest : State) (none : first.changes ≡ []) (comes : ComesTo g first items furthest) where
+  held_is : furthest.held ≡ after store_keeping furthest.changes first.held
+  held_is = let made = come_made g first items furthest comes in made.held ∙ ap (λ l. after store_keeping l first.held) (sym (made.list ∙ ap (λ l. l ++ made.made) none))
+
+  -- what the first changes keep is kept in the furthest state
+  kept_furthest : (k : ℕ) (call : Call) (o : Outcome) → kept_outcome (after store_keeping (take k furthest.changes) first.held).calls call ≡ Some o → kept_outcome furthest.held.calls call ≡ Some o
+  kept_furthest k call o e = ap (λ (h : Held). kept_outcome h.calls call) held_is ∙ first_grows k furthest.changes first.held call o e
+
+  holds_ours : (least : ℕ) (image : List ℕ) → IsPrefix store_keeping first.held least furthest.changes image → HoldsOurs g first items furthest least image
+  holds_ours least image some = record {
+    held = after store_keeping (take some.k furthest.changes) first.held;
+    stands = some.stands;
+    count = some.k;
+    at_least = some.at_least;
+    is = refl;
+    calls = λ call kept. come_ours g first items furthest comes call
+        (there (kept_outcome (after store_keeping (take some.k furthest.changes) first.held).calls call) (kept_outcome furthest.held.calls call) (kept_furthest some.k call) kept);
+    right = λ table right call o e. (let kept_true = come_true g table first items furthest right comes in kept_true.gives call o (kept_furthest some.k call o e));
+  }
+
+pub images_hold_ours : {D : Type 0} (disk : DiskMeaning D) (g : Graph) (text : Text) (first : State) (items : List Item) (start : Told D) (acknowledged furthest : State) (now : Told D)
+    → first.changes ≡ [] → IsQuiet (disk.told start.disk) → ComesTo g first items furthest → IsLeft disk g text first start acknowledged furthest now → LeavesOurs disk g first items start acknowledged furthest now
+images_hold_ours disk g text first items start acknowledged furthest now none quiet comes left =
+    let safe = left.safe.crash quiet in
+    record {
+      since = λ image was. holds_ours g first items furthest none comes 0 image (safe.crash.each image was);
+      left = λ image may. holds_ours g first items furthest none comes (length acknowledged.changes) image (safe.durable image may);
+    }
