@@ -50,7 +50,8 @@ fn note<T>(
     ensures same { result ≡ done }
     ensures ok { OnOk result ((bytes.new ≡ bytes.old) × (calls.new ≡ calls.old)) }
     ensures first { OnErr result (calls.old ≡ 0 → (bytes.new ≡ asked) × (calls.new ≡ 1)) }
-    ensures later { OnErr result (calls.old ≢ 0 → (bytes.new ≡ bytes.old) × (calls.new ≡ calls.old)) }
+    ensures later { OnErr result
+        (calls.old ≢ 0 → (bytes.new ≡ bytes.old) × (calls.new ≡ calls.old)) }
 {
     if done.is_err() && *calls == 0 {
         *bytes = asked;
