@@ -10,6 +10,7 @@ use Rattle.std.proofs.lemmas.Bool.Decides.{Decides-eqb}
 use Rattle.sequences.specs.Exact.{option_exact}
 use Rattle.object_values.specs.Exact.{call_exact}
 use Rattle.object_values.specs.declared.nodes.ParamValue.{ParamValue}
+use Rattle.object_values.specs.declared.calls.Call.{Call}
 use Rattle.object_values.specs.declared.calls.CallPart.{CallPart}
 use Rattle.content_store.specs.Bodies.{Bodies, place_of}
 use Rattle.kept_contents.specs.declared.held.HeldCall.{HeldCall}
@@ -44,12 +45,15 @@ label_fed part = fed.u32 part.slot ++ fed.slice fed.u8 part.label
 abbrev pair_fed : ParamValue → HashWrites
 pair_fed p = fed.slice fed.u8 p.param ++ fed.slice fed.u8 p.value
 
+abbrev pub call_fed : List (Option ℕ) → Call → HashWrites
+call_fed ids call =
+    fed.slice (fed.option fed.u64) ids
+    ++ fed.slice fed.u8 call.tool ++ fed.slice fed.u8 call.version
+    ++ fed.slice (fed.slice fed.u8) call.words ++ fed.slice pair_fed call.params
+    ++ fed.slice (fed.slice fed.u8) call.outs ++ flat_map label_fed call.parts
+
 abbrev pub fed_of : HeldCall → HashWrites
-fed_of held =
-    fed.slice (fed.option fed.u64) held.ids
-    ++ fed.slice fed.u8 held.call.tool ++ fed.slice fed.u8 held.call.version
-    ++ fed.slice (fed.slice fed.u8) held.call.words ++ fed.slice pair_fed held.call.params
-    ++ fed.slice (fed.slice fed.u8) held.call.outs ++ flat_map label_fed held.call.parts
+fed_of held = call_fed held.ids held.call
 
 -- Its `==` answers whether two are equal.
 pub held_exact : (x y : HeldCall) → Decides (held_eq.eq x y) (x ≡ y)

@@ -1,7 +1,7 @@
 // Calls by the numbers that their texts have in memory.
-ghost use Rattle.std.specs.Prelude.{◌≡◌, ◌≢◌, ℕ, List, Option, IfNone, IfOk, IfSome};
+ghost use Rattle.std.specs.Prelude.{◌≡◌, IfOk};
 ghost use Rattle.std.specs.List.{flat_map, fold};
-ghost use Rattle.kept_contents.specs.Held.{AreIdsOf, IsGrownFrom, IsHeld, IsIdOf, label_fed};
+ghost use Rattle.kept_contents.specs.Held.{AreIdsOf, IsGrownFrom, IsHeld, IsIdOf, call_fed, label_fed};
 
 use crate::table::ContentTable;
 use object_values::{Call, CallPart, Copied, Memory, Seq, Text};
@@ -32,14 +32,21 @@ impl Hash for HeldCall {
     ghost respects_eq = { (same_Alike fed_of held_exact).fed };
 
     fn hash<H: Hasher>(&self, state: &mut H) {
-        self.ids.hash(state);
-        self.call.tool.hash(state);
-        self.call.version.hash(state);
-        self.call.words.hash(state);
-        self.call.params.hash(state);
-        self.call.outs.hash(state);
-        hash_labels(self.call.parts.as_slice(), state);
+        feed_call(self.ids.as_slice(), &self.call, state);
     }
+}
+
+// Feeds the numbers of a call, and all of it but its texts.
+pub(crate) fn feed_call<H: Hasher>(ids: &[Option<u64>], call: &Call, state: &mut H)
+    ensures { state.new ≡ fold H.write state.old (call_fed ids.now call.now) }
+{
+    ids.hash(state);
+    call.tool.hash(state);
+    call.version.hash(state);
+    call.words.hash(state);
+    call.params.hash(state);
+    call.outs.hash(state);
+    hash_labels(call.parts.as_slice(), state);
 }
 
 // Feeds the slots and the labels of inputs.
@@ -49,59 +56,6 @@ fn hash_labels<H: Hasher>(parts: &[CallPart], state: &mut H)
     for part in parts {
         part.slot.hash(state);
         part.label.hash(state);
-    }
-}
-
-/// A call, where all texts of its inputs are held.
-pub fn find_call(
-    alloc: Global,
-    table: &ContentTable,
-    call: &Call,
-) -> Result<Option<HeldCall>, Memory>
-    ensures held { IfOk result (λ found. IfSome found (IsHeld table.now.texts)) }
-    ensures call { IfOk result (λ found. IfSome found (λ held. held.call ≡ call.now)) }
-    ensures none { IfOk result (λ found. IfNone found
-        ((ids : List (Option ℕ)) → ¬ AreIdsOf table.now.texts ids call.now.parts)) }
-{
-    match find_ids(alloc, table, call.parts.as_slice())? {
-        Some(ids) => {
-            let call = call.copy(alloc)?;
-            Ok(Some(HeldCall { ids, call }))
-        }
-        None => Ok(None),
-    }
-}
-
-fn find_ids(
-    alloc: Global,
-    table: &ContentTable,
-    parts: &[CallPart],
-) -> Result<Option<Seq<Option<u64>>>, Memory>
-    ensures some { IfOk result (λ found.
-        IfSome found (λ ids. AreIdsOf table.now.texts ids parts.now)) }
-    ensures none { IfOk result (λ found. IfNone found
-        ((ids : List (Option ℕ)) → ¬ AreIdsOf table.now.texts ids parts.now)) }
-{
-    let mut ids = Seq::new(alloc);
-    for part in parts {
-        match find_id(table, &part.body) {
-            Some(id) => ids.push(id)?,
-            None => return Ok(None),
-        }
-    }
-    Ok(Some(ids))
-}
-
-fn find_id(table: &ContentTable, body: &Option<Text>) -> Option<Option<u64>>
-    ensures some { IfSome result (λ id. IsIdOf table.now.texts id body.now) }
-    ensures none { IfNone result ((id : Option ℕ) → ¬ IsIdOf table.now.texts id body.now) }
-{
-    match body {
-        Some(text) => match table.find(text.as_slice()) {
-            Some(id) => Some(Some(id)),
-            None => None,
-        },
-        None => Some(None),
     }
 }
 

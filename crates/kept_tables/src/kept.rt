@@ -15,7 +15,7 @@ use crate::looks::Looks;
 use crate::prepared::Prepared;
 use call_classes::{fits, is_well_formed};
 use indexmap::IndexMap;
-use kept_contents::{ContentTable, HeldCall, Shared, call_of, find_call, outcome_of};
+use kept_contents::{ContentTable, HeldCall, Shared, SoughtCall, call_of, find_ids, outcome_of};
 use object_values::{Call, Copied, Memory, Outcome, Text, Value};
 use std::alloc::Global;
 use std::hash::Hash;
@@ -142,10 +142,14 @@ impl Kept {
     pub fn outcome(&self, alloc: Global, call: &Call) -> Result<Option<Outcome>, Memory>
         ensures { IfOk result (λ found. found ≡ kept_outcome self.now.tables.calls call.now) }
     {
-        let Some(held) = find_call(alloc, &self.contents, call)? else {
+        let Some(ids) = find_ids(alloc, &self.contents, call)? else {
             return Ok(None);
         };
-        match self.calls.get(&held) {
+        let sought = SoughtCall {
+            ids: ids.as_slice(),
+            call,
+        };
+        match self.calls.get(sought) {
             Some(outcome) => Ok(Some(outcome.copy(alloc)?)),
             None => Ok(None),
         }
