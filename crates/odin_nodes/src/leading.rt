@@ -1,11 +1,11 @@
 // Nodes that are led on along chosen paths.
 ghost use Rattle.std.specs.Prelude.{◌≡◌, IfOk};
-ghost use Rattle.meaning_nodes.specs.Nodes.{extended, onward_named};
+ghost use Rattle.meaning_nodes.specs.Nodes.{onward_named};
 ghost use Rattle.path_planner.specs.Ends.{plans_of};
 
 use crate::making::put_makers;
 use crate::types::reached_type;
-use object_values::{Copied, Memory, Node};
+use object_values::{Copied, Memory, Node, Step};
 use path_planner::Plans;
 use std::alloc::Global;
 use type_graph::Graph;
@@ -22,24 +22,35 @@ pub fn onward(
     requires made { plans.now ≡ plans_of graph.now }
     ensures { IfOk result (λ led. led ≡ onward_named graph.now node.now of.now) }
 {
+    onward_from(alloc, graph, plans, node.copy(alloc)?, of)
+}
+
+/// The same of a node that is given away: it becomes the one further along. A path is mostly one
+/// maker.
+pub fn onward_from(
+    alloc: Global,
+    graph: &Graph,
+    plans: &Plans,
+    node: Node,
+    of: &[u8],
+) -> Result<Option<Node>, Memory>
+    requires made { plans.now ≡ plans_of graph.now }
+    ensures { IfOk result (λ led. led ≡ onward_named graph.now node of.now) }
+{
     let Some(to) = graph.type_named(of) else {
         return Ok(None);
     };
-    let Some(at) = reached_type(graph, node) else {
+    let Some(at) = reached_type(graph, &node) else {
         return Ok(None);
     };
+    let mut further = node;
+    if let Some((maker, _)) = plans.direct(graph, at, to) {
+        further.steps.push(Step::Maker(maker))?;
+        return Ok(Some(further));
+    }
     let Some(path) = plans.plan(alloc, graph, at, to)? else {
         return Ok(None);
     };
-    let further = extended(alloc, node, path.as_slice())?;
+    put_makers(path.as_slice(), &mut further.steps)?;
     Ok(Some(further))
-}
-
-// The node with these makers behind its steps.
-fn extended(alloc: Global, node: &Node, path: &[u32]) -> Result<Node, Memory>
-    ensures { IfOk result (λ further. further ≡ extended node.now path.now) }
-{
-    let mut further = node.copy(alloc)?;
-    put_makers(path, &mut further.steps)?;
-    Ok(further)
 }

@@ -15,7 +15,7 @@ mod types;
 
 pub use fault::NodeFault;
 pub use inherited::{Inherited, inherit};
-pub use leading::onward;
+pub use leading::{onward, onward_from};
 pub use making::{node_from, node_of};
 pub use names::{label_of, node_text};
 pub use picking::{Picked, pick};

@@ -7,7 +7,7 @@ ghost use Rattle.path_planner.specs.Ends.{plans_of};
 
 use object_values::{Bytes, Copied, Memory, Node, Seq, ToolDecl};
 use odin_bytes::Name;
-use odin_nodes::onward;
+use odin_nodes::onward_from;
 use path_planner::Plans;
 use std::alloc::Global;
 use task_needs::{Results, is_present};
@@ -80,5 +80,5 @@ pub(crate) fn scan_node(
         params: node.params.copy(alloc)?,
         steps: Seq::new(alloc),
     };
-    onward(alloc, graph, plans, &named, of.as_slice())
+    onward_from(alloc, graph, plans, named, of.as_slice())
 }

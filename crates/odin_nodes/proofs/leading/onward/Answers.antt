@@ -1,7 +1,0 @@
--- The type that is reached is there.
-use Rattle.std.proofs.Common.{sym}
-use Rattle.odin_nodes.proofs.TypeLemmas.{reached_below}
-use Rattle.odin_nodes.proofs.leading.onward.Goals as goal
-
-pub plan-requires-clause-from : goal.plan-requires-clause-from
-plan-requires-clause-from c = reached_below c.args.graph.now c.args.node.now c.in-Some-reached_type.at (sym c.in-Some-reached_type.ensures)
