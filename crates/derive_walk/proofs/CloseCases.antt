@@ -5,9 +5,13 @@ use Rattle.object_values.specs.declared.nodes.Node.{Node}
 use Rattle.meaning_texts.specs.Limits.{height_limit}
 use Rattle.meaning_texts.specs.Lists.{IsIn}
 use Rattle.meaning_texts.proofs.Lemmas.{value_of_some}
-use Rattle.walk_tables.specs.Tables.{Waits, done_in, height_in, are_done, top_of}
+use Rattle.node_tasks.specs.declared.needed.Needed.{Needed}
+use Rattle.node_tasks.specs.Needed.{IsNeeded}
+use Rattle.walk_tables.specs.declared.survey.Survey.{Survey}
+use Rattle.walk_tables.proofs.Lemmas.{none_unvisited}
+use Rattle.walk_tables.specs.Tables.{Waits, done_in, height_in, results_of, are_done, top_of}
 use Rattle.derive_walk.specs.declared.walk.Walk.{Walk}
-use Rattle.derive_walk.specs.Paths.{IsLast, IsClosing, IsTall, AreVisited}
+use Rattle.derive_walk.specs.Paths.{IsLast, IsClosing, IsTall, IsWhole, AreVisited}
 use Rattle.derive_walk.specs.States.{heights_in, IsWaiting, HoldsIn}
 use Rattle.derive_walk.specs.Worlds.{World}
 use Rattle.derive_walk.proofs.Added.{holds_with_waiting}
@@ -15,6 +19,19 @@ use Rattle.derive_walk.proofs.ClosingLemmas.{last_fits, last_is_new}
 use Rattle.derive_walk.proofs.NeedLemmas.{at_most_limit, waits_at, none_there, none_runs}
 use Rattle.derive_walk.proofs.Tables.{done_or_waiting}
 use Rattle.derive_walk.proofs.TopLemmas.{one_at_top, one_not_done}
+
+module _ (w : World) (walk : Walk) (n : Node) (needed : Needed) (survey : Survey) (whole : IsWhole w walk n needed survey) where
+  pub whole_visited : AreVisited w walk n whole.surveyed.needs
+  whole_visited = record {
+    listed = whole.surveyed.listed;
+    each = none_unvisited (heights_in walk) whole.surveyed.needs (sym (ap (λ (s : Survey). s.unvisited) whole.surveyed.is) ∙ whole.visited);
+  }
+
+  pub whole_top : survey.top ≡ top_of (heights_in walk) whole.surveyed.needs
+  whole_top = ap (λ (s : Survey). s.top) whole.surveyed.is
+
+  pub whole_done : survey.done ≡ are_done walk.done whole.surveyed.needs
+  whole_done = ap (λ (s : Survey). s.done) whole.surveyed.is
 
 module _ (w : World) (walk : Walk) (holds : HoldsIn w walk) (n : Node) (last : IsLast w walk n) (needs : List Node) (visited : AreVisited w walk n needs) where
   -- a need is as high as the limit
@@ -27,8 +44,8 @@ module _ (w : World) (walk : Walk) (holds : HoldsIn w walk) (n : Node) (last : I
         record { last = n; is = last; needs = needs; visited = visited; need = m.0; one = m.1; tall = m.2 ∙ ap (λ k. Some k) same }
   ]
 
-  pub is_closing : are_done walk.done needs ≡ true → top_of (heights_in walk) needs < height_limit → IsClosing w walk n (top_of (heights_in walk) needs + 1)
-  is_closing done low = record { needs = needs; listed = visited.listed; done = done; above = refl; high = omega (arith, low) }
+  pub is_closing : (needed : Needed) → IsNeeded w.graph n (results_of walk.done) needed → are_done walk.done needs ≡ true → top_of (heights_in walk) needs < height_limit → IsClosing w walk n needed (top_of (heights_in walk) needs + 1)
+  is_closing needed found done low = record { found = found; needs = needs; listed = visited.listed; done = done; above = refl; high = omega (arith, low) }
 
   -- a need waits
   pub waiting_need : are_done walk.done needs ≡ false → (m : Node) × IsIn m needs × (done_in walk.done m ≡ None) × ((k : ℕ) × (height_in walk.waiting m ≡ Some k))

@@ -13,6 +13,7 @@ use Rattle.meaning_derive.specs.Chains.{Chain, IsNeed}
 use Rattle.meaning_derive.specs.Derive.{derive, HasHeight}
 use Rattle.meaning_derive.specs.Calls.{Runs}
 use Rattle.meaning_derive.proofs.Lemmas.{grows_to, settles_to, height_above, none_by_call, one_run}
+use Rattle.node_tasks.specs.declared.needed.Needed.{Needed}
 use Rattle.walk_tables.specs.declared.done.Done.{Done}
 use Rattle.walk_tables.specs.Tables.{done_in, results_of, top_of}
 use Rattle.derive_walk.specs.declared.walk.Walk.{Walk}
@@ -56,7 +57,7 @@ module _ (w : World) (walk : Walk) (n : Node) (last : IsLast w walk n) where
 
 -- ---- needs that are done
 
-module _ (w : World) (walk : Walk) (holds : HoldsIn w walk) (n : Node) (height : ℕ) (closing : IsClosing w walk n height) where
+module _ (w : World) (walk : Walk) (holds : HoldsIn w walk) (n : Node) {needed : Needed} (height : ℕ) (closing : IsClosing w walk n needed height) where
   need_done : (m : Node) → IsIn m closing.needs → (d : Done) × (done_in walk.done m ≡ Some d)
   need_done m i = each_done walk.done closing.needs closing.done m i
 

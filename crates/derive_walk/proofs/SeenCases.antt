@@ -4,6 +4,7 @@ use Rattle.object_values.specs.declared.nodes.Node.{Node}
 use Rattle.object_values.specs.declared.views.View.{View}
 use Rattle.object_values.specs.declared.calls.Call.{Call}
 use Rattle.meaning_texts.specs.Lists.{IsIn}
+use Rattle.node_tasks.specs.declared.needed.Needed.{Needed}
 use Rattle.walk_tables.specs.declared.done.Done.{Done}
 use Rattle.walk_tables.specs.Tables.{Entries, Waits, results_of}
 use Rattle.walk_tables.specs.Calls.{put_in, AreOnce}
@@ -22,7 +23,7 @@ keep_put call wanted more same c i = subst (λ l. IsIn c l) (sym same) (put_keep
 pub goes_wanting : (walk : Walk) (call : Call) (more : List Call) → more ≡ put_in call walk.wanted → GoesOnFrom walk (record walk { wanted = more })
 goes_wanting walk call more same = record { root = refl; wanted = keep_put call walk.wanted more same; keeps = λ m k e. e }
 
-module _ (w : World) (walk : Walk) (holds : HoldsIn w walk) (n : Node) (height : ℕ) (last : IsLast w walk n) (closing : IsClosing w walk n height) where
+module _ (w : World) (walk : Walk) (holds : HoldsIn w walk) (n : Node) {needed : Needed} (height : ℕ) (last : IsLast w walk n) (closing : IsClosing w walk n needed height) where
   pub settled_holds : (view : View) → HasSettled w n (results_of walk.done) view → (done : Entries) → done ≡ walk.done ++ (n, record { view = view; height = height }) ∷ [] → HoldsIn w (record walk { done = done })
   settled_holds view so done same =
       let d : Done = record { view = view; height = height } in

@@ -6,8 +6,12 @@ use Rattle.meaning_texts.specs.Lists.{IsIn}
 use Rattle.meaning_nodes.specs.Nodes.{Fits}
 use Rattle.meaning_tasks.specs.Needs.{Needs}
 use Rattle.meaning_derive.specs.Chains.{Chain, AreDifferent}
+use Rattle.node_tasks.specs.declared.needed.Needed.{Needed}
+use Rattle.node_tasks.specs.Needed.{IsNeeded}
 use Rattle.walk_tables.specs.Tables.{results_of, are_done, top_of}
 use Rattle.walk_tables.specs.declared.found.Found.{Found}
+use Rattle.walk_tables.specs.declared.survey.Survey.{Survey}
+use Rattle.walk_tables.specs.Surveys.{survey_of}
 use Rattle.derive_walk.specs.declared.walk.Walk.{Walk}
 use Rattle.derive_walk.specs.States.{heights_in}
 use Rattle.derive_walk.specs.Walks.{EndsWith}
@@ -50,9 +54,25 @@ pub record AreVisited (w : World) (walk : Walk) (n : Node) (needs : List Node) :
   pub listed : Needs w.graph n (results_of walk.done) needs
   pub each : (m : Node) → IsIn m needs → IsSome (heights_in walk m)
 
--- The node may be closed at the height: its needs are done, and the height is one above the
--- greatest of theirs.
-pub record IsClosing (w : World) (walk : Walk) (n : Node) (height : ℕ) : Type 0 where
+-- This was found of the needs of the node by the results so far.
+pub record IsSurveyed (w : World) (walk : Walk) (n : Node) (survey : Survey) : Type 0 where
+  pub needs : List Node
+  pub listed : Needs w.graph n (results_of walk.done) needs
+  pub is : survey ≡ survey_of walk.done walk.waiting needs
+
+-- A whole round of the node: this is what it needs by the results so far, this was found of its
+-- needs, and each was visited.
+pub record IsWhole (w : World) (walk : Walk) (n : Node) (needed : Needed)
+    (survey : Survey) : Type 0 where
+  pub found : IsNeeded w.graph n (results_of walk.done) needed
+  pub surveyed : IsSurveyed w walk n survey
+  pub visited : survey.unvisited ≡ []
+
+-- The node may be closed at the height: this is what it needs, its needs are done, and the height
+-- is one above the greatest of theirs.
+pub record IsClosing (w : World) (walk : Walk) (n : Node) (needed : Needed)
+    (height : ℕ) : Type 0 where
+  pub found : IsNeeded w.graph n (results_of walk.done) needed
   pub needs : List Node
   pub listed : Needs w.graph n (results_of walk.done) needs
   pub done : are_done walk.done needs ≡ true

@@ -1,7 +1,7 @@
 // The closing of a node whose needs were all visited.
 ghost use Rattle.std.specs.Prelude.{◌≡◌, ◌+◌, OnOk, IfOk};
 ghost use Rattle.derive_walk.specs.Looks.{AreFew, lost, met_in};
-ghost use Rattle.derive_walk.specs.Paths.{IsClosing, IsLast, AreVisited};
+ghost use Rattle.derive_walk.specs.Paths.{IsClosing, IsLast, IsWhole};
 ghost use Rattle.derive_walk.specs.Settings.{IsSetting, world_in};
 ghost use Rattle.derive_walk.specs.States.{HoldsIn, GoesOnFrom, Visited, AfterVisit};
 
@@ -10,11 +10,12 @@ use crate::known::Known;
 use crate::setting::Setting;
 use crate::settling::{Closed, settle_node};
 use crate::walk::Walk;
+use node_tasks::Needed;
 use object_values::{Copied, HEIGHT_LIMIT, Memory, Node};
 use odin_outside::Steps;
 use std::alloc::Global;
 use std::sync::ledger::Ledger;
-use walk_tables::{Done, Found, all_done, tallest};
+use walk_tables::{Done, Found, Survey};
 
 /// Takes the node, the last of the path, into the tables, or finds a chain for which the root is
 /// too deep.
@@ -22,30 +23,31 @@ pub(crate) fn close<K: Known, L: Ledger>(
     alloc: Global,
     setting: &Setting<'_, K>,
     walk: &mut Walk,
-    needs: &[Node],
     node: Node,
+    needed: &Needed,
+    survey: &Survey,
     steps: &mut Steps<L>,
 ) -> Result<Option<Found>, Memory>
     requires set { IsSetting K.kept setting.now }
     requires holds { HoldsIn (world_in K.kept setting.now) walk.old }
     requires last { IsLast (world_in K.kept setting.now) walk.old node }
-    requires visited { AreVisited (world_in K.kept setting.now) walk.old node needs.now }
+    requires whole { IsWhole (world_in K.kept setting.now) walk.old node needed.now survey.now }
     ensures on { GoesOnFrom walk.old walk.new }
     ensures holds { HoldsIn (world_in K.kept setting.now) walk.new }
     ensures after { let w = world_in K.kept setting.now in
         IfOk result (AfterVisit w walk.old walk.new node) }
     ensures counted { AreFew (met_in walk.old) (met_in walk.new) steps.old steps.new (lost result) }
 {
-    let top = tallest(&walk.done, &walk.waiting, needs);
-    if top >= HEIGHT_LIMIT as u32 {
+    if survey.top >= HEIGHT_LIMIT as u32 {
         let chain = descend(alloc, setting, walk)?;
         return Ok(Some(Found::Deep(chain)));
     }
-    if all_done(&walk.done, needs) {
-        close_seen(alloc, setting, walk, node, top + 1, steps)?;
+    let height = survey.top + 1;
+    if survey.done {
+        close_seen(alloc, setting, walk, node, needed, height, steps)?;
         return Ok(None);
     }
-    walk.waiting.add(node, top + 1)?;
+    walk.waiting.add(node, height)?;
     Ok(None)
 }
 
@@ -56,20 +58,29 @@ fn close_seen<K: Known, L: Ledger>(
     setting: &Setting<'_, K>,
     walk: &mut Walk,
     node: Node,
+    needed: &Needed,
     height: u32,
     steps: &mut Steps<L>,
 ) -> Result<(), Memory>
     requires set { IsSetting K.kept setting.now }
     requires holds { HoldsIn (world_in K.kept setting.now) walk.old }
     requires last { IsLast (world_in K.kept setting.now) walk.old node }
-    requires closing { IsClosing (world_in K.kept setting.now) walk.old node height }
+    requires closing { IsClosing (world_in K.kept setting.now) walk.old node needed.now height }
     ensures on { GoesOnFrom walk.old walk.new }
     ensures holds { HoldsIn (world_in K.kept setting.now) walk.new }
     ensures visited { let w = world_in K.kept setting.now in
         OnOk result (Visited w walk.old walk.new node) }
     ensures counted { AreFew (met_in walk.old) (met_in walk.new) steps.old steps.new (lost result) }
 {
-    match settle_node(alloc, setting, &walk.done, &walk.wanted, &node, steps)? {
+    match settle_node(
+        alloc,
+        setting,
+        &walk.done,
+        &walk.wanted,
+        &node,
+        needed,
+        steps,
+    )? {
         Closed::Settled(view) => {
             walk.done.add(node, Done { view, height })?;
             Ok(())

@@ -6,6 +6,7 @@ ghost use Rattle.meaning_nodes.specs.Nodes.{Fits};
 ghost use Rattle.meaning_nodes.specs.Values.{inherit};
 ghost use Rattle.meaning_tasks.specs.Settle.{given_own};
 ghost use Rattle.meaning_tasks.specs.Calls.{CallOf};
+ghost use Rattle.node_tasks.specs.Needed.{IsNeeded};
 ghost use Rattle.walk_tables.specs.Tables.{results_of};
 ghost use Rattle.derive_walk.specs.Looks.{LooksOnce};
 ghost use Rattle.derive_walk.specs.Settings.{IsSetting, world_in};
@@ -13,7 +14,7 @@ ghost use Rattle.derive_walk.specs.Settled.{AreOutside, IsClosed, SettlesIn};
 
 use crate::known::Known;
 use crate::setting::Setting;
-use node_tasks::{call_for, settle};
+use node_tasks::{Needed, call_for, settle};
 use object_sources::Sources;
 use object_values::{
     Bytes, Call, Copied, Memory, Message, Node, Outcome, Seq, Status, Value, View,
@@ -39,10 +40,12 @@ pub(crate) fn settle_node<K: Known, L: Ledger>(
     done: &Table,
     wanted: &Wanted,
     node: &Node,
+    needed: &Needed,
     steps: &mut Steps<L>,
 ) -> Result<Closed, Memory>
     requires set { IsSetting K.kept setting.now }
     requires fits { Fits setting.now.graph.now node.now }
+    requires needed { IsNeeded setting.now.graph.now node.now (results_of done.now) needed.now }
     requires outside { AreOutside (world_in K.kept setting.now) wanted.now }
     ensures closed { let w = world_in K.kept setting.now in
         IfOk result (IsClosed w node.now (results_of done.now)) }
@@ -52,11 +55,11 @@ pub(crate) fn settle_node<K: Known, L: Ledger>(
         let view = source_view(alloc, setting.graph, setting.sources, node)?;
         return Ok(Closed::Settled(view));
     }
-    let Some(call) = call_for(alloc, setting.graph, setting.plans, node, done)? else {
-        let view = settle_by(alloc, setting, done, node, None)?;
+    let Some(call) = call_for(alloc, setting.graph, setting.plans, node, needed, done)? else {
+        let view = settle_by(alloc, setting, done, node, needed, None)?;
         return Ok(Closed::Settled(view));
     };
-    settle_call(alloc, setting, done, wanted, node, call, steps)
+    settle_call(alloc, setting, done, wanted, node, needed, call, steps)
 }
 
 // The same of a node with a call.
@@ -66,11 +69,13 @@ fn settle_call<K: Known, L: Ledger>(
     done: &Table,
     wanted: &Wanted,
     node: &Node,
+    needed: &Needed,
     call: Call,
     steps: &mut Steps<L>,
 ) -> Result<Closed, Memory>
     requires set { IsSetting K.kept setting.now }
     requires fits { Fits setting.now.graph.now node.now }
+    requires needed { IsNeeded setting.now.graph.now node.now (results_of done.now) needed.now }
     requires outside { AreOutside (world_in K.kept setting.now) wanted.now }
     requires called { CallOf setting.now.graph.now node.now (results_of done.now) (Some call) }
     requires stepped { node.now.steps ≢ [] }
@@ -79,7 +84,7 @@ fn settle_call<K: Known, L: Ledger>(
     ensures counted { LooksOnce wanted.now steps.old steps.new result }
 {
     if let Some(outcome) = setting.given.outcome(&call) {
-        let view = settle_by(alloc, setting, done, node, Some(outcome))?;
+        let view = settle_by(alloc, setting, done, node, needed, Some(outcome))?;
         return Ok(Closed::Settled(view));
     }
     if wanted.contains(&call) {
@@ -88,7 +93,7 @@ fn settle_call<K: Known, L: Ledger>(
     let Some(outcome) = setting.known.outcome(alloc, &call, steps)? else {
         return Ok(Closed::Stops(call));
     };
-    let view = settle_by(alloc, setting, done, node, Some(&outcome))?;
+    let view = settle_by(alloc, setting, done, node, needed, Some(&outcome))?;
     Ok(Closed::Settled(view))
 }
 
@@ -98,16 +103,26 @@ fn settle_by<K: Known>(
     setting: &Setting<'_, K>,
     done: &Table,
     node: &Node,
+    needed: &Needed,
     outcome: Option<&Outcome>,
 ) -> Result<View, Memory>
     requires set { IsSetting K.kept setting.now }
     requires fits { Fits setting.now.graph.now node.now }
+    requires needed { IsNeeded setting.now.graph.now node.now (results_of done.now) needed.now }
     requires stepped { node.now.steps ≢ [] }
     ensures { let given = option_map (λ o. o.now) outcome.entry in
         let w = world_in K.kept setting.now in
         IfOk result (SettlesIn w node.now (results_of done.now) given) }
 {
-    settle(alloc, setting.graph, setting.plans, node, done, outcome)
+    settle(
+        alloc,
+        setting.graph,
+        setting.plans,
+        node,
+        needed,
+        done,
+        outcome,
+    )
 }
 
 /// The view of a source: its text, or that there is none.

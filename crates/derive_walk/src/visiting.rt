@@ -1,20 +1,24 @@
 // The visit of a node, and of what it needs.
 ghost use Rattle.std.specs.Prelude.{IfOk};
+ghost use Rattle.object_values.specs.declared.nodes.Node.{Node as NodeValue};
+ghost use Rattle.node_tasks.specs.Needed.{IsNeeded};
+ghost use Rattle.walk_tables.specs.Tables.{results_of};
 ghost use Rattle.derive_walk.specs.Looks.{AreFew, lost, met_in};
-ghost use Rattle.derive_walk.specs.Paths.{IsNext};
+ghost use Rattle.derive_walk.specs.Paths.{IsNext, IsSurveyed};
 ghost use Rattle.derive_walk.specs.Settings.{IsSetting, world_in};
 ghost use Rattle.derive_walk.specs.States.{HoldsIn, GoesOnFrom, AfterVisit};
+ghost use Rattle.derive_walk.specs.Worlds.{World};
 
 use crate::closing::close;
 use crate::known::Known;
 use crate::setting::Setting;
 use crate::walk::Walk;
-use node_tasks::needs;
+use node_tasks::Needed;
 use object_values::{Copied, Memory, Node};
 use odin_outside::Steps;
 use std::alloc::Global;
 use std::sync::ledger::Ledger;
-use walk_tables::{Found, chain_to, height_of};
+use walk_tables::{Found, Survey, chain_to, height_of};
 
 /// Visits a node that was not visited, and what it needs.
 pub(crate) fn visit<K: Known, L: Ledger>(
@@ -36,14 +40,18 @@ pub(crate) fn visit<K: Known, L: Ledger>(
     let length = walk.path.len();
     walk.path.push(node.copy(alloc)?)?;
     'rounds: loop {
-        let listed = needs(alloc, setting.graph, setting.plans, &node, &walk.done)?;
-        let needs = listed.as_slice();
-        let mut whole = true;
-        for need in needs {
+        let needed = Needed::find(alloc, setting.graph, setting.plans, &node, &walk.done)?;
+        let survey = survey_needs(alloc, walk, &needed)?;
+        let unvisited = survey.unvisited.as_slice();
+        if survey.unvisited.is_empty() {
+            let found = close(alloc, setting, walk, node, &needed, &survey, steps)?;
+            walk.path.truncate(length);
+            return Ok(found);
+        }
+        for need in unvisited {
             if height_of(&walk.done, &walk.waiting, need).is_some() {
                 continue;
             }
-            whole = false;
             if let Some(found) = chain_to(alloc, &walk.path, need)? {
                 return Ok(Some(found));
             }
@@ -52,10 +60,16 @@ pub(crate) fn visit<K: Known, L: Ledger>(
                 return Ok(Some(found));
             }
         }
-        if whole {
-            let found = close(alloc, setting, walk, needs, node, steps)?;
-            walk.path.truncate(length);
-            return Ok(found);
-        }
     }
+}
+
+// What is found of these needs.
+fn survey_needs(alloc: Global, walk: &Walk, needed: &Needed) -> Result<Survey, Memory>
+    ensures { (w : World) (n : NodeValue) →
+        IsNeeded w.graph n (results_of walk.now.done) needed.now →
+        IfOk result (IsSurveyed w walk.now n) }
+{
+    let names = needed.names.as_slice();
+    let survey = Survey::of_needs(alloc, &walk.done, &walk.waiting, &needed.counted, names)?;
+    Ok(survey)
 }

@@ -60,10 +60,10 @@ module _ (g : Graph) (n : Node) (seen : Results) (names : List Text) (reached : 
         ∙ ap (λ s. call_where (is_empty (led_missing t.extras) && all_valued (values_of seen) (counted_needs s (values_of seen) names))) (sym runs)
 
     -- by whether the tool is run
-    module _ (run : Bool) (extras : List Led) (slice : List Text) (led : extras ≡ t.extras) (same : slice ≡ names)
-        (is : run ≡ (is_empty (led_missing extras) && all_valued (values_of seen) (counted_needs (task_of g n) (values_of seen) slice))) where
+    module _ (run : Bool) (extras : List Led) (nodes : List Node) (led : extras ≡ t.extras) (counted : nodes ≡ counted_needs (task_of g n) (values_of seen) names)
+        (is : run ≡ (is_empty (led_missing extras) && all_valued (values_of seen) nodes)) where
       runs_so : run ≡ (is_empty (led_missing t.extras) && all_valued (values_of seen) (counted_needs (task_of g n) (values_of seen) names))
-      runs_so = is ∙ (λ i. is_empty (led_missing (led i)) && all_valued (values_of seen) (counted_needs (task_of g n) (values_of seen) (same i)))
+      runs_so = is ∙ (λ i. is_empty (led_missing (led i)) && all_valued (values_of seen) (counted i))
 
       pub not_run : run ≡ false → CallOf g n seen None
       not_run h = record { names = names; reached = reached; is = sym (call_is_where ∙ ap call_where (sym runs_so ∙ h)) }

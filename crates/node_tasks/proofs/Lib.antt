@@ -6,3 +6,4 @@ mod NeedLemmas
 mod NameLemmas
 mod ListedLemmas
 mod SettleLemmas
+pub mod Lemmas

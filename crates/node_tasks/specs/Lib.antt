@@ -2,3 +2,4 @@ pub mod Tasks
 pub mod Reading
 pub mod Settling
 pub mod Calling
+pub mod Needed

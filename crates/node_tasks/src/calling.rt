@@ -5,15 +5,16 @@ ghost use Rattle.meaning_texts.specs.Limits.{extra_bound};
 ghost use Rattle.meaning_texts.specs.Lists.{is_empty};
 ghost use Rattle.meaning_graph_text.specs.Grammar.{IsSpellable};
 ghost use Rattle.meaning_nodes.specs.Nodes.{Fits};
-ghost use Rattle.meaning_tasks.specs.Tasks.{extra_led, led_missing, task_of, tool_task};
-ghost use Rattle.meaning_tasks.specs.Needs.{counted_needs, values_of};
+ghost use Rattle.meaning_tasks.specs.Tasks.{extra_led, led_missing, tool_task};
+ghost use Rattle.meaning_tasks.specs.Needs.{values_of};
 ghost use Rattle.meaning_tasks.specs.Calls.{CallOf, all_valued, tool_call};
 ghost use Rattle.path_planner.specs.Ends.{plans_of};
+ghost use Rattle.task_needs.specs.Counting.{nodes_in};
 ghost use Rattle.node_tasks.specs.Calling.{call_with};
+ghost use Rattle.node_tasks.specs.Needed.{IsNeeded};
 
 use crate::base::base_of;
-use crate::names::reached_names;
-use crate::needing::counted_needs;
+use crate::needed::Needed;
 use crate::outs::{outs_of, used_params};
 use crate::task::tool_at;
 use crate::tool::extras_of;
@@ -21,7 +22,7 @@ use object_values::{Call, CallPart, Copied, MakerDecl, Memory, Node, Seq, ToolDe
 use odin_bytes::Name;
 use path_planner::Plans;
 use std::alloc::Global;
-use task_needs::{Led, Results, call_parts};
+use task_needs::{Counted, Led, Results, call_parts};
 use type_graph::Graph;
 
 /// The call of the node, and none where no tool is run: where an extra has no path, or where a
@@ -31,28 +32,20 @@ pub fn call_for<R: Results>(
     graph: &Graph,
     plans: &Plans,
     node: &Node,
+    needed: &Needed,
     seen: &R,
 ) -> Result<Option<Call>, Memory>
     requires spellable { IsSpellable graph.now }
     requires made { plans.now ≡ plans_of graph.now }
     requires fits { Fits graph.now node.now }
+    requires needed { IsNeeded graph.now node.now (R.results seen.now) needed.now }
     ensures { IfOk result (CallOf graph.now node.now (R.results seen.now)) }
 {
-    let names = reached_names(alloc, graph, plans, node, seen)?;
     let Some((maker, tool)) = tool_at(graph, node) else {
         return Ok(None);
     };
     let extras = extras_of(alloc, graph, plans, node, tool)?;
-    let runs = is_run(
-        alloc,
-        graph,
-        plans,
-        node,
-        extras.as_slice(),
-        names.as_slice(),
-        seen,
-    )?;
-    if !runs {
+    if !is_run(extras.as_slice(), &needed.counted, seen) {
         return Ok(None);
     }
     let call = tool_call(
@@ -62,34 +55,20 @@ pub fn call_for<R: Results>(
         maker,
         tool,
         extras.as_slice(),
-        names.as_slice(),
+        needed.names.as_slice(),
         seen,
     )?;
     Ok(Some(call))
 }
 
 // Whether the tool is run.
-fn is_run<R: Results>(
-    alloc: Global,
-    graph: &Graph,
-    plans: &Plans,
-    node: &Node,
-    extras: &[Led],
-    names: &[Name],
-    seen: &R,
-) -> Result<bool, Memory>
-    requires made { plans.now ≡ plans_of graph.now }
-    requires fits { Fits graph.now node.now }
+#[tactic(auto, using(crate::proofs::CallLemmas::all_there))]
+fn is_run<R: Results>(extras: &[Led], counted: &Counted, seen: &R) -> bool
     ensures { let known = values_of (R.results seen.now) in
-        let counted = counted_needs (task_of graph.now node.now) known names.now in
-        IfOk result (λ run. run ≡
-        (is_empty (led_missing extras.now) && all_valued known counted)) }
+        let valued = all_valued known (nodes_in known counted.now) in
+        result ≡ (is_empty (led_missing extras.now) && valued) }
 {
-    if !all_there(extras) {
-        return Ok(false);
-    }
-    let counted = counted_needs(alloc, graph, plans, node, seen, names)?;
-    Ok(counted.all_valued(seen))
+    all_there(extras) && counted.all_valued(seen)
 }
 
 // Whether no extra lacks a path.

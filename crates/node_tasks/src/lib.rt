@@ -7,6 +7,7 @@ mod each;
 mod gathering;
 mod led;
 mod names;
+mod needed;
 mod needing;
 mod outcome;
 mod outs;
@@ -20,6 +21,6 @@ mod task;
 mod tool;
 
 pub use calling::call_for;
-pub use needing::needs;
+pub use needed::{Needed, needs};
 pub use settling::{Settled, settle, settle_whole};
 pub use task_needs::Results;

@@ -1,14 +1,13 @@
-// What a node needs.
+// The needs of a node that count.
 ghost use Rattle.std.specs.Prelude.{◌≡◌, ◌++◌, ◌∷◌, [], IfOk, OnOk, map, flat_map, option_map, option_to_list};
 ghost use Rattle.object_values.specs.declared.graph.MakerDecl.{MakerDecl as MakerValue};
 ghost use Rattle.meaning_nodes.specs.Nodes.{Fits, base_of, onward_named};
 ghost use Rattle.meaning_tasks.specs.Tasks.{pack_part, extra_led, led_nodes, scan_node, tool_task, tooled, task_of};
-ghost use Rattle.meaning_tasks.specs.Needs.{Needs, values_of, has_value, picked_element, scan_needs, part_nodes, counted_needs};
+ghost use Rattle.meaning_tasks.specs.Needs.{values_of, has_value, picked_element, scan_needs, part_nodes, counted_needs};
 ghost use Rattle.path_planner.specs.Ends.{plans_of};
 ghost use Rattle.task_needs.specs.Counting.{nodes_in};
 
 use crate::base::base_of;
-use crate::names::reached_names;
 use crate::task::{TaskAt, task_at};
 use crate::tool::extras_of;
 use object_values::{Bytes, Memory, Node, PartDecl, Seq, ToolDecl};
@@ -16,26 +15,9 @@ use odin_bytes::Name;
 use odin_nodes::{Picked, onward, pick};
 use path_planner::Plans;
 use std::alloc::Global;
-use task_needs::{Counted, Led, Results, listed, put_copy, value_of};
+use task_needs::{Counted, Led, Results, put_copy, value_of};
 use task_scans::{put_reached_scan, put_scan};
 use type_graph::Graph;
-
-/// The needs that are known once these results are, in order.
-pub fn needs<R: Results>(
-    alloc: Global,
-    graph: &Graph,
-    plans: &Plans,
-    node: &Node,
-    seen: &R,
-) -> Result<Seq<Node>, Memory>
-    requires made { plans.now ≡ plans_of graph.now }
-    requires fits { Fits graph.now node.now }
-    ensures { IfOk result (Needs graph.now node.now (R.results seen.now)) }
-{
-    let names = reached_names(alloc, graph, plans, node, seen)?;
-    let counted = counted_needs(alloc, graph, plans, node, seen, names.as_slice())?;
-    listed(alloc, &counted, names.as_slice(), seen)
-}
 
 /// The needs but the reached sources, given the reached names.
 pub(crate) fn counted_needs<R: Results>(
@@ -167,7 +149,7 @@ fn tool_needs<R: Results>(
         counted_needs (tooled (tool_task graph.now node.now m tool.now)) known names.now) }
 {
     let mut whole = Seq::new(alloc);
-    let mut alone = Seq::new(alloc);
+    let mut alone = room_for_scans(alloc, names)?;
     let valued = put_base(alloc, node, seen, &mut whole)?;
     if !valued {
         return Ok(Counted { whole, alone });
@@ -175,6 +157,14 @@ fn tool_needs<R: Results>(
     put_extras(alloc, graph, plans, node, tool, &mut whole)?;
     put_scans(alloc, graph, plans, node, tool, seen, names, &mut alone)?;
     Ok(Counted { whole, alone })
+}
+
+// Room for the scan nodes of the own source and of these names.
+fn room_for_scans(alloc: Global, names: &[Name]) -> Result<Seq<Node>, Memory>
+    ensures { IfOk result (λ scans. scans ≡ []) }
+{
+    let scans = Vec::with_capacity(alloc, names.len().saturating_add(1))?;
+    Ok(Seq::from_vec(scans))
 }
 
 // Puts the base, and says whether it has a value.

@@ -11,7 +11,7 @@ use crate::gathering::put_led;
 use crate::own::Own;
 use object_values::{Bytes, Expression, Line, Lines, Memory, Node, Seq, Value};
 use odin_bytes::write_number;
-use odin_nodes::{NodeFault, node_of, onward};
+use odin_nodes::{NodeFault, node_of, onward_from};
 use path_planner::Plans;
 use request_parser::{merge_params, read_lines};
 use std::alloc::Global;
@@ -137,7 +137,7 @@ fn read_led(
 {
     let mut read = read;
     add_params_of(alloc, node, &mut read)?;
-    match onward(alloc, graph, plans, &read, of)? {
+    match onward_from(alloc, graph, plans, read, of)? {
         Some(led) => Ok(Led {
             node: Some(led),
             missing: Seq::new(alloc),

@@ -5,11 +5,11 @@ ghost use Rattle.meaning_nodes.specs.Values.{inherit};
 ghost use Rattle.meaning_tasks.specs.Needs.{values_of};
 ghost use Rattle.meaning_tasks.specs.Settle.{Texts, settled, Settles};
 ghost use Rattle.path_planner.specs.Ends.{plans_of};
+ghost use Rattle.node_tasks.specs.Needed.{IsNeeded};
 ghost use Rattle.node_tasks.specs.Settling.{SettlesSo};
 ghost use Rattle.task_needs.specs.Counting.{nodes_in};
 
-use crate::names::reached_names;
-use crate::needing::counted_needs;
+use crate::needed::Needed;
 use crate::own::Own;
 use crate::stepping::stepped_own;
 use object_values::{Memory, Message, Node, Outcome, Seq, Status, Value, View};
@@ -55,26 +55,26 @@ impl Settled {
     }
 }
 
-/// All of what a node with steps settles to, from the results of its needs and the outcome of its
-/// call.
+/// All of what a node with steps settles to, from what it needs, the results of that, and the
+/// outcome of its call.
 pub fn settle_whole<R: Results>(
     alloc: Global,
     graph: &Graph,
     plans: &Plans,
     node: &Node,
+    needed: &Needed,
     seen: &R,
     outcome: Option<&Outcome>,
 ) -> Result<Settled, Memory>
     requires made { plans.now ≡ plans_of graph.now }
     requires fits { Fits graph.now node.now }
+    requires needed { IsNeeded graph.now node.now (R.results seen.now) needed.now }
     ensures { let given = option_map (λ o. o.now) outcome.entry in
         IfOk result (SettlesSo graph.now node.now (R.results seen.now) given) }
 {
-    let names = reached_names(alloc, graph, plans, node, seen)?;
-    let reached = as_count(names.len())?;
-    let counted = counted_needs(alloc, graph, plans, node, seen, names.as_slice())?;
+    let reached = as_count(needed.names.len())?;
     let own = stepped_own(alloc, graph, plans, node, seen, outcome)?;
-    over_needs(alloc, &counted, seen, own, reached)
+    over_needs(alloc, &needed.counted, seen, own, reached)
 }
 
 /// The view of a node with steps, from the results of its needs and the outcome of its call.
@@ -83,17 +83,19 @@ pub fn settle<R: Results>(
     graph: &Graph,
     plans: &Plans,
     node: &Node,
+    needed: &Needed,
     seen: &R,
     outcome: Option<&Outcome>,
 ) -> Result<View, Memory>
     requires made { plans.now ≡ plans_of graph.now }
     requires fits { Fits graph.now node.now }
+    requires needed { IsNeeded graph.now node.now (R.results seen.now) needed.now }
     requires stepped { node.now.steps ≢ [] }
     ensures { let given = option_map (λ o. o.now) outcome.entry in
         IfOk result (λ view. (texts : Texts) →
         Settles graph.now texts node.now (R.results seen.now) given view) }
 {
-    let whole = settle_whole(alloc, graph, plans, node, seen, outcome)?;
+    let whole = settle_whole(alloc, graph, plans, node, needed, seen, outcome)?;
     Ok(whole.into_view())
 }
 

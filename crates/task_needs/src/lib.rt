@@ -17,6 +17,6 @@ pub use inputs::call_parts;
 pub use led::Led;
 pub use listing::{listed, put_copy};
 pub use messages::{abort_message, too_many};
-pub use results::{Results, value_of};
+pub use results::{Results, elements_of, value_of};
 pub use sources::{is_present, source_node};
 pub use taken::Taken;

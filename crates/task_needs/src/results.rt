@@ -29,8 +29,8 @@ pub fn value_of<'a, R: Results>(seen: &'a R, node: &Node) -> Option<&'a Value>
     seen.find(node)?.value.as_ref()
 }
 
-// The elements of a node that has a result that is a list.
-pub(crate) fn elements_of<'a, R: Results>(seen: &'a R, node: &Node) -> &'a [Node]
+/// The elements of a node that has a result that is a list. None of others.
+pub fn elements_of<'a, R: Results>(seen: &'a R, node: &Node) -> &'a [Node]
     ensures { result.now ≡ elements_of (values_of (R.results seen.now) node.now) }
 {
     match value_of(seen, node) {

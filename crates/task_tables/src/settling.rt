@@ -4,8 +4,9 @@ ghost use Rattle.meaning_nodes.specs.Nodes.{Fits};
 ghost use Rattle.meaning_calls.specs.Outcomes.{outcome_of};
 ghost use Rattle.meaning_tasks.specs.Settle.{Settles, Texts};
 ghost use Rattle.path_planner.specs.Ends.{plans_of};
+ghost use Rattle.node_tasks.specs.Needed.{IsNeeded};
 
-use node_tasks::{Results, settle};
+use node_tasks::{Needed, Results, settle};
 use object_values::{Call, Memory, Node, Outcome, Raw, View};
 use path_planner::Plans;
 use std::alloc::Global;
@@ -18,19 +19,21 @@ pub fn settle_after<R: Results>(
     graph: &Graph,
     plans: &Plans,
     node: &Node,
+    needed: &Needed,
     seen: &R,
     call: Option<&Call>,
     left: &Raw,
 ) -> Result<View, Memory>
     requires made { plans.now ≡ plans_of graph.now }
     requires fits { Fits graph.now node.now }
+    requires needed { IsNeeded graph.now node.now (R.results seen.now) needed.now }
     requires stepped { node.now.steps ≢ [] }
     ensures { let outcome = option_map (λ c. outcome_of c.now left.now) call.entry in
         IfOk result (λ view. (texts : Texts) →
         Settles graph.now texts node.now (R.results seen.now) outcome view) }
 {
     let outcome = outcome_after(alloc, call, left)?;
-    settle(alloc, graph, plans, node, seen, outcome.as_ref())
+    settle(alloc, graph, plans, node, needed, seen, outcome.as_ref())
 }
 
 fn outcome_after(alloc: Global, call: Option<&Call>, left: &Raw) -> Result<Option<Outcome>, Memory>

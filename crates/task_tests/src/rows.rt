@@ -7,7 +7,7 @@ ghost use Rattle.path_planner.specs.Ends.{plans_of};
 use super::graphs::{Decls, Text};
 use super::held::{Held, Results, put_results};
 use super::shown::{are_nodes, is_call, is_view};
-use object_values::{Bytes, Call, End, FileBody, Memory, Node, Raw, Seq};
+use object_values::{Bytes, End, FileBody, Memory, Node, Raw, Seq};
 use path_planner::Plans;
 use std::alloc::Global;
 use task_tables::{Fault, Table, body_of, call_node, graph_of, node_in, settle_after};
@@ -114,26 +114,19 @@ fn run_over(
     if !is_call(alloc, called.call.as_ref(), row.call)? {
         return Ok(Comes::WithAnotherCall);
     }
-    if !settles(alloc, graph, plans, node, table, called.call.as_ref(), row)? {
+    let left = left_of(alloc, row.left)?;
+    let view = settle_after(
+        alloc,
+        graph,
+        plans,
+        node,
+        &called.needed,
+        table,
+        called.call.as_ref(),
+        &left,
+    )?;
+    if !is_view(alloc, graph, &view, row.view)? {
         return Ok(Comes::WithAnotherView);
     }
     Ok(Comes::AsWanted)
-}
-
-fn settles(
-    alloc: Global,
-    graph: &Graph,
-    plans: &Plans,
-    node: &Node,
-    table: &Table,
-    call: Option<&Call>,
-    row: &Row,
-) -> Result<bool, Memory>
-    requires made { plans.now ≡ plans_of graph.now }
-    requires fits { Fits graph.now node.now }
-    requires stepped { node.now.steps ≢ [] }
-{
-    let left = left_of(alloc, row.left)?;
-    let view = settle_after(alloc, graph, plans, node, table, call, &left)?;
-    is_view(alloc, graph, &view, row.view)
 }

@@ -69,7 +69,16 @@ fn looked(
     let Some(called) = call_node(alloc, graph, plans, node, table)? else {
         return Err(Fault::Rows);
     };
-    let view = settle_after(alloc, graph, plans, node, table, called.call.as_ref(), left)?;
+    let view = settle_after(
+        alloc,
+        graph,
+        plans,
+        node,
+        &called.needed,
+        table,
+        called.call.as_ref(),
+        left,
+    )?;
     if view.value.is_none() {
         return Err(Fault::Rows);
     }

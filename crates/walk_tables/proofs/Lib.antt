@@ -1,3 +1,4 @@
 mod Added
 mod CallLemmas
+mod SurveyLemmas
 pub mod Lemmas

@@ -15,6 +15,9 @@ use Rattle.derive_walk.proofs.closing.close_seen.Goals as goal
 pub settle_node-requires-clause-fits : goal.settle_node-requires-clause-fits
 settle_node-requires-clause-fits g c = last_fits (world_in g.K.Known.kept c.args.setting.now) c.args.walk.now c.args.node c.requires.last
 
+pub settle_node-requires-clause-needed : goal.settle_node-requires-clause-needed
+settle_node-requires-clause-needed g c = c.requires.closing.found
+
 pub add-requires : goal.add-requires
 add-requires g c =
     let walk = c.args.walk.now in

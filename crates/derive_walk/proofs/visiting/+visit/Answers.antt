@@ -1,9 +1,7 @@
-use Rattle.std.proofs.Common.{◌≡◌, ◌+◌, ◌<◌, [], ◌∷◌, ◌++◌, true, length, take, drop, sym, ap, ◌∙◌, subst, is_some, arith, rules}
+use Rattle.std.proofs.Common.{◌≡◌, ◌+◌, ◌<◌, [], ◌∷◌, ◌++◌, length, true≢false, take, drop, sym, ap, ◌∙◌, subst, is_some, arith, rules}
 use Rattle.std.proofs.lemmas.List.{drop_all}
 use Rattle.std.specs.Prelude.{None, IsSome}
 use Rattle.std.proofs.lemmas.Result.{err_from_is_err_and}
-use Rattle.meaning_tasks.specs.Needs.{Needs}
-use Rattle.walk_tables.specs.Tables.{results_of}
 use Rattle.walk_tables.specs.Chains.{IsChainTo}
 use Rattle.derive_walk.specs.Settings.{world_in}
 use Rattle.derive_walk.specs.Worlds.{IsNeedIn}
@@ -12,7 +10,7 @@ use Rattle.derive_walk.specs.Paths.{IsNext}
 use Rattle.derive_walk.proofs.HeightLemmas.{not_some}
 use Rattle.derive_walk.proofs.LooksLemmas.{few_then, few_wider, few_at}
 use Rattle.derive_walk.proofs.VisitLemmas.{start, room, last, fits, longer, finish, chained, next_need, goes_far, goes_at}
-use Rattle.derive_walk.proofs.RoundLemmas.{InRound, at_first, got_in, begin_round, pass, visit_one, end_round}
+use Rattle.derive_walk.proofs.RoundLemmas.{at_first, got_in, begin_round, pass, visit_one, end_round}
 use Rattle.derive_walk.proofs.visiting.+visit.Goals as goal
 
 pub rounds-init : goal.rounds-init
@@ -28,63 +26,68 @@ pub rounds-preserved : goal.rounds-preserved
 rounds-preserved g t c = record { so = c.loop-need.invariant.round.so; length = c.rounds.invariant.length; counted = c.loop-need.invariant.counted }
 
 pub rounds-smaller : goal.rounds-smaller
-rounds-smaller g t c = c.loop-need.invariant.round.fewer c.if-whole.false
+rounds-smaller g t c =
+    let w = world_in g.K.Known.kept c.args.setting.now in
+    let unvisited = c.as_slice-unvisited.result.now in
+    let some : unvisited ≡ [] → ⊥ = λ e. true≢false (sym (c.is_empty.ensures.1 (sym c.as_slice-unvisited.ensures ∙ e)) ∙ c.if-is_empty.false) in
+    end_round w c.args.walk.now c.rounds.walk c.args.node unvisited c.loop-need.walk (drop c.loop-need.need-index unvisited) c.loop-need.invariant.round (drop_all c.loop-need.need-index unvisited c.loop-need-test.false) some
 
 pub loop-need-init : goal.loop-need-init
 loop-need-init g t c =
     let w = world_in g.K.Known.kept c.args.setting.now in
+    let surveyed = c.in_ok-survey.ensures w c.args.node c.in_ok-needed.ensures in
     record {
-      round = begin_round w c.args.walk.now c.rounds.walk c.args.node c.as_slice-needs.result.now c.rounds.invariant.so (subst (λ l. Needs w.graph c.args.node (results_of c.rounds.walk.done) l) (sym c.as_slice-needs.ensures) c.in_ok-listed.ensures);
+      round = begin_round w c.args.walk.now c.rounds.walk c.args.node c.rounds.invariant.so c.in_ok-survey.survey surveyed c.as_slice-unvisited.result.now c.as_slice-unvisited.ensures;
       counted = c.rounds.invariant.counted;
     }
 
 pub loop-need-preserved-then-is_some : goal.loop-need-preserved-then-is_some
 loop-need-preserved-then-is_some g t c =
     let w = world_in g.K.Known.kept c.args.setting.now in
-    let needs = c.as_slice-needs.result.now in
+    let needs = c.as_slice-unvisited.result.now in
     let i = c.loop-need.need-index in
     let k = c.need-item.result in
     let first : drop i needs ≡ k ∷ drop (i + 1) needs = at_first needs i k c.loop-need-test.true c.need-item.is in
     let there : IsSome (heights_in c.loop-need.walk k) = ap is_some (sym c.height_of.ensures) ∙ sym c.is_some.ensures ∙ c.if-is_some.true in
     record {
-      round = pass w c.args.walk.now c.rounds.walk c.args.node needs c.loop-need.walk c.loop-need.whole k (drop i needs) (drop (i + 1) needs) c.loop-need.invariant.round first there;
+      round = pass w c.args.walk.now c.rounds.walk c.args.node needs c.loop-need.walk k (drop i needs) (drop (i + 1) needs) c.loop-need.invariant.round first there;
       counted = c.loop-need.invariant.counted;
     }
 
 pub loop-need-preserved : goal.loop-need-preserved
 loop-need-preserved g t c =
     let w = world_in g.K.Known.kept c.args.setting.now in
-    let needs = c.as_slice-needs.result.now in
+    let needs = c.as_slice-unvisited.result.now in
     let i = c.loop-need.need-index in
     let k = c.need-item.result in
     let walk = c.loop-need.walk in
     let first : drop i needs ≡ k ∷ drop (i + 1) needs = at_first needs i k c.loop-need-test.true c.need-item.is in
     let unseen : heights_in walk k ≡ None = not_some (heights_in walk k) (ap is_some (sym c.height_of.ensures) ∙ sym c.is_some.ensures ∙ c.if-is_some.false) in
     let need : IsNeedIn w c.args.node k = c.loop-need.invariant.round.needed k (got_in needs i k c.loop-need-test.true c.need-item.is) in
-    let free : IsChainTo walk.path k None = subst (λ o. IsChainTo walk.path k o) c.in_default.is c.in_ok-found.ensures in
+    let free : IsChainTo walk.path k None = subst (λ o. IsChainTo walk.path k o) c.in_default.is c.in_ok-found-2.ensures in
     let same : c.in_ok-need.need ≡ k = c.in_ok-need.ensures in
-    let after : Visited w walk c.visit.new.walk k = subst (λ z. Visited w walk c.visit.new.walk z) same (subst (λ o. AfterVisit w walk c.visit.new.walk c.in_ok-need.need o) c.in_default-2.is c.in_ok-found-2.ensures.after) in
+    let after : Visited w walk c.visit.new.walk k = subst (λ z. Visited w walk c.visit.new.walk z) same (subst (λ o. AfterVisit w walk c.visit.new.walk c.in_ok-need.need o) c.in_default-2.is c.in_ok-found-3.ensures.after) in
     record {
-      round = visit_one w c.args.walk.now c.rounds.walk c.args.node needs walk c.loop-need.whole k (drop i needs) (drop (i + 1) needs) c.loop-need.invariant.round first c.requires.set.world need unseen free.0 c.visit.new.walk c.visit.ensures.on c.visit.ensures.holds after;
-      counted = few_then _ _ _ _ _ _ _ c.loop-need.invariant.counted c.in_ok-found-2.ensures.counted;
+      round = visit_one w c.args.walk.now c.rounds.walk c.args.node needs walk k (drop i needs) (drop (i + 1) needs) c.loop-need.invariant.round first c.requires.set.world need unseen free.0 c.visit.new.walk c.visit.ensures.on c.visit.ensures.holds after;
+      counted = few_then _ _ _ _ _ _ _ c.loop-need.invariant.counted c.in_ok-found-3.ensures.counted;
     }
 
-pub needs-requires : goal.needs-requires
-needs-requires g t c =
+pub find-requires : goal.find-requires
+find-requires g t c =
     let w = world_in g.K.Known.kept c.args.setting.now in
     record { made = c.requires.set.made; fits = fits w c.args.walk.now c.args.node c.rounds.walk c.rounds.invariant.so }
 
 pub visit-requires : goal.visit-requires
 visit-requires g t c =
     let w = world_in g.K.Known.kept c.args.setting.now in
-    let needs = c.as_slice-needs.result.now in
+    let needs = c.as_slice-unvisited.result.now in
     let i = c.loop-need.need-index in
     let k = c.need-item.result in
     let walk = c.loop-need.walk in
     let so = c.loop-need.invariant.round.so in
     let unseen : heights_in walk k ≡ None = not_some (heights_in walk k) (ap is_some (sym c.height_of.ensures) ∙ sym c.is_some.ensures ∙ c.if-is_some.false) in
     let need : IsNeedIn w c.args.node k = c.loop-need.invariant.round.needed k (got_in needs i k c.loop-need-test.true c.need-item.is) in
-    let free : IsChainTo walk.path k None = subst (λ o. IsChainTo walk.path k o) c.in_default.is c.in_ok-found.ensures in
+    let free : IsChainTo walk.path k None = subst (λ o. IsChainTo walk.path k o) c.in_default.is c.in_ok-found-2.ensures in
     let same : c.in_ok-need.need ≡ k = c.in_ok-need.ensures in
     let next : IsNext w walk c.in_ok-need.need = subst (λ z. IsNext w walk z) (sym same) (next_need w c.args.walk.now c.args.node c.requires.set.world walk so k need unseen free) in
     let size : length walk.path ≡ length c.args.walk.now.path + 1 = longer w c.args.walk.now c.args.node walk so in
@@ -94,18 +97,15 @@ visit-requires g t c =
 pub close-requires : goal.close-requires
 close-requires g t c =
     let w = world_in g.K.Known.kept c.args.setting.now in
-    let old = c.args.walk.now in
-    let begun = c.rounds.walk in
-    let walk = c.loop-need.walk in
-    let needs = c.as_slice-needs.result.now in
-    let i = c.loop-need.need-index in
-    let whole : InRound w old begun walk c.args.node needs (drop i needs) true = subst (λ b. InRound w old begun walk c.args.node needs (drop i needs) b) c.if-whole.true c.loop-need.invariant.round in
-    let listed : Needs w.graph c.args.node (results_of begun.done) needs = subst (λ l. Needs w.graph c.args.node (results_of begun.done) l) (sym c.as_slice-needs.ensures) c.in_ok-listed.ensures in
     record {
       set = c.requires.set;
-      holds = c.loop-need.invariant.round.so.holds;
-      last = last w old c.args.node walk c.loop-need.invariant.round.so;
-      visited = end_round w old begun c.args.node needs walk (drop i needs) whole (drop_all i needs c.loop-need-test.false) listed;
+      holds = c.rounds.invariant.so.holds;
+      last = last w c.args.walk.now c.args.node c.rounds.walk c.rounds.invariant.so;
+      whole = record {
+        found = c.in_ok-needed.ensures;
+        surveyed = c.in_ok-survey.ensures w c.args.node c.in_ok-needed.ensures;
+        visited = c.is_empty.ensures.0 c.if-is_empty.true;
+      };
     }
 
 pub returns-in-Some-clause-after : goal.returns-in-Some-clause-after
@@ -113,33 +113,36 @@ returns-in-Some-clause-after g t c =
     let w = world_in g.K.Known.kept c.args.setting.now in
     let k = c.need-item.result in
     let walk = c.loop-need.walk in
-    let need : IsNeedIn w c.args.node k = c.loop-need.invariant.round.needed k (got_in c.as_slice-needs.result.now c.loop-need.need-index k c.loop-need-test.true c.need-item.is) in
-    chained w c.args.walk.now c.args.node c.requires.set.world walk c.loop-need.invariant.round.so k need c.in-Some.found (subst (λ o. IsChainTo walk.path k o) c.in-Some.is c.in_ok-found.ensures)
+    let need : IsNeedIn w c.args.node k = c.loop-need.invariant.round.needed k (got_in c.as_slice-unvisited.result.now c.loop-need.need-index k c.loop-need-test.true c.need-item.is) in
+    chained w c.args.walk.now c.args.node c.requires.set.world walk c.loop-need.invariant.round.so k need c.in-Some.found (subst (λ o. IsChainTo walk.path k o) c.in-Some.is c.in_ok-found-2.ensures)
 
-pub returns-in_err-found-2-clause-on : goal.returns-in_err-found-2-clause-on
-returns-in_err-found-2-clause-on g t c = goes_far c.args.walk.now c.loop-need.walk c.visit.new.walk c.loop-need.invariant.round.so.on c.visit.ensures.on
+pub returns-in_err-found-3-clause-on : goal.returns-in_err-found-3-clause-on
+returns-in_err-found-3-clause-on g t c = goes_far c.args.walk.now c.loop-need.walk c.visit.new.walk c.loop-need.invariant.round.so.on c.visit.ensures.on
 
 pub returns-in-Some-2-clause-on : goal.returns-in-Some-2-clause-on
 returns-in-Some-2-clause-on g t c = goes_far c.args.walk.now c.loop-need.walk c.visit.new.walk c.loop-need.invariant.round.so.on c.visit.ensures.on
 
-pub returns-in_err-found-3-clause-on : goal.returns-in_err-found-3-clause-on
-returns-in_err-found-3-clause-on g t c = goes_far c.args.walk.now c.loop-need.walk c.close.new.walk c.loop-need.invariant.round.so.on c.close.ensures.on
+pub returns-in_err-found-clause-on : goal.returns-in_err-found-clause-on
+returns-in_err-found-clause-on g t c = goes_far c.args.walk.now c.rounds.walk c.close.new.walk c.rounds.invariant.so.on c.close.ensures.on
 
-pub returns-then-whole-clause-on : goal.returns-then-whole-clause-on
-returns-then-whole-clause-on g t c = goes_at c.args.walk.now c.close.new.walk c.truncate.new.self (goes_far c.args.walk.now c.loop-need.walk c.close.new.walk c.loop-need.invariant.round.so.on c.close.ensures.on)
+pub returns-then-is_empty-clause-on : goal.returns-then-is_empty-clause-on
+returns-then-is_empty-clause-on g t c = goes_at c.args.walk.now c.close.new.walk c.truncate.new.self (goes_far c.args.walk.now c.rounds.walk c.close.new.walk c.rounds.invariant.so.on c.close.ensures.on)
 
-pub returns-then-whole-clause-after : goal.returns-then-whole-clause-after
-returns-then-whole-clause-after g t c =
+pub returns-then-is_empty-clause-after : goal.returns-then-is_empty-clause-after
+returns-then-is_empty-clause-after g t c =
     let w = world_in g.K.Known.kept c.args.setting.now in
-    finish w c.args.walk.now c.args.node c.loop-need.walk c.close.new.walk c.loop-need.invariant.round.so c.close.ensures.on c.in_ok-found-3.found c.in_ok-found-3.ensures.after c.truncate.new.self (c.truncate.ensures ∙ ap (λ k. take k c.close.new.walk.path) c.len-length.ensures)
+    finish w c.args.walk.now c.args.node c.rounds.walk c.close.new.walk c.rounds.invariant.so c.close.ensures.on c.in_ok-found.found c.in_ok-found.ensures.after c.truncate.new.self (c.truncate.ensures ∙ ap (λ k. take k c.close.new.walk.path) c.len-length.ensures)
 
 -- ---- looks
 
-pub returns-in_err-listed-clause-counted : goal.returns-in_err-listed-clause-counted
-returns-in_err-listed-clause-counted g t c = few_wider _ _ _ _ _ c.rounds.invariant.counted
+pub returns-in_err-needed-clause-counted : goal.returns-in_err-needed-clause-counted
+returns-in_err-needed-clause-counted g t c = few_wider _ _ _ _ _ c.rounds.invariant.counted
 
-pub returns-in_err-found-clause-counted : goal.returns-in_err-found-clause-counted
-returns-in_err-found-clause-counted g t c = few_wider _ _ _ _ _ c.loop-need.invariant.counted
+pub returns-in_err-survey-clause-counted : goal.returns-in_err-survey-clause-counted
+returns-in_err-survey-clause-counted g t c = few_wider _ _ _ _ _ c.rounds.invariant.counted
+
+pub returns-in_err-found-2-clause-counted : goal.returns-in_err-found-2-clause-counted
+returns-in_err-found-2-clause-counted g t c = few_wider _ _ _ _ _ c.loop-need.invariant.counted
 
 pub returns-in_err-need-clause-counted : goal.returns-in_err-need-clause-counted
 returns-in_err-need-clause-counted g t c = few_wider _ _ _ _ _ c.loop-need.invariant.counted
@@ -147,18 +150,18 @@ returns-in_err-need-clause-counted g t c = few_wider _ _ _ _ _ c.loop-need.invar
 pub returns-in-Some-clause-counted : goal.returns-in-Some-clause-counted
 returns-in-Some-clause-counted g t c = c.loop-need.invariant.counted
 
-pub returns-in_err-found-2-clause-counted : goal.returns-in_err-found-2-clause-counted
-returns-in_err-found-2-clause-counted g t c =
-    let given = err_from_is_err_and _ c.from_residual-in_err-found-2.ensures.1 in
-    few_at _ _ _ _ _ _ given.1 (few_then _ _ _ _ _ _ _ c.loop-need.invariant.counted c.in_err-found-2.ensures.counted)
-
-pub returns-in-Some-2-clause-counted : goal.returns-in-Some-2-clause-counted
-returns-in-Some-2-clause-counted g t c = few_then _ _ _ _ _ _ _ c.loop-need.invariant.counted c.in_ok-found-2.ensures.counted
-
 pub returns-in_err-found-3-clause-counted : goal.returns-in_err-found-3-clause-counted
 returns-in_err-found-3-clause-counted g t c =
     let given = err_from_is_err_and _ c.from_residual-in_err-found-3.ensures.1 in
     few_at _ _ _ _ _ _ given.1 (few_then _ _ _ _ _ _ _ c.loop-need.invariant.counted c.in_err-found-3.ensures.counted)
 
-pub returns-then-whole-clause-counted : goal.returns-then-whole-clause-counted
-returns-then-whole-clause-counted g t c = few_then _ _ _ _ _ _ _ c.loop-need.invariant.counted c.in_ok-found-3.ensures.counted
+pub returns-in-Some-2-clause-counted : goal.returns-in-Some-2-clause-counted
+returns-in-Some-2-clause-counted g t c = few_then _ _ _ _ _ _ _ c.loop-need.invariant.counted c.in_ok-found-3.ensures.counted
+
+pub returns-in_err-found-clause-counted : goal.returns-in_err-found-clause-counted
+returns-in_err-found-clause-counted g t c =
+    let given = err_from_is_err_and _ c.from_residual-in_err-found.ensures.1 in
+    few_at _ _ _ _ _ _ given.1 (few_then _ _ _ _ _ _ _ c.rounds.invariant.counted c.in_err-found.ensures.counted)
+
+pub returns-then-is_empty-clause-counted : goal.returns-then-is_empty-clause-counted
+returns-then-is_empty-clause-counted g t c = few_then _ _ _ _ _ _ _ c.rounds.invariant.counted c.in_ok-found.ensures.counted

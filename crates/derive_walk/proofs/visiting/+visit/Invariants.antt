@@ -23,6 +23,6 @@ decreases-rounds g l = unseen_count (heights_in l.walk) (needs_in (world_in g.K.
 
 abbrev pub invariant-loop-need : goal.invariant-loop-need
 invariant-loop-need g l = record {
-  round : InRound (world_in g.K.Known.kept l.setting) l.fn.walk l.initial.walk l.walk l.node l.needs (drop l.need-index l.needs) l.whole;
+  round : InRound (world_in g.K.Known.kept l.setting) l.fn.walk l.initial.walk l.walk l.node l.unvisited (drop l.need-index l.unvisited);
   counted : AreFew (met_in l.fn.walk) (met_in l.walk) l.fn.steps l.steps 0;
 }
