@@ -55,10 +55,15 @@ const PEERS: &[(&str, &str, u8)] = &[
         "say sources; printf 'put a.c 9\\nx='; rest 'sources 0\\n'",
         1,
     ),
-    ("closes the replies", "exec <&-; say sources; say quit", 5),
+    // The commands come in one piece: behind the end of the run a further one would have no reader.
+    (
+        "closes the replies",
+        "exec <&-; printf 'sources\\nquit\\n'",
+        5,
+    ),
     (
         "closes the replies behind the first",
-        "say sources; hear 'sources 0'; exec <&-; say sources; say quit",
+        "say sources; hear 'sources 0'; exec <&-; printf 'sources\\nquit\\n'",
         5,
     ),
     (
