@@ -12,7 +12,7 @@ const SHARED: u32 = 12;
 const MOST: u32 = 2_000;
 
 fn text_of(alloc: Global) -> Result<Text, Memory> {
-    Text::of(Seq::from_vec(vec![in alloc; b'x'; SIZE]?))
+    Text::of(Bytes::from_vec(vec![in alloc; b'x'; SIZE]?))
 }
 
 /// The texts that all calls share.

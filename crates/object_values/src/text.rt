@@ -30,12 +30,12 @@ impl Model for Text {
 }
 
 impl Text {
-    /// The same bytes, which are moved. Only the count beside them takes memory.
+    /// The same bytes. Long ones are moved, so that only the count beside them takes memory.
     pub fn of(bytes: Bytes) -> Result<Self, Memory>
         ensures { IfOk result (λ text. text ≡ bytes) }
     {
         Ok(Text {
-            bytes: RcSlice::from_vec(bytes.into_vec())?,
+            bytes: RcSlice::from_vec(bytes.into_vec()?)?,
         })
     }
 

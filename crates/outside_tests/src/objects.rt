@@ -171,7 +171,7 @@ fn gives_the_first_file_of_a_name(rt: HostRuntime) -> Result<(), Fail> {
 fn long_file(alloc: Global) -> Result<FileBody, Memory> {
     Ok(FileBody {
         name: Bytes::from_slice(alloc, b"a")?,
-        body: Text::of(Seq::from_vec(vec![in alloc; 7u8; 16_777_218]?))?,
+        body: Text::of(Bytes::from_vec(vec![in alloc; 7u8; 16_777_218]?))?,
     })
 }
 

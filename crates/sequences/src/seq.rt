@@ -1,5 +1,5 @@
 // A list that grows at its end.
-ghost use Rattle.std.specs.Prelude.{◌≡◌, ◌↔◌, ◌+◌, ◌≤◌, ◌∷◌, ◌++◌, [], ℕ, List, length, take, IsTrue, OnOk, OnErr, IfOk};
+ghost use Rattle.std.specs.Prelude.{◌≡◌, ◌↔◌, ◌+◌, ◌≤◌, ◌∷◌, ◌++◌, [], ℕ, List, length, take, IsTrue, OnOk, OnErr};
 
 use crate::copied::Copied;
 use crate::memory::Memory;
@@ -9,13 +9,9 @@ use std::hash::{Hash, Hasher};
 use std::marker::Model;
 
 /// A list over a `Vec`, which contracts see as the list of its items.
-
 pub struct Seq<T> {
     items: Vec<T>,
 }
-
-/// Bytes, of whatever text they are.
-pub type Bytes = Seq<u8>;
 
 // By hand: a drop is one call, where a derived one is opened field by field at each early return.
 impl<T: Drop> Drop for Seq<T> {
@@ -96,33 +92,6 @@ impl<T: Drop> Seq<T> {
         ensures { self.new ≡ [] }
     {
         self.items.clear();
-    }
-}
-
-impl Seq<u8> {
-    pub fn from_slice(alloc: Global, bytes: &[u8]) -> Result<Self, Memory>
-        ensures { IfOk result (λ made. made ≡ bytes.now) }
-    {
-        Ok(Seq {
-            items: bytes.to_vec(alloc)?,
-        })
-    }
-
-    /// Makes room for just so many bytes more. That is a hint: contracts see the bytes alone, so no clause tells of the room.
-    pub fn reserve_exact(&mut self, more: usize) -> Result<(), Memory>
-        ensures { self.new ≡ self.old }
-    {
-        self.items.reserve_exact(more)?;
-        Ok(())
-    }
-
-    /// Adds bytes at the end.
-    pub fn extend_from_slice(&mut self, bytes: &[u8]) -> Result<(), Memory>
-        ensures ok { OnOk result (self.new ≡ self.old ++ bytes.now) }
-        ensures err { OnErr result (self.new ≡ self.old) }
-    {
-        self.items.extend_from_slice(bytes)?;
-        Ok(())
     }
 }
 

@@ -19,7 +19,7 @@ fn grown(alloc: Global) -> Result<Bytes, Memory> {
 
 // A copy of the bytes that was taken apart and put together again.
 fn again(alloc: Global, bytes: &Bytes) -> Result<Bytes, Memory> {
-    Ok(Seq::from_vec(bytes.copy(alloc)?.into_vec()))
+    Ok(Bytes::from_vec(bytes.copy(alloc)?.into_vec()?))
 }
 
 // Whether the bytes are those of the copy until they are cut.

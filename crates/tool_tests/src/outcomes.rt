@@ -296,7 +296,7 @@ fn outcome_with(alloc: Global, left: &[(&[u8], &[u8])], file: FileBody) -> Resul
 fn outcome_of_long(alloc: Global, length: usize) -> Result<Outcome, Memory> {
     let file = FileBody {
         name: Bytes::from_slice(alloc, b"out.o")?,
-        body: Body::of(Seq::from_vec(vec![in alloc; b'x'; length]?))?,
+        body: Body::of(Bytes::from_vec(vec![in alloc; b'x'; length]?))?,
     };
     outcome_with(alloc, &[], file)
 }
@@ -340,7 +340,7 @@ fn put_numbers(warnings: &mut Bytes) -> Result<(), Memory> {
 
 // A line of 1,001 bytes, and then the numbers.
 fn long_warnings(alloc: Global) -> Result<Bytes, Memory> {
-    let mut warnings = Seq::from_vec(vec![in alloc; b'x'; 1_001]?);
+    let mut warnings = Bytes::from_vec(vec![in alloc; b'x'; 1_001]?);
     put_numbers(&mut warnings)?;
     Ok(warnings)
 }

@@ -3,7 +3,7 @@ ghost use Rattle.std.specs.Prelude.{◌≡◌, [], OnOk};
 ghost use Rattle.type_graph.specs.Places.{place_of, with_place, StandsBefore};
 
 use indexmap::IndexMap;
-use object_values::{Bytes, Memory};
+use object_values::Memory;
 use std::alloc::Global;
 use std::marker::Model;
 
@@ -44,8 +44,7 @@ impl Names {
         if self.places.contains_key(name) {
             return Ok(());
         }
-        let name = Bytes::from_slice(alloc, name)?;
-        self.places.insert(name.into_vec(), place)?;
+        self.places.insert(name.to_vec(alloc)?, place)?;
         Ok(())
     }
 
