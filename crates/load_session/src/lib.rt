@@ -11,6 +11,6 @@ mod puts;
 mod session;
 mod texts;
 
-pub use load::{MOST_UNITS, serve_load};
+pub use load::serve_load;
 pub use loaded::Loaded;
 pub use odin_engine::StoreFault;

@@ -1,5 +1,6 @@
 // The load of a number of units.
 ghost use Rattle.std.specs.Prelude.{◌≤◌, IfOk, IfErr};
+ghost use Rattle.meaning_texts.specs.Limits.{unit_limit};
 ghost use Rattle.load_session.specs.Loads.{IsLoaded, IsLoadFault};
 
 use crate::loaded::Loaded;
@@ -8,14 +9,11 @@ use crate::session::Session;
 use odin_engine::StoreFault;
 use std::alloc::Global;
 
-/// The most units of a load.
-pub const MOST_UNITS: u32 = 2000;
-
 /// Serves the session of a load over a disk and tools in memory: so many units with twelve headers are put and their program is asked for, then the
 /// first header is edited, and edited back, and the program is asked for again each time.
 pub fn serve_load(alloc: Global, units: u32) -> Result<Loaded, StoreFault>
     requires some { 1 ≤ units }
-    requires few { units ≤ 2000 }
+    requires few { units ≤ unit_limit }
     ensures ok { IfOk result (IsLoaded units) }
     ensures err { IfErr result (IsLoadFault units) }
 {
@@ -32,7 +30,8 @@ pub fn serve_load(alloc: Global, units: u32) -> Result<Loaded, StoreFault>
 
 #[cfg(test)]
 mod tests {
-    use super::{MOST_UNITS, serve_load};
+    use super::serve_load;
+    use object_values::UNIT_LIMIT;
     use odin_engine::StoreFault;
     use std::alloc::Global;
     use std::test::Fail;
@@ -53,7 +52,7 @@ mod tests {
         kept: u64,
     ) -> Result<bool, StoreFault>
         requires some { 1 ≤ units }
-        requires few { units ≤ 2000 }
+        requires few { units ≤ unit_limit }
     {
         let loaded = serve_load(alloc, units)?;
         Ok(loaded.starts == starts && loaded.length == length && loaded.kept == kept)
@@ -62,7 +61,7 @@ mod tests {
     #[test]
     fn loads_tell_what_was_run(rt: HostRuntime) -> Result<(), Fail> {
         for (units, starts, length, kept) in ROWS {
-            if units < 1 || MOST_UNITS < units {
+            if units < 1 || UNIT_LIMIT < units {
                 continue;
             }
             assert!(rt; tells(rt.alloc(), units, starts, length, kept)?);

@@ -1,5 +1,6 @@
 // The steps of a load, several at a time.
 ghost use Rattle.std.specs.Prelude.{◌≤◌, ◌<◌, ◌∷◌, [], IfOk, IfErr, OnOk};
+ghost use Rattle.meaning_texts.specs.Limits.{unit_limit};
 ghost use Rattle.load_session.specs.Session.{headers, header_steps, unit_steps, puts_header, puts_unit, puts_list, first_steps, edit_steps};
 ghost use Rattle.load_session.specs.Moments.{MayServe, HasServed, HasAsked, StopsIn};
 
@@ -40,7 +41,7 @@ fn put_unit(alloc: Global, session: &mut Session, number: u32) -> Result<(), Sto
 
 // Puts the list of so many units.
 fn put_list(alloc: Global, session: &mut Session, units: u32) -> Result<(), StoreFault>
-    requires few { units ≤ 2000 }
+    requires few { units ≤ unit_limit }
     requires may { MayServe 1 session.old }
     ensures ok { OnOk result (HasServed session.old (puts_list units ∷ []) [] session.new) }
     ensures err { IfErr result (StopsIn session.old (puts_list units ∷ [])) }
@@ -63,7 +64,7 @@ fn put_headers(alloc: Global, session: &mut Session) -> Result<(), StoreFault>
 
 // Puts so many units.
 fn put_units(alloc: Global, session: &mut Session, units: u32) -> Result<(), StoreFault>
-    requires few { units ≤ 2000 }
+    requires few { units ≤ unit_limit }
     requires may { MayServe units session.old }
     ensures ok { OnOk result (HasServed session.old (unit_steps units) [] session.new) }
     ensures err { IfErr result (StopsIn session.old (unit_steps units)) }
@@ -80,7 +81,7 @@ pub(crate) fn serve_first(
     session: &mut Session,
     units: u32,
 ) -> Result<Asked, StoreFault>
-    requires few { units ≤ 2000 }
+    requires few { units ≤ unit_limit }
     requires may { MayServe 2013 session.old }
     ensures ok { IfOk result (HasAsked session.old (first_steps units) session.new) }
     ensures err { IfErr result (StopsIn session.old (first_steps units)) }

@@ -25,6 +25,10 @@ graph_limit = 1048576
 abbrev pub declaration_limit : ℕ
 declaration_limit = 2000
 
+-- the most units of a load session
+abbrev pub unit_limit : ℕ
+unit_limit = 2000
+
 -- a tool has fewer extras than this
 abbrev pub extra_bound : ℕ
 extra_bound = 4294967295

@@ -21,7 +21,7 @@ pub use jobs::{End, FileBody, Job, Raw};
 pub use limits::{
     BODY_LIMIT, COMMAND_LIMIT, DECLARATION_LIMIT, ELEMENT_BOUND, EXPRESSION_LIMIT, GRAPH_LIMIT,
     HEIGHT_LIMIT, INPUT_LIMIT, MESSAGE_LENGTH, MESSAGE_LIMIT, REFERENCE_LIMIT, STORE_LIMIT,
-    WORD_LIMIT,
+    UNIT_LIMIT, WORD_LIMIT,
 };
 pub use messages::{Message, Status};
 pub use nodes::{Node, ParamValue, Step};

@@ -18,6 +18,9 @@ pub const GRAPH_LIMIT: usize = 1_048_576;
 /// The most declarations of a graph file.
 pub const DECLARATION_LIMIT: u32 = 2_000;
 
+/// The most units of a load session.
+pub const UNIT_LIMIT: u32 = 2_000;
+
 /// The number of an element is below this.
 pub const ELEMENT_BOUND: u64 = 4_294_967_296;
 

@@ -1,5 +1,6 @@
 // The load session, and the lines that tell it.
 ghost use Rattle.std.specs.Prelude.{◌≡◌, ◌≤◌, ◌++◌, OnOk, IfOk};
+ghost use Rattle.meaning_texts.specs.Limits.{unit_limit};
 ghost use Rattle.odin_shell.specs.Loading.{spaced, counts_line, load_lines};
 ghost use Rattle.odin_shell.specs.Objects.{sink_of};
 ghost use Rattle.odin_shell.specs.Run.{Says, ClosesLoad, LoadEnds};
@@ -74,7 +75,7 @@ fn end_failed<O: Sink>(alloc: Global, output: &mut O, fault: StoreFault) -> Endi
 /// Serves the load session of so many units, over a disk and tools of its own, and writes its lines.
 pub(crate) fn run_load<O: Sink>(alloc: Global, output: &mut O, units: u32) -> Ending
     requires some { 1 ≤ units }
-    requires few { units ≤ 2000 }
+    requires few { units ≤ unit_limit }
     ensures { let sink = sink_of O.taken O.faults in
         LoadEnds units (sink output.old) (sink output.new) result }
 {

@@ -1,6 +1,7 @@
 -- What the words of the program ask for.
 use Rattle.std.specs.Prelude.{◌≡◌, ◌≤◌, ℕ, List, [], Option, Some, None, codes, decimal}
 use Rattle.clap.specs.Words.{Row, fault_of, matches_of, first_of}
+use Rattle.meaning_texts.specs.Limits.{unit_limit}
 use Rattle.odin_words.specs.declared.Work.{Work}
 use Rattle.odin_words.specs.declared.Work.TheVariants as code
 use Rattle.odin_words.specs.Command.{command}
@@ -39,7 +40,7 @@ work_of (code.Load units) = Load units
 -- The work by the word GRAPH and the value of `--load`: exactly one of them is there, and that of `--load` is a number from 1 to 2,000.
 pub data IsWork : Option (List ℕ) → Option (List ℕ) → AskedWork → Type 0 where
   serves : (name : List ℕ) → IsWork (Some name) None (Serve name)
-  loads : (word : List ℕ) (units : ℕ) → IsNumber 2000 word units → IsWork None (Some word) (Load units)
+  loads : (word : List ℕ) (units : ℕ) → IsNumber unit_limit word units → IsWork None (Some word) (Load units)
 
 abbrev pub IsNoWork : Option (List ℕ) → Option (List ℕ) → Type 0
 IsNoWork graph load = (work : AskedWork) → ¬ IsWork graph load work

@@ -9,7 +9,7 @@ ghost use Rattle.odin_words.specs.Asked.{IsNumber, IsNoNumber, IsJobs, IsNoJobs,
 
 use clap::error::ErrorKind;
 use clap::{Arg, ArgAction, ArgMatches, Command, Error};
-use object_values::Memory;
+use object_values::{Memory, UNIT_LIMIT};
 use odin_bytes::read_number;
 use std::alloc::Global;
 
@@ -17,9 +17,6 @@ pub mod laws;
 
 /// How many tools may run at once, at most.
 pub const MOST_JOBS: u64 = 64;
-
-/// How many units a load session has, at most.
-pub const MOST_UNITS: u64 = 2000;
 
 // The smallest number that a word may spell.
 const LEAST: u64 = 1;
@@ -102,7 +99,7 @@ fn work_by<'a>(graph: Option<&'a str>, load: Option<&'a str>) -> Option<Work<'a>
             None => Some(Work::Serve(name)),
             Some(_) => None,
         },
-        None => Some(Work::Load(read_up_to(MOST_UNITS, load?)? as u32)),
+        None => Some(Work::Load(read_up_to(UNIT_LIMIT as u64, load?)? as u32)),
     }
 }
 
