@@ -18,4 +18,4 @@ returns c =
     sym (ap (λ v. is_some (place_of v c.args.name.now)) c.self.view_is)
     ∙ sym (ap is_some (lookup_seen c.self.inside.places.entries c.args.name.now)) ∙ sym c.contains_key.ensures ∙ c.if-contains_key.false in
     ap (map seen) c.in_ok-insert.ensures.entries
-    ∙ added_place c.self.inside.places.entries c.into_vec.result c.args.self.now c.args.name.now c.args.place (c.into_vec.ensures ∙ c.in_ok-name.ensures) c.self.view_is absent
+    ∙ added_place c.self.inside.places.entries c.in_ok-to_vec.field-0 c.args.self.now c.args.name.now c.args.place (c.in_ok-to_vec.ensures.items_if_clones_equal (λ x y same. same)) c.self.view_is absent
