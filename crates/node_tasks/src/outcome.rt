@@ -50,6 +50,6 @@ fn made_value(alloc: Global, makes_compound: bool, outputs: &Seq<Part>) -> Resul
     }
     match outputs.as_slice().first() {
         Some(output) => Ok(Value::Simple(output.body.copy(alloc)?)),
-        None => Ok(Value::Simple(Text::of(Seq::new(alloc))?)),
+        None => Ok(Value::Simple(Text::of(Bytes::new(alloc))?)),
     }
 }
