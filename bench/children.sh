@@ -4,7 +4,7 @@
 set -eu
 export LC_ALL=C
 cd "$(dirname "$0")/.."
-program=$PWD/crates/children_bench/out/children_bench
+program=$PWD/crates/odin_bench/out/odin_bench
 work=$(mktemp -d)
 trap 'rm -rf "$work"' EXIT
 count=400
@@ -61,7 +61,7 @@ seconds() {
 median() { sort -n | sed -n 3p; }
 
 for round in 1 2 3 4 5; do
-    seconds "$program" "$count" >> "$work/children"
+    seconds "$program" children "$count" >> "$work/children"
     seconds "$work/bare" "$count" >> "$work/loops"
 done
 children=$(median < "$work/children")

@@ -5,7 +5,7 @@ set -eu
 export LC_ALL=C
 cd "$(dirname "$0")/.."
 odin=$PWD/crates/session_bench/out/session_bench
-reader=$PWD/crates/text_bench/out/text_bench
+reader=$PWD/crates/odin_bench/out/odin_bench
 work=$(mktemp -d)
 trap 'rm -rf "$work"' EXIT
 lines=200000
@@ -50,7 +50,7 @@ for _ in 1 2 3 4 5; do
     seconds /dev/null dd bs=20 count="$lines" if=/dev/zero of=/dev/null >> "$work/asks.dd"
     seconds "$work/plans" "$odin" g0 >> "$work/plans.odin"
     seconds /dev/null dd bs=10 count="$lines" if=/dev/zero of=/dev/null >> "$work/plans.dd"
-    repeated "$reader" 10000 >> "$work/lists.reader"
+    repeated "$reader" list 10000 >> "$work/lists.reader"
     repeated sha256sum "$work/text" >> "$work/lists.sha"
 done
 # The programs are run in turn, and the least time of each is told. `wc -c` only reads, as odin does.
@@ -66,5 +66,5 @@ compare plans plans.odin dd plans.dd
 compare_least "refused put, the least by the clock" 1
 compare_least "refused put, the least user and system time" 2
 echo "memory of the refused put $(cat "$work/memory") KiB, its reply: $(cat "$work/reply")"
-"$reader" 10000
+"$reader" list 10000
 compare "$runs times reading them" lists.reader sha256sum lists.sha

@@ -4,7 +4,7 @@
 set -eu
 export LC_ALL=C
 cd "$(dirname "$0")/.."
-program=$PWD/crates/graph_bench/out/graph_bench
+program=$PWD/crates/odin_bench/out/odin_bench
 work=$(mktemp -d)
 trap 'rm -rf "$work"' EXIT
 runs=20
@@ -19,10 +19,10 @@ median() { sort -n | sed -n 3p; }
 
 head -c 16777216 /dev/urandom > "$work/text"
 for round in 1 2 3 4 5; do
-    seconds "$program" 1000 >> "$work/reads"
+    seconds "$program" graph 1000 >> "$work/reads"
     seconds sha256sum "$work/text" >> "$work/sums"
 done
-/usr/bin/time -f %M -o "$work/memory" "$program" 1000 > "$work/answer"
+/usr/bin/time -f %M -o "$work/memory" "$program" graph 1000 > "$work/answer"
 
 cat "$work/answer"
 reads=$(median < "$work/reads")

@@ -4,7 +4,7 @@
 set -eu
 export LC_ALL=C
 cd "$(dirname "$0")/.."
-program=$PWD/crates/journal_bench/out/journal_bench
+program=$PWD/crates/odin_bench/out/odin_bench
 work=$(mktemp -d)
 trap 'rm -rf "$work"' EXIT
 runs=5
@@ -19,10 +19,10 @@ median() { sort -n | sed -n 3p; }
 
 head -c 67108864 /dev/urandom > "$work/text"
 for round in 1 2 3 4 5; do
-    seconds "$program" 16384 >> "$work/opens"
+    seconds "$program" journal 16384 >> "$work/opens"
     seconds sha256sum "$work/text" >> "$work/sums"
 done
-/usr/bin/time -f %M -o "$work/memory" "$program" 16384 > "$work/answer"
+/usr/bin/time -f %M -o "$work/memory" "$program" journal 16384 > "$work/answer"
 
 cat "$work/answer"
 opens=$(median < "$work/opens")

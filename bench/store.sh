@@ -5,7 +5,7 @@
 set -eu
 export LC_ALL=C
 cd "$(dirname "$0")/.."
-program=$PWD/crates/store_bench/out/store_bench
+program=$PWD/crates/odin_bench/out/odin_bench
 work=$(mktemp -d)
 trap 'rm -rf "$work"' EXIT
 runs=3
@@ -19,12 +19,12 @@ seconds() {
 median() { sort -n | sed -n 3p; }
 ratio() { awk -v a="$1" -v b="$2" 'BEGIN { printf "%.2f\n", a / b }'; }
 
-"$program" make "$work/store" 2000 4000
+"$program" store make "$work/store" 2000 4000
 for round in 1 2 3 4 5; do
-    seconds "$program" open "$work/store" >> "$work/opens"
+    seconds "$program" store open "$work/store" >> "$work/opens"
     seconds sha256sum "$work/store" >> "$work/sums"
 done
-/usr/bin/time -f %M -o "$work/memory" "$program" open "$work/store"
+/usr/bin/time -f %M -o "$work/memory" "$program" store open "$work/store"
 opens=$(median < "$work/opens")
 sums=$(median < "$work/sums")
 echo "$runs times: opening the file $opens s, sha256sum $sums s, ratio $(ratio "$opens" "$sums")"
@@ -33,8 +33,8 @@ contents=$((6000 * 8))
 echo "memory $(cat "$work/memory") KiB; against the contents, $contents KiB: $(ratio "$(cat "$work/memory")" "$contents")"
 
 for round in 1 2 3 4 5; do
-    "$program" time - 100 1000 >> "$work/few"
-    "$program" time - 10000 1000 >> "$work/many"
+    "$program" store time - 100 1000 >> "$work/few"
+    "$program" store time - 10000 1000 >> "$work/many"
 done
 few=$(median < "$work/few")
 many=$(median < "$work/many")

@@ -4,7 +4,7 @@
     store_images.py PROGRAM [COUNT [SEED]]
 
 Images are made from sessions by bytes that change, cuts, splices, records that stand twice, and items that change within whole records. PROGRAM is the
-built crates/store_bench. Each image is opened for the graph text GRAPH. Of each, both say where it isn't ours, or the sources, the calls in order, and the
+built crates/odin_bench. Each image is opened for the graph text GRAPH. Of each, both say where it isn't ours, or the sources, the calls in order, and the
 file behind the opening. It prints how many agree, and the first that don't.
 """
 import os
@@ -399,7 +399,7 @@ def said(program, images, folder):
     with open(path, "wb") as out:
         for image in images:
             out.write(blob(image))
-    answer = subprocess.run([program, "images", path], stdout=subprocess.PIPE, check=True).stdout
+    answer = subprocess.run([program, "store", "images", path], stdout=subprocess.PIPE, check=True).stdout
     told, at = [], 0
     while at < len(answer):
         if answer[at] == 0:

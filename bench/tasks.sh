@@ -6,7 +6,7 @@
 set -eu
 export LC_ALL=C
 cd "$(dirname "$0")/.."
-program=$PWD/crates/tasks_bench/out/tasks_bench
+program=$PWD/crates/odin_bench/out/odin_bench
 work=$(mktemp -d)
 trap 'rm -rf "$work"' EXIT
 
@@ -26,9 +26,9 @@ least() { sort -n | head -1; }
 compare() {
     local mode=$1 small=$2 large=$(($2 * 10))
     for _ in $(seq 15); do
-        seconds "$work/$mode.none" "$program" "$mode" 0
-        seconds "$work/$mode.small" "$program" "$mode" "$small"
-        seconds "$work/$mode.large" "$program" "$mode" "$large"
+        seconds "$work/$mode.none" "$program" tasks "$mode" 0
+        seconds "$work/$mode.small" "$program" tasks "$mode" "$small"
+        seconds "$work/$mode.large" "$program" tasks "$mode" "$large"
     done
     awk -v mode="$mode" -v small="$small" -v large="$large" -v none="$(least < "$work/$mode.none")" -v a="$(least < "$work/$mode.small")" -v b="$(least < "$work/$mode.large")" \
         'BEGIN { printf "%s: %d in %.4f s, %d in %.4f s, nothing in %.4f s, ratio %.2f\n", mode, small, a, large, b, none, (b - none) / (10 * (a - none)) }'
@@ -37,5 +37,5 @@ compare() {
 compare list 1000
 compare headers 100
 compare chain 100
-/usr/bin/time -f %M -o "$work/memory" "$program" calls 2000 > "$work/answer"
+/usr/bin/time -f %M -o "$work/memory" "$program" tasks calls 2000 > "$work/answer"
 echo "calls: $(cat "$work/answer"), memory $(cat "$work/memory") KiB"

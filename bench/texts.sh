@@ -3,11 +3,11 @@
 set -eu
 export LC_ALL=C
 cd "$(dirname "$0")/.."
-program=$PWD/crates/graph_bench/out/graph_bench
+program=$PWD/crates/odin_bench/out/odin_bench
 work=$(mktemp -d)
 trap 'rm -rf "$work"' EXIT
 
-/usr/bin/time -f %M -o "$work/memory" "$program" calls 2000 > "$work/answer"
+/usr/bin/time -f %M -o "$work/memory" "$program" texts 2000 > "$work/answer"
 
 cat "$work/answer"
 peak=$(cat "$work/memory")

@@ -1,21 +1,16 @@
 //! The program: it makes the objects of the outside and runs a session over them.
 #![tactic(auto)]
 
-mod faults;
-#[cfg(test)]
-mod tests;
-
-use faults::{MEMORY, fault_of};
 use object_values::Memory;
 use odin_children::ChildTools;
 use odin_files::{FileDisk, FolderTree};
 use odin_real::{ClosedStreams, InputSource, OutputSink};
 use odin_shell::run;
+use odin_start::{MEMORY, fault_of, words_of};
 use odin_words::{Work, read_words};
 use std::alloc::Global;
-use std::env::Env;
+use std::io;
 use std::process::ExitCode;
-use std::{env, io};
 
 // The file that sources and kept calls are in, in the current folder.
 const STORE: &str = "odin.store";
@@ -48,24 +43,6 @@ fn serve(rt: &HostRuntime, alloc: Global, words: &[String]) -> Result<u8, Memory
         &mut disk,
         &mut tools,
     ))
-}
-
-/// The words of the program. Words that are no text count as if there were none.
-fn words_of<R: Env + AllocGlobal>(rt: &R) -> Result<Vec<String>, Memory> {
-    let mut words = Vec::new(rt.alloc());
-    match env::args(rt) {
-        Ok(args) => {
-            for word in args {
-                words.push(word)?;
-            }
-        }
-        Err(fault) => {
-            if fault.kind() == io::ErrorKind::OutOfMemory {
-                return Err(Memory);
-            }
-        }
-    }
-    Ok(words)
 }
 
 /// The exit status of a run with the words of the program.

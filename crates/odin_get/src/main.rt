@@ -1,13 +1,8 @@
 //! Reads the replies of a session from standard input, and writes the object that the last ask was given.
 #![tactic(auto)]
 
-mod answers;
-mod files;
-mod run;
-mod words;
-
 use odin_real::ClosedStreams;
-use run::{Fault, run};
+use reply_objects::run::{Fault, run};
 use std::process::ExitCode;
 
 fn main(rt: HostRuntime) -> ExitCode {

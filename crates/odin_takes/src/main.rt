@@ -1,12 +1,7 @@
 //! Prints the commands that take the files below some folders.
 #![tactic(auto)]
 
-mod listed;
-mod paths;
-mod run;
-mod walk;
-
-use run::run;
+use folder_takes::run::run;
 use std::process::ExitCode;
 
 fn main(rt: HostRuntime) -> ExitCode {

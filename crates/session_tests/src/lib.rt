@@ -1,6 +1,9 @@
-//! Worked rows of inputs, words, graphs, tools and a store through whole runs, over objects in memory, with faults and stops. It holds tests alone.
+//! Worked rows of inputs, words, graphs, tools and a store through whole runs: over objects in memory, with faults and stops, over real files, pipes and
+//! child programs, and of loads. It holds tests alone.
 #![tactic(auto)]
 
+#[cfg(test)]
+mod derived;
 #[cfg(test)]
 mod failing;
 #[cfg(test)]
@@ -9,6 +12,10 @@ mod graphs;
 mod inputs;
 #[cfg(test)]
 mod keeping;
+#[cfg(test)]
+mod loads;
+#[cfg(test)]
+mod program;
 #[cfg(test)]
 mod rows;
 #[cfg(test)]

@@ -1,4 +1,5 @@
-//! Worked rows of real files, of a journal on one, of child programs, and of the program's words. It holds tests alone.
+//! Worked rows of real files, of a journal on one, of child programs, of the words of the programs, and of what stands between them and files. It holds
+//! tests alone.
 #![tactic(auto)]
 
 #[cfg(test)]
@@ -7,5 +8,11 @@ mod children;
 mod files;
 #[cfg(test)]
 mod journals;
+#[cfg(test)]
+mod objects;
+#[cfg(test)]
+mod starts;
+#[cfg(test)]
+mod takes;
 #[cfg(test)]
 mod words;

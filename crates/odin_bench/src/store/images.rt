@@ -1,0 +1,67 @@
+// What images of stores stand for.
+use crate::fault::Fault;
+use crate::store::filling::GRAPH;
+use object_values::{Bytes, Memory};
+use odin_bytes::{put_bytes, put_u8, put_u64, take_bytes};
+use odin_fakes::MemDisk;
+use odin_store::{Store, StoreFault};
+use std::alloc::Global;
+use std::io::Write;
+use std::{fs, io};
+use store_views::held;
+
+fn add_bytes(out: &mut Bytes, bytes: &[u8]) -> Result<(), Memory> {
+    if bytes.len() > u32::MAX as usize {
+        return Err(Memory);
+    }
+    put_bytes(out, bytes)
+}
+
+// A disk with this image, and room for the batch of a graph and for the looks at each record.
+fn disk_of(alloc: Global, image: &[u8]) -> Result<MemDisk, Memory> {
+    let calls = image.len().saturating_mul(4).saturating_add(64);
+    MemDisk::new(alloc, Bytes::from_slice(alloc, image)?, 256, calls)
+}
+
+// What a store holds, and the file behind its opening.
+fn told(alloc: Global, store: &Store, file: &[u8]) -> Result<Bytes, Memory> {
+    let mut told = held(alloc, store)?;
+    add_bytes(&mut told, file)?;
+    Ok(told)
+}
+
+/// Adds what an image stands for: a 1 and the bytes of that, or a 0 and where it isn't ours. Another number is an answer that shouldn't be.
+fn tell_image(alloc: Global, image: &[u8], out: &mut Bytes) -> Result<(), Memory> {
+    let mut disk = disk_of(alloc, image)?;
+    match Store::open(alloc, &mut disk, GRAPH) {
+        Ok(store) => {
+            put_u8(out, 1)?;
+            add_bytes(out, told(alloc, &store, disk.image())?.as_slice())
+        }
+        Err(StoreFault::NotOurs(at)) => {
+            put_u8(out, if disk.image() == image { 0 } else { 2 })?;
+            put_u64(out, at)
+        }
+        Err(_) => put_u8(out, 3),
+    }
+}
+
+/// Tells of each image of a file what it stands for. Each stands behind its length.
+pub(crate) fn tell_images(rt: &HostRuntime, path: &str) -> Result<(), Fault> {
+    let Ok(images) = fs::read(rt, path) else {
+        return Err(Fault::File);
+    };
+    let mut out = Bytes::new(rt.alloc());
+    let mut at = 0;
+    for _ in 0..images.len() {
+        let Some((start, end)) = take_bytes(images.as_slice(), at) else {
+            break;
+        };
+        tell_image(rt.alloc(), &images[start..end], &mut out)?;
+        at = end;
+    }
+    match io::writer(rt).write_all(out.as_slice()) {
+        Ok(()) => Ok(()),
+        Err(_) => Err(Fault::File),
+    }
+}

@@ -1,0 +1,37 @@
+-- The last answer of one more reply.
+use Rattle.std.proofs.Common.{◌≡◌, ◌∙◌, ap, sym, subst, refl, Bool, true, false, cond, List, [], ◌∷◌, ◌++◌, Option, Some, None}
+use Rattle.std.specs.Prelude.{All}
+use Rattle.std.proofs.lemmas.List.Elements.{All-head, All-tail}
+use Rattle.meaning_texts.proofs.Lemmas.{same_some}
+use Rattle.meaning_commands.specs.Formed.{IsFormed}
+use Rattle.meaning_commands.specs.declared.replies.Reply.{Reply}
+use Rattle.reply_objects.specs.Answers.{answers_ask, answer_of, later, last_answer}
+
+later_some : (o : Option Reply) → later None o ≡ o
+later_some None = refl
+later_some (Some reply) = refl
+
+later_later : (a b c : Option Reply) → later a (later b c) ≡ later (later a b) c
+later_later a b None = refl
+later_later a b (Some reply) = refl
+
+pub last_more : (replies : List Reply) (reply : Reply) → last_answer (replies ++ reply ∷ []) ≡ later (last_answer replies) (answer_of reply)
+last_more [] reply = sym (later_some (answer_of reply))
+last_more (first ∷ rest) reply = ap (later (answer_of first)) (last_more rest reply) ∙ later_later (answer_of first) (last_answer rest) (answer_of reply)
+
+-- It is one of the replies, so it is as well formed as they are.
+answer_is : (reply other : Reply) → answer_of reply ≡ Some other → reply ≡ other
+answer_is reply other is = by (answers_ask reply) is
+  where
+    by : (b : Bool) → cond b (Some reply) None ≡ Some other → reply ≡ other
+    by true is = same_some is
+    by false is = cc
+
+pub last_formed : (replies : List Reply) → All IsFormed replies → (reply : Reply) → last_answer replies ≡ Some reply → IsFormed reply
+last_formed [] formed reply is = cc
+last_formed (first ∷ rest) formed reply is =
+    by (last_answer rest) (λ there. last_formed rest (All-tail IsFormed first rest formed) reply there) is
+  where
+    by : (o : Option Reply) → (o ≡ Some reply → IsFormed reply) → later (answer_of first) o ≡ Some reply → IsFormed reply
+    by (Some other) rest_formed is = rest_formed is
+    by None rest_formed is = subst IsFormed (answer_is first reply is) (All-head IsFormed first rest formed)

@@ -1,0 +1,48 @@
+// Runs over the files of the current folder and child programs.
+use object_values::{Bytes, Memory};
+use odin_children::ChildTools;
+use odin_fakes::MemDisk;
+use odin_files::FolderTree;
+use odin_real::{InputSource, OutputSink};
+use odin_shell::run;
+use std::fs;
+use std::io::{self, Read, Write};
+
+/// The file of the graph, in the current folder.
+pub const GRAPH: &str = "session_tests.graph";
+
+// The lines of a unit are counted by `wc`. The program of `lost` isn't there.
+const TEXT: &str =
+    "type c simple;\ntype count simple;\ntype lost simple;\nsuffix .c c;\ntool count 1 from c to count run \"sh\" \"-c\" \"wc -l < i1 > out.count\";\ntool lost 1 from c to lost run \"no-such-program\";\n";
+
+/// Writes the file of the graph.
+pub fn write_graph(rt: &HostRuntime) -> io::Result<()> {
+    fs::write(rt, GRAPH, TEXT)
+}
+
+/// The status of a run with the name of a graph's file, over this input and output.
+pub fn status_over<I: Read + Drop, O: Write + Drop>(
+    rt: &HostRuntime,
+    graph: &str,
+    input: I,
+    output: O,
+) -> Result<u8, Memory> {
+    let alloc = rt.alloc();
+    let mut words = Vec::new(alloc);
+    words.push(String::from_str(alloc, "odin")?)?;
+    words.push(String::from_str(alloc, graph)?)?;
+    let mut input = InputSource::new(input);
+    let mut output = OutputSink::new(output);
+    let mut tree = FolderTree::new(rt);
+    let mut disk = MemDisk::new(alloc, Bytes::new(alloc), 1 << 22, 4096)?;
+    let mut tools = ChildTools::new(alloc, rt, rt.stderr());
+    Ok(run(
+        alloc,
+        words.as_slice(),
+        &mut input,
+        &mut output,
+        &mut tree,
+        &mut disk,
+        &mut tools,
+    ))
+}

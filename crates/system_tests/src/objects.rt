@@ -1,0 +1,59 @@
+// Objects of replies that were written as files.
+use object_values::{Bytes, Memory, Part, Seq, Text};
+use reply_objects::files::Files;
+use reply_objects::run::write_files;
+use std::alloc::Global;
+use std::test::Fail;
+use std::{fs, io};
+
+fn text_of(alloc: Global, body: &[u8]) -> Result<Text, Memory> {
+    Text::of(Bytes::from_slice(alloc, body)?)
+}
+
+// Two files in a folder.
+fn folder(alloc: Global) -> Result<Files, Memory> {
+    let mut parts = Seq::new(alloc);
+    parts.push(Part {
+        name: Bytes::from_slice(alloc, b"prog")?,
+        body: text_of(alloc, b"x=1\n")?,
+    })?;
+    parts.push(Part {
+        name: Bytes::from_slice(alloc, b"src")?,
+        body: text_of(alloc, b"")?,
+    })?;
+    Ok(Files::Folder(parts))
+}
+
+// Whether the file at a path has these bytes.
+fn holds(rt: &HostRuntime, path: &str, body: &[u8]) -> io::Result<bool> {
+    Ok(fs::read(rt, path)?.as_slice() == body)
+}
+
+#[test]
+fn a_file_is_written(rt: HostRuntime) -> Result<(), Fail> {
+    let file = Files::File(text_of(rt.alloc(), b"a\0b")?);
+    assert!(rt; write_files(&rt, "odin_get.file", &file).is_ok());
+    assert!(rt; holds(&rt, "odin_get.file", b"a\0b")?);
+    fs::remove_file(&rt, "odin_get.file")?;
+    Ok(())
+}
+
+#[test]
+fn a_folder_is_written_and_written_over(rt: HostRuntime) -> Result<(), Fail> {
+    let _ = fs::remove_dir_all(&rt, "odin_get.folder");
+    let files = folder(rt.alloc())?;
+    assert!(rt; write_files(&rt, "odin_get.folder/k", &files).is_ok());
+    fs::write(&rt, "odin_get.folder/k/src", "older\n")?;
+    assert!(rt; write_files(&rt, "odin_get.folder/k", &files).is_ok());
+    assert!(rt; holds(&rt, "odin_get.folder/k/prog", b"x=1\n")?);
+    assert!(rt; holds(&rt, "odin_get.folder/k/src", b"")?);
+    fs::remove_dir_all(&rt, "odin_get.folder")?;
+    Ok(())
+}
+
+#[test]
+fn nothing_is_written_of_no_object(rt: HostRuntime) -> Result<(), Fail> {
+    assert!(rt; write_files(&rt, "odin_get.none", &Files::Nothing).is_ok());
+    assert!(rt; !fs::exists(&rt, "odin_get.none")?);
+    Ok(())
+}
