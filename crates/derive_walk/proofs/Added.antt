@@ -5,15 +5,16 @@ use Rattle.object_values.specs.declared.nodes.Node.{Node}
 use Rattle.object_values.specs.declared.calls.Call.{Call}
 use Rattle.meaning_texts.specs.Lists.{IsIn}
 use Rattle.meaning_texts.proofs.Lemmas.{value_of_some}
+use Rattle.meaning_derive.specs.Chains.{AreDifferent, IsMet}
 use Rattle.walk_tables.specs.declared.done.Done.{Done}
-use Rattle.walk_tables.specs.Tables.{Entries, Waits, done_in}
+use Rattle.walk_tables.specs.Tables.{Entries, Waits, done_in, nodes_of}
 use Rattle.walk_tables.specs.Calls.{AreOnce, put_in}
 use Rattle.walk_tables.proofs.Lemmas.{put_keeps, from_put}
 use Rattle.derive_walk.specs.declared.walk.Walk.{Walk}
 use Rattle.derive_walk.specs.States.{heights_in, IsWaiting, HoldsIn}
-use Rattle.derive_walk.specs.Walks.{IsDone, AreDone}
-use Rattle.derive_walk.specs.Worlds.{World, IsNeedIn, StopsAt}
-use Rattle.derive_walk.proofs.Tables.{push_keeps, push_from, done_keeps, waiting_keeps}
+use Rattle.derive_walk.specs.Walks.{IsDone, AreDone, AreMet}
+use Rattle.derive_walk.specs.Worlds.{World, seen_in, IsNeedIn, StopsAt}
+use Rattle.derive_walk.proofs.Tables.{push_keeps, push_from, different_push, in_push, nodes_push, not_among, not_done, done_keeps, waiting_keeps}
 
 -- the second has each height of the first
 abbrev pub KeepHeights : (Node → Option ℕ) → (Node → Option ℕ) → Type 0
@@ -40,7 +41,7 @@ waits_on w heights more keeps wanted others sub n h x = record {
 module _ (w : World) (walk : Walk) (holds : HoldsIn w walk) where
   -- ---- a node that is done
 
-  module _ (n : Node) (new : heights_in walk n ≡ None) (d : Done) (is : IsDone w n d) (needs : (m : Node) → IsNeedIn w n m → IsSome (done_in walk.done m)) where
+  module _ (n : Node) (new : heights_in walk n ≡ None) (d : Done) (is : IsDone w n d) (needs : (m : Node) → IsNeedIn w n m → IsSome (done_in walk.done m)) (met : IsMet w.graph (seen_in w) walk.root n) where
     still_there : (m : Node) → IsSome (done_in walk.done m) → IsSome (done_in (walk.done ++ (n, d) ∷ []) m)
     still_there m there = let x = value_of_some (done_in walk.done m) there in subst IsSome (sym (push_keeps walk.done n d m x.0 x.1)) refl
 
@@ -54,11 +55,19 @@ module _ (w : World) (walk : Walk) (holds : HoldsIn w walk) where
         | inl q ↦ holds.done.needs m x q k one
         | inr q ↦ needs k (subst (λ z. IsNeedIn w z k) q.0 one)
       ]);
+      different = subst AreDifferent (sym (nodes_push walk.done n d)) (different_push (nodes_of walk.done) n holds.done.different (not_among walk.done n (not_done walk.done walk.waiting n new)));
     }
+
+    are_met : AreMet w walk.root (walk.done ++ (n, d) ∷ [])
+    are_met m i = elim (in_push m n (nodes_of walk.done) (subst (λ l. IsIn m l) (nodes_push walk.done n d) i)) [
+      | inl j ↦ holds.met m j
+      | inr e ↦ subst (λ z. IsMet w.graph (seen_in w) walk.root z) (sym e) met
+    ]
 
     pub holds_with_done : (done : Entries) → done ≡ walk.done ++ (n, d) ∷ [] → HoldsIn w (record walk { done = done })
     holds_with_done done same = subst (λ z. HoldsIn w (record walk { done = z })) (sym same) (record {
       done = are_done;
+      met = are_met;
       waiting = λ m h e. waits_on w (heights_in walk) (heights_in (record walk { done = walk.done ++ (n, d) ∷ [] })) (done_keeps walk.done walk.waiting n new d) walk.wanted walk.wanted (λ c i. i) m h (holds.waiting m h e);
       one = holds.one;
       only = holds.only;
@@ -71,6 +80,7 @@ module _ (w : World) (walk : Walk) (holds : HoldsIn w walk) where
     pub holds_with_waiting : (waiting : Waits) → waiting ≡ walk.waiting ++ (n, h) ∷ [] → HoldsIn w (record walk { waiting = waiting })
     holds_with_waiting waiting same = subst (λ z. HoldsIn w (record walk { waiting = z })) (sym same) (record {
       done = holds.done;
+      met = holds.met;
       waiting = λ m k e. waits_on w (heights_in walk) (heights_in (record walk { waiting = walk.waiting ++ (n, h) ∷ [] })) (waiting_keeps walk.done walk.waiting n new h) walk.wanted walk.wanted (λ c i. i) m k (elim (push_from walk.waiting n h m k e) [
         | inl q ↦ holds.waiting m k q
         | inr q ↦ subst (λ z. IsWaiting w (heights_in walk) walk.wanted z k) (sym q.0) (subst (λ z. IsWaiting w (heights_in walk) walk.wanted n z) q.1 is)
@@ -85,6 +95,7 @@ module _ (w : World) (walk : Walk) (holds : HoldsIn w walk) where
   pub holds_with_wanted : (call : Call) → StopsAt w walk.root call → (wanted : List Call) → wanted ≡ put_in call walk.wanted → AreOnce wanted → HoldsIn w (record walk { wanted = wanted })
   holds_with_wanted call stops wanted same once = record {
     done = holds.done;
+    met = holds.met;
     waiting = λ m h e. waits_on w (heights_in walk) (heights_in walk) (λ n k q. q) walk.wanted wanted keep m h (holds.waiting m h e);
     one = λ m h e. let c = holds.one m h e in (c.0, keep c.0 c.1);
     only = λ c i. elim (from_put call c walk.wanted (subst (λ l. IsIn c l) same i)) [

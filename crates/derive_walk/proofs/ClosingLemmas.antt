@@ -9,7 +9,7 @@ use Rattle.meaning_texts.specs.Lists.{IsIn}
 use Rattle.meaning_texts.proofs.Lemmas.{same_some, in_right}
 use Rattle.meaning_nodes.specs.Nodes.{Fits}
 use Rattle.meaning_tasks.specs.Laws.{AgreeAt}
-use Rattle.meaning_derive.specs.Chains.{Chain, IsNeed}
+use Rattle.meaning_derive.specs.Chains.{Chain, IsNeed, IsMet}
 use Rattle.meaning_derive.specs.Derive.{derive, HasHeight}
 use Rattle.meaning_derive.specs.Calls.{Runs}
 use Rattle.meaning_derive.proofs.Lemmas.{grows_to, settles_to, height_above, none_by_call, one_run}
@@ -38,22 +38,19 @@ module _ (w : World) (walk : Walk) (n : Node) (last : IsLast w walk n) where
   pub last_is_new : heights_in walk n ≡ None
   last_is_new = last.path.apart n on_path
 
-  -- a call that it runs, and that has no outcome, is one at which the derivation of the root stops
-  pub stops_here : (call : Call) → Runs w.graph (seen_in w) n call → w.outcomes call ≡ None → StopsAt w walk.root call
-  stops_here call runs outside =
+  -- the path leads there
+  pub met_here : IsMet w.graph (seen_in w) walk.root n
+  met_here =
       let few : length (last.front ++ n ∷ []) ≤ height_limit = subst (λ l. length l ≤ height_limit) last.is last.path.few in
       record {
-        from = record {
-          node = n;
-          met = record {
-            front = last.front;
-            leads = subst (λ l. Chain w.graph (seen_in w) walk.root l) last.is last.leads;
-            short = omega (arith, few, length-append last.front (n ∷ []));
-          };
-          runs = runs;
-        };
-        outside = outside;
+        front = last.front;
+        leads = subst (λ l. Chain w.graph (seen_in w) walk.root l) last.is last.leads;
+        short = omega (arith, few, length-append last.front (n ∷ []));
       }
+
+  -- a call that it runs, and that has no outcome, is one at which the derivation of the root stops
+  pub stops_here : (call : Call) → Runs w.graph (seen_in w) n call → w.outcomes call ≡ None → StopsAt w walk.root call
+  stops_here call runs outside = record { from = record { node = n; met = met_here; runs = runs }; outside = outside }
 
 -- ---- needs that are done
 

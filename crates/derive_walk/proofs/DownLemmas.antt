@@ -17,7 +17,7 @@ use Rattle.derive_walk.specs.Paths.{IsTall, LeadsDown}
 use Rattle.derive_walk.proofs.HeightLemmas.{of_height_is, has_height}
 use Rattle.derive_walk.proofs.NeedLemmas.{is_need, from_need}
 use Rattle.derive_walk.proofs.FallLemmas.{in_listed, need_fits, listed_here, falls, tight}
-use Rattle.derive_walk.proofs.VisitLemmas.{in_push, different_push, at_end}
+use Rattle.derive_walk.proofs.Tables.{in_push, different_push, at_end}
 
 -- what follows where all went well
 pub on_ok : {T E P Q : Type 0} (r : Result T E) → OnOk r P → (P → Q) → OnOk r Q

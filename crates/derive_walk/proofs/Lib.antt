@@ -19,4 +19,5 @@ mod AdvanceLemmas
 mod GiveLemmas
 mod Formed
 mod Stays
+mod MetLemmas
 pub mod Lemmas

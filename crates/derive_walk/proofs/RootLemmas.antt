@@ -18,7 +18,7 @@ use Rattle.walk_tables.specs.Calls.{Outcomes, AreOnce}
 use Rattle.derive_walk.specs.declared.walk.Walk.{Walk}
 use Rattle.derive_walk.specs.Worlds.{World, seen_in, StopsAt}
 use Rattle.derive_walk.specs.Founds.{IsFound}
-use Rattle.derive_walk.specs.Walks.{Walked, AreDone, IsRight, AreFrontier, EndsWith}
+use Rattle.derive_walk.specs.Walks.{Walked, AreDone, AreMet, IsRight, AreFrontier, EndsWith}
 use Rattle.derive_walk.specs.States.{heights_in, HoldsIn}
 use Rattle.derive_walk.proofs.Tables.{done_or_waiting}
 use Rattle.derive_walk.proofs.NeedLemmas.{done_is_derived, at_most_limit}
@@ -72,6 +72,7 @@ nothing_waits n h e = cc
 pub holds_at_start : (w : World) (walked : Walked) → IsRight w walked → (walk : Walk) → walk.root ≡ walked.root → walk.done ≡ walked.done → walk.wanted ≡ walked.wanted → walk.waiting ≡ [] → HoldsIn w walk
 holds_at_start w walked right walk root done wanted waiting = record {
   done = subst (λ d. AreDone w d) (sym done) right.done;
+  met = subst (λ r. AreMet w r walk.done) (sym root) (subst (λ d. AreMet w walked.root d) (sym done) right.met);
   waiting = λ n h e. absurd (nothing_waits n h (subst (λ l. height_in l n ≡ Some h) waiting e));
   one = λ n h e. absurd (nothing_waits n h (subst (λ l. height_in l n ≡ Some h) waiting e));
   only = λ call i. subst (λ r. StopsAt w r call) (sym root) (right.wanted call (subst (λ l. IsIn call l) wanted i));
@@ -84,6 +85,7 @@ right_at_end w walk holds fit root given result found = record {
   fit = fit;
   root = root;
   done = holds.done;
+  met = holds.met;
   wanted = holds.only;
   once = holds.once;
   found = found;

@@ -15,7 +15,7 @@ use Rattle.derive_walk.specs.Settled.{HasSettled, HasStopped}
 use Rattle.derive_walk.specs.States.{HoldsIn, GoesOnFrom}
 use Rattle.derive_walk.specs.Worlds.{World}
 use Rattle.derive_walk.proofs.Added.{KeepCalls, holds_with_done, holds_with_waiting, holds_with_wanted}
-use Rattle.derive_walk.proofs.ClosingLemmas.{last_fits, last_is_new, stops_here, needs_stay, settled_is_done, stopped_runs, stopped_waits}
+use Rattle.derive_walk.proofs.ClosingLemmas.{last_fits, last_is_new, met_here, stops_here, needs_stay, settled_is_done, stopped_runs, stopped_waits}
 
 pub keep_put : (call : Call) (wanted more : List Call) → more ≡ put_in call wanted → KeepCalls wanted more
 keep_put call wanted more same c i = subst (λ l. IsIn c l) (sym same) (put_keeps call c wanted i)
@@ -27,7 +27,7 @@ module _ (w : World) (walk : Walk) (holds : HoldsIn w walk) (n : Node) {needed :
   pub settled_holds : (view : View) → HasSettled w n (results_of walk.done) view → (done : Entries) → done ≡ walk.done ++ (n, record { view = view; height = height }) ∷ [] → HoldsIn w (record walk { done = done })
   settled_holds view so done same =
       let d : Done = record { view = view; height = height } in
-      holds_with_done w walk holds n (last_is_new w walk n last) d (settled_is_done w walk holds n height closing (last_fits w walk n last) view so) (needs_stay w walk holds n height closing) done same
+      holds_with_done w walk holds n (last_is_new w walk n last) d (settled_is_done w walk holds n height closing (last_fits w walk n last) view so) (needs_stay w walk holds n height closing) (met_here w walk n last) done same
 
   module _ (call : Call) (so : HasStopped w n (results_of walk.done) call) (wanted : List Call) (more : wanted ≡ put_in call walk.wanted) where
     pub wanted_holds : HoldsIn w (record walk { wanted = wanted })

@@ -1,5 +1,5 @@
 -- What stays as more outcomes come: what is found, what is done, and what is wanted.
-use Rattle.std.proofs.Common.{◌≡◌, List, ap, subst, is_some}
+use Rattle.std.proofs.Common.{◌≡◌, List, [], ◌∷◌, ◌++◌, ap, subst, is_some}
 use Rattle.std.specs.Prelude.{Option, Some, None, IsSome, IfSome}
 use Rattle.object_values.specs.declared.nodes.Node.{Node}
 use Rattle.object_values.specs.declared.calls.Call.{Call}
@@ -8,8 +8,9 @@ use Rattle.meaning_texts.specs.Lists.{IsIn}
 use Rattle.meaning_texts.proofs.Lemmas.{value_of_some}
 use Rattle.meaning_graph.specs.Graphs.{Graph}
 use Rattle.meaning_tasks.specs.Needs.{Needs}
-use Rattle.meaning_tasks.proofs.Lemmas.{one_list_of_needs, full_needs_stay}
+use Rattle.meaning_tasks.proofs.Lemmas.{one_list_of_needs, full_needs_stay, need_stays}
 use Rattle.meaning_derive.specs.Derive.{Sources, text_of, Outcomes, derived, IsFounded}
+use Rattle.meaning_derive.specs.Chains.{LeadsOn, Chain, IsMet}
 use Rattle.meaning_derive.specs.Given.{OutcomesFit}
 use Rattle.meaning_derive.specs.Laws.{HasMore}
 use Rattle.meaning_derive.proofs.Lemmas.{derive_more, grows_to, kept, needs_at, needs_listed, same_height, frontier_stays}
@@ -39,6 +40,26 @@ module _ (g : Graph) (s : Sources) (outcomes more : Outcomes) (has : HasMore out
   found_stays n (Answer view) is = derive_more g s outcomes more has height_limit n view is
   found_stays n (Circular chain) is = (kept g s outcomes more has n).circular chain is
   found_stays n (Deep chain) is = (kept g s outcomes more has n).deep chain is
+
+  -- ---- chains
+
+  one_stays : (n m : Node) → IsNeedIn few n m → IsNeedIn many n m
+  one_stays n m need = record {
+    needs = needs_at g s more height_limit n;
+    listed = needs_listed g s more height_limit n;
+    one = need_stays g n (derived g s outcomes) (derived g s more) need.needs (needs_at g s more height_limit n) (derive_more g s outcomes more has height_limit) need.listed (needs_listed g s more height_limit n) m need.one;
+  }
+
+  leads_stay : (n : Node) (rest : List Node) → LeadsOn g (derived g s outcomes) n rest → LeadsOn g (derived g s more) n rest
+  leads_stay n [] l = tt
+  leads_stay n (m ∷ rest) l = (one_stays n m l.0, leads_stay m rest l.1)
+
+  chain_stays : (n : Node) (chain : List Node) → Chain g (derived g s outcomes) n chain → Chain g (derived g s more) n chain
+  chain_stays n [] c = c
+  chain_stays n (m ∷ rest) c = (c.0, leads_stay m rest c.1)
+
+  pub met_stays : (n m : Node) → IsMet g (derived g s outcomes) n m → IsMet g (derived g s more) n m
+  met_stays n m met = record { front = met.front; leads = chain_stays n (met.front ++ m ∷ []) met.leads; short = met.short }
 
   -- ---- a table
 
@@ -71,6 +92,7 @@ module _ (g : Graph) (s : Sources) (outcomes more : Outcomes) (has : HasMore out
   are_done_stays done are = record {
     each = λ n d there. done_stays n d (are.each n d there);
     needs = λ n d there m need. needs_done done are n d there m need;
+    different = are.different;
   }
 
   -- ---- a walk
@@ -84,6 +106,7 @@ module _ (g : Graph) (s : Sources) (outcomes more : Outcomes) (has : HasMore out
     fit = fit;
     root = right.root;
     done = are_done_stays walked.done right.done;
+    met = λ n i. met_stays walked.root n (right.met n i);
     wanted = λ call i. frontier_stays g s outcomes more has walked.root call (right.wanted call i) (none call i);
     once = right.once;
     found = result_stays walked.root walked.result right.found;

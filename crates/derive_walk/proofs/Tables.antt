@@ -1,13 +1,15 @@
--- One more entry in a table, and the heights that the tables give.
-use Rattle.std.proofs.Common.{◌≡◌, ℕ, true, false, cond, List, [], ◌∷◌, ◌++◌, ◌⊎◌, inl, inr, sym, ap, ◌∙◌, subst, refl}
-use Rattle.std.specs.Prelude.{Some, None, option_map}
+-- One more entry in a table, its nodes, and the heights that the tables give.
+use Rattle.std.proofs.Common.{◌≡◌, ℕ, suc, Bool, true, false, cond, List, [], ◌∷◌, ◌++◌, ◌⊎◌, inl, inr, sym, ap, ◌∙◌, subst, refl, length}
+use Rattle.std.specs.Prelude.{Some, None, IsSome, is_some, option_map}
 use Rattle.std.specs.Map.{lookup}
 use Rattle.object_values.specs.declared.nodes.Node.{Node}
 use Rattle.object_values.specs.contracts.nodes.NodePartialEq.TheImpl.{ghosts as node_eq}
 use Rattle.object_values.specs.Exact.{node_exact}
-use Rattle.meaning_texts.proofs.Lemmas.{some_or_none, same_some}
+use Rattle.meaning_texts.specs.Lists.{IsIn}
+use Rattle.meaning_texts.proofs.Lemmas.{some_or_none, same_some, in_right, in_either}
+use Rattle.meaning_derive.specs.Chains.{AreDifferent}
 use Rattle.walk_tables.specs.declared.done.Done.{Done}
-use Rattle.walk_tables.specs.Tables.{Entries, Waits, done_in, height_in, height_or, heights_of}
+use Rattle.walk_tables.specs.Tables.{Entries, Waits, done_in, nodes_of, height_in, height_or, heights_of}
 
 -- ---- an entry behind the others
 
@@ -44,6 +46,47 @@ module _ {V : Type 0} where
     | inr q ↦ q
     | inl x ↦ elim (push_from es k v n x.0 x.1) [ inl q ↦ cc | inr q ↦ absurd (apart q.0) ]
   ]
+
+-- ---- lists of nodes
+
+pub different_push : (front : List Node) (x : Node) → AreDifferent front → (IsIn x front → ⊥) → AreDifferent (front ++ x ∷ [])
+different_push [] x d apart = (λ h. h, tt)
+different_push (f ∷ front) x d apart = (λ h. elim (in_either f front (x ∷ []) h) [ inl k ↦ d.0 k | inr k ↦ elim k [ inl e ↦ apart (inl (sym e)) | inr none ↦ none ] ], different_push front x d.1 (λ k. apart (inr k)))
+
+pub in_push : (m n : Node) (front : List Node) → IsIn m (front ++ n ∷ []) → IsIn m front ⊎ (m ≡ n)
+in_push m n front i = elim (in_either m front (n ∷ []) i) [ inl k ↦ inl k | inr k ↦ elim k [ inl e ↦ inr e | inr none ↦ absurd none ] ]
+
+pub at_end : (n : Node) (front : List Node) → IsIn n (front ++ n ∷ [])
+at_end n front = in_right n front (n ∷ []) (inl refl)
+
+-- ---- the nodes of a table
+
+pub nodes_push : (es : Entries) (n : Node) (d : Done) → nodes_of (es ++ (n, d) ∷ []) ≡ nodes_of es ++ n ∷ []
+nodes_push [] n d = refl
+nodes_push (e ∷ es) n d = ap (λ l. e.0 ∷ l) (nodes_push es n d)
+
+pub nodes_length : (es : Entries) → length (nodes_of es) ≡ length es
+nodes_length [] = refl
+nodes_length (e ∷ es) = ap suc (nodes_length es)
+
+-- a node without an entry is none of them
+pub not_among : (es : Entries) (n : Node) → done_in es n ≡ None → IsIn n (nodes_of es) → ⊥
+not_among [] n none i = i
+not_among (e ∷ es) n none i = by_test (node_eq.eq n e.0) refl none (not_among es n)
+  where
+    by_test : (b : Bool) → node_eq.eq n e.0 ≡ b → cond b (Some e.1) (done_in es n) ≡ None → (done_in es n ≡ None → IsIn n (nodes_of es) → ⊥) → ⊥
+    by_test true same none below = cc
+    by_test false same none below = elim i [
+      | inl q ↦ let yes : node_eq.eq n e.0 ≡ true = (node_exact n e.0).1 q in cc
+      | inr j ↦ below none j
+    ]
+
+-- each of them has one
+pub has_entry : (es : Entries) (n : Node) → IsIn n (nodes_of es) → IsSome (done_in es n)
+has_entry es n i = elim (some_or_none (done_in es n)) [
+  | inl d ↦ ap is_some d.1
+  | inr none ↦ absurd (not_among es n none i)
+]
 
 -- ---- heights
 

@@ -8,7 +8,7 @@ use Rattle.object_values.specs.contracts.nodes.NodePartialEq.TheImpl.{ghosts as 
 use Rattle.object_values.specs.Exact.{node_exact}
 use Rattle.meaning_texts.specs.Limits.{height_limit}
 use Rattle.meaning_texts.specs.Lists.{IsIn}
-use Rattle.meaning_texts.proofs.Lemmas.{in_left, in_right, in_either}
+use Rattle.meaning_texts.proofs.Lemmas.{in_left}
 use Rattle.meaning_nodes.specs.Nodes.{Fits}
 use Rattle.meaning_derive.specs.Chains.{Chain, AreDifferent}
 use Rattle.meaning_derive.proofs.Lemmas.{chain_on}
@@ -21,21 +21,12 @@ use Rattle.derive_walk.specs.Worlds.{World, IsWorld, seen_in, IsNeedIn}
 use Rattle.derive_walk.specs.Founds.{IsFound}
 use Rattle.derive_walk.specs.States.{heights_in, HoldsIn, GoesOnFrom, Visited, AfterVisit}
 use Rattle.derive_walk.specs.Paths.{LeadsTo, IsPath, IsNext, IsLast}
+use Rattle.derive_walk.proofs.Tables.{different_push, in_push, at_end}
 use Rattle.derive_walk.proofs.HeightLemmas.{unseen_count, fewer_unseen}
 use Rattle.derive_walk.proofs.GoingLemmas.{stays}
 use Rattle.derive_walk.proofs.FallLemmas.{need_fits, needs_in, needs_in_listed, in_listed}
 
 -- ---- lists of nodes
-
-pub different_push : (front : List Node) (x : Node) → AreDifferent front → (IsIn x front → ⊥) → AreDifferent (front ++ x ∷ [])
-different_push [] x d apart = (λ h. h, tt)
-different_push (f ∷ front) x d apart = (λ h. elim (in_either f front (x ∷ []) h) [ inl k ↦ d.0 k | inr k ↦ elim k [ inl e ↦ apart (inl (sym e)) | inr none ↦ none ] ], different_push front x d.1 (λ k. apart (inr k)))
-
-pub in_push : (m n : Node) (front : List Node) → IsIn m (front ++ n ∷ []) → IsIn m front ⊎ (m ≡ n)
-in_push m n front i = elim (in_either m front (n ∷ []) i) [ inl k ↦ inl k | inr k ↦ elim k [ inl e ↦ inr e | inr none ↦ absurd none ] ]
-
-pub at_end : (n : Node) (front : List Node) → IsIn n (front ++ n ∷ [])
-at_end n front = in_right n front (n ∷ []) (inl refl)
 
 pub node_is_in : (n : Node) (nodes : List Node) → node_in n nodes ≡ true → IsIn n nodes
 node_is_in n [] h = cc
@@ -62,6 +53,7 @@ goes_far a b c p q = record {
 pub holds_at : (w : World) (walk : Walk) (path : List Node) → HoldsIn w walk → HoldsIn w (record walk { path = path })
 holds_at w walk path h = record {
   done = h.done;
+  met = h.met;
   waiting = h.waiting;
   one = h.one;
   only = h.only;

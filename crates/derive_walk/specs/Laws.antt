@@ -13,6 +13,7 @@ use Rattle.meaning_derive.specs.Laws.{HasMore}
 use Rattle.walk_tables.specs.declared.found.Found.{Found}
 use Rattle.walk_tables.specs.declared.found.Found.TheVariants.{Answer, Circular, Deep}
 use Rattle.derive_walk.specs.Founds.{IsFound}
+use Rattle.derive_walk.specs.Looks.{HasMet}
 use Rattle.derive_walk.specs.Walks.{Walked, IsRight}
 use Rattle.derive_walk.specs.Worlds.{World, IsWorld, world}
 
@@ -49,3 +50,10 @@ abbrev pub WantedAreFormed : Type 0
 WantedAreFormed =
     (w : World) → IsWorld w → (walked : Walked) → IsRight w walked
     → (call : Call) → IsIn call walked.wanted → IsWellFormed call
+
+-- ---- what was looked at
+
+-- The nodes that have results, and those that stop at the wanted calls, are different ones, and each
+-- is met from the root.
+abbrev pub WalksHaveMet : Type 0
+WalksHaveMet = (w : World) (walked : Walked) → IsRight w walked → HasMet w walked

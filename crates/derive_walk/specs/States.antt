@@ -11,7 +11,7 @@ use Rattle.walk_tables.specs.Calls.{AreOnce}
 use Rattle.walk_tables.specs.declared.found.Found.{Found}
 use Rattle.derive_walk.specs.declared.walk.Walk.{Walk}
 use Rattle.derive_walk.specs.Founds.{IsFound}
-use Rattle.derive_walk.specs.Walks.{AreDone}
+use Rattle.derive_walk.specs.Walks.{AreDone, AreMet}
 use Rattle.derive_walk.specs.Worlds.{World, seen_in, IsNeedIn, StopsAt}
 
 -- the heights of the nodes that were visited
@@ -47,10 +47,11 @@ pub record IsWaiting (w : World) (heights : Node → Option ℕ) (wanted : List 
 
 -- ---- the walk
 
--- Each node that was visited is done or waits, and each wanted call is one at which the derivation
--- stops. Where a node waits some call is wanted.
+-- Each node that was visited is done, and met from the root, or waits. Each wanted call is one at
+-- which the derivation stops. Where a node waits some call is wanted.
 pub record HoldsIn (w : World) (walk : Walk) : Type 0 where
   pub done : AreDone w walk.done
+  pub met : AreMet w walk.root walk.done
   pub waiting : (n : Node) (h : ℕ) → height_in walk.waiting n ≡ Some h
       → IsWaiting w (heights_in walk) walk.wanted n h
   pub one : (n : Node) (h : ℕ) → height_in walk.waiting n ≡ Some h

@@ -7,10 +7,10 @@ use Rattle.meaning_texts.specs.Limits.{height_limit}
 use Rattle.meaning_texts.specs.Lists.{IsIn}
 use Rattle.meaning_nodes.specs.Nodes.{Fits}
 use Rattle.meaning_derive.specs.Derive.{derive, HasHeight}
-use Rattle.meaning_derive.specs.Chains.{IsRefusal}
+use Rattle.meaning_derive.specs.Chains.{AreDifferent, IsMet, IsRefusal}
 use Rattle.meaning_derive.specs.Given.{OutcomesFit}
 use Rattle.walk_tables.specs.declared.done.Done.{Done}
-use Rattle.walk_tables.specs.Tables.{Entries, done_in}
+use Rattle.walk_tables.specs.Tables.{Entries, done_in, nodes_of}
 use Rattle.walk_tables.specs.Calls.{Outcomes, outcome_in, AreOnce}
 use Rattle.walk_tables.specs.declared.found.Found.{Found}
 use Rattle.derive_walk.specs.Founds.{IsFound}
@@ -41,17 +41,24 @@ pub record IsDone (w : World) (n : Node) (d : Done) : Type 0 where
   pub is : derive w.graph w.sources w.outcomes d.height n ≡ Some d.view
   pub has : HasHeight w.graph w.sources w.outcomes n d.height
 
--- Each node of the table is done, and so are its needs.
+-- Each node of the table is done, and so are its needs; none stands there twice.
 pub record AreDone (w : World) (done : Entries) : Type 0 where
   pub each : (n : Node) (d : Done) → done_in done n ≡ Some d → IsDone w n d
   pub needs : (n : Node) (d : Done) → done_in done n ≡ Some d
       → (m : Node) → IsNeedIn w n m → IsSome (done_in done m)
+  pub different : AreDifferent (nodes_of done)
+
+-- each node of the table is met from the root
+abbrev pub AreMet : World → Node → Entries → Type 0
+AreMet w root done =
+    (n : Node) → IsIn n (nodes_of done) → IsMet w.graph (seen_in w) root n
 
 -- It is right by what is known of calls: what is wanted are calls at which the derivation stops.
 pub record IsRight (w : World) (walked : Walked) : Type 0 where
   pub fit : OutcomesFit w.outcomes
   pub root : Fits w.graph walked.root
   pub done : AreDone w walked.done
+  pub met : AreMet w walked.root walked.done
   pub wanted : (call : Call) → IsIn call walked.wanted → StopsAt w walked.root call
   pub once : AreOnce walked.wanted
   pub found : IfSome walked.result (IsFound w.graph w.sources w.outcomes walked.root)
@@ -90,4 +97,5 @@ pub record IsGiven (call : Call) (outcome : Outcome) (old new : Walked) : Type 0
   pub done : new.done ≡ old.done
   pub given : new.given ≡ old.given ++ (call, outcome) ∷ []
   pub wanted : (c : Call) → IsIn c new.wanted ↔ (IsIn c old.wanted × (c ≢ call))
+  pub once : AreOnce new.wanted
   pub result : new.result ≡ old.result

@@ -1,5 +1,5 @@
 //! Laws of walks. Each is the contract of a function with an empty body.
-ghost use Rattle.derive_walk.specs.Laws.{FoundStays, RightStays, FoundFits, WantedAreFormed};
+ghost use Rattle.derive_walk.specs.Laws.{FoundStays, RightStays, FoundFits, WantedAreFormed, WalksHaveMet};
 
 /// What is found stays, and so does a walk that is right, as more outcomes come.
 pub fn more_keeps()
@@ -11,4 +11,9 @@ pub fn more_keeps()
 pub fn all_is_formed()
     ensures nodes { FoundFits }
     ensures calls { WantedAreFormed }
+{}
+
+/// What `counted` counts are different nodes that are met from the root.
+pub fn looks_are_of_nodes()
+    ensures { WalksHaveMet }
 {}

@@ -2,13 +2,13 @@ use Rattle.std.proofs.Common.{◌≡◌, ◌≢◌, ◌↔◌, List, [], ◌∷�
 use Rattle.object_values.specs.declared.calls.Call.{Call}
 use Rattle.object_values.specs.declared.calls.Outcome.{Outcome}
 use Rattle.meaning_texts.specs.Lists.{IsIn}
-use Rattle.walk_tables.specs.Calls.{Outcomes as Listed}
+use Rattle.walk_tables.specs.Calls.{AreOnce, Outcomes as Listed}
 use Rattle.derive_walk.specs.Walks.{Walked, AreApart, IsGiven}
 use Rattle.derive_walk.proofs.GiveLemmas.{apart_after, right_after}
 use Rattle.derive_walk.proofs.walker.Walker.give.Goals as goal
 
-given_so : (call : Call) (o : Outcome) (inside old : Walked) (given : Listed) (wanted : List Call) → inside ≡ old → given ≡ inside.given ++ (call, o) ∷ [] → ((q : Call) → IsIn q wanted ↔ (IsIn q inside.wanted × (q ≢ call))) → IsGiven call o old (record inside { given = given; wanted = wanted })
-given_so call o inside old given wanted same added fewer = subst (λ (z : Walked). IsGiven call o z (record inside { given = given; wanted = wanted })) same (record { root = refl; done = refl; given = added; wanted = fewer; result = refl })
+given_so : (call : Call) (o : Outcome) (inside old : Walked) (given : Listed) (wanted : List Call) → inside ≡ old → given ≡ inside.given ++ (call, o) ∷ [] → ((q : Call) → IsIn q wanted ↔ (IsIn q inside.wanted × (q ≢ call))) → AreOnce wanted → IsGiven call o old (record inside { given = given; wanted = wanted })
+given_so call o inside old given wanted same added fewer once = subst (λ (z : Walked). IsGiven call o z (record inside { given = given; wanted = wanted })) same (record { root = refl; done = refl; given = added; wanted = fewer; once = once; result = refl })
 
 pub invariant_of-self-2 : goal.invariant_of-self-2
 invariant_of-self-2 c =
@@ -18,9 +18,9 @@ invariant_of-self-2 c =
 pub returns-clause-ok : goal.returns-clause-ok
 returns-clause-ok c =
     let added = c.in_ok-add.ensures.ok ∙ ap (λ (z : Call). c.self.inside.given ++ (z, c.args.outcome) ∷ []) c.in_ok-copy.ensures in
-    given_so c.args.call.now c.args.outcome _ _ _ _ c.self.view_is added c.remove.ensures
+    given_so c.args.call.now c.args.outcome _ _ _ _ c.self.view_is added c.remove.ensures c.once.ensures
 
 pub returns-clause-right : goal.returns-clause-right
 returns-clause-right c g s kept right =
     let added = c.in_ok-add.ensures.ok ∙ ap (λ (z : Call). c.self.inside.given ++ (z, c.args.outcome) ∷ []) c.in_ok-copy.ensures in
-    right_after g s kept c.args.call.now c.args.outcome c.requires.fits _ _ right c.requires.wanted (given_so c.args.call.now c.args.outcome _ _ _ _ c.self.view_is added c.remove.ensures) c.once.ensures
+    right_after g s kept c.args.call.now c.args.outcome c.requires.fits _ _ right c.requires.wanted (given_so c.args.call.now c.args.outcome _ _ _ _ c.self.view_is added c.remove.ensures c.once.ensures)

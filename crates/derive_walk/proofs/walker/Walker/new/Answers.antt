@@ -12,7 +12,8 @@ new_right : (w : World) (root : Node) → Fits w.graph root → OutcomesFit w.ou
 new_right w root fits fit = record {
   fit = fit;
   root = fits;
-  done = record { each = λ n d e. some_is_none None d e cc; needs = λ n d e m need. some_is_none None d e cc };
+  done = record { each = λ n d e. some_is_none None d e cc; needs = λ n d e m need. some_is_none None d e cc; different = tt };
+  met = λ n i. absurd i;
   wanted = λ call i. absurd i;
   once = tt;
   found = tt;
