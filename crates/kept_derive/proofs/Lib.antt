@@ -5,4 +5,5 @@ mod LoopLemmas
 mod LawLemmas
 mod StopLemmas
 mod RestLemmas
+mod LookLemmas
 pub mod Lemmas

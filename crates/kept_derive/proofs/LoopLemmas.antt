@@ -102,6 +102,7 @@ module _ {D : Type 0} (told : D → Telling) (g : Graph) (n : Node) (first : At 
             new = outside (outcome_in walked.given call) (known_in now.store call) (right.wanted call i).outside;
           };
           idle = idle;
+          once = right.once;
         }
 
     -- ---- it ends

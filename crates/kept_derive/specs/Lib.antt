@@ -2,6 +2,7 @@ pub mod Faults
 pub mod Runs
 pub mod Stops
 pub mod Calls
+pub mod Looked
 pub mod Ways
 pub mod Rests
 pub mod Laws

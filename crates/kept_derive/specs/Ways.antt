@@ -7,6 +7,7 @@ use Rattle.odin_outside.specs.Spawned.{Spawned}
 use Rattle.meaning_texts.specs.Lists.{IsIn}
 use Rattle.meaning_graph.specs.Graphs.{Graph}
 use Rattle.odin_store.specs.declared.store.Store.{Store}
+use Rattle.walk_tables.specs.Calls.{AreOnce}
 use Rattle.derive_walk.specs.Walks.{Walked, IsRight}
 use Rattle.plain_derive.specs.Given.{IsRefusedBy}
 use Rattle.kept_derive.specs.declared.fault.KeptFault.{KeptFault}
@@ -20,11 +21,12 @@ pub record IsOnWay {Disk : Type 0} (told : Disk → Telling) (g : Graph) (n : No
   pub run : HasRun told g n first walked.given now
   pub right : IsRight (world_in g first.store walked.given) walked
 
--- Calls are wanted, each of which may be run and kept.
+-- Calls are wanted, each once, and each may be run and kept.
 pub record MayRun (walked : Walked) (store : Store) (size : ℕ) (tools : Spawned) : Type 0 where
   pub still : walked.result ≡ None
   pub calls : (call : Call) → IsIn call walked.wanted → IsKeepable store call
   pub idle : IsIdle store size tools
+  pub once : AreOnce walked.wanted
 
 -- what goes on from every derivation on its way that is not refused at first, and what stops each
 abbrev pub GoesOn : {Disk : Type 0} → (Disk → Telling) → Walked → At Disk → Walked → At Disk → Type 0

@@ -4,7 +4,9 @@ ghost use Rattle.meaning_graph_text.specs.Grammar.{IsSpellable};
 ghost use Rattle.path_planner.specs.Ends.{plans_of};
 ghost use Rattle.derive_walk.specs.Walks.{IsRight, IsAdvanced, GoesOn};
 ghost use Rattle.kept_derive.specs.Calls.{IsIdle};
+ghost use Rattle.derive_walk.specs.Looks.{AreFew, lost, met_by};
 ghost use Rattle.kept_derive.specs.Faults.{IsCause, IsLeft};
+ghost use Rattle.kept_derive.specs.Looked.{AreLooks};
 ghost use Rattle.kept_derive.specs.Rests.{ComesToRest, IsDerivable};
 ghost use Rattle.kept_derive.specs.Runs.{at, world_in, HasFound};
 ghost use Rattle.kept_derive.specs.Stops.{IsStopped};
@@ -43,6 +45,9 @@ pub fn derive_kept<D: Disk, S: Spawner, L: Ledger>(
     ensures left { IsLeft store.new (D.size_of disk.new) result }
     ensures cause { IsCause (D.faults disk.old) (D.faults disk.new) result }
     ensures rest { ComesToRest KeptFault.Memory (S.told tools.old) (S.told tools.new) result }
+    ensures counted { let old = at store.old disk.old (S.told tools.old) in
+        AreLooks D.told graph.now node.now old (at store.new disk.new (S.told tools.new))
+        steps.old steps.new result }
 {
     graph.checked();
     store.kept().fit();
@@ -77,6 +82,8 @@ fn advance<L: Ledger>(
     ensures right { IsRight (world_in graph.now store.now core.new.given) core.new }
     ensures advanced { OnOk result
         (IsAdvanced (world_in graph.now store.now core.new.given) core.new) }
+    ensures counted { AreFew (met_by core.old) (met_by core.new)
+        steps.old steps.new (lost result) }
 {
     let looks = store.kept().looks();
     core.advance(alloc, graph, plans, store.sources(), &looks, steps)

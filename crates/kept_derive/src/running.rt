@@ -1,6 +1,7 @@
 // Wanted calls, run and kept one after another.
 ghost use Rattle.std.specs.Prelude.{OnOk, IfErr};
 ghost use Rattle.kept_derive.specs.Faults.{IsCause, IsLeft};
+ghost use Rattle.kept_derive.specs.Looked.{TakesAll, TakesOne};
 ghost use Rattle.kept_derive.specs.Runs.{at};
 ghost use Rattle.kept_derive.specs.Ways.{GoesOn, MayRun, Stops};
 
@@ -29,6 +30,7 @@ pub(crate) fn run_wanted<D: Disk, S: Spawner>(
         IfErr result (Stops D.told core.old old (at store.new disk.new (S.told tools.new))) }
     ensures may { OnOk result
         (MayRun core.new store.new (D.size_of disk.new) (S.told tools.new)) }
+    ensures counted { OnOk result (TakesAll core.old core.new) }
     ensures left { IsLeft store.new (D.size_of disk.new) result }
     ensures cause { IsCause (D.faults disk.old) (D.faults disk.new) result }
 {
@@ -55,6 +57,7 @@ fn run_first<D: Disk, S: Spawner>(
         IfErr result (Stops D.told core.old old (at store.new disk.new (S.told tools.new))) }
     ensures may { OnOk result
         (MayRun core.new store.new (D.size_of disk.new) (S.told tools.new)) }
+    ensures counted { OnOk result (TakesOne core.old core.new) }
     ensures left { IsLeft store.new (D.size_of disk.new) result }
     ensures cause { IsCause (D.faults disk.old) (D.faults disk.new) result }
 {

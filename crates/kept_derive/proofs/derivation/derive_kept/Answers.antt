@@ -5,6 +5,7 @@ use Rattle.derive_walk.specs.Walks.{Walked}
 use Rattle.kept_derive.specs.declared.fault.KeptFault.TheVariants.{Memory}
 use Rattle.kept_derive.proofs.HeldLemmas.{kept_fit}
 use Rattle.kept_derive.proofs.LoopLemmas.{start, none_begun, right_now, advanced, moved, calm, may_run, ends, waits, stopped_at}
+use Rattle.kept_derive.proofs.LookLemmas.{none_counted, advance_counted, runs_counted, none_looked, has_looked, looked_wider, looked_by, looked_at}
 use Rattle.kept_derive.proofs.RestLemmas.{found_rests, stopped_rests, rests_at}
 use Rattle.kept_derive.proofs.derivation.derive_kept.Goals.{else-loop-test, then-loop-test+in_ok-advance+then-is_some}
 use Rattle.kept_derive.proofs.derivation.derive_kept.Goals as goal
@@ -20,7 +21,13 @@ loop-init g c = record {
   still = ap (λ (z : Walked). z.result) c.new-core.ensures.is;
   idle = c.requires.idle;
   cause = refl;
+  counted = none_counted _ _;
 }
+
+pub returns-in_err-copy-clause-counted : goal.returns-in_err-copy-clause-counted
+returns-in_err-copy-clause-counted g c =
+    let given = err_from_is_err_and _ c.from_residual.ensures.1 in
+    looked_at _ g.D.Disk.told _ _ _ _ _ _ _ _ (given.1 ∙ ap (λ f. Err f) given.2) (none_looked g.D.Disk.told _ _ _ c.changes_follow.ensures _ _)
 
 pub advance-requires : goal.advance-requires
 advance-requires g c = record {
@@ -42,6 +49,13 @@ returns-in_err-advance-clause-rest g c =
     let given = err_from_is_err_and _ c.from_residual-in_err-advance.ensures.1 in
     rests_at g.D.Disk.told _ _ _ _ c.requires.idle.none _ _ (given.1 ∙ ap (λ f. Err f) given.2)
     (waits g.D.Disk.told _ _ _ _ _ (advanced g.D.Disk.told _ _ _ _ _ c.loop.invariant.way _ c.in_err-advance.ensures.on c.in_err-advance.ensures.right))
+
+pub returns-in_err-advance-clause-counted : goal.returns-in_err-advance-clause-counted
+returns-in_err-advance-clause-counted g c =
+    let given = err_from_is_err_and _ c.from_residual-in_err-advance.ensures.1 in
+    let way = advanced g.D.Disk.told _ _ _ _ _ c.loop.invariant.way _ c.in_err-advance.ensures.on c.in_err-advance.ensures.right in
+    looked_at _ g.D.Disk.told _ _ _ _ _ _ _ _ (given.1 ∙ ap (λ f. Err f) given.2)
+    (has_looked g.D.Disk.told _ _ _ _ _ way _ _ _ (advance_counted _ _ _ _ _ _ c.loop.invariant.counted c.in_err-advance.ensures.on.given c.in_err-advance.ensures.counted))
 
 -- ---- calls are run
 
@@ -67,6 +81,13 @@ returns-in_err-run_wanted-clause-rest g c =
     rests_at g.D.Disk.told _ _ _ _ c.requires.idle.none _ _ (given.1 ∙ ap (λ f. Err f) given.2)
     (c.in_err-run_wanted.ensures.stops _ _ _ (calm g.D.Disk.told _ _ _ _ _ way c.in_ok-advance.ensures.advanced still) way)
 
+pub returns-in_err-run_wanted-clause-counted : goal.returns-in_err-run_wanted-clause-counted
+returns-in_err-run_wanted-clause-counted g c =
+    let given = err_from_is_err_and _ c.from_residual-in_err-run_wanted.ensures.1 in
+    let way = advanced g.D.Disk.told _ _ _ _ _ c.loop.invariant.way _ c.in_ok-advance.ensures.on c.in_ok-advance.ensures.right in
+    let looked = has_looked g.D.Disk.told _ _ _ _ _ way _ _ _ (advance_counted _ _ _ _ _ _ c.loop.invariant.counted c.in_ok-advance.ensures.on.given c.in_ok-advance.ensures.counted) in
+    looked_at _ g.D.Disk.told _ _ _ _ _ _ _ _ (given.1 ∙ ap (λ f. Err f) given.2) (looked_wider g.D.Disk.told _ _ _ _ _ _ _ looked)
+
 pub loop-preserved : goal.loop-preserved
 loop-preserved g c =
     let way = advanced g.D.Disk.told _ _ _ _ _ c.loop.invariant.way _ c.in_ok-advance.ensures.on c.in_ok-advance.ensures.right in
@@ -76,6 +97,7 @@ loop-preserved g c =
       still = c.in_ok-run_wanted.ensures.may.still;
       idle = c.in_ok-run_wanted.ensures.may.idle;
       cause = c.in_ok-run_wanted.ensures.cause.ok ∙ c.loop.invariant.cause;
+      counted = runs_counted _ _ c.advance.new.core c.run_wanted.new.core (advance_counted _ _ _ _ _ _ c.loop.invariant.counted c.in_ok-advance.ensures.on.given c.in_ok-advance.ensures.counted) c.in_ok-run_wanted.ensures.counted.sought;
     }
 
 -- ---- it ends
@@ -100,3 +122,23 @@ returns-in-None-clause-stopped g c = elim c.loop-test.branch [
 
 pub returns-in-None-clause-rest : goal.returns-in-None-clause-rest
 returns-in-None-clause-rest g c = stopped_rests g.D.Disk.told _ _ _ _ c.requires.idle.none Memory (returns-in-None-clause-stopped g c)
+
+-- ---- the looks, where it ends
+
+pub returns-in-Some-clause-counted : goal.returns-in-Some-clause-counted
+returns-in-Some-clause-counted g c = elim c.loop-test.branch [
+  | else-loop-test w ↦ looked_by g.D.Disk.told _ _ _ _ _ _ _ _ w.steps-is (has_looked g.D.Disk.told _ _ _ _ _ c.loop.invariant.way _ _ _ c.loop.invariant.counted)
+  | then-loop-test+in_ok-advance+then-is_some w ↦
+      let way = advanced g.D.Disk.told _ _ _ _ _ c.loop.invariant.way _ w.in_ok-advance.ensures.on w.in_ok-advance.ensures.right in
+      let looked = has_looked g.D.Disk.told _ _ _ _ _ way _ _ _ (advance_counted _ _ _ _ _ _ c.loop.invariant.counted w.in_ok-advance.ensures.on.given w.in_ok-advance.ensures.counted) in
+      looked_by g.D.Disk.told _ _ _ _ _ _ _ _ w.steps-is looked
+]
+
+pub returns-in-None-clause-counted : goal.returns-in-None-clause-counted
+returns-in-None-clause-counted g c = elim c.loop-test.branch [
+  | else-loop-test w ↦ record { now = _; looked = looked_by g.D.Disk.told _ _ _ _ _ _ _ _ w.steps-is (looked_wider g.D.Disk.told _ _ _ _ _ _ _ (has_looked g.D.Disk.told _ _ _ _ _ c.loop.invariant.way _ _ _ c.loop.invariant.counted)) }
+  | then-loop-test+in_ok-advance+then-is_some w ↦
+      let way = advanced g.D.Disk.told _ _ _ _ _ c.loop.invariant.way _ w.in_ok-advance.ensures.on w.in_ok-advance.ensures.right in
+      let looked = has_looked g.D.Disk.told _ _ _ _ _ way _ _ _ (advance_counted _ _ _ _ _ _ c.loop.invariant.counted w.in_ok-advance.ensures.on.given w.in_ok-advance.ensures.counted) in
+      record { now = _; looked = looked_by g.D.Disk.told _ _ _ _ _ _ _ _ w.steps-is (looked_wider g.D.Disk.told _ _ _ _ _ _ _ looked) }
+]

@@ -4,6 +4,7 @@ use Rattle.std.proofs.lemmas.Result.{err_from_is_err_and}
 use Rattle.meaning_texts.specs.Lists.{IsIn}
 use Rattle.plain_derive.proofs.Lemmas.{first_in}
 use Rattle.kept_derive.proofs.LoopLemmas.{waits}
+use Rattle.kept_derive.proofs.LookLemmas.{takes_one}
 use Rattle.kept_derive.proofs.WayLemmas.{way_stops_at, goes_on, stopped, wanting_after, still_keepable}
 use Rattle.kept_derive.proofs.running.run_first.Goals as goal
 
@@ -49,4 +50,11 @@ returns-clause-may g c = record {
     ready = c.in_ok-outcome.ensures.left.ready;
     none = search (rules, c.in_ok-outcome.ensures.kept.tools_are);
   };
+  once = c.in_ok-give.ensures.ok.once;
 }
+
+pub returns-clause-counted : goal.returns-clause-counted
+returns-clause-counted g c =
+    let first : slice_get c.args.core.now.wanted 0 ≡ Some c.in-Some.first.now = search rules in
+    let there = subst (λ z. IsIn z c.args.core.now.wanted) (sym c.in_ok-call.ensures) (first_in _ _ first) in
+    takes_one c.in_ok-call.call _ _ _ there c.requires.once c.in_ok-give.ensures.ok

@@ -1,6 +1,7 @@
-use Rattle.std.proofs.Common.{ap, ◌∙◌}
+use Rattle.std.proofs.Common.{◌≡◌, ◌-◌, length, ap, ◌∙◌, arith}
 use Rattle.std.specs.Prelude.{Err}
 use Rattle.std.proofs.lemmas.Result.{err_from_is_err_and}
+use Rattle.kept_derive.proofs.LookLemmas.{none_left}
 use Rattle.kept_derive.proofs.WayLemmas.{way_stops_at}
 use Rattle.kept_derive.proofs.running.run_wanted.Goals as goal
 
@@ -15,4 +16,12 @@ loop-preserved g c = record {
   on = λ g' n first calm way. c.in_ok-run_first.ensures.on g' n first calm (c.loop.invariant.on g' n first calm way);
   may = c.in_ok-run_first.ensures.may;
   cause = c.in_ok-run_first.ensures.cause.ok ∙ c.loop.invariant.cause;
+  sought = c.in_ok-run_first.ensures.counted.sought ∙ c.loop.invariant.sought;
+  left = omega (arith, c.in_ok-run_first.ensures.counted.fewer, c.loop.invariant.left);
+}
+
+pub returns-clause-counted : goal.returns-clause-counted
+returns-clause-counted g c = record {
+  sought = c.loop.invariant.sought;
+  none = none_left _ (omega (arith, c.loop.invariant.left, c.loop-test.false));
 }
