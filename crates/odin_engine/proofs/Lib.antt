@@ -1,4 +1,5 @@
 mod AskLemmas
+mod LookingLemmas
 mod AskLawLemmas
 mod AskedLemmas
 mod EngineLemmas

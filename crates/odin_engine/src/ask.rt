@@ -4,9 +4,9 @@ ghost use Rattle.kept_derive.specs.Calls.{IsIdle};
 ghost use Rattle.meaning_nodes.specs.Nodes.{Fits};
 ghost use Rattle.kept_derive.specs.Faults.{IsCause as IsKeptCause, IsLeft as IsKeptLeft};
 ghost use Rattle.kept_derive.specs.Rests.{ComesToRest};
-ghost use Rattle.kept_derive.specs.Runs.{at, HasFound};
-ghost use Rattle.kept_derive.specs.Stops.{IsStopped};
+ghost use Rattle.kept_derive.specs.Runs.{at};
 ghost use Rattle.odin_engine.specs.Asking.{answer_of, IsAnswered, IsAskFault, IsCause, IsLeft};
+ghost use Rattle.odin_engine.specs.Looking.{AreAskLooks, IsDerived};
 
 use crate::engine::Engine;
 use crate::fault::AskFault;
@@ -38,6 +38,9 @@ impl Engine {
         ensures rest { ComesToRest AskFault.Memory (S.told tools.old) (S.told tools.new) result }
         ensures left { IsLeft self.new.store (D.size_of disk.new) result }
         ensures cause { IsCause (D.faults disk.old) (D.faults disk.new) result }
+        ensures counted { let old = at self.old.store disk.old (S.told tools.old) in
+            AreAskLooks D.told self.old.graph text.now
+            old (at self.new.store disk.new (S.told tools.new)) steps.old steps.new result }
     {
         let node = self.plan(alloc, text)?;
         let derived = self.derive(alloc, disk, tools, &node, steps);
@@ -55,12 +58,9 @@ impl Engine {
     ) -> Result<Found, KeptFault>
         requires fits { Fits self.old.graph node.now }
         requires idle { IsIdle self.old.store (D.size_of disk.old) (S.told tools.old) }
-        ensures found { let old = at self.old.store disk.old (S.told tools.old) in
-            IfOk result (HasFound D.told self.old.graph node.now
-            old (at self.new.store disk.new (S.told tools.new))) }
-        ensures stopped { let old = at self.old.store disk.old (S.told tools.old) in
-            IfErr result (IsStopped D.told self.old.graph node.now
-            old (at self.new.store disk.new (S.told tools.new))) }
+        ensures derived { let old = at self.old.store disk.old (S.told tools.old) in
+            IsDerived D.told self.old.graph node.now
+            old (at self.new.store disk.new (S.told tools.new)) steps.old steps.new result }
         ensures graph { self.new.graph ≡ self.old.graph }
         ensures left { IsKeptLeft self.new.store (D.size_of disk.new) result }
         ensures cause { IsKeptCause (D.faults disk.old) (D.faults disk.new) result }

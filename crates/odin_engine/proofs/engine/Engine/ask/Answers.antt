@@ -5,7 +5,9 @@ use Rattle.kept_derive.specs.Rests.{ComesToRest}
 use Rattle.kept_derive.specs.Runs.{at}
 use Rattle.odin_engine.specs.declared.fault.AskFault.TheVariants.{Memory}
 use Rattle.odin_engine.specs.Asking.{IsAnswered, IsAskFault, IsCause, IsLeft}
+use Rattle.odin_engine.specs.Looking.{AreAskLooks}
 use Rattle.odin_engine.proofs.AskLemmas.{answered, faulted, left_so, cause_so, rests_so, refused_at, refused_leaves, refused_counts, refused_rests}
+use Rattle.odin_engine.proofs.LookingLemmas.{looks_so, refused_looks}
 use Rattle.odin_engine.proofs.engine.Engine.ask.Goals as goal
 
 -- ---- a text that asks for nothing
@@ -28,6 +30,11 @@ returns-in_err-node-clause-cause g c =
     let given = err_from_is_err_and _ c.from_residual.ensures.1 in
     refused_counts c.args.self.now.graph c.args.text.now _ _ _ (given.1 ∙ ap (λ f. Err f) given.2) c.in_err-node.ensures.err
 
+pub returns-in_err-node-clause-counted : goal.returns-in_err-node-clause-counted
+returns-in_err-node-clause-counted g c =
+    let given = err_from_is_err_and _ c.from_residual.ensures.1 in
+    refused_looks _ g.D.Disk.told c.args.self.now.graph c.args.text.now _ _ _ (given.1 ∙ ap (λ f. Err f) given.2)
+
 -- ---- a text of a node
 
 pub returns-clause-ok : goal.returns-clause-ok
@@ -35,14 +42,14 @@ returns-clause-ok g c =
     let old = at c.args.self.now.store c.args.disk.now (g.S.Spawner.told c.args.tools.now) in
     let new = at c.derive-derived.new.self.store c.derive-derived.new.disk (g.S.Spawner.told c.derive-derived.new.tools) in
     subst (λ r. IfOk r (IsAnswered g.D.Disk.told c.args.self.now.graph c.args.text.now old new)) (sym c.answer_of.ensures)
-    (answered g.D.Disk.told c.args.self.now.graph c.args.text.now c.in_ok-node.node c.in_ok-node.ensures.ok old new c.derive-derived.result c.derive-derived.ensures.found)
+    (answered g.D.Disk.told c.args.self.now.graph c.args.text.now c.in_ok-node.node c.in_ok-node.ensures.ok old new c.derive-derived.result c.derive-derived.ensures.derived.found)
 
 pub returns-clause-err : goal.returns-clause-err
 returns-clause-err g c =
     let old = at c.args.self.now.store c.args.disk.now (g.S.Spawner.told c.args.tools.now) in
     let new = at c.derive-derived.new.self.store c.derive-derived.new.disk (g.S.Spawner.told c.derive-derived.new.tools) in
     subst (λ r. IfErr r (IsAskFault g.D.Disk.told c.args.self.now.graph c.args.text.now old new)) (sym c.answer_of.ensures)
-    (faulted g.D.Disk.told c.args.self.now.graph c.args.text.now c.in_ok-node.node c.in_ok-node.ensures.ok old new c.derive-derived.result c.derive-derived.ensures.found c.derive-derived.ensures.stopped)
+    (faulted g.D.Disk.told c.args.self.now.graph c.args.text.now c.in_ok-node.node c.in_ok-node.ensures.ok old new c.derive-derived.result c.derive-derived.ensures.derived.found c.derive-derived.ensures.derived.stopped)
 
 pub returns-clause-rest : goal.returns-clause-rest
 returns-clause-rest g c = subst (ComesToRest Memory _ _) (sym c.answer_of.ensures) (rests_so _ _ c.derive-derived.result c.derive-derived.ensures.rest)
@@ -52,3 +59,10 @@ returns-clause-left g c = subst (IsLeft _ _) (sym c.answer_of.ensures) (left_so 
 
 pub returns-clause-cause : goal.returns-clause-cause
 returns-clause-cause g c = subst (IsCause _ _) (sym c.answer_of.ensures) (cause_so _ _ c.derive-derived.result c.derive-derived.ensures.cause)
+
+pub returns-clause-counted : goal.returns-clause-counted
+returns-clause-counted g c =
+    let old = at c.args.self.now.store c.args.disk.now (g.S.Spawner.told c.args.tools.now) in
+    let new = at c.derive-derived.new.self.store c.derive-derived.new.disk (g.S.Spawner.told c.derive-derived.new.tools) in
+    subst (AreAskLooks g.D.Disk.told c.args.self.now.graph c.args.text.now old new _ _) (sym c.answer_of.ensures)
+    (looks_so g.D.Disk.told c.args.self.now.graph c.args.text.now c.in_ok-node.node c.in_ok-node.ensures.ok old new _ _ c.derive-derived.result c.derive-derived.ensures.derived.looks)
