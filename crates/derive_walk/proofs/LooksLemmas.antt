@@ -1,12 +1,13 @@
 -- The looks of a walk, one call after another.
 use Rattle.std.proofs.Common.{◌≡◌, ℕ, ◌+◌, ◌≤◌, Bool, true, false, cond, List, [], ◌∷◌, ◌++◌, length, sym, ap, subst, arith, refl, length-append, ◌∙◌}
-use Rattle.std.specs.Prelude.{◌↔◌, IsTrue, Option, Result, Ok, Err}
+use Rattle.std.specs.Prelude.{◌≢◌, ◌↔◌, IsTrue, Option, Result, Ok, Err}
 use Rattle.object_values.specs.declared.views.View.{View}
+use Rattle.object_values.specs.declared.nodes.Step.{Step}
 use Rattle.object_values.specs.declared.nodes.Node.{Node}
 use Rattle.object_values.specs.declared.calls.Call.{Call}
 use Rattle.meaning_texts.specs.Lists.{IsIn}
 use Rattle.walk_tables.specs.declared.done.Done.{Done}
-use Rattle.walk_tables.specs.Tables.{Entries}
+use Rattle.walk_tables.specs.Tables.{Entries, nodes_of}
 use Rattle.walk_tables.specs.Calls.{Outcomes, call_in, put_in}
 use Rattle.walk_tables.specs.declared.found.Found.{Found}
 use Rattle.walk_tables.proofs.Lemmas.{found_in}
@@ -14,7 +15,7 @@ use Rattle.derive_walk.specs.declared.settling.Closed.{Closed}
 use Rattle.derive_walk.specs.declared.settling.Closed.TheVariants.{Settled, Stops}
 use Rattle.derive_walk.specs.declared.walk.Walk.{Walk}
 use Rattle.derive_walk.specs.Walks.{Walked}
-use Rattle.derive_walk.specs.Looks.{AreFew, LooksOnce, lost, met_by, met_in}
+use Rattle.derive_walk.specs.Looks.{AreFew, LooksOnce, lost, met_by, met_in, one_if, stepped}
 use Rattle.derive_walk.proofs.AdvanceLemmas.{seen_so}
 
 -- one behind the other
@@ -42,47 +43,56 @@ put_new call wanted new = (elim (call_in call wanted) as (λ b. call_in call wan
   | false ↦ λ e. length-append wanted (call ∷ [])
 ]) refl
 
+-- ---- nodes with steps
+
+stepped_push : (es : Entries) (n : Node) (d : Done) → stepped (nodes_of (es ++ (n, d) ∷ [])) ≡ stepped (nodes_of es) + one_if n.steps
+stepped_push [] n d = omega arith
+stepped_push (e ∷ es) n d = omega (arith, stepped_push es n d)
+
+one_step : (steps : List Step) → (steps ≢ []) → one_if steps ≡ 1
+one_step [] some = absurd (some refl)
+one_step (step ∷ steps) some = refl
+
 -- ---- the closing of one node
 
--- with no look
-pub not_looked : {E : Type 0} (wanted : List Call) (count : ℕ) (result : Result Closed E) → LooksOnce wanted count count result
-not_looked wanted count (Ok (Settled view)) = record { later = omega arith; once = omega arith; ok = omega arith }
-not_looked wanted count (Ok (Stops call)) = record { later = omega arith; once = omega arith; ok = omega (arith, put_grows call wanted) }
-not_looked wanted count (Err fault) = record { later = omega arith; once = omega arith; ok = tt }
+module _ {E : Type 0} (wanted : List Call) (n : Node) where
+  -- with no look
+  pub not_looked : (count : ℕ) (result : Result Closed E) → LooksOnce wanted n count count result
+  not_looked count (Ok (Settled view)) = record { later = omega arith; once = omega arith; ok = omega arith }
+  not_looked count (Ok (Stops call)) = record { later = omega arith; once = omega arith; ok = omega (arith, put_grows call wanted) }
+  not_looked count (Err fault) = record { later = omega arith; once = omega arith; ok = tt }
 
--- by one look
-pub looked_settled : {E : Type 0} (wanted : List Call) (before now : ℕ) (view : View) → now ≡ before + 1 → LooksOnce {E = E} wanted before now (Ok (Settled view))
-looked_settled wanted before now view is = record { later = omega (arith, is); once = omega (arith, is); ok = omega (arith, is) }
+  -- by one look
+  pub looked_settled : (before now : ℕ) (view : View) → n.steps ≢ [] → now ≡ before + 1 → LooksOnce {E = E} wanted n before now (Ok (Settled view))
+  looked_settled before now view some is = record { later = omega (arith, is); once = omega (arith, is); ok = omega (arith, is, one_step n.steps some) }
 
-pub looked_stops : {E : Type 0} (wanted : List Call) (before now : ℕ) (call : Call) → now ≡ before + 1 → (IsIn call wanted → ⊥) → LooksOnce {E = E} wanted before now (Ok (Stops call))
-looked_stops wanted before now call is new = record { later = omega (arith, is); once = omega (arith, is); ok = omega (arith, is, put_new call wanted new) }
+  looked_stops : (before now : ℕ) (call : Call) → now ≡ before + 1 → (IsIn call wanted → ⊥) → LooksOnce {E = E} wanted n before now (Ok (Stops call))
+  looked_stops before now call is new = record { later = omega (arith, is); once = omega (arith, is); ok = omega (arith, is, put_new call wanted new) }
 
-pub looked_lost : {E : Type 0} (wanted : List Call) (before now : ℕ) (result : Result Closed E) (fault : E) → result ≡ Err fault → now ≡ before + 1 → LooksOnce wanted before now result
-looked_lost {E} wanted before now result fault err is = subst (LooksOnce {E = E} wanted before now) (sym err) (record { later = omega (arith, is); once = omega (arith, is); ok = tt })
-
-pub looked_out : {E : Type 0} (wanted : List Call) (before now : ℕ) (call : Call) (there : Bool) → now ≡ before + 1 → IsTrue there ↔ IsIn call wanted → there ≡ false → LooksOnce {E = E} wanted before now (Ok (Stops call))
-looked_out wanted before now call there is exact none = looked_stops wanted before now call is (λ i. let yes : IsTrue there = exact.1 i in cc)
+  pub looked_out : (before now : ℕ) (call : Call) (there : Bool) → now ≡ before + 1 → IsTrue there ↔ IsIn call wanted → there ≡ false → LooksOnce {E = E} wanted n before now (Ok (Stops call))
+  looked_out before now call there is exact none = looked_stops before now call is (λ i. let yes : IsTrue there = exact.1 i in cc)
 
 -- what it makes of a walk
-module _ {E : Type 0} (done : Entries) (wanted : List Call) (before now : ℕ) where
-  pub few_settled : (next : Entries) (n : Node) (d : Done) (closed : Closed) (view : View) → closed ≡ Settled view → next ≡ done ++ (n, d) ∷ [] → LooksOnce {E = E} wanted before now (Ok closed)
-      → AreFew (length done + length wanted) (length next + length wanted) before now 0
-  few_settled next n d closed view same is looks =
-      let longer : length next ≡ length done + 1 = ap length is ∙ length-append done ((n, d) ∷ []) in
-      let one : LooksOnce {E = E} wanted before now (Ok (Settled view)) = subst (λ z. LooksOnce {E = E} wanted before now (Ok z)) same looks in
+module _ {E : Type 0} (done : Entries) (wanted : List Call) (n : Node) (before now : ℕ) where
+  pub few_settled : (next : Entries) (d : Done) (closed : Closed) (view : View) → closed ≡ Settled view → next ≡ done ++ (n, d) ∷ [] → LooksOnce {E = E} wanted n before now (Ok closed)
+      → AreFew (stepped (nodes_of done) + length wanted) (stepped (nodes_of next) + length wanted) before now 0
+  few_settled next d closed view same is looks =
+      let longer : stepped (nodes_of next) ≡ stepped (nodes_of done) + one_if n.steps = ap (λ es. stepped (nodes_of es)) is ∙ stepped_push done n d in
+      let one : LooksOnce {E = E} wanted n before now (Ok (Settled view)) = subst (λ z. LooksOnce {E = E} wanted n before now (Ok z)) same looks in
       record { later = looks.later; each = omega (arith, one.ok, longer) }
 
-  pub few_stops : (more : List Call) (closed : Closed) (call : Call) → closed ≡ Stops call → more ≡ put_in call wanted → LooksOnce {E = E} wanted before now (Ok closed)
-      → AreFew (length done + length wanted) (length done + length more) before now 0
+  pub few_stops : (more : List Call) (closed : Closed) (call : Call) → closed ≡ Stops call → more ≡ put_in call wanted → LooksOnce {E = E} wanted n before now (Ok closed)
+      → AreFew (stepped (nodes_of done) + length wanted) (stepped (nodes_of done) + length more) before now 0
   few_stops more closed call same is looks =
       let longer : length more ≡ length (put_in call wanted) = ap length is in
-      let one : LooksOnce {E = E} wanted before now (Ok (Stops call)) = subst (λ z. LooksOnce {E = E} wanted before now (Ok z)) same looks in
+      let one : LooksOnce {E = E} wanted n before now (Ok (Stops call)) = subst (λ z. LooksOnce {E = E} wanted n before now (Ok z)) same looks in
       record { later = looks.later; each = omega (arith, one.ok, longer) }
 
   -- where nothing is added a look may be lost
-  pub few_lost : (next : Entries) (more : List Call) (result : Result Closed E) → next ≡ done → more ≡ wanted → LooksOnce wanted before now result → AreFew (length done + length wanted) (length next + length more) before now 1
+  pub few_lost : (next : Entries) (more : List Call) (result : Result Closed E) → next ≡ done → more ≡ wanted → LooksOnce wanted n before now result
+      → AreFew (stepped (nodes_of done) + length wanted) (stepped (nodes_of next) + length more) before now 1
   few_lost next more result same also looks =
-      let one : length next ≡ length done = ap length same in
+      let one : stepped (nodes_of next) ≡ stepped (nodes_of done) = ap (λ es. stepped (nodes_of es)) same in
       let other : length more ≡ length wanted = ap length also in
       record { later = looks.later; each = omega (arith, looks.once, one, other) }
 

@@ -1,13 +1,15 @@
 -- A source settles to its text, over any results.
 use Rattle.std.proofs.Common.{◌≡◌, List, [], sym, subst, refl}
-use Rattle.std.specs.Prelude.{Some, None}
+use Rattle.std.specs.Prelude.{Option, Some, None}
 use Rattle.object_values.specs.declared.nodes.Node.{Node}
 use Rattle.object_values.specs.declared.views.View.{View}
+use Rattle.object_values.specs.declared.calls.Call.{Call}
 use Rattle.meaning_graph.specs.Graphs.{Text, Graph}
 use Rattle.meaning_nodes.specs.Labels.{label_of}
 use Rattle.meaning_nodes.specs.Values.{inherit}
 use Rattle.meaning_tasks.specs.Tasks.{task_of}
 use Rattle.meaning_tasks.specs.Needs.{Results, ReachedNames}
+use Rattle.meaning_tasks.specs.Calls.{CallOf}
 use Rattle.meaning_tasks.specs.Settle.{given_own}
 use Rattle.meaning_derive.specs.Derive.{Sources, text_of, derive, derived, names_for}
 use Rattle.meaning_derive.proofs.Lemmas.{names_reached, as_settled, from_settled, sources_are_there}
@@ -30,6 +32,14 @@ at_source w n seen =
       given = refl;
       settles = record { names = names; reached = reached; is = refl };
     }
+
+-- it makes no call
+none_called : (w : World) (n : Node) (seen : Results) (call : Option Call) → CallOf w.graph (record n { steps = [] }) seen call → call ≡ None
+unfolding task_of
+none_called w n seen call called = called.is
+
+pub source_calls_none : (w : World) (n : Node) (seen : Results) (call : Option Call) → n.steps ≡ [] → CallOf w.graph n seen call → call ≡ None
+source_calls_none w n seen call none called = none_called w n seen call (subst (λ z. CallOf w.graph (record n { steps = z }) seen call) none called)
 
 source_settles : (w : World) (n : Node) (seen : Results) → n.steps ≡ [] → HasSettled w n seen (view_of_source w.graph w.sources n)
 source_settles w n seen is = subst (λ z. HasSettled w (record n { steps = z }) seen (view_of_source w.graph w.sources (record n { steps = z }))) (sym is) (at_source w n seen)

@@ -1,5 +1,5 @@
 -- One more entry in a table, its nodes, and the heights that the tables give.
-use Rattle.std.proofs.Common.{◌≡◌, ℕ, suc, Bool, true, false, cond, List, [], ◌∷◌, ◌++◌, ◌⊎◌, inl, inr, sym, ap, ◌∙◌, subst, refl, length}
+use Rattle.std.proofs.Common.{◌≡◌, ℕ, Bool, true, false, cond, List, [], ◌∷◌, ◌++◌, ◌⊎◌, inl, inr, sym, ap, ◌∙◌, subst, refl}
 use Rattle.std.specs.Prelude.{Some, None, IsSome, is_some, option_map}
 use Rattle.std.specs.Map.{lookup}
 use Rattle.object_values.specs.declared.nodes.Node.{Node}
@@ -64,10 +64,6 @@ at_end n front = in_right n front (n ∷ []) (inl refl)
 pub nodes_push : (es : Entries) (n : Node) (d : Done) → nodes_of (es ++ (n, d) ∷ []) ≡ nodes_of es ++ n ∷ []
 nodes_push [] n d = refl
 nodes_push (e ∷ es) n d = ap (λ l. e.0 ∷ l) (nodes_push es n d)
-
-pub nodes_length : (es : Entries) → length (nodes_of es) ≡ length es
-nodes_length [] = refl
-nodes_length (e ∷ es) = ap suc (nodes_length es)
 
 -- a node without an entry is none of them
 pub not_among : (es : Entries) (n : Node) → done_in es n ≡ None → IsIn n (nodes_of es) → ⊥

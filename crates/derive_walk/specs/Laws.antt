@@ -53,7 +53,7 @@ WantedAreFormed =
 
 -- ---- what was looked at
 
--- The nodes that have results, and those that stop at the wanted calls, are different ones, and each
--- is met from the root.
+-- The nodes with steps that have results, and those that stop at the wanted calls, are different
+-- ones, and each is met from the root.
 abbrev pub WalksHaveMet : Type 0
 WalksHaveMet = (w : World) (walked : Walked) → IsRight w walked → HasMet w walked

@@ -49,7 +49,7 @@ pub(crate) fn settle_node<K: Known, L: Ledger>(
     requires outside { AreOutside (world_in K.kept setting.now) wanted.now }
     ensures closed { let w = world_in K.kept setting.now in
         IfOk result (IsClosed w node.now (results_of done.now)) }
-    ensures counted { LooksOnce wanted.now steps.old steps.new result }
+    ensures counted { LooksOnce wanted.now node.now steps.old steps.new result }
 {
     if node.steps.is_empty() {
         let view = source_view(alloc, setting.graph, setting.sources, node)?;
@@ -81,7 +81,7 @@ fn settle_call<K: Known, L: Ledger>(
     requires stepped { node.now.steps ≢ [] }
     ensures closed { let w = world_in K.kept setting.now in
         IfOk result (IsClosed w node.now (results_of done.now)) }
-    ensures counted { LooksOnce wanted.now steps.old steps.new result }
+    ensures counted { LooksOnce wanted.now node.now steps.old steps.new result }
 {
     if let Some(outcome) = setting.given.outcome(&call) {
         let view = settle_by(alloc, setting, done, node, needed, Some(outcome))?;

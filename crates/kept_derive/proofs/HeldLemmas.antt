@@ -54,7 +54,7 @@ given_or_none : (o : Option Outcome) → given_or o None ≡ o
 given_or_none None = refl
 given_or_none (Some o) = refl
 
-in_both : (calls given : Calls) (call : Call) → kept_outcome (calls ++ given) call ≡ given_or (kept_outcome calls call) (outcome_in given call)
+pub in_both : (calls given : Calls) (call : Call) → kept_outcome (calls ++ given) call ≡ given_or (kept_outcome calls call) (outcome_in given call)
 in_both [] given call = refl
 in_both (x ∷ calls) given call = by_test (call_eq.eq call x.0) (in_both calls given call)
   where

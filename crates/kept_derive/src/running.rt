@@ -1,7 +1,7 @@
 // Wanted calls, run and kept one after another.
 ghost use Rattle.std.specs.Prelude.{OnOk, IfErr};
 ghost use Rattle.kept_derive.specs.Faults.{IsCause, IsLeft};
-ghost use Rattle.kept_derive.specs.Looked.{TakesAll, TakesOne};
+ghost use Rattle.kept_derive.specs.Looked.{KeepsOn, TakesAll, TakesOne};
 ghost use Rattle.kept_derive.specs.Runs.{at};
 ghost use Rattle.kept_derive.specs.Ways.{GoesOn, MayRun, Stops};
 
@@ -31,6 +31,7 @@ pub(crate) fn run_wanted<D: Disk, S: Spawner>(
     ensures may { OnOk result
         (MayRun core.new store.new (D.size_of disk.new) (S.told tools.new)) }
     ensures counted { OnOk result (TakesAll core.old core.new) }
+    ensures keeps { KeepsOn store.old store.new result }
     ensures left { IsLeft store.new (D.size_of disk.new) result }
     ensures cause { IsCause (D.faults disk.old) (D.faults disk.new) result }
 {
@@ -58,6 +59,7 @@ fn run_first<D: Disk, S: Spawner>(
     ensures may { OnOk result
         (MayRun core.new store.new (D.size_of disk.new) (S.told tools.new)) }
     ensures counted { OnOk result (TakesOne core.old core.new) }
+    ensures keeps { KeepsOn store.old store.new result }
     ensures left { IsLeft store.new (D.size_of disk.new) result }
     ensures cause { IsCause (D.faults disk.old) (D.faults disk.new) result }
 {

@@ -77,26 +77,26 @@ returns-in_ok-add-in-Stops-2-clause-visited g c = visited_with_waiting (world_in
 pub returns-in_err-view-clause-counted : goal.returns-in_err-view-clause-counted
 returns-in_err-view-clause-counted g c =
     let given = err_from_is_err_and _ c.from_residual.ensures.1 in
-    few_at _ _ _ _ _ _ given.1 (few_lost c.args.walk.now.done c.args.walk.now.wanted _ _ _ _ _ refl refl c.in_err-view.ensures.counted)
+    few_at _ _ _ _ _ _ given.1 (few_lost c.args.walk.now.done c.args.walk.now.wanted c.args.node _ _ _ _ _ refl refl c.in_err-view.ensures.counted)
 
 pub returns-in_err-add-in-Settled-clause-counted : goal.returns-in_err-add-in-Settled-clause-counted
 returns-in_err-add-in-Settled-clause-counted g c =
     let given = err_from_is_err_and _ c.from_residual-in_err-add-in-Settled.ensures.1 in
-    few_at _ _ _ _ _ _ given.1 (few_lost c.args.walk.now.done c.args.walk.now.wanted _ _ _ _ _ c.in_err-add-in-Settled.ensures.err refl c.in_ok-view.ensures.counted)
+    few_at _ _ _ _ _ _ given.1 (few_lost c.args.walk.now.done c.args.walk.now.wanted c.args.node _ _ _ _ _ c.in_err-add-in-Settled.ensures.err refl c.in_ok-view.ensures.counted)
 
 pub returns-in_ok-add-in-Settled-clause-counted : goal.returns-in_ok-add-in-Settled-clause-counted
 returns-in_ok-add-in-Settled-clause-counted g c =
-    few_settled c.args.walk.now.done c.args.walk.now.wanted _ _ _ _ _ _ c.in-Settled.view c.in-Settled.is c.in_ok-add-in-Settled.ensures.ok c.in_ok-view.ensures.counted
+    few_settled c.args.walk.now.done c.args.walk.now.wanted c.args.node _ _ _ _ _ c.in-Settled.view c.in-Settled.is c.in_ok-add-in-Settled.ensures.ok c.in_ok-view.ensures.counted
 
 pub returns-in_err-add-in-Stops-clause-counted : goal.returns-in_err-add-in-Stops-clause-counted
 returns-in_err-add-in-Stops-clause-counted g c =
     let given = err_from_is_err_and _ c.from_residual-in_err-add-in-Stops.ensures.1 in
-    few_at _ _ _ _ _ _ given.1 (few_lost c.args.walk.now.done c.args.walk.now.wanted _ _ _ _ _ refl c.in_err-add-in-Stops.ensures.err c.in_ok-view.ensures.counted)
+    few_at _ _ _ _ _ _ given.1 (few_lost c.args.walk.now.done c.args.walk.now.wanted c.args.node _ _ _ _ _ refl c.in_err-add-in-Stops.ensures.err c.in_ok-view.ensures.counted)
 
 pub returns-in_err-add-in-Stops-2-clause-counted : goal.returns-in_err-add-in-Stops-2-clause-counted
 returns-in_err-add-in-Stops-2-clause-counted g c =
-    few_wider _ _ _ _ _ (few_stops c.args.walk.now.done c.args.walk.now.wanted _ _ _ _ c.in-Stops.call c.in-Stops.is c.in_ok-add-in-Stops.ensures.ok c.in_ok-view.ensures.counted)
+    few_wider _ _ _ _ _ (few_stops c.args.walk.now.done c.args.walk.now.wanted c.args.node _ _ _ _ c.in-Stops.call c.in-Stops.is c.in_ok-add-in-Stops.ensures.ok c.in_ok-view.ensures.counted)
 
 pub returns-in_ok-add-in-Stops-2-clause-counted : goal.returns-in_ok-add-in-Stops-2-clause-counted
 returns-in_ok-add-in-Stops-2-clause-counted g c =
-    few_stops c.args.walk.now.done c.args.walk.now.wanted _ _ _ _ c.in-Stops.call c.in-Stops.is c.in_ok-add-in-Stops.ensures.ok c.in_ok-view.ensures.counted
+    few_stops c.args.walk.now.done c.args.walk.now.wanted c.args.node _ _ _ _ c.in-Stops.call c.in-Stops.is c.in_ok-add-in-Stops.ensures.ok c.in_ok-view.ensures.counted

@@ -1,11 +1,13 @@
-use Rattle.std.proofs.Common.{rules, ◌≡◌, ◌∙◌, sym, ap, refl}
+use Rattle.std.proofs.Common.{rules, ◌≡◌, ◌∙◌, sym, ap, subst, refl}
 use Rattle.std.specs.Prelude.{Some, None, Err}
 use Rattle.std.proofs.lemmas.Result.{err_from_is_err_and}
 use Rattle.derive_walk.specs.Walks.{Walked}
 use Rattle.kept_derive.specs.declared.fault.KeptFault.TheVariants.{Memory}
+use Rattle.kept_derive.specs.Runs.{at}
+use Rattle.kept_derive.specs.Looked.{HasLooked}
 use Rattle.kept_derive.proofs.HeldLemmas.{kept_fit}
 use Rattle.kept_derive.proofs.LoopLemmas.{start, none_begun, right_now, advanced, moved, calm, may_run, ends, waits, stopped_at}
-use Rattle.kept_derive.proofs.LookLemmas.{none_counted, advance_counted, runs_counted, none_looked, has_looked, looked_wider, looked_by, looked_at}
+use Rattle.kept_derive.proofs.LookLemmas.{none_counted, advance_counted, runs_counted, none_looked, has_looked, looked_wider, stops_looking, looks_at}
 use Rattle.kept_derive.proofs.RestLemmas.{found_rests, stopped_rests, rests_at}
 use Rattle.kept_derive.proofs.derivation.derive_kept.Goals.{else-loop-test, then-loop-test+in_ok-advance+then-is_some}
 use Rattle.kept_derive.proofs.derivation.derive_kept.Goals as goal
@@ -27,7 +29,8 @@ loop-init g c = record {
 pub returns-in_err-copy-clause-counted : goal.returns-in_err-copy-clause-counted
 returns-in_err-copy-clause-counted g c =
     let given = err_from_is_err_and _ c.from_residual.ensures.1 in
-    looked_at _ g.D.Disk.told _ _ _ _ _ _ _ _ (given.1 ∙ ap (λ f. Err f) given.2) (none_looked g.D.Disk.told _ _ _ c.changes_follow.ensures _ _)
+    let first = at c.args.store.now c.args.disk.now (g.S.Spawner.told c.args.tools.now) in
+    looks_at _ g.D.Disk.told c.args.graph.now c.args.node.now first first _ _ _ (given.1 ∙ ap (λ f. Err f) given.2) (none_looked c.args.graph.now c.args.node.now c.args.store.now _ 1)
 
 pub advance-requires : goal.advance-requires
 advance-requires g c = record {
@@ -54,8 +57,10 @@ pub returns-in_err-advance-clause-counted : goal.returns-in_err-advance-clause-c
 returns-in_err-advance-clause-counted g c =
     let given = err_from_is_err_and _ c.from_residual-in_err-advance.ensures.1 in
     let way = advanced g.D.Disk.told _ _ _ _ _ c.loop.invariant.way _ c.in_err-advance.ensures.on c.in_err-advance.ensures.right in
-    looked_at _ g.D.Disk.told _ _ _ _ _ _ _ _ (given.1 ∙ ap (λ f. Err f) given.2)
-    (has_looked g.D.Disk.told _ _ _ _ _ way _ _ _ (advance_counted _ _ _ _ _ _ c.loop.invariant.counted c.in_err-advance.ensures.on.given c.in_err-advance.ensures.counted))
+    let first = at c.args.store.now c.args.disk.now (g.S.Spawner.told c.args.tools.now) in
+    let mid = at c.loop.store c.loop.disk (g.S.Spawner.told c.loop.tools) in
+    looks_at _ g.D.Disk.told c.args.graph.now c.args.node.now first mid _ _ _ (given.1 ∙ ap (λ f. Err f) given.2)
+    (has_looked g.D.Disk.told c.args.graph.now c.args.node.now first _ mid way _ _ _ (advance_counted _ _ _ _ _ _ c.loop.invariant.counted c.in_err-advance.ensures.on.given c.in_err-advance.ensures.counted))
 
 -- ---- calls are run
 
@@ -85,8 +90,11 @@ pub returns-in_err-run_wanted-clause-counted : goal.returns-in_err-run_wanted-cl
 returns-in_err-run_wanted-clause-counted g c =
     let given = err_from_is_err_and _ c.from_residual-in_err-run_wanted.ensures.1 in
     let way = advanced g.D.Disk.told _ _ _ _ _ c.loop.invariant.way _ c.in_ok-advance.ensures.on c.in_ok-advance.ensures.right in
-    let looked = has_looked g.D.Disk.told _ _ _ _ _ way _ _ _ (advance_counted _ _ _ _ _ _ c.loop.invariant.counted c.in_ok-advance.ensures.on.given c.in_ok-advance.ensures.counted) in
-    looked_at _ g.D.Disk.told _ _ _ _ _ _ _ _ (given.1 ∙ ap (λ f. Err f) given.2) (looked_wider g.D.Disk.told _ _ _ _ _ _ _ looked)
+    let first = at c.args.store.now c.args.disk.now (g.S.Spawner.told c.args.tools.now) in
+    let mid = at c.loop.store c.loop.disk (g.S.Spawner.told c.loop.tools) in
+    let new = at c.run_wanted.new.store c.run_wanted.new.disk (g.S.Spawner.told c.run_wanted.new.tools) in
+    looks_at _ g.D.Disk.told c.args.graph.now c.args.node.now first new _ _ _ (given.1 ∙ ap (λ f. Err f) given.2)
+    (stops_looking g.D.Disk.told c.args.graph.now c.args.node.now first _ mid way new _ _ _ c.in_err-run_wanted.ensures.keeps.err (advance_counted _ _ _ _ _ _ c.loop.invariant.counted c.in_ok-advance.ensures.on.given c.in_ok-advance.ensures.counted))
 
 pub loop-preserved : goal.loop-preserved
 loop-preserved g c =
@@ -127,18 +135,16 @@ returns-in-None-clause-rest g c = stopped_rests g.D.Disk.told _ _ _ _ c.requires
 
 pub returns-in-Some-clause-counted : goal.returns-in-Some-clause-counted
 returns-in-Some-clause-counted g c = elim c.loop-test.branch [
-  | else-loop-test w ↦ looked_by g.D.Disk.told _ _ _ _ _ _ _ _ w.steps-is (has_looked g.D.Disk.told _ _ _ _ _ c.loop.invariant.way _ _ _ c.loop.invariant.counted)
+  | else-loop-test w ↦ subst (λ z. HasLooked c.args.graph.now c.args.node.now c.args.store.now c.loop.store c.args.steps.now z 0) (sym w.steps-is) (has_looked g.D.Disk.told _ _ _ _ _ c.loop.invariant.way _ _ 0 c.loop.invariant.counted)
   | then-loop-test+in_ok-advance+then-is_some w ↦
       let way = advanced g.D.Disk.told _ _ _ _ _ c.loop.invariant.way _ w.in_ok-advance.ensures.on w.in_ok-advance.ensures.right in
-      let looked = has_looked g.D.Disk.told _ _ _ _ _ way _ _ _ (advance_counted _ _ _ _ _ _ c.loop.invariant.counted w.in_ok-advance.ensures.on.given w.in_ok-advance.ensures.counted) in
-      looked_by g.D.Disk.told _ _ _ _ _ _ _ _ w.steps-is looked
+      subst (λ z. HasLooked c.args.graph.now c.args.node.now c.args.store.now c.loop.store c.args.steps.now z 0) (sym w.steps-is) (has_looked g.D.Disk.told _ _ _ _ _ way _ _ 0 (advance_counted _ _ _ _ _ _ c.loop.invariant.counted w.in_ok-advance.ensures.on.given w.in_ok-advance.ensures.counted))
 ]
 
 pub returns-in-None-clause-counted : goal.returns-in-None-clause-counted
 returns-in-None-clause-counted g c = elim c.loop-test.branch [
-  | else-loop-test w ↦ record { now = _; looked = looked_by g.D.Disk.told _ _ _ _ _ _ _ _ w.steps-is (looked_wider g.D.Disk.told _ _ _ _ _ _ _ (has_looked g.D.Disk.told _ _ _ _ _ c.loop.invariant.way _ _ _ c.loop.invariant.counted)) }
+  | else-loop-test w ↦ subst (λ z. HasLooked c.args.graph.now c.args.node.now c.args.store.now c.loop.store c.args.steps.now z 1) (sym w.steps-is) (looked_wider c.args.graph.now c.args.node.now c.args.store.now c.loop.store _ _ 1 (has_looked g.D.Disk.told _ _ _ _ _ c.loop.invariant.way _ _ 0 c.loop.invariant.counted))
   | then-loop-test+in_ok-advance+then-is_some w ↦
       let way = advanced g.D.Disk.told _ _ _ _ _ c.loop.invariant.way _ w.in_ok-advance.ensures.on w.in_ok-advance.ensures.right in
-      let looked = has_looked g.D.Disk.told _ _ _ _ _ way _ _ _ (advance_counted _ _ _ _ _ _ c.loop.invariant.counted w.in_ok-advance.ensures.on.given w.in_ok-advance.ensures.counted) in
-      record { now = _; looked = looked_by g.D.Disk.told _ _ _ _ _ _ _ _ w.steps-is (looked_wider g.D.Disk.told _ _ _ _ _ _ _ looked) }
+      subst (λ z. HasLooked c.args.graph.now c.args.node.now c.args.store.now c.loop.store c.args.steps.now z 1) (sym w.steps-is) (looked_wider c.args.graph.now c.args.node.now c.args.store.now c.loop.store _ _ 1 (has_looked g.D.Disk.told _ _ _ _ _ way _ _ 0 (advance_counted _ _ _ _ _ _ c.loop.invariant.counted w.in_ok-advance.ensures.on.given w.in_ok-advance.ensures.counted)))
 ]

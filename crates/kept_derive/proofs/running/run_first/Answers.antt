@@ -4,7 +4,7 @@ use Rattle.std.proofs.lemmas.Result.{err_from_is_err_and}
 use Rattle.meaning_texts.specs.Lists.{IsIn}
 use Rattle.plain_derive.proofs.Lemmas.{first_in}
 use Rattle.kept_derive.proofs.LoopLemmas.{waits}
-use Rattle.kept_derive.proofs.LookLemmas.{takes_one}
+use Rattle.kept_derive.proofs.LookLemmas.{takes_one, same_kept, kept_unless, kept_at, call_kept, stop_keeps}
 use Rattle.kept_derive.proofs.WayLemmas.{way_stops_at, goes_on, stopped, wanting_after, still_keepable}
 use Rattle.kept_derive.proofs.running.run_first.Goals as goal
 
@@ -58,3 +58,23 @@ returns-clause-counted g c =
     let first : slice_get c.args.core.now.wanted 0 ≡ Some c.in-Some.first.now = search rules in
     let there = subst (λ z. IsIn z c.args.core.now.wanted) (sym c.in_ok-call.ensures) (first_in _ _ first) in
     takes_one c.in_ok-call.call _ _ _ there c.requires.once c.in_ok-give.ensures.ok
+
+-- ---- what is kept
+
+pub returns-in_err-call-clause-keeps : goal.returns-in_err-call-clause-keeps
+returns-in_err-call-clause-keeps g c =
+    let given = err_from_is_err_and _ c.from_residual.ensures.1 in
+    kept_at _ _ _ _ (given.1 ∙ ap (λ f. Err f) given.2) (same_kept _)
+
+pub returns-in_err-outcome-clause-keeps : goal.returns-in_err-outcome-clause-keeps
+returns-in_err-outcome-clause-keeps g c =
+    let given = err_from_is_err_and _ c.from_residual-in_err-outcome.ensures.1 in
+    kept_at _ _ _ _ (given.1 ∙ ap (λ f. Err f) given.2) (stop_keeps g.D.Disk.told c.in_ok-call.call _ _ _ c.in_err-outcome.ensures.stops)
+
+pub returns-in_err-give-clause-keeps : goal.returns-in_err-give-clause-keeps
+returns-in_err-give-clause-keeps g c =
+    let given = err_from_is_err_and _ c.from_residual-in_err-give.ensures.1 in
+    kept_at _ _ _ _ (given.1 ∙ ap (λ f. Err f) given.2) (call_kept g.D.Disk.told c.in_ok-call.call _ _ _ c.in_ok-outcome.ensures.kept)
+
+pub returns-clause-keeps : goal.returns-clause-keeps
+returns-clause-keeps g c = record { ok = call_kept g.D.Disk.told c.in_ok-call.call _ _ _ c.in_ok-outcome.ensures.kept; err = tt }
