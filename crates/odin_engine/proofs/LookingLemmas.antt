@@ -9,29 +9,39 @@ use Rattle.walk_tables.specs.declared.found.Found.{Found}
 use Rattle.walk_tables.specs.declared.found.Found.TheVariants as found
 use Rattle.kept_derive.specs.declared.fault.KeptFault.{KeptFault}
 use Rattle.kept_derive.specs.declared.fault.KeptFault.TheVariants as stop
-use Rattle.kept_derive.specs.Looked.{HasLooked, HasLookedBefore, AreLooks}
+use Rattle.kept_derive.specs.Looked.{HasLooked, AreLooks}
 use Rattle.kept_derive.specs.Runs.{At}
 use Rattle.odin_engine.specs.declared.fault.AskFault.{AskFault}
-use Rattle.odin_engine.specs.Asked.{IsNodeOf}
+use Rattle.odin_engine.specs.declared.fault.AskFault.TheVariants as fault
+use Rattle.odin_engine.specs.Asked.{IsNodeOf, IsRefusedFor}
 use Rattle.odin_engine.specs.Asking.{answer_of}
-use Rattle.odin_engine.specs.Looking.{IsLookedFor, IsLookedForBefore, AreAskLooks}
+use Rattle.odin_engine.specs.Looking.{IsLookedFor, AreAskLooks}
 
 module _ {D : Type 0} (told : D → Telling) (g : Graph) (text : Text) (node : Node) (is : IsNodeOf g text node) (old new : At D) (first last : ℕ) where
-  by_now : (now : At D) (spare : ℕ) → HasLooked told g node old now first last spare → IsLookedFor told g text old now first last spare
-  by_now now spare looked = record { node = node; is = is; looked = looked }
-
-  before : (spare : ℕ) → HasLookedBefore told g node old first last spare → IsLookedForBefore told g text old first last spare
-  before spare looks = record { now = looks.now; looked = by_now looks.now spare looks.looked }
+  looked_for : (spare : ℕ) → HasLooked g node old.store new.store first last spare → IsLookedFor g text old.store new.store first last spare
+  looked_for spare looked = record { node = node; is = is; looked = looked }
 
   pub looks_so : (r : Result Found KeptFault) → AreLooks told g node old new first last r → AreAskLooks told g text old new first last (answer_of r)
-  looks_so (Ok (found.Answer view)) looks = by_now new 0 looks
-  looks_so (Ok (found.Circular chain)) looks = inr (record { now = new; looked = by_now new 0 looks })
-  looks_so (Ok (found.Deep chain)) looks = inr (record { now = new; looked = by_now new 0 looks })
-  looks_so (Err stop.Spawn) looks = inr (before 0 looks)
-  looks_so (Err stop.Disk) looks = inr (before 0 looks)
-  looks_so (Err (stop.Full end count)) looks = inr (before 0 looks)
-  looks_so (Err stop.Memory) looks = inr (before 1 looks)
+  looks_so (Ok (found.Answer view)) looks = looked_for 0 looks
+  looks_so (Ok (found.Circular chain)) looks = inr (looked_for 0 looks)
+  looks_so (Ok (found.Deep chain)) looks = inr (looked_for 0 looks)
+  looks_so (Err stop.Spawn) looks = inr (looked_for 0 looks)
+  looks_so (Err stop.Disk) looks = record { node = node; is = is; looked = looks }
+  looks_so (Err (stop.Full end count)) looks = inr (looked_for 0 looks)
+  looks_so (Err stop.Memory) looks = inr (looked_for 1 looks)
+
+none_taken : {D : Type 0} (told : D → Telling) (g : Graph) (text : Text) (now : At D) (count : ℕ) (given : AskFault) → IsRefusedFor g text given → AreAskLooks told g text now now count count (Err given)
+none_taken told g text now count (fault.Expression place) refused = inl refl
+none_taken told g text now count (fault.UnknownType name) refused = inl refl
+none_taken told g text now count (fault.UnknownParam name) refused = inl refl
+none_taken told g text now count (fault.Path step) refused = inl refl
+none_taken told g text now count (fault.Circular chain) refused = inl refl
+none_taken told g text now count (fault.Deep chain) refused = inl refl
+none_taken told g text now count fault.Spawn refused = inl refl
+none_taken told g text now count fault.Disk refused = absurd refused
+none_taken told g text now count (fault.Full end length) refused = inl refl
+none_taken told g text now count fault.Memory refused = inl refl
 
 -- a text that asks for nothing
-pub refused_looks : {D : Type 0} (r : Result View AskFault) (told : D → Telling) (g : Graph) (text : Text) (now : At D) (count : ℕ) (given : AskFault) → r ≡ Err given → AreAskLooks told g text now now count count r
-refused_looks r told g text now count given is = subst (AreAskLooks told g text now now count count) (sym is) (inl refl)
+pub refused_looks : {D : Type 0} (r : Result View AskFault) (told : D → Telling) (g : Graph) (text : Text) (now : At D) (count : ℕ) (given : AskFault) → r ≡ Err given → IsRefusedFor g text given → AreAskLooks told g text now now count count r
+refused_looks r told g text now count given is refused = subst (AreAskLooks told g text now now count count) (sym is) (none_taken told g text now count given refused)

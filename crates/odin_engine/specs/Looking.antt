@@ -4,9 +4,10 @@ use Rattle.object_values.specs.declared.nodes.Node.{Node}
 use Rattle.object_values.specs.declared.views.View.{View}
 use Rattle.odin_outside.specs.Disk.{Telling}
 use Rattle.meaning_graph.specs.Graphs.{Text, Graph}
+use Rattle.odin_store.specs.declared.store.Store.{Store}
 use Rattle.walk_tables.specs.declared.found.Found.{Found}
 use Rattle.kept_derive.specs.declared.fault.KeptFault.{KeptFault}
-use Rattle.kept_derive.specs.Looked.{HasLooked, AreLooks}
+use Rattle.kept_derive.specs.Looked.{HasLooked, HasLookedBefore, AreLooks}
 use Rattle.kept_derive.specs.Runs.{At, HasFound}
 use Rattle.kept_derive.specs.Stops.{IsStopped}
 use Rattle.odin_engine.specs.declared.fault.AskFault.{AskFault}
@@ -19,23 +20,25 @@ pub record IsDerived {Disk : Type 0} (told : Disk → Telling) (g : Graph) (n : 
   pub stopped : IfErr result (IsStopped told g n old new)
   pub looks : AreLooks told g n old new first last result
 
--- The text asks for a node, for which these looks were taken up to now.
-pub record IsLookedFor {Disk : Type 0} (told : Disk → Telling) (g : Graph) (text : Text) (old now : At Disk) (first last spare : ℕ) : Type 0 where
+-- The text asks for a node, for which these looks were taken.
+pub record IsLookedFor (g : Graph) (text : Text) (old new : Store) (first last spare : ℕ) : Type 0 where
   pub node : Node
   pub is : IsNodeOf g text node
-  pub looked : HasLooked told g node old now first last spare
+  pub looked : HasLooked g node old new first last spare
 
--- the last one at some moment
-pub record IsLookedForBefore {Disk : Type 0} (told : Disk → Telling) (g : Graph) (text : Text) (old : At Disk) (first last spare : ℕ) : Type 0 where
-  pub now : At Disk
-  pub looked : IsLookedFor told g text old now first last spare
+-- The same up to the moment of the last look.
+pub record IsLookedForBefore {Disk : Type 0} (told : Disk → Telling) (g : Graph) (text : Text) (old : At Disk) (first last : ℕ) : Type 0 where
+  pub node : Node
+  pub is : IsNodeOf g text node
+  pub looked : HasLookedBefore told g node old first last
 
 -- one look may be lost where memory is wanting
 abbrev pub spare_for : AskFault → ℕ
 spare_for fault.Memory = 1
 spare_for other = 0
 
--- The looks of an ask, whatever it answers. A text that asks for no node takes none.
+-- The looks of an ask, whatever it answers. A text that asks for no node takes none. A store whose disk failed tells no more of its calls.
 abbrev pub AreAskLooks : {Disk : Type 0} → (Disk → Telling) → Graph → Text → At Disk → At Disk → ℕ → ℕ → Result View AskFault → Type 0
-AreAskLooks told g text old new first last (Ok view) = IsLookedFor told g text old new first last 0
-AreAskLooks told g text old new first last (Err given) = (last ≡ first) ⊎ IsLookedForBefore told g text old first last (spare_for given)
+AreAskLooks told g text old new first last (Ok view) = IsLookedFor g text old.store new.store first last 0
+AreAskLooks told g text old new first last (Err fault.Disk) = IsLookedForBefore told g text old first last
+AreAskLooks told g text old new first last (Err given) = (last ≡ first) ⊎ IsLookedFor g text old.store new.store first last (spare_for given)

@@ -33,7 +33,8 @@ returns-in_err-node-clause-cause g c =
 pub returns-in_err-node-clause-counted : goal.returns-in_err-node-clause-counted
 returns-in_err-node-clause-counted g c =
     let given = err_from_is_err_and _ c.from_residual.ensures.1 in
-    refused_looks _ g.D.Disk.told c.args.self.now.graph c.args.text.now _ _ _ (given.1 ∙ ap (λ f. Err f) given.2)
+    let now = at c.args.self.now.store c.args.disk.now (g.S.Spawner.told c.args.tools.now) in
+    refused_looks _ g.D.Disk.told c.args.self.now.graph c.args.text.now now _ _ (given.1 ∙ ap (λ f. Err f) given.2) c.in_err-node.ensures.err
 
 -- ---- a text of a node
 
