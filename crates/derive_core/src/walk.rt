@@ -90,7 +90,7 @@ impl Core {
     }
 
     /// The outcome of a wanted call, which is wanted no more. After want of memory all is as before.
-    pub fn give(&mut self, alloc: Global, call: &Call, outcome: Outcome) -> Result<(), Memory>
+    pub fn give(&mut self, call: &Call, outcome: Outcome) -> Result<(), Memory>
         requires wanted { IsIn call.now self.old.wanted }
         requires fits { OutcomeFits call.now outcome }
         ensures ok { OnOk result (IsGiven call.now outcome self.old self.new) }
@@ -99,7 +99,7 @@ impl Core {
             IsRight (world g s (after kept self.old.given)) self.old →
             IsRight (world g s (after kept self.new.given)) self.new }
     {
-        self.walker.give(alloc, call, outcome)
+        self.walker.give(call, outcome)
     }
 
     /// The calls that are wanted, each once.

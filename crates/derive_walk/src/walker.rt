@@ -129,8 +129,9 @@ impl Walker {
         Ok(())
     }
 
-    /// The outcome of a wanted call, which is wanted no more. After want of memory all is as before.
-    pub fn give(&mut self, alloc: Global, call: &Call, outcome: Outcome) -> Result<(), Memory>
+    /// The outcome of a wanted call, which is wanted no more: the call itself is moved. After want of
+    /// memory all is as before.
+    pub fn give(&mut self, call: &Call, outcome: Outcome) -> Result<(), Memory>
         requires wanted { IsIn call.now self.old.wanted }
         requires fits { OutcomeFits call.now outcome }
         ensures ok { OnOk result (IsGiven call.now outcome self.old self.new) }
@@ -139,8 +140,7 @@ impl Walker {
             IsRight (world g s (after kept self.old.given)) self.old →
             IsRight (world g s (after kept self.new.given)) self.new }
     {
-        self.given.add(call.copy(alloc)?, outcome)?;
-        self.walk.wanted.remove(call);
+        self.given.take(&mut self.walk.wanted, call, outcome)?;
         self.walk.wanted.once();
         Ok(())
     }

@@ -69,6 +69,6 @@ fn run_first<D: Disk, S: Spawner>(
     };
     let call = first.copy(alloc)?;
     let outcome = keep_outcome(alloc, &call, store, disk, tools)?;
-    core.give(alloc, &call, outcome)?;
+    core.give(&call, outcome)?;
     Ok(())
 }

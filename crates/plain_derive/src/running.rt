@@ -50,7 +50,7 @@ fn run_first<S: Spawner>(
     };
     let call = first.copy(alloc)?;
     let outcome = run_call(alloc, &call, tools)?;
-    walker.give(alloc, &call, outcome)?;
+    walker.give(&call, outcome)?;
     Ok(())
 }
 

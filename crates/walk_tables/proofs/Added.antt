@@ -1,6 +1,6 @@
 -- A key that isn't there goes last.
-use Rattle.std.proofs.Common.{◌≡◌, Bool, true, false, cond, List, [], ◌∷◌, ◌++◌, ap, sym, ◌∙◌, refl}
-use Rattle.std.specs.Prelude.{Some, None}
+use Rattle.std.proofs.Common.{◌≡◌, Bool, true, false, cond, List, [], ◌∷◌, ◌++◌, ap, sym, ◌∙◌, refl, true≢false}
+use Rattle.std.specs.Prelude.{Some, None, Result, Ok, Err, IsOk, OnOk}
 use Rattle.std.specs.Map.{lookup}
 use Rattle.indexmap.specs.IndexMap.{insert_entry}
 
@@ -14,3 +14,8 @@ goes_last eq (x ∷ entries) k v e = by_test (eq k x.0) e (goes_last eq entries 
 
 pub added : {K V : Type 0} (eq : K → K → Bool) (inside now after : List (K × V)) (k : K) (v : V) → now ≡ inside → after ≡ insert_entry eq inside k v → lookup (eq k) now ≡ None → after ≡ now ++ (k, v) ∷ []
 added eq inside now after k v same is none = is ∙ ap (λ l. insert_entry eq l k v) (sym same) ∙ goes_last eq now k v none
+
+-- what holds where it succeeded
+pub where_ok : {T E : Type 0} (r : Result T E) (P : Type 0) → OnOk r P → IsOk r → P
+where_ok (Ok x) P holds ok = holds
+where_ok (Err e) P holds ok = absurd (true≢false (sym ok))

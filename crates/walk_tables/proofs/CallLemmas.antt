@@ -1,13 +1,13 @@
 -- Calls of a list, by the test of equality.
-use Rattle.std.proofs.Common.{◌≡◌, Bool, true, false, cond, List, [], ◌∷◌, ◌++◌, ◌⊎◌, inl, inr, sym, ◌∙◌, subst, refl, true≢false}
-use Rattle.std.specs.Prelude.{◌≢◌, ◌↔◌}
-use Rattle.std.specs.List.{AllByRecursion, IsDistinct}
+use Rattle.std.proofs.Common.{◌≡◌, Bool, true, false, cond, List, [], ◌∷◌, ◌++◌, ◌⊎◌, inl, inr, sym, ap, ◌∙◌, subst, refl, true≢false}
+use Rattle.std.specs.Prelude.{◌≢◌, ◌↔◌, Some}
+use Rattle.std.specs.List.{AllByRecursion, IsDistinct, find}
 use Rattle.object_values.specs.declared.calls.Call.{Call}
 use Rattle.object_values.specs.contracts.calls.CallPartialEq.TheImpl.{ghosts as call_eq}
 use Rattle.object_values.specs.Exact.{call_exact}
 use Rattle.meaning_texts.specs.Lists.{IsIn}
 use Rattle.meaning_texts.proofs.Lemmas.{one_passes, passes_one, in_left, in_right, in_either}
-use Rattle.walk_tables.specs.Calls.{AreOnce, call_in, put_in}
+use Rattle.walk_tables.specs.Calls.{AreOnce, IsWithout, call_in, put_in}
 
 pub found_in : (calls : List Call) (call : Call) → call_in call calls ≡ true → IsIn call calls
 found_in calls call e = let r = one_passes (call_eq.eq call) calls e in subst (λ z. IsIn z calls) (sym ((call_exact call r.0).0 r.2)) r.1
@@ -33,12 +33,22 @@ once (c ∷ calls) distinct = (differs c calls distinct.0, once calls distinct.1
 abbrev pub LacksOne : List Call → List Call → Call → Type 0
 LacksOne old new call = (q : Call) → call_in q new ≡ cond (call_eq.eq call q) false (call_in q old)
 
-pub taken_out : (old new : List Call) (call : Call) → LacksOne old new call → (c : Call) → IsIn c new ↔ (IsIn c old × (c ≢ call))
+pub taken_out : (old new : List Call) (call : Call) → LacksOne old new call → IsWithout call old new
 taken_out old new call lacks c = by (call_eq.eq call c) refl (lacks c)
   where
     by : (b : Bool) → call_eq.eq call c ≡ b → call_in c new ≡ cond b false (call_in c old) → IsIn c new ↔ (IsIn c old × (c ≢ call))
     by true e is = (λ i. absurd (true≢false (sym (in_found new c i) ∙ is)), λ h. absurd (h.1 (sym ((call_exact call c).0 e))))
     by false e is = (λ i. (found_in old c (sym is ∙ in_found new c i), λ same. true≢false (sym ((call_exact call c).1 (sym same)) ∙ e)), λ h. found_in new c (is ∙ in_found old c h.0))
+
+-- what is found there is the call itself
+pub found_one : (calls : List Call) (call : Call) → IsIn call calls → find (call_eq.eq call) calls ≡ Some call
+found_one [] call i = elim i [ ]
+found_one (c ∷ calls) call i = by_test (call_eq.eq call c) refl i (found_one calls call)
+  where
+    by_test : (b : Bool) → call_eq.eq call c ≡ b → (call ≡ c) ⊎ IsIn call calls → (IsIn call calls → find (call_eq.eq call) calls ≡ Some call) → cond b (Some c) (find (call_eq.eq call) calls) ≡ Some call
+    by_test true e here more = ap Some (sym ((call_exact call c).0 e))
+    by_test false e (inl same) more = absurd (true≢false (sym ((call_exact call c).1 same) ∙ e))
+    by_test false e (inr i) more = more i
 
 -- ---- one call more
 

@@ -1,5 +1,5 @@
 -- Lists of calls, and of calls with their outcomes.
-use Rattle.std.specs.Prelude.{⊤, Bool, cond, List, [], ◌∷◌, ◌++◌, Option}
+use Rattle.std.specs.Prelude.{⊤, ◌≢◌, ◌↔◌, Bool, cond, List, [], ◌∷◌, ◌++◌, Option}
 use Rattle.std.specs.List.{list_any}
 use Rattle.std.specs.Map.{lookup}
 use Rattle.object_values.specs.declared.calls.Call.{Call}
@@ -30,3 +30,7 @@ call_in c calls = list_any (call_eq.eq c) calls
 -- with the call behind the others, where it isn't there
 abbrev pub put_in : Call → List Call → List Call
 put_in c calls = cond (call_in c calls) calls (calls ++ c ∷ [])
+
+-- the second list has the calls of the first but this one
+abbrev pub IsWithout : Call → List Call → List Call → Type 0
+IsWithout call old new = (c : Call) → IsIn c new ↔ (IsIn c old × (c ≢ call))

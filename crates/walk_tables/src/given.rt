@@ -1,7 +1,10 @@
 // The calls that were given outcomes.
-ghost use Rattle.std.specs.Prelude.{◌≡◌, ◌++◌, ◌∷◌, [], None, option_map, OnOk, OnErr};
-ghost use Rattle.walk_tables.specs.Calls.{outcome_in};
+ghost use Rattle.std.specs.Prelude.{◌≡◌, ◌<◌, ◌++◌, ◌∷◌, [], None, option_map, OnOk, OnErr};
+ghost use Rattle.indexmap.specs.IndexMap.{spare};
+ghost use Rattle.meaning_texts.specs.Lists.{IsIn};
+ghost use Rattle.walk_tables.specs.Calls.{IsWithout, outcome_in};
 
+use crate::wanted::Wanted;
 use indexmap::IndexMap;
 use object_values::{Call, Memory, Outcome};
 use std::alloc::Global;
@@ -42,15 +45,29 @@ impl Given {
         self.outcomes.get(call)
     }
 
-    /// Adds a call that isn't there. After want of memory all is as before.
-    pub fn add(&mut self, call: Call, outcome: Outcome) -> Result<(), Memory>
-        requires { outcome_in self.old call ≡ None }
-        ensures ok { OnOk result (self.new ≡ self.old ++ (call, outcome) ∷ []) }
-        ensures err { OnErr result (self.new ≡ self.old) }
+    /// Moves a wanted call here with its outcome, so that no copy of it is made. After want of memory
+    /// all is as before.
+    pub fn take(&mut self, wanted: &mut Wanted, call: &Call, outcome: Outcome) -> Result<(), Memory>
+        requires wanted { IsIn call.now wanted.old }
+        requires new { outcome_in self.old call.now ≡ None }
+        ensures given { OnOk result (self.new ≡ self.old ++ (call.now, outcome) ∷ []) }
+        ensures fewer { OnOk result (IsWithout call.now wanted.old wanted.new) }
+        ensures same { OnErr result (self.new ≡ self.old) }
+        ensures wanted { OnErr result (wanted.new ≡ wanted.old) }
     {
-        match self.outcomes.insert(call, outcome) {
-            Ok(_) => Ok(()),
-            Err(_) => Err(Memory),
+        self.outcomes.reserve(1)?;
+        if let Some(taken) = wanted.take(call) {
+            add_within(&mut self.outcomes, taken, outcome);
         }
+        Ok(())
     }
+}
+
+// Adds an entry for which there is room.
+fn add_within(outcomes: &mut IndexMap<Call, Outcome>, call: Call, outcome: Outcome)
+    requires new { outcome_in outcomes.old.entries call ≡ None }
+    requires room { 0 < spare outcomes.old }
+    ensures { outcomes.new.entries ≡ outcomes.old.entries ++ (call, outcome) ∷ [] }
+{
+    let _ = outcomes.insert(call, outcome);
 }

@@ -1,8 +1,7 @@
 // The calls that are wanted.
-ghost use Rattle.std.specs.Prelude.{◌≡◌, ◌≢◌, ◌↔◌, [], IsTrue, OnOk, OnErr};
-ghost use Rattle.object_values.specs.declared.calls.Call.{Call as CallValue};
+ghost use Rattle.std.specs.Prelude.{◌≡◌, ◌↔◌, [], Some, IsTrue, OnOk, OnErr};
 ghost use Rattle.meaning_texts.specs.Lists.{IsIn};
-ghost use Rattle.walk_tables.specs.Calls.{AreOnce, put_in};
+ghost use Rattle.walk_tables.specs.Calls.{AreOnce, IsWithout, put_in};
 
 use indexmap::IndexSet;
 use object_values::{Call, Memory};
@@ -63,11 +62,12 @@ impl Wanted {
         Ok(())
     }
 
-    /// Takes the call out; the last one takes its place.
-    pub fn remove(&mut self, call: &Call)
-        ensures { (c : CallValue) → IsIn c self.new ↔ (IsIn c self.old × (c ≢ call.now)) }
+    /// Takes the call out, where it is there; the last one takes its place.
+    pub(crate) fn take(&mut self, call: &Call) -> Option<Call>
+        ensures taken { IsIn call.now self.old → result ≡ Some call.now }
+        ensures fewer { IsWithout call.now self.old self.new }
     {
-        let _ = self.calls.swap_remove(call);
+        self.calls.swap_take(call)
     }
 
     /// Each call stands there once.

@@ -12,15 +12,11 @@ given_so call o inside old given wanted same added fewer once = subst (λ (z : W
 
 pub invariant_of-self-2 : goal.invariant_of-self-2
 invariant_of-self-2 c =
-    let added = c.in_ok-add.ensures.ok ∙ ap (λ (z : Call). c.self.inside.given ++ (z, c.args.outcome) ∷ []) c.in_ok-copy.ensures in
-    subst (λ l. AreApart l c.remove.new.self) (sym added) (apart_after c.args.call.now c.args.outcome c.self.inside.given c.self.inside.walk.wanted c.remove.new.self c.remove.ensures c.self.invariant)
+    subst (λ l. AreApart l c.take.new.wanted) (sym c.in_ok-take.ensures.given) (apart_after c.args.call.now c.args.outcome c.self.inside.given c.self.inside.walk.wanted c.take.new.wanted c.in_ok-take.ensures.fewer c.self.invariant)
 
 pub returns-clause-ok : goal.returns-clause-ok
-returns-clause-ok c =
-    let added = c.in_ok-add.ensures.ok ∙ ap (λ (z : Call). c.self.inside.given ++ (z, c.args.outcome) ∷ []) c.in_ok-copy.ensures in
-    given_so c.args.call.now c.args.outcome _ _ _ _ c.self.view_is added c.remove.ensures c.once.ensures
+returns-clause-ok c = given_so c.args.call.now c.args.outcome _ _ _ _ c.self.view_is c.in_ok-take.ensures.given c.in_ok-take.ensures.fewer c.once.ensures
 
 pub returns-clause-right : goal.returns-clause-right
 returns-clause-right c g s kept right =
-    let added = c.in_ok-add.ensures.ok ∙ ap (λ (z : Call). c.self.inside.given ++ (z, c.args.outcome) ∷ []) c.in_ok-copy.ensures in
-    right_after g s kept c.args.call.now c.args.outcome c.requires.fits _ _ right c.requires.wanted (given_so c.args.call.now c.args.outcome _ _ _ _ c.self.view_is added c.remove.ensures c.once.ensures)
+    right_after g s kept c.args.call.now c.args.outcome c.requires.fits _ _ right c.requires.wanted (given_so c.args.call.now c.args.outcome _ _ _ _ c.self.view_is c.in_ok-take.ensures.given c.in_ok-take.ensures.fewer c.once.ensures)
