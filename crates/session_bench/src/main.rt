@@ -4,10 +4,11 @@
 mod graphs;
 
 use graphs::FILES;
-use object_values::{Bytes, FileBody, Memory, Seq, Text};
-use odin_fakes::{MemDisk, MemTree, TableTools};
+use object_values::{Bytes, Memory, Seq};
+use odin_fakes::{MemDisk, TableTools};
 use odin_real::{InputSource, OutputSink};
 use odin_shell::run;
+use session_samples::tree_of;
 use std::alloc::Global;
 use std::process::ExitCode;
 use std::{env, io};
@@ -17,23 +18,11 @@ const DISK_BYTES: usize = 1 << 29;
 
 const DISK_CALLS: usize = 1 << 18;
 
-/// The tree, which holds the sample graphs.
-fn sample_tree(alloc: Global) -> Result<MemTree, Memory> {
-    let mut files = Seq::new(alloc);
-    for (name, body) in &FILES {
-        files.push(FileBody {
-            name: Bytes::from_slice(alloc, name)?,
-            body: Text::of(Bytes::from_slice(alloc, body)?)?,
-        })?;
-    }
-    Ok(MemTree::new(files))
-}
-
 /// The exit status of a session over the standard input and output.
 fn serve(rt: &HostRuntime, alloc: Global, words: &[String]) -> Result<u8, Memory> {
     let mut input = InputSource::new(rt.reader());
     let mut output = OutputSink::new(io::writer(rt));
-    let mut tree = sample_tree(alloc)?;
+    let mut tree = tree_of(alloc, &FILES)?;
     let mut disk = MemDisk::new(alloc, Bytes::new(alloc), DISK_BYTES, DISK_CALLS)?;
     let mut tools = TableTools::toy(alloc, Seq::new(alloc));
     Ok(run(

@@ -1,13 +1,11 @@
 // The worked rows of graphs and tools, over objects in memory.
 ghost use Rattle.std.specs.Prelude.{◌≡◌, ◌<◌, []};
 
-use super::runs::{
-    CC_ONLY as GRAPH, only, outcome_over, sink, source, status_with, tree_of, with_taken,
-};
-use super::samples::C_UNITS;
+use super::runs::{outcome_over, status_with, with_taken};
 use object_values::{Memory, Seq};
 use odin_fakes::{FailSink, FailTools, FailTree, TableTools};
 use odin_outside::Spawner;
+use session_samples::{C_UNITS, CC_ONLY as GRAPH, only, sink, source, tree_of};
 use std::alloc::Global;
 use std::test::Fail;
 

@@ -1,9 +1,10 @@
 // The worked rows of inputs and words, over a source and a sink in memory.
 ghost use Rattle.std.specs.Prelude.{◌<◌};
 
-use super::runs::{only, sink, source, status_with, with_taken};
+use super::runs::{status_with, with_taken};
 use object_values::Memory;
 use odin_fakes::{FailSink, FailSource};
+use session_samples::{only, sink, source};
 use std::alloc::Global;
 use std::test::Fail;
 

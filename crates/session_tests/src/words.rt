@@ -1,10 +1,9 @@
 // The worked rows of words: which a run takes, for a session or a load session, and for which it writes the usage line.
-use super::runs::{
-    CC_ONLY, DISK_BYTES, DISK_CALLS, only, owned, sink, source, status_over, tree_of, with_taken,
-};
+use super::runs::{DISK_BYTES, DISK_CALLS, status_over, with_taken};
 use object_values::{Bytes, Memory, Seq};
 use odin_fakes::{FailDisk, FailSource, FailTools, FailTree, MemDisk, TableTools};
 use odin_shell::run;
+use session_samples::{CC_ONLY, only, owned, sink, source, tree_of};
 use std::alloc::Global;
 use std::test::Fail;
 

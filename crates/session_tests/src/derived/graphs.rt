@@ -1,14 +1,14 @@
 // The graphs of the tests, each in one piece or more.
-use crate::samples;
+use session_samples::{C_UNITS as UNITS_TEXT, KITS as KITS_TEXT};
 
 /// A graph's text, in pieces.
 pub(super) type Pieces = &'static [&'static [u8]];
 
 /// Sources with headers, scanned, compiled and linked.
-pub(super) const C_UNITS: Pieces = &[samples::C_UNITS];
+pub(super) const C_UNITS: Pieces = &[UNITS_TEXT];
 
 /// With these the graph has a declaration of every kind.
-pub(super) const KITS: Pieces = &[samples::C_UNITS, samples::KITS];
+pub(super) const KITS: Pieces = &[UNITS_TEXT, KITS_TEXT];
 
 /// Texts that are joined of others.
 pub(super) const JOINED_TEXTS: Pieces = &[

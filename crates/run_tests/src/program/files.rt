@@ -4,9 +4,9 @@ use std::fs::{self, OpenOptions};
 use std::io;
 use std::test::Fail;
 
-const INPUT: &str = "session_tests.in";
+const INPUT: &str = "run_tests.in";
 
-const OUTPUT: &str = "session_tests.out";
+const OUTPUT: &str = "run_tests.out";
 
 // The status of a run from the file of commands to a file that is there.
 fn status_to(rt: &HostRuntime, graph: &str, output: &str) -> Result<u8, Fail> {
@@ -28,17 +28,17 @@ fn write_files(rt: &HostRuntime) -> io::Result<()> {
     fs::write(
         rt,
         INPUT,
-        "put a.c 8\nx=1\ny=2\nask a.c:count\ntake session_tests.none\n",
+        "put a.c 8\nx=1\ny=2\nask a.c:count\ntake run_tests.none\n",
     )
 }
 
 #[test]
 fn files_are_served(rt: HostRuntime) -> Result<(), Fail> {
     write_files(&rt)?;
-    let replies = "put a.c 8\nobject ok simple 2\n2\n\nmessages 0\nno file session_tests.none\n";
+    let replies = "put a.c 8\nobject ok simple 2\n2\n\nmessages 0\nno file run_tests.none\n";
     for (graph, status, text) in [
         (GRAPH, 0, replies),
-        ("session_tests.none", 2, "graph: no file\n"),
+        ("run_tests.none", 2, "graph: no file\n"),
         (".", 2, "graph: no file\n"),
         ("/dev/null", 2, "graph: no file\n"),
         (INPUT, 2, "graph: line 1 column 1: syntax\n"),
@@ -54,7 +54,7 @@ fn files_are_served(rt: HostRuntime) -> Result<(), Fail> {
 #[test]
 fn a_full_device_is_an_output_fault(rt: HostRuntime) -> Result<(), Fail> {
     write_files(&rt)?;
-    for graph in [GRAPH, "session_tests.none"] {
+    for graph in [GRAPH, "run_tests.none"] {
         assert_eq!(rt; status_to(&rt, graph, "/dev/full")?, 5);
     }
     fs::remove_file(&rt, INPUT)?;

@@ -1,9 +1,9 @@
 // A session is stopped within each call of its disk: what is asked then is answered as over a fresh file with the same sources.
 use super::rows::{PUT, WARNING_AND_BACK};
-use super::samples::C_UNITS;
 use super::stored::{Ran, Step, Text, commands_of, crashed, disk_of, front, run_on};
 use object_values::{Bytes, Memory};
 use odin_fakes::MemDisk;
+use session_samples::C_UNITS;
 use std::alloc::Global;
 use std::test::Fail;
 

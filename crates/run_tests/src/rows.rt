@@ -1,12 +1,18 @@
 // Worked rows of sessions over a store: each reply, and the jobs that are started for it.
-use super::samples::{BACK, C_UNITS, COMMENT, KITS};
 use super::stored::{
     Graph, NONE, Starts, Step, Text, commands_of, disk_of, front, replies_of, run_on, starts_of,
 };
 use object_values::{Bytes, Memory};
 use odin_fakes::MemDisk;
+use session_samples::{C_UNITS, KITS};
 use std::alloc::Global;
 use std::test::Fail;
+
+// Behind the graph of units: what is linked is a unit again.
+const BACK: Text = b"tool back 1 from exe to c run \"ld\";\n";
+
+// Behind any graph: a comment, which declares nothing.
+const COMMENT: Text = b"# nothing else\n";
 
 // A session over a graph.
 struct Row {

@@ -1,10 +1,9 @@
 // Runs one after another over one file: what was acknowledged is there, and what was kept is not run again.
-use super::runs::{only, sink};
-use super::samples::C_UNITS;
 use super::stored::{NONE, Ran, Text, crashed, disk_of, run_on, status_on};
 use object_values::{Bytes, Memory, Seq};
-use odin_fakes::{FailDisk, FailSink, FailTools, MemDisk, TableTools};
+use odin_fakes::{FailDisk, FailSink, FailTools, TableTools};
 use odin_outside::Disk;
+use session_samples::{C_UNITS, only, sink};
 use std::alloc::Global;
 use std::test::Fail;
 

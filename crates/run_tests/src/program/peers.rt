@@ -73,7 +73,7 @@ const PEERS: &[(&str, &str, u8)] = &[
     ),
     (
         "takes a file and a folder",
-        "say 'take session_tests.graph'; read -r word name size; [ \"$word $name\" = 'took session_tests.graph' ] && say 'take odin.work'; hear 'no file odin.work'",
+        "say 'take run_tests.graph'; read -r word name size; [ \"$word $name\" = 'took run_tests.graph' ] && say 'take odin.work'; hear 'no file odin.work'",
         0,
     ),
 ];

@@ -1,14 +1,13 @@
 // Each call of each object of the outside fails in turn while a program is edited and asked for: the run ends with the status of the cause, and the
 // next one goes on with its file.
 use super::rows::WARNING_AND_BACK as STEPS;
-use super::runs::{only, owned, sink, source, tree_of};
-use super::samples::C_UNITS;
 use super::stored::{
     Ran, Starts, Step, Text, behind, commands_of, disk_of, front, replies_of, run_on, starts_of,
 };
 use object_values::{Memory, Seq};
 use odin_fakes::{FailDisk, FailSink, FailSource, FailTools, FailTree, TableTools};
 use odin_shell::run;
+use session_samples::{C_UNITS, only, owned, sink, source, tree_of};
 use std::alloc::Global;
 use std::test::Fail;
 

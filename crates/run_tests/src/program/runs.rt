@@ -5,11 +5,12 @@ use odin_fakes::MemDisk;
 use odin_files::FolderTree;
 use odin_real::{InputSource, OutputSink};
 use odin_shell::run;
+use session_samples::owned;
 use std::fs;
 use std::io::{self, Read, Write};
 
 /// The file of the graph, in the current folder.
-pub const GRAPH: &str = "session_tests.graph";
+pub const GRAPH: &str = "run_tests.graph";
 
 // The lines of a unit are counted by `wc`. The program of `lost` isn't there.
 const TEXT: &str =
@@ -28,9 +29,7 @@ pub fn status_over<I: Read + Drop, O: Write + Drop>(
     output: O,
 ) -> Result<u8, Memory> {
     let alloc = rt.alloc();
-    let mut words = Vec::new(alloc);
-    words.push(String::from_str(alloc, "odin")?)?;
-    words.push(String::from_str(alloc, graph)?)?;
+    let words = owned(alloc, &["odin", graph])?;
     let mut input = InputSource::new(input);
     let mut output = OutputSink::new(output);
     let mut tree = FolderTree::new(rt);

@@ -1,11 +1,11 @@
 // Runs over one file with the toy tools, and steps of sessions with what they start.
 ghost use Rattle.std.specs.Prelude.{◌≡◌, []};
 
-use super::runs::{owned, sink, source, tree_of};
 use object_values::{Bytes, Job, Memory, Seq};
 use odin_fakes::{MemDisk, TableTools};
 use odin_outside::{Disk, Sink, Spawner, ToolEvent};
 use odin_shell::run;
+use session_samples::{graph_text, owned, sink, source, tree_of};
 use std::alloc::Global;
 
 /// Bytes that stand in a table.
@@ -35,15 +35,6 @@ pub fn crashed(alloc: Global, disk: &MemDisk, moment: usize, choice: u64) -> Res
         return Err(Memory);
     }
     disk.crash(alloc, moment as u32, choice)
-}
-
-/// The text of a graph file.
-pub fn graph_text(alloc: Global, graph: &[&[u8]]) -> Result<Vec<u8>, Memory> {
-    let mut text = Vec::new(alloc);
-    for piece in graph {
-        text.extend_from_slice(piece)?;
-    }
-    Ok(text)
 }
 
 /// How many jobs of each toy tool were started.

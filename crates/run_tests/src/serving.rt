@@ -1,8 +1,10 @@
 // Whole runs over a runtime in memory, whose input comes in two pieces.
-use super::runs::{CC_ONLY, owned, status_over, tree_of};
+use super::stored::disk_of;
 use object_values::{Memory, Seq};
 use odin_fakes::TableTools;
 use odin_real::{InputSource, OutputSink};
+use odin_shell::run;
+use session_samples::{CC_ONLY, owned, tree_of};
 use std::alloc::{Allocator, Global};
 use std::cell::RefCell;
 use std::fmt::Display;
@@ -62,15 +64,17 @@ fn serve(rt: &MemRuntime, alloc: Global) -> Result<u8, Memory> {
     let mut input = InputSource::new(rt.reader());
     let mut output = OutputSink::new(io::writer(rt));
     let mut tree = tree_of(alloc, &[(b"g0", CC_ONLY)])?;
+    let mut disk = disk_of(alloc, b"")?;
     let mut tools = TableTools::toy(alloc, Seq::new(alloc));
-    status_over(
+    Ok(run(
         alloc,
         words.as_slice(),
         &mut input,
         &mut output,
         &mut tree,
+        &mut disk,
         &mut tools,
-    )
+    ))
 }
 
 // The status and what was written of a run with an input in these two pieces.

@@ -1,0 +1,18 @@
+//! Runs one after another over a store, with what each step starts, each call that fails and each stop, and whole runs over a runtime in memory and over
+//! real pipes, files, devices and child programs. It holds tests alone.
+#![tactic(auto)]
+
+#[cfg(test)]
+mod failing;
+#[cfg(test)]
+mod keeping;
+#[cfg(test)]
+mod program;
+#[cfg(test)]
+mod rows;
+#[cfg(test)]
+mod serving;
+#[cfg(test)]
+mod stops;
+#[cfg(test)]
+mod stored;
