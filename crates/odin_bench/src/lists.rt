@@ -36,7 +36,10 @@ fn read(alloc: Global, count: u32) -> Result<(usize, usize), Memory> {
 
 /// Says how many lines and bytes a list of so many references has.
 pub(crate) fn tell(rt: &HostRuntime, count: u32) -> Result<(), Fault> {
-    let (lines, bytes) = read(rt.alloc(), count.min(MOST))?;
+    if count > MOST {
+        return Err(Fault::Words);
+    }
+    let (lines, bytes) = read(rt.alloc(), count)?;
     let _ = println!(rt; "{lines} references in {bytes} bytes");
     Ok(())
 }
