@@ -1,11 +1,12 @@
 // Nodes that are led on along chosen paths.
-ghost use Rattle.std.specs.Prelude.{◌≡◌, IfOk};
+ghost use Rattle.std.specs.Prelude.{◌≡◌, ◌++◌, ◌∷◌, [], IfOk};
+ghost use Rattle.object_values.specs.declared.nodes.Step.TheVariants.{Maker};
 ghost use Rattle.meaning_nodes.specs.Nodes.{onward_named};
 ghost use Rattle.path_planner.specs.Ends.{plans_of};
 
 use crate::making::put_makers;
 use crate::types::reached_type;
-use object_values::{Copied, Memory, Node, Step};
+use object_values::{Copied, Memory, Node, Seq, Step};
 use path_planner::Plans;
 use std::alloc::Global;
 use type_graph::Graph;
@@ -43,14 +44,33 @@ pub fn onward_from(
     let Some(at) = reached_type(graph, &node) else {
         return Ok(None);
     };
-    let mut further = node;
     if let Some((maker, _)) = plans.direct(graph, at, to) {
-        further.steps.push(Step::Maker(maker))?;
-        return Ok(Some(further));
+        return Ok(Some(led_by(node, maker)?));
     }
     let Some(path) = plans.plan(alloc, graph, at, to)? else {
         return Ok(None);
     };
+    let mut further = node;
     put_makers(path.as_slice(), &mut further.steps)?;
     Ok(Some(further))
+}
+
+// The node one maker further. Many of these are held at once, so its steps get no room to spare.
+fn led_by(node: Node, maker: u32) -> Result<Node, Memory>
+    ensures { IfOk result (λ led. led ≡
+        record node { steps = node.steps ++ Maker maker ∷ [] }) }
+{
+    let Node {
+        source,
+        params,
+        steps,
+    } = node;
+    let mut steps = steps.into_vec();
+    steps.reserve_exact(1)?;
+    steps.push(Step::Maker(maker))?;
+    Ok(Node {
+        source,
+        params,
+        steps: Seq::from_vec(steps),
+    })
 }
