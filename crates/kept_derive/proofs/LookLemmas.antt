@@ -123,7 +123,7 @@ module _ {D : Type 0} (told : D → Telling) (call : Call) (old new : At D) wher
   pub stop_keeps : (fault : KeptFault) → StopsCall told call old new fault → KeepsUnless old.store new.store fault
   stop_keeps Spawn stops = unchanged_kept old.store new.store stops.same.store_is
   stop_keeps Disk stops = tt
-  stop_keeps (Full end count) stops = unchanged_kept old.store new.store stops.failed.0.store_is
+  stop_keeps (Full end count) stops = unchanged_kept old.store new.store stops.failed.1.0.store_is
   stop_keeps Memory stops = unchanged_kept old.store new.store stops.same.store_is
 
 -- ---- as its callers see it

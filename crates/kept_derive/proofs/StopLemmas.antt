@@ -32,14 +32,14 @@ module _ {D : Type 0} (told : D → Telling) (g : Graph) (n : Node) (old new : A
   pub stops_keep : ChangesFollow told → (f : KeptFault) → f ≢ fault.Disk → IsStopped told g n old new f → KeepsCalls told old new
   stops_keep follow fault.Spawn apart cut = keeps_before follow cut.given cut.mid cut.run cut.same
   stops_keep follow fault.Disk apart unkept = absurd (apart refl)
-  stops_keep follow (fault.Full end count) apart unkept = keeps_before follow unkept.given unkept.mid unkept.run unkept.failed.0
+  stops_keep follow (fault.Full end count) apart unkept = keeps_before follow unkept.given unkept.mid unkept.run unkept.failed.1.0
   stops_keep follow fault.Memory apart cut = keeps_before follow cut.given cut.mid cut.run cut.same
 
   pub disk_stops : ChangesStop told → IsStopped told g n old new fault.Disk → StopsInCalls told old new
   disk_stops stop unkept = record {
     given = unkept.given ++ (unkept.call, unkept.outcome) ∷ [];
     stops = subst (λ l. Stops told l old.store old.disk new.disk) (sym (keeps_one_more unkept.given unkept.call unkept.outcome))
-        (stop.behind (keeps_of unkept.given) (keeps unkept.call unkept.outcome ∷ []) old.store unkept.mid.store old.disk unkept.mid.disk new.disk unkept.run.goes unkept.failed);
+        (stop.behind (keeps_of unkept.given) (keeps unkept.call unkept.outcome ∷ []) old.store unkept.mid.store old.disk unkept.mid.disk new.disk unkept.run.goes unkept.failed.1);
   }
 
   -- ---- tools that answer by a table
@@ -52,5 +52,5 @@ module _ {D : Type 0} (told : D → Telling) (g : Graph) (n : Node) (old new : A
   pub stops_are_true : (table : Table) (f : KeptFault) → f ≢ fault.Disk → old.tools.answer ≡ Some table → HasMore (known_in old.store) (table_outcomes table) → IsStopped told g n old new f → HasMore (known_in new.store) (table_outcomes table)
   stops_are_true table fault.Spawn apart answer right cut = true_before table answer right cut.given cut.mid cut.run cut.same
   stops_are_true table fault.Disk apart answer right unkept = absurd (apart refl)
-  stops_are_true table (fault.Full end count) apart answer right unkept = true_before table answer right unkept.given unkept.mid unkept.run unkept.failed.0
+  stops_are_true table (fault.Full end count) apart answer right unkept = true_before table answer right unkept.given unkept.mid unkept.run unkept.failed.1.0
   stops_are_true table fault.Memory apart answer right cut = true_before table answer right cut.given cut.mid cut.run cut.same

@@ -199,22 +199,22 @@ module _ {Disk : Type 0} (told : Disk → Telling) where
           given = u.given ++ (u.call, u.outcome) ∷ [];
           ran = unkept_ran store.Disk for;
           stops = subst (λ c. Stops told c old.store old.disk new.disk) (sym (keeps_behind u.given u.call u.outcome))
-              (stops_behind told (keeps_of u.given) (keeps u.call u.outcome ∷ []) old.store u.mid.store old.disk u.mid.disk new.disk u.run.goes u.failed);
+              (stops_behind told (keeps_of u.given) (keeps u.call u.outcome ∷ []) old.store u.mid.store old.disk u.mid.disk new.disk u.run.goes u.failed.1);
         }
 
     full : (at size : ℕ) → IsUnkeptFor (store.Full at size) → IsFull told g text old new at size
     full at size for =
         let u = for.unkept in
-        let same = u.failed.0 in
+        let same = u.failed.1.0 in
         record {
           given = u.given;
           call = u.call;
           outcome = u.outcome;
           ran = unkept_ran (store.Full at size) for;
           goes = goes_same (keeps_of u.given) old.store u.mid.store new.store old.disk u.mid.disk new.disk u.run.goes same;
-          items = u.failed.1.0;
-          batch = subst (λ (t : Tables). IsBatchOf t.contents (keeps u.call u.outcome) u.failed.1.0) (sym same.store_is.tables) u.failed.1.1;
-          over = subst (λ (j : Journal). IsOver u.failed.1.0 j.end at size) (sym same.store_is.journal) u.failed.1.2;
+          items = u.failed.1.1.0;
+          batch = subst (λ (t : Tables). IsBatchOf t.contents (keeps u.call u.outcome) u.failed.1.1.0) (sym same.store_is.tables) u.failed.1.1.1;
+          over = subst (λ (j : Journal). IsOver u.failed.1.1.0 j.end at size) (sym same.store_is.journal) u.failed.1.1.2;
         }
 
     -- ---- by the fault

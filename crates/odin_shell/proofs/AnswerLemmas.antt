@@ -15,7 +15,7 @@ use Rattle.odin_journal.specs.Rest.{IsReady}
 use Rattle.odin_journal.specs.declared.fault.JournalFault.{JournalFault}
 use Rattle.odin_journal.specs.declared.fault.JournalFault.TheVariants as fault
 use Rattle.odin_store.specs.declared.store.Store.{Store}
-use Rattle.odin_store.specs.Held.{Held, Change, keeps}
+use Rattle.odin_store.specs.Held.{Held, Change, keeps, IsDue}
 use Rattle.odin_store.specs.OnDisk.{held_in, IsSame}
 use Rattle.odin_store.specs.Keeping.{store_keeping}
 use Rattle.odin_store.specs.Going.{Goes}
@@ -117,27 +117,27 @@ module _ {D : Type 0} (disk : DiskMeaning D) where
     -- ---- edits that failed
 
     -- what an edit leaves that was not made, or that the disk failed
-    pub edit_left : (change : Change) (IsDue : Change → Type 0) (next : Store) (told' : Told D) (e : JournalFault) → (e ≢ fault.Memory → IsDue change) → HasFailed disk.told change code.store next told.disk told'.disk e
+    pub edit_left : (change : Change) (Asked : Change → Type 0) (next : Store) (told' : Told D) (e : JournalFault) → (e ≢ fault.Memory → Asked change) → HasFailed disk.told change code.store next told.disk told'.disk e
         → disk.faults told.disk ≤ disk.faults told'.disk → IsCauseOf (disk.faults told.disk) (disk.faults told'.disk) e → told'.tools ≡ told.tools → TreeStays told.tree told'.tree
-        → (furthest : State) × (MayEdit IsDue state furthest × (furthest.tree ≡ told'.tree) × IsLeft disk g text first start state furthest (stopped (stop_of e) told'))
-    edit_left change IsDue next told' fault.Disk due failed later cause tools tree =
+        → (furthest : State) × (MayEdit Asked state furthest × (furthest.tree ≡ told'.tree) × IsLeft disk g text first start state furthest (stopped (stop_of e) told'))
+    edit_left change Asked next told' fault.Disk due failed later cause tools tree =
         let new = next_state state (change ∷ []) told'.tools told'.tree in (
           new,
           (
-            record { changes = change ∷ []; due = inr (change, due (λ e. let no : ⊥ = cc in no), refl); makes = makes_next state (change ∷ []) told'.tools told'.tree; tools = tools ∙ fits.tools },
+            record { changes = change ∷ []; due = inr (change, due (λ e. let no : ⊥ = cc in no), subst (λ (h : Held). IsDue change h) fits.held failed.0, refl); makes = makes_next state (change ∷ []) told'.tools told'.tree; tools = tools ∙ fits.tools },
             refl,
             left_by disk g text first start code state told fits (stopped stop.Disk told') (same_tools told.tools told'.tools tools fits.stay.few) tree (change ∷ [])
-                (safe_failed disk g text first start code state told fits (change ∷ []) told'.disk failed later cause) (λ at size some. (let no : ⊥ = cc in absurd no)) (λ stopped. ap (λ (t : Spawned). t.faults) tools),
+                (safe_failed disk g text first start code state told fits (change ∷ []) told'.disk failed.1 later cause) (λ at size some. (let no : ⊥ = cc in absurd no)) (λ stopped. ap (λ (t : Spawned). t.faults) tools),
           ),
         )
-    edit_left change IsDue next told' (fault.NotOurs at) due failed later cause tools tree = absurd failed
-    edit_left change IsDue next told' (fault.Full at size) due failed later cause tools tree =
+    edit_left change Asked next told' (fault.NotOurs at) due failed later cause tools tree = absurd failed
+    edit_left change Asked next told' (fault.Full at size) due failed later cause tools tree =
         let new = next_state state (change ∷ []) told'.tools told'.tree in
-        let here : IsSame code.store code.store told.disk told'.disk = record { disk_is = failed.0.disk_is; store_is = record { journal = refl; tables = refl; sources = refl; epoch = refl } } in
+        let here : IsSame code.store code.store told.disk told'.disk = record { disk_is = failed.1.0.disk_is; store_is = record { journal = refl; tables = refl; sources = refl; epoch = refl } } in
         let goes : Goes disk.told [] code.store code.store told.disk told'.disk = goes_none disk.told code.store code.store told.disk told'.disk here in (
           new,
           (
-            record { changes = change ∷ []; due = inr (change, due (λ e. let no : ⊥ = cc in no), refl); makes = makes_next state (change ∷ []) told'.tools told'.tree; tools = tools ∙ fits.tools },
+            record { changes = change ∷ []; due = inr (change, due (λ e. let no : ⊥ = cc in no), subst (λ (h : Held). IsDue change h) fits.held failed.0, refl); makes = makes_next state (change ∷ []) told'.tools told'.tree; tools = tools ∙ fits.tools },
             refl,
             left_by disk g text first start code state told fits (stopped (stop.Full at size) told') (same_tools told.tools told'.tools tools fits.stay.few) tree (change ∷ [])
                 (safe_full disk g text first start code state told fits [] change code.store told'.disk goes cause)
@@ -146,11 +146,11 @@ module _ {D : Type 0} (disk : DiskMeaning D) where
                 let same_size : size ≡ s = ap (λ (p : ℕ × ℕ). p.1) (same_some some) in
                 subst (λ x. IsFull text (state.changes ++ change ∷ []) (disk.told start.disk) (disk.told told'.disk) x s) same_at
                 (subst (λ x. IsFull text (state.changes ++ change ∷ []) (disk.told start.disk) (disk.told told'.disk) at x) same_size
-                (is_full disk g text first start code state told fits [] change code.store told'.disk failed.1.0 at size goes failed.1.1 failed.1.2)))
+                (is_full disk g text first start code state told fits [] change code.store told'.disk failed.1.1.0 at size goes failed.1.1.1 failed.1.1.2)))
                 (λ stopped. ap (λ (t : Spawned). t.faults) tools),
           ),
         )
-    edit_left change IsDue next told' fault.Memory due failed later cause tools tree =
+    edit_left change Asked next told' fault.Memory due failed later cause tools tree =
         let new = next_state state [] told'.tools told'.tree in
         let goes : Goes disk.told [] code.store next told.disk told'.disk = goes_none disk.told code.store next told.disk told'.disk failed in (
           new,

@@ -19,7 +19,7 @@ use Rattle.source_edits.specs.Changes.{edit_changes, EditsSource, IsPut, MayBeTa
 use Rattle.odin_shell.specs.Filed.{DiskMeaning}
 use Rattle.odin_shell.specs.Language.{commands}
 use Rattle.odin_shell.specs.Endings.{stop_of}
-use Rattle.odin_shell.specs.Machine.{Told, PutIsDue, TakeIsDue, stopped}
+use Rattle.odin_shell.specs.Machine.{Told, IsPutChange, IsTakeChange, stopped}
 use Rattle.odin_shell.specs.Served.{Answers, Halts, HasHalted}
 use Rattle.odin_shell.proofs.StateLemmas.{next_state, same_tree}
 use Rattle.odin_shell.proofs.AnswerLemmas.{edits, edits_by_file, edit_belongs, edit_leaves, edit_left}
@@ -88,9 +88,9 @@ module _ {D : Type 0} (disk : DiskMeaning D) (code code' : Engaged) (told told' 
       → Halts disk code (Put name count) kept told e told'
   put_halts name count kept e failed ceased tree g text first start state body same fits = by failed
     where
-      by_change : (change : Change) → HasFailed disk.told change code.store code'.store told.disk told'.disk e → (e ≢ fault.Memory → PutIsDue name count body change) → HasHalted disk g text first start state (Put name count) body (stopped (stop_of e) told')
+      by_change : (change : Change) → HasFailed disk.told change code.store code'.store told.disk told'.disk e → (e ≢ fault.Memory → IsPutChange name count body change) → HasHalted disk g text first start state (Put name count) body (stopped (stop_of e) told')
       by_change change fails due =
-          let left = edit_left disk g text first start code state told fits change (PutIsDue name count body) code'.store told' e due fails ceased.later ceased.cause ceased.tools (same_tree told.tree told'.tree tree) in
+          let left = edit_left disk g text first start code state told fits change (IsPutChange name count body) code'.store told' e due fails ceased.later ceased.cause ceased.tools (same_tree told.tree told'.tree tree) in
           record { furthest = left.0; may = (left.1.0, left.1.1 ∙ tree ∙ fits.tree); exit = left.1.2 }
 
       by : HasFailedToPut disk.told (IsPut count kept) name code.store code'.store told.disk told'.disk e → HasHalted disk g text first start state (Put name count) body (stopped (stop_of e) told')
@@ -107,10 +107,10 @@ module _ {D : Type 0} (disk : DiskMeaning D) (code code' : Engaged) (told told' 
 
   module _ (name : Text) (kept : List ℕ) (e : JournalFault) (ceased : HasCeased e) (asked : IsAsked told.tree told'.tree) where
     -- a change that is due, or want of memory
-    take_left : (change : Change) → HasFailed disk.told change code.store code'.store told.disk told'.disk e → (e ≢ fault.Memory → TakeIsDue name told.tree change) → Halts disk code (Take name) kept told e told'
+    take_left : (change : Change) → HasFailed disk.told change code.store code'.store told.disk told'.disk e → (e ≢ fault.Memory → IsTakeChange name told.tree change) → Halts disk code (Take name) kept told e told'
     take_left change failed is_due g text first start state body same fits =
-        let due : e ≢ fault.Memory → TakeIsDue name state.tree change = λ differs. subst (λ (t : TreeTold). TakeIsDue name t change) fits.tree (is_due differs) in
-        let left = edit_left disk g text first start code state told fits change (TakeIsDue name state.tree) code'.store told' e due failed ceased.later ceased.cause ceased.tools asked.stays in
+        let due : e ≢ fault.Memory → IsTakeChange name state.tree change = λ differs. subst (λ (t : TreeTold). IsTakeChange name t change) fits.tree (is_due differs) in
+        let left = edit_left disk g text first start code state told fits change (IsTakeChange name state.tree) code'.store told' e due failed ceased.later ceased.cause ceased.tools asked.stays in
         record {
           furthest = left.0;
           may = (left.1.0, subst (λ (t : TreeTold). IsAsked t (left.0).tree) fits.tree (subst (λ (t : TreeTold). IsAsked told.tree t) (sym left.1.1) asked));

@@ -55,10 +55,10 @@ edits_keep name old new makes = ap (λ (h : Held). h.calls) makes.held ∙ edit_
 abbrev pub KeepsCalls : Change → Type 0
 KeepsCalls change = (held : Held) → (apply change held).calls ≡ held.calls
 
-pub edit_keeps : (IsDue : Change → Type 0) (old new : State) → ((change : Change) → IsDue change → KeepsCalls change) → MayEdit IsDue old new → new.held.calls ≡ old.held.calls
-edit_keeps IsDue old new due may = ap (λ (h : Held). h.calls) may.makes.held ∙ elim may.due [
+pub edit_keeps : (Asked : Change → Type 0) (old new : State) → ((change : Change) → Asked change → KeepsCalls change) → MayEdit Asked old new → new.held.calls ≡ old.held.calls
+edit_keeps Asked old new due may = ap (λ (h : Held). h.calls) may.makes.held ∙ elim may.due [
   | inl none ↦ ap (λ c. (after store_keeping c old.held).calls) none
-  | inr one ↦ ap (λ c. (after store_keeping c old.held).calls) one.2 ∙ due one.0 one.1 old.held
+  | inr one ↦ ap (λ c. (after store_keeping c old.held).calls) one.3 ∙ due one.0 one.1 old.held
 ]
 
 pub puts_keep : (name text : Text) (change : Change) → change ≡ puts name text → KeepsCalls change

@@ -21,7 +21,7 @@ use Rattle.odin_store.specs.Held.{Held, Change, drops, apply}
 use Rattle.odin_store.specs.Keeping.{store_keeping}
 use Rattle.odin_shell.specs.Language.{commands}
 use Rattle.source_edits.specs.Edits.{Inserts, TakesFile, RemovesText}
-use Rattle.odin_shell.specs.Machine.{State, Step, PutIsDue, TakeIsDue, MayEdit, MayLeave}
+use Rattle.odin_shell.specs.Machine.{State, Step, IsPutChange, IsTakeChange, MayEdit, MayLeave}
 use Rattle.odin_shell.proofs.MadeLemmas.{kept_sources}
 
 -- ---- names
@@ -121,18 +121,18 @@ stay g old new item command reply are i step =
 
 -- ---- without a reply
 
-due_stays : (IsDue : Change → Type 0) (old new : State) → ((change : Change) → IsDue change → AreSources (apply change old.held).sources) → AreSources old.held.sources → MayEdit IsDue old new → AreSources new.held.sources
-due_stays IsDue old new each are may = subst (λ (h : Held). AreSources h.sources) (sym may.makes.held) (elim may.due [
+due_stays : (Asked : Change → Type 0) (old new : State) → ((change : Change) → Asked change → AreSources (apply change old.held).sources) → AreSources old.held.sources → MayEdit Asked old new → AreSources new.held.sources
+due_stays Asked old new each are may = subst (λ (h : Held). AreSources h.sources) (sym may.makes.held) (elim may.due [
   | inl none ↦ subst (λ c. AreSources (after store_keeping c old.held).sources) (sym none) are
-  | inr one ↦ subst (λ c. AreSources (after store_keeping c old.held).sources) (sym one.2) (each one.0 one.1)
+  | inr one ↦ subst (λ c. AreSources (after store_keeping c old.held).sources) (sym one.3) (each one.0 one.1)
 ])
 
 step_left : (g : Graph) (old new : State) (command : Command) (body : List ℕ) → AreSources old.held.sources → BringsName command → (takes command ≤ body_limit → length body ≤ body_limit)
     → MayLeave g old command body new → AreSources new.held.sources
 step_left g old new (Put name count) body are named short may =
-    due_stays (PutIsDue name count body) old new (λ change due. subst (λ c. AreSources (apply c old.held).sources) (sym due.1) (put_stays old.held.sources name body are named (short due.0))) are may.0
+    due_stays (IsPutChange name count body) old new (λ change due. subst (λ c. AreSources (apply c old.held).sources) (sym due.1) (put_stays old.held.sources name body are named (short due.0))) are may.0
 step_left g old new (Take name) body are named short may =
-    due_stays (TakeIsDue name old.tree) old new (λ change due. subst (λ c. AreSources (apply c old.held).sources) (sym due.3) (put_stays old.held.sources name due.0 are named due.1)) are may.0
+    due_stays (IsTakeChange name old.tree) old new (λ change due. subst (λ c. AreSources (apply c old.held).sources) (sym due.3) (put_stays old.held.sources name due.0 are named due.1)) are may.0
 step_left g old new (Remove name) body are named short may =
     due_stays (λ change. change ≡ drops name) old new (λ change due. subst (λ c. AreSources (apply c old.held).sources) (sym due) (drop_stays old.held.sources name are)) are may.0
 step_left g old new (Ask text) body are named short may = subst AreSources (sym (ap (λ (h : Held). h.sources) may.makes.held ∙ kept_sources may.given old.held)) are

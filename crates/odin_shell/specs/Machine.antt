@@ -10,7 +10,7 @@ use Rattle.meaning_run.specs.Objects.{SinkTold}
 use Rattle.meaning_run.specs.Machines.{Machine, Halt, before_reply, within_reply, behind_reply}
 use Rattle.meaning_answers.specs.Answers as answers
 use Rattle.odin_journal.specs.Rest.{IsReady}
-use Rattle.odin_store.specs.Held.{Held, Change, puts, drops}
+use Rattle.odin_store.specs.Held.{Held, Change, puts, drops, IsDue}
 use Rattle.odin_outside.specs.Files.{IsGiven}
 use Rattle.meaning_texts.specs.Limits.{body_limit}
 use Rattle.odin_store.specs.OnDisk.{held_in}
@@ -105,16 +105,16 @@ Step g old (BadName count) body bytes new = Replies reply.RefusedName old bytes 
 -- ---- commands without a reply
 
 -- the change of a `put` without a reply, and of a `take`: with a text that isn't too long
-abbrev pub PutIsDue : Text → ℕ → Text → Change → Type 0
-PutIsDue name count body change = (count ≤ body_limit) × (change ≡ puts name body)
+abbrev pub IsPutChange : Text → ℕ → Text → Change → Type 0
+IsPutChange name count body change = (count ≤ body_limit) × (change ≡ puts name body)
 
-abbrev pub TakeIsDue : Text → TreeTold → Change → Type 0
-TakeIsDue name tree change = (text : Text) × (length text ≤ body_limit) × IsGiven tree.files name (Some text) × (change ≡ puts name text)
+abbrev pub IsTakeChange : Text → TreeTold → Change → Type 0
+IsTakeChange name tree change = (text : Text) × (length text ≤ body_limit) × IsGiven tree.files name (Some text) × (change ≡ puts name text)
 
--- A change of which this holds was due, or none was.
-pub record MayEdit (IsDue : Change → Type 0) (old new : State) : Type 0 where
+-- Such a change was asked for and due, or none was.
+pub record MayEdit (Asked : Change → Type 0) (old new : State) : Type 0 where
   pub changes : List Change
-  pub due : (changes ≡ []) ⊎ ((change : Change) × IsDue change × (changes ≡ change ∷ []))
+  pub due : (changes ≡ []) ⊎ ((change : Change) × Asked change × IsDue change old.held × (changes ≡ change ∷ []))
   pub makes : Makes changes old new
   pub tools : new.tools ≡ old.tools
 
@@ -128,8 +128,8 @@ pub record MayHaveAsked (g : Graph) (text : Text) (old new : State) : Type 0 whe
 -- What a command without its reply may leave: of an edit its change; of an `ask` its derivation, as far as it was begun; of a `take` that the
 -- tree was asked; of any other command nothing.
 abbrev pub MayLeave : Graph → State → Command → List ℕ → State → Type 0
-MayLeave g old (Put name count) body new = MayEdit (PutIsDue name count body) old new × (new.tree ≡ old.tree)
-MayLeave g old (Take name) body new = MayEdit (TakeIsDue name old.tree) old new × IsAsked old.tree new.tree
+MayLeave g old (Put name count) body new = MayEdit (IsPutChange name count body) old new × (new.tree ≡ old.tree)
+MayLeave g old (Take name) body new = MayEdit (IsTakeChange name old.tree) old new × IsAsked old.tree new.tree
 MayLeave g old (Remove name) body new = MayEdit (λ change. change ≡ drops name) old new × (new.tree ≡ old.tree)
 MayLeave g old (Ask text) body new = MayHaveAsked g text old new
 MayLeave g old other body new = new ≡ old

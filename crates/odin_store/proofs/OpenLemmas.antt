@@ -144,16 +144,19 @@ new_fits graph old mid records end short opened is_new none over =
     record_long : (text : Text) → length (graph_record text) ≡ 5 + length text
     record_long text = omega (arith, length-append text [])
 
-full_graph : (graph : Text) (old mid : Telling) (records : List (List ℕ)) (end at count : ℕ) → length graph ≤ 1048576 → OnlyReads old mid → Opens old mid records end → IsQuiet old
+full_graph : (graph : Text) (old mid : Telling) (records : List (List ℕ)) (end at count : ℕ) (state : State) → ReadsAll nothing records state → state.graph ≢ Some graph → length graph ≤ 1048576 → OnlyReads old mid → Opens old mid records end → IsQuiet old
     → (1073741824 < end + 6 + length (graph_record graph)) × (at ≡ end) × (count ≡ length (graph_record graph)) → Stored records old.seen → Untouched old mid × IsFull graph old at count
-full_graph graph old mid records end at count short reads opened quiet told (inl new) = absurd (new_fits graph old mid records end short opened new.0 new.1 told.0)
-full_graph graph old mid records end at count short reads opened quiet told (inr store) =
+full_graph graph old mid records end at count state read other short reads opened quiet told (inl new) = absurd (new_fits graph old mid records end short opened new.0 new.1 told.0)
+full_graph graph old mid records end at count state read other short reads opened quiet told (inr store) =
     let none : IsNew old.seen → ⊥ = λ is_new. new_or_written old.seen is_new store.1.written in
     let there : IsStore old.seen records end = written old mid records end opened none reads quiet in (
       reads quiet none,
       record {
         records = records;
         rests = record { quiet = quiet; store = subst (λ e. IsStore old.seen records e) (sym told.1) there };
+        state = state;
+        read = read;
+        other = other;
         count_is = told.2;
         over = subst (λ e. 1073741824 < e + 6 + count) (sym told.1) (subst (λ n. 1073741824 < end + 6 + n) (sym told.2) told.0);
       },
@@ -170,14 +173,14 @@ refused_of T (fault.Full end count) other = tt
 refused_of T fault.Memory other = tt
 
 -- the disk is as it was before the adding, but where it failed
-pub add_fault : (graph : Text) (old mid new : Telling) (records : List (List ℕ)) (end : ℕ) (e : JournalFault) → length graph ≤ 1048576 → OnlyReads old mid → (IsQuiet old → Opens old mid records end)
+pub add_fault : (graph : Text) (old mid new : Telling) (records : List (List ℕ)) (end : ℕ) (e : JournalFault) (state : State) → ReadsAll nothing records state → state.graph ≢ Some graph → length graph ≤ 1048576 → OnlyReads old mid → (IsQuiet old → Opens old mid records end)
     → (NotDisk e → IsOpenFault graph old mid e → IsOpenFault graph old new e)
     → journal.IsAddFault end (length (graph_record graph)) e → IsOpenFault graph old new e
-add_fault graph old mid new records end fault.Disk short reads opens same told = tt
-add_fault graph old mid new records end (fault.NotOurs at) short reads opens same told = absurd told
-add_fault graph old mid new records end (fault.Full at count) short reads opens same told =
-    same tt (λ quiet. full_graph graph old mid records end at count short reads (opens quiet) quiet told (opens quiet).stored)
-add_fault graph old mid new records end fault.Memory short reads opens same told = tt
+add_fault graph old mid new records end fault.Disk state read other short reads opens same told = tt
+add_fault graph old mid new records end (fault.NotOurs at) state read other short reads opens same told = absurd told
+add_fault graph old mid new records end (fault.Full at count) state read other short reads opens same told =
+    same tt (λ quiet. full_graph graph old mid records end at count state read other short reads (opens quiet) quiet told (opens quiet).stored)
+add_fault graph old mid new records end fault.Memory state read other short reads opens same told = tt
 
 -- ---- an opened store
 

@@ -7,8 +7,8 @@ use Rattle.odin_journal.specs.declared.fault.JournalFault.{JournalFault}
 use Rattle.odin_journal.specs.declared.fault.JournalFault.TheVariants as fault
 use Rattle.meaning_records.specs.declared.items.Item.{Item}
 use Rattle.odin_store.specs.declared.store.Store.{Store}
-use Rattle.odin_store.specs.Held.{Change, puts, drops}
-use Rattle.odin_store.specs.OnDisk.{IsChangeFault, IsOver, IsSame, LeavesChange}
+use Rattle.odin_store.specs.Held.{Change, puts, drops, IsDue}
+use Rattle.odin_store.specs.OnDisk.{held_in, IsChangeFault, IsOver, IsSame, LeavesChange, WasDue}
 use Rattle.odin_store.specs.Changes.{DropsSource, PutsText}
 use Rattle.odin_store.specs.Going.{IsBatchOf, Goes, Stops}
 
@@ -27,11 +27,11 @@ HasPut told name text store = HasEdited told (map.get store.sources.texts name �
 abbrev pub HasDropped : {Disk : Type 0} → (Disk → Telling) → Text → Store → Store → Disk → Disk → Bool → Type 0
 HasDropped told name store = HasEdited told (IsSome (map.get store.sources.texts name)) (drops name) store
 
--- An edit that was not made, or that the disk failed.
+-- A change that was due and was not made, or that the disk failed. Where memory was wanting it may not have been due.
 abbrev pub HasFailed : {Disk : Type 0} → (Disk → Telling) → Change → Store → Store → Disk → Disk → JournalFault → Type 0
-HasFailed told change store next disk after fault.Disk = Stops told (change ∷ []) store disk after
+HasFailed told change store next disk after fault.Disk = IsDue change (held_in store) × Stops told (change ∷ []) store disk after
 HasFailed told change store next disk after (fault.Full at some) =
-    IsSame store next disk after × ((items : List Item) × IsBatchOf store.kept.tables.contents change items × IsOver items store.journal.end at some)
+    IsDue change (held_in store) × (IsSame store next disk after × ((items : List Item) × IsBatchOf store.kept.tables.contents change items × IsOver items store.journal.end at some))
 HasFailed told change store next disk after (fault.NotOurs at) = ⊥
 HasFailed told change store next disk after fault.Memory = IsSame store next disk after
 
@@ -44,5 +44,5 @@ pub record EditsAreTold {Disk : Type 0} (told : Disk → Telling) : Type 0 where
       → LeavesChange (drops name) store (told disk) (told after)
       → HasDropped told name store next disk after changed
   pub failed : (change : Change) (store next : Store) (disk after : Disk) (e : JournalFault)
-      → IsChangeFault (IsBatchOf store.kept.tables.contents change) store.journal.end e → (e ≢ fault.Disk → IsSame store next disk after)
+      → IsChangeFault (IsBatchOf store.kept.tables.contents change) store.journal.end e → WasDue change store e → (e ≢ fault.Disk → IsSame store next disk after)
       → LeavesChange change store (told disk) (told after) → HasFailed told change store next disk after e

@@ -1,5 +1,5 @@
 -- What a store holds, as its users see it, and how it changes.
-use Rattle.std.specs.Prelude.{◌≡◌, ℕ, List, [], ◌∷◌, ◌++◌}
+use Rattle.std.specs.Prelude.{◌≡◌, ◌≢◌, ⊤, ℕ, List, [], ◌∷◌, ◌++◌, Some, IsSome}
 use Rattle.std.specs.FinMap as map
 use Rattle.object_values.specs.declared.calls.Call.{Call}
 use Rattle.object_values.specs.declared.calls.Outcome.{Outcome}
@@ -26,6 +26,12 @@ abbrev pub apply : Change → Held → Held
 apply (puts name text) held = record held { sources = map.insert held.sources name text }
 apply (drops name) held = record held { sources = map.remove held.sources name }
 apply (keeps call outcome) held = record held { calls = held.calls ++ (call, outcome) ∷ [] }
+
+-- A change is due: a put where the source has another text, or isn't there; a drop where it is there; the keeping of a call always.
+abbrev pub IsDue : Change → Held → Type 0
+IsDue (puts name text) held = map.get held.sources name ≢ Some text
+IsDue (drops name) held = IsSome (map.get held.sources name)
+IsDue (keeps call outcome) held = ⊤
 
 -- the image stands for just this
 abbrev pub StandsFor : Held → List ℕ → Type 0

@@ -11,7 +11,7 @@ use Rattle.odin_journal.specs.declared.fault.JournalFault.TheVariants as fault
 use Rattle.meaning_records.specs.declared.items.Item.{Item}
 use Rattle.meaning_records.specs.States.{State, nothing, ReadsAll, spell_batch}
 use Rattle.odin_store.specs.declared.store.Store.{Store}
-use Rattle.odin_store.specs.Held.{Held, Change, apply, StandsFor}
+use Rattle.odin_store.specs.Held.{Held, Change, apply, IsDue, StandsFor}
 
 -- what a store holds
 abbrev pub held_in : Store → Held
@@ -57,6 +57,11 @@ abbrev pub IsChangeFault : (List Item → Type 0) → ℕ → JournalFault → T
 IsChangeFault IsBatch end (fault.Full at some) = (items : List Item) × IsBatch items × IsOver items end at some
 IsChangeFault IsBatch end (fault.NotOurs at) = ⊥
 IsChangeFault IsBatch end other = ⊤
+
+-- a change that failed was due, unless memory was wanting
+abbrev pub WasDue : Change → Store → JournalFault → Type 0
+WasDue change store fault.Memory = ⊤
+WasDue change store other = IsDue change (held_in store)
 
 -- what a store is after a change: it can be changed on, or is spent
 pub record IsLeft {T : Type 0} (store : Store) (size : ℕ) (result : Result T JournalFault) : Type 0 where

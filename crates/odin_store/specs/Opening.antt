@@ -40,10 +40,13 @@ IsAtFirst store = store.epoch ≡ 0
 abbrev pub LeavesHeld : Telling → Telling → Type 0
 LeavesHeld old new = (state : State) → IsQuiet old → Stands old.seen state → LeavesOnly old new (StandsFor (held_of state))
 
--- the file is a store whose next batch, that of the graph, doesn't fit behind its end
+-- The file is a store whose last graph is another, if it has one, and whose next batch, that of this graph, doesn't fit behind its end.
 pub record IsFull (graph : Text) (image : Telling) (end count : ℕ) : Type 0 where
   pub records : List (List ℕ)
   pub rests : AtRest image records end
+  pub state : State
+  pub read : ReadsAll nothing records state
+  pub other : state.graph ≢ Some graph
   pub count_is : count ≡ length (graph_record graph)
   pub over : file_limit < end + 6 + count
 

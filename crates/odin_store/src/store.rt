@@ -47,7 +47,7 @@ impl Drop for Store {
 }
 
 impl Store {
-    ghost use Rattle.odin_store.specs.OnDisk.{IsChangeFault, IsLeft, IsOpen, IsSame, IsUnchanged, LeavesChange, WorksOnce};
+    ghost use Rattle.odin_store.specs.OnDisk.{IsChangeFault, IsLeft, IsOpen, IsSame, IsUnchanged, LeavesChange, WorksOnce, WasDue};
     ghost use Rattle.odin_store.specs.Opening.{graph_record, IsAtFirst, IsOpenFault, LeavesHeld, OpensQuiet};
     ghost use Rattle.odin_store.specs.Changes.{CallBatch, DropBatch, DropsSource, KeepsCall, MayKeep, MayPut, PutBatch, PutsText};
 
@@ -108,6 +108,7 @@ impl Store {
             (D.told disk.old) (D.told disk.new) }
         ensures fault { IfErr result
             (IsChangeFault (PutBatch self.old name.now text.now) self.old.journal.end) }
+        ensures due { IfErr result (WasDue (puts name.now text.now) self.old) }
         ensures same { IsRefused result → IsSame self.old self.new disk.old disk.new }
         ensures left { IsLeft self.new (D.size_of disk.new) result }
         ensures works { WorksOnce (PutBatch self.old name.now text.now)
@@ -138,6 +139,7 @@ impl Store {
         ensures any_moment { LeavesChange (drops name.now) self.old
             (D.told disk.old) (D.told disk.new) }
         ensures fault { IfErr result (IsChangeFault (DropBatch name.now) self.old.journal.end) }
+        ensures due { IfErr result (WasDue (drops name.now) self.old) }
         ensures same { IsRefused result → IsSame self.old self.new disk.old disk.new }
         ensures left { IsLeft self.new (D.size_of disk.new) result }
         ensures works { WorksOnce (DropBatch name.now) (D.told disk.old) (D.told disk.new) }

@@ -73,9 +73,10 @@ returns-in_err-append-clause-refused g c =
     let records = c.in_ok-journal.records in
     let end = c.in_ok-journal.journal.end in
     let graph = c.args.graph.now in
+    let answered : IsFalse c.has_graph.result = search rules in
     let told : IsAddFault end (length (graph_record graph)) e = subst (λ b. IsAddFault end (length b) e) (c.as_slice.ensures ∙ c.in_ok-payload.ensures) c.in_err-append.ensures.full.err in
     handed (IsOpenFault graph old new) c.from_residual-in_err-append.result e c.from_residual-in_err-append.ensures.1
-    (add_fault graph old mid new records end e c.requires c.open.ensures.untouched c.in_ok-journal.ensures.opened
+    (add_fault graph old mid new records end e (state_of c.in_ok-loading.loading) c.in_ok-loading.ensures.read (c.has_graph.ensures.no answered) c.requires c.open.ensures.untouched c.in_ok-journal.ensures.opened
     (λ other there. subst (λ d. IsOpenFault graph old (g.D.Disk.told d) e) (sym (c.in_err-append.ensures.same (refused_of ℕ e other)).0) there) told)
 
 pub returns-clause-opened : goal.returns-clause-opened
