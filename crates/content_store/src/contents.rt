@@ -1,6 +1,7 @@
 // Bodies by number.
 ghost use Rattle.std.specs.Prelude.{◌≡◌, ◌≢◌, ◌↔◌, ◌<◌, ◌∷◌, ◌++◌, [], All, IfOk, IfNone, IfSome, IsTrue, None, OnErr, OnOk, Some, length, slice_get};
 ghost use Rattle.content_store.specs.Bodies.{AreOnce, place_of, with_body};
+ghost use Rattle.content_store.specs.Index.{hash_of};
 
 use crate::keying::Keying;
 use object_values::{Bytes, Copied, Memory, Text};
@@ -9,15 +10,16 @@ use std::collections::HashMap;
 use std::hash::{FoldHasher, Hasher};
 use std::marker::{Model, PhantomData};
 
-/// Bodies, each once, numbered from 0 in the order in which they came. A body is looked up by its
-/// key, and what is found there is compared byte by byte. A quick hash may find it before.
+/// Bodies, each once, numbered from 0 in the order in which they came. A body is looked up by a
+/// quick hash, and by its key only where another body has that hash. What is found is compared byte
+/// by byte.
 pub struct Contents<K: Keying> {
     bodies: Vec<Text>,
-    // a number for the quick hash of each body: the latest that has it
-    hints: HashMap<u64, u64>,
-    // the number of the first body that has the key
-    first: HashMap<[u8; 32], u64>,
-    // the numbers of the bodies whose key an earlier one has
+    // the number of the first body that has the quick hash
+    first: HashMap<u64, u64>,
+    // of the bodies whose quick hash an earlier one has the number of the first that has the key
+    keyed: HashMap<[u8; 32], u64>,
+    // the numbers of the bodies whose quick hash and key earlier ones have
     clashing: Vec<u64>,
     keying: PhantomData<K>,
 }
@@ -26,14 +28,14 @@ impl<K: Keying> Drop for Contents<K> {
     fn drop(self) {
         let Contents {
             bodies,
-            hints,
             first,
+            keyed,
             clashing,
             keying: _,
         } = self;
         drop(bodies);
-        drop(hints);
         drop(first);
+        drop(keyed);
         drop(clashing);
     }
 }
@@ -49,8 +51,8 @@ impl<K: Keying> Model for Contents<K> {
 
     ghost view = { λ c. c.bodies.items };
 
-    ghost invariant = { λ c.
-        IsIndex K.key_of c.bodies.items (get (pointwise nat_eq) c.first) c.clashing.items };
+    ghost invariant = { λ c. IsIndex K.key_of c.bodies.items
+        (get nat_eq c.first) (get (pointwise nat_eq) c.keyed) c.clashing.items };
 }
 
 impl<K: Keying> Contents<K> {
@@ -59,8 +61,8 @@ impl<K: Keying> Contents<K> {
     {
         Contents {
             bodies: Vec::new(alloc),
-            hints: HashMap::new(alloc),
             first: HashMap::new(alloc),
+            keyed: HashMap::new(alloc),
             clashing: Vec::new(alloc),
             keying: PhantomData,
         }
@@ -92,10 +94,7 @@ impl<K: Keying> Contents<K> {
     pub fn find(&self, body: &[u8]) -> Option<u64>
         ensures { result ≡ place_of body.now self.now }
     {
-        match self.hinted(body) {
-            Some(id) => Some(id),
-            None => self.find_keyed(&K::key(body), body),
-        }
+        self.find_hashed(quick_hash(body), body)
     }
 
     /// The number of the body, which is shared where it is new and then has the next number.
@@ -104,15 +103,12 @@ impl<K: Keying> Contents<K> {
         ensures bodies { OnOk result (self.new ≡ with_body body.now self.old) }
         ensures err { OnErr result (self.new ≡ self.old) }
     {
-        if let Some(id) = self.hinted(body.as_slice()) {
-            return Ok(id);
-        }
-        let key = K::key(body.as_slice());
-        if let Some(id) = self.find_keyed(&key, body.as_slice()) {
+        let hash = quick_hash(body.as_slice());
+        if let Some(id) = self.find_hashed(hash, body.as_slice()) {
             return Ok(id);
         }
         let copy = body.copy(alloc)?;
-        self.add(key, copy)
+        self.add(hash, copy)
     }
 
     /// The same for bytes, which are copied where they are new.
@@ -121,15 +117,12 @@ impl<K: Keying> Contents<K> {
         ensures bodies { OnOk result (self.new ≡ with_body body.now self.old) }
         ensures err { OnErr result (self.new ≡ self.old) }
     {
-        if let Some(id) = self.hinted(body) {
-            return Ok(id);
-        }
-        let key = K::key(body);
-        if let Some(id) = self.find_keyed(&key, body) {
+        let hash = quick_hash(body);
+        if let Some(id) = self.find_hashed(hash, body) {
             return Ok(id);
         }
         let copy = Text::of(Bytes::from_slice(alloc, body)?)?;
-        self.add(key, copy)
+        self.add(hash, copy)
     }
 
     /// Each body stands there once.
@@ -139,32 +132,23 @@ impl<K: Keying> Contents<K> {
         let _ = &self.bodies;
     }
 
-    // The number of the body, where its quick hash leads to it.
-    fn hinted(&self, body: &[u8]) -> Option<u64>
-        ensures { IfSome result (λ id. place_of body.now self.now ≡ Some id) }
-    {
-        let id = *self.hints.get(&quick_hash(body))?;
-        if id < self.len() && is_body(&self.bodies, id, body) {
-            return Some(id);
-        }
-        None
-    }
-
-    // The number of the body that has this key.
-    fn find_keyed(&self, key: &[u8; 32], body: &[u8]) -> Option<u64>
-        requires { key.now ≡ K.key_of body.now }
+    // The number of the body, which has this quick hash.
+    fn find_hashed(&self, hash: u64, body: &[u8]) -> Option<u64>
+        requires { hash ≡ hash_of body.now }
         ensures { result ≡ place_of body.now self.now }
     {
-        match self.first.get(key) {
-            Some(id) => find_from(&self.bodies, *id, &self.clashing, body),
-            None => None,
+        let first = *self.first.get(&hash)?;
+        if is_body(&self.bodies, first, body) {
+            return Some(first);
         }
+        let keyed = *self.keyed.get(&K::key(body))?;
+        find_from(&self.bodies, keyed, &self.clashing, body)
     }
 
-    // Puts a body that stands nowhere behind the others.
+    // Puts a body that stands nowhere, and has this quick hash, behind the others.
     #[tactic(auto, using(crate::proofs::BodyLemmas::place_new))]
-    fn add(&mut self, key: [u8; 32], body: Text) -> Result<u64, Memory>
-        requires keyed { key ≡ K.key_of body }
+    fn add(&mut self, hash: u64, body: Text) -> Result<u64, Memory>
+        requires hash { hash ≡ hash_of body }
         requires fresh { place_of body self.old ≡ None }
         ensures number { IfOk result (λ id. place_of body self.new ≡ Some id) }
         ensures bodies { OnOk result (self.new ≡ self.old ++ body ∷ []) }
@@ -172,19 +156,25 @@ impl<K: Keying> Contents<K> {
     {
         let next = self.len();
         self.bodies.reserve(1)?;
-        self.hints.insert(quick_hash(body.as_slice()), next)?;
-        if self.first.contains_key(&key) {
-            self.clashing.push(next)?;
+        if self.first.contains_key(&hash) {
+            let key = K::key(body.as_slice());
+            if self.keyed.contains_key(&key) {
+                self.clashing.push(next)?;
+            } else {
+                self.keyed.insert(key, next)?;
+            }
         } else {
-            self.first.insert(key, next)?;
+            self.first.insert(hash, next)?;
         }
         self.bodies.push(body)?;
         Ok(next)
     }
 }
 
-// A hash that is many times as quick as a digest. Nothing rests on it but time.
-fn quick_hash(body: &[u8]) -> u64 {
+// A hash that is many times as quick as a digest.
+fn quick_hash(body: &[u8]) -> u64
+    ensures { result ≡ hash_of body.now }
+{
     let mut hasher = FoldHasher::default();
     hasher.write(body);
     hasher.finish()
