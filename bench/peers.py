@@ -1,11 +1,11 @@
 #!/usr/bin/env python3
 """Builds the same project by odin and by those of ninja, make and tup that are there, one job at a time, in one run:
 
-    peers.py [--units N[,N..]] [--tools toy[,gcc]] [--rounds R] [--folder DIR] [--odin FOLDER] [--keep]
+    peers.py [--units N[,N..]] [--tools toy[,gcc]] [--rounds R] [--again T] [--folder DIR] [--odin FOLDER] [--keep]
 
 The project has N units, 12 headers of which each unit includes one, and a program of them all. It is built from nothing, once more with nothing
-changed, with one header changed, and with that header changed back: each peer does these four in turn, in each round in a folder of its own. Of
-each the median of the rounds is told, its ratio to the same of ninja (make where that isn't there), and the number of tool runs, which is the
+changed, with one header changed, and with that header changed back: each peer does these four in turn, in each round in a folder of its own, the
+second T times, of which the median counts. Of each the median of the rounds is told, its ratio to the same of ninja (make where that isn't there), and the number of tool runs, which is the
 length of a log to which each run adds a byte. Toy tools are one small program in C; the others are gcc, for odin beside scripts of sh.
 
 odin is asked as a Makefile would ask it: odin_takes lists the files, odin_get writes the program. The three are found in FOLDER/NAME/out, the
@@ -290,7 +290,13 @@ def build(peer, project, folder):
     return took, project.runs() - before
 
 
-def steps(peer, project, folder):
+def build_again(peer, project, folder, again):
+    """The median seconds of builds with nothing changed, and the tool runs of them all."""
+    found = [build(peer, project, folder) for _ in range(again)]
+    return statistics.median(took for took, _ in found), sum(runs for _, runs in found)
+
+
+def steps(peer, project, folder, again):
     """The four steps in a folder: seconds and runs of each. Two of them write the header first, a while after the build before: tup goes by
     the seconds of a file's time."""
     shutil.rmtree(folder, ignore_errors=True)
@@ -301,7 +307,7 @@ def steps(peer, project, folder):
         if number >= 2:
             time.sleep(1.1)
             write(folder + "/src/h1.h", header(1, 4 - number))
-        found.append(build(peer, project, folder))
+        found.append(build_again(peer, project, folder, again) if number == 1 else build(peer, project, folder))
     return found
 
 
@@ -328,13 +334,13 @@ def told(peers, found, base):
         print("  %s: %s" % (step, "; ".join(words)), flush=True)
 
 
-def measure(peers, project, rounds):
+def measure(peers, project, rounds, again):
     """What each peer took, round by round. A peer that fails is left out."""
     found = {peer.name: [] for peer in peers}
     for _ in range(rounds):
         for peer in list(peers):
             try:
-                found[peer.name].append(steps(peer, project, "%s/%s" % (project.work, peer.name)))
+                found[peer.name].append(steps(peer, project, "%s/%s" % (project.work, peer.name), again))
             except (RuntimeError, subprocess.CalledProcessError) as fault:
                 print("left out: %s" % fault, flush=True)
                 peers.remove(peer)
@@ -346,15 +352,15 @@ def same_programs(work):
         return ours.read() == theirs.read()
 
 
-def compare(peers, tools, units, rounds, work):
+def compare(peers, tools, units, asked, work):
     """The medians of each peer and step, which are printed."""
     project = Project(work, units, tools)
-    found = measure(peers, project, rounds)
+    found = measure(peers, project, asked.rounds, asked.again)
     names = [peer.name for peer in peers]
     if "odin" not in names:
         sys.exit("peers: odin failed")
     base = "ninja" if "ninja" in names else names[-1]
-    print("%s tools, %d units, medians of %d, ratios to %s:" % (tools, units, rounds, base), flush=True)
+    print("%s tools, %d units, medians of %d, ratios to %s:" % (tools, units, asked.rounds, base), flush=True)
     told(peers, found, base)
     held, length = memory(peers[0], work + "/odin")
     print("  odin holds %d KiB over a store of %d bytes, ratio %.2f" % (held, length, held * 1024 / length), flush=True)
@@ -367,7 +373,7 @@ def compare_in(peers, tools, units, asked):
     """The same in a folder of its own, which is kept or not."""
     work = tempfile.mkdtemp(prefix="peers-", dir=asked.folder)
     try:
-        return compare(peers, tools, units, asked.rounds, work)
+        return compare(peers, tools, units, asked, work)
     finally:
         if asked.keep:
             print("  kept: " + work, flush=True)
@@ -386,6 +392,7 @@ def main():
     words.add_argument("--units", default="200,2000")
     words.add_argument("--tools", default="toy,gcc")
     words.add_argument("--rounds", type=int, default=5)
+    words.add_argument("--again", type=int, default=1)
     words.add_argument("--folder", default=None)
     words.add_argument("--odin", default=TOP + "/crates")
     words.add_argument("--keep", action="store_true")

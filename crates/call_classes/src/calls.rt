@@ -1,12 +1,12 @@
 // Whether a call is well formed.
 ghost use Rattle.std.specs.Prelude.{◌≡◌, ◌↔◌, All, IsTrue};
 ghost use Rattle.std.specs.List.{list_all};
-ghost use Rattle.meaning_texts.specs.Tests.{is_id, is_param_value, is_param_of_class};
+ghost use Rattle.meaning_texts.specs.Tests.{is_id};
 ghost use Rattle.meaning_calls.specs.Jobs.{IsWellFormed};
 ghost use Rattle.call_classes.specs.Tests.{is_label, is_label_byte, is_short, is_part_of_class, is_well_formed};
 
-use object_values::{BODY_LIMIT, Bytes, Call, CallPart, ParamValue, Text};
-use odin_bytes::{is_id, is_name, is_value_byte};
+use object_values::{BODY_LIMIT, Bytes, Call, CallPart, Text};
+use odin_bytes::{are_params, is_id, is_name};
 
 /// Whether the call's words, parameters, inputs and outputs are of their classes.
 #[tactic(auto, using(crate::proofs::CallLemmas::formed_decides))]
@@ -24,25 +24,6 @@ fn test_call(call: &Call) -> bool
         && are_params(call.params.as_slice())
         && are_parts(call.parts.as_slice())
         && are_ids(call.outs.as_slice())
-}
-
-/// Whether the names and the values of parameters are of their classes.
-pub fn are_params(params: &[ParamValue]) -> bool
-    ensures { result ≡ list_all is_param_of_class params.now }
-{
-    params.iter().all(|param| is_param(param))
-}
-
-fn is_param(param: &ParamValue) -> bool
-    ensures { result ≡ is_param_of_class param.now }
-{
-    is_id(param.param.as_slice()) && is_param_value(param.value.as_slice())
-}
-
-fn is_param_value(text: &[u8]) -> bool
-    ensures { result ≡ is_param_value text.now }
-{
-    text.iter().all(|byte| is_value_byte(*byte))
 }
 
 fn are_parts(parts: &[CallPart]) -> bool

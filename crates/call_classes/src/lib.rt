@@ -4,5 +4,5 @@
 mod calls;
 mod outcomes;
 
-pub use calls::{are_params, is_well_formed};
+pub use calls::is_well_formed;
 pub use outcomes::fits;

@@ -2,9 +2,9 @@
 ghost use Rattle.std.specs.Prelude.{◌≡◌};
 ghost use Rattle.std.specs.List.{list_all};
 ghost use Rattle.meaning_texts.specs.Classes.{is_letter, is_key_byte, is_name_byte, is_value_byte, is_string_byte, begins_with_letter};
-ghost use Rattle.meaning_texts.specs.Tests.{is_name, is_id, is_string_text};
+ghost use Rattle.meaning_texts.specs.Tests.{is_name, is_id, is_key, is_param_of_class, is_param_value, is_string_text};
 
-use object_values::WORD_LIMIT;
+use object_values::{ParamValue, WORD_LIMIT};
 
 /// Whether the text is a NAME, which is also a WORD: 1 to 255 letters, digits, `.`, `_`, `-` and `/`.
 pub fn is_name(text: &[u8]) -> bool
@@ -18,6 +18,32 @@ pub fn is_id(text: &[u8]) -> bool
     ensures { result ≡ is_id text.now }
 {
     begins_with_letter(text) && text.len() <= WORD_LIMIT && are_key_bytes(text)
+}
+
+/// Whether the text is a KEY: letters, digits and `_`, 1 to 255 bytes in all.
+pub fn is_key(text: &[u8]) -> bool
+    ensures { result ≡ is_key text.now }
+{
+    !text.is_empty() && text.len() <= WORD_LIMIT && are_key_bytes(text)
+}
+
+/// Whether the names of parameters are IDs, and their values of their class.
+pub fn are_params(params: &[ParamValue]) -> bool
+    ensures { result ≡ list_all is_param_of_class params.now }
+{
+    params.iter().all(|param| is_param(param))
+}
+
+fn is_param(param: &ParamValue) -> bool
+    ensures { result ≡ is_param_of_class param.now }
+{
+    is_id(param.param.as_slice()) && is_param_value(param.value.as_slice())
+}
+
+fn is_param_value(text: &[u8]) -> bool
+    ensures { result ≡ is_param_value text.now }
+{
+    text.iter().all(|byte| is_value_byte(*byte))
 }
 
 /// Whether the text may stand between the quotes of a STRING.

@@ -80,13 +80,20 @@ impl FileDisk {
         }
     }
 
-    // The open file, where it has so many bytes: another program may have cut it.
+    fn opened(&self) -> io::Result<&File>
+        ensures { self.now.file ≡ None → IsErr result }
+    {
+        match &self.file {
+            Some(file) => Ok(file),
+            None => Err(Error::from(ErrorKind::NotFound)),
+        }
+    }
+
+    // The open file, where it has so many bytes: another program may have cut it, and a write behind its end would leave a gap.
     fn reaching(&self, size: u64) -> io::Result<&File>
         ensures { self.now.file ≡ None → IsErr result }
     {
-        let Some(file) = &self.file else {
-            return Err(Error::from(ErrorKind::NotFound));
-        };
+        let file = self.opened()?;
         if file.metadata()?.len() < size {
             return Err(Error::from(ErrorKind::UnexpectedEof));
         }
@@ -104,7 +111,7 @@ impl FileDisk {
         ensures length { length into.new ≡ length into.old }
         ensures gone { self.now.file ≡ None → IsErr result }
     {
-        self.reaching(at)?.read_exact_at(into, at)
+        self.opened()?.read_exact_at(into, at)
     }
 
     fn put(&self, at: u64, bytes: &[u8]) -> io::Result<()>
@@ -122,7 +129,7 @@ impl FileDisk {
     fn flush(&self) -> io::Result<()>
         ensures { self.now.file ≡ None → IsErr result }
     {
-        self.reaching(0)?.sync_all()
+        self.opened()?.sync_all()
     }
 
     // The failure of a call, which is counted.
