@@ -1,15 +1,12 @@
 -- Behind each command the sources are names with texts that are not too long.
-use Rattle.std.proofs.Common.{◌≡◌, ◌≢◌, ℕ, ◌≤◌, Bool, true, false, inl, inr, List, length, ap, sym, refl, ◌∙◌, subst, arith}
+use Rattle.std.proofs.Common.{◌≡◌, ℕ, ◌≤◌, inl, inr, List, length, ap, sym, ◌∙◌, subst, arith}
 use Rattle.std.specs.Prelude.{⊤, Option, Some, None}
-use Rattle.std.specs.FinMap.{get, insert, remove}
-use Rattle.std.specs.Str.{bytes_eq}
-use Rattle.std.proofs.lemmas.Slice.Eq.{bytes_eq-Decides}
+use Rattle.std.specs.FinMap.{get}
 use Rattle.object_sources.specs.Texts.{Text, Texts}
-use Rattle.object_sources.specs.Gets.{put_here, put_other, remove_here, remove_other}
 use Rattle.meaning_texts.specs.Classes.{IsName}
 use Rattle.meaning_texts.specs.Limits.{body_limit}
 use Rattle.meaning_graph.specs.Graphs.{Graph}
-use Rattle.meaning_derive.specs.Given.{IsSource, AreSources}
+use Rattle.meaning_derive.specs.Given.{AreSources}
 use Rattle.meaning_run.specs.Items.{Item, IsItem}
 use Rattle.meaning_commands.specs.declared.commands.Command.{Command}
 use Rattle.meaning_commands.specs.declared.commands.Command.TheVariants.{Put, Take, Remove, Ask, Plan, Sources, Kept, Quit, Nothing, Bad, BadName}
@@ -19,6 +16,7 @@ use Rattle.meaning_commands.specs.Commands.{takes}
 use Rattle.disk_trails.specs.Trails.{after}
 use Rattle.odin_store.specs.Held.{Held, Change, drops, apply}
 use Rattle.odin_store.specs.Keeping.{store_keeping}
+use Rattle.odin_store.proofs.Lemmas.{put_stays, drop_stays}
 use Rattle.odin_shell.specs.Language.{commands}
 use Rattle.source_edits.specs.Edits.{Inserts, TakesFile, RemovesText}
 use Rattle.odin_shell.specs.Machine.{State, Step, IsPutChange, IsTakeChange, MayEdit, MayLeave}
@@ -52,31 +50,6 @@ names line _ (spelling.too_long long) = tt
 names line _ (spelling.formless some none) = tt
 
 -- ---- edits
-
-put_stays : (old : Texts) (name text : Text) → AreSources old → IsName name → length text ≤ body_limit → AreSources (insert old name text)
-put_stays old name text are named short q t is = by (bytes_eq q name) refl
-  where
-    by : (b : Bool) → bytes_eq q name ≡ b → IsSource q t
-    by true e =
-        let same : q ≡ name = (bytes_eq-Decides q name).0 e in
-        let found : Some t ≡ Some text = sym is ∙ ap (get (insert old name text)) same ∙ put_here old name text in
-        let text_is : t ≡ text = cc in
-        record { named = subst (λ n. IsName n) (sym same) named; short = subst (λ x. length x ≤ body_limit) (sym text_is) short }
-    by false e =
-        let other : q ≢ name = λ same. let yes = (bytes_eq-Decides q name).1 same in cc in
-        are q t (sym (put_other old name text q other) ∙ is)
-
-drop_stays : (old : Texts) (name : Text) → AreSources old → AreSources (remove old name)
-drop_stays old name are q t is = by (bytes_eq q name) refl
-  where
-    by : (b : Bool) → bytes_eq q name ≡ b → IsSource q t
-    by true e =
-        let same : q ≡ name = (bytes_eq-Decides q name).0 e in
-        let found : Some t ≡ None = sym is ∙ ap (get (remove old name)) same ∙ remove_here old name in
-        cc
-    by false e =
-        let other : q ≢ name = λ same. let yes = (bytes_eq-Decides q name).1 same in cc in
-        are q t (sym (remove_other old name q other) ∙ is)
 
 insert_stays : (old : Texts) (name text : Text) (size : ℕ) (accepted said : Reply) (new : Texts) → AreSources old → IsName name → (size ≤ body_limit → length text ≤ body_limit) → Inserts old name text size accepted said new → AreSources new
 insert_stays old name text size accepted said new are named short (inl put) = subst AreSources (sym put.put) (put_stays old name text are named (short put.fits))

@@ -1,3 +1,5 @@
 -- The lemmas that other crates may cite.
 -- Changes one after another, and where they stop.
 pub use Rattle.odin_store.proofs.GoingLemmas.{nothing_behind, batches_on, goes_none, goes_on, stops_left, stops_more, stops_behind}
+-- Sources with one more and one less.
+pub use Rattle.odin_store.proofs.SourceLemmas.{put_stays, drop_stays}
