@@ -10,7 +10,7 @@ use Rattle.meaning_records.specs.Laws.{ReadsInOneWay}
 use Rattle.meaning_records.specs.States.{State, nothing, Reads, ReadsAll, spell_batch}
 use Rattle.odin_store.specs.declared.store.Store.{Store}
 use Rattle.odin_store.specs.Held.{Change, apply}
-use Rattle.odin_store.specs.OnDisk.{held_in, state_in, IsOn, LeavesChange, AddsBatch, IsChangeFault, IsSame, WasDue}
+use Rattle.odin_store.specs.OnDisk.{held_in, state_in, IsOn, LeavesChange, AddsBatch, IsChangeFault, IsSame}
 use Rattle.odin_store.specs.Changes.{EditsWhere}
 use Rattle.odin_store.specs.Keeping.{store_keeping}
 use Rattle.odin_store.specs.Going.{IsBatchOf, AreBatches, HasBatches, Goes, Stops}
@@ -118,9 +118,9 @@ module _ {Disk : Type 0} (told : Disk → Telling) where
       let epoch = same.store_is.epoch in
       record { exact = where_.exact; goes = goes_none store next disk after same; same = where_.same; epoch = omega arith }
 
-  pub has_failed : (change : Change) (store next : Store) (disk after : Disk) (e : JournalFault) → IsChangeFault (IsBatchOf store.kept.tables.contents change) store.journal.end e
-      → WasDue change store e → (e ≢ fault.Disk → IsSame store next disk after) → LeavesChange change store (told disk) (told after) → HasFailed told change store next disk after e
-  has_failed change store next disk after fault.Disk told_ due same leaves = (due, stops_failed change store disk after leaves)
-  has_failed change store next disk after (fault.NotOurs at) told_ due same leaves = told_
-  has_failed change store next disk after (fault.Full at some) told_ due same leaves = (due, (same (λ is. (let no : ⊥ = cc in no)), told_))
-  has_failed change store next disk after fault.Memory told_ due same leaves = same (λ is. (let no : ⊥ = cc in no))
+  pub has_failed : (change : Change) (store next : Store) (disk after : Disk) (e : JournalFault) → IsChangeFault (IsBatchOf store.kept.tables.contents change) change store e
+      → (e ≢ fault.Disk → IsSame store next disk after) → LeavesChange change store (told disk) (told after) → HasFailed told change store next disk after e
+  has_failed change store next disk after fault.Disk due same leaves = (due, stops_failed change store disk after leaves)
+  has_failed change store next disk after (fault.NotOurs at) never same leaves = never
+  has_failed change store next disk after (fault.Full at some) (due, over) same leaves = (due, (same (λ is. (let no : ⊥ = cc in no)), over))
+  has_failed change store next disk after fault.Memory told_ same leaves = same (λ is. (let no : ⊥ = cc in no))

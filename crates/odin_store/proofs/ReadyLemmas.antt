@@ -19,7 +19,7 @@ use Rattle.meaning_records.specs.States.{spell_batch}
 use Rattle.meaning_records.specs.Laws.{ReadsInOneWay}
 use Rattle.kept_tables.specs.Holdings as kept
 use Rattle.odin_store.specs.declared.store.Store.{Store}
-use Rattle.odin_store.specs.Held.{Held, Change, puts, drops, keeps, apply}
+use Rattle.odin_store.specs.Held.{Held, Change, puts, drops, keeps, apply, IsDue}
 use Rattle.odin_store.specs.OnDisk.{held_in, LeavesChange, AddsBatch, IsChangeFault, IsUnchanged, WorksOnce}
 use Rattle.odin_store.specs.Changes.{PutBatch, DropBatch, CallBatch}
 use Rattle.odin_store.proofs.StoreLemmas.{Makes, leaves_change, appends, change_fault}
@@ -70,8 +70,8 @@ module _ (IsBatch : List Item → Type 0) (change : Change) (store : Store) (pay
       leaves_change change store old new (spell_batch ready.items) next edited ready.makes
       (subst (λ (j : Journal). KeepsOrAdds j.end (spell_batch ready.items) old new) same (subst (λ b. KeepsOrAdds journal.end b old new) spelled leaves))
 
-  pub ready_fault : (journal : Journal) → journal ≡ store.journal → (e : JournalFault) → IsAddFault journal.end (length bytes) e → IsChangeFault IsBatch store.journal.end e
-  ready_fault journal same e told = change_fault IsBatch ready.items store.journal.end bytes spelled ready.batch e (subst (λ (j : Journal). IsAddFault j.end (length bytes) e) same told)
+  pub ready_fault : (journal : Journal) → journal ≡ store.journal → IsDue change (held_in store) → (e : JournalFault) → IsAddFault journal.end (length bytes) e → IsChangeFault IsBatch change store e
+  ready_fault journal same due e told = change_fault IsBatch ready.items change store bytes spelled ready.batch due e (subst (λ (j : Journal). IsAddFault j.end (length bytes) e) same told)
 
   pub ready_works : (old new : Telling) → Works (length bytes + 6) 4 old new → WorksOnce IsBatch old new
   ready_works old new works = inr (ready.items, ready.batch, subst (λ b. Works (length b + 6) 4 old new) spelled works)

@@ -13,7 +13,7 @@ use Rattle.meaning_records.specs.declared.items.Item.{Item}
 use Rattle.meaning_records.specs.Tables.{Tables}
 use Rattle.meaning_records.specs.States.{State, nothing, Reads, spell_batch}
 use Rattle.odin_store.specs.declared.store.Store.{Store}
-use Rattle.odin_store.specs.Held.{Held, Change, apply, StandsFor}
+use Rattle.odin_store.specs.Held.{Held, Change, apply, IsDue, StandsFor}
 use Rattle.odin_store.specs.OnDisk.{held_in, state_in, IsOn, LeavesChange, Appends, IsChangeFault}
 use Rattle.odin_store.proofs.LoadLemmas.{reads_on}
 
@@ -74,9 +74,10 @@ appends change items store next old new payload is makes adds room =
     }
 
 -- a fault of its adding
-pub change_fault : (IsBatch : List Item → Type 0) (items : List Item) (end : ℕ) (payload : List ℕ) → payload ≡ spell_batch items → IsBatch items → (e : JournalFault) → IsAddFault end (length payload) e → IsChangeFault IsBatch end e
-change_fault IsBatch items end payload is batch fault.Disk told = tt
-change_fault IsBatch items end payload is batch (fault.NotOurs at) told = told
-change_fault IsBatch items end payload is batch (fault.Full at some) told =
-    (items, batch, record { at_is = told.1; some_is = told.2 ∙ ap length is; over = subst (λ p. 1073741824 < end + 6 + length p) is told.0 })
-change_fault IsBatch items end payload is batch fault.Memory told = tt
+pub change_fault : (IsBatch : List Item → Type 0) (items : List Item) (change : Change) (store : Store) (payload : List ℕ) → payload ≡ spell_batch items → IsBatch items → IsDue change (held_in store)
+    → (e : JournalFault) → IsAddFault store.journal.end (length payload) e → IsChangeFault IsBatch change store e
+change_fault IsBatch items change store payload is batch due fault.Disk told = due
+change_fault IsBatch items change store payload is batch due (fault.NotOurs at) told = told
+change_fault IsBatch items change store payload is batch due (fault.Full at some) told =
+    (due, (items, batch, record { at_is = told.1; some_is = told.2 ∙ ap length is; over = subst (λ p. 1073741824 < store.journal.end + 6 + length p) is told.0 }))
+change_fault IsBatch items change store payload is batch due fault.Memory told = tt

@@ -52,16 +52,13 @@ pub record IsOver (items : List Item) (end at some : ℕ) : Type 0 where
   pub some_is : some ≡ length (spell_batch items)
   pub over : file_limit < end + 6 + length (spell_batch items)
 
--- A fault of a change that writes such a batch. `Full` tells the journal's end and the length of the batch.
-abbrev pub IsChangeFault : (List Item → Type 0) → ℕ → JournalFault → Type 0
-IsChangeFault IsBatch end (fault.Full at some) = (items : List Item) × IsBatch items × IsOver items end at some
-IsChangeFault IsBatch end (fault.NotOurs at) = ⊥
-IsChangeFault IsBatch end other = ⊤
-
--- a change that failed was due, unless memory was wanting
-abbrev pub WasDue : Change → Store → JournalFault → Type 0
-WasDue change store fault.Memory = ⊤
-WasDue change store other = IsDue change (held_in store)
+-- A fault of a change: it was due, unless memory was wanting. `Full` tells the journal's end and the length of the batch that doesn't fit.
+abbrev pub IsChangeFault : (List Item → Type 0) → Change → Store → JournalFault → Type 0
+IsChangeFault IsBatch change store fault.Memory = ⊤
+IsChangeFault IsBatch change store fault.Disk = IsDue change (held_in store)
+IsChangeFault IsBatch change store (fault.Full at some) =
+    IsDue change (held_in store) × ((items : List Item) × IsBatch items × IsOver items store.journal.end at some)
+IsChangeFault IsBatch change store (fault.NotOurs at) = ⊥
 
 -- what a store is after a change: it can be changed on, or is spent
 pub record IsLeft {T : Type 0} (store : Store) (size : ℕ) (result : Result T JournalFault) : Type 0 where

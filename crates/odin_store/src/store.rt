@@ -47,7 +47,7 @@ impl Drop for Store {
 }
 
 impl Store {
-    ghost use Rattle.odin_store.specs.OnDisk.{IsChangeFault, IsLeft, IsOpen, IsSame, IsUnchanged, LeavesChange, WorksOnce, WasDue};
+    ghost use Rattle.odin_store.specs.OnDisk.{IsChangeFault, IsLeft, IsOpen, IsSame, IsUnchanged, LeavesChange, WorksOnce};
     ghost use Rattle.odin_store.specs.Opening.{graph_record, IsAtFirst, IsOpenFault, LeavesHeld, OpensQuiet};
     ghost use Rattle.odin_store.specs.Changes.{CallBatch, DropBatch, DropsSource, KeepsCall, MayKeep, MayPut, PutBatch, PutsText};
 
@@ -106,15 +106,15 @@ impl Store {
             (PutsText D.told name.now text.now self.old self.new disk.old disk.new) }
         ensures any_moment { LeavesChange (puts name.now text.now) self.old
             (D.told disk.old) (D.told disk.new) }
-        ensures fault { IfErr result
-            (IsChangeFault (PutBatch self.old name.now text.now) self.old.journal.end) }
-        ensures due { IfErr result (WasDue (puts name.now text.now) self.old) }
+        ensures fault { IfErr result (IsChangeFault (PutBatch self.old name.now text.now)
+            (puts name.now text.now) self.old) }
         ensures same { IsRefused result → IsSame self.old self.new disk.old disk.new }
         ensures left { IsLeft self.new (D.size_of disk.new) result }
         ensures works { WorksOnce (PutBatch self.old name.now text.now)
             (D.told disk.old) (D.told disk.new) }
         ensures cause { IsCause (D.faults disk.old) (D.faults disk.new) result }
     {
+        self.before_put(disk, name, text);
         if self.has_text(name, text) {
             return Ok(false);
         }
@@ -138,13 +138,14 @@ impl Store {
             (DropsSource D.told name.now self.old self.new disk.old disk.new) }
         ensures any_moment { LeavesChange (drops name.now) self.old
             (D.told disk.old) (D.told disk.new) }
-        ensures fault { IfErr result (IsChangeFault (DropBatch name.now) self.old.journal.end) }
-        ensures due { IfErr result (WasDue (drops name.now) self.old) }
+        ensures fault { IfErr result
+            (IsChangeFault (DropBatch name.now) (drops name.now) self.old) }
         ensures same { IsRefused result → IsSame self.old self.new disk.old disk.new }
         ensures left { IsLeft self.new (D.size_of disk.new) result }
         ensures works { WorksOnce (DropBatch name.now) (D.told disk.old) (D.told disk.new) }
         ensures cause { IsCause (D.faults disk.old) (D.faults disk.new) result }
     {
+        self.before_drop(disk, name);
         if !self.has_source(name) {
             return Ok(false);
         }
@@ -168,8 +169,8 @@ impl Store {
             (D.told disk.old) (D.told disk.new)) }
         ensures any_moment { LeavesChange (keeps call.now outcome.now) self.old
             (D.told disk.old) (D.told disk.new) }
-        ensures fault { IfErr result
-            (IsChangeFault (CallBatch self.old call.now outcome.now) self.old.journal.end) }
+        ensures fault { IfErr result (IsChangeFault (CallBatch self.old call.now outcome.now)
+            (keeps call.now outcome.now) self.old) }
         ensures same { IsRefused result → IsSame self.old self.new disk.old disk.new }
         ensures left { IsLeft self.new (D.size_of disk.new) result }
         ensures works { WorksOnce (CallBatch self.old call.now outcome.now)
@@ -214,6 +215,17 @@ impl Store {
     {
         self.journal.spent()
     }
+
+    // Before a put writes, a crash leaves what is held.
+    fn before_put<D: Disk>(&self, disk: &D, name: &Name, text: &Text)
+        ensures { LeavesChange (puts name.now text.now) self.now
+            (D.told disk.now) (D.told disk.now) }
+    {}
+
+    // Before a drop writes, a crash leaves what is held.
+    fn before_drop<D: Disk>(&self, disk: &D, name: &Name)
+        ensures { LeavesChange (drops name.now) self.now (D.told disk.now) (D.told disk.now) }
+    {}
 
     // Whether the source has this text.
     fn has_text(&self, name: &Name, text: &Text) -> bool

@@ -3,7 +3,6 @@ use Rattle.std.specs.Prelude.{Err}
 use Rattle.std.proofs.lemmas.Result.{err_from_is_err_and}
 use Rattle.odin_store.specs.Held.{keeps}
 use Rattle.kept_derive.proofs.CallLemmas.{cut_stops, unkept_stops, cut_left, unkept_left, refused_but, no_cause, store_cause, left_by, call_stops_at}
-use Rattle.odin_store.specs.FaultLemmas.{keeping_due}
 use Rattle.kept_derive.proofs.calls.keep_outcome.Goals as goal
 
 pub keep_call-requires : goal.keep_call-requires
@@ -34,7 +33,7 @@ returns-in_err-outcome-clause-cause g c =
 pub returns-in_err-keep_call-clause-stops : goal.returns-in_err-keep_call-clause-stops
 returns-in_err-keep_call-clause-stops g c =
     let given = err_from_is_err_and _ c.from_residual-in_err-keep_call.ensures.1 in
-    let failed = c.edits_are_told.ensures.failed (keeps c.args.call.now c.in_ok-outcome.outcome) _ _ _ _ _ c.in_err-keep_call.ensures.fault (keeping_due c.args.call.now c.in_ok-outcome.outcome c.args.store.now _) (λ apart. c.in_err-keep_call.ensures.same (refused_but (Unit {0}) _ apart)) c.keep_call.ensures.any_moment in
+    let failed = c.edits_are_told.ensures.failed (keeps c.args.call.now c.in_ok-outcome.outcome) _ _ _ _ _ c.in_err-keep_call.ensures.fault (λ apart. c.in_err-keep_call.ensures.same (refused_but (Unit {0}) _ apart)) c.keep_call.ensures.any_moment in
     call_stops_at _ _ _ _ _ _ (given.1 ∙ ap (λ f. Err f) given.2) (unkept_stops g.D.Disk.told c.args.call.now _ _ _ _ _ _ _ _ c.in_ok-outcome.ensures.outcome c.in_ok-outcome.ensures.made failed)
 
 pub returns-in_err-keep_call-clause-left : goal.returns-in_err-keep_call-clause-left

@@ -1,10 +1,10 @@
 use Rattle.std.proofs.Common.{IfOk, IfErr, subst}
 use Rattle.std.proofs.lemmas.Result.{IfOk-weaker}
 use Rattle.odin_store.specs.Held.{drops}
-use Rattle.odin_store.specs.OnDisk.{IsChangeFault, IsSame, WasDue}
+use Rattle.odin_store.specs.OnDisk.{IsChangeFault, IsSame}
 use Rattle.odin_store.specs.Changes.{DropBatch}
 use Rattle.odin_store.specs.Edited.{HasDropped, HasFailed}
-use Rattle.odin_store.specs.FaultLemmas.{both_told, fault_told}
+use Rattle.odin_store.specs.FaultLemmas.{fault_told}
 use Rattle.odin_engine.specs.Engaged.{Engaged}
 use Rattle.odin_engine.proofs.engine.Engine.remove.Goals as goal
 
@@ -25,6 +25,6 @@ returns-clause-err g c =
     let after = c.drop_source.new.disk in
     let change = drops c.args.name.now in
     subst (λ (e : Engaged). IfErr c.drop_source.result (HasFailed g.D.Disk.told change e.store next disk after)) c.self.view_is
-    (fault_told c.drop_source.result (λ e. IsChangeFault (DropBatch c.args.name.now) store.journal.end e × WasDue change store e) (HasFailed g.D.Disk.told change store next disk after) (IsSame store next disk after)
-    (both_told c.drop_source.result (IsChangeFault (DropBatch c.args.name.now) store.journal.end) (WasDue change store) c.drop_source.ensures.fault c.drop_source.ensures.due) c.drop_source.ensures.same
-    (λ e told same. c.edits_are_told.ensures.failed change store next disk after e told.0 told.1 same c.drop_source.ensures.any_moment))
+    (fault_told c.drop_source.result (IsChangeFault (DropBatch c.args.name.now) change store) (HasFailed g.D.Disk.told change store next disk after) (IsSame store next disk after)
+    c.drop_source.ensures.fault c.drop_source.ensures.same
+    (λ e told same. c.edits_are_told.ensures.failed change store next disk after e told same c.drop_source.ensures.any_moment))

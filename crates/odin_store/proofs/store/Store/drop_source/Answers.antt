@@ -4,19 +4,10 @@ use Rattle.meaning_derive.specs.Given.{AreSources}
 use Rattle.odin_store.specs.Held.{drops}
 use Rattle.odin_store.specs.Changes.{DropBatch}
 use Rattle.odin_store.proofs.SourceLemmas.{drop_stays}
-use Rattle.odin_store.specs.OnDisk.{WasDue}
-use Rattle.odin_store.specs.FaultLemmas.{due_at}
-use Rattle.odin_store.proofs.StoreLemmas.{handed, leaves_same}
-use Rattle.odin_store.proofs.ReadyLemmas.{drop_ready, ready_leaves, ready_adds, ready_holds}
+use Rattle.odin_store.specs.OnDisk.{IsChangeFault}
+use Rattle.odin_store.proofs.StoreLemmas.{handed}
+use Rattle.odin_store.proofs.ReadyLemmas.{drop_ready, ready_leaves, ready_fault, ready_adds, ready_holds}
 use Rattle.odin_store.proofs.store.Store.drop_source.Goals as goal
-
-pub returns-then-not-has_source-clause-any_moment : goal.returns-then-not-has_source-clause-any_moment
-returns-then-not-has_source-clause-any_moment g c =
-    leaves_same (drops c.args.name.now) c.args.self.now (g.D.Disk.told c.args.disk.now) (λ image follows left. g.met.D.Disk.only_now c.args.disk.now image follows left)
-
-pub returns-in_err-payload-clause-any_moment : goal.returns-in_err-payload-clause-any_moment
-returns-in_err-payload-clause-any_moment g c =
-    leaves_same (drops c.args.name.now) c.args.self.now (g.D.Disk.told c.args.disk.now) (λ image follows left. g.met.D.Disk.only_now c.args.disk.now image follows left)
 
 pub returns-in_err-append-clause-any_moment : goal.returns-in_err-append-clause-any_moment
 returns-in_err-append-clause-any_moment g c =
@@ -28,13 +19,17 @@ returns-in_err-append-clause-any_moment g c =
     ready_leaves (DropBatch name) (drops name) store payload c.as_slice.result.now store.kept.tables (map.remove store.sources.texts name) ready c.as_slice.ensures
     store.journal (g.D.Disk.told c.args.disk.now) (g.D.Disk.told c.append.new.disk) refl c.append.ensures.any_moment
 
-pub returns-in_err-append-clause-due : goal.returns-in_err-append-clause-due
-returns-in_err-append-clause-due g c =
+pub returns-in_err-append-clause-fault : goal.returns-in_err-append-clause-fault
+returns-in_err-append-clause-fault g c =
     let store = c.args.self.now in
-    let change = drops c.args.name.now in
+    let name = c.args.name.now in
+    let payload = c.in_ok-payload.payload in
     let e = c.in_err-append.field-0.0 in
     let answered : IsTrue c.has_source.result = search rules in
-    handed (WasDue change store) c.from_residual-in_err-append.result e c.from_residual-in_err-append.ensures.1 (due_at change store e (c.has_source.ensures.yes answered))
+    let there = c.has_source.ensures.yes answered in
+    let ready = drop_ready name store payload c.drop_payload.ensures.named there c.in_ok-payload.ensures.bytes in
+    handed (IsChangeFault (DropBatch name) (drops name) store) c.from_residual-in_err-append.result e c.from_residual-in_err-append.ensures.1
+    (ready_fault (DropBatch name) (drops name) store payload c.as_slice.result.now store.kept.tables (map.remove store.sources.texts name) ready c.as_slice.ensures store.journal refl there e c.in_err-append.ensures.full.err)
 
 pub returns-clause-any_moment : goal.returns-clause-any_moment
 returns-clause-any_moment g c =

@@ -2,21 +2,12 @@ use Rattle.std.proofs.Common.{◌≡◌, ◌≢◌, Some, IsFalse, sym, ap, ap�
 use Rattle.std.specs.FinMap as map
 use Rattle.meaning_derive.specs.Given.{AreSources}
 use Rattle.odin_store.specs.Held.{puts}
-use Rattle.odin_store.specs.OnDisk.{IsChangeFault, WasDue}
-use Rattle.odin_store.specs.FaultLemmas.{due_at}
+use Rattle.odin_store.specs.OnDisk.{IsChangeFault}
 use Rattle.odin_store.specs.Changes.{PutBatch}
 use Rattle.odin_store.proofs.SourceLemmas.{put_stays}
-use Rattle.odin_store.proofs.StoreLemmas.{handed, leaves_same}
+use Rattle.odin_store.proofs.StoreLemmas.{handed}
 use Rattle.odin_store.proofs.ReadyLemmas.{put_ready, ready_leaves, ready_fault, ready_adds, ready_holds}
 use Rattle.odin_store.proofs.store.Store.put_source.Goals as goal
-
-pub returns-then-has_text-clause-any_moment : goal.returns-then-has_text-clause-any_moment
-returns-then-has_text-clause-any_moment g c =
-    leaves_same (puts c.args.name.now c.args.text.now) c.args.self.now (g.D.Disk.told c.args.disk.now) (λ image follows left. g.met.D.Disk.only_now c.args.disk.now image follows left)
-
-pub returns-in_err-source-clause-any_moment : goal.returns-in_err-source-clause-any_moment
-returns-in_err-source-clause-any_moment g c =
-    leaves_same (puts c.args.name.now c.args.text.now) c.args.self.now (g.D.Disk.told c.args.disk.now) (λ image follows left. g.met.D.Disk.only_now c.args.disk.now image follows left)
 
 pub returns-in_err-append-clause-any_moment : goal.returns-in_err-append-clause-any_moment
 returns-in_err-append-clause-any_moment g c =
@@ -36,17 +27,10 @@ returns-in_err-append-clause-fault g c =
     let prepared = c.in_ok-source.prepared in
     let e = c.in_err-append.field-0.0 in
     let ready = put_ready c.args.name.now c.args.text.now store mid prepared same c.in_ok-source.ensures.batch in
-    handed (IsChangeFault (PutBatch store c.args.name.now c.args.text.now) store.journal.end) c.from_residual-in_err-append.result e c.from_residual-in_err-append.ensures.1
-    (ready_fault (PutBatch store c.args.name.now c.args.text.now) (puts c.args.name.now c.args.text.now) store prepared.payload c.payload.result.now c.in_ok-source.ensures.batch.2.next
-    (map.insert store.sources.texts c.args.name.now c.args.text.now) ready c.payload.ensures mid.journal same.journal e c.in_err-append.ensures.full.err)
-
-pub returns-in_err-append-clause-due : goal.returns-in_err-append-clause-due
-returns-in_err-append-clause-due g c =
-    let store = c.args.self.now in
-    let change = puts c.args.name.now c.args.text.now in
-    let e = c.in_err-append.field-0.0 in
     let answered : IsFalse c.has_text.result = search rules in
-    handed (WasDue change store) c.from_residual-in_err-append.result e c.from_residual-in_err-append.ensures.1 (due_at change store e (c.has_text.ensures.no answered))
+    handed (IsChangeFault (PutBatch store c.args.name.now c.args.text.now) (puts c.args.name.now c.args.text.now) store) c.from_residual-in_err-append.result e c.from_residual-in_err-append.ensures.1
+    (ready_fault (PutBatch store c.args.name.now c.args.text.now) (puts c.args.name.now c.args.text.now) store prepared.payload c.payload.result.now c.in_ok-source.ensures.batch.2.next
+    (map.insert store.sources.texts c.args.name.now c.args.text.now) ready c.payload.ensures mid.journal same.journal (c.has_text.ensures.no answered) e c.in_err-append.ensures.full.err)
 
 pub returns-clause-any_moment : goal.returns-clause-any_moment
 returns-clause-any_moment g c =
