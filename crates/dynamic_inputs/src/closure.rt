@@ -124,9 +124,28 @@ fn tell(
     ensures kept { OnErr result (take (length names.old) names.new ≡ names.old) }
     ensures untold { OnErr result (told.new ≡ told.old) }
 {
+    make_room(alloc, names, told, lines.len())?;
     names.add(alloc, root)?;
     let places = places_of(alloc, names, lines)?;
     told.push(places)?;
+    Ok(())
+}
+
+// Makes room for the root and the names in its lines, before anything is told: mostly there are no more.
+fn make_room(
+    alloc: Global,
+    names: &mut Names,
+    told: &mut Seq<Seq<usize>>,
+    lines: usize,
+) -> Result<(), Memory>
+    ensures names { names.new ≡ names.old }
+    ensures told { told.new ≡ told.old }
+{
+    if told.is_empty() {
+        let room = lines.saturating_add(1);
+        names.reserve(room)?;
+        *told = Seq::from_vec(Vec::with_capacity(alloc, room)?);
+    }
     Ok(())
 }
 
@@ -136,7 +155,7 @@ fn places_of(alloc: Global, names: &mut Names, lines: &[Name]) -> Result<Seq<usi
     ensures places { IfOk result (ArePlaces names.new lines.now) }
     ensures kept { take (length names.old) names.new ≡ names.old }
 {
-    let mut places = Seq::new(alloc);
+    let mut places = Seq::from_vec(Vec::with_capacity(alloc, lines.len())?);
     for line in lines {
         places.push(names.add(alloc, line)?)?;
     }

@@ -63,6 +63,14 @@ impl Names {
         Ok(place)
     }
 
+    /// Makes room for so many names more. That is a hint: no clause tells of the room.
+    pub(crate) fn reserve(&mut self, more: usize) -> Result<(), Memory>
+        ensures { self.new ≡ self.old }
+    {
+        self.names.reserve(more)?;
+        Ok(())
+    }
+
     /// Keeps the first names, and no more than this many.
     pub(crate) fn truncate(&mut self, len: usize)
         ensures { self.new ≡ take len self.old }

@@ -6,8 +6,8 @@ use Rattle.odin_bytes.specs.Words.{MayName}
 use Rattle.dynamic_inputs.proofs.Scanned.{named_line, other_line}
 use Rattle.dynamic_inputs.proofs.scan.read_scan.Goals as goal
 
-pub lines-preserved-in-Continue-branch-3 : goal.lines-preserved-in-Continue-branch-3
-lines-preserved-in-Continue-branch-3 c =
+pub lines-preserved-in_ok-push : goal.lines-preserved-in_ok-push
+lines-preserved-in_ok-push c =
     let told = rw c.in-Some-2.is at c.in_ok-name.ensures in
     let named : MayName c.in-Some.line.now (Some c.in-Some-2.name) = search rules in
     rw c.in_ok-push.ensures.ok (named_line _ c.lines.names c.lines.rest.now c.in-Some.line.now c.in-Some.behind.now c.in-Some-2.name c.lines.invariant c.in-Some.ensures.some named)
