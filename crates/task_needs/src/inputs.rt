@@ -1,12 +1,12 @@
 // The inputs of a call.
-ghost use Rattle.std.specs.Prelude.{◌≡◌, ◌<◌, ◌+◌, ◌++◌, ◌∷◌, flat_map, length, map, option_to_list, IfOk, OnOk};
+ghost use Rattle.std.specs.Prelude.{◌≡◌, ◌<◌, ◌+◌, ◌++◌, ◌∷◌, [], flat_map, length, map, option_to_list, IfOk, OnOk};
 ghost use Rattle.meaning_texts.specs.Limits.{extra_bound};
 ghost use Rattle.meaning_nodes.specs.Labels.{label_of as label_of_node};
 ghost use Rattle.meaning_tasks.specs.Needs.{values_of};
 ghost use Rattle.meaning_tasks.specs.Calls.{compound_part, extra_parts, node_parts, reached_part, simple_part, text_in};
 
 use crate::led::Led;
-use crate::results::{Results, value_of};
+use crate::results::{Results, elements_of, value_of};
 use crate::sources::source_node;
 use object_values::{Bytes, CallPart, Copied, Memory, Node, Part, Seq, Value};
 use odin_bytes::Name;
@@ -30,12 +30,30 @@ pub fn call_parts<R: Results>(
         let of_names = map (reached_part known (length extras.now + 1)) names.now in
         IfOk result (λ parts. parts ≡ of_base ++ (of_extras ++ of_names)) }
 {
-    let mut parts = Seq::new(alloc);
+    let mut parts = room_for_parts(alloc, base, extras, names, seen)?;
     put_node_parts(alloc, graph, 0, base, seen, &mut parts)?;
     put_extra_parts(alloc, graph, extras, seen, &mut parts)?;
     let slot = extra_slot(extras.len());
     put_reached_parts(alloc, slot, names, seen, &mut parts)?;
     Ok(parts)
+}
+
+// Room for a part of the base or of each of its elements, of each extra and of each name. Compounds
+// have more.
+fn room_for_parts<R: Results>(
+    alloc: Global,
+    base: &Node,
+    extras: &[Led],
+    names: &[Name],
+    seen: &R,
+) -> Result<Seq<CallPart>, Memory>
+    ensures { IfOk result (λ parts. parts ≡ []) }
+{
+    let of_base = elements_of(seen, base).len().max(1);
+    let room = of_base
+        .saturating_add(extras.len())
+        .saturating_add(names.len());
+    Ok(Seq::from_vec(Vec::with_capacity(alloc, room)?))
 }
 
 // The slot of the extra at this place. The base has slot 0.
