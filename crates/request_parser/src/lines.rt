@@ -13,7 +13,8 @@ use std::alloc::Global;
 pub fn read_lines(alloc: Global, text: &[u8]) -> Result<Lines, Memory>
     ensures { IfOk result (ReferenceList text.now) }
 {
-    let mut lines = Seq::new(alloc);
+    let room = text.iter().filter(|byte| **byte == b'\n').count();
+    let mut lines = Seq::from_vec(Vec::with_capacity(alloc, room.min(REFERENCE_LIMIT))?);
     let mut number = 0;
     let mut rest = text;
     'lines: while let Some((line, behind)) = next_line(rest) {
