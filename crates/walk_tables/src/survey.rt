@@ -8,6 +8,7 @@ ghost use Rattle.walk_tables.specs.Tables.{results_of};
 
 use crate::done::Table;
 use crate::heights::Heights;
+use crate::looking::height_of;
 use object_values::{Copied, Memory, Node, Seq};
 use odin_bytes::Name;
 use std::alloc::Global;
@@ -93,7 +94,28 @@ impl Survey {
             OnOk result (TakesIn done.now waiting.now whole self.old self.new) }
     {
         self.add(alloc, done, waiting, node)?;
-        self.add_all(alloc, done, waiting, elements_of(done, node))
+        let elements = elements_of(done, node);
+        self.make_room(alloc, done, waiting, elements)?;
+        self.add_all(alloc, done, waiting, elements)
+    }
+
+    // Makes room for many nodes of which the first was not visited: mostly the others weren't either.
+    fn make_room(
+        &mut self,
+        alloc: Global,
+        done: &Table,
+        waiting: &Heights,
+        nodes: &[Node],
+    ) -> Result<(), Memory>
+        ensures { self.new ≡ self.old }
+    {
+        let Some(first) = nodes.first() else {
+            return Ok(());
+        };
+        if self.unvisited.is_empty() && height_of(done, waiting, first).is_none() {
+            self.unvisited = Seq::from_vec(Vec::with_capacity(alloc, nodes.len())?);
+        }
+        Ok(())
     }
 
     fn add_sources(
