@@ -63,10 +63,30 @@ impl Table {
         ensures ok { OnOk result (self.new ≡ self.old ++ (node, done) ∷ []) }
         ensures err { OnErr result (self.new ≡ self.old) }
     {
+        self.make_room()?;
+        self.put(node, done)
+    }
+
+    fn put(&mut self, node: Node, done: Done) -> Result<(), Memory>
+        requires { done_in self.old node ≡ None }
+        ensures ok { OnOk result (self.new ≡ self.old ++ (node, done) ∷ []) }
+        ensures err { OnErr result (self.new ≡ self.old) }
+    {
         match self.done.insert(node, done) {
             Ok(_) => Ok(()),
             Err(_) => Err(Memory),
         }
+    }
+
+    // A full table grows fourfold, so that its nodes are seldom moved. What isn't used of it stays untouched.
+    fn make_room(&mut self) -> Result<(), Memory>
+        ensures { self.new ≡ self.old }
+    {
+        let len = self.done.len();
+        if len == self.done.capacity() {
+            self.done.reserve(len.saturating_mul(3))?;
+        }
+        Ok(())
     }
 }
 
