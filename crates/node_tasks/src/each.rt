@@ -43,7 +43,7 @@ fn elements_own(
     ensures { let led = map (led_by graph.now node.now of.now) elements.now in
         IfOk result (λ own. own ≡ listed_own led) }
 {
-    let mut nodes = Seq::new(alloc);
+    let mut nodes = Seq::from_vec(Vec::with_capacity(alloc, elements.len())?);
     let mut missing = Seq::new(alloc);
     for element in elements {
         let led = led_to(alloc, graph, plans, node, of, element)?;

@@ -70,7 +70,7 @@ fn these_own(
     ensures { let led = map (line_led graph.now node.now of.now) lines.now in
         IfOk result (λ own. own ≡ listed_own led) }
 {
-    let mut nodes = Seq::new(alloc);
+    let mut nodes = Seq::from_vec(Vec::with_capacity(alloc, lines.len())?);
     let mut missing = Seq::new(alloc);
     for line in lines {
         let led = line_led(alloc, graph, plans, node, of, line)?;
