@@ -1,3 +1,4 @@
 mod PathLemmas
 mod LineLemmas
 mod ListedLemmas
+mod FoundLemmas

@@ -1,5 +1,6 @@
 // A run of the program.
-ghost use Rattle.std.specs.Prelude.{◌≡◌, true, false};
+ghost use Rattle.std.specs.Prelude.{◌≡◌, ◌≤◌, true, false, IfOk};
+ghost use Rattle.folder_takes.specs.Faults as meaning;
 
 use crate::listed::{listed, write_takes};
 use crate::paths::tidy;
@@ -38,7 +39,9 @@ impl From<io::Error> for Fault {
 }
 
 impl Fault {
-    pub fn status(&self) -> u8 {
+    pub fn status(&self) -> u8
+        ensures { result ≡ meaning.status_of self.now }
+    {
         match self {
             Fault::System => 3,
             Fault::Memory => 4,
@@ -52,6 +55,7 @@ fn status_of(odd: bool, missing: bool) -> u8
     ensures missing { missing ≡ true → result ≡ 2 }
     ensures odd { missing ≡ false → odd ≡ true → result ≡ 1 }
     ensures fine { missing ≡ false → odd ≡ false → result ≡ 0 }
+    ensures few { result ≤ 2 }
 {
     if missing {
         2
@@ -90,8 +94,11 @@ fn find(rt: &HostRuntime, words: &[String]) -> Result<Found, Fault> {
     Ok(found)
 }
 
-/// The exit status of a run with the words of the program.
-pub fn run(rt: &HostRuntime) -> Result<u8, Fault> {
+/// The exit status of a run with the words of the program. What it printed is no clause, since the system tells neither its words nor what stands in its
+/// folders.
+pub fn run(rt: &HostRuntime) -> Result<u8, Fault>
+    ensures { IfOk result (λ status. status ≤ 2) }
+{
     let words = words_of(rt)?;
     let found = find(rt, words.as_slice())?;
     let status = status_of(found.odd, found.missing);

@@ -1,5 +1,6 @@
 // The files below a folder, as the system tells them.
 ghost use Rattle.std.specs.Prelude.{◌≡◌};
+ghost use Rattle.folder_takes.specs.Found.{Grows};
 
 use crate::paths::{add_step, leads};
 use crate::run::Fault;
@@ -59,7 +60,9 @@ fn leads_to_file(rt: &HostRuntime, path: &str) -> bool {
     }
 }
 
-fn take_file(rt: &HostRuntime, path: &[u8], found: &mut Found) -> Result<(), Fault> {
+fn take_file(rt: &HostRuntime, path: &[u8], found: &mut Found) -> Result<(), Fault>
+    ensures { Grows found.old found.new }
+{
     match read_name(rt.alloc(), path)? {
         Some(name) => found.names.push(name).map_err(|_| Fault::Memory),
         None => {
@@ -78,7 +81,9 @@ fn take_entry(
     kind: fs::FileType,
     folders: &mut Vec<Bytes>,
     found: &mut Found,
-) -> Result<(), Fault> {
+) -> Result<(), Fault>
+    ensures { Grows found.old found.new }
+{
     if kind.is_dir() {
         return folders.push(path).map_err(|_| Fault::Memory);
     }
@@ -91,12 +96,15 @@ fn take_entry(
 }
 
 /// Takes what stands in a folder.
+#[tactic(auto, using(crate::proofs::FoundLemmas::grows_none, crate::proofs::FoundLemmas::grows_then))]
 fn take_folder(
     rt: &HostRuntime,
     folder: &Bytes,
     folders: &mut Vec<Bytes>,
     found: &mut Found,
-) -> Result<(), Fault> {
+) -> Result<(), Fault>
+    ensures { Grows found.old found.new }
+{
     for entry in fs::read_dir(rt, text_of(folder.as_slice())?)? {
         let entry = match entry {
             Ok(entry) => entry,
@@ -119,8 +127,11 @@ fn take_folder(
     Ok(())
 }
 
-/// Takes the files below a folder.
-pub fn take_below(rt: &HostRuntime, folder: Bytes, found: &mut Found) -> Result<(), Fault> {
+/// Takes the files below a folder. Which they are is no clause, since the system doesn't tell what stands in a folder.
+#[tactic(auto, using(crate::proofs::FoundLemmas::grows_none, crate::proofs::FoundLemmas::grows_then))]
+pub fn take_below(rt: &HostRuntime, folder: Bytes, found: &mut Found) -> Result<(), Fault>
+    ensures { Grows found.old found.new }
+{
     if !is_folder(rt, text_of(folder.as_slice())?) {
         found.missing = true;
         let name = text_of(folder.as_slice())?;
