@@ -1,11 +1,14 @@
 -- The last answer of one more reply.
-use Rattle.std.proofs.Common.{◌≡◌, ◌∙◌, ap, sym, subst, refl, Bool, true, false, cond, List, [], ◌∷◌, ◌++◌, Option, Some, None}
+use Rattle.std.proofs.Common.{◌≡◌, ◌≤◌, ◌∙◌, ap, sym, subst, refl, Bool, true, false, cond, List, [], ◌∷◌, ◌++◌, Option, Some, None, arith}
 use Rattle.std.specs.Prelude.{All}
 use Rattle.std.proofs.lemmas.List.Elements.{All-head, All-tail}
 use Rattle.meaning_texts.proofs.Lemmas.{same_some}
 use Rattle.meaning_commands.specs.Formed.{IsFormed}
+use Rattle.object_values.specs.declared.messages.Status.{Status}
+use Rattle.object_values.specs.declared.messages.Status.TheVariants.{Ok, Warning, Error, Abort}
 use Rattle.meaning_commands.specs.declared.replies.Reply.{Reply}
-use Rattle.reply_objects.specs.Answers.{answers_ask, answer_of, later, last_answer}
+use Rattle.meaning_commands.specs.declared.replies.Reply.TheVariants as reply
+use Rattle.reply_objects.specs.Answers.{answers_ask, answer_of, later, last_answer, status_of, exit_status}
 
 later_some : (o : Option Reply) → later None o ≡ o
 later_some None = refl
@@ -35,3 +38,35 @@ last_formed (first ∷ rest) formed reply is =
     by : (o : Option Reply) → (o ≡ Some reply → IsFormed reply) → later (answer_of first) o ≡ Some reply → IsFormed reply
     by (Some other) rest_formed is = rest_formed is
     by None rest_formed is = subst IsFormed (answer_is first reply is) (All-head IsFormed first rest formed)
+
+-- ---- the exit status
+
+small : (status : Status) → status_of status ≤ 2
+small Ok = omega arith
+small Warning = omega arith
+small Error = omega arith
+small Abort = omega arith
+
+pub small_status : (answer : Option Reply) → exit_status answer ≤ 2
+small_status None = omega arith
+small_status (Some (reply.Shown status body messages)) = small status
+small_status (Some (reply.Put text number)) = omega arith
+small_status (Some (reply.Took text number)) = omega arith
+small_status (Some (reply.NoFile text)) = omega arith
+small_status (Some (reply.Dropped text)) = omega arith
+small_status (Some (reply.NoSource text)) = omega arith
+small_status (Some (reply.Sources text)) = omega arith
+small_status (Some (reply.Kept number)) = omega arith
+small_status (Some (reply.Plan text)) = omega arith
+small_status (Some reply.Bye) = omega arith
+small_status (Some reply.RefusedCommand) = omega arith
+small_status (Some reply.RefusedName) = omega arith
+small_status (Some reply.RefusedSize) = omega arith
+small_status (Some reply.RefusedRead) = omega arith
+small_status (Some (reply.RefusedExpression number)) = omega arith
+small_status (Some (reply.RefusedParam text)) = omega arith
+small_status (Some (reply.RefusedType text)) = omega arith
+small_status (Some (reply.RefusedPath number)) = omega arith
+small_status (Some (reply.RefusedCircular text)) = omega arith
+small_status (Some (reply.RefusedDeep text)) = omega arith
+small_status (Some reply.RefusedToolStart) = omega arith

@@ -1,6 +1,8 @@
 // A run of the program: what it reads, and what it writes.
-ghost use Rattle.std.specs.Prelude.{IfOk, OnOk};
+ghost use Rattle.std.specs.Prelude.{◌≡◌, ◌≤◌, IfOk, IsOk, OnOk};
 ghost use Rattle.meaning_commands.specs.Formed.{IsFormedBody, IsFormed};
+ghost use Rattle.reply_objects.specs.declared.files.Files.TheVariants.{Nothing};
+ghost use Rattle.reply_objects.specs.Faults as faults;
 
 use crate::answers::{exit_status, last_answer};
 use crate::files::{Files, files_of};
@@ -44,7 +46,9 @@ impl From<io::Error> for Fault {
 }
 
 impl Fault {
-    pub fn status(&self) -> u8 {
+    pub fn status(&self) -> u8
+        ensures { result ≡ faults.status_of self.now }
+    {
         match self {
             Fault::Replies => 2,
             Fault::System => 3,
@@ -83,8 +87,10 @@ fn write_part(rt: &HostRuntime, folder: &str, part: &Part) -> Result<(), Fault> 
     Ok(())
 }
 
-/// Writes the files below a path.
-pub fn write_files(rt: &HostRuntime, path: &str, files: &Files) -> Result<(), Fault> {
+/// Writes the files below a path. What the files have then is no clause, since the system doesn't tell it.
+pub fn write_files(rt: &HostRuntime, path: &str, files: &Files) -> Result<(), Fault>
+    ensures { files.now ≡ Nothing → IsOk result }
+{
     match files {
         Files::Nothing => {}
         Files::File(text) => fs::write(rt, path, text.as_slice())?,
@@ -152,8 +158,11 @@ fn write_answer(rt: &HostRuntime, asked: Asked<'_>, reply: &Reply) -> Result<(),
     }
 }
 
-/// The exit status of a run with the words of the program.
-pub fn run(rt: &HostRuntime) -> Result<u8, Fault> {
+/// The exit status of a run with the words of the program. Which object it is of is no clause, since the system tells neither its words nor its input.
+#[tactic(auto, using(crate::proofs::AnswerLemmas::small_status))]
+pub fn run(rt: &HostRuntime) -> Result<u8, Fault>
+    ensures { IfOk result (λ status. status ≤ 2) }
+{
     let words = words_of(rt)?;
     let Some(asked) = read_words(rt.alloc(), words.as_slice())? else {
         return Err(Fault::Words);
