@@ -53,7 +53,8 @@ fn is_absent(kind: ErrorKind) -> bool {
         || kind == ErrorKind::FilesystemLoop
 }
 
-/// The first 16,777,217 bytes of a file. `None` is said where no file is: nothing, a folder, a device, or a link that leads to none.
+/// The first 16,777,217 bytes of a file. `None` is said where no file is: nothing, a folder, a device, or a link that leads to none. No clause says so,
+/// since the system tells neither what stands at a path nor what is in a file.
 pub fn read_file<R: Files>(
     rt: &R,
     alloc: Global,
