@@ -1,5 +1,5 @@
 -- Each maker of the path takes what the one before it makes.
-use Rattle.std.proofs.Common.{◌≡◌, ◌∙◌, ◌++◌, ℕ, List, map, ap, sym, subst}
+use Rattle.std.proofs.Common.{◌∙◌, ◌++◌, ℕ, List, map, ap, sym, subst}
 use Rattle.std.specs.Prelude.{Some}
 use Rattle.object_values.specs.declared.nodes.Step.TheVariants.{Maker}
 use Rattle.meaning_graph.specs.Paths.{Chosen}

@@ -1,5 +1,5 @@
 -- One maker is the chosen path.
-use Rattle.std.proofs.Common.{◌≡◌, ◌∙◌, ◌∷◌, [], sym}
+use Rattle.std.proofs.Common.{◌∙◌, ◌∷◌, [], sym}
 use Rattle.object_values.specs.declared.nodes.Step.TheVariants.{Maker}
 use Rattle.meaning_nodes.specs.Nodes.{step_type}
 use Rattle.meaning_nodes.proofs.Lemmas.{type_after_none}
