@@ -1,5 +1,5 @@
 -- The looks of a walk, one call after another.
-use Rattle.std.proofs.Common.{◌≡◌, ℕ, ◌+◌, ◌≤◌, Bool, true, false, cond, List, [], ◌∷◌, ◌++◌, length, sym, ap, subst, arith, refl, length-append, ◌∙◌}
+use Rattle.std.proofs.Common.{◌≡◌, ℕ, ◌+◌, Bool, true, false, cond, List, [], ◌∷◌, ◌++◌, length, sym, ap, subst, arith, refl, length-append, ◌∙◌}
 use Rattle.std.specs.Prelude.{◌≢◌, ◌↔◌, IsTrue, Option, Result, Ok, Err}
 use Rattle.object_values.specs.declared.views.View.{View}
 use Rattle.object_values.specs.declared.nodes.Step.{Step}
@@ -31,12 +31,6 @@ few_at result fault some more before now is few = subst (AreFew some more before
 
 -- ---- a call that is wanted
 
-pub put_grows : (call : Call) (wanted : List Call) → length wanted ≤ length (put_in call wanted)
-put_grows call wanted = elim (call_in call wanted) as (λ b. length wanted ≤ length (cond b wanted (wanted ++ call ∷ []))) [
-  | true ↦ omega arith
-  | false ↦ omega (arith, length-append wanted (call ∷ []))
-]
-
 pub put_new : (call : Call) (wanted : List Call) → (IsIn call wanted → ⊥) → length (put_in call wanted) ≡ length wanted + 1
 put_new call wanted new = (elim (call_in call wanted) as (λ b. call_in call wanted ≡ b → length (cond b wanted (wanted ++ call ∷ [])) ≡ length wanted + 1) [
   | true ↦ λ e. absurd (new (found_in wanted call e))
@@ -56,12 +50,6 @@ one_step (step ∷ steps) some = refl
 -- ---- the closing of one node
 
 module _ {E : Type 0} (wanted : List Call) (n : Node) where
-  -- with no look
-  pub not_looked : (count : ℕ) (result : Result Closed E) → LooksOnce wanted n count count result
-  not_looked count (Ok (Settled view)) = record { later = omega arith; once = omega arith; ok = omega arith }
-  not_looked count (Ok (Stops call)) = record { later = omega arith; once = omega arith; ok = omega (arith, put_grows call wanted) }
-  not_looked count (Err fault) = record { later = omega arith; once = omega arith; ok = tt }
-
   -- by one look
   pub looked_settled : (before now : ℕ) (view : View) → n.steps ≢ [] → now ≡ before + 1 → LooksOnce {E = E} wanted n before now (Ok (Settled view))
   looked_settled before now view some is = record { later = omega (arith, is); once = omega (arith, is); ok = omega (arith, is, one_step n.steps some) }
