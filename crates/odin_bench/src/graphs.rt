@@ -46,7 +46,7 @@ fn add_tool(alloc: Global, text: &mut Bytes, number: u32) -> Result<(), Fault> {
 fn read(alloc: Global, tools: u32) -> Result<(usize, usize), Fault> {
     let mut text = Bytes::new(alloc);
     add_types(alloc, &mut text)?;
-    for number in 0..tools.min(MOST) {
+    for number in 0..tools {
         add_tool(alloc, &mut text, number)?;
     }
     let graph = read_graph(alloc, text.as_slice())?;
@@ -55,6 +55,9 @@ fn read(alloc: Global, tools: u32) -> Result<(usize, usize), Fault> {
 
 /// Says how many declarations and bytes a graph file with so many tools has.
 pub(crate) fn tell(rt: &HostRuntime, tools: u32) -> Result<(), Fault> {
+    if tools > MOST {
+        return Err(Fault::Words);
+    }
     let (declarations, bytes) = read(rt.alloc(), tools)?;
     let _ = println!(rt; "{declarations} declarations of {bytes} bytes");
     Ok(())

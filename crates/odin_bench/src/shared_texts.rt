@@ -63,7 +63,7 @@ fn call_over(alloc: Global, shared: &[Text]) -> Result<Call, Memory> {
 fn made(alloc: Global, count: u32) -> Result<Seq<Call>, Memory> {
     let shared = shared_texts(alloc)?;
     let mut calls = Seq::new(alloc);
-    for _ in 0..count.min(MOST) {
+    for _ in 0..count {
         calls.push(call_over(alloc, shared.as_slice())?)?;
     }
     Ok(calls)
@@ -79,6 +79,9 @@ fn held(alloc: Global, count: u32) -> Result<usize, Memory> {
 
 /// Says how many calls stand at once where so many are made.
 pub(crate) fn tell(rt: &HostRuntime, count: u32) -> Result<(), Fault> {
+    if count > MOST {
+        return Err(Fault::Words);
+    }
     let calls = held(rt.alloc(), count)?;
     let _ = println!(rt; "{calls} calls");
     Ok(())

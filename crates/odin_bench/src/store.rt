@@ -18,11 +18,14 @@ const MOST: u32 = 20_000;
 
 /// The number at a place of the words. One that isn't there is 0.
 fn count_at(words: &[String], place: usize) -> Result<u32, Fault> {
-    if place < words.len() {
-        Ok(number_at(words, place)?.min(MOST))
-    } else {
-        Ok(0)
+    if place >= words.len() {
+        return Ok(0);
     }
+    let count = number_at(words, place)?;
+    if count > MOST {
+        return Err(Fault::Words);
+    }
+    Ok(count)
 }
 
 /// Says how many sources and calls a store has, and the place of its closed gate.

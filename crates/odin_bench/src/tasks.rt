@@ -26,7 +26,10 @@ fn counted(alloc: Global, mode: &str, count: u32) -> Result<Counts, Fault> {
 
 /// Says how many needs and parts there are over so many elements, headers or calls.
 pub(crate) fn tell(rt: &HostRuntime, mode: &str, count: u32) -> Result<(), Fault> {
-    let counts = counted(rt.alloc(), mode, count.min(MOST))?;
+    if count > MOST {
+        return Err(Fault::Words);
+    }
+    let counts = counted(rt.alloc(), mode, count)?;
     let _ = println!(rt; "{} needs, {} parts", counts.needs, counts.parts);
     Ok(())
 }

@@ -1,18 +1,14 @@
 -- What a crash leaves of a session.
-use Rattle.std.proofs.Common.{◌≡◌, ◌⊎◌, ℕ, ◌≤◌, List, [], ◌∷◌, ◌++◌, length, take, drop, Bool, true, false, cond, append_assoc, ap, sym, refl, ◌∙◌, subst, inl, inr, is_some}
+use Rattle.std.proofs.Common.{◌≡◌, ◌⊎◌, ℕ, List, [], ◌∷◌, ◌++◌, length, take, drop, append_assoc, ap, sym, refl, ◌∙◌, subst, inl, inr, is_some}
 use Rattle.std.specs.Prelude.{Option, Some, None, IsSome}
 use Rattle.std.proofs.lemmas.List.{take-append-drop}
 use Rattle.object_values.specs.declared.nodes.Node.{Node}
 use Rattle.object_values.specs.declared.calls.Call.{Call}
 use Rattle.object_values.specs.declared.calls.Outcome.{Outcome}
-use Rattle.odin_outside.specs.Disk.{IsQuiet, MayLeave as MayBeLeft}
+use Rattle.odin_outside.specs.Disk.{IsQuiet}
 use Rattle.odin_outside.specs.Spawned.{Table, Spawned}
 use Rattle.disk_trails.specs.Trails.{after, IsPrefix}
 use Rattle.meaning_graph.specs.Graphs.{Text, Graph}
-use Rattle.meaning_derive.specs.Derive.{Outcomes, derived}
-use Rattle.meaning_derive.specs.Calls.{IsCallFrom}
-use Rattle.meaning_derive.specs.Given.{table_outcomes}
-use Rattle.meaning_derive.specs.Laws.{HasMore}
 use Rattle.meaning_texts.specs.Lists.{IsIn}
 use Rattle.meaning_records.specs.Tables.{Calls, kept_outcome}
 use Rattle.meaning_answers.specs.Answers as answers
@@ -23,10 +19,10 @@ use Rattle.meaning_commands.specs.declared.commands.Command.TheVariants.{Put, Ta
 use Rattle.meaning_commands.specs.declared.replies.Reply.{Reply}
 use Rattle.plain_derive.specs.Given.{calls_of, AreGiven}
 use Rattle.plain_derive.proofs.Lemmas.{given_are_calls}
-use Rattle.odin_store.specs.Held.{Held, Change, puts, drops, keeps, apply, StandsFor}
+use Rattle.odin_store.specs.Held.{Held, Change, puts, drops, keeps, apply}
 use Rattle.odin_store.specs.Keeping.{store_keeping}
 use Rattle.kept_derive.specs.Runs.{keeps_of}
-use Rattle.odin_answers.specs.Answers.{Agrees, IsReply, MayHaveBegun}
+use Rattle.odin_answers.specs.Answers.{IsReply, MayHaveBegun}
 use Rattle.odin_answers.specs.Laws.{IsTrueFor}
 use Rattle.odin_answers.proofs.Lemmas.{kept_first, kept_by_either}
 use Rattle.odin_shell.specs.Filed.{DiskMeaning}

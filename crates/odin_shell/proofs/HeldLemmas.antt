@@ -5,7 +5,7 @@ use Rattle.std.proofs.lemmas.Bool.{cases_lt}
 use Rattle.std.specs.Option.{is_some}
 use Rattle.meaning_run.specs.Items as items
 use Rattle.meaning_run.specs.Streams as streams
-use Rattle.meaning_run.specs.Items.{Item, item_bytes, last_item}
+use Rattle.meaning_run.specs.Items.{last_item}
 use Rattle.meaning_run.proofs.Lemmas.{take-append}
 use Rattle.meaning_texts.specs.Lines.{HasNoLf, without_cr}
 use Rattle.meaning_texts.proofs.Lemmas.{HasNo-append}
