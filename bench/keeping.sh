@@ -3,7 +3,7 @@
 # with an old header and once with a changed one.
 #   back: an edit back to either header and an ask, against the ask alone with everything kept, at 2,000 units
 #   growth: an ask with everything kept at 10,000 units, against 50 times the same at 200
-# Each is the least of five rounds, less the least of the same session without these asks; there are many of them in a session, so that a start of the
+# Each is the least of nine rounds, less the least of the same session without these asks; there are many of them in a session, so that a start of the
 # program is little beside them. That no tool is started for them is seen by the number of kept calls.
 #   keeping.sh                by the clock
 #   keeping.sh instructions   by the instructions that valgrind --tool=callgrind counts, in one round
@@ -13,7 +13,7 @@ cd "$(dirname "$0")/.."
 odin=$PWD/crates/session_bench/out/session_bench
 work=$(mktemp -d)
 trap 'rm -rf "$work"' EXIT
-measure=seconds rounds=5
+measure=seconds rounds=9
 if [ "${1-}" = instructions ]; then measure=instructions rounds=1; fi
 
 # What a session costs. Its replies go to a file.

@@ -316,10 +316,12 @@ def memory(peer, folder):
     lines = subprocess.run([peer.crates + "/odin_takes/out/odin_takes", "src"], cwd=folder, check=True, capture_output=True).stdout
     with open(folder + "/commands", "wb") as file:
         file.write(lines + b"ask src/m.list:exe\n")
+    # a child of this script would count the memory of the script, too
     with open(folder + "/commands") as commands:
-        child = subprocess.Popen([peer.odin, "graph"], cwd=folder, stdin=commands, stdout=subprocess.DEVNULL)
-        _, _, usage = os.wait4(child.pid, 0)
-    return usage.ru_maxrss, os.path.getsize(folder + "/odin.store")
+        subprocess.run(["/usr/bin/time", "-f", "%M", "-o", "memory", peer.odin, "graph"], cwd=folder, stdin=commands, stdout=subprocess.DEVNULL, check=True)
+    with open(folder + "/memory") as file:
+        held = int(file.read())
+    return held, os.path.getsize(folder + "/odin.store")
 
 
 def told(peers, found, base):
