@@ -17,8 +17,7 @@ seconds() {
 median() { sort -n | sed -n 3p; }
 ratio() { awk -v a="$1" -v b="$2" 'BEGIN { printf "%.2f\n", a / b }'; }
 
-head -c 16777216 /dev/urandom > "$work/text"
-for n in $(seq 16); do printf 'put a%s.c 16777216\n' "$n"; cat "$work/text"; done > "$work/puts"
+for n in $(seq 16); do printf 'put a%s.c 16777216\n' "$n"; head -c 16777216 /dev/urandom; done > "$work/puts"
 yes 'ask a.c' | head -500000 > "$work/lines"
 { printf 'put a.c 0\n'; cat "$work/lines"; } > "$work/asks"
 
