@@ -1,5 +1,5 @@
 // Whether a call is well formed.
-ghost use Rattle.std.specs.Prelude.{◌≡◌, ◌↔◌, All, IsTrue};
+ghost use Rattle.std.specs.Prelude.{◌≡◌, ◌↔◌, IsTrue};
 ghost use Rattle.std.specs.List.{list_all};
 ghost use Rattle.meaning_texts.specs.Tests.{is_id};
 ghost use Rattle.meaning_calls.specs.Jobs.{IsWellFormed};

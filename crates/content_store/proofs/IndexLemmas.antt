@@ -1,5 +1,5 @@
 -- What is found by hashes and keys, and bodies with one more.
-use Rattle.std.proofs.Common.{◌≡◌, ◌≢◌, ◌<◌, ℕ, Bool, true, false, cond, List, [], ◌∷◌, ◌++◌, ◌⊎◌, inl, inr, length, length-append, ap, sym, ◌∙◌, subst, refl, true≢false, arith}
+use Rattle.std.proofs.Common.{◌≡◌, ◌≢◌, ◌<◌, ℕ, Bool, true, false, cond, List, [], ◌∷◌, ◌++◌, inl, inr, length, length-append, ap, sym, ◌∙◌, subst, refl, true≢false, arith}
 use Rattle.std.specs.Prelude.{◌↔◌, IsTrue, Option, Some, None, is_some, slice_get, nat_eq, All, Contains, IfSome, IfNone}
 use Rattle.std.specs.Cmp.Lexicographic.{pointwise, bytes_decides}
 use Rattle.std.proofs.lemmas.Option.{none-some, same_Some}

@@ -1,5 +1,5 @@
 // The closing of a node whose needs were all visited.
-ghost use Rattle.std.specs.Prelude.{◌≡◌, ◌+◌, OnOk, IfOk};
+ghost use Rattle.std.specs.Prelude.{◌+◌, OnOk, IfOk};
 ghost use Rattle.derive_walk.specs.Looks.{AreFew, lost, met_in};
 ghost use Rattle.derive_walk.specs.Paths.{IsClosing, IsLast, IsWhole};
 ghost use Rattle.derive_walk.specs.Settings.{IsSetting, world_in};

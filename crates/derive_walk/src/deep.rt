@@ -1,6 +1,5 @@
 // The chain of a root that is too deep.
-ghost use Rattle.std.specs.Prelude.{◌≡◌, ◌+◌, ◌-◌, ◌≤◌, ◌<◌, length, IfOk, OnOk};
-ghost use Rattle.meaning_texts.specs.Limits.{height_limit};
+ghost use Rattle.std.specs.Prelude.{◌≡◌, ◌+◌, ◌-◌, ◌<◌, length, IfOk, OnOk};
 ghost use Rattle.meaning_derive.specs.Chains.{IsDeep};
 ghost use Rattle.derive_walk.specs.Paths.{IsTall, LeadsDown};
 ghost use Rattle.derive_walk.specs.Settings.{IsSetting, world_in};

@@ -1,5 +1,5 @@
 // Declarations.
-ghost use Rattle.std.specs.Prelude.{◌≢◌, ◌∷◌, [], codes, IfOk, IfErr};
+ghost use Rattle.std.specs.Prelude.{◌≢◌, [], codes, IfOk, IfErr};
 ghost use Rattle.meaning_graph_text.specs.Going.{ending, start, expect};
 ghost use Rattle.meaning_graph_text.specs.Going.{kind as kind_stage};
 ghost use Rattle.dg_reader.specs.Walks.{HaltsAt};

@@ -1,5 +1,5 @@
 -- What is found grows.
-use Rattle.std.proofs.Common.{◌≡◌, ℕ, true, List, [], ◌∷◌, ◌++◌, append-nil, append_assoc, ap, sym, ◌∙◌}
+use Rattle.std.proofs.Common.{[], ◌++◌, append-nil, append_assoc, ap, sym, ◌∙◌}
 use Rattle.folder_takes.specs.declared.walk.Found.{Found}
 use Rattle.folder_takes.specs.Found.{Grows}
 

@@ -1,6 +1,6 @@
 // Labels and texts of nodes over a small graph.
 use dg_reader::read_graph;
-use object_values::{Bytes, Memory, Node, ParamValue, Seq, Step};
+use object_values::{Bytes, Memory, Node, ParamValue, Seq, ShortSeq, Step, Text};
 use odin_nodes::{label_of, node_text};
 use std::alloc::Global;
 use std::test::Fail;
@@ -14,12 +14,12 @@ const GRAPH: &[u8] =
 fn step(alloc: Global, byte: u8) -> Result<Step, Memory> {
     match byte {
         b'0'..=b'9' => Ok(Step::Maker(byte as u32 - 48)),
-        _ => Ok(Step::Pick(Bytes::from_slice(alloc, &[byte])?)),
+        _ => Ok(Step::Pick(Text::of(Bytes::from_slice(alloc, &[byte])?)?)),
     }
 }
 
-fn steps_of(alloc: Global, digits: &[u8]) -> Result<Seq<Step>, Memory> {
-    let mut steps = Seq::new(alloc);
+fn steps_of(alloc: Global, digits: &[u8]) -> Result<ShortSeq<Step>, Memory> {
+    let mut steps = ShortSeq::new(alloc);
     for digit in digits {
         steps.push(step(alloc, *digit)?)?;
     }

@@ -1,7 +1,7 @@
 // Nodes of expressions, and their types.
 use super::units::UNITS;
 use dg_reader::read_graph;
-use object_values::{Bytes, Expression, Memory, Node, Seq, Step};
+use object_values::{Bytes, Expression, Memory, Node, Seq, ShortSeq, Step};
 use odin_nodes::{NodeFault, node_of, node_text, type_of};
 use path_planner::Plans;
 use request_parser::read_expression;
@@ -121,7 +121,7 @@ fn nodes_come_of_expressions(rt: HostRuntime) -> Result<(), Fail> {
 
 // The type of a node with one step, in a graph.
 fn type_in(alloc: Global, graph: &[u8], source: &[u8], step: Step) -> Result<Option<u32>, Memory> {
-    let mut steps = Seq::new(alloc);
+    let mut steps = ShortSeq::new(alloc);
     steps.push(step)?;
     let node = Node {
         source: Bytes::from_slice(alloc, source)?,

@@ -1,5 +1,5 @@
 // Calls that are sought among held ones.
-ghost use Rattle.std.specs.Prelude.{◌≡◌, ◌≢◌, ℕ, List, Option, IfNone, IfOk, IfSome};
+ghost use Rattle.std.specs.Prelude.{ℕ, List, Option, IfNone, IfOk, IfSome};
 ghost use Rattle.kept_contents.specs.Held.{AreIdsOf, IsIdOf};
 
 use crate::held::{HeldCall, feed_call};

@@ -1,7 +1,5 @@
 -- The graph of a load: units with headers are scanned, compiled and linked.
-use Rattle.std.specs.Prelude.{ℕ, List, codes}
-use Rattle.std.specs.List.{flat_map}
-use Rattle.meaning_texts.specs.Lines.{with_lf}
+use Rattle.std.specs.Prelude.{codes}
 use Rattle.meaning_graph.specs.Graphs.{Text}
 
 unfoldable pub graph_text : Text

@@ -1,5 +1,5 @@
 -- A whole load: what it tells, and why it ends before.
-use Rattle.std.specs.Prelude.{◌≡◌, ⊤, ℕ, List, [], ◌∷◌, ◌++◌, length}
+use Rattle.std.specs.Prelude.{◌≡◌, ⊤, ℕ, [], ◌∷◌, ◌++◌, length}
 use Rattle.odin_fakes.specs.declared.answers.Answers.TheVariants.{Toys}
 use Rattle.odin_fakes.specs.Tools as tools
 use Rattle.dg_reader.specs.Files.{IsRead}

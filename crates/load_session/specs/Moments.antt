@@ -1,5 +1,5 @@
 -- A session of a load between two steps.
-use Rattle.std.specs.Prelude.{◌≡◌, ◌+◌, ◌^◌, ◌<◌, ◌≤◌, ℕ, List, [], ◌∷◌, ◌++◌, length}
+use Rattle.std.specs.Prelude.{◌≡◌, ◌+◌, ◌^◌, ◌<◌, ◌≤◌, ℕ, List, [], ◌∷◌, length}
 use Rattle.odin_fakes.specs.File.{image_of}
 use Rattle.odin_fakes.specs.Tools as tools
 use Rattle.meaning_records.specs.Tables.{Calls}

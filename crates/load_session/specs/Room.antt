@@ -1,5 +1,5 @@
 -- The disk of a load: a file in memory with so much room, which also tells the first call that it refused.
-use Rattle.std.specs.Prelude.{◌≡◌, ◌≢◌, ◌⊎◌, ℕ, ◌+◌, ◌≤◌, ◌<◌, List, [], length, Some, Result, OnOk, OnErr}
+use Rattle.std.specs.Prelude.{◌≡◌, ◌≢◌, ◌⊎◌, ℕ, ◌+◌, ◌≤◌, ◌<◌, [], length, Some, Result, OnOk, OnErr}
 use Rattle.odin_outside.specs.Disk.{Telling, Work}
 use Rattle.odin_fakes.specs.Calls.{bytes_written}
 use Rattle.odin_fakes.specs.File.{File, new_file, told_of}

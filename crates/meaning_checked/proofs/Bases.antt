@@ -14,7 +14,7 @@ use Rattle.meaning_graph.specs.Types.{IsA, is_a}
 use Rattle.meaning_graph.specs.Paths.{made_of}
 use Rattle.meaning_texts.proofs.Lemmas.{all_in}
 use Rattle.meaning_graph.proofs.Lemmas.{is_a_so}
-use Rattle.meaning_nodes.specs.Nodes.{source_node, last_step, base_of, step_type, reached_type, HasKeyOfClass, Fits}
+use Rattle.meaning_nodes.specs.Nodes.{source_node, last_step, base_of, reached_type, HasKeyOfClass, Fits}
 use Rattle.meaning_tasks.specs.Tasks.{Task, given, picked, make_task, maker_task, step_task, task_of}
 use Rattle.meaning_nodes.proofs.Lemmas.{HasBase, base_fits}
 use Rattle.meaning_checked.proofs.Rules.{maker_declared}

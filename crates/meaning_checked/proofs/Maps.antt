@@ -19,7 +19,6 @@ use Rattle.meaning_tasks.specs.Needs.{Results, values_of, counted_needs, Needs}
 use Rattle.meaning_tasks.specs.Calls.{all_valued, call_of}
 use Rattle.meaning_tasks.specs.Settle.{own_of}
 use Rattle.meaning_tasks.specs.Maps.{IsOfKind, IsResultMap}
-use Rattle.meaning_nodes.proofs.Lemmas.{so_fits}
 use Rattle.meaning_nodes.proofs.Lemmas as fit
 use Rattle.meaning_derive.specs.Derive.{Sources, text_of, Outcomes, outcome_for, names_for, derive}
 use Rattle.meaning_derive.proofs.Lemmas.{step_so, derived_sound, valued_exactly}

@@ -1,9 +1,8 @@
 -- A line is the computed command, and no other.
-use Rattle.std.proofs.Common.{◌≡◌, ◌≢◌, ℕ, ◌<◌, ◌≤◌, Bool, true, false, List, [], ◌∷◌, ◌⊎◌, inl, inr, length, sym, ap, ◌∙◌, subst, refl, cond, arith}
+use Rattle.std.proofs.Common.{◌≡◌, ℕ, ◌≤◌, List, [], ◌∷◌, inl, inr, length, sym, ap, ◌∙◌, subst, refl, cond, arith}
 use Rattle.std.specs.Prelude.{Option, Some, None, nat_lt}
 use Rattle.std.proofs.lemmas.Bool.{cond-true, cond-false, ltb-true, lt-ltb, ltb-false, le-ltb, cond_both}
 use Rattle.meaning_texts.specs.Limits.{command_limit}
-use Rattle.meaning_texts.specs.Lists.{is_empty}
 use Rattle.meaning_texts.proofs.Lemmas.{some_or_none}
 use Rattle.meaning_commands.specs.declared.commands.Command.{Command}
 use Rattle.meaning_commands.specs.declared.commands.Command.TheVariants.{Nothing, Bad}

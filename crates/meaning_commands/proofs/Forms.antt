@@ -1,6 +1,6 @@
 -- The computed command of the shown words is the one that the line has the form of.
-use Rattle.std.proofs.Common.{◌≡◌, ℕ, ◌<◌, ◌^◌, Bool, true, false, not, List, [], ◌∷◌, ◌++◌, ◌⊎◌, inl, inr, sym, ap, ◌∙◌, subst, refl, cond, codes}
-use Rattle.std.specs.Prelude.{Option, Some, None, bytes_eq}
+use Rattle.std.proofs.Common.{◌≡◌, ℕ, ◌<◌, ◌^◌, Bool, true, false, List, [], ◌∷◌, ◌++◌, ◌⊎◌, inl, inr, sym, ap, ◌∙◌, subst, refl, cond, codes}
+use Rattle.std.specs.Prelude.{Option, Some, None}
 use Rattle.std.specs.Option.{option_map, option_and_then}
 use Rattle.std.specs.Fmt.{decimal}
 use Rattle.std.proofs.lemmas.Bool.{cond-true, cond-false}
@@ -11,8 +11,8 @@ use Rattle.meaning_texts.specs.Tests.{is_name}
 use Rattle.meaning_texts.specs.Lists.{IsIn}
 use Rattle.meaning_texts.proofs.Lemmas.{same_some, word_decides}
 use Rattle.meaning_commands.specs.declared.commands.Command.{Command}
-use Rattle.meaning_commands.specs.declared.commands.Command.TheVariants.{Put, Take, Remove, Ask, Plan, Sources, Kept, Quit, Nothing, Bad, BadName}
-use Rattle.meaning_commands.specs.Commands.{IsArgument, IsPut, IsNaming, IsForm, put, put_bad, take, take_bad, remove, remove_bad, ask, plan, sources, kept, quit}
+use Rattle.meaning_commands.specs.declared.commands.Command.TheVariants.{Put, Take, Remove, Ask, Plan, Sources, Kept, Quit, BadName}
+use Rattle.meaning_commands.specs.Commands.{IsArgument, IsPut, IsForm, put, put_bad, take, take_bad, remove, remove_bad, ask, plan, sources, kept, quit}
 use Rattle.meaning_commands.specs.Reading.{number_of, before_space, behind_space, behind, is_argument, naming, put_of, put_words, alone, first_of, readings, formed_command}
 use Rattle.meaning_commands.proofs.Words.{reads_number, is_number, before_is, behind_is, is_cut, argument_test, test_argument, is_behind}
 

@@ -1,9 +1,9 @@
 -- From how far the reading has come to what the run leaves, for any machine.
 use Rattle.std.proofs.Common.{◌≡◌, ◌⊎◌, ℕ, ◌+◌, ◌-◌, ◌<◌, ◌≤◌, List, [], ◌∷◌, ◌++◌, take, length, Option, Some, None, IfSome, ap, sym, refl, ◌∙◌, subst, arith, inl, inr}
-use Rattle.std.proofs.lemmas.List.{append_assoc, length-append}
+use Rattle.std.proofs.lemmas.List.{length-append}
 use Rattle.odin_outside.specs.Told.{prepended}
 use Rattle.meaning_run.specs.Items as items
-use Rattle.meaning_run.specs.Items.{Language, Item, item_bytes, all_bytes, last_item}
+use Rattle.meaning_run.specs.Items.{Language, Item, all_bytes, last_item}
 use Rattle.meaning_run.specs.Machines as machines
 use Rattle.meaning_run.specs.Machines.{Machine, Halt}
 use Rattle.meaning_run.specs.Endings as endings

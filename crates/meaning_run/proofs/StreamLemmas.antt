@@ -4,11 +4,11 @@ use Rattle.std.proofs.lemmas.List.{append_assoc, length-append}
 use Rattle.std.specs.List.{concat}
 use Rattle.meaning_run.specs.Objects.{took, TookPart}
 use Rattle.meaning_run.specs.Items as items
-use Rattle.meaning_run.specs.Items.{Language, Item, item_bytes, all_bytes, last_item}
+use Rattle.meaning_run.specs.Items.{Language, Item, all_bytes, last_item}
 use Rattle.meaning_run.specs.Machines as machines
 use Rattle.meaning_run.specs.Machines.{Machine, Halt, before_reply, within_reply, behind_reply}
 use Rattle.meaning_run.specs.Endings as endings
-use Rattle.meaning_run.specs.Endings.{StandsAt, StandsLast, IsSpent, input_limit, piece_limit}
+use Rattle.meaning_run.specs.Endings.{StandsAt, StandsLast, input_limit, piece_limit}
 use Rattle.meaning_run.specs.Streams as streams
 use Rattle.meaning_run.proofs.ItemLemmas.{nil_right, all_bytes-more, concat-more, AllGoOn-more}
 use Rattle.meaning_run.proofs.ToldLemmas.{took-took, took_none}

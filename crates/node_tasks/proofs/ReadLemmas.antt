@@ -1,5 +1,5 @@
 -- The lines of a reference list, and the answers to their expressions.
-use Rattle.std.proofs.Common.{◌≡◌, ◌<◌, ◌≤◌, ◌+◌, ℕ, List, [], ◌∷◌, inl, inr, sym, ap, ◌∙◌, subst, refl, length, arith}
+use Rattle.std.proofs.Common.{◌≡◌, ◌≤◌, ◌+◌, ℕ, List, [], ◌∷◌, inl, inr, sym, ap, ◌∙◌, subst, refl, length, arith}
 use Rattle.std.specs.Prelude.{Option, None, codes}
 use Rattle.object_values.specs.declared.nodes.Node.{Node}
 use Rattle.object_values.specs.declared.views.Value.{Value}

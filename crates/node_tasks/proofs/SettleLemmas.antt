@@ -14,9 +14,6 @@ use Rattle.meaning_tasks.specs.Needs.{Results, Known, values_of, counted_needs, 
 use Rattle.meaning_tasks.specs.Settle.{messages_of, outcome_own, stepped_own, settled, worst_of}
 use Rattle.meaning_tasks.specs.Calls.{all_valued}
 use Rattle.meaning_nodes.specs.Values.{inherit}
-use Rattle.object_values.specs.declared.messages.Status.{Status}
-use Rattle.object_values.specs.declared.messages.Message.{Message}
-use Rattle.object_values.specs.declared.views.Value.{Value}
 use Rattle.object_values.specs.declared.views.View.{View}
 use Rattle.odin_nodes.proofs.Lemmas.{inherit_all}
 use Rattle.task_needs.specs.declared.taken.Taken.{Taken}

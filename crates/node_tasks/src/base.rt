@@ -2,7 +2,7 @@
 ghost use Rattle.std.specs.Prelude.{◌≡◌, IfOk, option_map};
 ghost use Rattle.meaning_nodes.specs.Nodes.{base_of, last_step};
 
-use object_values::{Copied, Memory, Node, Seq, Step};
+use object_values::{Copied, Memory, Node, ShortSeq, Step};
 use std::alloc::Global;
 
 /// The node without its last step.
@@ -15,7 +15,7 @@ pub(crate) fn base_of(alloc: Global, node: &Node) -> Result<Node, Memory>
     Ok(Node {
         source: node.source.copy(alloc)?,
         params: node.params.copy(alloc)?,
-        steps: Seq::from_vec(Step::copy_all(alloc, &steps[..count])?),
+        steps: ShortSeq::of(alloc, &steps[..count])?,
     })
 }
 

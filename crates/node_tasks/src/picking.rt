@@ -1,11 +1,11 @@
 // What a node gives that picks from its base.
-ghost use Rattle.std.specs.Prelude.{◌≡◌, ◌++◌, codes, option_map, IfOk};
+ghost use Rattle.std.specs.Prelude.{◌≡◌, option_map, IfOk};
 ghost use Rattle.meaning_nodes.specs.Labels.{label_of as label_of_node, no_element};
 ghost use Rattle.meaning_tasks.specs.Needs.{values_of};
 ghost use Rattle.meaning_tasks.specs.Settle.{element_own, picked_own};
 
 use crate::own::Own;
-use object_values::{Bytes, Copied, Memory, Node, Seq, Value, View};
+use object_values::{Bytes, Copied, Memory, Node, Seq, Text, Value, View};
 use odin_nodes::{Picked, pick};
 use std::alloc::Global;
 use task_needs::{Results, abort_message, value_of};
@@ -17,7 +17,7 @@ pub(crate) fn picked_own<R: Results>(
     graph: &Graph,
     node: &Node,
     base: &Node,
-    key: &Bytes,
+    key: &Text,
     seen: &R,
 ) -> Result<Own, Memory>
     ensures { let known = values_of (R.results seen.now) in
@@ -48,7 +48,7 @@ fn element_own(alloc: Global, view: Option<&View>) -> Result<Own, Memory>
     }
 }
 
-fn no_element(alloc: Global, key: &Bytes) -> Result<Bytes, Memory>
+fn no_element(alloc: Global, key: &Text) -> Result<Bytes, Memory>
     ensures { IfOk result (λ text. text ≡ no_element key.now) }
 {
     let mut text = Bytes::from_slice(alloc, b"no element ")?;

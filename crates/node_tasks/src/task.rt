@@ -6,7 +6,7 @@ ghost use Rattle.meaning_tasks.specs.Tasks.{make_task, element_name, parts_of, t
 ghost use Rattle.node_tasks.specs.Tasks.{told_task, IsTaskOf, RunsNoTool};
 
 use crate::base::last_step;
-use object_values::{Bytes, Kind, Make, MakerDecl, Node, PartDecl, Step, ToolDecl};
+use object_values::{Kind, Make, MakerDecl, Node, PartDecl, Step, Text, ToolDecl};
 use odin_nodes::kind_named;
 use type_graph::Graph;
 
@@ -16,7 +16,7 @@ pub(crate) enum TaskAt<'a> {
     /// The text of the source.
     Given,
     /// What the key picks from the base.
-    Picked(&'a Bytes),
+    Picked(&'a Text),
     /// A reference for each line of the base, of the type of this name.
     Read(&'a [u8]),
     /// Each reference of the base further, to the type of this name.

@@ -1,5 +1,6 @@
 // Nodes: a source, parameters, and the steps that lead from the source to the object.
-use sequences::{Bytes, Copied, Memory, Seq};
+use crate::text::Text;
+use sequences::{Bytes, Copied, Memory, Seq, ShortSeq};
 use std::alloc::Global;
 
 /// A parameter with one of its values.
@@ -13,15 +14,15 @@ pub struct ParamValue {
 #[derive(PartialEq, Eq, Hash, Drop)]
 pub enum Step {
     Maker(u32),
-    Pick(Bytes),
+    Pick(Text),
 }
 
-/// An object by the way to it. Without steps it is the source itself.
+/// An object by the way to it. Without steps it is the source itself. There are many nodes at once, so their steps, mostly one or two, lie in them.
 #[derive(PartialEq, Eq, Hash, Drop)]
 pub struct Node {
     pub source: Bytes,
     pub params: Seq<ParamValue>,
-    pub steps: Seq<Step>,
+    pub steps: ShortSeq<Step>,
 }
 
 impl Copied for ParamValue {
@@ -33,11 +34,23 @@ impl Copied for ParamValue {
     }
 }
 
+// What a place of a short list holds that isn't used.
+impl Default for Step {
+    ghost use Rattle.std.specs.Prelude.{◌≡◌};
+    ghost use Rattle.object_values.specs.declared.nodes.Step.TheVariants.{Maker};
+
+    ghost is_default = { λ step. step ≡ Maker 0 };
+
+    fn default() -> Self {
+        Step::Maker(0)
+    }
+}
+
 impl Copied for Step {
     fn copy(&self, alloc: Global) -> Result<Self, Memory> {
         match self {
             Step::Maker(number) => Ok(Step::Maker(*number)),
-            Step::Pick(bytes) => Ok(Step::Pick(bytes.copy(alloc)?)),
+            Step::Pick(key) => Ok(Step::Pick(key.copy(alloc)?)),
         }
     }
 }

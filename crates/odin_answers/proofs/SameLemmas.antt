@@ -1,5 +1,5 @@
 -- A text has one answer, but for the choice of the chain; and where the same calls are kept, the same are run for it.
-use Rattle.std.proofs.Common.{◌≡◌, ◌⊎◌, ◌↔◌, Bool, true, false, cond, [], ◌∷◌, ◌++◌, append-nil, ap, refl, sym, ◌∙◌, subst, inl, inr, is_some}
+use Rattle.std.proofs.Common.{◌≡◌, ◌⊎◌, Bool, true, false, cond, [], ◌∷◌, ◌++◌, append-nil, ap, refl, sym, ◌∙◌, subst, inl, inr, is_some}
 use Rattle.std.specs.Prelude.{Option, Some, None, IsSome}
 use Rattle.object_values.specs.declared.nodes.Node.{Node}
 use Rattle.object_values.specs.declared.calls.Call.{Call}
@@ -9,7 +9,7 @@ use Rattle.object_values.specs.Exact.{call_exact}
 use Rattle.odin_outside.specs.Spawned.{Table, Spawned}
 use Rattle.meaning_texts.specs.Lists.{IsIn}
 use Rattle.meaning_graph.specs.Graphs.{Text, Graph}
-use Rattle.meaning_derive.specs.Derive.{Sources, Outcomes, derived, IsFounded}
+use Rattle.meaning_derive.specs.Derive.{Sources, derived, IsFounded}
 use Rattle.meaning_derive.specs.Calls.{IsCallFrom}
 use Rattle.meaning_derive.specs.Given.{table_outcomes}
 use Rattle.meaning_derive.specs.Laws.{HasMore}
@@ -18,10 +18,9 @@ use Rattle.meaning_commands.specs.declared.replies.Reply.{Reply}
 use Rattle.meaning_answers.specs.Answers.{Asks, Answer, Refused}
 use Rattle.meaning_answers.specs.Laws.{ShowsChain, circular_chain, deep_chain, BothShowChains}
 use Rattle.meaning_answers.proofs.Lemmas.{not_refused, one_node, one_answer}
-use Rattle.walk_tables.specs.Calls.{outcome_in}
 use Rattle.plain_derive.specs.Given.{calls_of}
 use Rattle.plain_derive.proofs.Lemmas.{given_are_true, given_is_in}
-use Rattle.odin_answers.specs.Answers.{Agrees, IsKnown, IsLeftAlone, IsDerived, HasAnswer}
+use Rattle.odin_answers.specs.Answers.{Agrees, IsLeftAlone, IsDerived, HasAnswer}
 use Rattle.odin_answers.specs.Laws.{IsTrueFor, KeepSame, RunSame, AreSameAnswers}
 use Rattle.odin_answers.proofs.OnceLemmas.{its_own, come_by, kept_or_given, reply_true, fresh}
 

@@ -1,7 +1,7 @@
 // The classes of words and strings, as tests.
 ghost use Rattle.std.specs.Prelude.{◌≡◌};
 ghost use Rattle.std.specs.List.{list_all};
-ghost use Rattle.meaning_texts.specs.Classes.{is_letter, is_key_byte, is_name_byte, is_value_byte, is_string_byte, begins_with_letter};
+ghost use Rattle.meaning_texts.specs.Classes.{is_key_byte, is_name_byte, is_value_byte, is_string_byte, begins_with_letter};
 ghost use Rattle.meaning_texts.specs.Tests.{is_name, is_id, is_key, is_param_of_class, is_param_value, is_string_text};
 
 use object_values::{ParamValue, WORD_LIMIT};

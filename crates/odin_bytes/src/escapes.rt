@@ -1,5 +1,5 @@
 // Escaped texts.
-ghost use Rattle.std.specs.Prelude.{◌≡◌, ◌≢◌, ◌++◌, ◌<◌, ◌≤◌, ℕ, List, length, take, not, position, OnOk, OnErr, IfOk, IfSome, IfNone, MatchOption, IsFalse};
+ghost use Rattle.std.specs.Prelude.{◌≡◌, ◌≢◌, ◌++◌, ◌<◌, ◌≤◌, ℕ, length, take, not, position, OnOk, OnErr, IfOk, IfSome, IfNone, IsFalse};
 ghost use Rattle.meaning_texts.specs.Escapes.{hexadecimal, escaped_byte, escaped};
 ghost use Rattle.odin_bytes.specs.Spellings.{is_plain, BeginsWithNoEscape, SpellsNothing};
 

@@ -1,6 +1,6 @@
 -- What stands in the places of the folders that child programs run in: nothing (`None`), or a folder with files, in the order in which they
 -- were made. Where that isn't told there is `None` in its place, before a call and after it.
-use Rattle.std.specs.Prelude.{◌≡◌, ◌≢◌, ⊤, ℕ, Bool, false, nat_eq, List, [], ◌∷◌, ◌++◌, Option, Some, None, take}
+use Rattle.std.specs.Prelude.{◌≡◌, ◌≢◌, ⊤, ℕ, false, nat_eq, List, [], ◌∷◌, ◌++◌, Option, Some, None, take}
 use Rattle.std.specs.Option.{option_map}
 use Rattle.std.specs.List.{list_any, filter_map}
 use Rattle.object_values.specs.declared.jobs.FileBody.{FileBody}

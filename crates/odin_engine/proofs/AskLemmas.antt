@@ -1,6 +1,6 @@
 -- What an ask of an engine answers, by what its derivation came to.
-use Rattle.std.proofs.Common.{◌≡◌, ◌≢◌, ◌≤◌, ℕ, [], length, inl, inr, refl, sym, ap, subst, arith}
-use Rattle.std.specs.Prelude.{Result, Ok, Err, IfOk, IfErr, OnOk}
+use Rattle.std.proofs.Common.{◌≡◌, ℕ, [], inl, inr, refl, sym, subst, arith}
+use Rattle.std.specs.Prelude.{Result, Ok, Err, IfOk, IfErr}
 use Rattle.object_values.specs.declared.nodes.Node.{Node}
 use Rattle.object_values.specs.declared.views.View.{View}
 use Rattle.odin_outside.specs.Disk.{Telling}
@@ -13,9 +13,8 @@ use Rattle.walk_tables.specs.declared.found.Found.TheVariants as found
 use Rattle.plain_derive.proofs.Lemmas.{few_run}
 use Rattle.kept_derive.specs.declared.fault.KeptFault.{KeptFault}
 use Rattle.kept_derive.specs.declared.fault.KeptFault.TheVariants as stop
-use Rattle.kept_derive.specs.Runs.{At, at, HasFound}
+use Rattle.kept_derive.specs.Runs.{At, HasFound}
 use Rattle.kept_derive.specs.Stops.{IsStopped}
-use Rattle.kept_derive.specs.Calls.{IsIdle}
 use Rattle.kept_derive.specs.Rests.{ComesToRest}
 use Rattle.kept_derive.specs.Faults.{IsLeft as IsKeptLeft, IsCause as IsKeptCause}
 use Rattle.odin_engine.specs.declared.fault.AskFault.{AskFault}

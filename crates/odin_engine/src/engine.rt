@@ -1,5 +1,5 @@
 // The engine: its opening, and the edits of the sources.
-ghost use Rattle.std.specs.Prelude.{◌≡◌, ◌+◌, ℕ, length, IfOk, IfErr};
+ghost use Rattle.std.specs.Prelude.{◌≡◌, ◌+◌, length, IfOk, IfErr};
 ghost use Rattle.path_planner.specs.Ends.{plans_of};
 ghost use Rattle.odin_journal.specs.Faults.{IsCause};
 ghost use Rattle.odin_journal.specs.Moments.{Works};

@@ -1,5 +1,5 @@
 // A file that is kept in memory, with each call.
-ghost use Rattle.std.specs.Prelude.{◌≡◌, ◌↔◌, ◌⊎◌, ◌<◌, ◌+◌, ◌^◌, ◌≤◌, [], length, IfOk, IsOk, IsErr, OnOk, OnErr, vec_capacity};
+ghost use Rattle.std.specs.Prelude.{◌≡◌, ◌↔◌, ◌<◌, ◌+◌, ◌^◌, ◌≤◌, [], length, IfOk, IsOk, IsErr, OnOk, OnErr, vec_capacity};
 ghost use Rattle.odin_outside.specs.Causes.{HasCause};
 ghost use Rattle.odin_fakes.specs.Calls.{written};
 ghost use Rattle.odin_fakes.specs.Room.{HasRoomFor};

@@ -6,7 +6,7 @@ ghost use Rattle.path_planner.specs.Ends.{plans_of};
 
 use crate::making::put_makers;
 use crate::types::reached_type;
-use object_values::{Copied, Memory, Node, Seq, Step};
+use object_values::{Copied, Memory, Node, Step};
 use path_planner::Plans;
 use std::alloc::Global;
 use type_graph::Graph;
@@ -55,22 +55,12 @@ pub fn onward_from(
     Ok(Some(further))
 }
 
-// The node one maker further. Many of these are held at once, so its steps get no room to spare.
+// The node one maker further.
 fn led_by(node: Node, maker: u32) -> Result<Node, Memory>
     ensures { IfOk result (λ led. led ≡
         record node { steps = node.steps ++ Maker maker ∷ [] }) }
 {
-    let Node {
-        source,
-        params,
-        steps,
-    } = node;
-    let mut steps = steps.into_vec();
-    steps.reserve_exact(1)?;
-    steps.push(Step::Maker(maker))?;
-    Ok(Node {
-        source,
-        params,
-        steps: Seq::from_vec(steps),
-    })
+    let mut further = node;
+    further.steps.push(Step::Maker(maker))?;
+    Ok(further)
 }

@@ -13,7 +13,8 @@ use crate::fault::NodeFault;
 use crate::picks::picked_type;
 use crate::types::type_along;
 use object_values::{
-    Bytes, Copied, ExprStep, Expression, Memory, Node, ParamValue, Seq, Step, when_done,
+    Bytes, Copied, ExprStep, Expression, Memory, Node, ParamValue, Seq, ShortSeq, Step, Text,
+    when_done,
 };
 use path_planner::Plans;
 use std::alloc::Global;
@@ -91,7 +92,7 @@ impl Reached {
         ensures typed { IsTyped graph.now result }
     {
         let at = graph.source_type(source.as_slice());
-        let steps = Seq::new(alloc);
+        let steps = ShortSeq::new(alloc);
         Reached {
             node: Node {
                 source,
@@ -227,14 +228,15 @@ impl Reached {
         let Some(at) = picked_type(graph, self.at, key.as_slice()) else {
             return Err(NodeFault::NoPath(number));
         };
-        self.node.steps.push(Step::Pick(key.copy(alloc)?))?;
+        let key = Text::of(key.copy(alloc)?)?;
+        self.node.steps.push(Step::Pick(key))?;
         self.at = at;
         Ok(())
     }
 }
 
 /// Puts the makers of a path behind steps.
-pub(crate) fn put_makers(path: &[u32], steps: &mut Seq<Step>) -> Result<(), Memory>
+pub(crate) fn put_makers(path: &[u32], steps: &mut ShortSeq<Step>) -> Result<(), Memory>
     ensures { OnOk result (steps.new ≡ steps.old ++ map Step.Maker path.now) }
 {
     for maker in path {

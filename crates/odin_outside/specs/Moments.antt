@@ -1,5 +1,5 @@
 -- What crashes leave over calls on a disk, one call behind another.
-use Rattle.std.specs.Prelude.{◌≡◌, ◌⊎◌, ℕ, ◌≤◌, List, Result, Ok, Err, IsTrue, OnOk}
+use Rattle.std.specs.Prelude.{◌≡◌, ◌⊎◌, ℕ, List, Result, Ok, Err, IsTrue, OnOk}
 use Rattle.std.proofs.Common.{inl, inr, sym, ◌∙◌, subst, arith}
 use Rattle.odin_outside.specs.Disk.{Pending, Telling, MayLeave, IsCrashImage, synced_at, wrote, same_pending, Torn, Goes, LeavesOnly, IsQuiet}
 use Rattle.odin_outside.specs.Steps.{torn_step, torn_same, synced_only}

@@ -1,5 +1,5 @@
 // The input, cut into commands as its bytes come.
-ghost use Rattle.std.specs.Prelude.{◌≡◌, ◌≤◌, ◌<◌, ◌∷◌, [], None, Some, length, OnOk, IfOk};
+ghost use Rattle.std.specs.Prelude.{◌≡◌, ◌<◌, ◌∷◌, [], None, Some, length, OnOk, IfOk};
 ghost use Rattle.meaning_texts.specs.Lines.{HasNoLf};
 ghost use Rattle.meaning_run.specs.Streams.{Extends};
 ghost use Rattle.odin_shell.specs.Language.{commands};

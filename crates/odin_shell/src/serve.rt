@@ -1,5 +1,5 @@
 // One command: its change, and its reply.
-ghost use Rattle.std.specs.Prelude.{◌≡◌, IfOk, OnOk, IfErr};
+ghost use Rattle.std.specs.Prelude.{IfOk, OnOk, IfErr};
 ghost use Rattle.meaning_answers.specs.Answers as answers;
 ghost use Rattle.meaning_run.specs.Objects.{SinkTold};
 ghost use Rattle.odin_journal.specs.Faults.{IsCause};

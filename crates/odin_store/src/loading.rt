@@ -1,5 +1,5 @@
 // The loading of a store's records, one after another.
-ghost use Rattle.std.specs.Prelude.{◌≡◌, ◌-◌, ◌∷◌, List, ℕ, IfOk, IfErr, IfSome, IfNone, IsTrue, IsFalse, Some};
+ghost use Rattle.std.specs.Prelude.{◌≡◌, ◌-◌, ◌∷◌, IfOk, IfErr, IfSome, IfNone, IsTrue, IsFalse, Some};
 ghost use Rattle.meaning_records.specs.States.{nothing, Reads, ReadsAll};
 ghost use Rattle.odin_store.specs.Loading.{state_of, TakesItem, TakesNone, ReadsNot, records_size, IsLoadFault};
 

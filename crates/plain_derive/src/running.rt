@@ -1,5 +1,5 @@
 // Wanted calls, run one after another.
-ghost use Rattle.std.specs.Prelude.{◌≡◌, ◌≢◌, [], Err, None, OnOk, IfOk, IfErr};
+ghost use Rattle.std.specs.Prelude.{◌≡◌, [], None, OnOk, IfOk, IfErr};
 ghost use Rattle.odin_outside.specs.declared.events.ToolEvent.TheVariants.{Ended};
 ghost use Rattle.plain_derive.specs.Logs.{closed, IsCut};
 ghost use Rattle.plain_derive.specs.Made.{IsOutcomeOf};

@@ -40,7 +40,9 @@ fn is_node(node: &Node) -> bool {
         _ => false,
     };
     let steps = match node.steps.as_slice() {
-        [Step::Maker(maker), Step::Pick(key)] => *maker == 7 && is_bytes(key, b"k"),
+        [Step::Maker(maker), Step::Pick(key)] => {
+            *maker == 7 && key.as_slice() == b"k".as_slice()
+        }
         _ => false,
     };
     is_bytes(&node.source, b"m") && params && steps

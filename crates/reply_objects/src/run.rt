@@ -1,5 +1,5 @@
 // A run of the program: what it reads, and what it writes.
-ghost use Rattle.std.specs.Prelude.{◌≡◌, ◌≤◌, IfOk, IsOk, OnOk};
+ghost use Rattle.std.specs.Prelude.{◌≡◌, ◌≤◌, IfOk, IsOk};
 ghost use Rattle.meaning_commands.specs.Formed.{IsFormedBody, IsFormed};
 ghost use Rattle.reply_objects.specs.declared.files.Files.TheVariants.{Nothing};
 ghost use Rattle.reply_objects.specs.Faults as faults;

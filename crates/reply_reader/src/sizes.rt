@@ -1,5 +1,5 @@
 // Numbers on lines, and bodies of a known size.
-ghost use Rattle.std.specs.Prelude.{◌≡◌, ℕ, List, ◌++◌, ◌∷◌, [], ◌≢◌, length, decimal, IfSome, IfNone};
+ghost use Rattle.std.specs.Prelude.{◌≡◌, ℕ, List, ◌++◌, ◌≢◌, length, decimal, IfSome, IfNone};
 ghost use Rattle.meaning_texts.specs.Lines.{with_lf};
 ghost use Rattle.meaning_commands.specs.Formed.{IsSmall};
 ghost use Rattle.reply_reader.specs.Reading.{Reads};

@@ -1,6 +1,5 @@
 // Classes of bytes, of which runs are taken, and of words.
-ghost use Rattle.std.specs.Prelude.{◌≡◌, length};
-ghost use Rattle.meaning_texts.specs.Classes.{is_letter};
+ghost use Rattle.std.specs.Prelude.{◌≡◌};
 ghost use Rattle.request_parser.specs.Runs.{has, class_of, begins};
 
 use odin_bytes::{is_key_byte, is_name_byte, is_value_byte};

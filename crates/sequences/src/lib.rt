@@ -7,6 +7,7 @@ mod done;
 mod exact;
 mod memory;
 mod seq;
+mod short_seq;
 
 pub use bytes::Bytes;
 pub use copied::{Copied, copy_five, copy_two};
@@ -14,3 +15,4 @@ pub use done::when_done;
 pub use exact::{Exact, same};
 pub use memory::Memory;
 pub use seq::Seq;
+pub use short_seq::ShortSeq;

@@ -1,5 +1,5 @@
 // A list that grows at its end.
-ghost use Rattle.std.specs.Prelude.{◌≡◌, ◌↔◌, ◌+◌, ◌≤◌, ◌∷◌, ◌++◌, [], ℕ, List, length, take, IsTrue, OnOk, OnErr};
+ghost use Rattle.std.specs.Prelude.{◌≡◌, ◌↔◌, ◌+◌, ◌∷◌, ◌++◌, [], List, length, take, IsTrue, OnOk, OnErr};
 
 use crate::copied::Copied;
 use crate::memory::Memory;

@@ -1,5 +1,4 @@
 // Calls and outcomes by the numbers of their contents.
-ghost use Rattle.std.specs.Prelude.{◌≡◌};
 
 use crate::recorded::Recorded;
 use meaning_records::items::{StoredCall, StoredOutcome, StoredOutput, StoredPart};

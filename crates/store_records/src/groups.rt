@@ -1,9 +1,10 @@
 // Things one behind the other, lists and options.
 ghost use Rattle.std.specs.Prelude.{◌≡◌, ◌++◌, OnOk};
 ghost use Rattle.std.specs.List.{All, flat_map};
+ghost use Rattle.meaning_records.specs.Forms.{list_of};
 
 use crate::recorded::Recorded;
-use object_values::{Bytes, Memory, Seq};
+use object_values::{Bytes, Copied, Memory, Seq, ShortSeq};
 use odin_bytes::{put_u8, put_u32, take_u8, take_u32};
 use std::alloc::Global;
 
@@ -38,11 +39,7 @@ impl<T: Recorded> Recorded for Seq<T> {
     ghost form = { list_of T.form };
 
     fn put(&self, out: &mut Bytes) -> Result<(), Memory> {
-        if self.len() > u32::MAX as usize {
-            return Err(Memory);
-        }
-        put_u32(out, self.len() as u32)?;
-        put_members(self.as_slice(), out)
+        put_list(self.as_slice(), out)
     }
 
     fn take(alloc: Global, from: &[u8], at: usize) -> Result<Option<(Self, usize)>, Memory> {
@@ -59,6 +56,26 @@ impl<T: Recorded> Recorded for Seq<T> {
             place = end;
         }
         Ok(Some((members, place)))
+    }
+
+    ghost one = { one_list T.form T.one };
+}
+
+impl<T: Recorded + Copied + Default> Recorded for ShortSeq<T> {
+    ghost use Rattle.meaning_records.specs.Forms.{list_of};
+    ghost use Rattle.meaning_records.specs.FormLemmas.{one_list};
+
+    ghost form = { list_of T.form };
+
+    fn put(&self, out: &mut Bytes) -> Result<(), Memory> {
+        put_list(self.as_slice(), out)
+    }
+
+    fn take(alloc: Global, from: &[u8], at: usize) -> Result<Option<(Self, usize)>, Memory> {
+        let Some((members, end)) = Seq::<T>::take(alloc, from, at)? else {
+            return Ok(None);
+        };
+        Ok(Some((ShortSeq::of(alloc, members.as_slice())?, end)))
     }
 
     ghost one = { one_list T.form T.one };
@@ -97,6 +114,18 @@ impl<T: Recorded> Recorded for Option<T> {
     }
 
     ghost one = { one_option T.form T.one };
+}
+
+// Adds the number of things, and their records.
+fn put_list<T: Recorded>(members: &[T], out: &mut Bytes) -> Result<(), Memory>
+    ensures ok { OnOk result (out.new ≡ out.old ++ (list_of T.form).spell members.now) }
+    ensures fits { OnOk result ((list_of T.form).fits members.now) }
+{
+    if members.len() > u32::MAX as usize {
+        return Err(Memory);
+    }
+    put_u32(out, members.len() as u32)?;
+    put_members(members, out)
 }
 
 /// Adds the records of things, one behind the other.

@@ -1,5 +1,4 @@
 // The items of batches.
-ghost use Rattle.std.specs.Prelude.{◌≡◌};
 
 use crate::contents::{put_content, take_content};
 use crate::recorded::Recorded;

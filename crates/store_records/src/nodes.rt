@@ -1,5 +1,4 @@
 // Nodes and values.
-ghost use Rattle.std.specs.Prelude.{◌≡◌};
 
 use crate::recorded::Recorded;
 use object_values::{Bytes, Memory, Node, ParamValue, Part, Seq, Step, Text, Value};
@@ -59,7 +58,7 @@ impl Recorded for Step {
                 Ok(Some((Step::Maker(maker), end)))
             }
             2 => {
-                let Some((key, end)) = Bytes::take(alloc, from, start)? else {
+                let Some((key, end)) = Text::take(alloc, from, start)? else {
                     return Ok(None);
                 };
                 Ok(Some((Step::Pick(key), end)))

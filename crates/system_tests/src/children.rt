@@ -1,5 +1,5 @@
 // Child programs, by scripts of `sh`.
-ghost use Rattle.std.specs.Prelude.{◌≡◌, ◌<◌, length, OnOk};
+ghost use Rattle.std.specs.Prelude.{◌<◌};
 
 use object_values::{Bytes, FileBody, Job, Memory, Seq, Text};
 use odin_children::ChildTools;

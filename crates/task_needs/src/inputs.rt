@@ -1,7 +1,6 @@
 // The inputs of a call.
-ghost use Rattle.std.specs.Prelude.{◌≡◌, ◌<◌, ◌+◌, ◌++◌, ◌∷◌, [], flat_map, length, map, option_to_list, IfOk, OnOk};
+ghost use Rattle.std.specs.Prelude.{◌≡◌, ◌<◌, ◌+◌, ◌++◌, [], flat_map, length, map, option_to_list, IfOk, OnOk};
 ghost use Rattle.meaning_texts.specs.Limits.{extra_bound};
-ghost use Rattle.meaning_nodes.specs.Labels.{label_of as label_of_node};
 ghost use Rattle.meaning_tasks.specs.Needs.{values_of};
 ghost use Rattle.meaning_tasks.specs.Calls.{compound_part, extra_parts, node_parts, reached_part, simple_part, text_in};
 

@@ -4,7 +4,7 @@ ghost use Rattle.meaning_nodes.specs.Nodes.{source_node};
 ghost use Rattle.meaning_tasks.specs.Needs.{values_of, has_value};
 
 use crate::results::{Results, value_of};
-use object_values::{Bytes, Memory, Node, Seq};
+use object_values::{Bytes, Memory, Node, Seq, ShortSeq};
 use std::alloc::Global;
 
 /// The source node of a name, without parameters.
@@ -14,7 +14,7 @@ pub fn source_node(alloc: Global, name: &[u8]) -> Result<Node, Memory>
     Ok(Node {
         source: Bytes::from_slice(alloc, name)?,
         params: Seq::new(alloc),
-        steps: Seq::new(alloc),
+        steps: ShortSeq::new(alloc),
     })
 }
 

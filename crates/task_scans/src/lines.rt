@@ -1,5 +1,5 @@
 // The names in the objects of scan nodes.
-ghost use Rattle.std.specs.Prelude.{◌≡◌, [], IfOk, true};
+ghost use Rattle.std.specs.Prelude.{◌≡◌, IfOk, true};
 ghost use Rattle.object_values.specs.declared.graph.MakerDecl.{MakerDecl as MakerValue};
 ghost use Rattle.meaning_nodes.specs.Nodes.{base_of};
 ghost use Rattle.meaning_tasks.specs.Tasks.{scan_node, tool_task, tooled};

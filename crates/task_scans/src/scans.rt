@@ -5,7 +5,7 @@ ghost use Rattle.meaning_tasks.specs.Tasks.{scan_node, tool_task};
 ghost use Rattle.meaning_tasks.specs.Needs.{scan_needs, values_of};
 ghost use Rattle.path_planner.specs.Ends.{plans_of};
 
-use object_values::{Bytes, Copied, Memory, Node, Seq, ToolDecl};
+use object_values::{Bytes, Copied, Memory, Node, Seq, ShortSeq, ToolDecl};
 use odin_bytes::Name;
 use odin_nodes::onward_from;
 use path_planner::Plans;
@@ -78,7 +78,7 @@ pub(crate) fn scan_node(
     let named = Node {
         source: Bytes::from_slice(alloc, name)?,
         params: node.params.copy(alloc)?,
-        steps: Seq::new(alloc),
+        steps: ShortSeq::new(alloc),
     };
     onward_from(alloc, graph, plans, named, of.as_slice())
 }

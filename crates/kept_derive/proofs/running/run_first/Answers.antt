@@ -4,7 +4,7 @@ use Rattle.std.proofs.lemmas.Result.{err_from_is_err_and}
 use Rattle.meaning_texts.specs.Lists.{IsIn}
 use Rattle.plain_derive.proofs.Lemmas.{first_in}
 use Rattle.kept_derive.proofs.LoopLemmas.{waits}
-use Rattle.kept_derive.proofs.LookLemmas.{takes_one, same_kept, kept_unless, kept_at, call_kept, stop_keeps}
+use Rattle.kept_derive.proofs.LookLemmas.{takes_one, same_kept, kept_at, call_kept, stop_keeps}
 use Rattle.kept_derive.proofs.WayLemmas.{way_stops_at, goes_on, stopped, wanting_after, still_keepable}
 use Rattle.kept_derive.proofs.running.run_first.Goals as goal
 

@@ -1,4 +1,4 @@
-use Rattle.std.proofs.Common.{◌≡◌, ◌-◌, length, ap, ◌∙◌, refl, arith, rules}
+use Rattle.std.proofs.Common.{◌-◌, ap, ◌∙◌, refl, arith, rules}
 use Rattle.std.specs.Prelude.{Err}
 use Rattle.std.proofs.lemmas.Result.{err_from_is_err_and}
 use Rattle.kept_derive.proofs.LookLemmas.{none_left, same_kept, kept_then, kept_unless_then, kept_at}

@@ -13,5 +13,5 @@ returns-in_default-clause-err c =
 pub returns-clause-ok : goal.returns-clause-ok
 returns-clause-ok c =
     made_by_pick c.args.graph.now c.args.self.now.node c.args.self.now.at c.requires.typed c.args.number c.args.key.now c.push.new.self c.in-Some.at
-    (c.in_ok-push.ensures.ok ∙ ap (λ (k : Text). c.args.self.now.node.steps ++ Pick k ∷ []) c.in_ok-copy.ensures)
+    (c.in_ok-push.ensures.ok ∙ ap (λ (k : Text). c.args.self.now.node.steps ++ Pick k ∷ []) (c.in_ok-key.ensures ∙ c.in_ok-copy.ensures))
     (sym c.in-Some.is ∙ c.picked_type.ensures ∙ ap (λ (k : Text). picked_type c.args.graph.now k (kind_of c.args.graph.now c.args.self.now.at)) c.as_slice.ensures)

@@ -1,5 +1,4 @@
 use Rattle.std.proofs.Common.{subst, List}
-use Rattle.std.specs.Prelude.{OnOk}
 use Rattle.object_values.specs.declared.nodes.Node.{Node}
 use Rattle.meaning_tasks.specs.Needs.{values_of, with_elements}
 use Rattle.std.proofs.Common.{flat_map}

@@ -1,4 +1,4 @@
-use Rattle.std.proofs.Common.{List, take, arith, subst}
+use Rattle.std.proofs.Common.{List, arith, subst}
 use Rattle.std.proofs.lemmas.List.{take_all}
 use Rattle.object_values.specs.declared.nodes.Node.{Node}
 use Rattle.task_needs.specs.TakingOver.{TakesOver}

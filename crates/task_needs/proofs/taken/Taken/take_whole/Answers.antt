@@ -1,4 +1,4 @@
-use Rattle.std.proofs.Common.{List, take, flat_map, arith, subst}
+use Rattle.std.proofs.Common.{List, flat_map, arith, subst}
 use Rattle.std.proofs.lemmas.List.{take_all}
 use Rattle.object_values.specs.declared.nodes.Node.{Node}
 use Rattle.meaning_tasks.specs.Needs.{values_of, with_elements}

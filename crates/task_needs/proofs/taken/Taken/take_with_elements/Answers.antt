@@ -1,6 +1,3 @@
-use Rattle.std.proofs.Common.{subst, List}
-use Rattle.std.specs.Prelude.{OnOk}
-use Rattle.object_values.specs.declared.nodes.Node.{Node}
 use Rattle.task_needs.proofs.TakenLemmas.{takes_one}
 use Rattle.task_needs.proofs.OkLemmas.{takes_then}
 use Rattle.task_needs.proofs.taken.Taken.take_with_elements.Goals as goal
