@@ -50,12 +50,12 @@ session() {
     { project "$units"; ask; if [ "$units" = 2000 ]; then edit 2; edit 1; fi; "$@"; echo kept; } > "$work/$units.$name"
 }
 session 2000 none true
-session 2000 asks asks 20
-session 2000 back edits 20
+session 2000 asks asks 60
+session 2000 back edits 60
 session 200 none true
-session 200 asks asks 200
+session 200 asks asks 600
 session 10000 none true
-session 10000 asks asks 4
+session 10000 asks asks 12
 
 for _ in $(seq "$rounds"); do
     for name in 2000.none 2000.asks 2000.back 200.none 200.asks 10000.none 10000.asks; do
@@ -74,6 +74,6 @@ tell() {
     awk -v what="$1" -v a="$2" -v other="$3" -v b="$4" -v unit="$measure" -v factor="$5" \
         'BEGIN { printf "%s %.6g %s, %s %.6g, ratio %.2f\n", what, a, unit, other, b, a / (factor * b) }'
 }
-tell 'back to a header over 2,000 units' "$(cost 2000.back 20)" 'the ask alone' "$(cost 2000.asks 20)" 1
-tell 'an ask over 10,000 units' "$(cost 10000.asks 4)" 'over 200 units' "$(cost 200.asks 200)" 50
+tell 'back to a header over 2,000 units' "$(cost 2000.back 60)" 'the ask alone' "$(cost 2000.asks 60)" 1
+tell 'an ask over 10,000 units' "$(cost 10000.asks 12)" 'over 200 units' "$(cost 200.asks 600)" 50
 echo "the same session of 2,000 units with nothing kept: $(least "$work/2000.none.costs") $measure; $(tail -1 "$work/2000.none.replies")"
