@@ -5,5 +5,5 @@ mod contents;
 mod keying;
 pub mod laws;
 
-pub use contents::Contents;
+pub use contents::{Contents, text_hash};
 pub use keying::{Keying, OneKey, ShaKeys};

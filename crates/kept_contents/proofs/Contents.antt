@@ -1,5 +1,5 @@
 -- Contents that are texts held under their numbers.
-use Rattle.std.proofs.Common.{◌≡◌, ℕ, zero, suc, List, [], ◌∷◌, ◌++◌, length, map, ap, sym, ◌∙◌, subst, refl}
+use Rattle.std.proofs.Common.{◌≡◌, ℕ, zero, suc, List, [], ◌∷◌, ◌++◌, length, map, append-nil, append_assoc, ap, sym, ◌∙◌, subst, refl}
 use Rattle.std.specs.Prelude.{Some, None, All, slice_get}
 use Rattle.std.proofs.lemmas.List.{map-append}
 use Rattle.std.proofs.lemmas.List.Elements.{All-push, All-weaker}
@@ -13,7 +13,7 @@ use Rattle.meaning_records.specs.Tables.{IsText}
 use Rattle.kept_contents.specs.declared.shared.Shared.{Shared}
 use Rattle.kept_contents.specs.declared.shared.Content.{Content}
 use Rattle.kept_contents.specs.declared.shared.Content.TheVariants.{Text, Other}
-use Rattle.kept_contents.specs.Stocks.{IsHeldIn, IsOther, value_of, values_of}
+use Rattle.kept_contents.specs.Stocks.{IsGrownFrom, IsHeldIn, IsOther, value_of, values_of}
 use Rattle.kept_contents.proofs.Items.{in_list, mapped}
 
 pub at_place : {A : Type 0} (P : A → Type 0) (xs : List A) (x : A) (i : ℕ) → All P xs → slice_get xs i ≡ Some x → P x
@@ -48,6 +48,12 @@ pub behind_no_text : (items : List Content) (number : ℕ) → slice_get items n
 behind_no_text items number h text is = none-some (Simple text) (sym (unmapped value_of items number h) ∙ is)
 
 -- ---- texts more
+
+pub grown_not : (texts : Bodies) → IsGrownFrom texts texts
+grown_not texts = ([], sym (append-nil texts))
+
+pub grown_twice : (a b d : Bodies) → IsGrownFrom a b → IsGrownFrom b d → IsGrownFrom a d
+grown_twice a b d p q = (p.0 ++ q.0, q.1 ∙ ap (λ (t : Bodies). t ++ q.0) p.1 ∙ append_assoc a p.0 q.0)
 
 stays : (texts later : Bodies) (c : Content) → IsHeldIn texts c → IsHeldIn (texts ++ later) c
 stays texts later (Text s) h = place_kept s.text texts later s.id h

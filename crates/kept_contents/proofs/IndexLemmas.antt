@@ -1,6 +1,10 @@
 -- What is found of lists and compounds by their hashes, and contents with one more.
-use Rattle.std.proofs.Common.{◌≡◌, ◌≢◌, ℕ, Bool, true, false, cond, List, [], ◌∷◌, ◌++◌, inl, inr, length, ap, sym, ◌∙◌, subst, refl, true≢false, arith}
+use Rattle.std.proofs.Common.{◌≡◌, ◌≢◌, ℕ, Bool, true, false, cond, List, [], ◌∷◌, ◌++◌, inl, inr, length, append-nil, ap, sym, ◌∙◌, subst, refl, true≢false, arith}
 use Rattle.std.specs.Prelude.{◌↔◌, IsTrue, OnErr, Result, Ok, Err, Option, Some, None, is_some, All, Contains, IfSome, IfNone, nat_eq, slice_get}
+use Rattle.std.specs.Hash.{HashWrites}
+use Rattle.std.specs.List.{flat_map, fold}
+use Rattle.std.proofs.lemmas.Grind.{flat_map-append}
+use Rattle.std.proofs.lemmas.List.Sums.{fold-append}
 use Rattle.std.proofs.lemmas.Option.{none-some, same_Some}
 use Rattle.std.proofs.lemmas.Bool.Decides.{Decides-eqb}
 use Rattle.std.proofs.lemmas.List.Elements.{All-contains, All-push, All-weaker, Contains-append_left, Contains-push}
@@ -142,3 +146,14 @@ module _ (contents : List Value) (first : ℕ → Option ℕ) (clashing : List �
         first_right = λ hash n e. grown contents value n (is.first_right hash n e);
         clashing_right = All-push (IsNumber (contents ++ value ∷ [])) clashing (length contents) (All-weaker (IsNumber contents) (IsNumber (contents ++ value ∷ [])) (grown contents value) clashing is.clashing_right) (value, number_behind value contents fresh);
       }
+
+-- what a hasher was fed from its beginning
+pub fed_from : {S : Type 0} (write : S → List ℕ → S) (initial start end : S) (fed : HashWrites) → start ≡ initial → end ≡ fold write start fed → end ≡ fold write initial fed
+fed_from write initial start end fed begins ends = ends ∙ ap (λ s. fold write s fed) begins
+
+pub fed_more : {S A : Type 0} (write : S → List ℕ → S) (initial start end : S) (fed : A → HashWrites) (xs next : List A) (x : A) → start ≡ fold write initial (flat_map fed xs) → end ≡ fold write start (fed x) → next ≡ xs ++ x ∷ [] → end ≡ fold write initial (flat_map fed next)
+fed_more write initial start end fed xs next x begins ends more =
+    ends
+    ∙ ap (λ s. fold write s (fed x)) begins
+    ∙ sym (fold-append write initial (flat_map fed xs) (fed x))
+    ∙ ap (fold write initial) (ap (λ l. flat_map fed xs ++ l) (sym (append-nil (fed x))) ∙ sym (flat_map-append fed xs (x ∷ [])) ∙ ap (flat_map fed) (sym more))

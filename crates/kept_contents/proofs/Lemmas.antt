@@ -4,8 +4,9 @@ pub use Rattle.kept_contents.proofs.Batched.{adds_append, added_once, added_from
 -- What numbers stand for is one thing.
 pub use Rattle.kept_contents.proofs.Resolved.{one_text, one_call, one_outcome}
 pub use Rattle.kept_contents.proofs.Numbers.{next_number}
--- Numbers of the inputs of calls.
-pub use Rattle.kept_contents.proofs.HeldCalls.{ids_grown, one_ids}
+-- Heads and keys of calls.
+pub use Rattle.kept_contents.proofs.HeadLemmas.{heads_not}
+pub use Rattle.kept_contents.proofs.KeyLemmas.{key_grown, one_call_of, one_key}
 -- Items of lists by their places.
 pub use Rattle.kept_contents.proofs.Items.{mapped}
 pub use Rattle.kept_contents.proofs.Contents.{unmapped}

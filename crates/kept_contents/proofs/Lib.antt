@@ -1,8 +1,9 @@
 mod Batched
 mod Contents
-mod HeldCalls
+mod HeadLemmas
 mod IndexLemmas
 mod Items
+mod KeyLemmas
 mod Numbers
 mod Resolved
 pub mod Lemmas

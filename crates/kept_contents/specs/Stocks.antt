@@ -1,5 +1,5 @@
 -- The contents of a journal in memory.
-use Rattle.std.specs.Prelude.{◌≡◌, ⊤, ℕ, List, Option, Some, length, map, slice_get}
+use Rattle.std.specs.Prelude.{◌≡◌, ⊤, ℕ, List, ◌++◌, Option, Some, length, map, slice_get}
 use Rattle.object_values.specs.declared.views.Value.{Value}
 use Rattle.object_values.specs.declared.views.Value.TheVariants.{Simple, List as Listed, Compound}
 use Rattle.content_store.specs.Bodies.{Bodies, place_of}
@@ -13,6 +13,10 @@ pub record Stock : Type 0 where
   pub contents : List Value
   pub texts : Bodies
   pub room : ℕ
+
+-- texts came behind the others
+abbrev pub IsGrownFrom : Bodies → Bodies → Type 0
+IsGrownFrom old new = (later : Bodies) × (new ≡ old ++ later)
 
 -- a list or a compound
 abbrev pub IsOther : Value → Type 0

@@ -1,104 +1,83 @@
-// Calls by the numbers that their texts have in memory.
+// Calls that are held, with what tells them apart.
 ghost use Rattle.std.specs.Prelude.{◌≡◌, IfOk};
-ghost use Rattle.std.specs.List.{flat_map, fold};
-ghost use Rattle.kept_contents.specs.Held.{AreIdsOf, IsGrownFrom, IsHeld, IsIdOf, call_fed, label_fed};
+ghost use Rattle.kept_contents.specs.Borrowed.{key_of};
+ghost use Rattle.kept_contents.specs.Heads.{AreMore, head_of};
+ghost use Rattle.kept_contents.specs.Held.{IsHeld};
+ghost use Rattle.kept_contents.specs.Inputs.{hash_of_parts};
 
-use crate::table::ContentTable;
-use object_values::{Call, CallPart, Copied, Memory, Seq, Text};
+use crate::head::CallHead;
+use crate::heads::Heads;
+use crate::keys::{CallKey, hash_parts};
+use object_values::{Call, Memory};
 use std::alloc::Global;
-use std::hash::{Hash, Hasher};
 
-/// A call with the numbers that the texts of its inputs have in memory, `None` for an input that is absent. It is hashed by these numbers, and not by its texts.
-#[derive(PartialEq, Eq)]
+/// A call with the number of its head and a hash of its inputs.
 pub struct HeldCall {
-    pub ids: Seq<Option<u64>>,
+    pub head: u64,
+    pub hash: u64,
     pub call: Call,
 }
 
 impl Drop for HeldCall {
     fn drop(self) {
-        let HeldCall { ids, call } = self;
-        drop(ids);
+        let HeldCall {
+            head: _,
+            hash: _,
+            call,
+        } = self;
         drop(call);
     }
 }
 
-impl Hash for HeldCall {
-    ghost use Rattle.std.specs.Hash.{same_Alike};
-    ghost use Rattle.kept_contents.specs.Held.{fed_of, held_exact};
-
-    ghost hash_input = { fed_of };
-
-    ghost respects_eq = { (same_Alike fed_of held_exact).fed };
-
-    fn hash<H: Hasher>(&self, state: &mut H) {
-        feed_call(self.ids.as_slice(), &self.call, state);
+impl HeldCall {
+    /// A call whose head is held from now on.
+    pub fn hold(alloc: Global, heads: &mut Heads, call: Call) -> Result<Self, Memory>
+        ensures held { IfOk result (IsHeld heads.new) }
+        ensures call { IfOk result (λ held. held.call ≡ call) }
+        ensures more { AreMore heads.old heads.new }
+    {
+        let hash = hash_parts(call.parts.as_slice());
+        HeldCall::hashed(alloc, heads, hash, call)
     }
-}
 
-// Feeds the numbers of a call, and all of it but its texts.
-pub(crate) fn feed_call<H: Hasher>(ids: &[Option<u64>], call: &Call, state: &mut H)
-    ensures { state.new ≡ fold H.write state.old (call_fed ids.now call.now) }
-{
-    ids.hash(state);
-    call.tool.hash(state);
-    call.version.hash(state);
-    call.words.hash(state);
-    call.params.hash(state);
-    call.outs.hash(state);
-    hash_labels(call.parts.as_slice(), state);
-}
-
-// Feeds the slots and the labels of inputs.
-fn hash_labels<H: Hasher>(parts: &[CallPart], state: &mut H)
-    ensures { state.new ≡ fold H.write state.old (flat_map label_fed parts.now) }
-{
-    for part in parts {
-        part.slot.hash(state);
-        part.label.hash(state);
+    /// The same where the hash of the inputs is known.
+    pub(crate) fn hashed(
+        alloc: Global,
+        heads: &mut Heads,
+        hash: u64,
+        call: Call,
+    ) -> Result<Self, Memory>
+        requires { hash ≡ hash_of_parts call.parts }
+        ensures held { IfOk result (IsHeld heads.new) }
+        ensures call { IfOk result (λ held. held.call ≡ call) }
+        ensures more { AreMore heads.old heads.new }
+    {
+        let head = heads.hold(alloc, &call)?;
+        Ok(HeldCall { head, hash, call })
     }
-}
 
-/// A call whose inputs' texts are held from now on.
-pub fn hold_call(alloc: Global, table: &mut ContentTable, call: &Call) -> Result<HeldCall, Memory>
-    ensures held { IfOk result (IsHeld table.new.texts) }
-    ensures call { IfOk result (λ held. held.call ≡ call.now) }
-    ensures contents { table.new.contents ≡ table.old.contents }
-    ensures texts { IsGrownFrom table.old.texts table.new.texts }
-{
-    let ids = hold_ids(alloc, table, call.parts.as_slice())?;
-    let call = call.copy(alloc)?;
-    Ok(HeldCall { ids, call })
-}
-
-fn hold_ids(
-    alloc: Global,
-    table: &mut ContentTable,
-    parts: &[CallPart],
-) -> Result<Seq<Option<u64>>, Memory>
-    ensures ids { IfOk result (λ ids. AreIdsOf table.new.texts ids parts.now) }
-    ensures contents { table.new.contents ≡ table.old.contents }
-    ensures texts { IsGrownFrom table.old.texts table.new.texts }
-{
-    let mut ids = Seq::new(alloc);
-    for part in parts {
-        let id = hold_id(alloc, table, &part.body)?;
-        ids.push(id)?;
-    }
-    Ok(ids)
-}
-
-fn hold_id(
-    alloc: Global,
-    table: &mut ContentTable,
-    body: &Option<Text>,
-) -> Result<Option<u64>, Memory>
-    ensures id { IfOk result (λ id. IsIdOf table.new.texts id body.now) }
-    ensures contents { table.new.contents ≡ table.old.contents }
-    ensures texts { IsGrownFrom table.old.texts table.new.texts }
-{
-    match body {
-        Some(text) => Ok(Some(table.hold(alloc, text)?)),
-        None => Ok(None),
+    /// The key and the head, without memory.
+    pub fn into_parts(self) -> (CallKey, CallHead)
+        ensures key { result.0 ≡ key_of self }
+        ensures head { result.1 ≡ head_of self.call }
+    {
+        let HeldCall { head, hash, call } = self;
+        let Call {
+            tool,
+            version,
+            words,
+            params,
+            parts,
+            outs,
+        } = call;
+        let key = CallKey { head, hash, parts };
+        let head = CallHead {
+            tool,
+            version,
+            words,
+            params,
+            outs,
+        };
+        (key, head)
     }
 }

@@ -1,17 +1,22 @@
-//! The contents of a journal in memory, each text once, with the number of each value, and the ways from the numbers of a record to its texts and back.
+//! The contents of a journal in memory, each text once, with the number of each value, the ways from the numbers of a record to its texts and back, and the
+//! keys by which kept calls are found.
 #![tactic(auto)]
 
+mod head;
+mod heads;
 mod held;
 mod index;
+mod keys;
 mod numbering;
 mod resolving;
 mod shared;
-mod sought;
 mod table;
 
-pub use held::{HeldCall, hold_call};
+pub use head::CallHead;
+pub use heads::Heads;
+pub use held::HeldCall;
+pub use keys::{CallKey, SoughtKey};
 pub use numbering::{number_text, stored_call, stored_outcome};
 pub use resolving::{call_of, outcome_of};
 pub use shared::{Content, Shared};
-pub use sought::{SoughtCall, find_ids};
 pub use table::ContentTable;

@@ -4,14 +4,13 @@ ghost use Rattle.meaning_records.specs.Tables.{IsText, IsPartOf, ArePartsOf, IsC
 ghost use Rattle.kept_contents.specs.declared.shared.Shared.{Shared as SharedValue};
 ghost use Rattle.meaning_records.specs.Batches.{body_of};
 ghost use Rattle.content_store.specs.Bodies.{place_of};
-ghost use Rattle.kept_contents.specs.Held.{AreIdsOf, IsGrownFrom, IsHeld, IsIdOf};
+ghost use Rattle.kept_contents.specs.Stocks.{IsGrownFrom};
 ghost use Rattle.kept_contents.specs.Added.{AddsOne, Adds, AreHeld, contents_with, texts_of, texts_of_parts, texts_of_outputs};
 
-use crate::held::HeldCall;
 use crate::shared::Shared;
 use crate::table::ContentTable;
 use meaning_records::items::{StoredCall, StoredOutcome, StoredOutput, StoredPart};
-use object_values::{CallPart, Copied, Memory, Outcome, Part, Seq, Text, copy_five};
+use object_values::{Call, CallPart, Copied, Memory, Outcome, Part, Seq, Text, copy_five};
 use std::alloc::Global;
 
 /// The number of a text, which is added where neither the file nor the batch has it.
@@ -83,29 +82,23 @@ fn number_behind(len: usize, place: usize) -> Result<u32, Memory>
     }
 }
 
-/// A call that is held, by the numbers of its inputs.
+/// A call by the numbers of its inputs.
 pub fn stored_call(
     alloc: Global,
-    table: &ContentTable,
+    table: &mut ContentTable,
     added: &mut Seq<Shared>,
-    held: &HeldCall,
+    call: &Call,
 ) -> Result<StoredCall, Memory>
-    requires call { IsHeld table.now.texts held.now }
-    requires added { AreHeld table.now.texts added.old }
+    requires { AreHeld table.old.texts added.old }
     ensures call { IfOk result (λ stored.
-        IsCallOf (contents_with table.now.contents added.new) stored held.now.call) }
-    ensures adds { OnOk result (Adds table.now.contents (texts_of_parts held.now.call.parts)
+        IsCallOf (contents_with table.new.contents added.new) stored call.now) }
+    ensures adds { OnOk result (Adds table.old.contents (texts_of_parts call.now.parts)
         (texts_of added.old) (texts_of added.new)) }
-    ensures held { OnOk result (AreHeld table.now.texts added.new) }
+    ensures held { OnOk result (AreHeld table.new.texts added.new) }
+    ensures contents { table.new.contents ≡ table.old.contents }
+    ensures texts { IsGrownFrom table.old.texts table.new.texts }
 {
-    let call = &held.call;
-    let parts = number_parts(
-        alloc,
-        table,
-        added,
-        call.parts.as_slice(),
-        held.ids.as_slice(),
-    )?;
+    let parts = number_parts(alloc, table, added, call.parts.as_slice())?;
     let copied = copy_five(
         alloc,
         &call.tool,
@@ -153,47 +146,44 @@ pub fn stored_outcome(
 // The inputs of a call by number.
 fn number_parts(
     alloc: Global,
-    table: &ContentTable,
+    table: &mut ContentTable,
     added: &mut Seq<Shared>,
     parts: &[CallPart],
-    ids: &[Option<u64>],
 ) -> Result<Seq<StoredPart>, Memory>
-    requires ids { AreIdsOf table.now.texts ids.now parts.now }
-    requires added { AreHeld table.now.texts added.old }
+    requires { AreHeld table.old.texts added.old }
     ensures parts { IfOk result (λ stored.
-        ArePartsOf (contents_with table.now.contents added.new) stored parts.now) }
-    ensures adds { OnOk result (Adds table.now.contents (texts_of_parts parts.now)
+        ArePartsOf (contents_with table.new.contents added.new) stored parts.now) }
+    ensures adds { OnOk result (Adds table.old.contents (texts_of_parts parts.now)
         (texts_of added.old) (texts_of added.new)) }
-    ensures held { OnOk result (AreHeld table.now.texts added.new) }
+    ensures held { OnOk result (AreHeld table.new.texts added.new) }
+    ensures contents { table.new.contents ≡ table.old.contents }
+    ensures texts { IsGrownFrom table.old.texts table.new.texts }
 {
     let mut stored = Seq::new(alloc);
-    for (place, part) in parts.iter().enumerate() {
-        stored.push(number_part(alloc, table, added, part, ids[place])?)?;
+    for part in parts {
+        stored.push(number_part(alloc, table, added, part)?)?;
     }
     Ok(stored)
 }
 
 fn number_part(
     alloc: Global,
-    table: &ContentTable,
+    table: &mut ContentTable,
     added: &mut Seq<Shared>,
     part: &CallPart,
-    id: Option<u64>,
 ) -> Result<StoredPart, Memory>
-    requires id { IsIdOf table.now.texts id part.now.body }
-    requires added { AreHeld table.now.texts added.old }
+    requires { AreHeld table.old.texts added.old }
     ensures part { IfOk result (λ stored.
-        IsPartOf (contents_with table.now.contents added.new) stored part.now) }
-    ensures adds { OnOk result (Adds table.now.contents (body_of part.now.body)
+        IsPartOf (contents_with table.new.contents added.new) stored part.now) }
+    ensures adds { OnOk result (Adds table.old.contents (body_of part.now.body)
         (texts_of added.old) (texts_of added.new)) }
-    ensures held { OnOk result (AreHeld table.now.texts added.new) }
+    ensures held { OnOk result (AreHeld table.new.texts added.new) }
+    ensures contents { table.new.contents ≡ table.old.contents }
+    ensures texts { IsGrownFrom table.old.texts table.new.texts }
 {
-    let content = match (&part.body, id) {
-        (Some(text), Some(id)) => {
-            let text = text.copy(alloc)?;
-            Some(number_shared(table, added, Shared { id, text })?)
-        }
-        _ => None,
+    let content = match &part.body {
+        Some(text) => Some(number_text(alloc, table, added, text)?),
+        None => None,
     };
     Ok(StoredPart {
         slot: part.slot,

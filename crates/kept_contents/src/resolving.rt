@@ -1,34 +1,42 @@
 // From the numbers of a record to its texts.
-ghost use Rattle.std.specs.Prelude.{◌≡◌, List, IfNone, IfOk, IfSome};
+ghost use Rattle.std.specs.Prelude.{◌≡◌, ℕ, List, Option, IfNone, IfOk, IfSome, option_map};
 ghost use Rattle.object_values.specs.declared.calls.Call.{Call as CallValue};
 ghost use Rattle.object_values.specs.declared.calls.CallPart.{CallPart as PartValue};
 ghost use Rattle.object_values.specs.declared.calls.Outcome.{Outcome as OutcomeValue};
 ghost use Rattle.object_values.specs.declared.views.Part.{Part as OutputValue};
-ghost use Rattle.kept_contents.specs.Held.{AreIdsOf, IsHeld, IsIdOf};
+ghost use Rattle.content_store.specs.Index.{hash_of};
+ghost use Rattle.kept_contents.specs.Heads.{AreMore};
+ghost use Rattle.kept_contents.specs.Held.{IsHeld};
+ghost use Rattle.kept_contents.specs.Inputs.{hash_of_parts};
 ghost use Rattle.meaning_records.specs.Tables.{IsPartOf, ArePartsOf, IsCallOf, IsOutputOf, AreOutputsOf, IsOutcomeOf};
 
+use crate::heads::Heads;
 use crate::held::HeldCall;
+use crate::keys::feed_part;
 use crate::table::ContentTable;
 use meaning_records::items::{StoredCall, StoredOutcome, StoredOutput, StoredPart};
 use object_values::{Call, CallPart, Copied, Memory, Outcome, Part, Seq};
 use std::alloc::Global;
+use std::hash::{FoldHasher, Hasher};
 
-/// The call of a record, whose inputs share the texts of the table, with their numbers there. `None` where a content isn't there or is no text.
+/// The call of a record, which is held from now on; its inputs share the texts of the table. `None` where a content isn't there or is no text.
 pub fn call_of(
     alloc: Global,
     table: &ContentTable,
+    heads: &mut Heads,
     stored: StoredCall,
 ) -> Result<Option<HeldCall>, Memory>
     ensures some { IfOk result (λ found.
         IfSome found (λ held. IsCallOf table.now.contents stored held.call)) }
-    ensures held { IfOk result (λ found. IfSome found (IsHeld table.now.texts)) }
+    ensures held { IfOk result (λ found. IfSome found (IsHeld heads.new)) }
+    ensures more { AreMore heads.old heads.new }
     ensures none { IfOk result (λ found.
         IfNone found ((call : CallValue) → ¬ IsCallOf table.now.contents stored call)) }
 {
     match parts_of(alloc, table, stored.parts.as_slice())? {
-        Some((parts, ids)) => {
+        Some((parts, hash)) => {
             let call = with_parts(stored, parts);
-            Ok(Some(HeldCall { ids, call }))
+            Ok(Some(HeldCall::hashed(alloc, heads, hash, call)?))
         }
         None => Ok(None),
     }
@@ -68,24 +76,24 @@ fn parts_of(
     alloc: Global,
     table: &ContentTable,
     stored: &[StoredPart],
-) -> Result<Option<(Seq<CallPart>, Seq<Option<u64>>)>, Memory>
+) -> Result<Option<(Seq<CallPart>, u64)>, Memory>
     ensures some { IfOk result (λ found.
         IfSome found (λ p. ArePartsOf table.now.contents stored.now p.0)) }
-    ensures held { IfOk result (λ found.
-        IfSome found (λ p. AreIdsOf table.now.texts p.1 p.0)) }
+    ensures hash { IfOk result (λ found.
+        IfSome found (λ p. p.1 ≡ hash_of_parts p.0)) }
     ensures none { IfOk result (λ found. IfNone found
         ((parts : List PartValue) → ¬ ArePartsOf table.now.contents stored.now parts)) }
 {
     let mut parts = Seq::new(alloc);
-    let mut ids = Seq::new(alloc);
+    let mut state = FoldHasher::default();
     for part in stored {
-        let Some((made, id)) = part_of(alloc, table, part)? else {
+        let Some((made, text)) = part_of(alloc, table, part)? else {
             return Ok(None);
         };
+        feed_part(&made, text, &mut state);
         parts.push(made)?;
-        ids.push(id)?;
     }
-    Ok(Some((parts, ids)))
+    Ok(Some((parts, state.finish())))
 }
 
 fn part_of(
@@ -95,14 +103,14 @@ fn part_of(
 ) -> Result<Option<(CallPart, Option<u64>)>, Memory>
     ensures some { IfOk result (λ found.
         IfSome found (λ p. IsPartOf table.now.contents stored.now p.0)) }
-    ensures held { IfOk result (λ found.
-        IfSome found (λ p. IsIdOf table.now.texts p.1 p.0.body)) }
+    ensures hash { IfOk result (λ found.
+        IfSome found (λ p. p.1 ≡ option_map hash_of p.0.body)) }
     ensures none { IfOk result (λ found.
         IfNone found ((part : PartValue) → ¬ IsPartOf table.now.contents stored.now part)) }
 {
-    let (body, id) = match stored.content {
+    let (body, hash) = match stored.content {
         Some(number) => match table.shared(number) {
-            Some(shared) => (Some(shared.text.copy(alloc)?), Some(shared.id)),
+            Some(shared) => (Some(shared.text.copy(alloc)?), Some(shared.hash)),
             None => return Ok(None),
         },
         None => (None, None),
@@ -113,7 +121,7 @@ fn part_of(
         label,
         body,
     };
-    Ok(Some((part, id)))
+    Ok(Some((part, hash)))
 }
 
 /// The outcome of a record, whose outputs share the texts of the table. `None` where a content isn't there or is no text.

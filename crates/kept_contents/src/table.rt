@@ -3,14 +3,14 @@ ghost use Rattle.std.specs.Prelude.{◌≡◌, ℕ, List, ◌+◌, ◌-◌, ◌<
 ghost use Rattle.object_values.specs.declared.views.Value.TheVariants.{Simple};
 ghost use Rattle.meaning_records.specs.Tables.{IsText, IsNoText};
 ghost use Rattle.meaning_records.specs.Numbers.{number_of};
-ghost use Rattle.kept_contents.specs.Stocks.{IsOther};
-ghost use Rattle.kept_contents.specs.Held.{IsGrownFrom};
+ghost use Rattle.kept_contents.specs.Stocks.{IsGrownFrom, IsOther};
 ghost use Rattle.kept_contents.specs.Added.{AreHeld, contents_with};
 ghost use Rattle.content_store.specs.Bodies.{place_of};
+ghost use Rattle.content_store.specs.Index.{hash_of};
 
 use crate::index::OtherIndex;
 use crate::shared::{Content, Shared};
-use content_store::{Contents, ShaKeys};
+use content_store::{Contents, ShaKeys, text_hash};
 use object_values::{Copied, Memory, Text, Value};
 use std::alloc::Global;
 use std::marker::Model;
@@ -102,13 +102,6 @@ impl ContentTable {
         }
     }
 
-    /// The number in memory of a text.
-    pub fn find(&self, text: &[u8]) -> Option<u64>
-        ensures { result ≡ place_of text.now self.now.texts }
-    {
-        self.texts.find(text)
-    }
-
     /// The number of a content that is this text, which has this number in memory.
     pub fn number(&self, shared: &Shared) -> Option<u32>
         requires { place_of shared.now.text self.now.texts ≡ Some shared.now.id }
@@ -156,19 +149,21 @@ impl ContentTable {
         ensures contents { self.new.contents ≡ self.old.contents }
         ensures texts { IsGrownFrom self.old.texts self.new.texts }
     {
-        let id = self.hold(alloc, text)?;
+        let hash = text_hash(text.as_slice());
+        let id = self.hold(alloc, hash, text)?;
         let text = self.held(alloc, id)?;
-        Ok(Shared { id, text })
+        Ok(Shared { id, hash, text })
     }
 
-    /// The number in memory of a text, which is held from now on. The contents stay.
-    pub fn hold(&mut self, alloc: Global, text: &Text) -> Result<u64, Memory>
+    // The number in memory of a text with its hash, which is held from now on.
+    fn hold(&mut self, alloc: Global, hash: u64, text: &Text) -> Result<u64, Memory>
+        requires { hash ≡ hash_of text.now }
         ensures id { IfOk result (λ id. place_of text.now self.new.texts ≡ Some id) }
         ensures contents { self.new.contents ≡ self.old.contents }
         ensures texts { IsGrownFrom self.old.texts self.new.texts }
     {
         self.numbers.reserve(1)?;
-        let id = self.texts.intern(alloc, text)?;
+        let id = self.texts.intern_hashed(alloc, hash, text)?;
         if (self.numbers.as_slice().len() as u64) < self.texts.len() {
             self.numbers.push(None)?;
         }
@@ -202,9 +197,8 @@ impl ContentTable {
         ensures texts { self.new.texts ≡ self.old.texts }
         ensures room { self.old.room ≤ self.new.room + 1 }
     {
-        let Shared { id, text } = shared;
-        set_first(&mut self.numbers, id, self.contents.len() as u32);
-        push_within(&mut self.contents, Content::Text(Shared { id, text }));
+        set_first(&mut self.numbers, shared.id, self.contents.len() as u32);
+        push_within(&mut self.contents, Content::Text(shared));
     }
 
     /// Adds texts that are held as the next contents, the last of the list first. It takes no memory.

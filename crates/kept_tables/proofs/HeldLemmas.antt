@@ -1,27 +1,39 @@
--- Kept calls as they are held: what is found of a call by the numbers of its texts.
-use Rattle.std.proofs.Common.{◌≡◌, ℕ, Bool, true, false, cond, List, [], ◌∷◌, ◌++◌, ap, sym, ◌∙◌, subst, refl}
-use Rattle.std.specs.Prelude.{◌||◌, Option, Some, None, IsNone, All, is_some}
+-- Kept calls as they are held: what is found of a call by its key.
+use Rattle.std.proofs.Common.{◌≡◌, Bool, true, false, cond, List, [], ◌∷◌, ◌++◌, ap, sym, ◌∙◌, subst, refl}
+use Rattle.std.specs.Prelude.{Option, Some, None, IsNone, All, is_some, option_map}
 use Rattle.std.specs.Bool.{Decides}
-use Rattle.std.specs.List.{list_any}
-use Rattle.std.specs.Map.{lookup, keys_of}
+use Rattle.std.specs.Map.{lookup}
 use Rattle.std.proofs.lemmas.List.{map-append}
 use Rattle.std.proofs.lemmas.List.Elements.{All-head, All-map, All-push, All-tail, All-weaker}
+use Rattle.std.proofs.lemmas.Option.{none-some}
 use Rattle.indexmap.specs.IndexMap.{insert_entry}
 use Rattle.object_values.specs.Exact.{call_exact}
 use Rattle.object_values.specs.declared.calls.Call.{Call}
 use Rattle.object_values.specs.declared.calls.Outcome.{Outcome}
 use Rattle.object_values.specs.contracts.calls.CallPartialEq.TheImpl.{ghosts as call_eq}
-use Rattle.content_store.specs.Bodies.{Bodies}
 use Rattle.meaning_records.specs.Tables.{kept_outcome}
-use Rattle.kept_contents.specs.declared.held.HeldCall.{HeldCall}
-use Rattle.kept_contents.specs.contracts.held.HeldCallPartialEq.TheImpl.{ghosts as held_eq}
-use Rattle.kept_contents.specs.Held.{AreIdsOf, IsGrownFrom, IsHeld, held_exact}
-use Rattle.kept_contents.proofs.Lemmas.{ids_grown, one_ids}
+use Rattle.kept_contents.specs.declared.head.CallHead.{CallHead}
+use Rattle.kept_contents.specs.declared.keys.CallKey.{CallKey}
+use Rattle.kept_contents.specs.contracts.keys.CallKeyPartialEq.TheImpl.{ghosts as key_eq}
+use Rattle.kept_contents.specs.Heads.{AreMore, head_of, place_of_head}
+use Rattle.kept_contents.specs.Keys.{IsKeyOf, key_exact}
+use Rattle.kept_contents.proofs.Lemmas.{key_grown, one_call_of, one_key}
+use Rattle.kept_tables.specs.declared.kept.Entry.{Entry}
 use Rattle.kept_tables.specs.Holdings.{IsKept, IsKeptIn, call_in, calls_in}
 use Rattle.kept_tables.proofs.Added.{goes_last, is_none}
 
 abbrev Entries : Type 0
-Entries = List (HeldCall × Outcome)
+Entries = List (CallKey × Entry)
+
+abbrev pub outcome_in : Option Entry → Option Outcome
+outcome_in = option_map (λ (e : Entry). e.outcome)
+
+pub some_outcome : (found : Option Entry) → is_some found ≡ is_some (outcome_in found)
+some_outcome None = refl
+some_outcome (Some e) = refl
+
+pub same_pair : (a b : Call) (x y : Outcome) → a ≡ b → x ≡ y → ◌≡◌ {A = Option (Call × Outcome)} (Some (a, x)) (Some (b, y))
+same_pair a b x y call outcome = ap (λ (d : Call). Some (d, x)) call ∙ ap (λ (o : Outcome). Some (b, o)) outcome
 
 same_tests : {P Q : Type 0} (a b : Bool) → Decides a P → Decides b Q → (P → Q) → (Q → P) → a ≡ b
 same_tests true true p q to from = refl
@@ -29,55 +41,51 @@ same_tests true false p q to from = sym (q.1 (to (p.0 refl)))
 same_tests false true p q to from = p.1 (from (q.0 refl))
 same_tests false false p q to from = refl
 
-pub by_call : (x y : HeldCall) → x.ids ≡ y.ids → x.call ≡ y.call → x ≡ y
-by_call x y ids call = λ i. record { ids = ids i; call = call i }
+-- ---- heads more
 
--- ---- texts more
+pub kept_grown : (old new : List CallHead) (entries : Entries) → AreMore old new → All (IsKeptIn old) entries → All (IsKeptIn new) entries
+kept_grown old new entries more kept = All-weaker (IsKeptIn old) (IsKeptIn new) (λ e k. (key_grown old new e.0 (call_in e).0 more k.0, k.1)) entries kept
 
-pub kept_grown : (old new : Bodies) (entries : Entries) → IsGrownFrom old new → All (IsKeptIn old) entries → All (IsKeptIn new) entries
-kept_grown old new entries grown kept = All-weaker (IsKeptIn old) (IsKeptIn new) (λ e k. (ids_grown old new e.0.ids e.0.call.parts grown k.0, k.1)) entries kept
+pub all_kept : (heads : List CallHead) (entries : Entries) → All (IsKeptIn heads) entries → All IsKept (calls_in entries)
+all_kept heads entries kept = All-map IsKept call_in entries (All-weaker (IsKeptIn heads) (λ e. IsKept (call_in e)) (λ e k. k.1) entries kept)
 
-pub all_kept : (texts : Bodies) (entries : Entries) → All (IsKeptIn texts) entries → All IsKept (calls_in entries)
-all_kept texts entries kept = All-map IsKept call_in entries (All-weaker (IsKeptIn texts) (λ e. IsKept (call_in e)) (λ e k. k.1) entries kept)
-
-module _ (texts : Bodies) where
-  -- calls that are held are the same where they and the numbers of their texts are
-  held_same : (x y : HeldCall) → IsHeld texts x → IsHeld texts y → held_eq.eq x y ≡ call_eq.eq x.call y.call
-  held_same x y p q = same_tests (held_eq.eq x y) (call_eq.eq x.call y.call) (held_exact x y) (call_exact x.call y.call) (ap (λ (h : HeldCall). h.call)) (λ same. by_call x y (one_ids texts x.ids y.ids y.call.parts (subst (λ (c : Call). AreIdsOf texts x.ids c.parts) same p) q) same)
+module _ (heads : List CallHead) where
+  -- calls that are held are the same where their keys are
+  key_tells : (x y : CallKey) (a b : Call) → IsKeyOf heads x a → IsKeyOf heads y b → key_eq.eq x y ≡ call_eq.eq a b
+  key_tells x y a b p q = same_tests (key_eq.eq x y) (call_eq.eq a b) (key_exact x y) (call_exact a b) (λ same. one_call_of heads y a b (subst (λ (k : CallKey). IsKeyOf heads k a) same p) q) (λ same. one_key heads x y b (subst (λ (d : Call). IsKeyOf heads x d) same p) q)
 
   -- ---- what is found
 
-  pub looked : (entries : Entries) (held : HeldCall) → All (IsKeptIn texts) entries → IsHeld texts held → lookup (held_eq.eq held) entries ≡ kept_outcome (calls_in entries) held.call
-  looked [] held kept is = refl
-  looked (e ∷ es) held kept is =
-      ap (λ b. cond b (Some e.1) (lookup (held_eq.eq held) es)) (held_same held e.0 is (All-head (IsKeptIn texts) e es kept).0)
-      ∙ ap (λ o. cond (call_eq.eq held.call e.0.call) (Some e.1) o) (looked es held (All-tail (IsKeptIn texts) e es kept) is)
-
-  -- of a call one of whose texts isn't held
-  pub not_held : (entries : Entries) (call : Call) → All (IsKeptIn texts) entries → ((ids : List (Option ℕ)) → AreIdsOf texts ids call.parts → ⊥) → kept_outcome (calls_in entries) call ≡ None
-  not_held [] call kept none = refl
-  not_held (e ∷ es) call kept none = by_test (call_eq.eq call e.0.call) refl (not_held es call (All-tail (IsKeptIn texts) e es kept) none)
+  pub looked : (entries : Entries) (key : CallKey) (call : Call) → All (IsKeptIn heads) entries → IsKeyOf heads key call → outcome_in (lookup (key_eq.eq key) entries) ≡ kept_outcome (calls_in entries) call
+  looked [] key call kept is = refl
+  looked (e ∷ es) key call kept is = by_test (key_eq.eq key e.0) (key_tells key e.0 call (call_in e).0 is (All-head (IsKeptIn heads) e es kept).0) (looked es key call (All-tail (IsKeptIn heads) e es kept) is)
     where
-      by_test : (b : Bool) → call_eq.eq call e.0.call ≡ b → kept_outcome (calls_in es) call ≡ None → cond b (Some e.1) (kept_outcome (calls_in es) call) ≡ None
-      by_test true same rest = absurd (none e.0.ids (subst (λ (c : Call). AreIdsOf texts e.0.ids c.parts) (sym ((call_exact call e.0.call).0 same)) (All-head (IsKeptIn texts) e es kept).0))
+      by_test : (t : Bool) → t ≡ call_eq.eq call (call_in e).0 → outcome_in (lookup (key_eq.eq key) es) ≡ kept_outcome (calls_in es) call → outcome_in (cond t (Some e.1) (lookup (key_eq.eq key) es)) ≡ cond (call_eq.eq call (call_in e).0) (Some e.1.outcome) (kept_outcome (calls_in es) call)
+      by_test true same rest = ap (λ b. cond b (Some e.1.outcome) (kept_outcome (calls_in es) call)) same
+      by_test false apart rest = rest ∙ ap (λ b. cond b (Some e.1.outcome) (kept_outcome (calls_in es) call)) apart
+
+  -- of a call whose head isn't held
+  pub not_held : (entries : Entries) (call : Call) → All (IsKeptIn heads) entries → place_of_head (head_of call) heads ≡ None → kept_outcome (calls_in entries) call ≡ None
+  not_held [] call kept none = refl
+  not_held (e ∷ es) call kept none = by_test (call_eq.eq call (call_in e).0) refl (not_held es call (All-tail (IsKeptIn heads) e es kept) none)
+    where
+      by_test : (b : Bool) → call_eq.eq call (call_in e).0 ≡ b → kept_outcome (calls_in es) call ≡ None → cond b (Some e.1.outcome) (kept_outcome (calls_in es) call) ≡ None
+      by_test true same rest =
+          let is = subst (λ (d : Call). IsKeyOf heads e.0 d) (sym ((call_exact call (call_in e).0).0 same)) (All-head (IsKeptIn heads) e es kept).0 in
+          absurd (none-some e.0.head (sym none ∙ is.head))
       by_test false apart rest = rest
 
   -- ---- a call more
 
-  pub added_last : (entries : Entries) (held : HeldCall) (outcome : Outcome) → All (IsKeptIn texts) entries → IsHeld texts held → IsNone (kept_outcome (calls_in entries) held.call) → insert_entry held_eq.eq entries held outcome ≡ entries ++ (held, outcome) ∷ []
-  added_last entries held outcome kept is new = goes_last held_eq.eq entries held outcome (looked entries held kept is ∙ is_none _ new)
+  none_there : (found : Option Entry) → outcome_in found ≡ None → found ≡ None
+  none_there None none = refl
+  none_there (Some e) none = absurd (none-some e.outcome (sym none))
 
-  pub kept_push : (entries : Entries) (held : HeldCall) (outcome : Outcome) → All (IsKeptIn texts) entries → IsHeld texts held → IsKept (held.call, outcome) → All (IsKeptIn texts) (entries ++ (held, outcome) ∷ [])
-  kept_push entries held outcome kept is fits = All-push (IsKeptIn texts) entries (held, outcome) kept (is, fits)
+  pub added_last : (entries : Entries) (key : CallKey) (entry : Entry) → All (IsKeptIn heads) entries → IsKeyOf heads key (call_in (key, entry)).0 → IsNone (kept_outcome (calls_in entries) (call_in (key, entry)).0) → insert_entry key_eq.eq entries key entry ≡ entries ++ (key, entry) ∷ []
+  added_last entries key entry kept is new = goes_last key_eq.eq entries key entry (none_there (lookup (key_eq.eq key) entries) (looked entries key (call_in (key, entry)).0 kept is ∙ is_none _ new))
 
-pub calls_push : (entries : Entries) (held : HeldCall) (outcome : Outcome) → calls_in (entries ++ (held, outcome) ∷ []) ≡ calls_in entries ++ (held.call, outcome) ∷ []
-calls_push entries held outcome = map-append call_in entries ((held, outcome) ∷ [])
+  pub kept_push : (entries : Entries) (key : CallKey) (entry : Entry) → All (IsKeptIn heads) entries → IsKeyOf heads key (call_in (key, entry)).0 → IsKept (call_in (key, entry)) → All (IsKeptIn heads) (entries ++ (key, entry) ∷ [])
+  kept_push entries key entry kept is fits = All-push (IsKeptIn heads) entries (key, entry) kept (is, fits)
 
--- whether one of them is this call
-pub any_kept : (entries : Entries) (call : Call) → list_any (λ (h : HeldCall). call_eq.eq call h.call) (keys_of entries) ≡ is_some (kept_outcome (calls_in entries) call)
-any_kept [] call = refl
-any_kept (e ∷ es) call = by_test (call_eq.eq call e.0.call) (any_kept es call)
-  where
-    by_test : (b : Bool) → list_any (λ (h : HeldCall). call_eq.eq call h.call) (keys_of es) ≡ is_some (kept_outcome (calls_in es) call) → (b || list_any (λ (h : HeldCall). call_eq.eq call h.call) (keys_of es)) ≡ is_some (cond b (Some e.1) (kept_outcome (calls_in es) call))
-    by_test true rest = refl
-    by_test false rest = rest
+pub calls_push : (entries : Entries) (key : CallKey) (entry : Entry) → calls_in (entries ++ (key, entry) ∷ []) ≡ calls_in entries ++ call_in (key, entry) ∷ []
+calls_push entries key entry = map-append call_in entries ((key, entry) ∷ [])

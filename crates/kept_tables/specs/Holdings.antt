@@ -14,13 +14,19 @@ use Rattle.meaning_records.specs.States.{spell_batch}
 use Rattle.meaning_records.specs.Tables.{Tables, Calls, LoadsAll, kept_outcome}
 use Rattle.kept_contents.specs.declared.shared.Shared.{Shared}
 use Rattle.kept_contents.specs.declared.held.HeldCall.{HeldCall}
+use Rattle.kept_contents.specs.declared.head.CallHead.{CallHead}
+use Rattle.kept_contents.specs.declared.keys.CallKey.{CallKey}
+use Rattle.kept_tables.specs.declared.kept.Entry.{Entry}
 use Rattle.kept_contents.specs.Added.{AreHeld, contents_with, texts_of}
 use Rattle.kept_contents.specs.Held.{IsHeld}
+use Rattle.kept_contents.specs.Keys.{IsKeyOf}
+use Rattle.kept_contents.specs.Heads.{call_with}
 
--- the tables, the texts that are held in memory by their numbers there, and room for contents and calls more
+-- the tables, the texts and the heads that are held in memory by their numbers there, and room for contents and calls more
 pub record Holding : Type 0 where
   pub tables : Tables
   pub texts : Bodies
+  pub heads : List CallHead
   pub room : ℕ
   pub call_room : ℕ
 
@@ -43,12 +49,12 @@ pub record MayKeep (tables : Tables) (call : Call) (outcome : Outcome) : Type 0 
 -- the call of a batch is held and may be kept
 abbrev pub MayKeepSome : Holding → Option (HeldCall × Outcome) → Type 0
 MayKeepSome kept None = ⊤
-MayKeepSome kept (Some (held, outcome)) = IsHeld kept.texts held × MayKeep kept.tables held.call outcome
+MayKeepSome kept (Some (held, outcome)) = IsHeld kept.heads held × MayKeep kept.tables held.call outcome
 
 -- and there is room for it
 abbrev pub MayAdd : Holding → Option (HeldCall × Outcome) → Type 0
 MayAdd kept None = ⊤
-MayAdd kept (Some (held, outcome)) = IsHeld kept.texts held × MayKeep kept.tables held.call outcome × (0 < kept.call_room)
+MayAdd kept (Some (held, outcome)) = IsHeld kept.heads held × MayKeep kept.tables held.call outcome × (0 < kept.call_room)
 
 -- the tables with calls more
 abbrev pub with_calls : Tables → Calls → Tables
@@ -108,12 +114,12 @@ IsKept kept = IsWellFormed kept.0 × OutcomeFits kept.0 kept.1
 
 -- ---- calls as they are held
 
-abbrev pub call_in : HeldCall × Outcome → Call × Outcome
-call_in entry = (entry.0.call, entry.1)
+abbrev pub call_in : CallKey × Entry → Call × Outcome
+call_in entry = (call_with entry.1.head entry.0.parts, entry.1.outcome)
 
-abbrev pub calls_in : List (HeldCall × Outcome) → Calls
+abbrev pub calls_in : List (CallKey × Entry) → Calls
 calls_in = map call_in
 
--- a kept call is held
-abbrev pub IsKeptIn : Bodies → HeldCall × Outcome → Type 0
-IsKeptIn texts entry = IsHeld texts entry.0 × IsKept (call_in entry)
+-- a kept call stands under its key
+abbrev pub IsKeptIn : List CallHead → CallKey × Entry → Type 0
+IsKeptIn heads entry = IsKeyOf heads entry.0 (call_in entry).0 × IsKept (call_in entry)

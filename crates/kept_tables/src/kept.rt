@@ -15,24 +15,32 @@ use crate::looks::Looks;
 use crate::prepared::Prepared;
 use call_classes::{fits, is_well_formed};
 use indexmap::IndexMap;
-use kept_contents::{ContentTable, HeldCall, Shared, SoughtCall, call_of, find_ids, outcome_of};
+use kept_contents::{
+    CallHead, CallKey, ContentTable, Heads, HeldCall, Shared, SoughtKey, call_of, outcome_of,
+};
 use object_values::{Call, Copied, Memory, Outcome, Text, Value};
 use std::alloc::Global;
 use std::hash::Hash;
 use std::marker::Model;
 use store_records::{Item, Recorded, StoredCall, StoredOutcome};
 
-/// What is kept: contents, each once, and the calls with their outcomes. A call is looked up by the numbers that its texts have in memory. Contracts see its
-/// `Tables`, and what it holds of them in memory.
+/// What is kept: contents, each once, and the calls with their outcomes. A call is looked up by its key: a number and a hash, and where they are found the
+/// inputs are compared. Contracts see its `Tables`, and what it holds of them in memory.
 pub struct Kept {
     pub(crate) contents: ContentTable,
-    pub(crate) calls: IndexMap<HeldCall, Outcome>,
+    pub(crate) heads: Heads,
+    pub(crate) calls: IndexMap<CallKey, Entry>,
 }
 
 impl Drop for Kept {
     fn drop(self) {
-        let Kept { contents, calls } = self;
+        let Kept {
+            contents,
+            heads,
+            calls,
+        } = self;
         drop(contents);
+        drop(heads);
         drop(calls);
     }
 }
@@ -47,11 +55,26 @@ impl Model for Kept {
     ghost view = { λ k. record {
       tables = record { contents = k.contents.contents; calls = calls_in k.calls.entries };
       texts = k.contents.texts;
+      heads = k.heads;
       room = k.contents.room;
       call_room = spare k.calls;
     } };
 
-    ghost invariant = { λ k. All (IsKeptIn k.contents.texts) k.calls.entries };
+    ghost invariant = { λ k. All (IsKeptIn k.heads) k.calls.entries };
+}
+
+// What is kept under the key of a call.
+pub(crate) struct Entry {
+    pub(crate) head: CallHead,
+    pub(crate) outcome: Outcome,
+}
+
+impl Drop for Entry {
+    fn drop(self) {
+        let Entry { head, outcome } = self;
+        drop(head);
+        drop(outcome);
+    }
 }
 
 /// A kept call with its outcome.
@@ -68,6 +91,7 @@ impl Kept {
     {
         Kept {
             contents: ContentTable::new(alloc),
+            heads: Heads::new(alloc),
             calls: IndexMap::new(alloc),
         }
     }
@@ -107,9 +131,9 @@ impl Kept {
             option_map (λ k. (k.call, k.outcome)) found ≡ slice_get self.now.tables.calls place) }
     {
         match self.calls.get_index(place as usize) {
-            Some((held, outcome)) => {
-                let call = held.call.copy(alloc)?;
-                let outcome = outcome.copy(alloc)?;
+            Some((key, kept)) => {
+                let call = kept.head.call(alloc, &key.parts)?;
+                let outcome = kept.outcome.copy(alloc)?;
                 Ok(Some(KeptCall { call, outcome }))
             }
             None => Ok(None),
@@ -142,16 +166,23 @@ impl Kept {
     pub fn outcome(&self, alloc: Global, call: &Call) -> Result<Option<Outcome>, Memory>
         ensures { IfOk result (λ found. found ≡ kept_outcome self.now.tables.calls call.now) }
     {
-        let Some(ids) = find_ids(alloc, &self.contents, call)? else {
-            return Ok(None);
-        };
-        let sought = SoughtCall {
-            ids: ids.as_slice(),
-            call,
-        };
-        match self.calls.get(sought) {
+        match self.find(call) {
             Some(outcome) => Ok(Some(outcome.copy(alloc)?)),
             None => Ok(None),
+        }
+    }
+
+    // The outcome that is kept of a call, by one look.
+    fn find(&self, call: &Call) -> Option<&Outcome>
+        ensures { option_map (λ o. o.now) result
+            ≡ kept_outcome self.now.tables.calls call.now }
+    {
+        let Some(sought) = SoughtKey::of(&self.heads, call) else {
+            return None;
+        };
+        match self.calls.get(sought) {
+            Some(kept) => Some(&kept.outcome),
+            None => None,
         }
     }
 
@@ -188,6 +219,7 @@ impl Kept {
             ≡ contents_with self.old.tables.contents (reverse added.items) }
         ensures calls { self.new.tables.calls ≡ self.old.tables.calls }
         ensures texts { self.new.texts ≡ self.old.texts }
+        ensures heads { self.new.heads ≡ self.old.heads }
         ensures room { self.new.call_room ≡ self.old.call_room }
     {
         self.contents.push_all(added);
@@ -206,12 +238,13 @@ impl Kept {
 
     // Keeps a call for which there is room.
     fn add_kept(&mut self, held: HeldCall, outcome: Outcome)
-        requires held { IsHeld self.old.texts held }
+        requires held { IsHeld self.old.heads held }
         requires may { MayKeep self.old.tables held.call outcome }
         requires room { 0 < self.old.call_room }
         ensures { self.new.tables ≡ with_call held.call outcome self.old.tables }
     {
-        insert_within(&mut self.calls, held, outcome);
+        let (key, head) = held.into_parts();
+        insert_within(&mut self.calls, key, Entry { head, outcome });
     }
 
     // The text that is the content of a number.
@@ -230,17 +263,18 @@ impl Kept {
     }
 
     pub(crate) fn call_of(
-        &self,
+        &mut self,
         alloc: Global,
         stored: StoredCall,
     ) -> Result<Option<HeldCall>, Memory>
         ensures some { IfOk result (λ found.
-            IfSome found (λ held. IsCallOf self.now.tables.contents stored held.call)) }
-        ensures held { IfOk result (λ found. IfSome found (IsHeld self.now.texts)) }
+            IfSome found (λ held. IsCallOf self.old.tables.contents stored held.call)) }
+        ensures held { IfOk result (λ found. IfSome found (IsHeld self.new.heads)) }
         ensures none { IfOk result (λ found. IfNone found
-            ((call : CallValue) → ¬ IsCallOf self.now.tables.contents stored call)) }
+            ((call : CallValue) → ¬ IsCallOf self.old.tables.contents stored call)) }
+        ensures same { self.new.tables ≡ self.old.tables }
     {
-        call_of(alloc, &self.contents, stored)
+        call_of(alloc, &self.contents, &mut self.heads, stored)
     }
 
     pub(crate) fn outcome_of(
@@ -263,31 +297,31 @@ impl Kept {
         is_well_formed(call) && fits(call, outcome) && !self.has(call)
     }
 
-    // Whether a call is kept: it is compared with one after another, which takes no memory.
+    // Whether a call is kept.
     fn has(&self, call: &Call) -> bool
         ensures { result ≡ is_some (kept_outcome self.now.tables.calls call.now) }
     {
-        self.calls.keys().any(|held| *call == held.call)
+        self.find(call).is_some()
     }
 
     // Whether a call that is held may be kept with this outcome, by one look.
     pub(crate) fn may_take(&self, held: &HeldCall, outcome: &Outcome) -> bool
-        requires { IsHeld self.now.texts held.now }
+        requires { IsHeld self.now.heads held.now }
         ensures { IsTrue result ↔ MayKeep self.now.tables held.now.call outcome.now }
     {
         is_well_formed(&held.call) && fits(&held.call, outcome) && !self.has_held(held)
     }
 
     fn has_held(&self, held: &HeldCall) -> bool
-        requires { IsHeld self.now.texts held.now }
+        requires { IsHeld self.now.heads held.now }
         ensures { result ≡ is_some (kept_outcome self.now.tables.calls held.now.call) }
     {
-        self.calls.contains_key(held)
+        self.calls.contains_key(SoughtKey::of_held(held))
     }
 
     // Keeps a call that isn't kept.
     pub(crate) fn keep(&mut self, held: HeldCall, outcome: Outcome) -> Result<(), Memory>
-        requires held { IsHeld self.old.texts held }
+        requires held { IsHeld self.old.heads held }
         requires may { MayKeep self.old.tables held.call outcome }
         ensures { OnOk result (self.new.tables ≡ with_call held.call outcome self.old.tables) }
     {

@@ -2,18 +2,18 @@
 ghost use Rattle.std.specs.Prelude.{◌≡◌, ◌≤◌, length, IfOk, OnOk};
 ghost use Rattle.meaning_texts.specs.Limits.{body_limit};
 ghost use Rattle.meaning_records.specs.Batches.{IsPutBatch, IsCallBatch};
-ghost use Rattle.meaning_records.specs.Tables.{IsText, IsOutcomeOf};
-ghost use Rattle.kept_contents.specs.Held.{IsGrownFrom, IsHeld};
-ghost use Rattle.kept_contents.specs.Added.{AddsOne, Adds, AreHeld, contents_with, texts_of, texts_of_outputs};
+ghost use Rattle.meaning_records.specs.Tables.{IsCallOf, IsText, IsOutcomeOf};
+ghost use Rattle.kept_contents.specs.Held.{IsHeld};
+ghost use Rattle.kept_contents.specs.Added.{AddsOne, Adds, AreHeld, contents_with, texts_of, texts_of_outputs, texts_of_parts};
 ghost use Rattle.kept_tables.specs.Holdings.{Makes, MayKeep, MayKeepSome, PreparesSome, items_of_texts, items_with};
 
 use crate::kept::Kept;
 use crate::prepared::Prepared;
-use kept_contents::{HeldCall, Shared, hold_call, number_text, stored_call, stored_outcome};
+use kept_contents::{HeldCall, Shared, number_text, stored_call, stored_outcome};
 use object_values::{Call, Copied, Memory, Outcome, Seq, Text, Value};
 use odin_bytes::Name;
 use std::alloc::Global;
-use store_records::{Item, StoredOutcome, write_batch};
+use store_records::{Item, StoredCall, StoredOutcome, write_batch};
 
 impl Kept {
     /// The batch that gives a source a text.
@@ -48,7 +48,7 @@ impl Kept {
     {
         let held = self.hold(alloc, call)?;
         let mut added = Seq::new(alloc);
-        let stored = stored_call(alloc, &self.contents, &mut added, &held)?;
+        let stored = self.stored_call(alloc, &mut added, call)?;
         let given = self.stored_outcome(alloc, &mut added, outcome)?;
         let kept = (held, outcome.copy(alloc)?);
         self.prepare(alloc, added, Item::Kept(stored, given), Some(kept))
@@ -56,11 +56,12 @@ impl Kept {
 
     // A call whose inputs' texts are held from now on.
     fn hold(&mut self, alloc: Global, call: &Call) -> Result<HeldCall, Memory>
-        ensures held { IfOk result (IsHeld self.new.texts) }
+        ensures held { IfOk result (IsHeld self.new.heads) }
         ensures call { IfOk result (λ held. held.call ≡ call.now) }
         ensures same { self.new.tables ≡ self.old.tables }
     {
-        hold_call(alloc, &mut self.contents, call)
+        let call = call.copy(alloc)?;
+        HeldCall::hold(alloc, &mut self.heads, call)
     }
 
     // The number of a text, which is added where neither the file nor the batch has it.
@@ -81,6 +82,26 @@ impl Kept {
         number_text(alloc, &mut self.contents, added, text)
     }
 
+    // A call by the numbers of its inputs.
+    fn stored_call(
+        &mut self,
+        alloc: Global,
+        added: &mut Seq<Shared>,
+        call: &Call,
+    ) -> Result<StoredCall, Memory>
+        requires { AreHeld self.old.texts added.old }
+        ensures call { IfOk result (λ stored.
+            IsCallOf (contents_with self.old.tables.contents added.new) stored call.now) }
+        ensures adds { OnOk result
+            (Adds self.old.tables.contents (texts_of_parts call.now.parts)
+            (texts_of added.old) (texts_of added.new)) }
+        ensures held { OnOk result (AreHeld self.new.texts added.new) }
+        ensures same { self.new.tables ≡ self.old.tables }
+        ensures heads { self.new.heads ≡ self.old.heads }
+    {
+        stored_call(alloc, &mut self.contents, added, call)
+    }
+
     // An outcome by the numbers of its outputs.
     fn stored_outcome(
         &mut self,
@@ -96,7 +117,7 @@ impl Kept {
             (texts_of added.old) (texts_of added.new)) }
         ensures held { OnOk result (AreHeld self.new.texts added.new) }
         ensures same { self.new.tables ≡ self.old.tables }
-        ensures texts { IsGrownFrom self.old.texts self.new.texts }
+        ensures heads { self.new.heads ≡ self.old.heads }
     {
         stored_outcome(alloc, &mut self.contents, added, outcome)
     }

@@ -1,7 +1,7 @@
 use Rattle.std.proofs.Common.{◌<◌, ◌∙◌, length, arith}
 use Rattle.kept_contents.specs.Added.{texts_of}
 use Rattle.kept_contents.proofs.Batched.{outputs_step, outputs_adds}
-use Rattle.kept_contents.proofs.HeldCalls.{grown_twice}
+use Rattle.kept_contents.proofs.Contents.{grown_twice}
 use Rattle.kept_contents.proofs.numbering.number_outputs.Goals as goal
 
 pub loop-output-preserved : goal.loop-output-preserved

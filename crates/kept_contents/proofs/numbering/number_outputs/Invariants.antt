@@ -1,7 +1,7 @@
 use Rattle.std.proofs.Common.{◌≡◌, take}
 use Rattle.meaning_records.specs.Tables.{AreOutputsOf}
 use Rattle.kept_contents.specs.Added.{AreHeld, Adds, contents_with, texts_of, texts_of_outputs}
-use Rattle.kept_contents.specs.Held.{IsGrownFrom}
+use Rattle.kept_contents.specs.Stocks.{IsGrownFrom}
 use Rattle.kept_contents.proofs.numbering.number_outputs.Given as goal
 
 abbrev pub invariant-loop-output : goal.invariant-loop-output

@@ -1,24 +1,37 @@
-use Rattle.std.proofs.Common.{◌≡◌, ◌∷◌, ◌++◌, [], ap, ◌∙◌, subst, sym}
+use Rattle.std.proofs.Common.{◌≡◌, ap, ◌∙◌, subst, sym}
 use Rattle.std.specs.Prelude.{IsNone}
-use Rattle.content_store.specs.Bodies.{Bodies}
-use Rattle.meaning_records.specs.Tables.{Calls, kept_outcome, with_call}
+use Rattle.indexmap.specs.IndexMap.{insert_entry}
+use Rattle.meaning_records.specs.Tables.{kept_outcome, with_call}
+use Rattle.kept_contents.specs.declared.keys.CallKey.{CallKey}
+use Rattle.kept_contents.specs.contracts.keys.CallKeyPartialEq.TheImpl.{ghosts as key_eq}
+use Rattle.kept_contents.specs.Borrowed.{key_of}
+use Rattle.kept_contents.specs.Heads.{head_of}
 use Rattle.kept_contents.specs.Held.{IsHeld}
+use Rattle.kept_tables.specs.declared.kept.Entry.{Entry}
 use Rattle.kept_tables.specs.Holdings.{Holding}
 use Rattle.kept_tables.proofs.HeldLemmas.{added_last, calls_push, kept_push}
 use Rattle.kept_tables.proofs.kept.Kept.add_kept.Goals as goal
 
 pub invariant_of-self : goal.invariant_of-self
 invariant_of-self c =
-    let texts = c.self.inside.contents.texts in
-    let held : IsHeld texts c.args.held = subst (λ (t : Bodies). IsHeld t c.args.held) (sym (ap (λ (h : Holding). h.texts) c.self.view_is)) c.requires.held in
-    let new = subst (λ (l : Calls). IsNone (kept_outcome l c.args.held.call)) (sym (ap (λ (h : Holding). h.tables.calls) c.self.view_is)) c.requires.may.new in
-    let last : c.insert_within.new.map.entries ≡ c.self.inside.calls.entries ++ (c.args.held, c.args.outcome) ∷ [] = c.insert_within.ensures ∙ added_last texts c.self.inside.calls.entries c.args.held c.args.outcome c.self.invariant held new in
-    rw last (kept_push texts c.self.inside.calls.entries c.args.held c.args.outcome c.self.invariant held (c.requires.may.formed, c.requires.may.fits))
+    let heads = c.self.inside.heads in
+    let entries = c.self.inside.calls.entries in
+    let key : CallKey = key_of c.args.held in
+    let entry : Entry = record { head = head_of c.args.held.call; outcome = c.args.outcome } in
+    let held : IsHeld heads c.args.held = subst (λ (h : Holding). IsHeld h.heads c.args.held) (sym c.self.view_is) c.requires.held in
+    let new = subst (λ (h : Holding). IsNone (kept_outcome h.tables.calls c.args.held.call)) (sym c.self.view_is) c.requires.may.new in
+    let put : c.insert_within.new.map.entries ≡ insert_entry key_eq.eq entries key entry = rw (c.into_parts-key.ensures.key, c.into_parts-key.ensures.head) at c.insert_within.ensures in
+    let last = put ∙ added_last heads entries key entry c.self.invariant held new in
+    rw last (kept_push heads entries key entry c.self.invariant held (c.requires.may.formed, c.requires.may.fits))
 
 pub returns : goal.returns
 returns c =
-    let texts = c.self.inside.contents.texts in
-    let held : IsHeld texts c.args.held = subst (λ (t : Bodies). IsHeld t c.args.held) (sym (ap (λ (h : Holding). h.texts) c.self.view_is)) c.requires.held in
-    let new = subst (λ (l : Calls). IsNone (kept_outcome l c.args.held.call)) (sym (ap (λ (h : Holding). h.tables.calls) c.self.view_is)) c.requires.may.new in
-    let last : c.insert_within.new.map.entries ≡ c.self.inside.calls.entries ++ (c.args.held, c.args.outcome) ∷ [] = c.insert_within.ensures ∙ added_last texts c.self.inside.calls.entries c.args.held c.args.outcome c.self.invariant held new in
-    rw (last, calls_push c.self.inside.calls.entries c.args.held c.args.outcome) (ap (λ (h : Holding). with_call c.args.held.call c.args.outcome h.tables) c.self.view_is)
+    let heads = c.self.inside.heads in
+    let entries = c.self.inside.calls.entries in
+    let key : CallKey = key_of c.args.held in
+    let entry : Entry = record { head = head_of c.args.held.call; outcome = c.args.outcome } in
+    let held : IsHeld heads c.args.held = subst (λ (h : Holding). IsHeld h.heads c.args.held) (sym c.self.view_is) c.requires.held in
+    let new = subst (λ (h : Holding). IsNone (kept_outcome h.tables.calls c.args.held.call)) (sym c.self.view_is) c.requires.may.new in
+    let put : c.insert_within.new.map.entries ≡ insert_entry key_eq.eq entries key entry = rw (c.into_parts-key.ensures.key, c.into_parts-key.ensures.head) at c.insert_within.ensures in
+    let last = put ∙ added_last heads entries key entry c.self.invariant held new in
+    rw (last, calls_push entries key entry) (ap (λ (h : Holding). with_call c.args.held.call c.args.outcome h.tables) c.self.view_is)

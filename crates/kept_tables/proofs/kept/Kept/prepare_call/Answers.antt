@@ -1,16 +1,14 @@
 use Rattle.std.proofs.Common.{◌≡◌, [], ap, ◌∙◌}
 use Rattle.meaning_records.specs.Tables.{Tables}
 use Rattle.kept_contents.specs.Added.{texts_of, texts_of_parts, texts_of_outputs}
-use Rattle.kept_contents.proofs.Lemmas.{adds_append, ids_grown}
-use Rattle.kept_tables.specs.Holdings.{Holding}
+use Rattle.kept_contents.proofs.Lemmas.{adds_append}
 use Rattle.kept_tables.proofs.BatchLemmas.{if_ok, call_prepared, call_stays}
 use Rattle.kept_tables.proofs.kept.Kept.prepare_call.Goals as goal
 
 pub prepare-requires-clause-call : goal.prepare-requires-clause-call
 prepare-requires-clause-call c =
-    let held = c.in_ok-held.held in
-    let same : c.stored_outcome.new.self.tables ≡ c.args.self.now.tables = c.stored_outcome.ensures.same ∙ c.hold.ensures.same in (
-      ids_grown c.hold.new.self.texts c.stored_outcome.new.self.texts held.ids held.call.parts c.stored_outcome.ensures.texts c.in_ok-held.ensures.held,
+    let same : c.stored_outcome.new.self.tables ≡ c.args.self.now.tables = c.stored_outcome.ensures.same ∙ c.stored_call.ensures.same ∙ c.hold.ensures.same in (
+      rw (c.stored_outcome.ensures.heads, c.stored_call.ensures.heads) c.in_ok-held.ensures.held,
       rw (same, c.in_ok-held.ensures.call, c.in_ok-copy.ensures) c.requires,
     )
 
@@ -19,13 +17,13 @@ returns-clause-ok c =
     let held = c.in_ok-held.held in
     let outcome = c.args.outcome.now in
     let contents = c.args.self.now.tables.contents in
-    let before : c.hold.new.self.tables.contents ≡ contents = ap (λ (t : Tables). t.contents) c.hold.ensures.same in
-    let inside : c.self.inside.contents.contents ≡ contents = ap (λ (h : Holding). h.tables.contents) c.self.view_is ∙ before in
-    let same : c.prepare.new.self.tables ≡ c.args.self.now.tables = c.prepare.ensures.same ∙ c.stored_outcome.ensures.same ∙ c.hold.ensures.same in
-    let front = rw (inside, c.new-added.ensures, c.in_ok-held.ensures.call) at c.in_ok-stored.ensures.adds in
+    let first : c.hold.new.self.tables.contents ≡ contents = ap (λ (t : Tables). t.contents) c.hold.ensures.same in
+    let before : c.stored_call.new.self.tables.contents ≡ contents = ap (λ (t : Tables). t.contents) c.stored_call.ensures.same ∙ first in
+    let same : c.prepare.new.self.tables ≡ c.args.self.now.tables = c.prepare.ensures.same ∙ c.stored_outcome.ensures.same ∙ c.stored_call.ensures.same ∙ c.hold.ensures.same in
+    let front = rw (first, c.new-added.ensures) at c.in_ok-stored.ensures.adds in
     let back = rw before at c.in_ok-given.ensures.adds in
     let adds = adds_append contents (texts_of_parts c.args.call.now.parts) (texts_of_outputs outcome.outputs) [] (texts_of c.stored_call.new.added) (texts_of c.stored_outcome.new.added) front back in
-    let called = call_stays contents (texts_of_outputs outcome.outputs) c.stored_call.new.added c.stored_outcome.new.added c.in_ok-stored.stored c.args.call.now back (rw (inside, c.in_ok-held.ensures.call) at c.in_ok-stored.ensures.call) in
+    let called = call_stays contents (texts_of_outputs outcome.outputs) c.stored_call.new.added c.stored_outcome.new.added c.in_ok-stored.stored c.args.call.now back (rw first at c.in_ok-stored.ensures.call) in
     let came = rw before at c.in_ok-given.ensures.outcome in
     let made = rw c.in_ok-copy.ensures at c.prepare.ensures.made in
     if_ok c.prepare.result made (λ batch makes. call_prepared c.args.self.now c.prepare.new.self same c.stored_outcome.new.added batch held c.args.call.now c.in_ok-held.ensures.call outcome c.requires adds c.in_ok-stored.stored c.in_ok-given.given called came makes)

@@ -1,7 +1,7 @@
 use Rattle.std.proofs.Common.{◌≡◌, ◌∙◌, List, ℕ, ap}
 use Rattle.std.specs.Hash.FoldHasher as folding
 use Rattle.content_store.specs.Index.{hash_of}
-use Rattle.content_store.proofs.contents.quick_hash.Goals as goal
+use Rattle.content_store.proofs.contents.text_hash.Goals as goal
 
 written_from : {S : Type 0} (write : S → List ℕ → S) (initial start end : S) (body : List ℕ) → start ≡ initial → end ≡ write start body → end ≡ write initial body
 written_from write initial start end body begins ends = ends ∙ ap (λ s. write s body) begins

@@ -1,0 +1,46 @@
+-- The heads of calls.
+use Rattle.std.specs.Prelude.{◌≡◌, ℕ, List, ◌++◌, Option}
+use Rattle.std.specs.Bool.{Decides}
+use Rattle.std.specs.Hash as fed
+use Rattle.std.specs.Hash.{HashWrites}
+use Rattle.std.specs.Cmp.Lexicographic.{bytes_decides, pointwise_decides}
+use Rattle.std.specs.List.{position}
+use Rattle.std.proofs.Common.{rules}
+use Rattle.object_values.specs.Exact.{param_value_exact}
+use Rattle.object_values.specs.declared.nodes.ParamValue.{ParamValue}
+use Rattle.object_values.specs.declared.calls.Call.{Call}
+use Rattle.object_values.specs.declared.calls.CallPart.{CallPart}
+use Rattle.kept_contents.specs.declared.head.CallHead.{CallHead}
+use Rattle.kept_contents.specs.contracts.head.CallHeadPartialEq.TheImpl.{ghosts as head_eq}
+
+-- all of a call but its inputs
+abbrev pub head_of : Call → CallHead
+head_of call = record { tool = call.tool; version = call.version; words = call.words; params = call.params; outs = call.outs }
+
+-- the call that has this head and these inputs
+abbrev pub call_with : CallHead → List CallPart → Call
+call_with head parts = record { tool = head.tool; version = head.version; words = head.words; params = head.params; parts = parts; outs = head.outs }
+
+-- ---- heads by number
+
+abbrev pub place_of_head : CallHead → List CallHead → Option ℕ
+place_of_head head heads = position (head_eq.eq head) heads
+
+-- some came behind the others
+abbrev pub AreMore : List CallHead → List CallHead → Type 0
+AreMore old new = (later : List CallHead) × (new ≡ old ++ later)
+
+-- ---- what a head feeds a hasher
+
+abbrev pair_fed : ParamValue → HashWrites
+pair_fed p = fed.slice fed.u8 p.param ++ fed.slice fed.u8 p.value
+
+abbrev pub fed_of : CallHead → HashWrites
+fed_of head =
+    fed.slice fed.u8 head.tool ++ fed.slice fed.u8 head.version
+    ++ fed.slice (fed.slice fed.u8) head.words ++ fed.slice pair_fed head.params
+    ++ fed.slice (fed.slice fed.u8) head.outs
+
+-- Its `==` answers whether two are equal.
+pub head_exact : (x y : CallHead) → Decides (head_eq.eq x y) (x ≡ y)
+head_exact x y = search (rules, bytes_decides x.tool y.tool, bytes_decides x.version y.version, pointwise_decides bytes_decides x.words y.words, pointwise_decides param_value_exact x.params y.params, pointwise_decides bytes_decides x.outs y.outs)

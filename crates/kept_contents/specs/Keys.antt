@@ -1,0 +1,28 @@
+-- Which key is that of a call.
+use Rattle.std.specs.Prelude.{◌≡◌, List, ◌++◌, Some}
+use Rattle.std.specs.Bool.{Decides}
+use Rattle.std.specs.Hash as fed
+use Rattle.std.specs.Hash.{HashWrites}
+use Rattle.std.specs.Cmp.Lexicographic.{pointwise_decides}
+use Rattle.std.proofs.Common.{rules}
+use Rattle.std.proofs.lemmas.Bool.Decides.{Decides-eqb}
+use Rattle.object_values.specs.Exact.{call_part_exact}
+use Rattle.object_values.specs.declared.calls.Call.{Call}
+use Rattle.kept_contents.specs.declared.head.CallHead.{CallHead}
+use Rattle.kept_contents.specs.declared.keys.CallKey.{CallKey}
+use Rattle.kept_contents.specs.contracts.keys.CallKeyPartialEq.TheImpl.{ghosts as key_eq}
+use Rattle.kept_contents.specs.Heads.{head_of, place_of_head}
+use Rattle.kept_contents.specs.Inputs.{hash_of_parts}
+
+pub record IsKeyOf (heads : List CallHead) (key : CallKey) (call : Call) : Type 0 where
+  pub head : place_of_head (head_of call) heads ≡ Some key.head
+  pub hash : key.hash ≡ hash_of_parts call.parts
+  pub parts : key.parts ≡ call.parts
+
+-- what a key feeds a hasher
+abbrev pub fed_of : CallKey → HashWrites
+fed_of key = fed.u64 key.head ++ fed.u64 key.hash
+
+-- Its `==` answers whether two are equal.
+pub key_exact : (x y : CallKey) → Decides (key_eq.eq x y) (x ≡ y)
+key_exact x y = search (rules, Decides-eqb x.head y.head, Decides-eqb x.hash y.hash, pointwise_decides call_part_exact x.parts y.parts)

@@ -1,0 +1,7 @@
+use Rattle.kept_tables.proofs.kept.Kept.keep.Goals as goal
+
+pub invariant_of-self : goal.invariant_of-self
+invariant_of-self c = rw c.reserve.ensures.entries c.self.invariant
+
+pub invariant_of-self-2 : goal.invariant_of-self-2
+invariant_of-self-2 c = rw c.reserve.ensures.entries c.self.invariant
