@@ -2,7 +2,8 @@ pub mod Faults
 pub mod Made
 pub mod Given
 pub mod Logs
-pub mod Runs
+pub mod Flights
 pub mod Ways
 pub mod Laws
 pub mod GivenLaws
+pub mod FlightLaws
