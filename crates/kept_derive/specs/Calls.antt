@@ -1,10 +1,10 @@
--- One call that is run and kept.
-use Rattle.std.specs.Prelude.{◌≡◌, ℕ, [], ◌∷◌, None}
+-- Calls that are kept as their tools end.
+use Rattle.std.specs.Prelude.{◌≡◌, ◌⊎◌, ◌<◌, ℕ, [], ◌∷◌, length, None}
 use Rattle.object_values.specs.declared.calls.Call.{Call}
 use Rattle.object_values.specs.declared.calls.Outcome.{Outcome}
-use Rattle.odin_outside.specs.declared.events.ToolEvent.TheVariants.{Ended}
 use Rattle.odin_outside.specs.Disk.{Telling}
 use Rattle.odin_outside.specs.Spawned.{Spawned}
+use Rattle.meaning_texts.specs.Lists.{IsIn}
 use Rattle.meaning_calls.specs.Jobs.{IsWellFormed}
 use Rattle.odin_journal.specs.declared.fault.JournalFault.{JournalFault}
 use Rattle.odin_journal.specs.declared.fault.JournalFault.TheVariants as store
@@ -14,10 +14,10 @@ use Rattle.odin_store.specs.Held.{keeps}
 use Rattle.odin_store.specs.OnDisk.{IsSame}
 use Rattle.odin_store.specs.Going.{Goes}
 use Rattle.odin_store.specs.Edited.{HasFailed}
-use Rattle.plain_derive.specs.declared.fault.PlainFault.{PlainFault}
-use Rattle.plain_derive.specs.declared.fault.PlainFault.TheVariants as plain
-use Rattle.plain_derive.specs.Logs.{closed, IsCut}
-use Rattle.plain_derive.specs.Made.{IsOutcomeOf}
+use Rattle.derive_walk.specs.Walks.{Walked, IsGiven}
+use Rattle.job_runner.specs.Flights.{InFlight, calls_in, AreTold, HasEnded, HasLost, MayHaveEnded}
+use Rattle.kept_derive.specs.declared.landing.Landed.{Landed}
+use Rattle.kept_derive.specs.declared.landing.Landed.TheVariants.{Kept, Lost}
 use Rattle.kept_derive.specs.declared.fault.KeptFault.{KeptFault}
 use Rattle.kept_derive.specs.declared.fault.KeptFault.TheVariants.{Spawn, Disk, Full, Memory}
 use Rattle.kept_derive.specs.Runs.{At, known_in}
@@ -32,28 +32,60 @@ pub record IsKeepable (store : Store) (call : Call) : Type 0 where
   pub formed : IsWellFormed call
   pub new : known_in store call ≡ None
 
--- It came to an outcome of its own and was kept with it, and nothing else happened.
-pub record IsKeptCall {Disk : Type 0} (told : Disk → Telling) (call : Call) (old new : At Disk) (outcome : Outcome) : Type 0 where
-  pub came : IsOutcomeOf old.tools.answer call outcome
-  pub tools_are : new.tools ≡ closed old.tools call (Ended 0)
-  pub goes : Goes told (keeps call outcome ∷ []) old.store new.store old.disk new.disk
-  pub epoch : new.store.epoch ≡ old.store.epoch
+-- One at least runs; each that runs is wanted, and may be kept as it ends.
+pub record MayLand (walked : Walked) (jobs : InFlight) (store : Store) (size : ℕ) (tools : Spawned) : Type 0 where
+  pub told : AreTold jobs.running tools
+  pub one : 0 < length jobs.running
+  pub wanted : (call : Call) → IsIn call (calls_in jobs.running) → IsIn call walked.wanted
+  pub keepable : (call : Call) → IsIn call (calls_in jobs.running) → IsKeepable store call
+  pub ready : IsReady store.journal size
 
--- It was given up for the fault, and was not kept.
-pub record IsCutCall {Disk : Type 0} (call : Call) (fault : PlainFault) (old new : At Disk) : Type 0 where
-  pub cut : IsCut fault call old.tools new.tools
-  pub same : IsSame old.store new.store old.disk new.disk
+-- ---- what came of one end
 
--- It came to an outcome of its own, with which it was not kept, for the fault.
-pub record IsUnkeptCall {Disk : Type 0} (told : Disk → Telling) (call : Call) (fault : JournalFault) (old new : At Disk) : Type 0 where
-  pub outcome : Outcome
-  pub came : IsOutcomeOf old.tools.answer call outcome
-  pub tools_are : new.tools ≡ closed old.tools call (Ended 0)
-  pub failed : HasFailed told (keeps call outcome) old.store new.store old.disk new.disk fault
+module _ {D : Type 0} (told : D → Telling) (walked : Walked) (jobs : InFlight) (old : At D) (walked' : Walked) (jobs' : InFlight) (new : At D) where
+  -- A call came to an outcome of its own, was kept with it, and was given to the walk; and nothing else happened.
+  pub record HasLanded : Type 0 where
+    pub call : Call
+    pub outcome : Outcome
+    pub ended : HasEnded call outcome jobs old.tools jobs' new.tools
+    pub goes : Goes told (keeps call outcome ∷ []) old.store new.store old.disk new.disk
+    pub epoch : new.store.epoch ≡ old.store.epoch
+    pub given : IsGiven call outcome walked walked'
 
--- what was done for a call that ends in a fault
-abbrev pub StopsCall : {Disk : Type 0} → (Disk → Telling) → Call → At Disk → At Disk → KeptFault → Type 0
-StopsCall told call old new Spawn = IsCutCall call plain.Spawn old new
-StopsCall told call old new Disk = IsUnkeptCall told call store.Disk old new
-StopsCall told call old new (Full at some) = IsUnkeptCall told call (store.Full at some) old new
-StopsCall told call old new Memory = IsCutCall call plain.Memory old new
+  -- An end was lost, and nothing else happened.
+  pub record HasCrashed : Type 0 where
+    pub lost : HasLost jobs old.tools jobs' new.tools
+    pub same : IsSame old.store new.store old.disk new.disk
+    pub walk : walked' ≡ walked
+
+  -- A call came to an outcome with which it was not kept, for the fault.
+  pub record HasSpilled (fault : JournalFault) : Type 0 where
+    pub call : Call
+    pub outcome : Outcome
+    pub ended : HasEnded call outcome jobs old.tools jobs' new.tools
+    pub failed : HasFailed told (keeps call outcome) old.store new.store old.disk new.disk fault
+
+  -- Memory was wanting before the call that ended, if one did, was kept.
+  pub record IsHeldUp : Type 0 where
+    pub may : MayHaveEnded jobs old.tools jobs' new.tools
+    pub same : IsSame old.store new.store old.disk new.disk
+
+  -- Memory was wanting after it was kept.
+  pub record IsUngiven : Type 0 where
+    pub call : Call
+    pub outcome : Outcome
+    pub ended : HasEnded call outcome jobs old.tools jobs' new.tools
+    pub goes : Goes told (keeps call outcome ∷ []) old.store new.store old.disk new.disk
+    pub epoch : new.store.epoch ≡ old.store.epoch
+
+  -- what came of an end
+  abbrev pub Lands : Landed → Type 0
+  Lands Kept = HasLanded
+  Lands Lost = HasCrashed
+
+  -- and what was done where the landing ends in a fault: a lost end is none
+  abbrev pub FailsToLand : KeptFault → Type 0
+  FailsToLand Spawn = ⊥
+  FailsToLand Disk = HasSpilled store.Disk
+  FailsToLand (Full at some) = HasSpilled (store.Full at some)
+  FailsToLand Memory = IsHeldUp ⊎ IsUngiven

@@ -1,18 +1,12 @@
--- The fault of a derivation, by that of the tools or of the store, and what it leaves of the store and of its disk's count of faults.
+-- The fault of a derivation, by that of the store, and what it leaves of the store and of its disk's count of faults.
 use Rattle.std.specs.Prelude.{◌≡◌, ◌≤◌, ℕ, IsTrue, Result, OnOk, IfErr}
 use Rattle.odin_outside.specs.Causes.{Rose}
 use Rattle.odin_journal.specs.declared.fault.JournalFault.{JournalFault}
 use Rattle.odin_journal.specs.declared.fault.JournalFault.TheVariants as store
 use Rattle.odin_journal.specs.Rest.{IsReady}
 use Rattle.odin_store.specs.declared.store.Store.{Store}
-use Rattle.plain_derive.specs.declared.fault.PlainFault.{PlainFault}
-use Rattle.plain_derive.specs.declared.fault.PlainFault.TheVariants as plain
 use Rattle.kept_derive.specs.declared.fault.KeptFault.{KeptFault}
 use Rattle.kept_derive.specs.declared.fault.KeptFault.TheVariants.{Spawn, Disk, Full, Memory}
-
-abbrev pub of_plain : PlainFault → KeptFault
-of_plain plain.Spawn = Spawn
-of_plain plain.Memory = Memory
 
 -- A change never finds that a file is not ours.
 abbrev pub of_store : JournalFault → KeptFault

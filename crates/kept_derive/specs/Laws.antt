@@ -1,5 +1,5 @@
 -- What follows of calls that were run and kept.
-use Rattle.std.specs.Prelude.{◌≡◌, [], Some, IsSome}
+use Rattle.std.specs.Prelude.{◌≡◌, ◌≢◌, ℕ, [], Some, IsSome}
 use Rattle.object_values.specs.declared.nodes.Node.{Node}
 use Rattle.object_values.specs.declared.views.View.{View}
 use Rattle.object_values.specs.declared.calls.Call.{Call}
@@ -18,6 +18,7 @@ use Rattle.derive_walk.specs.Founds.{IsFound}
 use Rattle.derive_walk.specs.Outcomes.{after}
 use Rattle.plain_derive.specs.Given.{calls_of}
 use Rattle.plain_derive.specs.GivenLaws.{AreNew}
+use Rattle.plain_derive.specs.Flights.{Course, off_course, for_spawn}
 use Rattle.kept_derive.specs.Runs.{At, known_in, HasRun, HasFound}
 
 module _ {Disk : Type 0} (told : Disk → Telling) where
@@ -32,40 +33,48 @@ module _ {Disk : Type 0} (told : Disk → Telling) where
     pub sources : now.store.sources.texts ≡ old.store.sources.texts
 
   abbrev pub RunsAreNew : Type 0
-  RunsAreNew = (g : Graph) (n : Node) (old : At Disk) (given : Calls) (new : At Disk) → HasRun told g n old given new → AreRunNew g n old given new
+  RunsAreNew =
+      (g : Graph) (n : Node) (limit : ℕ) (course : Course) (old : At Disk) (given : Calls) (new : At Disk)
+      → HasRun told g n limit course old given new → AreRunNew g n old given new
 
   -- Where the node is answered all its calls are kept.
   abbrev pub AllAreKept : Type 0
   AllAreKept =
-      (g : Graph) (n : Node) (old new : At Disk) (view : View) → HasFound told g n old new (Answer view)
+      (g : Graph) (n : Node) (limit : ℕ) (old new : At Disk) (view : View) → HasFound told g n limit old new (Answer view)
       → (call : Call) → IsCallFrom g (derived g old.store.sources.texts (known_in new.store)) n call → IsSome (known_in new.store call)
 
-  -- Once a node is found nothing is run for it again, from the same sources, whatever else is kept by then.
+  -- Nothing was run, and no tool touched: none was refused.
+  pub record IsSpared (course : Course) (old : At Disk) (given : Calls) (new : At Disk) : Type 0 where
+    pub none : given ≡ []
+    pub told : new.tools ≡ old.tools
+    pub unrefused : course ≢ off_course for_spawn
+
+  -- Once a node is found nothing is run for it again, from the same sources, whatever else is kept by then, and however many may run.
   abbrev pub NoneIsRunAgain : Type 0
   NoneIsRunAgain =
-      (g : Graph) (n : Node) (old new : At Disk) (found : Found) → HasFound told g n old new found
+      (g : Graph) (n : Node) (limit : ℕ) (old new : At Disk) (found : Found) → HasFound told g n limit old new found
       → (again : At Disk) → again.store.sources.texts ≡ old.store.sources.texts → HasMore (known_in new.store) (known_in again.store)
-      → (given : Calls) (later : At Disk) → HasRun told g n again given later → given ≡ []
+      → (most : ℕ) (course : Course) (given : Calls) (later : At Disk) → HasRun told g n most course again given later → IsSpared course again given later
 
   -- And its answer is the same.
   abbrev pub AnswerStays : Type 0
   AnswerStays =
-      (g : Graph) (n : Node) (old new : At Disk) (view : View) → HasFound told g n old new (Answer view)
+      (g : Graph) (n : Node) (limit : ℕ) (old new : At Disk) (view : View) → HasFound told g n limit old new (Answer view)
       → (again : At Disk) → again.store.sources.texts ≡ old.store.sources.texts → HasMore (known_in new.store) (known_in again.store)
-      → (later : At Disk) (found : Found) → HasFound told g n again later found → found ≡ Answer view
+      → (most : ℕ) (later : At Disk) (found : Found) → HasFound told g n most again later found → found ≡ Answer view
 
   -- ---- tools that answer by a table
 
   -- Where the tools answer by a table and what is kept is true for it, what is kept afterwards is.
   abbrev pub RunsAreTrue : Type 0
   RunsAreTrue =
-      (table : Table) (g : Graph) (n : Node) (old : At Disk) (given : Calls) (new : At Disk)
+      (table : Table) (g : Graph) (n : Node) (limit : ℕ) (course : Course) (old : At Disk) (given : Calls) (new : At Disk)
       → old.tools.answer ≡ Some table → HasMore (known_in old.store) (table_outcomes table)
-      → HasRun told g n old given new → HasMore (known_in new.store) (table_outcomes table)
+      → HasRun told g n limit course old given new → HasMore (known_in new.store) (table_outcomes table)
 
   -- And what is found is found by the table.
   abbrev pub FoundIsTrue : Type 0
   FoundIsTrue =
-      (table : Table) (g : Graph) (n : Node) (old new : At Disk) (found : Found)
+      (table : Table) (g : Graph) (n : Node) (limit : ℕ) (old new : At Disk) (found : Found)
       → old.tools.answer ≡ Some table → HasMore (known_in old.store) (table_outcomes table)
-      → HasFound told g n old new found → IsFound g old.store.sources.texts (table_outcomes table) n found
+      → HasFound told g n limit old new found → IsFound g old.store.sources.texts (table_outcomes table) n found

@@ -1,6 +1,8 @@
 -- How many looks at kept calls a derivation takes.
-use Rattle.std.specs.Prelude.{◌≡◌, ◌≢◌, ◌≤◌, ◌-◌, ◌+◌, ⊤, ℕ, List, [], ◌++◌, length, Result, Err, OnOk, IfErr}
+use Rattle.std.specs.Prelude.{◌≡◌, ◌≢◌, ◌≤◌, ◌+◌, ℕ, List, [], ◌∷◌, ◌++◌, length, Result, Ok, Err}
 use Rattle.object_values.specs.declared.nodes.Node.{Node}
+use Rattle.object_values.specs.declared.calls.Call.{Call}
+use Rattle.object_values.specs.declared.calls.Outcome.{Outcome}
 use Rattle.odin_outside.specs.Disk.{Telling}
 use Rattle.meaning_texts.specs.Lists.{IsIn}
 use Rattle.meaning_graph.specs.Graphs.{Graph}
@@ -8,12 +10,15 @@ use Rattle.meaning_derive.specs.Derive.{derived}
 use Rattle.meaning_derive.specs.Chains.{AreDifferent, IsMet}
 use Rattle.meaning_records.specs.Tables.{Calls}
 use Rattle.odin_store.specs.declared.store.Store.{Store}
+use Rattle.odin_store.specs.Going.{Goes}
 use Rattle.walk_tables.specs.declared.found.Found.{Found}
 use Rattle.derive_walk.specs.Looks.{met_by}
 use Rattle.derive_walk.specs.Walks.{Walked}
 use Rattle.kept_derive.specs.declared.fault.KeptFault.{KeptFault}
+use Rattle.kept_derive.specs.declared.flight.Flown.{Flown}
 use Rattle.kept_derive.specs.declared.fault.KeptFault.TheVariants.{Disk as DiskFailed, Memory}
-use Rattle.kept_derive.specs.Runs.{At, known_in, HasRun}
+use Rattle.plain_derive.specs.Flights.{AreFlown}
+use Rattle.kept_derive.specs.Runs.{At, known_in, keeps_of}
 
 -- Each look but so many was for another node with steps that is met from this one, by what is kept now, or for another call that is kept
 -- since: no node and no call took two.
@@ -25,19 +30,22 @@ pub record HasLooked (g : Graph) (n : Node) (old new : Store) (first last spare 
   pub later : first ≤ last
   pub each : last + length old.kept.tables.calls ≤ first + length nodes + length new.kept.tables.calls + spare
 
--- Calls were run and kept up to a moment, and no look was taken after it.
-pub record HasLookedBefore {Disk : Type 0} (told : Disk → Telling) (g : Graph) (n : Node) (old : At Disk) (first last : ℕ) : Type 0 where
+-- Of the outcomes that came all but the last were kept, up to a moment, and no look was taken after it.
+pub record HasLookedBefore {Disk : Type 0} (told : Disk → Telling) (g : Graph) (n : Node) (limit : ℕ) (old new : At Disk) (first last : ℕ) : Type 0 where
   pub given : Calls
-  pub now : At Disk
-  pub run : HasRun told g n old given now
-  pub looked : HasLooked g n old.store now.store first last 0
+  pub call : Call
+  pub outcome : Outcome
+  pub mid : At Disk
+  pub flown : AreFlown g old.store.sources.texts (known_in old.store) n limit (given ++ (call, outcome) ∷ []) old.tools new.tools
+  pub goes : Goes told (keeps_of given) old.store mid.store old.disk mid.disk
+  pub looked : HasLooked g n old.store mid.store first last 0
 
 -- The looks of a derivation, whatever it came to. One may be lost where memory is wanting. A store whose disk failed tells no more of its
 -- calls.
-abbrev pub AreLooks : {Disk : Type 0} → (Disk → Telling) → Graph → Node → At Disk → At Disk → ℕ → ℕ → Result Found KeptFault → Type 0
-AreLooks told g n old new first last (Err DiskFailed) = HasLookedBefore told g n old first last
-AreLooks told g n old new first last (Err Memory) = HasLooked g n old.store new.store first last 1
-AreLooks told g n old new first last other = HasLooked g n old.store new.store first last 0
+abbrev pub AreLooks : {Disk : Type 0} → (Disk → Telling) → Graph → Node → ℕ → At Disk → At Disk → ℕ → ℕ → Result Found KeptFault → Type 0
+AreLooks told g n limit old new first last (Err DiskFailed) = HasLookedBefore told g n limit old new first last
+AreLooks told g n limit old new first last (Err Memory) = HasLooked g n old.store new.store first last 1
+AreLooks told g n limit old new first last other = HasLooked g n old.store new.store first last 0
 
 -- ---- on the way
 
@@ -50,26 +58,12 @@ pub record AreCounted (first last spare : ℕ) (walked : Walked) : Type 0 where
   pub later : first ≤ last
   pub each : last ≤ first + sought_by walked + spare
 
--- One call less is wanted, if there was one, and was given an outcome.
-pub record TakesOne (old new : Walked) : Type 0 where
-  pub sought : sought_by new ≡ sought_by old
-  pub fewer : length new.wanted ≡ length old.wanted - 1
-
--- All calls that were wanted were given outcomes.
-pub record TakesAll (old new : Walked) : Type 0 where
-  pub sought : sought_by new ≡ sought_by old
-  pub none : new.wanted ≡ []
-
 -- the kept calls stay, and others stand behind them
 pub record KeepsMore (old new : Store) : Type 0 where
   pub more : Calls
   pub is : new.kept.tables.calls ≡ old.kept.tables.calls ++ more
 
--- unless the disk failed
-abbrev pub KeepsUnless : Store → Store → KeptFault → Type 0
-KeepsUnless old new DiskFailed = ⊤
-KeepsUnless old new other = KeepsMore old new
-
-pub record KeepsOn {T : Type 0} (old new : Store) (result : Result T KeptFault) : Type 0 where
-  pub ok : OnOk result (KeepsMore old new)
-  pub err : IfErr result (KeepsUnless old new)
+-- The looks of a flight: of the walk that it comes to, or of the derivation that it stops.
+abbrev pub FlightLooks : {Disk : Type 0} → (Disk → Telling) → Graph → Node → ℕ → At Disk → At Disk → Walked → ℕ → ℕ → Result Flown KeptFault → Type 0
+FlightLooks told g n limit old new walked first last (Ok flown) = AreCounted first last 0 walked
+FlightLooks told g n limit old new walked first last (Err fault) = AreLooks told g n limit old new first last (Err fault)

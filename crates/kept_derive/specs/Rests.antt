@@ -1,5 +1,5 @@
 -- What a derivation stands on, and how it leaves the tools.
-use Rattle.std.specs.Prelude.{◌≡◌, ◌≢◌, ◌≤◌, List, [], length, Result, Err}
+use Rattle.std.specs.Prelude.{◌≡◌, ◌≤◌, ⊤, ℕ, List, [], length, Result, OnOk, IfErr}
 use Rattle.object_values.specs.declared.nodes.Node.{Node}
 use Rattle.odin_outside.specs.Spawned.{Spawned}
 use Rattle.meaning_graph.specs.Graphs.{Graph}
@@ -7,6 +7,8 @@ use Rattle.meaning_graph_text.specs.Grammar.{IsSpellable}
 use Rattle.meaning_nodes.specs.Nodes.{Fits}
 use Rattle.path_planner.specs.declared.route.Ends.{Ends}
 use Rattle.path_planner.specs.Ends.{plans_of}
+use Rattle.kept_derive.specs.declared.fault.KeptFault.{KeptFault}
+use Rattle.kept_derive.specs.declared.fault.KeptFault.TheVariants.{Spawn}
 
 -- The node is one of the graph, which has these plans.
 pub record IsDerivable (g : Graph) (plans : List Ends) (n : Node) : Type 0 where
@@ -14,8 +16,14 @@ pub record IsDerivable (g : Graph) (plans : List Ends) (n : Node) : Type 0 where
   pub made : plans ≡ plans_of g
   pub fits : Fits g n
 
--- The tools answer as before, at most one of them runs, and none unless memory was wanting.
-pub record ComesToRest {T E : Type 0} (memory : E) (before now : Spawned) (result : Result T E) : Type 0 where
+-- the faults that leave what runs: all but a tool that was not started, or whose end was lost
+abbrev pub LeavesTools : KeptFault → Type 0
+LeavesTools Spawn = ⊥
+LeavesTools other = ⊤
+
+-- The tools answer as before, no more of them run than may, and none but after a fault that leaves them.
+pub record ComesToRest {T E : Type 0} (Leaves : E → Type 0) (limit : ℕ) (before now : Spawned) (result : Result T E) : Type 0 where
   pub answer : now.answer ≡ before.answer
-  pub one : length now.running ≤ 1
-  pub idle : result ≢ Err memory → now.running ≡ []
+  pub few : length now.running ≤ limit
+  pub idle : OnOk result (now.running ≡ [])
+  pub left : IfErr result (λ fault. ¬ Leaves fault → now.running ≡ [])

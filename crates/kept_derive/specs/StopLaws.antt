@@ -1,12 +1,15 @@
 -- What follows where a derivation over what a store keeps did not come to its end.
-use Rattle.std.specs.Prelude.{◌≡◌, ◌≢◌, Some}
+use Rattle.std.specs.Prelude.{◌≡◌, ◌≢◌, ℕ, [], ◌∷◌, Some}
 use Rattle.object_values.specs.declared.nodes.Node.{Node}
+use Rattle.object_values.specs.declared.calls.Call.{Call}
+use Rattle.object_values.specs.declared.calls.Outcome.{Outcome}
 use Rattle.odin_outside.specs.Disk.{Telling}
 use Rattle.odin_outside.specs.Spawned.{Table}
 use Rattle.meaning_graph.specs.Graphs.{Graph}
 use Rattle.meaning_derive.specs.Given.{table_outcomes}
 use Rattle.meaning_derive.specs.Laws.{HasMore}
 use Rattle.meaning_records.specs.Tables.{Calls}
+use Rattle.odin_store.specs.Held.{keeps}
 use Rattle.odin_store.specs.Going.{Goes, Stops}
 use Rattle.kept_derive.specs.declared.fault.KeptFault.{KeptFault}
 use Rattle.kept_derive.specs.declared.fault.KeptFault.TheVariants.{Disk as DiskFailed}
@@ -23,20 +26,24 @@ module _ {Disk : Type 0} (told : Disk → Telling) where
   -- A stop that is not the disk's leaves a store that keeps the calls before it.
   abbrev pub StopsKeep : Type 0
   StopsKeep =
-      (g : Graph) (n : Node) (old new : At Disk) (fault : KeptFault) → fault ≢ DiskFailed
-      → IsStopped told g n old new fault → KeepsCalls old new
+      (g : Graph) (n : Node) (limit : ℕ) (old new : At Disk) (fault : KeptFault) → fault ≢ DiskFailed
+      → IsStopped told g n limit old new fault → KeepsCalls old new
 
-  -- After a fault of the disk some first ones of such calls are there.
+  -- After a fault of the disk such calls are there, and the last one may be: none before it is lost.
   pub record StopsInCalls (old new : At Disk) : Type 0 where
     pub given : Calls
-    pub stops : Stops told (keeps_of given) old.store old.disk new.disk
+    pub call : Call
+    pub outcome : Outcome
+    pub mid : At Disk
+    pub goes : Goes told (keeps_of given) old.store mid.store old.disk mid.disk
+    pub stops : Stops told (keeps call outcome ∷ []) mid.store mid.disk new.disk
 
   abbrev pub DiskStops : Type 0
-  DiskStops = (g : Graph) (n : Node) (old new : At Disk) → IsStopped told g n old new DiskFailed → StopsInCalls old new
+  DiskStops = (g : Graph) (n : Node) (limit : ℕ) (old new : At Disk) → IsStopped told g n limit old new DiskFailed → StopsInCalls old new
 
   -- Where the tools answer by a table and what is kept is true for it, what is kept after such a stop is.
   abbrev pub StopsAreTrue : Type 0
   StopsAreTrue =
-      (table : Table) (g : Graph) (n : Node) (old new : At Disk) (fault : KeptFault) → fault ≢ DiskFailed
+      (table : Table) (g : Graph) (n : Node) (limit : ℕ) (old new : At Disk) (fault : KeptFault) → fault ≢ DiskFailed
       → old.tools.answer ≡ Some table → HasMore (known_in old.store) (table_outcomes table)
-      → IsStopped told g n old new fault → HasMore (known_in new.store) (table_outcomes table)
+      → IsStopped told g n limit old new fault → HasMore (known_in new.store) (table_outcomes table)

@@ -1,40 +1,83 @@
 -- A derivation on its way over what a store keeps.
-use Rattle.std.specs.Prelude.{◌≡◌, ℕ, None}
+use Rattle.std.specs.Prelude.{◌≡◌, ◌⊎◌, ◌<◌, ℕ, List, [], length, Option, Some, None, IsSome, Err}
 use Rattle.object_values.specs.declared.nodes.Node.{Node}
 use Rattle.object_values.specs.declared.calls.Call.{Call}
 use Rattle.odin_outside.specs.Disk.{Telling}
 use Rattle.odin_outside.specs.Spawned.{Spawned}
 use Rattle.meaning_texts.specs.Lists.{IsIn}
 use Rattle.meaning_graph.specs.Graphs.{Graph}
+use Rattle.odin_journal.specs.Rest.{IsReady}
 use Rattle.odin_store.specs.declared.store.Store.{Store}
-use Rattle.walk_tables.specs.Calls.{AreOnce}
-use Rattle.derive_walk.specs.Walks.{Walked, IsRight}
-use Rattle.plain_derive.specs.Given.{IsRefusedBy}
+use Rattle.odin_store.specs.Going.{Goes}
+use Rattle.derive_walk.specs.Walks.{Walked, IsRight, IsAdvanced}
+use Rattle.job_runner.specs.Flights.{InFlight, calls_in, AreTold}
+use Rattle.plain_derive.specs.Flights.{Why, Course, on_course, off_course, for_spawn, IsCalled, Flies}
 use Rattle.kept_derive.specs.declared.fault.KeptFault.{KeptFault}
-use Rattle.kept_derive.specs.Runs.{At, known_in, world_in, HasRun}
+use Rattle.kept_derive.specs.declared.flight.Flown.{Flown}
+use Rattle.kept_derive.specs.declared.flight.Flown.TheVariants.{Found, Cut}
+use Rattle.kept_derive.specs.Calls.{IsKeepable}
+use Rattle.kept_derive.specs.Looked.{sought_by, AreCounted, AreLooks, KeepsMore}
+use Rattle.kept_derive.specs.Runs.{At, known_in, world_in, keeps_of}
 use Rattle.kept_derive.specs.Stops.{IsStopped}
-use Rattle.kept_derive.specs.Calls.{IsIdle, IsKeepable}
 
--- The calls that were given outcomes were run and kept, and the walk is right by what was kept before and by them.
-pub record IsOnWay {Disk : Type 0} (told : Disk → Telling) (g : Graph) (n : Node) (first : At Disk) (walked : Walked) (now : At Disk) : Type 0 where
+-- Its tools in flight, what came of them kept, and the walk right by what was kept before and by what came. What runs is wanted, and what is
+-- wanted was so at a moment at which no chain was there.
+pub record IsOnWay {Disk : Type 0} (told : Disk → Telling) (g : Graph) (n : Node) (course : Course) (first : At Disk) (walked : Walked) (jobs : InFlight) (now : At Disk) : Type 0 where
   pub root : walked.root ≡ n
-  pub run : HasRun told g n first walked.given now
+  pub flown : Flies g first.store.sources.texts (known_in first.store) n jobs.limit first.tools course (record { running = jobs.running; given = walked.given; tools = now.tools })
+  pub goes : Goes told (keeps_of walked.given) first.store now.store first.disk now.disk
+  pub epoch : now.store.epoch ≡ first.store.epoch
   pub right : IsRight (world_in g first.store walked.given) walked
+  pub runs : (call : Call) → IsIn call (calls_in jobs.running) → IsIn call walked.wanted
+  pub called : (call : Call) → IsIn call walked.wanted → IsCalled g first.store.sources.texts (known_in first.store) n walked.given call
 
--- Calls are wanted, each once, and each may be run and kept.
-pub record MayRun (walked : Walked) (store : Store) (size : ℕ) (tools : Spawned) : Type 0 where
-  pub still : walked.result ≡ None
-  pub calls : (call : Call) → IsIn call walked.wanted → IsKeepable store call
-  pub idle : IsIdle store size tools
-  pub once : AreOnce walked.wanted
+-- ---- the next start
 
--- what goes on from every derivation on its way that is not refused at first, and what stops each
-abbrev pub GoesOn : {Disk : Type 0} → (Disk → Telling) → Walked → At Disk → Walked → At Disk → Type 0
-GoesOn {Disk} told old before new now =
-    (g : Graph) (n : Node) (first : At Disk) → ¬ IsRefusedBy g first.store.sources.texts (known_in first.store) n
-    → IsOnWay told g n first old before → IsOnWay told g n first new now
+-- A wanted call that doesn't run, where a slot is free; none where no slot is, or all that is wanted runs.
+pub record IsStartable (wanted : List Call) (jobs : InFlight) (call : Call) : Type 0 where
+  pub wanted : IsIn call wanted
+  pub new : IsIn call (calls_in jobs.running) → ⊥
+  pub room : length jobs.running < jobs.limit
 
-abbrev pub Stops : {Disk : Type 0} → (Disk → Telling) → Walked → At Disk → At Disk → KeptFault → Type 0
-Stops {Disk} told old before now fault =
-    (g : Graph) (n : Node) (first : At Disk) → ¬ IsRefusedBy g first.store.sources.texts (known_in first.store) n
-    → IsOnWay told g n first old before → IsStopped told g n first now fault
+abbrev pub IsNext : List Call → InFlight → Option Call → Type 0
+IsNext wanted jobs (Some call) = IsStartable wanted jobs call
+IsNext wanted jobs None = (length jobs.running ≡ jobs.limit) ⊎ ((call : Call) → IsIn call wanted → IsIn call (calls_in jobs.running))
+
+-- ---- what a flight comes to
+
+-- Something is found, by what came; or a tool was not started, or its end lost.
+pub record HasCome {Disk : Type 0} (told : Disk → Telling) (g : Graph) (n : Node) (first : At Disk) (walked : Walked) (jobs : InFlight) (now : At Disk) : Type 0 where
+  pub way : IsOnWay told g n on_course first walked jobs now
+  pub found : IsSome walked.result
+  pub advanced : IsAdvanced (world_in g now.store walked.given) walked
+
+-- each call that runs may be kept as it ends
+pub record MayDrain (walked : Walked) (jobs : InFlight) (store : Store) (size : ℕ) (tools : Spawned) : Type 0 where
+  pub told : AreTold jobs.running tools
+  pub wanted : (call : Call) → IsIn call (calls_in jobs.running) → IsIn call walked.wanted
+  pub keepable : (call : Call) → IsIn call (calls_in jobs.running) → IsKeepable store call
+  pub ready : IsReady store.journal size
+
+abbrev pub ComesTo : {Disk : Type 0} → (Disk → Telling) → Graph → Node → At Disk → Walked → InFlight → At Disk → Flown → Type 0
+ComesTo told g n first walked jobs now Found = HasCome told g n first walked jobs now
+ComesTo told g n first walked jobs now Cut = IsOnWay told g n (off_course for_spawn) first walked jobs now
+
+-- ---- the draining
+
+-- Every derivation that is off its course stays so, and none of its tools runs any more.
+pub record Drains {Disk : Type 0} (told : Disk → Telling) (walked : Walked) (jobs : InFlight) (old : At Disk) (walked' : Walked) (jobs' : InFlight) (new : At Disk) : Type 0 where
+  pub on : (g : Graph) (n : Node) (why : Why) (first : At Disk) → IsOnWay told g n (off_course why) first walked jobs old → IsOnWay told g n (off_course why) first walked' jobs' new
+  pub none : jobs'.running ≡ []
+  pub limit : jobs'.limit ≡ jobs.limit
+  pub result : walked'.result ≡ walked.result
+  pub sought : sought_by walked' ≡ sought_by walked
+  pub keeps : KeepsMore old.store new.store
+
+-- Every one is stopped by the fault, and so are its looks.
+pub record IsHalted {Disk : Type 0} (told : Disk → Telling) (g : Graph) (n : Node) (limit : ℕ) (first : At Disk) (walked : Walked) (new : At Disk) (fault : KeptFault) : Type 0 where
+  pub stopped : IsStopped told g n limit first new fault
+  pub looks : (before last : ℕ) → AreCounted before last 0 walked → AreLooks told g n limit first new before last (Err fault)
+
+abbrev pub DrainStops : {Disk : Type 0} → (Disk → Telling) → Walked → InFlight → At Disk → At Disk → KeptFault → Type 0
+DrainStops {Disk} told walked jobs old new fault =
+    (g : Graph) (n : Node) (why : Why) (first : At Disk) → first.tools.running ≡ [] → IsOnWay told g n (off_course why) first walked jobs old → IsHalted told g n jobs.limit first walked new fault

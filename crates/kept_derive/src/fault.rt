@@ -1,7 +1,6 @@
 // Why a node was not derived.
 use object_values::Memory;
 use odin_store::StoreFault;
-use plain_derive::PlainFault;
 
 /// Why a node was not derived. `Spawn`: a child program was not started, or its end was lost. `Disk`: the store is spent. `Full`: a record of
 /// this length doesn't fit behind this end of the store.
@@ -21,20 +20,6 @@ impl From<Memory> for KeptFault {
 
     fn from(_: Memory) -> Self {
         KeptFault::Memory
-    }
-}
-
-impl From<PlainFault> for KeptFault {
-    ghost use Rattle.kept_derive.specs.Faults.{of_plain};
-    ghost use Rattle.std.specs.Prelude.{◌≡◌};
-
-    ghost from_gives = { λ given fault. fault ≡ of_plain given };
-
-    fn from(fault: PlainFault) -> Self {
-        match fault {
-            PlainFault::Spawn => KeptFault::Spawn,
-            PlainFault::Memory => KeptFault::Memory,
-        }
     }
 }
 

@@ -1,11 +1,11 @@
-//! Derivation over what a store keeps, one tool at a time: each call is kept as its tool ends.
+//! Derivation over what a store keeps, several tools at a time: each call is kept as its tool ends.
 #![tactic(auto)]
 
-mod calls;
 mod derivation;
 mod fault;
+mod flight;
+mod landing;
 pub mod laws;
-mod running;
 
 pub use derivation::derive_kept;
 pub use derive_walk::Found;

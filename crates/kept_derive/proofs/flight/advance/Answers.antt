@@ -4,7 +4,7 @@ use Rattle.meaning_records.specs.Tables.{Tables}
 use Rattle.kept_tables.specs.Holdings.{Holding}
 use Rattle.derive_walk.specs.Walks.{IsAdvanced}
 use Rattle.derive_core.specs.Kept.{kept_world}
-use Rattle.kept_derive.proofs.derivation.advance.Goals as goal
+use Rattle.kept_derive.proofs.flight.advance.Goals as goal
 
 pub advance-requires-clause-sources : goal.advance-requires-clause-sources
 advance-requires-clause-sources g c = subst AreSources (sym (ap (λ z. z.texts) c.sources.ensures)) c.args.store.now.are

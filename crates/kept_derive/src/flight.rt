@@ -1,0 +1,156 @@
+// The tools of a derivation: started, waited for, and drained.
+ghost use Rattle.std.specs.Prelude.{◌≡◌, ◌<◌, [], OnOk, IfOk, IfErr, option_map};
+ghost use Rattle.meaning_graph_text.specs.Grammar.{IsSpellable};
+ghost use Rattle.path_planner.specs.Ends.{plans_of};
+ghost use Rattle.derive_walk.specs.Looks.{AreFew, lost, met_by};
+ghost use Rattle.derive_walk.specs.Walks.{IsRight, IsAdvanced, GoesOn, new_walk};
+ghost use Rattle.job_runner.specs.Flights.{none_in_flight};
+ghost use Rattle.kept_derive.specs.Calls.{IsIdle};
+ghost use Rattle.kept_derive.specs.Faults.{IsCause, IsLeft};
+ghost use Rattle.kept_derive.specs.Looked.{FlightLooks};
+ghost use Rattle.kept_derive.specs.Rests.{IsDerivable};
+ghost use Rattle.kept_derive.specs.Runs.{at, world_in};
+ghost use Rattle.kept_derive.specs.Stops.{IsStopped};
+ghost use Rattle.kept_derive.specs.Ways.{IsNext, ComesTo, MayDrain, Drains, DrainStops};
+
+use crate::fault::KeptFault;
+use crate::landing::{Landed, land};
+use derive_core::Core;
+use job_runner::{JobFault, Jobs};
+use object_values::{Call, Memory};
+use odin_outside::{Disk, Spawner, Steps};
+use odin_store::Store;
+use odin_store::laws::changes_follow;
+use path_planner::Plans;
+use std::alloc::Global;
+use std::sync::ledger::Ledger;
+use type_graph::Graph;
+
+/// What a flight came to: something was found of the root, or a tool was not started or its end lost.
+#[derive(Clone, Copy, PartialEq, Eq)]
+pub(crate) enum Flown {
+    Found,
+    Cut,
+}
+
+/// Runs the tools that the derivation needs, as many at once as may run, until something is found. One event a turn: a wanted call is
+/// started; or, where a slot is free and an outcome came since, the walk goes on; or an end is waited for.
+pub(crate) fn fly<D: Disk, S: Spawner, L: Ledger>(
+    alloc: Global,
+    graph: &Graph,
+    plans: &Plans,
+    core: &mut Core,
+    jobs: &mut Jobs,
+    store: &mut Store,
+    disk: &mut D,
+    tools: &mut S,
+    steps: &mut Steps<L>,
+) -> Result<Flown, KeptFault>
+    requires derivable { IsDerivable graph.now plans.now core.old.root }
+    requires first { core.old ≡ new_walk core.old.root }
+    requires rested { (jobs.old ≡ none_in_flight jobs.old.limit) × (0 < jobs.old.limit) }
+    requires idle { IsIdle store.old (D.size_of disk.old) (S.told tools.old) }
+    ensures flown { let old = at store.old disk.old (S.told tools.old) in
+        IfOk result (ComesTo D.told graph.now core.old.root old
+        core.new jobs.new (at store.new disk.new (S.told tools.new))) }
+    ensures stopped { let old = at store.old disk.old (S.told tools.old) in
+        IfErr result (IsStopped D.told graph.now core.old.root jobs.old.limit
+        old (at store.new disk.new (S.told tools.new))) }
+    ensures limit { jobs.new.limit ≡ jobs.old.limit }
+    ensures left { IsLeft store.new (D.size_of disk.new) result }
+    ensures cause { IsCause (D.faults disk.old) (D.faults disk.new) result }
+    ensures counted { let old = at store.old disk.old (S.told tools.old) in
+        FlightLooks D.told graph.now core.old.root jobs.old.limit
+        old (at store.new disk.new (S.told tools.new)) core.new steps.old steps.new result }
+{
+    graph.checked();
+    store.kept().fit();
+    changes_follow::<D>();
+    let mut fresh = false;
+    for _ in 0..u64::MAX {
+        if let Some(call) = next_call(core.wanted(), jobs) {
+            match jobs.start(alloc, call, tools) {
+                Ok(()) => {}
+                Err(JobFault::Spawn) => return Ok(Flown::Cut),
+                Err(JobFault::Memory) => return Err(KeptFault::Memory),
+            }
+        } else if fresh || jobs.is_full() {
+            match land(alloc, core, jobs, store, disk, tools)? {
+                Landed::Kept => fresh = false,
+                Landed::Lost => return Ok(Flown::Cut),
+            }
+        } else {
+            advance(alloc, core, graph, plans, store, steps)?;
+            if core.result().is_some() {
+                return Ok(Flown::Found);
+            }
+            fresh = true;
+        }
+    }
+    Err(KeptFault::Memory)
+}
+
+// The first wanted call that doesn't run; none where as many run as may.
+fn next_call<'a>(wanted: &'a [Call], jobs: &Jobs) -> Option<&'a Call>
+    ensures { IsNext wanted.now jobs.now (option_map (λ call. call.now) result) }
+{
+    if jobs.is_full() {
+        return None;
+    }
+    for call in wanted {
+        if !jobs.has(call) {
+            return Some(call);
+        }
+    }
+    None
+}
+
+/// Lets what runs come to its end. An end that is lost is passed over.
+pub(crate) fn drain<D: Disk, S: Spawner>(
+    alloc: Global,
+    core: &mut Core,
+    jobs: &mut Jobs,
+    store: &mut Store,
+    disk: &mut D,
+    tools: &mut S,
+) -> Result<(), KeptFault>
+    requires { MayDrain core.old jobs.old store.old (D.size_of disk.old) (S.told tools.old) }
+    ensures drains { let old = at store.old disk.old (S.told tools.old) in
+        OnOk result (Drains D.told core.old jobs.old old
+        core.new jobs.new (at store.new disk.new (S.told tools.new))) }
+    ensures stops { let old = at store.old disk.old (S.told tools.old) in
+        IfErr result (DrainStops D.told core.old jobs.old old
+        (at store.new disk.new (S.told tools.new))) }
+    ensures left { IsLeft store.new (D.size_of disk.new) result }
+    ensures cause { IsCause (D.faults disk.old) (D.faults disk.new) result }
+{
+    changes_follow::<D>();
+    let count = jobs.running();
+    for _ in 0..count {
+        land(alloc, core, jobs, store, disk, tools)?;
+    }
+    Ok(())
+}
+
+// Settles all that needs no further tool, by what the store keeps.
+fn advance<L: Ledger>(
+    alloc: Global,
+    core: &mut Core,
+    graph: &Graph,
+    plans: &Plans,
+    store: &Store,
+    steps: &mut Steps<L>,
+) -> Result<(), Memory>
+    requires spellable { IsSpellable graph.now }
+    requires made { plans.now ≡ plans_of graph.now }
+    requires right { IsRight (world_in graph.now store.now core.old.given) core.old }
+    ensures on { GoesOn core.old core.new }
+    ensures right { IsRight (world_in graph.now store.now core.new.given) core.new }
+    ensures advanced { OnOk result
+        (IsAdvanced (world_in graph.now store.now core.new.given) core.new) }
+    ensures counted { AreFew (met_by core.old) (met_by core.new)
+        steps.old steps.new (lost result) }
+{
+    let looks = store.kept().looks();
+    core.advance(alloc, graph, plans, store.sources(), &looks, steps)
+}
