@@ -134,7 +134,7 @@ module _ (g : Graph) (limit : ℕ) (table : Table) (old new : State) (right : Is
   step_true (Take name) body bytes step = true_with step.tools (edits_keep name old new step.makes)
   step_true (Remove name) body bytes step = true_with step.tools (edits_keep name old new step.makes)
   step_true (Ask text) body bytes step =
-      true_behind step.given step.makes (reply_true g table old.held.sources old.held.calls limit text step.given old.tools new.tools right step.says.said step.says.holds)
+      true_behind step.given step.makes (reply_true g table old.held.sources old.held.calls limit text old.tools new.tools right step.says.said step.given step.says.holds)
   step_true (Plan text) body bytes step = true_same step.same
   step_true Sources body bytes step = true_same step.1
   step_true Kept body bytes step = true_same step.1
@@ -147,7 +147,7 @@ module _ (g : Graph) (limit : ℕ) (table : Table) (old new : State) (right : Is
   left_step (Put name count) body may = true_with may.0.tools (edit_keeps _ old new (λ change due. puts_keep name body change due.1) may.0)
   left_step (Take name) body may = true_with may.0.tools (edit_keeps _ old new (λ change due. puts_keep name due.0 change due.3) may.0)
   left_step (Remove name) body may = true_with may.0.tools (edit_keeps _ old new (drops_keep name) may.0)
-  left_step (Ask text) body may = true_behind may.given may.makes (begun_true g table old.held.sources old.held.calls limit text may.given may.rest old.tools new.tools right may.begun)
+  left_step (Ask text) body may = true_behind may.given may.makes (begun_true g table old.held.sources old.held.calls limit text old.tools new.tools right may.given may.rest may.begun)
   left_step (Plan text) body may = true_same may
   left_step Sources body may = true_same may
   left_step Kept body may = true_same may
