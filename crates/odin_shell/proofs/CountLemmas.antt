@@ -191,7 +191,7 @@ counted g limit old (Ask text) body bytes new step =
           let outcomes = after (kept_outcome old.held.calls) step.given in
           by_silent old bytes new step.says.said step.says.bytes_are (answer_silent g old.held.sources outcomes text step.says.said (answered.answer outcomes (λ call o e. e))) tools (tree_later old new step.tree)
       | inr refused ↦
-          let counted = refusal_counted g limit old.held.sources old.held.calls text step.says.said step.given old.tools new.tools refused in
+          let counted = refusal_counted g old.held.sources old.held.calls limit text step.says.said step.given old.tools new.tools refused in
           let rose = counted.rose in
           let few = at_most_one (bytes_eq bytes (reply_text reply.RefusedToolStart)) in
           let none = no_read_in bytes step.says.said step.says.bytes_are (λ z. let is : step.says.said ≡ reply.RefusedToolStart = refused.is in let clashing : reply.RefusedToolStart ≡ reply.RefusedRead = sym is ∙ z in cc) in
