@@ -25,14 +25,14 @@ use Rattle.walk_tables.specs.declared.found.Found.TheVariants as found
 use Rattle.derive_walk.specs.Founds.{IsFound}
 use Rattle.derive_walk.specs.Outcomes.{after}
 use Rattle.derive_walk.proofs.Lemmas.{found_stays}
-use Rattle.plain_derive.specs.Flights.{Course, AreRun, AreFlown}
+use Rattle.plain_derive.specs.Flights.{Course, AreRun}
 use Rattle.plain_derive.proofs.Lemmas.{given_are_all}
 use Rattle.kept_derive.specs.Runs.{At, keeps_of, course_of}
 use Rattle.kept_derive.specs.Stops.{IsDrained as IsDrainedFor, IsUnkept, IsWanting}
 use Rattle.odin_engine.specs.declared.fault.AskFault.{AskFault}
 use Rattle.odin_engine.specs.declared.fault.AskFault.TheVariants as fault
 use Rattle.odin_engine.specs.Asked.{IsNodeOf}
-use Rattle.odin_engine.specs.Asking.{IsFoundFor, IsStoppedFor, IsAskFault}
+use Rattle.odin_engine.specs.Asking.{IsFoundFor, IsAskFault}
 use Rattle.odin_answers.specs.Answers.{AreAll, HaveFlown, IsReply, MayHaveBegun, found_reply}
 use Rattle.odin_answers.specs.Faults as faults
 use Rattle.odin_answers.specs.Replied.{HasReplied, HasWanted, HasFailed, IsFull, HasStopped}

@@ -1,5 +1,5 @@
 -- The count of the tools' faults over replies, and what else stays of the tools.
-use Rattle.std.proofs.Common.{◌≡◌, ◌≤◌, ℕ, [], inl, inr, ap, subst, arith}
+use Rattle.std.proofs.Common.{◌≡◌, ◌≤◌, ℕ, inl, inr, ap, subst, arith}
 use Rattle.odin_outside.specs.Causes.{IsCounted}
 use Rattle.odin_outside.specs.Spawned.{Spawned}
 use Rattle.object_values.specs.declared.nodes.Node.{Node}
@@ -9,13 +9,13 @@ use Rattle.meaning_derive.proofs.Lemmas.{no_chain}
 use Rattle.meaning_records.specs.Tables.{Calls, kept_outcome}
 use Rattle.meaning_commands.specs.declared.replies.Reply.{Reply}
 use Rattle.meaning_answers.specs.Answers.{Asks}
-use Rattle.meaning_answers.proofs.Lemmas.{not_refused, one_node}
+use Rattle.meaning_answers.proofs.Lemmas.{one_node}
 use Rattle.walk_tables.specs.declared.found.Found.{Found}
 use Rattle.walk_tables.specs.declared.found.Found.TheVariants as found
 use Rattle.derive_walk.specs.Founds.{IsFound}
 use Rattle.derive_walk.specs.Outcomes.{after}
 use Rattle.derive_walk.proofs.Lemmas.{found_stays}
-use Rattle.plain_derive.specs.Flights.{Course, on_course, off_course, for_chain, for_spawn, at_rest, AreRun, AreFlown}
+use Rattle.plain_derive.specs.Flights.{Course, on_course, off_course, for_chain, for_spawn, at_rest, AreRun}
 use Rattle.plain_derive.specs.FlightLaws.{IsFlown, CountedOn}
 use Rattle.plain_derive.proofs.Lemmas.{is_flown, counted_on}
 use Rattle.kept_derive.specs.Runs.{course_of}

@@ -23,7 +23,7 @@ use Rattle.plain_derive.specs.Flights.{Course, Flight, Flies, at_rest, for_spawn
 use Rattle.plain_derive.specs.FlightLaws.{HasStarted, IsUnflown}
 use Rattle.plain_derive.proofs.Lemmas.{given_are_calls, given_are_new, given_are_true, given_is_in, known_fly_none, refused_fly_none, only_needed_starts}
 use Rattle.kept_derive.specs.Runs.{course_of}
-use Rattle.odin_answers.specs.Answers.{IsLeftAlone, IsDerived, HasAnswer, IsStartRefused, IsReply, MayHaveBegun}
+use Rattle.odin_answers.specs.Answers.{IsDerived, HasAnswer, IsReply, MayHaveBegun}
 use Rattle.odin_answers.specs.Laws.{AreItsCalls, StartsOnlyIts, IsAnsweredAtOnce, IsTrueFor}
 use Rattle.odin_answers.proofs.CountLemmas.{derived_flown, drained_flown, have_flown, begun_answer, reply_answer}
 
