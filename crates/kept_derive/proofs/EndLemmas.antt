@@ -1,0 +1,79 @@
+-- What a derivation comes to.
+use Rattle.std.proofs.Common.{◌≡◌, ◌<◌, List, [], length, inl, inr, refl, sym, ap, subst, arith, ◌∙◌, is_some}
+use Rattle.std.specs.Prelude.{Some, IfSome}
+use Rattle.object_values.specs.declared.nodes.Node.{Node}
+use Rattle.object_values.specs.declared.views.View.{View}
+use Rattle.odin_outside.specs.Disk.{Telling}
+use Rattle.meaning_graph.specs.Graphs.{Graph}
+use Rattle.meaning_graph_text.specs.Grammar.{IsSpellable}
+use Rattle.meaning_graph_text.specs.Checks.{Checked}
+use Rattle.meaning_nodes.specs.Nodes.{Fits}
+use Rattle.meaning_derive.specs.Derive.{Sources}
+use Rattle.meaning_derive.specs.Given.{AreSources}
+use Rattle.walk_tables.specs.declared.found.Found.{Found}
+use Rattle.walk_tables.specs.declared.found.Found.TheVariants.{Answer, Circular, Deep}
+use Rattle.derive_walk.specs.Founds.{IsFound}
+use Rattle.derive_walk.specs.Outcomes.{after}
+use Rattle.derive_walk.specs.Walks.{Walked}
+use Rattle.derive_walk.specs.Worlds.{World, IsWorld}
+use Rattle.derive_walk.proofs.Lemmas.{found_fits}
+use Rattle.job_runner.specs.declared.jobs.Flying.{Flying}
+use Rattle.job_runner.specs.Flights.{InFlight}
+use Rattle.plain_derive.specs.Flights.{Course, on_course, off_course, Why, for_chain, for_spawn, Flies}
+use Rattle.plain_derive.proofs.Lemmas.{founded_rests}
+use Rattle.kept_derive.specs.declared.fault.KeptFault.TheVariants.{Spawn}
+use Rattle.kept_derive.specs.Runs.{At, known_in, world_in, course_of, HasRun, HasFound}
+use Rattle.kept_derive.specs.Stops.{IsStopped}
+use Rattle.kept_derive.specs.Ways.{IsOnWay}
+use Rattle.kept_derive.proofs.HeldLemmas.{sources_after}
+use Rattle.kept_derive.proofs.WayLemmas.{waits}
+use Rattle.kept_derive.proofs.TurnLemmas.{finds_chain}
+
+module _ {D : Type 0} (told : D → Telling) (g : Graph) (n : Node) (first : At D) where
+  module _ (course : Course) (walked : Walked) (jobs : InFlight) (now : At D) (way : IsOnWay told g n course first walked jobs now) where
+    is_found : (found : Found) → walked.result ≡ Some found → IsFound g first.store.sources.texts (after (known_in first.store) walked.given) n found
+    is_found found is =
+        let of_root : IsFound g first.store.sources.texts (after (known_in first.store) walked.given) walked.root found =
+        subst (λ r. IfSome r (IsFound g first.store.sources.texts (after (known_in first.store) walked.given) walked.root)) is way.right.found in
+        subst (λ z. IsFound g first.store.sources.texts (after (known_in first.store) walked.given) z found) way.root of_root
+
+    has_run : jobs.running ≡ [] → HasRun told g n jobs.limit course first walked.given now
+    has_run none = record {
+      run = record { flown = subst (λ (l : List Flying). Flies g first.store.sources.texts (known_in first.store) n jobs.limit first.tools course (record { running = l; given = walked.given; tools = now.tools })) none way.flown };
+      goes = way.goes;
+      epoch = way.epoch;
+    }
+
+    -- Something is found, and none runs any more.
+    pub has_found : IsSpellable g → Checked g → AreSources now.store.sources.texts → Fits g n → jobs.running ≡ [] → (found : Found) → walked.result ≡ Some found → course ≡ course_of found → HasFound told g n jobs.limit first now found
+    has_found spellable checked sources fits none found is same =
+        let w : World = world_in g first.store walked.given in
+        let texts : now.store.sources.texts ≡ first.store.sources.texts = sources_after told walked.given first.store now.store first.disk now.disk way.goes in
+        let world_is : IsWorld w = record { spellable = spellable; checked = checked; sources = subst (λ (s : Sources). AreSources s) texts sources; fit = way.right.fit } in
+        record {
+          given = walked.given;
+          run = subst (λ k. HasRun told g n jobs.limit k first walked.given now) same (has_run none);
+          is = is_found found is;
+          fit = found_fits w world_is n fits found (is_found found is);
+        }
+
+  -- What is drained for a tool that failed.
+  pub has_drained : (walked : Walked) (jobs : InFlight) (now : At D) → IsOnWay told g n (off_course for_spawn) first walked jobs now → jobs.running ≡ [] → IsStopped told g n jobs.limit first now Spawn
+  has_drained walked jobs now way none = record { given = walked.given; run = has_run (off_course for_spawn) walked jobs now way none }
+
+  module _ (walked : Walked) (jobs : InFlight) (now : At D) (way : IsOnWay told g n on_course first walked jobs now) where
+    -- for a chain it is off its course
+    pub takes_course : (found : Found) → walked.result ≡ Some found → IsOnWay told g n (course_of found) first walked jobs now
+    takes_course (Answer view) is = way
+    takes_course (Circular chain) is = finds_chain told g n first walked jobs now way (record { chain = chain; is = inl (is_found on_course walked jobs now way (Circular chain) is) })
+    takes_course (Deep chain) is = finds_chain told g n first walked jobs now way (record { chain = chain; is = inr (is_found on_course walked jobs now way (Deep chain) is) })
+
+    -- With a view none runs.
+    pub view_rests : (view : View) → walked.result ≡ Some (Answer view) → jobs.running ≡ []
+    view_rests view is =
+        founded_rests g first.store.sources.texts (after (known_in first.store) walked.given) n jobs.running (ap is_some (is_found on_course walked jobs now way (Answer view) is)) (λ call i. waits told g n first on_course walked jobs now way call (way.runs call i))
+
+    pub is_drained_for : (found : Found) → walked.result ≡ Some found → 0 < length jobs.running → (why : Why) × (course_of found ≡ off_course why)
+    is_drained_for (Answer view) is some = absurd (omega (arith, some, ap length (view_rests view is)))
+    is_drained_for (Circular chain) is some = (for_chain, refl)
+    is_drained_for (Deep chain) is some = (for_chain, refl)
