@@ -23,7 +23,9 @@ use Rattle.job_runner.specs.Flights.{InFlight, flying, calls_in, AreDistinct, Is
 use Rattle.job_runner.proofs.Lemmas.{distinct_less, calls_both, calls_cut, call_there, call_before, call_is_out}
 use Rattle.plain_derive.proofs.Lemmas.{last_or}
 use Rattle.kept_derive.specs.declared.fault.KeptFault.{KeptFault}
-use Rattle.kept_derive.specs.Calls.{IsKeepable, MayDrain, HasLanded, HasCrashed, FailsToLand}
+use Rattle.kept_derive.specs.declared.landing.Landed.{Landed}
+use Rattle.kept_derive.specs.declared.landing.Landed.TheVariants.{Kept, Lost}
+use Rattle.kept_derive.specs.Calls.{IsKeepable, MayDrain, HasLanded, HasCrashed, Lands, FailsToLand}
 use Rattle.kept_derive.specs.Faults.{of_store, IsLeftBy, IsLeft, IsCauseOf, IsCause}
 use Rattle.kept_derive.specs.Runs.{At, known_in}
 use Rattle.kept_derive.proofs.HeldLemmas.{calls_after}
@@ -82,7 +84,7 @@ module _ {D : Type 0} (told : D → Telling) (walked : Walked) (jobs : InFlight)
         ap (λ (l : Calls). kept_outcome l c) calls ∙ last_or old.store.kept.tables.calls has.call has.outcome c keepable.new ∙ ap (λ b. cond b (Some has.outcome) None) (differs c has.call apart);
   }
 
-  pub drains_on : HasLanded told walked jobs old walked' jobs' new → IsReady new.store.journal next → MayDrain walked' jobs' new.store next new.tools
+  drains_on : HasLanded told walked jobs old walked' jobs' new → IsReady new.store.journal next → MayDrain walked' jobs' new.store next new.tools
   drains_on has ready =
       let before = out_before has.ended.slot has.call jobs jobs' has.ended.out in
       let other = out_other has.ended.slot has.call jobs jobs' has.ended.out may.apart in
@@ -95,7 +97,7 @@ module _ {D : Type 0} (told : D → Telling) (walked : Walked) (jobs : InFlight)
         ready = ready;
       }
 
-  pub drains_past : HasCrashed told walked jobs old walked' jobs' new → IsReady new.store.journal next → MayDrain walked' jobs' new.store next new.tools
+  drains_past : HasCrashed told walked jobs old walked' jobs' new → IsReady new.store.journal next → MayDrain walked' jobs' new.store next new.tools
   drains_past has ready =
       let before = out_before has.lost.slot has.lost.call jobs jobs' has.lost.out in
       record {
@@ -108,6 +110,20 @@ module _ {D : Type 0} (told : D → Telling) (walked : Walked) (jobs : InFlight)
             record { formed = was.formed; new = ap (λ (t : Tables). kept_outcome t.calls c) has.same.store_is.tables ∙ was.new };
         ready = ready;
       }
+
+  -- ---- whether its end was lost or not
+
+  pub drains_more : (landed : Landed) → Lands told walked jobs old walked' jobs' new landed → IsReady new.store.journal next → MayDrain walked' jobs' new.store next new.tools
+  drains_more Kept has ready = drains_on has ready
+  drains_more Lost has ready = drains_past has ready
+
+  pub same_found : (landed : Landed) → Lands told walked jobs old walked' jobs' new landed → walked'.result ≡ walked.result
+  same_found Kept has = has.given.result
+  same_found Lost has = ap (λ (z : Walked). z.result) has.walk
+
+  pub one_fewer : (landed : Landed) → Lands told walked jobs old walked' jobs' new landed → length jobs.running ≡ length jobs'.running + 1
+  one_fewer Kept has = out_fewer has.ended.slot has.call jobs jobs' has.ended.out
+  one_fewer Lost has = out_fewer has.lost.slot has.lost.call jobs jobs' has.lost.out
 
 -- ---- an outcome that is not kept
 

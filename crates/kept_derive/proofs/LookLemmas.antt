@@ -32,10 +32,13 @@ use Rattle.plain_derive.proofs.Lemmas.{flown_given}
 use Rattle.kept_derive.specs.declared.fault.KeptFault.{KeptFault}
 use Rattle.kept_derive.specs.declared.fault.KeptFault.TheVariants.{Spawn, Disk, Full, Memory}
 use Rattle.kept_derive.specs.Runs.{At, known_in, world_in, keeps_of}
-use Rattle.kept_derive.specs.Calls.{FailsToLand}
+use Rattle.kept_derive.specs.declared.landing.Landed.{Landed}
+use Rattle.kept_derive.specs.declared.landing.Landed.TheVariants.{Kept, Lost}
+use Rattle.kept_derive.specs.Calls.{MayDrain, Lands, FailsToLand}
 use Rattle.kept_derive.specs.Looked.{HasLooked, AreLooks, sought_by, AreCounted, KeepsMore}
 use Rattle.kept_derive.specs.Ways.{IsOnWay}
 use Rattle.kept_derive.proofs.HeldLemmas.{nothing_behind, in_both, calls_after}
+use Rattle.kept_derive.proofs.CallLemmas.{out_ran}
 use Rattle.kept_derive.proofs.WayLemmas.{flight_at, MayEnd, worlds_are, known_now}
 use Rattle.kept_derive.proofs.TurnLemmas.{flown_over}
 
@@ -66,12 +69,18 @@ one_less call old new there once_old once_new fewer =
     by_test c i true same = inl ((call_exact c call).0 same)
     by_test c i false same = inr ((fewer c).1 (i, λ e. let yes : call_eq.eq c call ≡ true = (call_exact c call).1 e in cc))
 
-pub one_given : (call : Call) (outcome : Outcome) (old new : Walked) → IsIn call old.wanted → AreOnce old.wanted → IsGiven call outcome old new → sought_by new ≡ sought_by old
+one_given : (call : Call) (outcome : Outcome) (old new : Walked) → IsIn call old.wanted → AreOnce old.wanted → IsGiven call outcome old new → sought_by new ≡ sought_by old
 one_given call outcome old new there once is =
     let less : length old.wanted ≡ length new.wanted + 1 = one_less call old.wanted new.wanted there once is.once is.wanted in
     let same : stepped (nodes_of new.done) ≡ stepped (nodes_of old.done) = ap (λ (es : Entries). stepped (nodes_of es)) is.done in
     let longer : length new.given ≡ length old.given + 1 = ap length is.given ∙ length-append old.given ((call, outcome) ∷ []) in
     omega (arith, less, same, longer)
+
+-- an end, whether it was lost or not
+pub same_sought : {D : Type 0} (told : D → Telling) (walked : Walked) (jobs : InFlight) (old : At D) (walked' : Walked) (jobs' : InFlight) (new : At D) (size : ℕ) → MayDrain walked jobs old.store size old.tools
+    → (landed : Landed) → Lands told walked jobs old walked' jobs' new landed → sought_by walked' ≡ sought_by walked
+same_sought told walked jobs old walked' jobs' new size may Kept has = one_given has.call has.outcome walked walked' (may.wanted has.call (out_ran has.ended.slot has.call jobs jobs' has.ended.out)) may.once has.given
+same_sought told walked jobs old walked' jobs' new size may Lost has = ap (λ (z : Walked). sought_by z) has.walk
 
 -- ---- calls that are kept
 

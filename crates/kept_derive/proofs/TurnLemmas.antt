@@ -4,13 +4,14 @@ use Rattle.std.specs.Prelude.{None}
 use Rattle.object_values.specs.declared.nodes.Node.{Node}
 use Rattle.object_values.specs.declared.calls.Call.{Call}
 use Rattle.object_values.specs.declared.calls.Outcome.{Outcome}
-use Rattle.odin_outside.specs.declared.events.ToolEvent.TheVariants.{Ended, Lost}
+use Rattle.odin_outside.specs.declared.events.ToolEvent.TheVariants.{Ended, Lost as LostEnd}
 use Rattle.odin_outside.specs.Causes.{IsCounted}
 use Rattle.odin_outside.specs.Disk.{Telling}
 use Rattle.odin_outside.specs.Spawned.{Spawned, begun, Fails}
 use Rattle.meaning_texts.specs.Lists.{IsIn}
 use Rattle.meaning_calls.specs.Jobs.{job_of}
 use Rattle.meaning_graph.specs.Graphs.{Graph}
+use Rattle.meaning_derive.specs.Derive.{Sources, Outcomes}
 use Rattle.meaning_records.specs.Tables.{Calls}
 use Rattle.odin_journal.specs.declared.fault.JournalFault.{JournalFault}
 use Rattle.odin_journal.specs.declared.fault.JournalFault.TheVariants as store
@@ -20,6 +21,7 @@ use Rattle.odin_store.specs.OnDisk.{IsSame}
 use Rattle.odin_store.specs.Going.{Goes, ChangesFollow}
 use Rattle.derive_walk.specs.Outcomes.{after}
 use Rattle.derive_walk.specs.Walks.{Walked, IsRight, IsAdvanced, GoesOn as WalkGoesOn}
+use Rattle.derive_walk.specs.Worlds.{world}
 use Rattle.job_runner.specs.declared.jobs.Flying.{Flying}
 use Rattle.job_runner.specs.Flights.{InFlight, flying, calls_in, AreDistinct, landed, IsOut, HasBegun, HasEnded, HasLost}
 use Rattle.job_runner.specs.Made.{IsOutcomeOf}
@@ -31,8 +33,10 @@ use Rattle.kept_derive.specs.declared.fault.KeptFault.{KeptFault}
 use Rattle.kept_derive.specs.declared.fault.KeptFault.TheVariants.{Spawn, Disk, Full, Memory}
 use Rattle.kept_derive.specs.Runs.{At, at, known_in, world_in, keeps_of}
 use Rattle.kept_derive.specs.Stops.{IsUnkept, IsStopped}
-use Rattle.kept_derive.specs.Calls.{HasLanded, HasCrashed, HasSpilled, FailsToLand}
-use Rattle.kept_derive.specs.Ways.{IsOnWay, IsStartable}
+use Rattle.kept_derive.specs.declared.landing.Landed.{Landed}
+use Rattle.kept_derive.specs.declared.landing.Landed.TheVariants.{Kept, Lost}
+use Rattle.kept_derive.specs.Calls.{HasLanded, HasCrashed, HasSpilled, Lands, FailsToLand}
+use Rattle.kept_derive.specs.Ways.{IsOnWay, IsStartable, StaysOff}
 use Rattle.kept_derive.proofs.HeldLemmas.{keeps_one_more, nothing_behind}
 use Rattle.kept_derive.proofs.CallLemmas.{out_rest, out_limit, out_ran, out_fewer, out_before, out_other, out_apart}
 use Rattle.kept_derive.proofs.WayLemmas.{flight_at, MayEnd, worlds_are, waits, frontier}
@@ -90,7 +94,7 @@ module _ {D : Type 0} (told : D → Telling) (g : Graph) (n : Node) (first : At 
         → Flies g first.store.sources.texts (known_in first.store) n jobs.limit first.tools (after_loss course) (record { running = jobs'.running; given = walked.given; tools = new.tools })
     flight_lost jobs' new lost =
         let rest : jobs'.running ≡ lost.out.front ++ lost.out.back = out_rest lost.slot lost.call jobs jobs' lost.out in
-        let tools : new.tools ≡ landed old.tools (lost.out.front ++ lost.out.back) (Lost lost.slot) new.tools.faults = lost.told ∙ ap (λ l. landed old.tools l (Lost lost.slot) new.tools.faults) rest in
+        let tools : new.tools ≡ landed old.tools (lost.out.front ++ lost.out.back) (LostEnd lost.slot) new.tools.faults = lost.told ∙ ap (λ l. landed old.tools l (LostEnd lost.slot) new.tools.faults) rest in
         subst (λ (z : List Flying × Spawned). Flies g first.store.sources.texts (known_in first.store) n jobs.limit first.tools (after_loss course) (record { running = z.0; given = walked.given; tools = z.1 })) (λ i. (sym rest i, sym tools i))
         (flies_lost course (flight_at walked jobs old.tools) jobs.limit lost.out.front lost.out.back lost.slot lost.call new.tools.faults way.flown may lost.out.was lost.counted)
 
@@ -280,3 +284,11 @@ module _ {D : Type 0} (told : D → Telling) (g : Graph) (n : Node) (first : At 
       runs = way.runs;
       called = way.called;
     }
+
+-- ---- off its course, whether an end was lost or not
+
+pub stays_off : {D : Type 0} (told : D → Telling) → ChangesFollow told → (walked : Walked) (jobs : InFlight) (old : At D) (walked' : Walked) (jobs' : InFlight) (new : At D) (landed : Landed) → Lands told walked jobs old walked' jobs' new landed
+    → ((g : Graph) (s : Sources) (kept : Outcomes) → IsRight (world g s (after kept walked.given)) walked → IsRight (world g s (after kept walked'.given)) walked') → StaysOff told walked jobs old walked' jobs' new
+stays_off told follow walked jobs old walked' jobs' new Kept has right g n why first way =
+    lands told g n first (off_course why) walked jobs old way tt follow walked' jobs' new has (right g first.store.sources.texts (known_in first.store) way.right)
+stays_off told follow walked jobs old walked' jobs' new Lost has right g n why first way = crashes told g n first (off_course why) walked jobs old way tt follow walked' jobs' new has

@@ -54,9 +54,14 @@ ComesTo told g n first walked jobs now Cut = IsOnWay told g n (off_course for_sp
 
 -- ---- the draining
 
--- Every derivation that is off its course stays so, and none of its tools runs any more.
+-- every derivation that is off its course stays so
+abbrev pub StaysOff : {Disk : Type 0} → (Disk → Telling) → Walked → InFlight → At Disk → Walked → InFlight → At Disk → Type 0
+StaysOff {Disk} told walked jobs old walked' jobs' new =
+    (g : Graph) (n : Node) (why : Why) (first : At Disk) → IsOnWay told g n (off_course why) first walked jobs old → IsOnWay told g n (off_course why) first walked' jobs' new
+
+-- None of its tools runs any more, and what is found of it is the same.
 pub record Drains {Disk : Type 0} (told : Disk → Telling) (walked : Walked) (jobs : InFlight) (old : At Disk) (walked' : Walked) (jobs' : InFlight) (new : At Disk) : Type 0 where
-  pub on : (g : Graph) (n : Node) (why : Why) (first : At Disk) → IsOnWay told g n (off_course why) first walked jobs old → IsOnWay told g n (off_course why) first walked' jobs' new
+  pub on : StaysOff told walked jobs old walked' jobs' new
   pub none : jobs'.running ≡ []
   pub limit : jobs'.limit ≡ jobs.limit
   pub result : walked'.result ≡ walked.result
