@@ -47,6 +47,7 @@ pub fn derive_kept<D: Disk, S: Spawner, L: Ledger>(
         AreLooks D.told graph.now node.now limit old (at store.new disk.new (S.told tools.new))
         steps.old steps.new result }
 {
+    graph.checked();
     let mut core = Core::new(alloc, node.copy(alloc)?);
     let mut jobs = Jobs::new(alloc, limit);
     let flown = fly(
