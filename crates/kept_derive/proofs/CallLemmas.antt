@@ -1,6 +1,6 @@
 -- One end of a call, and what comes of it.
-use Rattle.std.proofs.Common.{◌≡◌, ◌≢◌, ◌+◌, ◌++◌, ◌∷◌, [], ℕ, Bool, true, false, cond, length, inl, inr, refl, sym, ap, subst, arith, length-append, ◌∙◌}
-use Rattle.std.specs.Prelude.{Some, None, Result, Err, IfErr}
+use Rattle.std.proofs.Common.{◌≡◌, ◌≢◌, ◌↔◌, ◌<◌, ◌≤◌, ◌+◌, ◌++◌, ◌∷◌, List, [], ℕ, zero, suc, get_or, Bool, true, false, cond, length, inl, inr, refl, sym, ap, subst, arith, length-append, ◌∙◌}
+use Rattle.std.specs.Prelude.{Some, None, Result, Err, IfErr, IsTrue, take}
 use Rattle.object_values.specs.declared.calls.Call.{Call}
 use Rattle.object_values.specs.declared.calls.Outcome.{Outcome}
 use Rattle.object_values.specs.contracts.calls.CallPartialEq.TheImpl.{ghosts as call_eq}
@@ -33,6 +33,33 @@ use Rattle.kept_derive.proofs.HeldLemmas.{calls_after}
 -- nothing happened to a store and its disk
 pub same_here : {D : Type 0} (store : Store) (disk : D) → IsSame store store disk disk
 same_here store disk = record { disk_is = refl; store_is = record { journal = refl; tables = refl; sources = refl; epoch = refl } }
+
+-- ---- the first that doesn't run
+
+pub room_left : (full : Bool) (running limit : ℕ) → running ≤ limit → (IsTrue full ↔ (running ≡ limit)) → full ≡ false → running < limit
+room_left full running limit few exact is = let apart : running ≢ limit = λ e. let yes : full ≡ true = exact.1 e in cc in omega (arith, few, apart)
+
+pub item_in : (xs : List Call) (k : ℕ) (x : Call) → k < length xs → x ≡ get_or xs k x → IsIn x xs
+item_in [] k x inside at = absurd (omega (arith, inside))
+item_in (y ∷ xs) zero x inside at = inl at
+item_in (y ∷ xs) (suc k) x inside at = inr (item_in xs k x (omega (arith, inside)) at)
+
+-- what holds of the first ones, and of the next
+all_further : (P : Call → Type 0) (xs : List Call) (k : ℕ) (x : Call) → k < length xs → x ≡ get_or xs k x → P x → ((y : Call) → IsIn y (take k xs) → P y) → (y : Call) → IsIn y (take (suc k) xs) → P y
+all_further P [] k x inside at here before y i = absurd (omega (arith, inside))
+all_further P (z ∷ xs) zero x inside at here before y (inl e) = subst P (at ∙ sym e) here
+all_further P (z ∷ xs) zero x inside at here before y (inr i) = absurd i
+all_further P (z ∷ xs) (suc k) x inside at here before y (inl e) = before y (inl e)
+all_further P (z ∷ xs) (suc k) x inside at here before y (inr i) = all_further P xs k x (omega (arith, inside)) at here (λ w j. before w (inr j)) y i
+
+pub all_on : (P : Call → Type 0) (xs : List Call) (k : ℕ) (x : Call) → k < length xs → x ≡ get_or xs k x → P x → ((y : Call) → IsIn y (take k xs) → P y) → (y : Call) → IsIn y (take (k + 1) xs) → P y
+all_on P xs k x inside at here before = let e : suc k ≡ k + 1 = omega arith in subst (λ m. (y : Call) → IsIn y (take m xs) → P y) e (all_further P xs k x inside at here before)
+
+pub in_taken : (xs : List Call) (k : ℕ) → length xs ≤ k → (y : Call) → IsIn y xs → IsIn y (take k xs)
+in_taken [] k all y i = absurd i
+in_taken (z ∷ xs) zero all y i = absurd (omega (arith, all))
+in_taken (z ∷ xs) (suc k) all y (inl e) = inl e
+in_taken (z ∷ xs) (suc k) all y (inr i) = inr (in_taken xs k (omega (arith, all)) y i)
 
 -- ---- one that is out
 
@@ -125,6 +152,14 @@ module _ {D : Type 0} (told : D → Telling) (walked : Walked) (jobs : InFlight)
   one_fewer Kept has = out_fewer has.ended.slot has.call jobs jobs' has.ended.out
   one_fewer Lost has = out_fewer has.lost.slot has.lost.call jobs jobs' has.lost.out
 
+pub kept_is : {D : Type 0} (told : D → Telling) (walked : Walked) (jobs : InFlight) (old : At D) (walked' : Walked) (jobs' : InFlight) (new : At D) (landed : Landed)
+    → landed ≡ Kept → Lands told walked jobs old walked' jobs' new landed → HasLanded told walked jobs old walked' jobs' new
+kept_is told walked jobs old walked' jobs' new landed is has = subst (Lands told walked jobs old walked' jobs' new) is has
+
+pub lost_is : {D : Type 0} (told : D → Telling) (walked : Walked) (jobs : InFlight) (old : At D) (walked' : Walked) (jobs' : InFlight) (new : At D) (landed : Landed)
+    → landed ≡ Lost → Lands told walked jobs old walked' jobs' new landed → HasCrashed told walked jobs old walked' jobs' new
+lost_is told walked jobs old walked' jobs' new landed is has = subst (Lands told walked jobs old walked' jobs' new) is has
+
 -- ---- an outcome that is not kept
 
 pub unkept : {D : Type 0} (told : D → Telling) (walked : Walked) (jobs : InFlight) (old : At D) (walked' : Walked) (jobs' : InFlight) (new : At D) (call : Call) (outcome : Outcome) (fault : JournalFault)
@@ -169,6 +204,6 @@ store_cause result fault before now is cause = subst (IsCause before now) (sym i
 pub left_by : {T : Type 0} (result : Result T KeptFault) (fault : KeptFault) (store : Store) (size : ℕ) → result ≡ Err fault → IsLeftBy store size fault → IsLeft store size result
 left_by result fault store size is left = subst (IsLeft store size) (sym is) (record { ready = tt; left = left })
 
--- what holds at the fault that is answered
-pub at_fault : {T : Type 0} (result : Result T KeptFault) (P : KeptFault → Type 0) (fault : KeptFault) → result ≡ Err fault → P fault → IfErr result P
-at_fault result P fault is holds = subst (λ r. IfErr r P) (sym is) holds
+pub fails_at : {T D : Type 0} (result : Result T KeptFault) (told : D → Telling) (walked : Walked) (jobs : InFlight) (old : At D) (walked' : Walked) (jobs' : InFlight) (new : At D) (fault : KeptFault)
+    → result ≡ Err fault → FailsToLand told walked jobs old walked' jobs' new fault → IfErr result (FailsToLand told walked jobs old walked' jobs' new)
+fails_at result told walked jobs old walked' jobs' new fault is fails = subst (λ r. IfErr r (FailsToLand told walked jobs old walked' jobs' new)) (sym is) fails

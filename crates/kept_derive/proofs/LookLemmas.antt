@@ -1,6 +1,6 @@
 -- The looks of a derivation.
 use Rattle.std.proofs.Common.{◌≡◌, ◌≢◌, ◌↔◌, ℕ, ◌+◌, ◌≤◌, Bool, true, false, List, [], ◌∷◌, ◌++◌, length, inl, inr, refl, sym, ap, subst, arith, length-append, ◌∙◌}
-use Rattle.std.specs.Prelude.{Err}
+use Rattle.std.specs.Prelude.{Result, Err}
 use Rattle.object_values.specs.declared.nodes.Node.{Node}
 use Rattle.object_values.specs.declared.calls.Call.{Call}
 use Rattle.object_values.specs.declared.calls.Outcome.{Outcome}
@@ -17,7 +17,7 @@ use Rattle.odin_journal.specs.declared.fault.JournalFault.{JournalFault}
 use Rattle.odin_journal.specs.declared.fault.JournalFault.TheVariants as store
 use Rattle.odin_store.specs.declared.store.Store.{Store}
 use Rattle.odin_store.specs.OnDisk.{IsUnchanged}
-use Rattle.odin_store.specs.Going.{Goes}
+use Rattle.odin_store.specs.Going.{Goes, ChangesFollow}
 use Rattle.walk_tables.specs.Calls.{AreOnce, outcome_in}
 use Rattle.walk_tables.specs.Tables.{Entries, nodes_of}
 use Rattle.derive_walk.specs.Looks.{AreFew, met_by, stepped}
@@ -35,12 +35,14 @@ use Rattle.kept_derive.specs.Runs.{At, known_in, world_in, keeps_of}
 use Rattle.kept_derive.specs.declared.landing.Landed.{Landed}
 use Rattle.kept_derive.specs.declared.landing.Landed.TheVariants.{Kept, Lost}
 use Rattle.kept_derive.specs.Calls.{MayDrain, Lands, FailsToLand}
-use Rattle.kept_derive.specs.Looked.{HasLooked, AreLooks, sought_by, AreCounted, KeepsMore}
-use Rattle.kept_derive.specs.Ways.{IsOnWay}
+use Rattle.kept_derive.specs.declared.flight.Flown.{Flown}
+use Rattle.walk_tables.specs.declared.found.Found.{Found}
+use Rattle.kept_derive.specs.Looked.{HasLooked, AreLooks, FlightLooks, sought_by, AreCounted, KeepsMore}
+use Rattle.kept_derive.specs.Ways.{IsOnWay, IsHalted}
 use Rattle.kept_derive.proofs.HeldLemmas.{nothing_behind, in_both, calls_after}
 use Rattle.kept_derive.proofs.CallLemmas.{out_ran}
 use Rattle.kept_derive.proofs.WayLemmas.{flight_at, MayEnd, worlds_are, known_now}
-use Rattle.kept_derive.proofs.TurnLemmas.{flown_over}
+use Rattle.kept_derive.proofs.TurnLemmas.{flown_over, fails}
 
 -- ---- on the way
 
@@ -164,3 +166,21 @@ module _ {D : Type 0} (told : D → Telling) (g : Graph) (n : Node) (first : At 
     fails_looked may walked' jobs' new before last Memory (inr has) counted =
         let kept : KeepsMore now.store new.store = record { more = (has.call, has.outcome) ∷ []; is = calls_after told ((has.call, has.outcome) ∷ []) now.store new.store now.disk new.disk has.goes } in
         looked_on g n first.store now.store new.store before last 1 kept (gives_up_looked before last counted)
+
+    -- and so do its looks
+    pub halts : ChangesFollow told → MayEnd g first.store.sources.texts (known_in first.store) n jobs.limit course (flight_at walked jobs now.tools) → (walked' : Walked) (jobs' : InFlight) (new : At D) (fault : KeptFault)
+        → FailsToLand told walked jobs now walked' jobs' new fault → (limit : ℕ) → jobs.limit ≡ limit → (began : Walked) → sought_by walked ≡ sought_by began → IsHalted told g n limit first began new fault
+    halts follow may walked' jobs' new fault has limit same began sought = subst (λ k. IsHalted told g n k first began new fault) same (record {
+      stopped = fails told g n first course walked jobs now way may follow walked' jobs' new fault has;
+      looks = λ before last counted. fails_looked may walked' jobs' new before last fault has (ends_counted before last began walked counted sought);
+    })
+
+-- as the answers say it
+pub flight_looks_at : {D : Type 0} (result : Result Flown KeptFault) (told : D → Telling) (g : Graph) (n : Node) (limit k : ℕ) (first now : At D) (walked : Walked) (before last : ℕ) (fault : KeptFault) → result ≡ Err fault → k ≡ limit
+    → AreLooks told g n k first now before last (Err fault) → FlightLooks told g n limit first now walked before last result
+flight_looks_at result told g n limit k first now walked before last fault is same looks =
+    subst (FlightLooks told g n limit first now walked before last) (sym is) (subst (λ m. AreLooks told g n m first now before last (Err fault)) same looks)
+
+pub looks_at : {D : Type 0} (result : Result Found KeptFault) (told : D → Telling) (g : Graph) (n : Node) (limit : ℕ) (first now : At D) (before last : ℕ) (fault : KeptFault) → result ≡ Err fault → AreLooks told g n limit first now before last (Err fault)
+    → AreLooks told g n limit first now before last result
+looks_at result told g n limit first now before last fault is looks = subst (AreLooks told g n limit first now before last) (sym is) looks

@@ -1,6 +1,6 @@
 -- One turn of a derivation on its way: a call is started, or one ends or is lost, or the walk goes on.
 use Rattle.std.proofs.Common.{◌≡◌, ◌≤◌, ◌⊎◌, ℕ, List, [], ◌∷◌, ◌++◌, length, inl, inr, refl, sym, ap, subst, arith, append_assoc, length-append, ◌∙◌}
-use Rattle.std.specs.Prelude.{None}
+use Rattle.std.specs.Prelude.{None, Result, Err, IfErr}
 use Rattle.object_values.specs.declared.nodes.Node.{Node}
 use Rattle.object_values.specs.declared.calls.Call.{Call}
 use Rattle.object_values.specs.declared.calls.Outcome.{Outcome}
@@ -36,7 +36,7 @@ use Rattle.kept_derive.specs.Stops.{IsUnkept, IsStopped}
 use Rattle.kept_derive.specs.declared.landing.Landed.{Landed}
 use Rattle.kept_derive.specs.declared.landing.Landed.TheVariants.{Kept, Lost}
 use Rattle.kept_derive.specs.Calls.{HasLanded, HasCrashed, HasSpilled, Lands, FailsToLand}
-use Rattle.kept_derive.specs.Ways.{IsOnWay, IsStartable, StaysOff}
+use Rattle.kept_derive.specs.Ways.{IsOnWay, IsStartable, StaysOff, DrainStops}
 use Rattle.kept_derive.proofs.HeldLemmas.{keeps_one_more, nothing_behind}
 use Rattle.kept_derive.proofs.CallLemmas.{out_rest, out_limit, out_ran, out_fewer, out_before, out_other, out_apart}
 use Rattle.kept_derive.proofs.WayLemmas.{flight_at, MayEnd, worlds_are, waits, frontier}
@@ -196,20 +196,22 @@ module _ {D : Type 0} (told : D → Telling) (g : Graph) (n : Node) (first : At 
 
   module _ (course : Course) (walked : Walked) (jobs : InFlight) (old : At D) (way : IsOnWay told g n course first walked jobs old) where
     -- memory was wanting, and nothing happened
-    pub gives_up : IsStopped told g n jobs.limit first old Memory
-    gives_up = record {
-      given = walked.given;
-      rest = [];
-      few = omega arith;
-      flown = record {
-        course = course;
-        running = jobs.running;
-        few = way.few;
-        flown = subst (λ (l : Calls). Flies g first.store.sources.texts (known_in first.store) n jobs.limit first.tools course (record { running = jobs.running; given = l; tools = old.tools })) (sym (nothing_behind walked.given)) way.flown;
-      };
-      goes = way.goes;
-      epoch = way.epoch;
-    }
+    pub gives_up : (limit : ℕ) → jobs.limit ≡ limit → (tools : Spawned) → tools ≡ old.tools → IsStopped told g n limit first (at old.store old.disk tools) Memory
+    gives_up limit same tools still =
+        let there : IsStopped told g n jobs.limit first old Memory = record {
+          given = walked.given;
+          rest = [];
+          few = omega arith;
+          flown = record {
+            course = course;
+            running = jobs.running;
+            few = way.few;
+            flown = subst (λ (l : Calls). Flies g first.store.sources.texts (known_in first.store) n jobs.limit first.tools course (record { running = jobs.running; given = l; tools = old.tools })) (sym (nothing_behind walked.given)) way.flown;
+          };
+          goes = way.goes;
+          epoch = way.epoch;
+        } in
+        subst (λ (z : ℕ × Spawned). IsStopped told g n z.0 first (at old.store old.disk z.1) Memory) (λ i. (same i, sym still i)) there
 
   -- ---- on its course
 
@@ -292,3 +294,12 @@ pub stays_off : {D : Type 0} (told : D → Telling) → ChangesFollow told → (
 stays_off told follow walked jobs old walked' jobs' new Kept has right g n why first way =
     lands told g n first (off_course why) walked jobs old way tt follow walked' jobs' new has (right g first.store.sources.texts (known_in first.store) way.right)
 stays_off told follow walked jobs old walked' jobs' new Lost has right g n why first way = crashes told g n first (off_course why) walked jobs old way tt follow walked' jobs' new has
+
+-- ---- as the answers say it
+
+pub stopped_at : {T D : Type 0} (result : Result T KeptFault) (told : D → Telling) (g : Graph) (n : Node) (limit k : ℕ) (old new : At D) (fault : KeptFault) → result ≡ Err fault → k ≡ limit → IsStopped told g n k old new fault
+    → IfErr result (IsStopped told g n limit old new)
+stopped_at result told g n limit k old new fault is same stopped = subst (λ r. IfErr r (IsStopped told g n limit old new)) (sym is) (subst (λ m. IsStopped told g n m old new fault) same stopped)
+
+pub drain_stops_at : {T D : Type 0} (result : Result T KeptFault) (told : D → Telling) (walked : Walked) (jobs : InFlight) (old new : At D) (fault : KeptFault) → result ≡ Err fault → DrainStops told walked jobs old new fault → IfErr result (DrainStops told walked jobs old new)
+drain_stops_at result told walked jobs old new fault is stops = subst (λ r. IfErr r (DrainStops told walked jobs old new)) (sym is) stops

@@ -23,7 +23,7 @@ use Rattle.derive_walk.specs.Walks.{Walked, new_walk, IsRight, AreFrontier, IsAd
 use Rattle.derive_walk.specs.Worlds.{World, world, IsWorld}
 use Rattle.derive_walk.proofs.Lemmas.{wanted_formed}
 use Rattle.job_runner.specs.declared.jobs.Flying.{Flying}
-use Rattle.job_runner.specs.Flights.{InFlight, none_in_flight, calls_in, AreDistinct}
+use Rattle.job_runner.specs.Flights.{InFlight, none_in_flight, calls_in, AreDistinct, AreTold}
 use Rattle.job_runner.proofs.Lemmas.{calls_long}
 use Rattle.plain_derive.specs.Given.{AreGiven}
 use Rattle.plain_derive.specs.Flights.{Flight, Course, on_course, off_course, Waits, IsFull, IsClear, Flies}
@@ -116,6 +116,9 @@ module _ {D : Type 0} (told : D → Telling) (g : Graph) (n : Node) (first : At 
     pub right_now : IsRight (world_in g now.store walked.given) walked
     right_now = subst (λ w. IsRight w walked) (sym (worlds_are walked.given now way.goes)) way.right
 
+    pub told_now : first.tools.running ≡ [] → AreTold jobs.running now.tools
+    told_now idle = flown_told g first.store.sources.texts (known_in first.store) n jobs.limit first.tools idle course (flight_at walked jobs now.tools) way.flown
+
     -- Each call that runs may be kept as it ends.
     pub may_drain : IsSpellable g → Checked g → AreSources now.store.sources.texts → first.tools.running ≡ [] → (size : ℕ) → IsReady now.store.journal size → MayDrain walked jobs now.store size now.tools
     may_drain spellable checked sources idle size ready =
@@ -123,7 +126,7 @@ module _ {D : Type 0} (told : D → Telling) (g : Graph) (n : Node) (first : At 
         let right : IsRight w walked = right_now in
         let is : IsWorld w = record { spellable = spellable; checked = checked; sources = sources; fit = right.fit } in
         record {
-          told = flown_told g first.store.sources.texts (known_in first.store) n jobs.limit first.tools idle course (flight_at walked jobs now.tools) way.flown;
+          told = told_now idle;
           apart = way.apart;
           once = right.once;
           wanted = way.runs;

@@ -32,8 +32,8 @@ pub record IsOnWay {Disk : Type 0} (told : Disk → Telling) (g : Graph) (n : No
 -- ---- the next start
 
 -- A wanted call that doesn't run, where a slot is free; none where no slot is, or all that is wanted runs.
-pub record IsStartable (wanted : List Call) (jobs : InFlight) (call : Call) : Type 0 where
-  pub wanted : IsIn call wanted
+pub record IsStartable (calls : List Call) (jobs : InFlight) (call : Call) : Type 0 where
+  pub wanted : IsIn call calls
   pub new : IsIn call (calls_in jobs.running) → ⊥
   pub room : length jobs.running < jobs.limit
 

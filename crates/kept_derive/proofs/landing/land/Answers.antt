@@ -3,7 +3,7 @@ use Rattle.std.specs.Prelude.{Err}
 use Rattle.std.proofs.lemmas.Result.{err_from_is_err_and}
 use Rattle.odin_store.specs.Held.{keeps}
 use Rattle.kept_derive.specs.declared.fault.KeptFault.TheVariants.{Memory}
-use Rattle.kept_derive.proofs.CallLemmas.{out_ran, unkept, refused_but, at_fault}
+use Rattle.kept_derive.proofs.CallLemmas.{out_ran, unkept, refused_but, fails_at}
 use Rattle.kept_derive.proofs.landing.land.Goals as goal
 
 pub keep_call-requires : goal.keep_call-requires
@@ -23,12 +23,12 @@ pub returns-in_err-keep_call-clause-fails : goal.returns-in_err-keep_call-clause
 returns-in_err-keep_call-clause-fails g c =
     let given = err_from_is_err_and _ c.from_residual.ensures.1 in
     let failed = c.edits_are_told.ensures.failed (keeps c.in-Ok.ended.0 c.in-Ok.ended.1) _ _ _ _ _ c.in_err-keep_call.ensures.fault (λ apart. c.in_err-keep_call.ensures.same (refused_but (Unit {0}) _ apart)) c.keep_call.ensures.any_moment in
-    at_fault _ _ _ (given.1 ∙ ap (λ f. Err f) given.2) (unkept g.D.Disk.told _ _ _ _ _ _ c.in-Ok.ended.0 c.in-Ok.ended.1 _ c.in-Ok.ensures.ok failed)
+    fails_at _ _ _ _ _ _ _ _ _ (given.1 ∙ ap (λ f. Err f) given.2) (unkept g.D.Disk.told _ _ _ _ _ _ c.in-Ok.ended.0 c.in-Ok.ended.1 _ c.in-Ok.ensures.ok failed)
 
 pub returns-in_err-give-clause-fails : goal.returns-in_err-give-clause-fails
 returns-in_err-give-clause-fails g c =
     let given = err_from_is_err_and _ c.from_residual-in_err-give.ensures.1 in
-    at_fault _ _ Memory (given.1 ∙ ap (λ f. Err f) given.2) (inr (record {
+    fails_at _ _ _ _ _ _ _ _ Memory (given.1 ∙ ap (λ f. Err f) given.2) (inr (record {
       call = c.in-Ok.ended.0;
       outcome = c.in-Ok.ended.1;
       ended = c.in-Ok.ensures.ok;
