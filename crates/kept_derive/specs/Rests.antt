@@ -21,6 +21,10 @@ abbrev pub LeavesTools : KeptFault → Type 0
 LeavesTools Spawn = ⊥
 LeavesTools other = ⊤
 
+-- each fault does
+abbrev pub LeavesAll : {E : Type 0} → E → Type 0
+LeavesAll fault = ⊤
+
 -- The tools answer as before, no more of them run than may, and none but after a fault that leaves them.
 pub record ComesToRest {T E : Type 0} (Leaves : E → Type 0) (limit : ℕ) (before now : Spawned) (result : Result T E) : Type 0 where
   pub answer : now.answer ≡ before.answer

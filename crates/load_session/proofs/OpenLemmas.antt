@@ -46,7 +46,7 @@ none_kept graph new store opens =
 
 -- a session over a store that was opened just now
 pub opened_new : (session : Session) (text : Text) (graph : Graph) (old : LoadFile) → text ≡ graph_text → old ≡ empty_disk → IsRead graph_text graph
-    → OpensQuiet text (told_of_disk old) (told_of_disk session.disk) session.engine.store → engine.IsNew graph (length (image_of session.disk.file)) session.engine
+    → OpensQuiet text (told_of_disk old) (told_of_disk session.disk) session.engine.store → engine.IsNew graph 1 (length (image_of session.disk.file)) session.engine
     → session.tools ≡ tools.new_tools Toys [] → IsNew session
 opened_new session text graph old text_is empty read opens new same =
     let opened : OpensQuiet graph_text (told_of_disk empty_disk) (told_of_disk session.disk) session.engine.store =
@@ -55,6 +55,7 @@ opened_new session text graph old text_is empty read opens new same =
     record {
       opened = record { read = subst (IsRead graph_text) (sym new.graph_is) read; opened = opened; tools_are = ap tools.told_of same };
       rests = record {
+        jobs = new.jobs_is;
         idle = record { ready = new.ready; none = ap (λ (t : tools.Tools). t.running) same };
         counted = ap (λ (t : tools.Tools). t.starts) same ∙ ap length (sym none);
       };

@@ -18,6 +18,7 @@ use Rattle.odin_journal.specs.declared.fault.JournalFault.TheVariants as fault
 use Rattle.odin_store.specs.Held as held
 use Rattle.odin_store.specs.OnDisk.{held_in}
 use Rattle.odin_store.specs.Edited.{HasPut, HasFailed}
+use Rattle.odin_engine.specs.Engaged.{Stays}
 use Rattle.odin_answers.specs.Replied.{HasReplied, HasStopped}
 use Rattle.odin_answers.proofs.Lemmas.{refusal_counted}
 use Rattle.load_session.specs.declared.session.Session.{Session}
@@ -42,15 +43,16 @@ calls_behind : (old new : Session) (given : Calls) (reply : Reply) → HasAnswer
 calls_behind old new given reply has = ap (λ (h : held.Held). h.calls) has.goes.holds ∙ keeps_calls given (held_in old.engine.store)
 
 pub put_served : (old new : Session) (name text name' text' : Text) (changed : Bool) → name' ≡ name → text' ≡ text
-    → HasPut told_of_disk name' text' old.engine.store new.engine.store old.disk new.disk changed → new.engine.graph ≡ old.engine.graph → new.tools ≡ old.tools
+    → HasPut told_of_disk name' text' old.engine.store new.engine.store old.disk new.disk changed → Stays old.engine new.engine → new.tools ≡ old.tools
     → IsReady new.engine.store.journal (length (image_of new.disk.file)) → IsAtRest old → HasServed old (puts name text ∷ []) [] new
-put_served old new name text name' text' changed name_is text_is has graph same ready rests =
+put_served old new name text name' text' changed name_is text_is has stays same ready rests =
     let put_is : HasPut told_of_disk name text old.engine.store new.engine.store old.disk new.disk changed =
     subst₂ (λ n t. HasPut told_of_disk n t old.engine.store new.engine.store old.disk new.disk changed) name_is text_is has in
     record {
-      graph = graph;
+      graph = stays.graph;
       serves = put [] [] (moment old) (moment new) name text changed none put_is (ap tools.told_of same);
       rests = record {
+        jobs = stays.jobs ∙ rests.jobs;
         idle = record { ready = ready; none = ap (λ (t : tools.Tools). t.running) same ∙ rests.idle.none };
         counted = ap (λ (t : tools.Tools). t.starts) same ∙ rests.counted ∙ ap length (sym (put_calls name text old.engine.store new.engine.store old.disk new.disk changed put_is));
       };
@@ -58,11 +60,11 @@ put_served old new name text name' text' changed name_is text_is has graph same 
     }
 
 -- The answer for what was replied: none of such tools is refused a start.
-answered : (old new : Session) (reply : Reply) → (r : HasReplied told_of_disk old.engine.graph asked_text (moment old) (moment new) reply) → HasAnswered old.engine.graph (moment old) r.given reply (moment new)
+answered : (old new : Session) (reply : Reply) → (r : HasReplied told_of_disk old.engine.graph 1 asked_text (moment old) (moment new) reply) → HasAnswered old.engine.graph (moment old) r.given reply (moment new)
 answered old new reply r = elim r.is [
   | inl answer ↦ record { is = answer; goes = r.goes; epoch = r.epoch }
   | inr refused ↦
-      let counted : IsCounted 0 0 = refusal_counted old.engine.graph old.engine.store.sources.texts (calls_in old) asked_text reply r.given (tools.told_of old.tools) (tools.told_of new.tools) refused in
+      let counted : IsCounted 0 0 = refusal_counted old.engine.graph old.engine.store.sources.texts (calls_in old) 1 asked_text reply r.given (tools.told_of old.tools) (tools.told_of new.tools) refused in
       let rose = counted.rose in
       absurd (omega arith)
 ]
@@ -74,18 +76,25 @@ answer_run old new given reply has rests small =
     let more : length (calls_in new) ≡ length (calls_in old) + length given = ap length (calls_behind old new given reply has) ∙ length-append (calls_in old) given in
     let counted = rests.counted in (
       more,
-      answer_starts old.engine.graph old.engine.store.sources.texts (calls_in old) asked_text reply given (tools.told_of old.tools) (tools.told_of new.tools) has.is (omega arith),
+      answer_starts old.engine.graph old.engine.store.sources.texts (calls_in old) 1 asked_text reply given (tools.told_of old.tools) (tools.told_of new.tools) has.is refl (omega arith) (omega arith),
     )
 
-pub ask_rises : (old new : Session) (reply : Reply) → HasReplied told_of_disk old.engine.graph asked_text (moment old) (moment new) reply → IsAtRest old → length (calls_in new) < 2 ^ 64
-    → old.tools.starts ≤ new.tools.starts
-ask_rises old new reply r rests small = let run = (answer_run old new r.given reply (answered old new reply r) rests small).1 in omega arith
+-- the limit is that of a load
+by_one : (old new : Session) (reply : Reply) → IsAtRest old → HasReplied told_of_disk old.engine.graph old.engine.jobs asked_text (moment old) (moment new) reply → HasReplied told_of_disk old.engine.graph 1 asked_text (moment old) (moment new) reply
+by_one old new reply rests r = subst (λ (limit : ℕ). HasReplied told_of_disk old.engine.graph limit asked_text (moment old) (moment new) reply) rests.jobs r
 
-pub ask_served : (old new : Session) (asked : Asked) (reply : Reply) → HasReplied told_of_disk old.engine.graph asked_text (moment old) (moment new) reply
-    → new.engine.graph ≡ old.engine.graph → IsReady new.engine.store.journal (length (image_of new.disk.file)) → new.tools.running ≡ [] → IsAtRest old
+pub ask_rises : (old new : Session) (reply : Reply) → HasReplied told_of_disk old.engine.graph old.engine.jobs asked_text (moment old) (moment new) reply → IsAtRest old → length (calls_in new) < 2 ^ 64
+    → old.tools.starts ≤ new.tools.starts
+ask_rises old new reply replied rests small =
+    let r = by_one old new reply rests replied in
+    let run = (answer_run old new r.given reply (answered old new reply r) rests small).1 in omega arith
+
+pub ask_served : (old new : Session) (asked : Asked) (reply : Reply) → HasReplied told_of_disk old.engine.graph old.engine.jobs asked_text (moment old) (moment new) reply
+    → Stays old.engine new.engine → IsReady new.engine.store.journal (length (image_of new.disk.file)) → new.tools.running ≡ [] → IsAtRest old
     → asked.starts ≡ new.tools.starts - old.tools.starts → asked.length ≡ shown_length reply → asked.kept ≡ length (calls_in new) → length (calls_in new) < 2 ^ 64
     → HasAsked old (asks ∷ []) new asked
-ask_served old new asked reply r graph ready idle rests starts length_is kept small =
+ask_served old new asked reply replied stays ready idle rests starts length_is kept small =
+    let r = by_one old new reply rests replied in
     let has = answered old new reply r in
     let run = answer_run old new r.given reply has rests small in
     let counted = rests.counted in
@@ -94,9 +103,9 @@ ask_served old new asked reply r graph ready idle rests starts length_is kept sm
       given = r.given;
       reply = reply;
       served = record {
-        graph = graph;
+        graph = stays.graph;
         serves = ask [] [] (moment old) (moment new) r.given reply none has;
-        rests = record { idle = record { ready = ready; none = idle }; counted = omega (arith, run.0, run.1) };
+        rests = record { jobs = stays.jobs ∙ rests.jobs; idle = record { ready = ready; none = idle }; counted = omega (arith, run.0, run.1) };
         epoch = omega arith;
       };
       starts = omega (arith, run.1);
@@ -142,12 +151,17 @@ pub put_stops : (old new : Session) (name text name' text' : Text) (e : JournalF
 put_stops old new name text name' text' e name_is text_is fails cause past =
     put_stopped old new name text e (subst₂ (λ n t. HasFailed told_of_disk (held.puts n t) old.engine.store new.engine.store old.disk new.disk e) name_is text_is fails) cause past
 
-pub ask_stops : (old new : Session) (e : JournalFault) → HasStopped told_of_disk old.engine.graph asked_text (moment old) (moment new) e
+ask_stopped : (old new : Session) (e : JournalFault) → HasStopped told_of_disk old.engine.graph 1 asked_text (moment old) (moment new) e
     → IsCauseOf old.disk.file.faults new.disk.file.faults e → (new.disk.file.faults ≢ 0 → PassesRoom new.disk) → StopsIn old (asks ∷ []) e
-ask_stops old new fault.Disk fails cause past = step_stops old asks (moment new) fault.Disk fails cause past
-ask_stops old new (fault.NotOurs at) fails cause past = absurd fails
-ask_stops old new (fault.Full at size) fails cause past = step_stops old asks (moment new) (fault.Full at size) fails cause past
-ask_stops old new fault.Memory fails cause past = tt
+ask_stopped old new fault.Disk fails cause past = step_stops old asks (moment new) fault.Disk fails cause past
+ask_stopped old new (fault.NotOurs at) fails cause past = absurd fails
+ask_stopped old new (fault.Full at size) fails cause past = step_stops old asks (moment new) (fault.Full at size) fails cause past
+ask_stopped old new fault.Memory fails cause past = tt
+
+pub ask_stops : (old new : Session) (e : JournalFault) → IsAtRest old → HasStopped told_of_disk old.engine.graph old.engine.jobs asked_text (moment old) (moment new) e
+    → IsCauseOf old.disk.file.faults new.disk.file.faults e → (new.disk.file.faults ≢ 0 → PassesRoom new.disk) → StopsIn old (asks ∷ []) e
+ask_stops old new e rests fails cause past =
+    ask_stopped old new e (subst (λ (limit : ℕ). HasStopped told_of_disk old.engine.graph limit asked_text (moment old) (moment new) e) rests.jobs fails) cause past
 
 -- ---- many steps
 

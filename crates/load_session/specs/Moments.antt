@@ -20,8 +20,9 @@ moment session = at session.engine.store session.disk (tools.told_of session.too
 abbrev pub calls_in : Session → Calls
 calls_in session = session.engine.store.kept.tables.calls
 
--- The store can be changed, no tool runs, and as many were started as calls are kept.
+-- One tool may run at a time, and none runs; the store can be changed, and as many tools were started as calls are kept.
 pub record IsAtRest (session : Session) : Type 0 where
+  pub jobs : session.engine.jobs ≡ 1
   pub idle : IsIdle session.engine.store (length (image_of session.disk.file)) (tools.told_of session.tools)
   pub counted : session.tools.starts ≡ length (calls_in session)
 

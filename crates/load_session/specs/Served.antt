@@ -21,9 +21,9 @@ use Rattle.load_session.specs.Session.{LoadStep, puts, asks, asked_text}
 abbrev pub Moment : Type 0
 Moment = At LoadFile
 
--- The program was answered, and each call that was run for that is kept. No start was refused.
+-- The program was answered, one tool at a time, and each call that was run for that is kept. No start was refused.
 pub record HasAnswered (g : Graph) (old : Moment) (given : Calls) (reply : Reply) (new : Moment) : Type 0 where
-  pub is : HasAnswer g old.store.sources.texts old.store.kept.tables.calls asked_text reply given old.tools new.tools
+  pub is : HasAnswer g old.store.sources.texts old.store.kept.tables.calls 1 asked_text reply given old.tools new.tools
   pub goes : Goes told_of_disk (keeps_of given) old.store new.store old.disk new.disk
   pub epoch : new.store.epoch ≡ old.store.epoch
 
@@ -40,7 +40,7 @@ pub data Serves (g : Graph) (old : Moment) : List LoadStep → List (Calls × Re
 -- A step failed, and why.
 abbrev pub StepFails : Graph → LoadStep → Moment → Moment → JournalFault → Type 0
 StepFails g (puts name text) old new = HasFailed told_of_disk (held.puts name text) old.store new.store old.disk new.disk
-StepFails g asks old new = HasStopped told_of_disk g asked_text old new
+StepFails g asks old new = HasStopped told_of_disk g 1 asked_text old new
 
 -- A disk fails only past its room.
 abbrev pub PassesFor : JournalFault → LoadFile → Type 0

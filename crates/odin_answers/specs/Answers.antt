@@ -1,5 +1,5 @@
 -- The replies to texts, and what was run for them, over the calls that are kept.
-use Rattle.std.specs.Prelude.{◌≡◌, ◌⊎◌, [], IsSome}
+use Rattle.std.specs.Prelude.{◌≡◌, ◌⊎◌, ℕ, [], IsSome}
 use Rattle.object_values.specs.declared.nodes.Node.{Node}
 use Rattle.object_values.specs.declared.calls.Call.{Call}
 use Rattle.odin_outside.specs.Spawned.{Spawned}
@@ -15,11 +15,11 @@ use Rattle.meaning_answers.specs.Replies.{shown, refused_circular, refused_deep}
 use Rattle.meaning_answers.specs.Answers.{Refused, Asks, Answer}
 use Rattle.walk_tables.specs.declared.found.Found.{Found}
 use Rattle.walk_tables.specs.declared.found.Found.TheVariants as found
+use Rattle.derive_walk.specs.Founds.{IsFound}
 use Rattle.derive_walk.specs.Outcomes.{after}
-use Rattle.plain_derive.specs.declared.fault.PlainFault.{PlainFault}
-use Rattle.plain_derive.specs.declared.fault.PlainFault.TheVariants.{Spawn}
-use Rattle.plain_derive.specs.Given.{calls_of, IsRefusedBy}
-use Rattle.plain_derive.specs.Runs.{AreRun, IsGivenUp}
+use Rattle.plain_derive.specs.Given.{calls_of}
+use Rattle.plain_derive.specs.Flights.{off_course, for_spawn, AreRun, AreFlown}
+use Rattle.kept_derive.specs.Runs.{course_of}
 
 -- ---- what was run
 
@@ -43,38 +43,36 @@ pub record IsLeftAlone (g : Graph) (text : Text) (reply : Reply) (given : Calls)
   pub none : given ≡ []
   pub told : now ≡ before
 
--- For a text of a node the calls were run at which its derivation stopped, and nothing else happened; all its calls are known then, where
--- the node has a result.
-pub record IsDerived (g : Graph) (s : Sources) (kept : Calls) (text : Text) (given : Calls) (before now : Spawned) : Type 0 where
+-- For a text of a node its tools ran, as many at once as may, and this was found by what is kept and by what came of them: a view, or a chain
+-- for which nothing more was started. All its calls are known then, where the node has a result.
+pub record IsDerived (g : Graph) (s : Sources) (kept : Calls) (limit : ℕ) (text : Text) (given : Calls) (before now : Spawned) : Type 0 where
   pub node : Node
   pub asks : Asks g text node
-  pub run : AreRun g s (kept_outcome kept) node given before now
+  pub found : Found
+  pub run : AreRun g s (kept_outcome kept) node limit (course_of found) given before now
+  pub is : IsFound g s (after (kept_outcome kept) given) node found
   pub all : AreAll g s kept node given
 
--- Such calls were run, and then the derivation was given up for this fault: for the next call, or for want of memory. Nothing is done for a
--- node that is refused by what is kept.
-pub record IsBegun (g : Graph) (s : Sources) (kept : Calls) (text : Text) (given : Calls) (fault : PlainFault) (before now : Spawned) : Type 0 where
+-- They ran until one was not started, or its end was lost; and then what ran was drained.
+pub record IsDrained (g : Graph) (s : Sources) (kept : Calls) (limit : ℕ) (text : Text) (given : Calls) (before now : Spawned) : Type 0 where
   pub node : Node
   pub asks : Asks g text node
-  pub mid : Spawned
-  pub run : AreRun g s (kept_outcome kept) node given before mid
-  pub cut : IsGivenUp g s (kept_outcome kept) node given fault mid now
-  pub untouched : IsRefusedBy g s (kept_outcome kept) node → now ≡ before
+  pub run : AreRun g s (kept_outcome kept) node limit (off_course for_spawn) given before now
 
--- Such calls were run for a text of a node, and nothing else happened.
-pub record HaveRun (g : Graph) (s : Sources) (kept : Calls) (text : Text) (given : Calls) (before now : Spawned) : Type 0 where
+-- They ran up to a moment at which some may run.
+pub record HaveFlown (g : Graph) (s : Sources) (kept : Calls) (limit : ℕ) (text : Text) (given : Calls) (before now : Spawned) : Type 0 where
   pub node : Node
   pub asks : Asks g text node
-  pub run : AreRun g s (kept_outcome kept) node given before now
+  pub flown : AreFlown g s (kept_outcome kept) node limit given before now
 
 -- nothing was done
 pub record IsUntouched (given : Calls) (before now : Spawned) : Type 0 where
   pub none : given ≡ []
   pub told : now ≡ before
 
--- The text has no reply: nothing was done, or the derivation of its node was begun, and given up for some fault.
-abbrev pub MayHaveBegun : Graph → Sources → Calls → Text → Calls → Spawned → Spawned → Type 0
-MayHaveBegun g s kept text given before now = IsUntouched given before now ⊎ ((fault : PlainFault) × IsBegun g s kept text given fault before now)
+-- The text has no reply: nothing was done, or tools of its node ran, and these outcomes came of them.
+abbrev pub MayHaveBegun : Graph → Sources → Calls → ℕ → Text → Calls → Spawned → Spawned → Type 0
+MayHaveBegun g s kept limit text given before now = IsUntouched given before now ⊎ HaveFlown g s kept limit text given before now
 
 -- ---- replies
 
@@ -86,15 +84,15 @@ found_reply g (found.Deep chain) = refused_deep g chain
 
 -- The reply is the answer by every outcomes of calls that agree with those that are kept and were given, whatever else they are; and what
 -- was run is what it takes.
-pub record HasAnswer (g : Graph) (s : Sources) (kept : Calls) (text : Text) (reply : Reply) (given : Calls) (before now : Spawned) : Type 0 where
+pub record HasAnswer (g : Graph) (s : Sources) (kept : Calls) (limit : ℕ) (text : Text) (reply : Reply) (given : Calls) (before now : Spawned) : Type 0 where
   pub answer : (outcomes : Outcomes) → Agrees kept given outcomes → Answer g s outcomes text reply
-  pub did : IsLeftAlone g text reply given before now ⊎ IsDerived g s kept text given before now
+  pub did : IsLeftAlone g text reply given before now ⊎ IsDerived g s kept limit text given before now
 
 -- A tool of the derivation was not started, or its end was lost: a fault, which was counted. The text is one of a node.
-pub record IsStartRefused (g : Graph) (s : Sources) (kept : Calls) (text : Text) (reply : Reply) (given : Calls) (before now : Spawned) : Type 0 where
+pub record IsStartRefused (g : Graph) (s : Sources) (kept : Calls) (limit : ℕ) (text : Text) (reply : Reply) (given : Calls) (before now : Spawned) : Type 0 where
   pub is : reply ≡ RefusedToolStart
-  pub begun : IsBegun g s kept text given Spawn before now
+  pub drained : IsDrained g s kept limit text given before now
 
 -- The answer, or that a tool was not started.
-abbrev pub IsReply : Graph → Sources → Calls → Text → Reply → Calls → Spawned → Spawned → Type 0
-IsReply g s kept text reply given before now = HasAnswer g s kept text reply given before now ⊎ IsStartRefused g s kept text reply given before now
+abbrev pub IsReply : Graph → Sources → Calls → ℕ → Text → Reply → Calls → Spawned → Spawned → Type 0
+IsReply g s kept limit text reply given before now = HasAnswer g s kept limit text reply given before now ⊎ IsStartRefused g s kept limit text reply given before now

@@ -1,5 +1,5 @@
 -- What the reply to a text leaves of the store, or an ask without one.
-use Rattle.std.specs.Prelude.{◌≡◌, ℕ, List, [], ◌∷◌, ◌++◌}
+use Rattle.std.specs.Prelude.{◌≡◌, ◌≤◌, ℕ, List, [], ◌∷◌, ◌++◌, length}
 use Rattle.object_values.specs.declared.calls.Call.{Call}
 use Rattle.object_values.specs.declared.calls.Outcome.{Outcome}
 use Rattle.odin_outside.specs.Disk.{Telling}
@@ -13,38 +13,44 @@ use Rattle.odin_store.specs.Held.{keeps}
 use Rattle.odin_store.specs.OnDisk.{IsOver}
 use Rattle.odin_store.specs.Going.{IsBatchOf, Goes, Stops}
 use Rattle.kept_derive.specs.Runs.{At, keeps_of}
-use Rattle.odin_answers.specs.Answers.{IsReply, HaveRun, MayHaveBegun}
+use Rattle.odin_answers.specs.Answers.{IsReply, HaveFlown, MayHaveBegun}
 
-module _ {Disk : Type 0} (told : Disk → Telling) (g : Graph) (text : Text) (old new : At Disk) where
-  -- This is the reply, and each call that was run for it is kept. That is no edit.
+module _ {Disk : Type 0} (told : Disk → Telling) (g : Graph) (limit : ℕ) (text : Text) (old new : At Disk) where
+  -- This is the reply, and each outcome that came of a tool is kept. That is no edit.
   pub record HasReplied (reply : Reply) : Type 0 where
     pub given : Calls
-    pub is : IsReply g old.store.sources.texts old.store.kept.tables.calls text reply given old.tools new.tools
+    pub is : IsReply g old.store.sources.texts old.store.kept.tables.calls limit text reply given old.tools new.tools
     pub goes : Goes told (keeps_of given) old.store new.store old.disk new.disk
     pub epoch : new.store.epoch ≡ old.store.epoch
 
-  -- these calls were run to their outcomes, and nothing else happened: no start was refused
-  abbrev pub HasRun : Calls → Type 0
-  HasRun given = HaveRun g old.store.sources.texts old.store.kept.tables.calls text given old.tools new.tools
+  -- these outcomes came of tools, of which some may run still
+  abbrev pub HaveCome : Calls → Type 0
+  HaveCome given = HaveFlown g old.store.sources.texts old.store.kept.tables.calls limit text given old.tools new.tools
 
-  -- Memory was wanting: each call that came to an outcome is kept.
+  -- Memory was wanting: each outcome that came is kept, but for the last at most.
   pub record HasWanted : Type 0 where
     pub given : Calls
-    pub begun : MayHaveBegun g old.store.sources.texts old.store.kept.tables.calls text given old.tools new.tools
+    pub rest : Calls
+    pub few : length rest ≤ 1
+    pub begun : MayHaveBegun g old.store.sources.texts old.store.kept.tables.calls limit text (given ++ rest) old.tools new.tools
     pub goes : Goes told (keeps_of given) old.store new.store old.disk new.disk
 
-  -- The disk failed while the last of the calls was kept.
+  -- The disk failed while the last outcome was kept. The others are kept.
   pub record HasFailed : Type 0 where
     pub given : Calls
-    pub ran : HasRun given
-    pub stops : Stops told (keeps_of given) old.store old.disk new.disk
+    pub call : Call
+    pub outcome : Outcome
+    pub came : HaveCome (given ++ (call, outcome) ∷ [])
+    pub mid : At Disk
+    pub goes : Goes told (keeps_of given) old.store mid.store old.disk mid.disk
+    pub stops : Stops told (keeps call outcome ∷ []) mid.store mid.disk new.disk
 
-  -- The batch of the last of the calls, of this length, doesn't fit behind this end. The others are kept.
+  -- The batch of the last outcome, of this length, doesn't fit behind this end. The others are kept.
   pub record IsFull (at size : ℕ) : Type 0 where
     pub given : Calls
     pub call : Call
     pub outcome : Outcome
-    pub ran : HasRun (given ++ (call, outcome) ∷ [])
+    pub came : HaveCome (given ++ (call, outcome) ∷ [])
     pub goes : Goes told (keeps_of given) old.store new.store old.disk new.disk
     pub items : List Item
     pub batch : IsBatchOf new.store.kept.tables.contents (keeps call outcome) items

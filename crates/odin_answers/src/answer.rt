@@ -1,10 +1,10 @@
 // The replies to texts.
 ghost use Rattle.std.specs.Prelude.{◌≡◌, ◌<◌, IfOk, IfErr};
 ghost use Rattle.kept_derive.specs.Calls.{IsIdle};
-ghost use Rattle.kept_derive.specs.Rests.{ComesToRest};
+ghost use Rattle.kept_derive.specs.Rests.{ComesToRest, LeavesAll};
 ghost use Rattle.kept_derive.specs.Runs.{at};
 ghost use Rattle.odin_journal.specs.Faults.{IsCause};
-ghost use Rattle.odin_journal.specs.declared.fault.JournalFault.TheVariants as fault;
+ghost use Rattle.odin_engine.specs.Engaged.{Stays};
 ghost use Rattle.odin_store.specs.OnDisk.{IsLeft};
 ghost use Rattle.odin_answers.specs.Faults.{Refuses, Stops};
 ghost use Rattle.odin_answers.specs.Planned.{IsPlanned};
@@ -21,7 +21,7 @@ use std::marker::Brand;
 use std::sync::ledger::{Blank, Ledger};
 use type_graph::Graph;
 
-/// The reply to a text that asks for an object. Each call that is run for it is kept as its tool ends. After `Memory` one tool may still run.
+/// The reply to a text that asks for an object. Each call that is run for it is kept as its tool ends. Where there is none, what runs is left.
 pub fn answer_ask<D: Disk, S: Spawner>(
     alloc: Global,
     engine: &mut Engine,
@@ -31,13 +31,14 @@ pub fn answer_ask<D: Disk, S: Spawner>(
 ) -> Result<Reply, StoreFault>
     requires { IsIdle engine.old.store (D.size_of disk.old) (S.told tools.old) }
     ensures ok { let old = at engine.old.store disk.old (S.told tools.old) in
-        IfOk result (HasReplied D.told engine.old.graph text.now
+        IfOk result (HasReplied D.told engine.old.graph engine.old.jobs text.now
         old (at engine.new.store disk.new (S.told tools.new))) }
     ensures err { let old = at engine.old.store disk.old (S.told tools.old) in
-        IfErr result (HasStopped D.told engine.old.graph text.now
+        IfErr result (HasStopped D.told engine.old.graph engine.old.jobs text.now
         old (at engine.new.store disk.new (S.told tools.new))) }
-    ensures graph { engine.new.graph ≡ engine.old.graph }
-    ensures rest { ComesToRest fault.Memory (S.told tools.old) (S.told tools.new) result }
+    ensures stays { Stays engine.old engine.new }
+    ensures rest { ComesToRest LeavesAll engine.old.jobs
+        (S.told tools.old) (S.told tools.new) result }
     ensures left { IsLeft engine.new.store (D.size_of disk.new) result }
     ensures cause { IsCause (D.faults disk.old) (D.faults disk.new) result }
 {
@@ -56,13 +57,14 @@ fn answer_counted<D: Disk, S: Spawner, L: Ledger>(
     requires blank { (blank.name ≡ L.name) × (blank.parts ≡ L.parts) × (0 < L.parts) }
     requires idle { IsIdle engine.old.store (D.size_of disk.old) (S.told tools.old) }
     ensures ok { let old = at engine.old.store disk.old (S.told tools.old) in
-        IfOk result (HasReplied D.told engine.old.graph text.now
+        IfOk result (HasReplied D.told engine.old.graph engine.old.jobs text.now
         old (at engine.new.store disk.new (S.told tools.new))) }
     ensures err { let old = at engine.old.store disk.old (S.told tools.old) in
-        IfErr result (HasStopped D.told engine.old.graph text.now
+        IfErr result (HasStopped D.told engine.old.graph engine.old.jobs text.now
         old (at engine.new.store disk.new (S.told tools.new))) }
-    ensures graph { engine.new.graph ≡ engine.old.graph }
-    ensures rest { ComesToRest fault.Memory (S.told tools.old) (S.told tools.new) result }
+    ensures stays { Stays engine.old engine.new }
+    ensures rest { ComesToRest LeavesAll engine.old.jobs
+        (S.told tools.old) (S.told tools.new) result }
     ensures left { IsLeft engine.new.store (D.size_of disk.new) result }
     ensures cause { IsCause (D.faults disk.old) (D.faults disk.new) result }
 {

@@ -1,16 +1,18 @@
 //! Laws of replies. Each is the contract of a function with an empty body.
-ghost use Rattle.odin_answers.specs.Laws.{AnswersCountNone, RefusalsAreCounted, NoneIsTakenBack, CallsAreItsOwn, AskedAgain, KeptStaysTrue, AnswersAreFresh, AnswerIsOne};
+ghost use Rattle.odin_answers.specs.Laws.{AnswersAreCounted, RefusalsAreCounted, NoneIsTakenBack, CallsAreItsOwn, StartsAreItsOwn, AskedAgain, KeptStaysTrue, AnswersAreFresh, AnswerIsOne, OthersDontMatter};
 
-/// An answer leaves the count of the tools' faults as it was, and a refused start raised it.
+/// An answer leaves the count of the tools' faults as it was where the node has a result, and never lets it fall; a refused start raised it.
 pub fn replies_are_counted()
-    ensures answers { AnswersCountNone }
+    ensures answers { AnswersAreCounted }
     ensures refusals { RefusalsAreCounted }
     ensures none { NoneIsTakenBack }
 {}
 
-/// What was run for a text are calls of its node that weren't kept, each once, and all of these where it has a result.
+/// What came of tools for a text are calls of its node that weren't kept, each once, and all of these where it has a result; and each tool
+/// that was started, in an ask with an answer, with a refused start or without a reply, was started for such a call.
 pub fn calls_are_its_own()
-    ensures { CallsAreItsOwn }
+    ensures came { CallsAreItsOwn }
+    ensures started { StartsAreItsOwn }
 {}
 
 /// Nothing is run for a text that was answered, from the same sources and over all that was kept and given then.
@@ -28,4 +30,9 @@ pub fn kept_stays_true()
 /// answers show chains, of which there may be more than one.
 pub fn answer_is_one()
     ensures { AnswerIsOne }
+{}
+
+/// Editing sources that an object doesn't need runs nothing for it, and changes no byte of its reply.
+pub fn others_dont_matter()
+    ensures { OthersDontMatter }
 {}

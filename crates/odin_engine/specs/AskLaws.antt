@@ -1,5 +1,5 @@
 -- What an ask of an engine leaves of its store, whatever it answers.
-use Rattle.std.specs.Prelude.{◌≢◌}
+use Rattle.std.specs.Prelude.{◌≢◌, ℕ}
 use Rattle.object_values.specs.declared.views.View.{View}
 use Rattle.odin_outside.specs.Disk.{Telling}
 use Rattle.meaning_graph.specs.Graphs.{Text, Graph}
@@ -12,12 +12,12 @@ use Rattle.odin_engine.specs.Asking.{IsAnswered, IsAskFault}
 module _ {Disk : Type 0} (told : Disk → Telling) where
   -- An answer keeps calls, and nothing else changes.
   abbrev pub AnswersKeep : Type 0
-  AnswersKeep = (g : Graph) (text : Text) (old new : At Disk) (view : View) → IsAnswered told g text old new view → KeepsCalls told old new
+  AnswersKeep = (g : Graph) (limit : ℕ) (text : Text) (old new : At Disk) (view : View) → IsAnswered told g limit text old new view → KeepsCalls told old new
 
   -- So does each fault that is not the disk's.
   abbrev pub FaultsKeep : Type 0
-  FaultsKeep = (g : Graph) (text : Text) (old new : At Disk) (given : AskFault) → given ≢ fault.Disk → IsAskFault told g text old new given → KeepsCalls told old new
+  FaultsKeep = (g : Graph) (limit : ℕ) (text : Text) (old new : At Disk) (given : AskFault) → given ≢ fault.Disk → IsAskFault told g limit text old new given → KeepsCalls told old new
 
-  -- After a fault of the disk some first ones of such calls are there.
+  -- After a fault of the disk such calls are there, and the last one may be.
   abbrev pub DiskStopsAsk : Type 0
-  DiskStopsAsk = (g : Graph) (text : Text) (old new : At Disk) → IsAskFault told g text old new fault.Disk → StopsInCalls told old new
+  DiskStopsAsk = (g : Graph) (limit : ℕ) (text : Text) (old new : At Disk) → IsAskFault told g limit text old new fault.Disk → StopsInCalls told old new

@@ -1,5 +1,5 @@
 -- What an ask of an engine does.
-use Rattle.std.specs.Prelude.{◌≡◌, ◌⊎◌, ◌≤◌, ℕ, IsTrue, Result, Ok, Err, OnOk, IfErr}
+use Rattle.std.specs.Prelude.{◌≡◌, ◌⊎◌, ◌≤◌, ⊤, ℕ, IsTrue, Result, Ok, Err, OnOk, IfErr}
 use Rattle.object_values.specs.declared.nodes.Node.{Node}
 use Rattle.object_values.specs.declared.views.View.{View}
 use Rattle.odin_outside.specs.Causes.{Rose}
@@ -18,30 +18,30 @@ use Rattle.odin_engine.specs.declared.fault.AskFault.TheVariants as fault
 use Rattle.odin_engine.specs.Asked.{IsNodeOf, IsRefusedFor}
 
 -- The text asks for a node, of which this is found.
-pub record IsFoundFor {Disk : Type 0} (told : Disk → Telling) (g : Graph) (text : Text) (old new : At Disk) (found : Found) : Type 0 where
+pub record IsFoundFor {Disk : Type 0} (told : Disk → Telling) (g : Graph) (limit : ℕ) (text : Text) (old new : At Disk) (found : Found) : Type 0 where
   pub node : Node
   pub is : IsNodeOf g text node
-  pub has : HasFound told g node old new found
+  pub has : HasFound told g node limit old new found
 
 -- The text asks for a node, whose derivation ended in the fault.
-pub record IsStoppedFor {Disk : Type 0} (told : Disk → Telling) (g : Graph) (text : Text) (old new : At Disk) (fault : KeptFault) : Type 0 where
+pub record IsStoppedFor {Disk : Type 0} (told : Disk → Telling) (g : Graph) (limit : ℕ) (text : Text) (old new : At Disk) (fault : KeptFault) : Type 0 where
   pub node : Node
   pub is : IsNodeOf g text node
-  pub stopped : IsStopped told g node old new fault
+  pub stopped : IsStopped told g node limit old new fault
 
-abbrev pub IsAnswered : {Disk : Type 0} → (Disk → Telling) → Graph → Text → At Disk → At Disk → View → Type 0
-IsAnswered told g text old new view = IsFoundFor told g text old new (found.Answer view)
+abbrev pub IsAnswered : {Disk : Type 0} → (Disk → Telling) → Graph → ℕ → Text → At Disk → At Disk → View → Type 0
+IsAnswered told g limit text old new view = IsFoundFor told g limit text old new (found.Answer view)
 
 -- Why there is no view: a chain, a fault of the derivation, or the refusal of the text, for which nothing is done. Nor need anything be
 -- done for want of memory.
-abbrev pub IsAskFault : {Disk : Type 0} → (Disk → Telling) → Graph → Text → At Disk → At Disk → AskFault → Type 0
-IsAskFault told g text old new (fault.Circular chain) = IsFoundFor told g text old new (found.Circular chain)
-IsAskFault told g text old new (fault.Deep chain) = IsFoundFor told g text old new (found.Deep chain)
-IsAskFault told g text old new fault.Spawn = IsStoppedFor told g text old new stop.Spawn
-IsAskFault told g text old new fault.Disk = IsStoppedFor told g text old new stop.Disk
-IsAskFault told g text old new (fault.Full end count) = IsStoppedFor told g text old new (stop.Full end count)
-IsAskFault told g text old new fault.Memory = (new ≡ old) ⊎ IsStoppedFor told g text old new stop.Memory
-IsAskFault told g text old new other = IsRefusedFor g text other × (new ≡ old)
+abbrev pub IsAskFault : {Disk : Type 0} → (Disk → Telling) → Graph → ℕ → Text → At Disk → At Disk → AskFault → Type 0
+IsAskFault told g limit text old new (fault.Circular chain) = IsFoundFor told g limit text old new (found.Circular chain)
+IsAskFault told g limit text old new (fault.Deep chain) = IsFoundFor told g limit text old new (found.Deep chain)
+IsAskFault told g limit text old new fault.Spawn = IsStoppedFor told g limit text old new stop.Spawn
+IsAskFault told g limit text old new fault.Disk = IsStoppedFor told g limit text old new stop.Disk
+IsAskFault told g limit text old new (fault.Full end count) = IsStoppedFor told g limit text old new (stop.Full end count)
+IsAskFault told g limit text old new fault.Memory = (new ≡ old) ⊎ IsStoppedFor told g limit text old new stop.Memory
+IsAskFault told g limit text old new other = IsRefusedFor g text other × (new ≡ old)
 
 -- what an engine answers, by what its derivation came to
 abbrev pub answer_of : Result Found KeptFault → Result View AskFault
@@ -52,6 +52,13 @@ answer_of (Err stop.Spawn) = Err fault.Spawn
 answer_of (Err stop.Disk) = Err fault.Disk
 answer_of (Err (stop.Full end count)) = Err (fault.Full end count)
 answer_of (Err stop.Memory) = Err fault.Memory
+
+-- the faults that leave what runs
+abbrev pub LeavesTools : AskFault → Type 0
+LeavesTools fault.Disk = ⊤
+LeavesTools (fault.Full end count) = ⊤
+LeavesTools fault.Memory = ⊤
+LeavesTools other = ⊥
 
 -- what a fault leaves of a store: it is spent where the disk failed, and else can be changed on
 abbrev pub IsLeftBy : Store → ℕ → AskFault → Type 0

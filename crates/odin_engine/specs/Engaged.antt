@@ -1,9 +1,20 @@
 -- What an engine is, as its callers see it.
-use Rattle.std.specs.Prelude.{List}
+use Rattle.std.specs.Prelude.{◌≡◌, ◌≤◌, ℕ, List}
 use Rattle.object_values.specs.declared.graph.Decl.{Decl}
 use Rattle.odin_store.specs.declared.store.Store.{Store}
 
--- the graph by which it derives, and what it keeps
+-- from 1 to 64 tools may run at once
+pub record IsLimit (jobs : ℕ) : Type 0 where
+  pub some : 1 ≤ jobs
+  pub few : jobs ≤ 64
+
+-- the graph by which it derives, how many tools may run at once, and what it keeps
 pub record Engaged : Type 0 where
   pub graph : List Decl
+  pub jobs : ℕ
   pub store : Store
+
+-- its graph and its limit stay
+pub record Stays (old new : Engaged) : Type 0 where
+  pub graph : new.graph ≡ old.graph
+  pub jobs : new.jobs ≡ old.jobs

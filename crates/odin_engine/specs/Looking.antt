@@ -15,10 +15,10 @@ use Rattle.odin_engine.specs.declared.fault.AskFault.TheVariants as fault
 use Rattle.odin_engine.specs.Asked.{IsNodeOf}
 
 -- What was found of a node, or why not, and the looks that it took.
-pub record IsDerived {Disk : Type 0} (told : Disk → Telling) (g : Graph) (n : Node) (old new : At Disk) (first last : ℕ) (result : Result Found KeptFault) : Type 0 where
-  pub found : IfOk result (HasFound told g n old new)
-  pub stopped : IfErr result (IsStopped told g n old new)
-  pub looks : AreLooks told g n old new first last result
+pub record IsDerived {Disk : Type 0} (told : Disk → Telling) (g : Graph) (n : Node) (limit : ℕ) (old new : At Disk) (first last : ℕ) (result : Result Found KeptFault) : Type 0 where
+  pub found : IfOk result (HasFound told g n limit old new)
+  pub stopped : IfErr result (IsStopped told g n limit old new)
+  pub looks : AreLooks told g n limit old new first last result
 
 -- The text asks for a node, for which these looks were taken.
 pub record IsLookedFor (g : Graph) (text : Text) (old new : Store) (first last spare : ℕ) : Type 0 where
@@ -27,10 +27,10 @@ pub record IsLookedFor (g : Graph) (text : Text) (old new : Store) (first last s
   pub looked : HasLooked g node old new first last spare
 
 -- The same up to the moment of the last look.
-pub record IsLookedForBefore {Disk : Type 0} (told : Disk → Telling) (g : Graph) (text : Text) (old : At Disk) (first last : ℕ) : Type 0 where
+pub record IsLookedForBefore {Disk : Type 0} (told : Disk → Telling) (g : Graph) (limit : ℕ) (text : Text) (old new : At Disk) (first last : ℕ) : Type 0 where
   pub node : Node
   pub is : IsNodeOf g text node
-  pub looked : HasLookedBefore told g node old first last
+  pub looked : HasLookedBefore told g node limit old new first last
 
 -- one look may be lost where memory is wanting
 abbrev pub spare_for : AskFault → ℕ
@@ -38,7 +38,7 @@ spare_for fault.Memory = 1
 spare_for other = 0
 
 -- The looks of an ask, whatever it answers. A text that asks for no node takes none. A store whose disk failed tells no more of its calls.
-abbrev pub AreAskLooks : {Disk : Type 0} → (Disk → Telling) → Graph → Text → At Disk → At Disk → ℕ → ℕ → Result View AskFault → Type 0
-AreAskLooks told g text old new first last (Ok view) = IsLookedFor g text old.store new.store first last 0
-AreAskLooks told g text old new first last (Err fault.Disk) = IsLookedForBefore told g text old first last
-AreAskLooks told g text old new first last (Err given) = (last ≡ first) ⊎ IsLookedFor g text old.store new.store first last (spare_for given)
+abbrev pub AreAskLooks : {Disk : Type 0} → (Disk → Telling) → Graph → ℕ → Text → At Disk → At Disk → ℕ → ℕ → Result View AskFault → Type 0
+AreAskLooks told g limit text old new first last (Ok view) = IsLookedFor g text old.store new.store first last 0
+AreAskLooks told g limit text old new first last (Err fault.Disk) = IsLookedForBefore told g limit text old new first last
+AreAskLooks told g limit text old new first last (Err given) = (last ≡ first) ⊎ IsLookedFor g text old.store new.store first last (spare_for given)

@@ -3,9 +3,10 @@ ghost use Rattle.std.specs.Prelude.{◌≡◌, IfOk, IfErr};
 ghost use Rattle.kept_derive.specs.Calls.{IsIdle};
 ghost use Rattle.meaning_nodes.specs.Nodes.{Fits};
 ghost use Rattle.kept_derive.specs.Faults.{IsCause as IsKeptCause, IsLeft as IsKeptLeft};
-ghost use Rattle.kept_derive.specs.Rests.{ComesToRest};
+ghost use Rattle.kept_derive.specs.Rests.{ComesToRest, LeavesTools as LeavesKept};
 ghost use Rattle.kept_derive.specs.Runs.{at};
-ghost use Rattle.odin_engine.specs.Asking.{answer_of, IsAnswered, IsAskFault, IsCause, IsLeft};
+ghost use Rattle.odin_engine.specs.Asking.{answer_of, IsAnswered, IsAskFault, IsCause, IsLeft, LeavesTools};
+ghost use Rattle.odin_engine.specs.Engaged.{Stays};
 ghost use Rattle.odin_engine.specs.Looking.{AreAskLooks, IsDerived};
 
 use crate::engine::Engine;
@@ -17,8 +18,8 @@ use std::alloc::Global;
 use std::sync::ledger::Ledger;
 
 impl Engine {
-    /// The view of the object that a text asks for. What was kept is not run again. Each look at a kept call is a step. Tools run one after
-    /// another, and each call is kept as its tool ends; after `Memory` one may still run.
+    /// The view of the object that a text asks for. What was kept is not run again. Each look at a kept call is a step. As many tools run
+    /// at once as may, and each call is kept as its tool ends; after `Disk`, `Full` and `Memory` what runs is left.
     pub fn ask<D: Disk, S: Spawner, L: Ledger>(
         &mut self,
         alloc: Global,
@@ -29,17 +30,18 @@ impl Engine {
     ) -> Result<View, AskFault>
         requires { IsIdle self.old.store (D.size_of disk.old) (S.told tools.old) }
         ensures ok { let old = at self.old.store disk.old (S.told tools.old) in
-            IfOk result (IsAnswered D.told self.old.graph text.now
+            IfOk result (IsAnswered D.told self.old.graph self.old.jobs text.now
             old (at self.new.store disk.new (S.told tools.new))) }
         ensures err { let old = at self.old.store disk.old (S.told tools.old) in
-            IfErr result (IsAskFault D.told self.old.graph text.now
+            IfErr result (IsAskFault D.told self.old.graph self.old.jobs text.now
             old (at self.new.store disk.new (S.told tools.new))) }
-        ensures graph { self.new.graph ≡ self.old.graph }
-        ensures rest { ComesToRest AskFault.Memory (S.told tools.old) (S.told tools.new) result }
+        ensures stays { Stays self.old self.new }
+        ensures rest { ComesToRest LeavesTools self.old.jobs
+            (S.told tools.old) (S.told tools.new) result }
         ensures left { IsLeft self.new.store (D.size_of disk.new) result }
         ensures cause { IsCause (D.faults disk.old) (D.faults disk.new) result }
         ensures counted { let old = at self.old.store disk.old (S.told tools.old) in
-            AreAskLooks D.told self.old.graph text.now
+            AreAskLooks D.told self.old.graph self.old.jobs text.now
             old (at self.new.store disk.new (S.told tools.new)) steps.old steps.new result }
     {
         let node = self.plan(alloc, text)?;
@@ -59,12 +61,13 @@ impl Engine {
         requires fits { Fits self.old.graph node.now }
         requires idle { IsIdle self.old.store (D.size_of disk.old) (S.told tools.old) }
         ensures derived { let old = at self.old.store disk.old (S.told tools.old) in
-            IsDerived D.told self.old.graph node.now
+            IsDerived D.told self.old.graph node.now self.old.jobs
             old (at self.new.store disk.new (S.told tools.new)) steps.old steps.new result }
-        ensures graph { self.new.graph ≡ self.old.graph }
+        ensures stays { Stays self.old self.new }
         ensures left { IsKeptLeft self.new.store (D.size_of disk.new) result }
         ensures cause { IsKeptCause (D.faults disk.old) (D.faults disk.new) result }
-        ensures rest { ComesToRest KeptFault.Memory (S.told tools.old) (S.told tools.new) result }
+        ensures rest { ComesToRest LeavesKept self.old.jobs
+            (S.told tools.old) (S.told tools.new) result }
     {
         derive_kept(
             alloc,
@@ -73,6 +76,7 @@ impl Engine {
             &mut self.store,
             disk,
             node,
+            self.jobs,
             tools,
             steps,
         )

@@ -9,6 +9,7 @@ ghost use Rattle.odin_store.specs.Opening.{graph_record, IsOpenFault, LeavesHeld
 ghost use Rattle.odin_store.specs.Changes.{DropBatch, MayPut, PutBatch};
 ghost use Rattle.odin_store.specs.Edited.{HasFailed, HasPut, HasDropped};
 ghost use Rattle.odin_engine.specs.Asked.{IsNodeOf, IsRefusedFor};
+ghost use Rattle.odin_engine.specs.Engaged.{Stays};
 ghost use Rattle.odin_engine.specs.Opened.{IsNew, MayOpen};
 
 use crate::asked::node_of_text;
@@ -28,6 +29,7 @@ use type_graph::Graph;
 pub struct Engine {
     pub(crate) graph: Graph,
     pub(crate) plans: Plans,
+    pub(crate) jobs: u32,
     pub(crate) store: Store,
 }
 
@@ -36,6 +38,7 @@ impl Drop for Engine {
         let Engine {
             graph,
             plans,
+            jobs: _,
             store,
         } = self;
         drop(graph);
@@ -50,19 +53,20 @@ impl Model for Engine {
     ghost use Rattle.path_planner.specs.Ends.{plans_of};
     ghost use Rattle.std.specs.Coded.{codes};
     ghost use Rattle.odin_store.specs.contracts.store.Store as held;
-    ghost use Rattle.odin_engine.specs.Engaged.{Engaged};
+    ghost use Rattle.odin_engine.specs.Engaged.{Engaged, IsLimit};
 
     ghost Value = { Engaged };
 
     ghost coded = { Prim.hlevel (codes, held.the_row.coded) };
 
-    ghost view = { λ e. record { graph = e.graph; store = e.store } };
+    ghost view = { λ e. record { graph = e.graph; jobs = e.jobs; store = e.store } };
 
-    ghost invariant = { λ e. (e.plans ≡ plans_of e.graph) × IsSpellable e.graph };
+    ghost invariant = { λ e.
+        (e.plans ≡ plans_of e.graph) × IsSpellable e.graph × IsLimit e.jobs };
 }
 
 impl Engine {
-    /// Opens the store in a file for the graph of this text. At most so many tools run at a time.
+    /// Opens the store in a file for the graph of this text. At most so many tools run at a time, from 1 to 64.
     pub fn open<D: Disk>(
         alloc: Global,
         disk: &mut D,
@@ -73,7 +77,7 @@ impl Engine {
         requires { MayOpen text.now graph jobs }
         ensures opened { IfOk result (λ engine.
             OpensQuiet text.now (D.told disk.old) (D.told disk.new) engine.store) }
-        ensures new { IfOk result (IsNew graph (D.size_of disk.new)) }
+        ensures new { IfOk result (IsNew graph jobs (D.size_of disk.new)) }
         ensures any_moment { LeavesHeld (D.told disk.old) (D.told disk.new) }
         ensures refused { IfErr result
             (IsOpenFault text.now (D.told disk.old) (D.told disk.new)) }
@@ -81,12 +85,12 @@ impl Engine {
             → Works (72 + length (graph_record text.now)) 20 (D.told disk.old) (D.told disk.new) }
         ensures cause { IsCause (D.faults disk.old) (D.faults disk.new) result }
     {
-        prove!(jobs == 1);
         let plans = Plans::new(alloc, &graph)?;
         let store = Store::open(alloc, disk, text)?;
         Ok(Engine {
             graph,
             plans,
+            jobs,
             store,
         })
     }
@@ -104,7 +108,7 @@ impl Engine {
             (HasPut D.told name.now text.now self.old.store self.new.store disk.old disk.new) }
         ensures err { IfErr result (HasFailed D.told (puts name.now text.now)
             self.old.store self.new.store disk.old disk.new) }
-        ensures graph { self.new.graph ≡ self.old.graph }
+        ensures stays { Stays self.old self.new }
         ensures left { IsLeft self.new.store (D.size_of disk.new) result }
         ensures works { WorksOnce (PutBatch self.old.store name.now text.now)
             (D.told disk.old) (D.told disk.new) }
@@ -126,7 +130,7 @@ impl Engine {
             (HasDropped D.told name.now self.old.store self.new.store disk.old disk.new) }
         ensures err { IfErr result (HasFailed D.told (drops name.now)
             self.old.store self.new.store disk.old disk.new) }
-        ensures graph { self.new.graph ≡ self.old.graph }
+        ensures stays { Stays self.old self.new }
         ensures left { IsLeft self.new.store (D.size_of disk.new) result }
         ensures works { WorksOnce (DropBatch name.now) (D.told disk.old) (D.told disk.new) }
         ensures cause { IsCause (D.faults disk.old) (D.faults disk.new) result }
@@ -153,6 +157,13 @@ impl Engine {
         ensures { result.now ≡ self.now.graph }
     {
         &self.graph
+    }
+
+    /// How many tools may run at once.
+    pub fn jobs(&self) -> u32
+        ensures { result ≡ self.now.jobs }
+    {
+        self.jobs
     }
 
     pub(crate) fn plans(&self) -> &Plans

@@ -13,7 +13,7 @@ use Rattle.odin_journal.specs.Rest.{IsReady}
 use Rattle.odin_store.specs.Held.{drops}
 use Rattle.odin_store.specs.OnDisk.{IsLeft}
 use Rattle.odin_store.specs.Edited.{HasFailed}
-use Rattle.odin_engine.specs.Engaged.{Engaged}
+use Rattle.odin_engine.specs.Engaged.{Engaged, Stays}
 use Rattle.source_edits.specs.Edits.{Says, TreeTold, IsAsked, Puts, Takes, Removes}
 use Rattle.source_edits.specs.Changes.{EditsSource, IsPut, MayBeTaken, HasFailedToPut}
 use Rattle.odin_shell.specs.Filed.{DiskMeaning}
@@ -31,19 +31,19 @@ module _ {D : Type 0} (disk : DiskMeaning D) (code code' : Engaged) (given : Com
   abbrev after : SinkTold → Told D
   after sink = telling sink tools tree now'
 
-  made : (name : Text) (sink : SinkTold) → EditsSource disk.told name code.store code'.store now now' → code'.graph ≡ code.graph → IsReady code'.store.journal (disk.size now')
+  made : (name : Text) (sink : SinkTold) → EditsSource disk.told name code.store code'.store now now' → Stays code code' → IsReady code'.store.journal (disk.size now')
       → disk.faults now' ≡ disk.faults now → IsMadeOf disk code code' (before sink) (after sink) name
-  made name sink edited graph ready faults = record { edited = edited; graph = graph; ready = ready; faults = faults; tools = refl; within = refl }
+  made name sink edited stays ready faults = record { edited = edited; stays = stays; ready = ready; faults = faults; tools = refl; within = refl }
 
   pub put_said : (name : Text) (count : ℕ) (text : List ℕ) → given ≡ Put name count → text ≡ kept → (r : Result (List ℕ) JournalFault)
       → IfOk r (λ bytes. Says (λ said. Puts code.store.sources.texts name count text said code'.store.sources.texts) bytes) → OnOk r (EditsSource disk.told name code.store code'.store now now')
-      → code'.graph ≡ code.graph → IsLeft code'.store (disk.size now') r → IsCause (disk.faults now) (disk.faults now') r
+      → Stays code code' → IsLeft code'.store (disk.size now') r → IsCause (disk.faults now) (disk.faults now') r
       → IfOk r (λ reply. (sink : SinkTold) → Answers disk code given kept (before sink) reply code' (after sink))
-  put_said name count text is body (Ok bytes) says edited graph left cause = λ sink.
+  put_said name count text is body (Ok bytes) says edited stays left cause = λ sink.
       subst (λ k. Answers disk code k kept (before sink) bytes code' (after sink)) (sym is)
       (subst (λ b. Answers disk code (Put name count) b (before sink) bytes code' (after sink)) body
-      (put_answers disk code code' (before sink) (after sink) name count text bytes says (made name sink edited graph left.ready cause.ok) refl))
-  put_said name count text is body (Err e) says edited graph left cause = tt
+      (put_answers disk code code' (before sink) (after sink) name count text bytes says (made name sink edited stays left.ready cause.ok) refl))
+  put_said name count text is body (Err e) says edited stays left cause = tt
 
   pub put_unsaid : (name : Text) (count : ℕ) (text : List ℕ) → given ≡ Put name count → text ≡ kept → (r : Result (List ℕ) JournalFault)
       → IfErr r (HasFailedToPut disk.told (IsPut count text) name code.store code'.store now now') → IsCause (disk.faults now) (disk.faults now') r
@@ -56,12 +56,12 @@ module _ {D : Type 0} (disk : DiskMeaning D) (code code' : Engaged) (given : Com
 
   pub remove_said : (name : Text) → given ≡ Remove name → (r : Result (List ℕ) JournalFault)
       → IfOk r (λ bytes. Says (λ said. Removes code.store.sources.texts name said code'.store.sources.texts) bytes) → OnOk r (EditsSource disk.told name code.store code'.store now now')
-      → code'.graph ≡ code.graph → IsLeft code'.store (disk.size now') r → IsCause (disk.faults now) (disk.faults now') r
+      → Stays code code' → IsLeft code'.store (disk.size now') r → IsCause (disk.faults now) (disk.faults now') r
       → IfOk r (λ reply. (sink : SinkTold) → Answers disk code given kept (before sink) reply code' (after sink))
-  remove_said name is (Ok bytes) says edited graph left cause = λ sink.
+  remove_said name is (Ok bytes) says edited stays left cause = λ sink.
       subst (λ k. Answers disk code k kept (before sink) bytes code' (after sink)) (sym is)
-      (remove_answers disk code code' (before sink) (after sink) name kept bytes says (made name sink edited graph left.ready cause.ok) refl)
-  remove_said name is (Err e) says edited graph left cause = tt
+      (remove_answers disk code code' (before sink) (after sink) name kept bytes says (made name sink edited stays left.ready cause.ok) refl)
+  remove_said name is (Err e) says edited stays left cause = tt
 
   pub remove_unsaid : (name : Text) → given ≡ Remove name → (r : Result (List ℕ) JournalFault) → IfErr r (HasFailed disk.told (drops name) code.store code'.store now now') → IsCause (disk.faults now) (disk.faults now') r
       → IfErr r (λ why. (sink : SinkTold) → Halts disk code given kept (before sink) why (after sink))
@@ -77,13 +77,13 @@ module _ {D : Type 0} (disk : DiskMeaning D) (code code' : Engaged) (given : Com
     behind sink = telling sink tools tree' now'
 
     pub take_said : (r : Result (List ℕ) JournalFault) → IfOk r (λ bytes. Says (λ said. Takes code.store.sources.texts name tree said code'.store.sources.texts tree') bytes)
-        → OnOk r (EditsSource disk.told name code.store code'.store now now') → code'.graph ≡ code.graph → IsLeft code'.store (disk.size now') r → IsCause (disk.faults now) (disk.faults now') r
+        → OnOk r (EditsSource disk.told name code.store code'.store now now') → Stays code code' → IsLeft code'.store (disk.size now') r → IsCause (disk.faults now) (disk.faults now') r
         → IfOk r (λ reply. (sink : SinkTold) → Answers disk code given kept (before sink) reply code' (behind sink))
-    take_said (Ok bytes) says edited graph left cause = λ sink.
+    take_said (Ok bytes) says edited stays left cause = λ sink.
         subst (λ k. Answers disk code k kept (before sink) bytes code' (behind sink)) (sym is)
         (take_answers disk code code' (before sink) (behind sink) name kept bytes says
-        (record { edited = edited; graph = graph; ready = left.ready; faults = cause.ok; tools = refl; within = refl }) asked)
-    take_said (Err e) says edited graph left cause = tt
+        (record { edited = edited; stays = stays; ready = left.ready; faults = cause.ok; tools = refl; within = refl }) asked)
+    take_said (Err e) says edited stays left cause = tt
 
     pub take_unsaid : (r : Result (List ℕ) JournalFault) → IfErr r (HasFailedToPut disk.told (MayBeTaken tree.files name) name code.store code'.store now now') → IsCause (disk.faults now) (disk.faults now') r
         → IfErr r (λ why. (sink : SinkTold) → Halts disk code given kept (before sink) why (behind sink))
@@ -115,7 +115,7 @@ module _ {D : Type 0} (disk : DiskMeaning D) (code : Engaged) (given is_given : 
   pub shown : (bytes : List ℕ) → ((told : Told D) → Answers disk code is_given kept told bytes code told) → (sink : SinkTold) → Answers disk code given kept (telling sink tools tree now) bytes code (telling sink tools tree now)
   shown bytes answers sink = subst (λ k. Answers disk code k kept (telling sink tools tree now) bytes code (telling sink tools tree now)) (sym is) (answers (telling sink tools tree now))
 
-  pub unshown : ((g : Graph) (state : State) (body : List ℕ) → MayLeave g state is_given body state) → (sink : SinkTold) → Halts disk code given kept (telling sink tools tree now) fault.Memory (telling sink tools tree now)
+  pub unshown : ((g : Graph) (limit : ℕ) (state : State) (body : List ℕ) → MayLeave g limit state is_given body state) → (sink : SinkTold) → Halts disk code given kept (telling sink tools tree now) fault.Memory (telling sink tools tree now)
   unshown may sink =
       subst (λ k. Halts disk code k kept (telling sink tools tree now) fault.Memory (telling sink tools tree now)) (sym is)
-      (same_halts disk code is_given kept (telling sink tools tree now) (λ g state body held told_tools told_tree. may g state body) refl)
+      (same_halts disk code is_given kept (telling sink tools tree now) (λ g limit state body held told_tools told_tree. may g limit state body) refl)

@@ -166,12 +166,12 @@ no_reply old bytes new none same =
     (not_one bytes (reply_text reply.RefusedRead) _ refl (λ e. clash [] (reply_text reply.RefusedRead) (sym none ∙ e) 0 0 114 refl refl (λ z. omega arith)))
     (tools_later old new (ap (λ (s : State). s.tools) same)) (tree_later old new (ap (λ (s : State). s.tree) same))
 
-pub counted : (g : Graph) (old : State) (c : Command) (body bytes : List ℕ) (new : State) → Step g old c body bytes new → Counts old bytes new
-counted g old (Put name count) body bytes new step =
+pub counted : (g : Graph) (limit : ℕ) (old : State) (c : Command) (body bytes : List ℕ) (new : State) → Step g limit old c body bytes new → Counts old bytes new
+counted g limit old (Put name count) body bytes new step =
     by_silent old bytes new step.says.said step.says.bytes_are
     (inserted_silent old.held.sources name body count (reply.Put name count) step.says.said new.held.sources (record { no_start = λ z. cc; no_read = λ z. cc }) step.says.holds)
     (tools_later old new step.tools) (tree_later old new step.tree)
-counted g old (Take name) body bytes new step =
+counted g limit old (Take name) body bytes new step =
     let tree = step.asked.stays.later in
     elim step.says.holds [
       | inl taken ↦ by_silent old bytes new step.says.said step.says.bytes_are (taken_silent old.held.sources name taken.file step.says.said new.held.sources taken.takes) (tools_later old new step.tools) tree
@@ -182,43 +182,43 @@ counted g old (Take name) body bytes new step =
           let tools = tools_later old new step.tools in
           record { starts = omega (arith, none, tools); reads = omega (arith, rose, few) }
     ]
-counted g old (Remove name) body bytes new step =
+counted g limit old (Remove name) body bytes new step =
     by_silent old bytes new step.says.said step.says.bytes_are (removed_silent _ old.held.sources name step.says.said new.held.sources step.says.holds) (tools_later old new step.tools) (tree_later old new step.tree)
-counted g old (Ask text) body bytes new step =
-    let tools = reply_later g old.held.sources old.held.calls text step.says.said step.given old.tools new.tools step.says.holds in
+counted g limit old (Ask text) body bytes new step =
+    let tools = reply_later g old.held.sources old.held.calls limit text step.says.said step.given old.tools new.tools step.says.holds in
     elim step.says.holds [
       | inl answered ↦
           let outcomes = after (kept_outcome old.held.calls) step.given in
           by_silent old bytes new step.says.said step.says.bytes_are (answer_silent g old.held.sources outcomes text step.says.said (answered.answer outcomes (λ call o e. e))) tools (tree_later old new step.tree)
       | inr refused ↦
-          let counted = refusal_counted g old.held.sources old.held.calls text step.says.said step.given old.tools new.tools refused in
+          let counted = refusal_counted g old.held.sources old.held.calls limit text step.says.said step.given old.tools new.tools refused in
           let rose = counted.rose in
           let few = at_most_one (bytes_eq bytes (reply_text reply.RefusedToolStart)) in
           let none = no_read_in bytes step.says.said step.says.bytes_are (λ z. let is : step.says.said ≡ reply.RefusedToolStart = refused.is in let clashing : reply.RefusedToolStart ≡ reply.RefusedRead = sym is ∙ z in cc) in
           let tree = tree_later old new step.tree in
           record { starts = omega (arith, rose, few); reads = omega (arith, none, tree) }
     ]
-counted g old (Plan text) body bytes new step = no_change old bytes new step.says.said step.says.bytes_are (steps_silent g text step.says.said step.says.holds) step.same
-counted g old Sources body bytes new step = no_change old bytes new (reply.Sources (source_lines old.held.sources)) step.0 (record { no_start = λ z. cc; no_read = λ z. cc }) step.1
-counted g old Kept body bytes new step = no_change old bytes new (reply.Kept (length old.held.calls)) step.0 (record { no_start = λ z. cc; no_read = λ z. cc }) step.1
-counted g old Quit body bytes new step = no_change old bytes new reply.Bye step.0 (record { no_start = λ z. cc; no_read = λ z. cc }) step.1
-counted g old Nothing body bytes new step = no_reply old bytes new step.0 step.1
-counted g old Bad body bytes new step = no_change old bytes new reply.RefusedCommand step.0 (record { no_start = λ z. cc; no_read = λ z. cc }) step.1
-counted g old (BadName count) body bytes new step = no_change old bytes new reply.RefusedName step.0 (record { no_start = λ z. cc; no_read = λ z. cc }) step.1
+counted g limit old (Plan text) body bytes new step = no_change old bytes new step.says.said step.says.bytes_are (steps_silent g text step.says.said step.says.holds) step.same
+counted g limit old Sources body bytes new step = no_change old bytes new (reply.Sources (source_lines old.held.sources)) step.0 (record { no_start = λ z. cc; no_read = λ z. cc }) step.1
+counted g limit old Kept body bytes new step = no_change old bytes new (reply.Kept (length old.held.calls)) step.0 (record { no_start = λ z. cc; no_read = λ z. cc }) step.1
+counted g limit old Quit body bytes new step = no_change old bytes new reply.Bye step.0 (record { no_start = λ z. cc; no_read = λ z. cc }) step.1
+counted g limit old Nothing body bytes new step = no_reply old bytes new step.0 step.1
+counted g limit old Bad body bytes new step = no_change old bytes new reply.RefusedCommand step.0 (record { no_start = λ z. cc; no_read = λ z. cc }) step.1
+counted g limit old (BadName count) body bytes new step = no_change old bytes new reply.RefusedName step.0 (record { no_start = λ z. cc; no_read = λ z. cc }) step.1
 
 both : (f a r m s : ℕ) → min (f + a) last_count ≤ m → min (m + r) last_count ≤ s → min (f + (a + r)) last_count ≤ s
 both f a r m s first rest = omega arith
 
-pub counts : (g : Graph) (first last : State) (items : List Item) (replies : List (List ℕ)) → Transcript commands (Step g) first items replies last → FitsCounts first last replies
-counts g first last [] [] run =
+pub counts : (g : Graph) (limit : ℕ) (first last : State) (items : List Item) (replies : List (List ℕ)) → Transcript commands (Step g limit) first items replies last → FitsCounts first last replies
+counts g limit first last [] [] run =
     let tools : last.tools.faults ≡ first.tools.faults = ap (λ (s : State). s.tools.faults) run in
     let tree : last.tree.faults ≡ first.tree.faults = ap (λ (s : State). s.tree.faults) run in
     record { starts = omega arith; reads = omega arith }
-counts g first last [] (reply ∷ replies) run = absurd run
-counts g first last (item ∷ items) [] run = absurd run
-counts g first last (item ∷ items) (bytes ∷ replies) run =
-    let step = counted g first run.1.command item.body bytes run.0 run.1.step in
-    let rest = counts g run.0 last items replies run.2 in
+counts g limit first last [] (reply ∷ replies) run = absurd run
+counts g limit first last (item ∷ items) [] run = absurd run
+counts g limit first last (item ∷ items) (bytes ∷ replies) run =
+    let step = counted g limit first run.1.command item.body bytes run.0 run.1.step in
+    let rest = counts g limit run.0 last items replies run.2 in
     record {
       starts = both first.tools.faults (starts_in bytes) (count_of reply.RefusedToolStart replies) run.0.tools.faults last.tools.faults step.starts rest.starts;
       reads = both first.tree.faults (reads_in bytes) (count_of reply.RefusedRead replies) run.0.tree.faults last.tree.faults step.reads rest.reads;

@@ -18,10 +18,11 @@ use Rattle.meaning_commands.specs.declared.commands.Command.{Command}
 use Rattle.meaning_commands.specs.declared.commands.Command.TheVariants.{Put, Take, Remove, Ask, Plan, Sources, Kept, Quit, Nothing, Bad, BadName}
 use Rattle.meaning_commands.specs.declared.replies.Reply.{Reply}
 use Rattle.plain_derive.specs.Given.{calls_of, AreGiven}
-use Rattle.plain_derive.proofs.Lemmas.{given_are_calls}
+use Rattle.plain_derive.specs.Flights.{at_rest, off_course, for_spawn}
+use Rattle.plain_derive.proofs.Lemmas.{given_are_calls, flown_given}
 use Rattle.odin_store.specs.Held.{Held, Change, puts, drops, keeps, apply}
 use Rattle.odin_store.specs.Keeping.{store_keeping}
-use Rattle.kept_derive.specs.Runs.{keeps_of}
+use Rattle.kept_derive.specs.Runs.{keeps_of, course_of}
 use Rattle.odin_answers.specs.Answers.{IsReply, MayHaveBegun}
 use Rattle.odin_answers.specs.Laws.{IsTrueFor}
 use Rattle.odin_answers.proofs.Lemmas.{kept_first, kept_by_either}
@@ -54,7 +55,7 @@ there None y grows is = absurd (let no : ⊥ = cc in no)
 
 -- ---- one item
 
--- calls that an ask was given
+-- calls that came of an ask
 module _ (g : Graph) (old : State) (item : Item) (text : Text) (given : Calls) (is : IsItem commands item (Ask text)) where
   run_ours : (n : Node) → answers.Asks g text n → AreGiven g old.held.sources (kept_outcome old.held.calls) n given → (call : Call) → IsIn call (calls_of given) → IsCallOfAsk g old item call
   run_ours n asks are call i = record {
@@ -66,16 +67,26 @@ module _ (g : Graph) (old : State) (item : Item) (text : Text) (given : Calls) (
     from = λ outcomes agrees. given_are_calls g old.held.sources (kept_outcome old.held.calls) n given are outcomes agrees call i;
   }
 
-  reply_ours : (said : Reply) (before now : Spawned) → IsReply g old.held.sources old.held.calls text said given before now → (call : Call) → IsIn call (calls_of given) → IsCallOfAsk g old item call
-  reply_ours said before now (inl answer) call i = elim answer.did [
+  reply_ours : (limit : ℕ) (said : Reply) (before now : Spawned) → IsReply g old.held.sources old.held.calls limit text said given before now → (call : Call) → IsIn call (calls_of given) → IsCallOfAsk g old item call
+  reply_ours limit said before now (inl answer) call i = elim answer.did [
     | inl alone ↦ absurd (subst (λ (l : Calls). IsIn call (calls_of l)) alone.none i)
-    | inr d ↦ run_ours d.node d.asks d.run.are call i
+    | inr d ↦ run_ours d.node d.asks (flown_given g old.held.sources (kept_outcome old.held.calls) d.node limit before (course_of d.found) (at_rest given now) d.run.flown) call i
   ]
-  reply_ours said before now (inr refused) call i = run_ours refused.begun.node refused.begun.asks refused.begun.run.are call i
+  reply_ours limit said before now (inr refused) call i =
+      let d = refused.drained in
+      run_ours d.node d.asks (flown_given g old.held.sources (kept_outcome old.held.calls) d.node limit before (off_course for_spawn) (at_rest given now) d.run.flown) call i
 
-  begun_ours : (before now : Spawned) → MayHaveBegun g old.held.sources old.held.calls text given before now → (call : Call) → IsIn call (calls_of given) → IsCallOfAsk g old item call
-  begun_ours before now (inl untouched) call i = absurd (subst (λ (l : Calls). IsIn call (calls_of l)) untouched.none i)
-  begun_ours before now (inr b) call i = run_ours b.1.node b.1.asks b.1.run.are call i
+  begun_ours : (limit : ℕ) (before now : Spawned) → MayHaveBegun g old.held.sources old.held.calls limit text given before now → (call : Call) → IsIn call (calls_of given) → IsCallOfAsk g old item call
+  begun_ours limit before now (inl untouched) call i = absurd (subst (λ (l : Calls). IsIn call (calls_of l)) untouched.none i)
+  begun_ours limit before now (inr b) call i =
+      run_ours b.node b.asks
+      (flown_given g old.held.sources (kept_outcome old.held.calls) b.node limit before b.flown.course (record { running = b.flown.running; given = given; tools = now }) b.flown.flown) call i
+
+-- the first of them are among them
+among : (call : Call) (given rest : Calls) → IsIn call (calls_of given) → IsIn call (calls_of (given ++ rest))
+among call [] rest i = absurd i
+among call (x ∷ given) rest (inl e) = inl e
+among call (x ∷ given) rest (inr i) = inr (among call given rest i)
 
 -- a call that is kept behind an item was kept before it, or is one of its ask
 abbrev Either : Graph → State → Item → State → Call → Type 0
@@ -95,37 +106,37 @@ module _ (g : Graph) (old new : State) (item : Item) (call : Call) where
         | inr i ↦ inr (ours call i)
       ]
 
-  step_ours : (c : Command) (bytes : List ℕ) → IsItem commands item c → Step g old c item.body bytes new → Either g old item new call
-  step_ours (Put name count) bytes is step = same_calls (edits_keep name old new step.makes)
-  step_ours (Take name) bytes is step = same_calls (edits_keep name old new step.makes)
-  step_ours (Remove name) bytes is step = same_calls (edits_keep name old new step.makes)
-  step_ours (Ask text) bytes is step = more_calls step.given step.makes (reply_ours g old item text step.given is step.says.said old.tools new.tools step.says.holds)
-  step_ours (Plan text) bytes is step = same_state step.same
-  step_ours Sources bytes is step = same_state step.1
-  step_ours Kept bytes is step = same_state step.1
-  step_ours Quit bytes is step = same_state step.1
-  step_ours Nothing bytes is step = same_state step.1
-  step_ours Bad bytes is step = same_state step.1
-  step_ours (BadName count) bytes is step = same_state step.1
+  step_ours : (limit : ℕ) (c : Command) (bytes : List ℕ) → IsItem commands item c → Step g limit old c item.body bytes new → Either g old item new call
+  step_ours limit (Put name count) bytes is step = same_calls (edits_keep name old new step.makes)
+  step_ours limit (Take name) bytes is step = same_calls (edits_keep name old new step.makes)
+  step_ours limit (Remove name) bytes is step = same_calls (edits_keep name old new step.makes)
+  step_ours limit (Ask text) bytes is step = more_calls step.given step.makes (reply_ours g old item text step.given is limit step.says.said old.tools new.tools step.says.holds)
+  step_ours limit (Plan text) bytes is step = same_state step.same
+  step_ours limit Sources bytes is step = same_state step.1
+  step_ours limit Kept bytes is step = same_state step.1
+  step_ours limit Quit bytes is step = same_state step.1
+  step_ours limit Nothing bytes is step = same_state step.1
+  step_ours limit Bad bytes is step = same_state step.1
+  step_ours limit (BadName count) bytes is step = same_state step.1
 
-  left_ours : (c : Command) → IsItem commands item c → MayLeave g old c item.body new → Either g old item new call
-  left_ours (Put name count) is may = same_calls (edit_keeps _ old new (λ change due. puts_keep name item.body change due.1) may.0)
-  left_ours (Take name) is may = same_calls (edit_keeps _ old new (λ change due. puts_keep name due.0 change due.3) may.0)
-  left_ours (Remove name) is may = same_calls (edit_keeps _ old new (drops_keep name) may.0)
-  left_ours (Ask text) is may = more_calls may.given may.makes (begun_ours g old item text may.given is old.tools new.tools may.begun)
-  left_ours (Plan text) is may = same_state may
-  left_ours Sources is may = same_state may
-  left_ours Kept is may = same_state may
-  left_ours Quit is may = same_state may
-  left_ours Nothing is may = same_state may
-  left_ours Bad is may = same_state may
-  left_ours (BadName count) is may = same_state may
+  left_ours : (limit : ℕ) (c : Command) → IsItem commands item c → MayLeave g limit old c item.body new → Either g old item new call
+  left_ours limit (Put name count) is may = same_calls (edit_keeps _ old new (λ change due. puts_keep name item.body change due.1) may.0)
+  left_ours limit (Take name) is may = same_calls (edit_keeps _ old new (λ change due. puts_keep name due.0 change due.3) may.0)
+  left_ours limit (Remove name) is may = same_calls (edit_keeps _ old new (drops_keep name) may.0)
+  left_ours limit (Ask text) is may = more_calls may.given may.makes (λ c i. begun_ours g old item text (may.given ++ may.rest) is limit old.tools new.tools may.begun c (among c may.given may.rest i))
+  left_ours limit (Plan text) is may = same_state may
+  left_ours limit Sources is may = same_state may
+  left_ours limit Kept is may = same_state may
+  left_ours limit Quit is may = same_state may
+  left_ours limit Nothing is may = same_state may
+  left_ours limit Bad is may = same_state may
+  left_ours limit (BadName count) is may = same_state may
 
 -- ---- all items
 
 -- an ask behind one more item
-behind_one : (g : Graph) (first mid : State) (item : Item) (items : List Item) (bytes : List ℕ) → AnswersItem commands (Step g) first item bytes mid → (call : Call) → ComesOfAsk g mid items call → ComesOfAsk g first (item ∷ items) call
-behind_one g first mid item items bytes a call c = record {
+behind_one : (g : Graph) (limit : ℕ) (first mid : State) (item : Item) (items : List Item) (bytes : List ℕ) → AnswersItem commands (Step g limit) first item bytes mid → (call : Call) → ComesOfAsk g limit mid items call → ComesOfAsk g limit first (item ∷ items) call
+behind_one g limit first mid item items bytes a call c = record {
   front = item ∷ c.front;
   item = c.item;
   rest = c.rest;
@@ -137,23 +148,23 @@ behind_one g first mid item items bytes a call c = record {
 }
 
 -- one of the first of the items, or of the one behind them
-at_front : (g : Graph) (first : State) (item : Item) (items : List Item) (call : Call) → IsCallOfAsk g first item call → ComesOfAsk g first (item ∷ items) call
-at_front g first item items call is = record { front = []; item = item; rest = items; cuts = refl; replies = []; old = first; run = refl; is = is }
+at_front : (g : Graph) (limit : ℕ) (first : State) (item : Item) (items : List Item) (call : Call) → IsCallOfAsk g first item call → ComesOfAsk g limit first (item ∷ items) call
+at_front g limit first item items call is = record { front = []; item = item; rest = items; cuts = refl; replies = []; old = first; run = refl; is = is }
 
-all_ours : (g : Graph) (first last : State) (items : List Item) (replies : List (List ℕ)) → Transcript commands (Step g) first items replies last → (call : Call) → IsSome (kept_outcome last.held.calls call) → IsOurs g first items call
-all_ours g first last [] [] run call kept = inl (subst (λ (s : State). IsSome (kept_outcome s.held.calls call)) run kept)
-all_ours g first last [] (bytes ∷ replies) run call kept = absurd run
-all_ours g first last (item ∷ items) [] run call kept = absurd run
-all_ours g first last (item ∷ items) (bytes ∷ replies) run call kept = elim (all_ours g run.0 last items replies run.2 call kept) [
-  | inl mid ↦ elim (step_ours g first run.0 item call run.1.command bytes run.1.item_is run.1.step mid) [
+all_ours : (g : Graph) (limit : ℕ) (first last : State) (items : List Item) (replies : List (List ℕ)) → Transcript commands (Step g limit) first items replies last → (call : Call) → IsSome (kept_outcome last.held.calls call) → IsOurs g limit first items call
+all_ours g limit first last [] [] run call kept = inl (subst (λ (s : State). IsSome (kept_outcome s.held.calls call)) run kept)
+all_ours g limit first last [] (bytes ∷ replies) run call kept = absurd run
+all_ours g limit first last (item ∷ items) [] run call kept = absurd run
+all_ours g limit first last (item ∷ items) (bytes ∷ replies) run call kept = elim (all_ours g limit run.0 last items replies run.2 call kept) [
+  | inl mid ↦ elim (step_ours g first run.0 item call limit run.1.command bytes run.1.item_is run.1.step mid) [
     | inl was ↦ inl was
-    | inr is ↦ inr (at_front g first item items call is)
+    | inr is ↦ inr (at_front g limit first item items call is)
   ]
-  | inr c ↦ inr (behind_one g first run.0 item items bytes run.1 call c)
+  | inr c ↦ inr (behind_one g limit first run.0 item items bytes run.1 call c)
 ]
 
-longer : (g : Graph) (first : State) (items : List Item) (item : Item) (call : Call) → ComesOfAsk g first items call → ComesOfAsk g first (items ++ item ∷ []) call
-longer g first items item call c = record {
+longer : (g : Graph) (limit : ℕ) (first : State) (items : List Item) (item : Item) (call : Call) → ComesOfAsk g limit first items call → ComesOfAsk g limit first (items ++ item ∷ []) call
+longer g limit first items item call c = record {
   front = c.front;
   item = c.item;
   rest = c.rest ++ item ∷ [];
@@ -164,52 +175,52 @@ longer g first items item call c = record {
   is = c.is;
 }
 
-come_ours : (g : Graph) (first : State) (items : List Item) (furthest : State) → ComesTo g first items furthest → (call : Call) → IsSome (kept_outcome furthest.held.calls call) → IsOurs g first items call
-come_ours g first items furthest (ComesTo.answered _ replies _ run) call kept = all_ours g first furthest items replies run call kept
-come_ours g first _ furthest (ComesTo.begun items replies state item command _ run is may) call kept = elim (left_ours g state furthest item call command is may kept) [
-  | inl was ↦ elim (all_ours g first state items replies run call was) [
+come_ours : (g : Graph) (limit : ℕ) (first : State) (items : List Item) (furthest : State) → ComesTo g limit first items furthest → (call : Call) → IsSome (kept_outcome furthest.held.calls call) → IsOurs g limit first items call
+come_ours g limit first items furthest (ComesTo.answered _ replies _ run) call kept = all_ours g limit first furthest items replies run call kept
+come_ours g limit first _ furthest (ComesTo.begun items replies state item command _ run is may) call kept = elim (left_ours g state furthest item call limit command is may kept) [
+  | inl was ↦ elim (all_ours g limit first state items replies run call was) [
     | inl first_kept ↦ inl first_kept
-    | inr c ↦ inr (longer g first items item call c)
+    | inr c ↦ inr (longer g limit first items item call c)
   ]
   | inr ask ↦ inr (record { front = items; item = item; rest = []; cuts = refl; replies = replies; old = state; run = run; is = ask })
 ]
 
-come_made : (g : Graph) (first : State) (items : List Item) (furthest : State) → ComesTo g first items furthest → IsMade first furthest
-come_made g first items furthest (ComesTo.answered _ replies _ run) = is_made g first furthest items replies run
-come_made g first _ furthest (ComesTo.begun items replies state item command _ run is may) = made_on first state furthest (is_made g first state items replies run) (left_made g state furthest command item.body may)
+come_made : (g : Graph) (limit : ℕ) (first : State) (items : List Item) (furthest : State) → ComesTo g limit first items furthest → IsMade first furthest
+come_made g limit first items furthest (ComesTo.answered _ replies _ run) = is_made g limit first furthest items replies run
+come_made g limit first _ furthest (ComesTo.begun items replies state item command _ run is may) = made_on first state furthest (is_made g limit first state items replies run) (left_made g limit state furthest command item.body may)
 
-come_true : (g : Graph) (table : Table) (first : State) (items : List Item) (furthest : State) → IsTrueFor table first.tools first.held.calls → ComesTo g first items furthest → IsTrueFor table furthest.tools furthest.held.calls
-come_true g table first items furthest right (ComesTo.answered _ replies _ run) = stays_true g table first furthest items replies right run
-come_true g table first _ furthest right (ComesTo.begun items replies state item command _ run is may) =
-    left_true g table state furthest command item.body (stays_true g table first state items replies right run) may
+come_true : (g : Graph) (limit : ℕ) (table : Table) (first : State) (items : List Item) (furthest : State) → IsTrueFor table first.tools first.held.calls → ComesTo g limit first items furthest → IsTrueFor table furthest.tools furthest.held.calls
+come_true g limit table first items furthest right (ComesTo.answered _ replies _ run) = stays_true g limit table first furthest items replies right run
+come_true g limit table first _ furthest right (ComesTo.begun items replies state item command _ run is may) =
+    left_true g limit table state furthest command item.body (stays_true g limit table first state items replies right run) may
 
 -- ---- images
 
-module _ (g : Graph) (first : State) (items : List Item) (furthest : State) (none : first.changes ≡ []) (comes : ComesTo g first items furthest) where
+module _ (g : Graph) (limit : ℕ) (first : State) (items : List Item) (furthest : State) (none : first.changes ≡ []) (comes : ComesTo g limit first items furthest) where
   held_is : furthest.held ≡ after store_keeping furthest.changes first.held
-  held_is = let made = come_made g first items furthest comes in made.held ∙ ap (λ l. after store_keeping l first.held) (sym (made.list ∙ ap (λ l. l ++ made.made) none))
+  held_is = let made = come_made g limit first items furthest comes in made.held ∙ ap (λ l. after store_keeping l first.held) (sym (made.list ∙ ap (λ l. l ++ made.made) none))
 
   -- what the first changes keep is kept in the furthest state
   kept_furthest : (k : ℕ) (call : Call) (o : Outcome) → kept_outcome (after store_keeping (take k furthest.changes) first.held).calls call ≡ Some o → kept_outcome furthest.held.calls call ≡ Some o
   kept_furthest k call o e = ap (λ (h : Held). kept_outcome h.calls call) held_is ∙ first_grows k furthest.changes first.held call o e
 
-  holds_ours : (least : ℕ) (image : List ℕ) → IsPrefix store_keeping first.held least furthest.changes image → HoldsOurs g first items furthest least image
+  holds_ours : (least : ℕ) (image : List ℕ) → IsPrefix store_keeping first.held least furthest.changes image → HoldsOurs g limit first items furthest least image
   holds_ours least image some = record {
     held = after store_keeping (take some.k furthest.changes) first.held;
     stands = some.stands;
     count = some.k;
     at_least = some.at_least;
     is = refl;
-    calls = λ call kept. come_ours g first items furthest comes call
+    calls = λ call kept. come_ours g limit first items furthest comes call
         (there (kept_outcome (after store_keeping (take some.k furthest.changes) first.held).calls call) (kept_outcome furthest.held.calls call) (kept_furthest some.k call) kept);
-    right = λ table right call o e. (let kept_true = come_true g table first items furthest right comes in kept_true.gives call o (kept_furthest some.k call o e));
+    right = λ table right call o e. (let kept_true = come_true g limit table first items furthest right comes in kept_true.gives call o (kept_furthest some.k call o e));
   }
 
-pub images_hold_ours : {D : Type 0} (disk : DiskMeaning D) (g : Graph) (text : Text) (first : State) (items : List Item) (start : Told D) (acknowledged furthest : State) (now : Told D)
-    → first.changes ≡ [] → IsQuiet (disk.told start.disk) → ComesTo g first items furthest → IsLeft disk g text first start acknowledged furthest now → LeavesOurs disk g first items start acknowledged furthest now
-images_hold_ours disk g text first items start acknowledged furthest now none quiet comes left =
+pub images_hold_ours : {D : Type 0} (disk : DiskMeaning D) (g : Graph) (limit : ℕ) (text : Text) (first : State) (items : List Item) (start : Told D) (acknowledged furthest : State) (now : Told D)
+    → first.changes ≡ [] → IsQuiet (disk.told start.disk) → ComesTo g limit first items furthest → IsLeft disk g text limit first start acknowledged furthest now → LeavesOurs disk g limit first items start acknowledged furthest now
+images_hold_ours disk g limit text first items start acknowledged furthest now none quiet comes left =
     let safe = left.safe.crash quiet in
     record {
-      since = λ image was. holds_ours g first items furthest none comes 0 image (safe.crash.each image was);
-      left = λ image may. holds_ours g first items furthest none comes (length acknowledged.changes) image (safe.durable image may);
+      since = λ image was. holds_ours g limit first items furthest none comes 0 image (safe.crash.each image was);
+      left = λ image may. holds_ours g limit first items furthest none comes (length acknowledged.changes) image (safe.durable image may);
     }

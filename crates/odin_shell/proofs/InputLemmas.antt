@@ -27,23 +27,23 @@ use Rattle.odin_shell.specs.Begun.{MayBegin, BeginsWith, SessionServes}
 use Rattle.odin_shell.proofs.HeldLemmas.{Keeps-less}
 use Rattle.odin_shell.proofs.StateLemmas.{rests}
 use Rattle.odin_shell.proofs.ServeLemmas.{onward_none, onward_on}
-use Rattle.odin_shell.proofs.SessionLemmas.{reads_none, stopped_leaves, stopped_input, stopped_disk, stopped_idle}
+use Rattle.odin_shell.proofs.SessionLemmas.{reads_none, stopped_leaves, stopped_input, stopped_disk}
 
 module _ {D : Type 0} (disk : DiskMeaning D) where
-  abbrev machine : Graph → Text → Machine Command Engaged State (Told D)
+  abbrev machine : Graph → Text → ℕ → Machine Command Engaged State (Told D)
   machine = machine_of disk
 
   -- The session has read so many bytes of its input, whatever it began with; so many edits were made at most, and no tool runs.
   pub record IsAt (code : Engaged) (before : Told D) (input left : Option (List ℕ)) (count : ℕ) (now : Told D) (session : Session) : Type 0 where
-    pub reads : (g : Graph) (text : Text) (held : Held) (start : Told D) → BeginsWith disk g text held start code before → Reads disk g text held start input left count now session
+    pub reads : (g : Graph) (text : Text) (limit : ℕ) (held : Held) (start : Told D) → BeginsWith disk g text limit held start code before → Reads disk g text limit held start input left count now session
     pub onward : IsOnward disk count code session.engine before.disk now.disk
     pub idle : now.tools.running ≡ []
 
   pub none_read : (code : Engaged) (before : Told D) (left : Option (List ℕ)) (session : Session) → MayBegin code (disk.size before.disk) before.tools → session.engine ≡ code → Keeps session.cutter [] → IsAt code before left left 0 before session
   none_read code before left session may same keeps = record {
-    reads = λ g text held start begins.
-        subst (λ (e : Engaged). streams.Reading commands Keeps (machine g text) (at_first held start.tools start.tree) start left left 0 before e session.cutter) (sym same)
-        (reads_none disk g text held start before left code session.cutter begins keeps);
+    reads = λ g text limit held start begins.
+        subst (λ (e : Engaged). streams.Reading commands Keeps (machine g text limit) (at_first held start.tools start.tree) start left left 0 before e session.cutter) (sym same)
+        (reads_none disk g text limit held start before left code session.cutter begins keeps);
     onward = subst (λ (e : Engaged). IsOnward disk 0 code e before.disk before.disk) (sym same) (onward_none disk 0 code before.disk may.ready);
     idle = may.idle;
   }
@@ -56,8 +56,8 @@ module _ {D : Type 0} (disk : DiskMeaning D) where
     pub piece_read : (input left left' : Option (List ℕ)) (count n : ℕ) (now now' : Told D) (session session' : Session) (piece : List ℕ) → IsAt code before input left count now session → left ≡ prepended piece left' → length piece ≡ n
         → Goes disk piece now session now' session' → IsOnward disk n session.engine session'.engine now.disk now'.disk → IsAt code before input left' (count + n) now' session'
     piece_read input left left' count n now now' session session' piece at is size goes onward = record {
-      reads = λ g text held start begins.
-          Reading-more commands Keeps (machine g text) (at_first held start.tools start.tree) start now now' input left left' count n session.engine session'.engine session.cutter session'.cutter piece (at.reads g text held start begins) is size (goes.over g text);
+      reads = λ g text limit held start begins.
+          Reading-more commands Keeps (machine g text limit) (at_first held start.tools start.tree) start now now' input left left' count n session.engine session'.engine session.cutter session'.cutter piece (at.reads g text limit held start begins) is size (goes.over g text limit);
       onward = onward_on disk count n code session.engine session'.engine before.disk now.disk now'.disk at.onward onward;
       idle = goes.idle;
     }
@@ -75,8 +75,8 @@ module _ {D : Type 0} (disk : DiskMeaning D) where
     module _ (input left : SourceTold) (mid : Option (List ℕ)) (count n : ℕ) (now after : Told D) (session : Session) (at : IsAt code before input.left mid count now session) where
       pub ends_unread : count < input_limit → left.left ≡ mid → IsCounted input.faults left.faults → after ≡ now → SessionServes disk code input left before after ending.Input
       ends_unread small same counted is = subst (λ (t : Told D). SessionServes disk code input left before t ending.Input) (sym is) (record {
-        leaves = λ g text held start begins.
-            HasRead-unread commands Keeps (machine g text) (rests disk g text) Keeps-less (at_first held start.tools start.tree) start now input.left mid left.left count session.engine session.cutter (at.reads g text held start begins) small same;
+        leaves = λ g text limit held start begins.
+            HasRead-unread commands Keeps (machine g text limit) (rests disk g text limit) Keeps-less (at_first held start.tools start.tree) start now input.left mid left.left count session.engine session.cutter (at.reads g text limit held start begins) small same;
         read = counted;
         counted = at.onward.faults;
         idle = λ other. at.idle;
@@ -85,8 +85,8 @@ module _ {D : Type 0} (disk : DiskMeaning D) where
       module _ (small : count < input_limit) (buffer : List ℕ) (is : mid ≡ prepended (take n buffer) left.left) (none : n ≡ 0) (spent : IsSpent left.left) (read : left.faults ≡ input.faults) where
         pub ends_whole : Finishes disk finish.Whole now session after → disk.faults after.disk ≡ disk.faults now.disk → SessionServes disk code input left before after ending.Whole
         ends_whole done unfailed = record {
-          leaves = λ g text held start begins.
-              inl (HasRead-finish commands Keeps (machine g text) (EndsWhole commands (machine g text)) (at_first held start.tools start.tree) start now after input.left mid left.left count n session.engine session.cutter buffer (at.reads g text held start begins) small is none spent (done.over g text));
+          leaves = λ g text limit held start begins.
+              inl (HasRead-finish commands Keeps (machine g text limit) (EndsWhole commands (machine g text limit)) (at_first held start.tools start.tree) start now after input.left mid left.left count n session.engine session.cutter buffer (at.reads g text limit held start begins) small is none spent (done.over g text limit));
           read = read;
           counted = unfailed ∙ at.onward.faults;
           idle = λ other. done.idle;
@@ -94,8 +94,8 @@ module _ {D : Type 0} (disk : DiskMeaning D) where
 
         pub ends_inside : Finishes disk finish.CutShort now session after → disk.faults after.disk ≡ disk.faults now.disk → SessionServes disk code input left before after ending.CutShort
         ends_inside done unfailed = record {
-          leaves = λ g text held start begins.
-              HasRead-finish commands Keeps (machine g text) (EndsCutShort commands (machine g text)) (at_first held start.tools start.tree) start now after input.left mid left.left count n session.engine session.cutter buffer (at.reads g text held start begins) small is none spent (done.over g text);
+          leaves = λ g text limit held start begins.
+              HasRead-finish commands Keeps (machine g text limit) (EndsCutShort commands (machine g text limit)) (at_first held start.tools start.tree) start now after input.left mid left.left count n session.engine session.cutter buffer (at.reads g text limit held start begins) small is none spent (done.over g text limit);
           read = read;
           counted = unfailed ∙ at.onward.faults;
           idle = λ other. done.idle;
@@ -104,33 +104,33 @@ module _ {D : Type 0} (disk : DiskMeaning D) where
         -- it stopped at the last line
         pub ends_last : (stop : Stop) → StopsAtEnd disk stop now session after → Counts stop (disk.faults now.disk) (disk.faults after.disk) → after.over ≡ None → SessionServes disk code input left before after (ending_of stop)
         ends_last stop done counted within = record {
-          leaves = λ g text held start begins.
-              stopped_leaves disk g text held input left start after stop
-              (HasRead-finish commands Keeps (machine g text) (EndsStopped commands (machine g text) (halt_of stop)) (at_first held start.tools start.tree) start now (stopped stop after) input.left mid left.left count n session.engine session.cutter buffer (at.reads g text held start begins) small is none spent (done.over g text))
+          leaves = λ g text limit held start begins.
+              stopped_leaves disk g text limit held input left start after stop
+              (HasRead-finish commands Keeps (machine g text limit) (EndsStopped commands (machine g text limit) (halt_of stop)) (at_first held start.tools start.tree) start now (stopped stop after) input.left mid left.left count n session.engine session.cutter buffer (at.reads g text limit held start begins) small is none spent (done.over g text limit))
               within;
           read = stopped_input stop input.faults left.faults read;
           counted = stopped_disk stop (disk.faults before.disk) (disk.faults now.disk) (disk.faults after.disk) at.onward.faults counted;
-          idle = stopped_idle stop done.idle;
+          idle = done.idle;
         }
 
       -- it stopped on a piece
       pub ends_piece : (stop : Stop) (piece : List ℕ) → mid ≡ prepended piece left.left → length piece ≡ n → count + n ≤ input_limit → n ≤ piece_limit → left.faults ≡ input.faults → StopsIn disk stop piece now session after
           → Counts stop (disk.faults now.disk) (disk.faults after.disk) → after.over ≡ None → SessionServes disk code input left before after (ending_of stop)
       ends_piece stop piece is size within few read done counted none = record {
-        leaves = λ g text held start begins.
-            stopped_leaves disk g text held input left start after stop
-            (HasRead-piece commands Keeps (machine g text) (halt_of stop) (at_first held start.tools start.tree) start now (stopped stop after) input.left mid left.left count n session.engine session.cutter piece (at.reads g text held start begins) is size within few (done.over g text))
+        leaves = λ g text limit held start begins.
+            stopped_leaves disk g text limit held input left start after stop
+            (HasRead-piece commands Keeps (machine g text limit) (halt_of stop) (at_first held start.tools start.tree) start now (stopped stop after) input.left mid left.left count n session.engine session.cutter piece (at.reads g text limit held start begins) is size within few (done.over g text limit))
             none;
         read = stopped_input stop input.faults left.faults read;
         counted = stopped_disk stop (disk.faults before.disk) (disk.faults now.disk) (disk.faults after.disk) at.onward.faults counted;
-        idle = stopped_idle stop done.idle;
+        idle = done.idle;
       }
 
     -- as many bytes were read as may be
     pub ends_at_limit : (input left : SourceTold) (now : Told D) (session : Session) → IsAt code before input.left left.left input_limit now session → left.faults ≡ input.faults → SessionServes disk code input left before now ending.TooLong
     ends_at_limit input left now session at read = record {
-      leaves = λ g text held start begins.
-          HasRead-limit commands Keeps (machine g text) (rests disk g text) Keeps-less (at_first held start.tools start.tree) start now input.left left.left session.engine session.cutter (at.reads g text held start begins);
+      leaves = λ g text limit held start begins.
+          HasRead-limit commands Keeps (machine g text limit) (rests disk g text limit) Keeps-less (at_first held start.tools start.tree) start now input.left left.left session.engine session.cutter (at.reads g text limit held start begins);
       read = read;
       counted = at.onward.faults;
       idle = λ other. at.idle;
@@ -139,9 +139,9 @@ module _ {D : Type 0} (disk : DiskMeaning D) where
     -- memory was wanted before the first byte
     pub ends_unbegun : (input : SourceTold) → before.tools.running ≡ [] → SessionServes disk code input input before before ending.Memory
     ends_unbegun input idle = record {
-      leaves = λ g text held start begins.
-          HasRead-none commands Keeps (machine g text) (at_first held start.tools start.tree) start before input.left begins.sink
-          (rests disk g text (at_first held start.tools start.tree) start code (at_first held start.tools start.tree) before begins.fits);
+      leaves = λ g text limit held start begins.
+          HasRead-none commands Keeps (machine g text limit) (at_first held start.tools start.tree) start before input.left begins.sink
+          (rests disk g text limit (at_first held start.tools start.tree) start code (at_first held start.tools start.tree) before begins.fits);
       read = refl;
       counted = refl;
       idle = λ other. idle;

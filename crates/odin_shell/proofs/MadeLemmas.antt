@@ -82,42 +82,42 @@ made_on first mid last begins goes = record {
   held = goes.held ∙ ap (after store_keeping goes.made) begins.held ∙ sym (after_both begins.made goes.made first.held);
 }
 
-step_made : (g : Graph) (old : State) (c : Command) (body bytes : List ℕ) (new : State) → Step g old c body bytes new → IsMade old new
-step_made g old (Put name count) body bytes new step = made_by _ old new step.makes
-step_made g old (Take name) body bytes new step = made_by _ old new step.makes
-step_made g old (Remove name) body bytes new step = made_by _ old new step.makes
-step_made g old (Ask text) body bytes new step = made_by _ old new step.makes
-step_made g old (Plan text) body bytes new step = none_made old new step.same
-step_made g old Sources body bytes new step = none_made old new step.1
-step_made g old Kept body bytes new step = none_made old new step.1
-step_made g old Quit body bytes new step = none_made old new step.1
-step_made g old Nothing body bytes new step = none_made old new step.1
-step_made g old Bad body bytes new step = none_made old new step.1
-step_made g old (BadName count) body bytes new step = none_made old new step.1
+step_made : (g : Graph) (limit : ℕ) (old : State) (c : Command) (body bytes : List ℕ) (new : State) → Step g limit old c body bytes new → IsMade old new
+step_made g limit old (Put name count) body bytes new step = made_by _ old new step.makes
+step_made g limit old (Take name) body bytes new step = made_by _ old new step.makes
+step_made g limit old (Remove name) body bytes new step = made_by _ old new step.makes
+step_made g limit old (Ask text) body bytes new step = made_by _ old new step.makes
+step_made g limit old (Plan text) body bytes new step = none_made old new step.same
+step_made g limit old Sources body bytes new step = none_made old new step.1
+step_made g limit old Kept body bytes new step = none_made old new step.1
+step_made g limit old Quit body bytes new step = none_made old new step.1
+step_made g limit old Nothing body bytes new step = none_made old new step.1
+step_made g limit old Bad body bytes new step = none_made old new step.1
+step_made g limit old (BadName count) body bytes new step = none_made old new step.1
 
-pub is_made : (g : Graph) (first last : State) (items : List Item) (replies : List (List ℕ)) → Transcript commands (Step g) first items replies last → IsMade first last
-is_made g first last [] [] run = none_made first last run
-is_made g first last [] (bytes ∷ replies) run = absurd run
-is_made g first last (item ∷ items) [] run = absurd run
-is_made g first last (item ∷ items) (bytes ∷ replies) run =
-    made_on first run.0 last (step_made g first run.1.command item.body bytes run.0 run.1.step) (is_made g run.0 last items replies run.2)
+pub is_made : (g : Graph) (limit : ℕ) (first last : State) (items : List Item) (replies : List (List ℕ)) → Transcript commands (Step g limit) first items replies last → IsMade first last
+is_made g limit first last [] [] run = none_made first last run
+is_made g limit first last [] (bytes ∷ replies) run = absurd run
+is_made g limit first last (item ∷ items) [] run = absurd run
+is_made g limit first last (item ∷ items) (bytes ∷ replies) run =
+    made_on first run.0 last (step_made g limit first run.1.command item.body bytes run.0 run.1.step) (is_made g limit run.0 last items replies run.2)
 
-pub left_made : (g : Graph) (old furthest : State) (c : Command) (body : List ℕ) → MayLeave g old c body furthest → IsMade old furthest
-left_made g old new (Put name count) body may = made_by _ old new may.0.makes
-left_made g old new (Take name) body may = made_by _ old new may.0.makes
-left_made g old new (Remove name) body may = made_by _ old new may.0.makes
-left_made g old new (Ask text) body may = made_by _ old new may.makes
-left_made g old new (Plan text) body may = none_made old new may
-left_made g old new Sources body may = none_made old new may
-left_made g old new Kept body may = none_made old new may
-left_made g old new Quit body may = none_made old new may
-left_made g old new Nothing body may = none_made old new may
-left_made g old new Bad body may = none_made old new may
-left_made g old new (BadName count) body may = none_made old new may
+pub left_made : (g : Graph) (limit : ℕ) (old furthest : State) (c : Command) (body : List ℕ) → MayLeave g limit old c body furthest → IsMade old furthest
+left_made g limit old new (Put name count) body may = made_by _ old new may.0.makes
+left_made g limit old new (Take name) body may = made_by _ old new may.0.makes
+left_made g limit old new (Remove name) body may = made_by _ old new may.0.makes
+left_made g limit old new (Ask text) body may = made_by _ old new may.makes
+left_made g limit old new (Plan text) body may = none_made old new may
+left_made g limit old new Sources body may = none_made old new may
+left_made g limit old new Kept body may = none_made old new may
+left_made g limit old new Quit body may = none_made old new may
+left_made g limit old new Nothing body may = none_made old new may
+left_made g limit old new Bad body may = none_made old new may
+left_made g limit old new (BadName count) body may = none_made old new may
 
 -- ---- what is kept stays true
 
-module _ (g : Graph) (table : Table) (old new : State) (right : IsTrueFor table old.tools old.held.calls) where
+module _ (g : Graph) (limit : ℕ) (table : Table) (old new : State) (right : IsTrueFor table old.tools old.held.calls) where
   -- the same calls are kept, and the same is told of the tools
   true_with : new.tools ≡ old.tools → new.held.calls ≡ old.held.calls → IsTrueFor table new.tools new.held.calls
   true_with tools calls = subst (IsTrueFor table new.tools) (sym calls) (subst (λ (t : Spawned). IsTrueFor table t old.held.calls) (sym tools) right)
@@ -129,12 +129,12 @@ module _ (g : Graph) (table : Table) (old new : State) (right : IsTrueFor table 
   true_behind : (given : Calls) → Makes (keeps_of given) old new → IsTrueFor table new.tools (old.held.calls ++ given) → IsTrueFor table new.tools new.held.calls
   true_behind given makes more = subst (IsTrueFor table new.tools) (sym (ap (λ (h : Held). h.calls) makes.held ∙ kept_calls given old.held)) more
 
-  pub step_true : (c : Command) (body bytes : List ℕ) → Step g old c body bytes new → IsTrueFor table new.tools new.held.calls
+  pub step_true : (c : Command) (body bytes : List ℕ) → Step g limit old c body bytes new → IsTrueFor table new.tools new.held.calls
   step_true (Put name count) body bytes step = true_with step.tools (edits_keep name old new step.makes)
   step_true (Take name) body bytes step = true_with step.tools (edits_keep name old new step.makes)
   step_true (Remove name) body bytes step = true_with step.tools (edits_keep name old new step.makes)
   step_true (Ask text) body bytes step =
-      true_behind step.given step.makes (reply_true g table old.held.sources old.held.calls text step.given old.tools new.tools right step.says.said step.says.holds)
+      true_behind step.given step.makes (reply_true g table old.held.sources old.held.calls limit text old.tools new.tools right step.says.said step.given step.says.holds)
   step_true (Plan text) body bytes step = true_same step.same
   step_true Sources body bytes step = true_same step.1
   step_true Kept body bytes step = true_same step.1
@@ -143,11 +143,11 @@ module _ (g : Graph) (table : Table) (old new : State) (right : IsTrueFor table 
   step_true Bad body bytes step = true_same step.1
   step_true (BadName count) body bytes step = true_same step.1
 
-  left_step : (c : Command) (body : List ℕ) → MayLeave g old c body new → IsTrueFor table new.tools new.held.calls
+  left_step : (c : Command) (body : List ℕ) → MayLeave g limit old c body new → IsTrueFor table new.tools new.held.calls
   left_step (Put name count) body may = true_with may.0.tools (edit_keeps _ old new (λ change due. puts_keep name body change due.1) may.0)
   left_step (Take name) body may = true_with may.0.tools (edit_keeps _ old new (λ change due. puts_keep name due.0 change due.3) may.0)
   left_step (Remove name) body may = true_with may.0.tools (edit_keeps _ old new (drops_keep name) may.0)
-  left_step (Ask text) body may = true_behind may.given may.makes (begun_true g table old.held.sources old.held.calls text may.given old.tools new.tools right may.begun)
+  left_step (Ask text) body may = true_behind may.given may.makes (begun_true g table old.held.sources old.held.calls limit text old.tools new.tools right may.given may.rest may.begun)
   left_step (Plan text) body may = true_same may
   left_step Sources body may = true_same may
   left_step Kept body may = true_same may
@@ -156,14 +156,14 @@ module _ (g : Graph) (table : Table) (old new : State) (right : IsTrueFor table 
   left_step Bad body may = true_same may
   left_step (BadName count) body may = true_same may
 
-pub stays_true : (g : Graph) (table : Table) (first last : State) (items : List Item) (replies : List (List ℕ)) → IsTrueFor table first.tools first.held.calls
-    → Transcript commands (Step g) first items replies last → IsTrueFor table last.tools last.held.calls
-stays_true g table first last [] [] right run = true_same g table first last right run
-stays_true g table first last [] (bytes ∷ replies) right run = absurd run
-stays_true g table first last (item ∷ items) [] right run = absurd run
-stays_true g table first last (item ∷ items) (bytes ∷ replies) right run =
-    stays_true g table run.0 last items replies (step_true g table first run.0 right run.1.command item.body bytes run.1.step) run.2
+pub stays_true : (g : Graph) (limit : ℕ) (table : Table) (first last : State) (items : List Item) (replies : List (List ℕ)) → IsTrueFor table first.tools first.held.calls
+    → Transcript commands (Step g limit) first items replies last → IsTrueFor table last.tools last.held.calls
+stays_true g limit table first last [] [] right run = true_same g limit table first last right run
+stays_true g limit table first last [] (bytes ∷ replies) right run = absurd run
+stays_true g limit table first last (item ∷ items) [] right run = absurd run
+stays_true g limit table first last (item ∷ items) (bytes ∷ replies) right run =
+    stays_true g limit table run.0 last items replies (step_true g limit table first run.0 right run.1.command item.body bytes run.1.step) run.2
 
-pub left_true : (g : Graph) (table : Table) (old furthest : State) (c : Command) (body : List ℕ) → IsTrueFor table old.tools old.held.calls → MayLeave g old c body furthest
+pub left_true : (g : Graph) (limit : ℕ) (table : Table) (old furthest : State) (c : Command) (body : List ℕ) → IsTrueFor table old.tools old.held.calls → MayLeave g limit old c body furthest
     → IsTrueFor table furthest.tools furthest.held.calls
-left_true g table old furthest c body right may = left_step g table old furthest right c body may
+left_true g limit table old furthest c body right may = left_step g limit table old furthest right c body may

@@ -9,7 +9,7 @@ use Rattle.odin_store.specs.OnDisk.{held_in, state_in, IsOn}
 use Rattle.odin_store.specs.Opening.{graph_record, Opens, OpensQuiet, LeavesHeld}
 use Rattle.odin_store.specs.Going.{AreBatches}
 use Rattle.odin_store.proofs.Lemmas.{nothing_behind}
-use Rattle.odin_engine.specs.Engaged.{Engaged}
+use Rattle.odin_engine.specs.Engaged.{Engaged, IsLimit}
 use Rattle.odin_engine.specs.Opened.{IsNew}
 use Rattle.odin_shell.specs.declared.ending.Ending.{Ending}
 use Rattle.odin_shell.specs.Filed.{DiskMeaning, IsOpening, HasWritten}
@@ -17,7 +17,7 @@ use Rattle.odin_shell.specs.Machine.{Told}
 use Rattle.odin_shell.specs.Begun.{BeginsWith, SessionServes}
 use Rattle.odin_shell.specs.Objects.{SourceTold}
 use Rattle.odin_shell.specs.Run.{DiskCount, SessionEnds}
-use Rattle.odin_shell.proofs.StateLemmas.{same_tools, same_tree, idle_one}
+use Rattle.odin_shell.proofs.StateLemmas.{same_tools, same_tree, idle_few}
 
 -- ---- what the file has behind the opening
 
@@ -54,18 +54,20 @@ module _ (text : Text) (old new : Telling) (engine : Engaged) (opens : Opens tex
 
 -- ---- the session
 
-module _ {D : Type 0} (disk : DiskMeaning D) (keeping : KeepsChanges disk.told) (g : Graph) (text : Text) (engine : Engaged) (start before : Told D) where
-  pub begins : start.tools.running ≡ [] → before.sink ≡ start.sink → before.tools ≡ start.tools → before.tree ≡ start.tree → before.over ≡ None → OpensQuiet text (disk.told start.disk) (disk.told before.disk) engine.store
-      → LeavesHeld (disk.told start.disk) (disk.told before.disk) → IsNew g (disk.size before.disk) engine → disk.faults before.disk ≡ disk.faults start.disk
-      → BeginsWith disk g text (held_in engine.store) start engine before
-  begins idle sink tools tree within opens leaves new faults = record {
+module _ {D : Type 0} (disk : DiskMeaning D) (keeping : KeepsChanges disk.told) (g : Graph) (text : Text) (limit : ℕ) (engine : Engaged) (start before : Told D) where
+  pub begins : IsLimit limit → start.tools.running ≡ [] → before.sink ≡ start.sink → before.tools ≡ start.tools → before.tree ≡ start.tree → before.over ≡ None → OpensQuiet text (disk.told start.disk) (disk.told before.disk) engine.store
+      → LeavesHeld (disk.told start.disk) (disk.told before.disk) → IsNew g limit (disk.size before.disk) engine → disk.faults before.disk ≡ disk.faults start.disk
+      → BeginsWith disk g text limit (held_in engine.store) start engine before
+  begins most idle sink tools tree within opens leaves new faults = record {
     sink = sink;
     fits = record {
       graph = new.graph_is;
+      jobs = new.jobs_is;
+      few = most.few;
       held = refl;
       tools = tools;
       tree = tree;
-      stay = same_tools start.tools before.tools tools (idle_one start.tools idle);
+      stay = same_tools start.tools before.tools tools (idle_few start.tools idle);
       tree_stays = same_tree start.tree before.tree tree;
       idle = ap (λ (t : Spawned). t.running) tools ∙ idle;
       ready = new.ready;
@@ -76,12 +78,12 @@ module _ {D : Type 0} (disk : DiskMeaning D) (keeping : KeepsChanges disk.told) 
     };
   }
 
-  pub session_ends : (input left : SourceTold) (after : Told D) (due : Ending) → OpensQuiet text (disk.told start.disk) (disk.told before.disk) engine.store → BeginsWith disk g text (held_in engine.store) start engine before
-      → disk.faults before.disk ≡ disk.faults start.disk → SessionServes disk engine input left before after due → SessionEnds disk g text input left start after due
+  pub session_ends : (input left : SourceTold) (after : Told D) (due : Ending) → OpensQuiet text (disk.told start.disk) (disk.told before.disk) engine.store → BeginsWith disk g text limit (held_in engine.store) start engine before
+      → disk.faults before.disk ≡ disk.faults start.disk → SessionServes disk engine input left before after due → SessionEnds disk g text limit input left start after due
   session_ends input left after due opens begins faults served = record {
     held = held_in engine.store;
     starts = λ quiet. stood_for text (disk.told start.disk) (disk.told before.disk) engine (opens quiet);
-    leaves = served.leaves g text (held_in engine.store) start begins;
+    leaves = served.leaves g text limit (held_in engine.store) start begins;
     read = served.read;
     counted = subst (λ n. DiskCount due n (disk.faults after.disk)) faults served.counted;
     idle = served.idle;

@@ -17,8 +17,8 @@ use Rattle.odin_shell.specs.Objects.{Outside, Meaning}
 use Rattle.odin_shell.specs.Run as run
 use Rattle.odin_shell.specs.Run.{InputCount, DiskCount, OutputCount, AllowedBy}
 use Rattle.odin_shell.proofs.LoadLemmas.{at_load, load_output}
-use Rattle.odin_shell.proofs.StateLemmas.{idle_one, tree_on}
-use Rattle.odin_shell.proofs.StoreLemmas.{at_end, line_output, anything, store_exact, store_output, store_input, store_disk, store_tree, store_tools, store_idle}
+use Rattle.odin_shell.proofs.StateLemmas.{idle_few, tree_on}
+use Rattle.odin_shell.proofs.StoreLemmas.{at_end, line_output, anything, store_exact, store_output, store_input, store_disk, store_tree, store_tools, MayRunOn, store_idle}
 
 module _ {I O T S D : Type 0} (m : Meaning I O T S D) (words : List Text) (before after : Outside I O T S D) where
   -- what the tree tells
@@ -31,7 +31,7 @@ module _ {I O T S D : Type 0} (m : Meaning I O T S D) (words : List Text) (befor
   asks name jobs opened named once kept later = record { name = name; jobs = jobs; named = named; asked = record { stays = record { files = kept; later = later }; once = once } }
 
   -- and gave it
-  pub gives : (name : Text) (jobs : ℕ) (opened : TreeTold) (o : Opened) → AsksFor words (Serve name) jobs → (opens : Opens (m.files before.tree) name o) → opened.reads ≡ once_more (m.reads before.tree) → opened.files ≡ m.files before.tree
+  abbrev pub gives : (name : Text) (jobs : ℕ) (opened : TreeTold) (o : Opened) → AsksFor words (Serve name) jobs → (opens : Opens (m.files before.tree) name o) → opened.reads ≡ once_more (m.reads before.tree) → opened.files ≡ m.files before.tree
       → m.tree_faults before.tree ≤ opened.faults → opened.faults ≡ m.tree_faults before.tree → run.Gives m words before after opened opens.given
   gives name jobs opened o named opens once kept later unfailed = record { asks = record { name = name; jobs = jobs; named = named; asked = record { stays = record { files = kept; later = later }; once = once } }; is = opens.is; unfailed = unfailed }
 
@@ -63,8 +63,8 @@ module _ {I O T S D : Type 0} (m : Meaning I O T S D) (words : List Text) (befor
   exact opened ending (run.tree_failed due asks rose is same) = subst exact_by (sym due) (anything (m.left before.input))
   exact opened ending (run.graph_unread due asks stays is same) = subst exact_by (sym due) (anything (m.left before.input))
   exact opened ending (run.graph_refused given line gives refused last is same) = at_end _ _ _ _ ending exact_by last (anything (m.left before.input)) (anything (m.left before.input))
-  exact opened ending (run.graph_read text g mid gives same is ends) =
-      subst (λ i. IfSome i (AllowedBy ending)) (ap (λ (o : Outside I O T S D). m.left o.input) same) (store_exact m text g mid after ending ends)
+  exact opened ending (run.graph_read text g mid given same is ends) =
+      subst (λ i. IfSome i (AllowedBy ending)) (ap (λ (o : Outside I O T S D). m.left o.input) same) (store_exact m text g given.gives.asks.jobs mid after ending ends)
 
   abbrev output_by : Ending → Type 0
   output_by ending = OutputCount ending (m.output_faults before.output) (m.output_faults after.output)
@@ -76,8 +76,8 @@ module _ {I O T S D : Type 0} (m : Meaning I O T S D) (words : List Text) (befor
   output opened ending (run.tree_failed due asks rose is same) = subst output_by (sym due) (ap (λ (o : Outside I O T S D). m.output_faults o.output) same)
   output opened ending (run.graph_unread due asks stays is same) = subst output_by (sym due) (ap (λ (o : Outside I O T S D). m.output_faults o.output) same)
   output opened ending (run.graph_refused given line gives refused last is same) = line_output _ _ _ _ ending (λ e. e) last
-  output opened ending (run.graph_read text g mid gives same is ends) =
-      subst (λ n. OutputCount ending n (m.output_faults after.output)) (ap (λ (o : Outside I O T S D). m.output_faults o.output) same) (store_output m text g mid after ending ends)
+  output opened ending (run.graph_read text g mid given same is ends) =
+      subst (λ n. OutputCount ending n (m.output_faults after.output)) (ap (λ (o : Outside I O T S D). m.output_faults o.output) same) (store_output m text g given.gives.asks.jobs mid after ending ends)
 
   abbrev disk_by : Ending → Type 0
   disk_by ending = DiskCount ending (m.disk.faults before.disk) (m.disk.faults after.disk)
@@ -94,8 +94,8 @@ module _ {I O T S D : Type 0} (m : Meaning I O T S D) (words : List Text) (befor
   disk opened ending (run.tree_failed due asks rose is same) = subst disk_by (sym due) (ap (λ (o : Outside I O T S D). m.disk.faults o.disk) same)
   disk opened ending (run.graph_unread due asks stays is same) = subst disk_by (sym due) (ap (λ (o : Outside I O T S D). m.disk.faults o.disk) same)
   disk opened ending (run.graph_refused given line gives refused last is same) = at_end _ _ _ _ ending disk_by last (disk_same same) (disk_same same)
-  disk opened ending (run.graph_read text g mid gives same is ends) =
-      subst (λ n. DiskCount ending n (m.disk.faults after.disk)) (ap (λ (o : Outside I O T S D). m.disk.faults o.disk) same) (store_disk m text g mid after ending ends)
+  disk opened ending (run.graph_read text g mid given same is ends) =
+      subst (λ n. DiskCount ending n (m.disk.faults after.disk)) (ap (λ (o : Outside I O T S D). m.disk.faults o.disk) same) (store_disk m text g given.gives.asks.jobs mid after ending ends)
 
   abbrev stayed : TreeTold → Type 0
   stayed opened = (m.input_faults after.input ≡ m.input_faults before.input) × (opened.faults ≡ m.tree_faults before.tree)
@@ -113,8 +113,8 @@ module _ {I O T S D : Type 0} (m : Meaning I O T S D) (words : List Text) (befor
   reads opened ending (run.graph_refused given line gives refused last is same) =
       let both : stayed opened = (ap (λ (o : Outside I O T S D). m.input_faults o.input) same, gives.unfailed) in
       at_end _ _ _ _ ending (run.ReadCounts m words before after opened) last both both
-  reads opened ending (run.graph_read text g mid gives same is ends) =
-      reads_of opened ending (subst (λ n. InputCount ending n (m.input_faults after.input)) (ap (λ (o : Outside I O T S D). m.input_faults o.input) same) (store_input m text g mid after ending ends)) gives.gives.unfailed
+  reads opened ending (run.graph_read text g mid given same is ends) =
+      reads_of opened ending (subst (λ n. InputCount ending n (m.input_faults after.input)) (ap (λ (o : Outside I O T S D). m.input_faults o.input) same) (store_input m text g given.gives.asks.jobs mid after ending ends)) given.gives.unfailed
 
   pub run_ends : (ending : Ending) (status : ℕ) → status ≡ status_of ending → run.Ended m words before after ending → run.RunEnds m words before after status
   run_ends ending status is ended = record {
@@ -141,8 +141,8 @@ module _ {I O T S D : Type 0} (m : Meaning I O T S D) (words : List Text) (befor
   tree_how opened ending (run.tree_failed due asks rose is same) = tree_as opened is asks.asked.stays
   tree_how opened ending (run.graph_unread due asks stays is same) = tree_as opened is asks.asked.stays
   tree_how opened ending (run.graph_refused given line gives refused last is same) = tree_as opened is gives.asks.asked.stays
-  tree_how opened ending (run.graph_read text g mid gives same is ends) =
-      tree_on (subst (TreeStays (tree before)) is gives.gives.asks.asked.stays) (store_tree m text g mid after ending ends)
+  tree_how opened ending (run.graph_read text g mid given same is ends) =
+      tree_on (subst (TreeStays (tree before)) is given.gives.asks.asked.stays) (store_tree m text g given.gives.asks.jobs mid after ending ends)
 
   pub tree_stays : (ending : Ending) → run.Ended m words before after ending → TreeStays (tree before) (tree after)
   tree_stays ending ended = tree_how ended.opened ending ended.how
@@ -150,7 +150,7 @@ module _ {I O T S D : Type 0} (m : Meaning I O T S D) (words : List Text) (befor
   -- ---- and of the tools
 
   tools_as : m.spawned after.tools ≡ m.spawned before.tools → (m.spawned before.tools).running ≡ [] → ToolsStay (m.spawned before.tools) (m.spawned after.tools)
-  tools_as same idle = subst (ToolsStay (m.spawned before.tools)) (sym same) (record { answers = refl; later = le_refl (m.spawned before.tools).faults; few = idle_one (m.spawned before.tools) idle })
+  tools_as same idle = subst (ToolsStay (m.spawned before.tools)) (sym same) (record { answers = refl; later = le_refl (m.spawned before.tools).faults; few = idle_few (m.spawned before.tools) idle })
 
   mid_tools : (mid : Outside I O T S D) → mid ≡ record before { tree = mid.tree } → m.spawned mid.tools ≡ m.spawned before.tools
   mid_tools mid same = ap (λ (o : Outside I O T S D). m.spawned o.tools) same
@@ -162,8 +162,8 @@ module _ {I O T S D : Type 0} (m : Meaning I O T S D) (words : List Text) (befor
   tools_how opened ending idle (run.tree_failed due asks rose is same) = tools_as (ap (λ (o : Outside I O T S D). m.spawned o.tools) same) idle
   tools_how opened ending idle (run.graph_unread due asks stays is same) = tools_as (ap (λ (o : Outside I O T S D). m.spawned o.tools) same) idle
   tools_how opened ending idle (run.graph_refused given line gives refused last is same) = tools_as (ap (λ (o : Outside I O T S D). m.spawned o.tools) same) idle
-  tools_how opened ending idle (run.graph_read text g mid gives same is ends) =
-      subst (λ t. ToolsStay t (m.spawned after.tools)) (mid_tools mid same) (store_tools m text g mid after ending (ap (λ (t : Spawned). t.running) (mid_tools mid same) ∙ idle) ends)
+  tools_how opened ending idle (run.graph_read text g mid given same is ends) =
+      subst (λ t. ToolsStay t (m.spawned after.tools)) (mid_tools mid same) (store_tools m text g given.gives.asks.jobs mid after ending (ap (λ (t : Spawned). t.running) (mid_tools mid same) ∙ idle) ends)
 
   pub tools_stay : (ending : Ending) → (m.spawned before.tools).running ≡ [] → run.Ended m words before after ending → ToolsStay (m.spawned before.tools) (m.spawned after.tools)
   tools_stay ending idle ended = tools_how ended.opened ending idle ended.how
@@ -171,14 +171,14 @@ module _ {I O T S D : Type 0} (m : Meaning I O T S D) (words : List Text) (befor
   still_idle : m.spawned after.tools ≡ m.spawned before.tools → (m.spawned before.tools).running ≡ [] → (m.spawned after.tools).running ≡ []
   still_idle same idle = ap (λ (t : Spawned). t.running) same ∙ idle
 
-  idle_how : (opened : TreeTold) (ending : Ending) → (m.spawned before.tools).running ≡ [] → ending ≢ Memory → run.EndsAs m words before after opened ending → (m.spawned after.tools).running ≡ []
+  idle_how : (opened : TreeTold) (ending : Ending) → (m.spawned before.tools).running ≡ [] → ¬ MayRunOn ending → run.EndsAs m words before after opened ending → (m.spawned after.tools).running ≡ []
   idle_how opened ending idle other (run.words_refused not line is same) = still_idle (ap (λ (o : Outside I O T S D). m.spawned o.tools) same) idle
   idle_how opened ending idle other (run.words_unread due is same) = still_idle (ap (λ (o : Outside I O T S D). m.spawned o.tools) same) idle
   idle_how opened ending idle other (run.load_ended units jobs asks ends is same) = still_idle (ap (λ (o : Outside I O T S D). m.spawned o.tools) same) idle
   idle_how opened ending idle other (run.tree_failed due asks rose is same) = still_idle (ap (λ (o : Outside I O T S D). m.spawned o.tools) same) idle
   idle_how opened ending idle other (run.graph_unread due asks stays is same) = still_idle (ap (λ (o : Outside I O T S D). m.spawned o.tools) same) idle
   idle_how opened ending idle other (run.graph_refused given line gives refused last is same) = still_idle (ap (λ (o : Outside I O T S D). m.spawned o.tools) same) idle
-  idle_how opened ending idle other (run.graph_read text g mid gives same is ends) = store_idle m text g mid after ending (ap (λ (t : Spawned). t.running) (mid_tools mid same) ∙ idle) ends other
+  idle_how opened ending idle other (run.graph_read text g mid given same is ends) = store_idle m text g given.gives.asks.jobs mid after ending (ap (λ (t : Spawned). t.running) (mid_tools mid same) ∙ idle) ends other
 
-  pub tools_idle : (ending : Ending) → (m.spawned before.tools).running ≡ [] → ending ≢ Memory → run.Ended m words before after ending → (m.spawned after.tools).running ≡ []
+  pub tools_idle : (ending : Ending) → (m.spawned before.tools).running ≡ [] → ¬ MayRunOn ending → run.Ended m words before after ending → (m.spawned after.tools).running ≡ []
   tools_idle ending idle other ended = idle_how ended.opened ending idle other ended.how

@@ -65,10 +65,12 @@ counted_behind s first mid last same counted = subst (λ n. Counts s n last) sam
 
 module _ {D : Type 0} (disk : DiskMeaning D) where
   -- what the sink took is no part of it
-  module _ (g : Graph) (text : Text) (first : State) (start : Told D) (s s' : SinkTold) (tools : Spawned) (tree : TreeTold) (d : D) where
-    on_sink : (code : Engaged) (state : State) → Belongs disk g text first start code state (telling s tools tree d) → Belongs disk g text first start code state (telling s' tools tree d)
+  module _ (g : Graph) (text : Text) (limit : ℕ) (first : State) (start : Told D) (s s' : SinkTold) (tools : Spawned) (tree : TreeTold) (d : D) where
+    on_sink : (code : Engaged) (state : State) → Belongs disk g text limit first start code state (telling s tools tree d) → Belongs disk g text limit first start code state (telling s' tools tree d)
     on_sink code state fits = record {
       graph = fits.graph;
+      jobs = fits.jobs;
+      few = fits.few;
       held = fits.held;
       tools = fits.tools;
       tree = fits.tree;
@@ -82,7 +84,7 @@ module _ {D : Type 0} (disk : DiskMeaning D) where
       within = refl;
     }
 
-    left_sink : (state furthest : State) → IsLeft disk g text first start state furthest (telling s tools tree d) → IsLeft disk g text first start state furthest (telling s' tools tree d)
+    left_sink : (state furthest : State) → IsLeft disk g text limit first start state furthest (telling s tools tree d) → IsLeft disk g text limit first start state furthest (telling s' tools tree d)
     left_sink state furthest left = record {
       tools = left.tools;
       tree = left.tree;
@@ -90,8 +92,8 @@ module _ {D : Type 0} (disk : DiskMeaning D) where
       tree_counted = left.tree_counted;
       stay = left.stay;
       tree_stays = left.tree_stays;
-      unrefused = left.unrefused;
       safe = left.safe;
+      lasting = left.lasting;
       full = left.full;
     }
 
@@ -111,14 +113,14 @@ module _ {D : Type 0} (disk : DiskMeaning D) where
         on = on;
         rests = record {
           idle = idle;
-          over = λ g text first start state body same fits.
-              let stepped = answers g text first start state body same fits in
+          over = λ g text limit first start state body same fits.
+              let stepped = answers g text limit first start state body same fits in
               record {
                 reply = reply;
                 new = stepped.new;
                 step = stepped.step;
                 wrote = wrote ∙ ap (took s) is;
-                fits = on_sink g text first start s s' tools' tree' d' code' stepped.new stepped.fits;
+                fits = on_sink g text limit first start s s' tools' tree' d' code' stepped.new stepped.fits;
               };
         };
       }
@@ -126,47 +128,47 @@ module _ {D : Type 0} (disk : DiskMeaning D) where
       pub stops_reply : TookPart given s s' → StopsServing disk stop.Output code whole before after
       stops_reply wrote = record {
         idle = λ other. idle;
-        over = λ g text first start state body same fits.
-            let stepped = answers g text first start state body same fits in
+        over = λ g text limit first start state body same fits.
+            let stepped = answers g text limit first start state body same fits in
             record {
               reply = reply;
               new = stepped.new;
               step = stepped.step;
               wrote = subst (λ r. TookPart r s s') is wrote;
-              exit = left_sink g text first start s s' tools' tree' d' state stepped.new stepped.left;
+              exit = left_sink g text limit first start s s' tools' tree' d' state stepped.new stepped.left;
             };
       }
 
       pub stops_quit : ends_run whole.command ≡ true → s' ≡ took s given → StopsServing disk stop.Quit code whole before after
       stops_quit ends wrote = record {
         idle = λ other. idle;
-        over = λ g text first start state body same fits.
-            let stepped = answers g text first start state body same fits in
+        over = λ g text limit first start state body same fits.
+            let stepped = answers g text limit first start state body same fits in
             record {
               ends = ends;
               reply = reply;
               new = stepped.new;
               step = stepped.step;
               wrote = wrote ∙ ap (took s) is;
-              exit = rests disk g text first start code' stepped.new after (on_sink g text first start s s' tools' tree' d' code' stepped.new stepped.fits);
+              exit = rests disk g text limit first start code' stepped.new after (on_sink g text limit first start s s' tools' tree' d' code' stepped.new stepped.fits);
             };
       }
 
   module _ (code : Engaged) (whole : Whole) (s : SinkTold) (tools tools' : Spawned) (tree tree' : TreeTold) (d d' : D) where
-    pub stops_answer : (why : JournalFault) → Halts disk code whole.command whole.body (telling s tools tree d) why (telling s tools' tree' d') → (why ≢ fault.Memory → tools'.running ≡ []) → StopsServing disk (stop_of why) code whole (telling s tools tree d) (telling s tools' tree' d')
-    stops_answer fault.Disk halts idle = record {
-      idle = λ other. idle (λ e. cc);
-      over = λ g text first start state body same fits. (let left = halts g text first start state body same fits in record { furthest = left.furthest; may = left.may; wrote = refl; exit = left.exit });
+    pub stops_answer : (why : JournalFault) → Halts disk code whole.command whole.body (telling s tools tree d) why (telling s tools' tree' d') → StopsServing disk (stop_of why) code whole (telling s tools tree d) (telling s tools' tree' d')
+    stops_answer fault.Disk halts = record {
+      idle = λ stays. absurd (stays tt);
+      over = λ g text limit first start state body same fits. (let left = halts g text limit first start state body same fits in record { furthest = left.furthest; may = left.may; wrote = refl; exit = left.exit });
     }
-    stops_answer (fault.Full at size) halts idle = record {
-      idle = λ other. idle (λ e. cc);
-      over = λ g text first start state body same fits. (let left = halts g text first start state body same fits in record { furthest = left.furthest; may = left.may; wrote = refl; exit = left.exit });
+    stops_answer (fault.NotOurs at) halts = record {
+      idle = λ stays. absurd (stays tt);
+      over = λ g text limit first start state body same fits. (let left = halts g text limit first start state body same fits in record { furthest = left.furthest; may = left.may; wrote = refl; exit = left.exit });
     }
-    stops_answer (fault.NotOurs at) halts idle = record {
-      idle = λ other. absurd (other refl);
-      over = λ g text first start state body same fits. (let left = halts g text first start state body same fits in record { furthest = left.furthest; may = left.may; wrote = refl; exit = left.exit });
+    stops_answer (fault.Full at size) halts = record {
+      idle = λ stays. absurd (stays tt);
+      over = λ g text limit first start state body same fits. (let left = halts g text limit first start state body same fits in record { furthest = left.furthest; may = left.may; wrote = refl; exit = left.exit });
     }
-    stops_answer fault.Memory halts idle = record {
-      idle = λ other. absurd (other refl);
-      over = λ g text first start state body same fits. (let left = halts g text first start state body same fits in record { furthest = left.furthest; may = left.may; wrote = refl; exit = left.exit });
+    stops_answer fault.Memory halts = record {
+      idle = λ stays. absurd (stays tt);
+      over = λ g text limit first start state body same fits. (let left = halts g text limit first start state body same fits in record { furthest = left.furthest; may = left.may; wrote = refl; exit = left.exit });
     }

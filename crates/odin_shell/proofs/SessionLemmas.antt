@@ -20,7 +20,6 @@ use Rattle.odin_shell.specs.declared.stop.Stop.TheVariants.{Disk, Memory, Output
 use Rattle.odin_shell.specs.Language.{commands}
 use Rattle.odin_shell.specs.Held.{Keeps}
 use Rattle.odin_shell.specs.Cuts.{Takes, IsLast}
-use Rattle.odin_shell.specs.declared.ending.Ending.TheVariants as ending
 use Rattle.odin_outside.specs.Causes.{IsCounted}
 use Rattle.odin_shell.specs.Endings.{ending_of}
 use Rattle.odin_shell.specs.Objects.{SourceTold}
@@ -38,7 +37,7 @@ some_taken : (piece : List ℕ) (n : ℕ) → 0 < n → n ≤ length piece → 0
 some_taken piece n some within = let size = length-take-le n piece within in omega arith
 
 module _ {D : Type 0} (disk : DiskMeaning D) where
-  abbrev machine : Graph → Text → Machine Command Engaged State (Told D)
+  abbrev machine : Graph → Text → ℕ → Machine Command Engaged State (Told D)
   machine = machine_of disk
 
   -- where no batch is told that doesn't fit, none is told at want of memory
@@ -47,111 +46,111 @@ module _ {D : Type 0} (disk : DiskMeaning D) where
 
   -- no command was made whole
   pub part_goes : (bytes : List ℕ) (told : Told D) (code : Engaged) (held held' : Cutter) → told.tools.running ≡ [] → Takes bytes held None held'
-      → Rests (λ g text. streams.GoesOn commands Keeps (machine g text) bytes told code held told code held') told.tools
-  part_goes bytes told code held held' idle f = record { idle = idle; over = λ g text. stream.GoesOn-part commands Keeps (machine g text) bytes told code held held' f }
+      → Rests (λ g text limit. streams.GoesOn commands Keeps (machine g text limit) bytes told code held told code held') told.tools
+  part_goes bytes told code held held' idle f = record { idle = idle; over = λ g text limit. stream.GoesOn-part commands Keeps (machine g text limit) bytes told code held held' f }
 
   -- the command that the bytes made whole was served
   pub whole_goes : (bytes : List ℕ) (told told' : Told D) (code code' : Engaged) (held held' : Cutter) (whole : Whole) → Takes bytes held (Some whole) held' → Serves disk code code' whole told told'
-      → Rests (λ g text. streams.GoesOn commands Keeps (machine g text) bytes told code held told' code' held') told'.tools
+      → Rests (λ g text limit. streams.GoesOn commands Keeps (machine g text limit) bytes told code held told' code' held') told'.tools
   whole_goes bytes told told' code code' held held' whole f served = record {
     idle = served.rests.idle;
-    over = λ g text. stream.GoesOn-item commands Keeps (machine g text) bytes told told' code code' held held' whole.command whole.body f.0 served.on f.1 (served.rests.over g text);
+    over = λ g text limit. stream.GoesOn-item commands Keeps (machine g text limit) bytes told told' code code' held held' whole.command whole.body f.0 served.on f.1 (served.rests.over g text limit);
   }
 
   -- memory was wanted before a command was made whole
   pub part_stops : (bytes : List ℕ) (told : Told D) (code : Engaged) (held : Cutter) → told.over ≡ None
-      → Halts (λ g text. streams.StopsOn commands Keeps (machine g text) (halt_of Memory) bytes told code held (stopped Memory told)) Memory told.tools
+      → Halts (λ g text limit. streams.StopsOn commands Keeps (machine g text limit) (halt_of Memory) bytes told code held (stopped Memory told)) Memory told.tools
   part_stops bytes told code held none = record {
-    idle = λ other. absurd (other refl);
-    over = λ g text. subst (λ t. streams.StopsOn commands Keeps (machine g text) (halt_of Memory) bytes told code held t) (still told none)
-        (stream.StopsOn-part commands Keeps (machine g text) (rests disk g text) bytes told code held);
+    idle = λ stays. absurd (stays tt);
+    over = λ g text limit. subst (λ t. streams.StopsOn commands Keeps (machine g text limit) (halt_of Memory) bytes told code held t) (still told none)
+        (stream.StopsOn-part commands Keeps (machine g text limit) (rests disk g text limit) bytes told code held);
   }
 
   -- the serving of the command stopped
   pub whole_stops : (stop : Stop) (piece : List ℕ) (n : ℕ) (told : Told D) (sink : SinkTold) (tools : Spawned) (tree : TreeTold) (now : D) (code : Engaged) (held held' : Cutter) (whole : Whole) → 0 < n → n ≤ length piece → Takes (take n piece) held (Some whole) held' → StopsServing disk stop code whole told (telling sink tools tree now)
-      → Halts (λ g text. streams.StopsOn commands Keeps (machine g text) (halt_of stop) piece told code held (stopped stop (telling sink tools tree now))) stop tools
+      → Halts (λ g text limit. streams.StopsOn commands Keeps (machine g text limit) (halt_of stop) piece told code held (stopped stop (telling sink tools tree now))) stop tools
   whole_stops stop piece n told sink tools tree now code held held' whole some within f stops = record {
     idle = stops.idle;
-    over = λ g text. subst (λ t. streams.StopsOn commands Keeps (machine g text) (halt_of stop) t told code held (stopped stop (telling sink tools tree now))) (take-append-drop n piece)
-        (stream.StopsOn-more commands Keeps (machine g text) (halt_of stop) (take n piece) (drop n piece) told (stopped stop (telling sink tools tree now)) code held
-        (stream.StopsOn-item commands Keeps (machine g text) (halt_of stop) (take n piece) told (stopped stop (telling sink tools tree now)) code held whole.command whole.body (some_taken piece n some within) f.0 (stops.over g text)));
+    over = λ g text limit. subst (λ t. streams.StopsOn commands Keeps (machine g text limit) (halt_of stop) t told code held (stopped stop (telling sink tools tree now))) (take-append-drop n piece)
+        (stream.StopsOn-more commands Keeps (machine g text limit) (halt_of stop) (take n piece) (drop n piece) told (stopped stop (telling sink tools tree now)) code held
+        (stream.StopsOn-item commands Keeps (machine g text limit) (halt_of stop) (take n piece) told (stopped stop (telling sink tools tree now)) code held whole.command whole.body (some_taken piece n some within) f.0 (stops.over g text limit)));
   }
 
   -- no bytes of a piece
-  pub none_goes : (piece : List ℕ) (told : Told D) (code : Engaged) (held : Cutter) → told.tools.running ≡ [] → Rests (λ g text. streams.GoesOn commands Keeps (machine g text) (take 0 piece) told code held told code held) told.tools
-  none_goes piece told code held idle = record { idle = idle; over = λ g text. stream.GoesOn-none commands Keeps (machine g text) told code held }
+  pub none_goes : (piece : List ℕ) (told : Told D) (code : Engaged) (held : Cutter) → told.tools.running ≡ [] → Rests (λ g text limit. streams.GoesOn commands Keeps (machine g text limit) (take 0 piece) told code held told code held) told.tools
+  none_goes piece told code held idle = record { idle = idle; over = λ g text limit. stream.GoesOn-none commands Keeps (machine g text limit) told code held }
 
   -- the next bytes of a piece, behind those that were taken
   pub piece_goes : (piece : List ℕ) (at n : ℕ) (told told' told'' : Told D) (code code' code'' : Engaged) (held held' held'' : Cutter)
-      → Rests (λ g text. streams.GoesOn commands Keeps (machine g text) (take at piece) told code held told' code' held') told'.tools
-      → Rests (λ g text. streams.GoesOn commands Keeps (machine g text) (take n (take (length piece - at) (drop at piece))) told' code' held' told'' code'' held'') told''.tools
-      → Rests (λ g text. streams.GoesOn commands Keeps (machine g text) (take (at + n) piece) told code held told'' code'' held'') told''.tools
+      → Rests (λ g text limit. streams.GoesOn commands Keeps (machine g text limit) (take at piece) told code held told' code' held') told'.tools
+      → Rests (λ g text limit. streams.GoesOn commands Keeps (machine g text limit) (take n (take (length piece - at) (drop at piece))) told' code' held' told'' code'' held'') told''.tools
+      → Rests (λ g text limit. streams.GoesOn commands Keeps (machine g text limit) (take (at + n) piece) told code held told'' code'' held'') told''.tools
   piece_goes piece at n told told' told'' code code' code'' held held' held'' first second = record {
     idle = second.idle;
-    over = λ g text. subst (λ t. streams.GoesOn commands Keeps (machine g text) t told code held told'' code'' held'') (ap (λ t. take at piece ++ take n t) (rest_is piece at) ∙ sym (take-add at n piece))
-        (stream.GoesOn-append commands Keeps (machine g text) (take at piece) _ told told' told'' code code' code'' held held' held'' (first.over g text) (second.over g text));
+    over = λ g text limit. subst (λ t. streams.GoesOn commands Keeps (machine g text limit) t told code held told'' code'' held'') (ap (λ t. take at piece ++ take n t) (rest_is piece at) ∙ sym (take-add at n piece))
+        (stream.GoesOn-append commands Keeps (machine g text limit) (take at piece) _ told told' told'' code code' code'' held held' held'' (first.over g text limit) (second.over g text limit));
   }
 
   -- all of a piece
   pub all_goes : (piece : List ℕ) (at : ℕ) (told told' : Told D) (code code' : Engaged) (held held' : Cutter) → at ≤ length piece → length piece ≤ at
-      → Rests (λ g text. streams.GoesOn commands Keeps (machine g text) (take at piece) told code held told' code' held') told'.tools
-      → Rests (λ g text. streams.GoesOn commands Keeps (machine g text) piece told code held told' code' held') told'.tools
+      → Rests (λ g text limit. streams.GoesOn commands Keeps (machine g text limit) (take at piece) told code held told' code' held') told'.tools
+      → Rests (λ g text limit. streams.GoesOn commands Keeps (machine g text limit) piece told code held told' code' held') told'.tools
   all_goes piece at told told' code code' held held' within all goes = record {
     idle = goes.idle;
-    over = λ g text. subst (λ t. streams.GoesOn commands Keeps (machine g text) t told code held told' code' held') (take_all at piece all) (goes.over g text);
+    over = λ g text limit. subst (λ t. streams.GoesOn commands Keeps (machine g text limit) t told code held told' code' held') (take_all at piece all) (goes.over g text limit);
   }
 
   pub piece_stops : (stop : Stop) (piece : List ℕ) (at : ℕ) (told told' : Told D) (sink : SinkTold) (tools : Spawned) (tree : TreeTold) (now : D) (code code' : Engaged) (held held' : Cutter)
-      → Rests (λ g text. streams.GoesOn commands Keeps (machine g text) (take at piece) told code held told' code' held') told'.tools
-      → Halts (λ g text. streams.StopsOn commands Keeps (machine g text) (halt_of stop) (take (length piece - at) (drop at piece)) told' code' held' (stopped stop (telling sink tools tree now))) stop tools
-      → Halts (λ g text. streams.StopsOn commands Keeps (machine g text) (halt_of stop) piece told code held (stopped stop (telling sink tools tree now))) stop tools
+      → Rests (λ g text limit. streams.GoesOn commands Keeps (machine g text limit) (take at piece) told code held told' code' held') told'.tools
+      → Halts (λ g text limit. streams.StopsOn commands Keeps (machine g text limit) (halt_of stop) (take (length piece - at) (drop at piece)) told' code' held' (stopped stop (telling sink tools tree now))) stop tools
+      → Halts (λ g text limit. streams.StopsOn commands Keeps (machine g text limit) (halt_of stop) piece told code held (stopped stop (telling sink tools tree now))) stop tools
   piece_stops stop piece at told told' sink tools tree now code code' held held' goes stops = record {
     idle = stops.idle;
-    over = λ g text. subst (λ t. streams.StopsOn commands Keeps (machine g text) (halt_of stop) t told code held (stopped stop (telling sink tools tree now))) (ap (λ t. take at piece ++ t) (rest_is piece at) ∙ take-append-drop at piece)
-        (stream.StopsOn-after commands Keeps (machine g text) (halt_of stop) (take at piece) _ told told' (stopped stop (telling sink tools tree now)) code code' held held' (goes.over g text) (stops.over g text));
+    over = λ g text limit. subst (λ t. streams.StopsOn commands Keeps (machine g text limit) (halt_of stop) t told code held (stopped stop (telling sink tools tree now))) (ap (λ t. take at piece ++ t) (rest_is piece at) ∙ take-append-drop at piece)
+        (stream.StopsOn-after commands Keeps (machine g text limit) (halt_of stop) (take at piece) _ told told' (stopped stop (telling sink tools tree now)) code code' held held' (goes.over g text limit) (stops.over g text limit));
   }
 
   -- the end of the input
-  pub inside_finishes : (told : Told D) (code : Engaged) (held : Cutter) → told.tools.running ≡ [] → IsLast held None → Rests (λ g text. streams.FinishesCutShort commands Keeps (machine g text) told code held told) told.tools
-  inside_finishes told code held idle last = record { idle = idle; over = λ g text. stream.Finishes-cut_short commands Keeps (machine g text) (rests disk g text) told code held last }
+  pub inside_finishes : (told : Told D) (code : Engaged) (held : Cutter) → told.tools.running ≡ [] → IsLast held None → Rests (λ g text limit. streams.FinishesCutShort commands Keeps (machine g text limit) told code held told) told.tools
+  inside_finishes told code held idle last = record { idle = idle; over = λ g text limit. stream.Finishes-cut_short commands Keeps (machine g text limit) (rests disk g text limit) told code held last }
 
   pub line_finishes : (told told' : Told D) (code code' : Engaged) (held : Cutter) (whole : Whole) → IsLast held (Some whole) → Serves disk code code' whole told told'
-      → Rests (λ g text. streams.FinishesWhole commands Keeps (machine g text) told code held told') told'.tools
+      → Rests (λ g text limit. streams.FinishesWhole commands Keeps (machine g text limit) told code held told') told'.tools
   line_finishes told told' code code' held whole last served = record {
     idle = served.rests.idle;
-    over = λ g text. stream.Finishes-line commands Keeps (machine g text) (rests disk g text) told told' code code' held whole.command whole.body last.0 last.1 (served.rests.over g text);
+    over = λ g text limit. stream.Finishes-line commands Keeps (machine g text limit) (rests disk g text limit) told told' code code' held whole.command whole.body last.0 last.1 (served.rests.over g text limit);
   }
 
   pub part_stops_at_end : (told : Told D) (code : Engaged) (held : Cutter) → told.over ≡ None
-      → Halts (λ g text. streams.StopsAtEnd commands Keeps (machine g text) (halt_of Memory) told code held (stopped Memory told)) Memory told.tools
+      → Halts (λ g text limit. streams.StopsAtEnd commands Keeps (machine g text limit) (halt_of Memory) told code held (stopped Memory told)) Memory told.tools
   part_stops_at_end told code held none = record {
-    idle = λ other. absurd (other refl);
-    over = λ g text. subst (λ t. streams.StopsAtEnd commands Keeps (machine g text) (halt_of Memory) told code held t) (still told none)
-        (stream.StopsAtEnd-part commands Keeps (machine g text) (rests disk g text) told code held);
+    idle = λ stays. absurd (stays tt);
+    over = λ g text limit. subst (λ t. streams.StopsAtEnd commands Keeps (machine g text limit) (halt_of Memory) told code held t) (still told none)
+        (stream.StopsAtEnd-part commands Keeps (machine g text limit) (rests disk g text limit) told code held);
   }
 
   pub line_stops_at_end : (stop : Stop) (told : Told D) (sink : SinkTold) (tools : Spawned) (tree : TreeTold) (now : D) (code : Engaged) (held : Cutter) (whole : Whole) → IsLast held (Some whole) → StopsServing disk stop code whole told (telling sink tools tree now)
-      → Halts (λ g text. streams.StopsAtEnd commands Keeps (machine g text) (halt_of stop) told code held (stopped stop (telling sink tools tree now))) stop tools
+      → Halts (λ g text limit. streams.StopsAtEnd commands Keeps (machine g text limit) (halt_of stop) told code held (stopped stop (telling sink tools tree now))) stop tools
   line_stops_at_end stop told sink tools tree now code held whole last stops = record {
     idle = stops.idle;
-    over = λ g text. stream.StopsAtEnd-line commands Keeps (machine g text) (halt_of stop) told (stopped stop (telling sink tools tree now)) code held whole.command whole.body last.0 last.1 (stops.over g text);
+    over = λ g text limit. stream.StopsAtEnd-line commands Keeps (machine g text limit) (halt_of stop) told (stopped stop (telling sink tools tree now)) code held whole.command whole.body last.0 last.1 (stops.over g text limit);
   }
 
   -- before the first byte
-  pub reads_none : (g : Graph) (text : Text) (held : Held) (start before : Told D) (left : Option (List ℕ)) (code : Engaged) (cutter : Cutter) → BeginsWith disk g text held start code before → Keeps cutter []
-      → streams.Reading commands Keeps (machine g text) (at_first held start.tools start.tree) start left left 0 before code cutter
-  reads_none g text held start before left code cutter begins keeps =
-      Reading-none commands Keeps (machine g text) (at_first held start.tools start.tree) start before code cutter left begins.sink begins.fits keeps
+  pub reads_none : (g : Graph) (text : Text) (limit : ℕ) (held : Held) (start before : Told D) (left : Option (List ℕ)) (code : Engaged) (cutter : Cutter) → BeginsWith disk g text limit held start code before → Keeps cutter []
+      → streams.Reading commands Keeps (machine g text limit) (at_first held start.tools start.tree) start left left 0 before code cutter
+  reads_none g text limit held start before left code cutter begins keeps =
+      Reading-none commands Keeps (machine g text limit) (at_first held start.tools start.tree) start before code cutter left begins.sink begins.fits keeps
 
   -- the run ends where the serving stopped
-  module _ (g : Graph) (text : Text) (held : Held) (input left : SourceTold) (start now : Told D) where
-    pub stopped_leaves : (stop : Stop) → HasRead (EndsStopped commands (machine g text) (halt_of stop) (at_first held start.tools start.tree) start (stopped stop now)) input.left left.left → now.over ≡ None
-        → SessionLeaves disk g text held (ending_of stop) input.left left.left start now
-    stopped_leaves Disk read none = subst (λ t. HasRead (EndsStopped commands (machine g text) (halt_of Disk) (at_first held start.tools start.tree) start t) input.left left.left) (sym (λ i. record now { over = none i })) read
-    stopped_leaves Memory read none = subst (λ t. HasRead (EndsStopped commands (machine g text) (halt_of Memory) (at_first held start.tools start.tree) start t) input.left left.left) (sym (λ i. record now { over = none i })) read
-    stopped_leaves Output read none = subst (λ t. HasRead (EndsStopped commands (machine g text) (halt_of Output) (at_first held start.tools start.tree) start t) input.left left.left) (sym (λ i. record now { over = none i })) read
+  module _ (g : Graph) (text : Text) (limit : ℕ) (held : Held) (input left : SourceTold) (start now : Told D) where
+    pub stopped_leaves : (stop : Stop) → HasRead (EndsStopped commands (machine g text limit) (halt_of stop) (at_first held start.tools start.tree) start (stopped stop now)) input.left left.left → now.over ≡ None
+        → SessionLeaves disk g text limit held (ending_of stop) input.left left.left start now
+    stopped_leaves Disk read none = subst (λ t. HasRead (EndsStopped commands (machine g text limit) (halt_of Disk) (at_first held start.tools start.tree) start t) input.left left.left) (sym (λ i. record now { over = none i })) read
+    stopped_leaves Memory read none = subst (λ t. HasRead (EndsStopped commands (machine g text limit) (halt_of Memory) (at_first held start.tools start.tree) start t) input.left left.left) (sym (λ i. record now { over = none i })) read
+    stopped_leaves Output read none = subst (λ t. HasRead (EndsStopped commands (machine g text limit) (halt_of Output) (at_first held start.tools start.tree) start t) input.left left.left) (sym (λ i. record now { over = none i })) read
     stopped_leaves (Full at size) read none = read
-    stopped_leaves Quit read none = inr (subst (λ t. HasRead (EndsStopped commands (machine g text) (halt_of Quit) (at_first held start.tools start.tree) start t) input.left left.left) (sym (λ i. record now { over = none i })) read)
+    stopped_leaves Quit read none = inr (subst (λ t. HasRead (EndsStopped commands (machine g text limit) (halt_of Quit) (at_first held start.tools start.tree) start t) input.left left.left) (sym (λ i. record now { over = none i })) read)
 
 -- what the counts say of why the serving stopped
 pub stopped_input : (stop : Stop) (before now : ℕ) → now ≡ before → InputCount (ending_of stop) before now
@@ -167,10 +166,3 @@ stopped_disk Memory before mid now same counted = counted ∙ same
 stopped_disk Output before mid now same counted = counted ∙ same
 stopped_disk (Full at size) before mid now same counted = counted ∙ same
 stopped_disk Quit before mid now same counted = counted ∙ same
-
-pub stopped_idle : {P : Type 0} (stop : Stop) → (stop ≢ Memory → P) → ending_of stop ≢ ending.Memory → P
-stopped_idle Disk idle other = idle (λ e. cc)
-stopped_idle Memory idle other = absurd (other refl)
-stopped_idle Output idle other = idle (λ e. cc)
-stopped_idle (Full at size) idle other = idle (λ e. cc)
-stopped_idle Quit idle other = idle (λ e. cc)

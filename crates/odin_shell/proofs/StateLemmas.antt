@@ -1,10 +1,10 @@
 -- States of a session, one after another, and what the store makes of them.
-use Rattle.std.proofs.Common.{◌≡◌, ℕ, ◌≤◌, List, [], ◌∷◌, ◌++◌, length, Some, None, inl, inr, ap, sym, refl, ◌∙◌, subst, append_assoc, arith}
+use Rattle.std.proofs.Common.{◌≡◌, ◌≢◌, ◌⊎◌, ℕ, ◌≤◌, List, [], ◌∷◌, ◌++◌, length, Some, None, inl, inr, ap, sym, refl, ◌∙◌, subst, append_assoc, arith}
 use Rattle.std.proofs.Math.Nat.{le_refl}
 use Rattle.odin_outside.specs.Causes.{Rose}
-use Rattle.odin_outside.specs.Disk.{Telling}
+use Rattle.odin_outside.specs.Disk.{Telling, IsQuiet}
 use Rattle.odin_outside.specs.Spawned.{Spawned}
-use Rattle.disk_trails.specs.Trails.{after}
+use Rattle.disk_trails.specs.Trails.{after, Leaves}
 use Rattle.meaning_graph.specs.Graphs.{Text, Graph}
 use Rattle.meaning_records.specs.declared.items.Item.{Item}
 use Rattle.odin_journal.specs.Rest.{IsReady}
@@ -14,14 +14,14 @@ use Rattle.odin_store.specs.OnDisk.{state_in, IsOn, IsOver, IsSame}
 use Rattle.odin_store.specs.Keeping.{store_keeping}
 use Rattle.odin_store.specs.Going.{IsBatchOf, HasBatches, Goes, Stops}
 use Rattle.odin_store.proofs.Lemmas.{nothing_behind, batches_on, goes_none, stops_left, stops_more}
-use Rattle.odin_engine.specs.Engaged.{Engaged}
+use Rattle.odin_engine.specs.Engaged.{Engaged, Stays}
 use Rattle.source_edits.specs.Edits.{TreeTold, TreeStays}
-use Rattle.odin_shell.specs.Filed.{DiskMeaning, HasWritten, IsFull, IsSafe}
-use Rattle.odin_shell.specs.Machine.{State, Told, Makes, Belongs, StoreStopped, IsLeft, ToolsStay}
+use Rattle.odin_shell.specs.Filed.{DiskMeaning, HasWritten, HoldsAll, LacksLast, IsFull, IsSafe}
+use Rattle.odin_shell.specs.Machine.{State, Told, Makes, Belongs, StoreFailed, IsLeft, ToolsStay}
 
--- where none runs at most one does
-pub idle_one : (tools : Spawned) → tools.running ≡ [] → length tools.running ≤ 1
-idle_one tools idle = let none : length tools.running ≡ 0 = ap length idle in omega arith
+-- where none runs no more do than may
+pub idle_few : (tools : Spawned) → tools.running ≡ [] → length tools.running ≤ 64
+idle_few tools idle = let none : length tools.running ≡ 0 = ap length idle in omega arith
 
 -- what stays in two calls stays in both
 pub stay_on : {a b c : Spawned} → ToolsStay a b → ToolsStay b c → ToolsStay a c
@@ -31,7 +31,7 @@ pub tree_on : {a b c : TreeTold} → TreeStays a b → TreeStays b c → TreeSta
 tree_on first second = let l = first.later in let m = second.later in record { files = second.files ∙ first.files; later = omega arith }
 
 -- what was not touched stays
-pub same_tools : (before now : Spawned) → now ≡ before → length before.running ≤ 1 → ToolsStay before now
+pub same_tools : (before now : Spawned) → now ≡ before → length before.running ≤ 64 → ToolsStay before now
 same_tools before now same few = subst (ToolsStay before) (sym same) (record { answers = refl; later = le_refl before.faults; few = few })
 
 pub same_tree : (old new : TreeTold) → new ≡ old → TreeStays old new
@@ -59,11 +59,6 @@ written_on told text changes more start store next disk after w goes =
       on = subst (λ r. IsOn (told after) next r (Some text)) (append_assoc (w.records ++ w.opening) w.payloads more_batches.payloads) more_batches.on;
     }
 
--- no store stopped what counted no fault of the disk and told no batch
-pub not_stopped : {D : Type 0} (disk : DiskMeaning D) (g : Graph) (text : Text) (start now : Told D) (P : Type 0) → disk.faults now.disk ≡ disk.faults start.disk → now.over ≡ None → StoreStopped disk g text start now → P
-not_stopped disk g text start now P faults within (inl rose) = absurd (rose faults)
-not_stopped disk g text start now P faults within (inr over) = absurd (over within)
-
 -- ---- the next state
 
 -- the state behind these changes, with what is told of tools and tree then
@@ -73,14 +68,16 @@ next_state state changes tools tree = record { held = after store_keeping change
 pub makes_next : (state : State) (changes : List Change) (tools : Spawned) (tree : TreeTold) → Makes changes state (next_state state changes tools tree)
 makes_next state changes tools tree = record { held = refl; list = refl }
 
-module _ {D : Type 0} (disk : DiskMeaning D) (g : Graph) (text : Text) (first : State) (start : Told D) (code : Engaged) (state : State) (told : Told D) (fits : Belongs disk g text first start code state told) where
+module _ {D : Type 0} (disk : DiskMeaning D) (g : Graph) (text : Text) (limit : ℕ) (first : State) (start : Told D) (code : Engaged) (state : State) (told : Told D) (fits : Belongs disk g text limit first start code state told) where
   -- ---- the session goes on
 
-  pub belongs_on : (changes : List Change) (code' : Engaged) (told' : Told D) → Goes disk.told changes code.store code'.store told.disk told'.disk → code'.graph ≡ code.graph → IsReady code'.store.journal (disk.size told'.disk)
+  pub belongs_on : (changes : List Change) (code' : Engaged) (told' : Told D) → Goes disk.told changes code.store code'.store told.disk told'.disk → Stays code code' → IsReady code'.store.journal (disk.size told'.disk)
       → disk.faults told'.disk ≡ disk.faults told.disk → ToolsStay told.tools told'.tools → TreeStays told.tree told'.tree → told'.tools.running ≡ [] → told'.over ≡ None
-      → Belongs disk g text first start code' (next_state state changes told'.tools told'.tree) told'
-  belongs_on changes code' told' goes graph ready faults stay tree idle within = record {
-    graph = graph ∙ fits.graph;
+      → Belongs disk g text limit first start code' (next_state state changes told'.tools told'.tree) told'
+  belongs_on changes code' told' goes stays ready faults stay tree idle within = record {
+    graph = stays.graph ∙ fits.graph;
+    jobs = stays.jobs ∙ fits.jobs;
+    few = fits.few;
     held = goes.holds ∙ ap (after store_keeping changes) fits.held;
     tools = refl;
     tree = refl;
@@ -96,6 +93,12 @@ module _ {D : Type 0} (disk : DiskMeaning D) (g : Graph) (text : Text) (first : 
 
   -- ---- and is left
 
+  -- every image has all changes, or all but the last
+  abbrev pub Lasts : List Change → Told D → Type 0
+  Lasts changes told' =
+      HoldsAll text first.held (state.changes ++ changes) (disk.told start.disk) (disk.told told'.disk)
+      ⊎ (StoreFailed disk g text limit start told' × LacksLast first.held (state.changes ++ changes) (disk.told start.disk) (disk.told told'.disk))
+
   -- what is left of the tools and the tree
   module _ (told' : Told D) (stay : ToolsStay told.tools told'.tools) (tree : TreeStays told.tree told'.tree) where
     tools_counted : state.tools.faults ≤ told'.tools.faults
@@ -106,16 +109,16 @@ module _ {D : Type 0} (disk : DiskMeaning D) (g : Graph) (text : Text) (first : 
 
     pub left_by : (changes : List Change) → IsSafe text first.held state.changes (state.changes ++ changes) (disk.told start.disk) (disk.told told'.disk) (disk.faults start.disk) (disk.faults told'.disk)
         → ((at size : ℕ) → told'.over ≡ Some (at, size) → IsFull text (state.changes ++ changes) (disk.told start.disk) (disk.told told'.disk) at size)
-        → (StoreStopped disk g text start told' → told'.tools.faults ≡ told.tools.faults) → IsLeft disk g text first start state (next_state state changes told'.tools told'.tree) told'
-    left_by changes safe full unrefused = record {
+        → (IsQuiet (disk.told start.disk) → Lasts changes told') → IsLeft disk g text limit first start state (next_state state changes told'.tools told'.tree) told'
+    left_by changes safe full lasting = record {
       tools = refl;
       tree = refl;
       counted = tools_counted;
       tree_counted = tree_counted;
       stay = stay_on fits.stay stay;
       tree_stays = tree_on fits.tree_stays tree;
-      unrefused = λ stopped. unrefused stopped ∙ ap (λ (t : Spawned). t.faults) fits.tools;
       safe = safe;
+      lasting = lasting;
       full = full;
     }
 
@@ -135,6 +138,48 @@ module _ {D : Type 0} (disk : DiskMeaning D) (g : Graph) (text : Text) (first : 
         });
         later = omega (arith, same);
       }
+
+  -- every image has them
+  pub holds_all : (changes : List Change) (store : Store) (now : D) → Goes disk.told changes code.store store told.disk now → IsQuiet (disk.told start.disk)
+      → HoldsAll text first.held (state.changes ++ changes) (disk.told start.disk) (disk.told now)
+  holds_all changes store now goes quiet =
+      let all = state.changes ++ changes in
+      let same : IsSame store store now now = record { disk_is = refl; store_is = record { journal = refl; tables = refl; sources = refl; epoch = refl } } in
+      record {
+        store = store;
+        written = written_on disk.told text state.changes changes (disk.told start.disk) code.store store told.disk now (fits.written quiet) goes;
+        crash = subst (λ l. Leaves store_keeping first.held (disk.told start.disk) all l (disk.told now)) (nothing_behind all)
+            (stops_left disk.told [] store store now now (goes_none disk.told store store now now same) first.held start.disk all (goes.grows first.held start.disk state.changes (fits.trail quiet)));
+      }
+
+  -- the next change stopped behind them: every image has all of them, and may have that
+  pub lacks_last : (changes : List Change) (change : Change) (store : Store) (mid now : D) → Goes disk.told changes code.store store told.disk mid → Stops disk.told (change ∷ []) store mid now → IsQuiet (disk.told start.disk)
+      → LacksLast first.held (state.changes ++ (changes ++ change ∷ [])) (disk.told start.disk) (disk.told now)
+  lacks_last changes change store mid now goes stops quiet =
+      let front = state.changes ++ changes in
+      let list : state.changes ++ (changes ++ change ∷ []) ≡ front ++ change ∷ [] = sym (append_assoc state.changes changes (change ∷ [])) in
+      record {
+        front = front;
+        change = change;
+        whole = list;
+        crash = subst (λ l. Leaves store_keeping first.held (disk.told start.disk) front l (disk.told now)) (sym list)
+            (stops first.held start.disk front (goes.grows first.held start.disk state.changes (fits.trail quiet)));
+      }
+
+  -- so it is where the disk failed at it
+  pub failed_last : (changes : List Change) (change : Change) (store : Store) (mid : D) (told' : Told D) → Goes disk.told changes code.store store told.disk mid → Stops disk.told (change ∷ []) store mid told'.disk
+      → Rose (disk.faults told.disk) (disk.faults told'.disk) → IsQuiet (disk.told start.disk) → Lasts (changes ++ change ∷ []) told'
+  failed_last changes change store mid told' goes stops rose quiet =
+      inr (inl (subst (λ n. Rose n (disk.faults told'.disk)) fits.faults rose), lacks_last changes change store mid told'.disk goes stops quiet)
+
+  -- and where its batch doesn't fit
+  pub full_last : (changes : List Change) (change : Change) (store : Store) (told' : Told D) → Goes disk.told changes code.store store told.disk told'.disk → told'.over ≢ None
+      → IsQuiet (disk.told start.disk) → Lasts (changes ++ change ∷ []) told'
+  full_last changes change store told' goes over quiet =
+      let now = told'.disk in
+      let same : IsSame store store now now = record { disk_is = refl; store_is = record { journal = refl; tables = refl; sources = refl; epoch = refl } } in
+      let stops : Stops disk.told (change ∷ []) store now now = stops_more disk.told [] (change ∷ []) store now now (stops_left disk.told [] store store now now (goes_none disk.told store store now now same)) in
+      inr (inr over, lacks_last changes change store now now goes stops quiet)
 
   -- the disk failed at one of the changes
   pub safe_failed : (changes : List Change) (now : D) → Stops disk.told changes code.store told.disk now → disk.faults told.disk ≤ disk.faults now → Rose (disk.faults told.disk) (disk.faults now)
@@ -180,8 +225,8 @@ module _ {D : Type 0} (disk : DiskMeaning D) (g : Graph) (text : Text) (first : 
   }
 
 -- between two commands all is left as it is
-pub rests : {D : Type 0} (disk : DiskMeaning D) (g : Graph) (text : Text) (first : State) (start : Told D) (code : Engaged) (state : State) (told : Told D) → Belongs disk g text first start code state told → IsLeft disk g text first start state state told
-rests disk g text first start code state told fits =
+pub rests : {D : Type 0} (disk : DiskMeaning D) (g : Graph) (text : Text) (limit : ℕ) (first : State) (start : Told D) (code : Engaged) (state : State) (told : Told D) → Belongs disk g text limit first start code state told → IsLeft disk g text limit first start state state told
+rests disk g text limit first start code state told fits =
     let tools : told.tools.faults ≡ state.tools.faults = ap (λ (t : Spawned). t.faults) fits.tools in
     let tree : told.tree.faults ≡ state.tree.faults = ap (λ (t : TreeTold). t.faults) fits.tree in
     let same : IsSame code.store code.store told.disk told.disk = record { disk_is = refl; store_is = record { journal = refl; tables = refl; sources = refl; epoch = refl } } in
@@ -193,8 +238,9 @@ rests disk g text first start code state told fits =
       tree_counted = omega arith;
       stay = fits.stay;
       tree_stays = fits.tree_stays;
-      unrefused = λ stopped. refl;
       safe = subst (λ l. IsSafe text first.held state.changes l (disk.told start.disk) (disk.told told.disk) (disk.faults start.disk) (disk.faults told.disk)) (nothing_behind state.changes)
-          (safe_made disk g text first start code state told fits [] code.store told.disk goes refl);
+          (safe_made disk g text limit first start code state told fits [] code.store told.disk goes refl);
+      lasting = λ quiet. inl (subst (λ l. HoldsAll text first.held l (disk.told start.disk) (disk.told told.disk)) (nothing_behind state.changes)
+          (holds_all disk g text limit first start code state told fits [] code.store told.disk goes quiet));
       full = λ at size some. (let no : ⊥ = cc (fits.within) in absurd no);
     }

@@ -69,28 +69,28 @@ same_stays : (old new : State) → AreSources old.held.sources → new ≡ old �
 same_stays old new are same = subst (λ (s : State). AreSources s.held.sources) (sym same) are
 
 -- a command whose bytes are not too long
-step_stays : (g : Graph) (old new : State) (command : Command) (body reply : List ℕ) → AreSources old.held.sources → BringsName command → (takes command ≤ body_limit → length body ≤ body_limit)
-    → Step g old command body reply new → AreSources new.held.sources
-step_stays g old new (Put name count) body reply are named short step = insert_stays old.held.sources name body count _ step.says.said new.held.sources are named short step.says.holds
-step_stays g old new (Take name) body reply are named short step = elim step.says.holds [
+step_stays : (g : Graph) (limit : ℕ) (old new : State) (command : Command) (body reply : List ℕ) → AreSources old.held.sources → BringsName command → (takes command ≤ body_limit → length body ≤ body_limit)
+    → Step g limit old command body reply new → AreSources new.held.sources
+step_stays g limit old new (Put name count) body reply are named short step = insert_stays old.held.sources name body count _ step.says.said new.held.sources are named short step.says.holds
+step_stays g limit old new (Take name) body reply are named short step = elim step.says.holds [
   | inl taken ↦ take_stays old.held.sources name taken.file step.says.said new.held.sources are named taken.takes
   | inr unread ↦ subst AreSources (sym unread.same) are
 ]
-step_stays g old new (Remove name) body reply are named short step = remove_stays (get old.held.sources name) old.held.sources name step.says.said new.held.sources are step.says.holds
-step_stays g old new (Ask text) body reply are named short step = subst AreSources (sym (ap (λ (h : Held). h.sources) step.makes.held ∙ kept_sources step.given old.held)) are
-step_stays g old new (Plan text) body reply are named short step = same_stays old new are step.same
-step_stays g old new Sources body reply are named short step = same_stays old new are step.1
-step_stays g old new Kept body reply are named short step = same_stays old new are step.1
-step_stays g old new Quit body reply are named short step = same_stays old new are step.1
-step_stays g old new Nothing body reply are named short step = same_stays old new are step.1
-step_stays g old new Bad body reply are named short step = same_stays old new are step.1
-step_stays g old new (BadName count) body reply are named short step = same_stays old new are step.1
+step_stays g limit old new (Remove name) body reply are named short step = remove_stays (get old.held.sources name) old.held.sources name step.says.said new.held.sources are step.says.holds
+step_stays g limit old new (Ask text) body reply are named short step = subst AreSources (sym (ap (λ (h : Held). h.sources) step.makes.held ∙ kept_sources step.given old.held)) are
+step_stays g limit old new (Plan text) body reply are named short step = same_stays old new are step.same
+step_stays g limit old new Sources body reply are named short step = same_stays old new are step.1
+step_stays g limit old new Kept body reply are named short step = same_stays old new are step.1
+step_stays g limit old new Quit body reply are named short step = same_stays old new are step.1
+step_stays g limit old new Nothing body reply are named short step = same_stays old new are step.1
+step_stays g limit old new Bad body reply are named short step = same_stays old new are step.1
+step_stays g limit old new (BadName count) body reply are named short step = same_stays old new are step.1
 
-pub stay : (g : Graph) (old new : State) (item : Item) (command : Command) (reply : List ℕ) → AreSources old.held.sources → IsItem commands item command → Step g old command item.body reply new
+pub stay : (g : Graph) (limit : ℕ) (old new : State) (item : Item) (command : Command) (reply : List ℕ) → AreSources old.held.sources → IsItem commands item command → Step g limit old command item.body reply new
     → AreSources new.held.sources
-stay g old new item command reply are i step =
+stay g limit old new item command reply are i step =
     let size = i.size in
-    step_stays g old new command item.body reply are (names _ command i.spelled) (λ few. omega (arith, size, few)) step
+    step_stays g limit old new command item.body reply are (names _ command i.spelled) (λ few. omega (arith, size, few)) step
 
 -- ---- without a reply
 
@@ -100,25 +100,25 @@ due_stays Asked old new each are may = subst (λ (h : Held). AreSources h.source
   | inr one ↦ subst (λ c. AreSources (after store_keeping c old.held).sources) (sym one.3) (each one.0 one.1)
 ])
 
-step_left : (g : Graph) (old new : State) (command : Command) (body : List ℕ) → AreSources old.held.sources → BringsName command → (takes command ≤ body_limit → length body ≤ body_limit)
-    → MayLeave g old command body new → AreSources new.held.sources
-step_left g old new (Put name count) body are named short may =
+step_left : (g : Graph) (limit : ℕ) (old new : State) (command : Command) (body : List ℕ) → AreSources old.held.sources → BringsName command → (takes command ≤ body_limit → length body ≤ body_limit)
+    → MayLeave g limit old command body new → AreSources new.held.sources
+step_left g limit old new (Put name count) body are named short may =
     due_stays (IsPutChange name count body) old new (λ change due. subst (λ c. AreSources (apply c old.held).sources) (sym due.1) (put_stays old.held.sources name body are named (short due.0))) are may.0
-step_left g old new (Take name) body are named short may =
+step_left g limit old new (Take name) body are named short may =
     due_stays (IsTakeChange name old.tree) old new (λ change due. subst (λ c. AreSources (apply c old.held).sources) (sym due.3) (put_stays old.held.sources name due.0 are named due.1)) are may.0
-step_left g old new (Remove name) body are named short may =
+step_left g limit old new (Remove name) body are named short may =
     due_stays (λ change. change ≡ drops name) old new (λ change due. subst (λ c. AreSources (apply c old.held).sources) (sym due) (drop_stays old.held.sources name are)) are may.0
-step_left g old new (Ask text) body are named short may = subst AreSources (sym (ap (λ (h : Held). h.sources) may.makes.held ∙ kept_sources may.given old.held)) are
-step_left g old new (Plan text) body are named short may = same_stays old new are may
-step_left g old new Sources body are named short may = same_stays old new are may
-step_left g old new Kept body are named short may = same_stays old new are may
-step_left g old new Quit body are named short may = same_stays old new are may
-step_left g old new Nothing body are named short may = same_stays old new are may
-step_left g old new Bad body are named short may = same_stays old new are may
-step_left g old new (BadName count) body are named short may = same_stays old new are may
+step_left g limit old new (Ask text) body are named short may = subst AreSources (sym (ap (λ (h : Held). h.sources) may.makes.held ∙ kept_sources may.given old.held)) are
+step_left g limit old new (Plan text) body are named short may = same_stays old new are may
+step_left g limit old new Sources body are named short may = same_stays old new are may
+step_left g limit old new Kept body are named short may = same_stays old new are may
+step_left g limit old new Quit body are named short may = same_stays old new are may
+step_left g limit old new Nothing body are named short may = same_stays old new are may
+step_left g limit old new Bad body are named short may = same_stays old new are may
+step_left g limit old new (BadName count) body are named short may = same_stays old new are may
 
-pub stay_left : (g : Graph) (old furthest : State) (item : Item) (command : Command) → AreSources old.held.sources → IsItem commands item command → MayLeave g old command item.body furthest
+pub stay_left : (g : Graph) (limit : ℕ) (old furthest : State) (item : Item) (command : Command) → AreSources old.held.sources → IsItem commands item command → MayLeave g limit old command item.body furthest
     → AreSources furthest.held.sources
-stay_left g old furthest item command are i may =
+stay_left g limit old furthest item command are i may =
     let size = i.size in
-    step_left g old furthest command item.body are (names _ command i.spelled) (λ few. omega (arith, size, few)) may
+    step_left g limit old furthest command item.body are (names _ command i.spelled) (λ few. omega (arith, size, few)) may

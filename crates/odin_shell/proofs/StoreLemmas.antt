@@ -13,6 +13,7 @@ use Rattle.odin_journal.specs.declared.fault.JournalFault.TheVariants as fault
 use Rattle.odin_store.specs.Held.{Held}
 use Rattle.odin_shell.specs.declared.ending.Ending.{Ending}
 use Rattle.odin_shell.specs.declared.ending.Ending.TheVariants.{Whole, CutShort, BadGraph, Disk, Memory, Output, Input, NotOurs, Full, Usage, TooLong, Loaded, Room}
+use Rattle.odin_shell.specs.Endings.{status_of, LeavesTools}
 use Rattle.odin_shell.specs.Opened.{not_ours_line, full_line}
 use Rattle.odin_shell.specs.Filed.{DiskMeaning}
 use Rattle.odin_shell.specs.Language.{commands}
@@ -23,7 +24,7 @@ use Rattle.odin_shell.specs.Objects.{Outside, Meaning}
 use Rattle.odin_shell.specs.Run as run
 use Rattle.odin_shell.specs.Run.{LastLine, whole, cut_off, SessionLeaves, InputCount, DiskCount, OutputCount, AllowedBy, Closes, ClosesFor, Says}
 use Rattle.meaning_commands.proofs.Lemmas.{one_command}
-use Rattle.odin_shell.proofs.StateLemmas.{idle_one, same_tools, same_tree}
+use Rattle.odin_shell.proofs.StateLemmas.{idle_few, same_tools, same_tree}
 
 -- ---- a last line
 
@@ -50,6 +51,23 @@ says_output line due before now ending other (inr none) = subst (λ e. OutputCou
 pub anything : (o : Option (List ℕ)) → IfSome o (λ text. ⊤)
 anything None = tt
 anything (Some text) = tt
+
+-- the endings of a run behind which tools may run: those that leave them, and a failed output, which may come in the place of one
+abbrev pub MayRunOn : Ending → Type 0
+MayRunOn Output = ⊤
+MayRunOn due = LeavesTools due
+
+runs_on : (due : Ending) → LeavesTools due → MayRunOn due
+runs_on Output leaves = tt
+runs_on due leaves = leaves
+
+-- at these statuses alone
+pub status_runs : (ending : Ending) (status : ℕ) → status ≡ status_of ending → status ≢ 3 → status ≢ 4 → status ≢ 5 → status ≢ 8 → ¬ MayRunOn ending
+status_runs Disk status is three four five eight = λ runs. three is
+status_runs Memory status is three four five eight = λ runs. four is
+status_runs Output status is three four five eight = λ runs. five is
+status_runs (Full at size) status is three four five eight = λ runs. eight is
+status_runs other status is three four five eight = λ runs. runs
 
 -- what holds of the ending of a session, and of what may come in its place where the file is full, holds behind what is written then
 at_close : (due : Ending) (before now : SinkTold) (ending : Ending) (P : Ending → Type 0) → Closes due before now ending → P due → ((at size : ℕ) → P (Full at size) → P Memory × P Output) → P ending
@@ -96,8 +114,8 @@ closes_not_ours at e line before now ending is line_is last =
 
 -- ---- a session
 
-module _ {D : Type 0} (disk : DiskMeaning D) (g : Graph) (text : Text) (held : Held) (start now : Told D) (input left : Option (List ℕ)) where
-  session_output : (ending : Ending) → SessionLeaves disk g text held ending input left start now → OutputCount ending start.sink.faults now.sink.faults
+module _ {D : Type 0} (disk : DiskMeaning D) (g : Graph) (text : Text) (limit : ℕ) (held : Held) (start now : Told D) (input left : Option (List ℕ)) where
+  session_output : (ending : Ending) → SessionLeaves disk g text limit held ending input left start now → OutputCount ending start.sink.faults now.sink.faults
   session_output Whole (inl l) = ap (λ (s : SinkTold). s.faults) l.ends.replied.wrote
   session_output Whole (inr l) = ap (λ (s : SinkTold). s.faults) l.ends.replied.wrote
   session_output CutShort l = ap (λ (s : SinkTold). s.faults) l.ends.replied.wrote
@@ -113,7 +131,7 @@ module _ {D : Type 0} (disk : DiskMeaning D) (g : Graph) (text : Text) (held : H
   session_output Loaded l = absurd l
   session_output Room l = absurd l
 
-  session_stay : (ending : Ending) → SessionLeaves disk g text held ending input left start now → ToolsStay start.tools now.tools
+  session_stay : (ending : Ending) → SessionLeaves disk g text limit held ending input left start now → ToolsStay start.tools now.tools
   session_stay Whole (inl l) = l.ends.replied.exit.stay
   session_stay Whole (inr l) = l.ends.replied.exit.stay
   session_stay CutShort l = l.ends.replied.exit.stay
@@ -129,7 +147,7 @@ module _ {D : Type 0} (disk : DiskMeaning D) (g : Graph) (text : Text) (held : H
   session_stay Loaded l = absurd l
   session_stay Room l = absurd l
 
-  session_tree : (ending : Ending) → SessionLeaves disk g text held ending input left start now → TreeStays start.tree now.tree
+  session_tree : (ending : Ending) → SessionLeaves disk g text limit held ending input left start now → TreeStays start.tree now.tree
   session_tree Whole (inl l) = l.ends.replied.exit.tree_stays
   session_tree Whole (inr l) = l.ends.replied.exit.tree_stays
   session_tree CutShort l = l.ends.replied.exit.tree_stays
@@ -145,10 +163,10 @@ module _ {D : Type 0} (disk : DiskMeaning D) (g : Graph) (text : Text) (held : H
   session_tree Loaded l = absurd l
   session_tree Room l = absurd l
 
-  session_exact : (ending : Ending) → SessionLeaves disk g text held ending input left start now → IfSome input (AllowedBy ending)
-  session_exact Whole (inl l) = not_inside commands Keeps (machine disk g text) one_command (at_first held start.tools start.tree) start now input left l
-  session_exact Whole (inr l) = at_word commands Keeps (machine disk g text) one_command (at_first held start.tools start.tree) start now input left l
-  session_exact CutShort l = is_inside commands Keeps (machine disk g text) (at_first held start.tools start.tree) start now input left l
+  session_exact : (ending : Ending) → SessionLeaves disk g text limit held ending input left start now → IfSome input (AllowedBy ending)
+  session_exact Whole (inl l) = not_inside commands Keeps (machine disk g text limit) one_command (at_first held start.tools start.tree) start now input left l
+  session_exact Whole (inr l) = at_word commands Keeps (machine disk g text limit) one_command (at_first held start.tools start.tree) start now input left l
+  session_exact CutShort l = is_inside commands Keeps (machine disk g text limit) (at_first held start.tools start.tree) start now input left l
   session_exact BadGraph l = absurd l
   session_exact Disk l = anything input
   session_exact Memory l = anything input
@@ -157,7 +175,7 @@ module _ {D : Type 0} (disk : DiskMeaning D) (g : Graph) (text : Text) (held : H
   session_exact (NotOurs at) l = absurd l
   session_exact (Full at size) l = anything input
   session_exact Usage l = absurd l
-  session_exact TooLong l = is_long commands Keeps (machine disk g text) one_command (at_first held start.tools start.tree) start now input left l
+  session_exact TooLong l = is_long commands Keeps (machine disk g text limit) one_command (at_first held start.tools start.tree) start now input left l
   session_exact Loaded l = absurd l
   session_exact Room l = absurd l
 
@@ -212,28 +230,28 @@ exact_due (fault.NotOurs at) input = anything input
 exact_due (fault.Full at size) input = anything input
 exact_due fault.Memory input = anything input
 
-module _ {I O T S D : Type 0} (m : Meaning I O T S D) (text : Text) (g : Graph) (before after : Outside I O T S D) where
+module _ {I O T S D : Type 0} (m : Meaning I O T S D) (text : Text) (g : Graph) (limit : ℕ) (before after : Outside I O T S D) where
   abbrev old_tools : Spawned
   old_tools = m.spawned before.tools
 
   abbrev new_tools : Spawned
   new_tools = m.spawned after.tools
 
-  pub store_exact : (ending : Ending) → run.StoreEnds m text g before after ending → IfSome (m.left before.input) (AllowedBy ending)
+  pub store_exact : (ending : Ending) → run.StoreEnds m text g limit before after ending → IfSome (m.left before.input) (AllowedBy ending)
   store_exact ending (run.unopened e is closes same) =
       at_fault e _ _ ending (λ due. IfSome (m.left before.input) (AllowedBy due)) closes (exact_due e (m.left before.input)) (λ other. (anything (m.left before.input), anything (m.left before.input)))
   store_exact ending (run.served due written ends closes) =
-      at_close due written _ ending (λ e. IfSome (m.left before.input) (AllowedBy e)) closes (session_exact m.disk g text ends.held _ _ _ _ due ends.leaves) (λ at size p. (anything (m.left before.input), anything (m.left before.input)))
+      at_close due written _ ending (λ e. IfSome (m.left before.input) (AllowedBy e)) closes (session_exact m.disk g text limit ends.held _ _ _ _ due ends.leaves) (λ at size p. (anything (m.left before.input), anything (m.left before.input)))
 
-  pub store_output : (ending : Ending) → run.StoreEnds m text g before after ending → OutputCount ending (m.output_faults before.output) (m.output_faults after.output)
+  pub store_output : (ending : Ending) → run.StoreEnds m text g limit before after ending → OutputCount ending (m.output_faults before.output) (m.output_faults after.output)
   store_output ending (run.unopened e is closes same) = fault_output e _ _ ending closes
   store_output ending (run.served due written ends closes) = close_output due (run.sink m before) written (run.sink m after) ending
-      (session_output m.disk g text ends.held (run.told m before) (record (run.told m after) { sink = written }) (m.left before.input) (m.left after.input) due ends.leaves) closes
+      (session_output m.disk g text limit ends.held (run.told m before) (record (run.told m after) { sink = written }) (m.left before.input) (m.left after.input) due ends.leaves) closes
 
   abbrev input_count : Ending → Type 0
   input_count ending = InputCount ending (m.input_faults before.input) (m.input_faults after.input)
 
-  pub store_input : (ending : Ending) → run.StoreEnds m text g before after ending → input_count ending
+  pub store_input : (ending : Ending) → run.StoreEnds m text g limit before after ending → input_count ending
   store_input ending (run.unopened e is closes same) =
       let still : m.input_faults after.input ≡ m.input_faults before.input = ap (λ (o : Outside I O T S D). m.input_faults o.input) same in
       at_fault e _ _ ending input_count closes (input_due e _ _ still) (λ other. (still, still))
@@ -242,7 +260,7 @@ module _ {I O T S D : Type 0} (m : Meaning I O T S D) (text : Text) (g : Graph) 
   abbrev disk_count : Ending → Type 0
   disk_count ending = DiskCount ending (m.disk.faults before.disk) (m.disk.faults after.disk)
 
-  pub store_disk : (ending : Ending) → run.StoreEnds m text g before after ending → disk_count ending
+  pub store_disk : (ending : Ending) → run.StoreEnds m text g limit before after ending → disk_count ending
   store_disk ending (run.unopened e is closes same) =
       at_fault e _ _ ending disk_count closes (fault_counts e _ _ is.later is.cause) (λ other. (uncounted e _ _ is.cause other, uncounted e _ _ is.cause other))
   store_disk ending (run.served due written ends closes) = at_close due written _ ending disk_count closes ends.counted (λ at size p. (p, p))
@@ -255,15 +273,14 @@ module _ {I O T S D : Type 0} (m : Meaning I O T S D) (text : Text) (g : Graph) 
   abbrev new_tree : TreeTold
   new_tree = tree_of m.files m.tree_faults m.reads after.tree
 
-  pub store_tree : (ending : Ending) → run.StoreEnds m text g before after ending → TreeStays old_tree new_tree
+  pub store_tree : (ending : Ending) → run.StoreEnds m text g limit before after ending → TreeStays old_tree new_tree
   store_tree ending (run.unopened e is closes same) = same_tree old_tree new_tree (ap (λ (o : Outside I O T S D). tree_of m.files m.tree_faults m.reads o.tree) same)
-  store_tree ending (run.served due written ends closes) = session_tree m.disk g text ends.held _ _ _ _ due ends.leaves
+  store_tree ending (run.served due written ends closes) = session_tree m.disk g text limit ends.held _ _ _ _ due ends.leaves
 
-  pub store_tools : (ending : Ending) → old_tools.running ≡ [] → run.StoreEnds m text g before after ending → ToolsStay old_tools new_tools
-  store_tools ending idle (run.unopened e is closes same) = same_tools old_tools new_tools (ap (λ (o : Outside I O T S D). m.spawned o.tools) same) (idle_one old_tools idle)
-  store_tools ending idle (run.served due written ends closes) = session_stay m.disk g text ends.held _ _ _ _ due ends.leaves
+  pub store_tools : (ending : Ending) → old_tools.running ≡ [] → run.StoreEnds m text g limit before after ending → ToolsStay old_tools new_tools
+  store_tools ending idle (run.unopened e is closes same) = same_tools old_tools new_tools (ap (λ (o : Outside I O T S D). m.spawned o.tools) same) (idle_few old_tools idle)
+  store_tools ending idle (run.served due written ends closes) = session_stay m.disk g text limit ends.held _ _ _ _ due ends.leaves
 
-  pub store_idle : (ending : Ending) → old_tools.running ≡ [] → run.StoreEnds m text g before after ending → ending ≢ Memory → new_tools.running ≡ []
+  pub store_idle : (ending : Ending) → old_tools.running ≡ [] → run.StoreEnds m text g limit before after ending → ¬ MayRunOn ending → new_tools.running ≡ []
   store_idle ending idle (run.unopened e is closes same) other = ap (λ (o : Outside I O T S D). (m.spawned o.tools).running) same ∙ idle
-  store_idle ending idle (run.served due written ends closes) other =
-      at_close due written _ ending (λ e. e ≢ Memory → new_tools.running ≡ []) closes ends.idle (λ at size p. (λ never. absurd (never refl), λ differs. p (λ e. cc))) other
+  store_idle ending idle (run.served due written ends closes) other = ends.idle (λ leaves. other (at_close due written _ ending MayRunOn closes (runs_on due leaves) (λ at size p. (tt, tt))))

@@ -11,7 +11,7 @@ use Rattle.meaning_texts.specs.Lines.{without_cr}
 use Rattle.meaning_graph.specs.Graphs.{Text, Graph}
 use Rattle.meaning_records.specs.Tables.{Calls, kept_outcome}
 use Rattle.meaning_answers.proofs.Lemmas.{one_plan}
-use Rattle.meaning_run.specs.Items.{Item}
+use Rattle.meaning_run.specs.Items.{Item, IsItem}
 use Rattle.meaning_run.specs.Machines.{Transcript, AnswersItem}
 use Rattle.odin_answers.specs.Answers.{IsReply, HasAnswer}
 use Rattle.odin_answers.specs.Laws.{IsTrueFor, KeepSame}
@@ -82,35 +82,35 @@ tree_is before now asked unfailed = λ i. record { files = asked.stays.files i; 
 same_state : (old new : State) → new ≡ old → TreeStays old.tree new.tree
 same_state old new same = same_tree old.tree new.tree (ap (λ (s : State). s.tree) same)
 
-step_tree : (g : Graph) (old : State) (c : Command) (body bytes : List ℕ) (new : State) → Step g old c body bytes new → TreeStays old.tree new.tree
-step_tree g old (Put name count) body bytes new step = same_tree old.tree new.tree step.tree
-step_tree g old (Take name) body bytes new step = step.asked.stays
-step_tree g old (Remove name) body bytes new step = same_tree old.tree new.tree step.tree
-step_tree g old (Ask text) body bytes new step = same_tree old.tree new.tree step.tree
-step_tree g old (Plan text) body bytes new step = same_state old new step.same
-step_tree g old Sources body bytes new step = same_state old new step.1
-step_tree g old Kept body bytes new step = same_state old new step.1
-step_tree g old Quit body bytes new step = same_state old new step.1
-step_tree g old Nothing body bytes new step = same_state old new step.1
-step_tree g old Bad body bytes new step = same_state old new step.1
-step_tree g old (BadName count) body bytes new step = same_state old new step.1
+step_tree : (g : Graph) (limit : ℕ) (old : State) (c : Command) (body bytes : List ℕ) (new : State) → Step g limit old c body bytes new → TreeStays old.tree new.tree
+step_tree g limit old (Put name count) body bytes new step = same_tree old.tree new.tree step.tree
+step_tree g limit old (Take name) body bytes new step = step.asked.stays
+step_tree g limit old (Remove name) body bytes new step = same_tree old.tree new.tree step.tree
+step_tree g limit old (Ask text) body bytes new step = same_tree old.tree new.tree step.tree
+step_tree g limit old (Plan text) body bytes new step = same_state old new step.same
+step_tree g limit old Sources body bytes new step = same_state old new step.1
+step_tree g limit old Kept body bytes new step = same_state old new step.1
+step_tree g limit old Quit body bytes new step = same_state old new step.1
+step_tree g limit old Nothing body bytes new step = same_state old new step.1
+step_tree g limit old Bad body bytes new step = same_state old new step.1
+step_tree g limit old (BadName count) body bytes new step = same_state old new step.1
 
 -- ---- one step
 
 -- an answer, since a refusal is counted
-answered : (g : Graph) (old new : State) (text : Text) (said : Reply) (given : Calls) → CountsNone old new → IsReply g old.held.sources old.held.calls text said given old.tools new.tools
-    → HasAnswer g old.held.sources old.held.calls text said given old.tools new.tools
-answered g old new text said given none (inl is) = is
-answered g old new text said given none (inr refused) =
-    absurd (not_counted old.tools.faults new.tools.faults none.tools (refusal_counted g old.held.sources old.held.calls text said given old.tools new.tools refused))
+answered : (g : Graph) (limit : ℕ) (old new : State) (text : Text) (said : Reply) (given : Calls) → CountsNone old new → IsReply g old.held.sources old.held.calls limit text said given old.tools new.tools
+    → HasAnswer g old.held.sources old.held.calls limit text said given old.tools new.tools
+answered g limit old new text said given none (inl is) = is
+answered g limit old new text said given none (inr refused) =
+    absurd (not_counted old.tools.faults new.tools.faults none.tools (refusal_counted g old.held.sources old.held.calls limit text said given old.tools new.tools refused))
 
 -- what an ask leaves of the sources
-asked_sources : (g : Graph) (text : Text) (old new : State) (bytes : List ℕ) → Asks g text old bytes new → new.held.sources ≡ old.held.sources
-asked_sources g text old new bytes asks = ap (λ (h : Held). h.sources) asks.makes.held ∙ kept_sources asks.given old.held
+asked_sources : (g : Graph) (limit : ℕ) (text : Text) (old new : State) (bytes : List ℕ) → Asks g limit text old bytes new → new.held.sources ≡ old.held.sources
+asked_sources g limit text old new bytes asks = ap (λ (h : Held). h.sources) asks.makes.held ∙ kept_sources asks.given old.held
 
 -- what is the same behind one command
-record IsSame (g : Graph) (table : Table) (bytes bytes' : List ℕ) (old new old' new' : State) : Type 0 where
-  alike : AreAlike g table bytes bytes' old new old' new'
+record IsSame (g : Graph) (table : Table) (item : Item) (bytes bytes' : List ℕ) (old new old' new' : State) : Type 0 where
+  alike : AreAlike g table item bytes bytes' old new old' new'
   sources : new'.held.sources ≡ new.held.sources
   tree : old'.tree ≡ old.tree → new'.tree ≡ new.tree
 
@@ -122,11 +122,11 @@ calls_stay : (calls more calls' more' : Calls) → more ≡ calls → more' ≡ 
 calls_stay calls more calls' more' stays stays' same call = ap (λ l. kept_outcome l call) stays' ∙ same call ∙ sym (ap (λ l. kept_outcome l call) stays)
 
 -- those behind an ask
-asked_calls : (g : Graph) (text : Text) (old new : State) (bytes : List ℕ) → (a : Asks g text old bytes new) → new.held.calls ≡ old.held.calls ++ a.given
-asked_calls g text old new bytes a = ap (λ (h : Held). h.calls) a.makes.held ∙ kept_calls a.given old.held
+asked_calls : (g : Graph) (limit : ℕ) (text : Text) (old new : State) (bytes : List ℕ) → (a : Asks g limit text old bytes new) → new.held.calls ≡ old.held.calls ++ a.given
+asked_calls g limit text old new bytes a = ap (λ (h : Held). h.calls) a.makes.held ∙ kept_calls a.given old.held
 
-module _ (g : Graph) (table : Table) (files : Files) (old new old' new' : State) (same : old'.held.sources ≡ old.held.sources) where
-  unchanged : (bytes bytes' : List ℕ) → (bytes' ≡ bytes) ⊎ BothCountKept bytes bytes' old old' → new ≡ old → new' ≡ old' → IsSame g table bytes bytes' old new old' new'
+module _ (g : Graph) (limit most : ℕ) (table : Table) (files : Files) (item : Item) (old new old' new' : State) (same : old'.held.sources ≡ old.held.sources) where
+  unchanged : (bytes bytes' : List ℕ) → (bytes' ≡ bytes) ⊎ BothCountKept bytes bytes' old old' → new ≡ old → new' ≡ old' → IsSame g table item bytes bytes' old new old' new'
   unchanged bytes bytes' reply stays stays' = record {
     alike = inl (record {
       reply = reply;
@@ -137,7 +137,7 @@ module _ (g : Graph) (table : Table) (files : Files) (old new old' new' : State)
   }
 
   edited : (name : Text) (P Q : Reply → Texts → Type 0) (bytes bytes' : List ℕ) (a : Edits name P old bytes new) (b : Edits name Q old' bytes' new') → IsOne a.says.said b.says.said new.held.sources new'.held.sources
-      → IsSame g table bytes bytes' old new old' new'
+      → IsSame g table item bytes bytes' old new old' new'
   edited name P Q bytes bytes' a b one = record {
     alike = inl (record {
       reply = inl (same_bytes (λ said. P said new.held.sources) (λ said. Q said new'.held.sources) bytes bytes' a.says b.says one.says);
@@ -148,7 +148,7 @@ module _ (g : Graph) (table : Table) (files : Files) (old new old' new' : State)
   }
 
   file_same : (name : Text) (bytes bytes' : List ℕ) → old.tree.files ≡ Some files → old'.tree.files ≡ Some files → CountsNone old new → CountsNone old' new' → EditsByFile name old bytes new → EditsByFile name old' bytes' new'
-      → IsSame g table bytes bytes' old new old' new'
+      → IsSame g table item bytes bytes' old new old' new'
   file_same name bytes bytes' told told' none none' a b =
       let t = taken old.held.sources name old.tree a.says.said new.held.sources new.tree none.tree a.says.holds in
       let t' = taken old'.held.sources name old'.tree b.says.said new'.held.sources new'.tree none'.tree b.says.holds in
@@ -165,95 +165,95 @@ module _ (g : Graph) (table : Table) (files : Files) (old new old' new' : State)
         tree = λ (e : old'.tree ≡ old.tree). tree_is old'.tree new'.tree b.asked t'.unfailed ∙ ap asked_once e ∙ sym (tree_is old.tree new.tree a.asked t.unfailed);
       }
 
-  asked : (text : Text) (bytes bytes' : List ℕ) → IsTrueFor table old.tools old.held.calls → IsTrueFor table old'.tools old'.held.calls → CountsNone old new → CountsNone old' new'
-      → Asks g text old bytes new → Asks g text old' bytes' new' → IsSame g table bytes bytes' old new old' new'
-  asked text bytes bytes' right right' none none' a b =
-      let one = answered g old new text a.says.said a.given none a.says.holds in
-      let other = subst (λ (t : Texts). HasAnswer g t old'.held.calls text b.says.said b.given old'.tools new'.tools) same (answered g old' new' text b.says.said b.given none' b.says.holds) in
+  asked : (text : Text) (bytes bytes' : List ℕ) → IsItem commands item (Ask text) → IsTrueFor table old.tools old.held.calls → IsTrueFor table old'.tools old'.held.calls → CountsNone old new → CountsNone old' new'
+      → Asks g limit text old bytes new → Asks g most text old' bytes' new' → IsSame g table item bytes bytes' old new old' new'
+  asked text bytes bytes' asks right right' none none' a b =
+      let one = answered g limit old new text a.says.said a.given none a.says.holds in
+      let other = subst (λ (t : Texts). HasAnswer g t old'.held.calls most text b.says.said b.given old'.tools new'.tools) same (answered g most old' new' text b.says.said b.given none' b.says.holds) in
       record {
-        alike = elim (same_answers g table old.held.sources old.held.calls old'.held.calls text a.says.said b.says.said a.given b.given old.tools new.tools old'.tools new'.tools right right' one other) [
+        alike = elim (same_answers g table old.held.sources old.held.calls old'.held.calls limit most text a.says.said b.says.said a.given b.given old.tools new.tools old'.tools new'.tools right right' one other) [
           | inl answers ↦ inl (record {
             reply = inl (b.says.bytes_are ∙ ap reply_text answers.same ∙ sym a.says.bytes_are);
-            kept = λ keep. (let run = answers.run keep in calls_stay (old.held.calls ++ a.given) new.held.calls (old'.held.calls ++ b.given) new'.held.calls (asked_calls g text old new bytes a) (asked_calls g text old' new' bytes' b) run.keep);
+            kept = λ keep. (let run = answers.run keep in calls_stay (old.held.calls ++ a.given) new.held.calls (old'.held.calls ++ b.given) new'.held.calls (asked_calls g limit text old new bytes a) (asked_calls g most text old' new' bytes' b) run.keep);
           })
-          | inr chains ↦ inr (record { text = text; reply = a.says.said; other = b.says.said; bytes_are = a.says.bytes_are; others_are = b.says.bytes_are; chains = chains })
+          | inr chains ↦ inr (record { text = text; asks = asks; reply = a.says.said; other = b.says.said; bytes_are = a.says.bytes_are; others_are = b.says.bytes_are; chains = chains })
         ];
-        sources = asked_sources g text old' new' bytes' b ∙ same ∙ sym (asked_sources g text old new bytes a);
+        sources = asked_sources g most text old' new' bytes' b ∙ same ∙ sym (asked_sources g limit text old new bytes a);
         tree = λ (e : old'.tree ≡ old.tree). b.tree ∙ e ∙ sym a.tree;
       }
 
   module _ (told : IsToldBy table files old) (told' : IsToldBy table files old') (none : CountsNone old new) (none' : CountsNone old' new') where
-    one_step : (c : Command) (body bytes bytes' : List ℕ) → Step g old c body bytes new → Step g old' c body bytes' new' → IsSame g table bytes bytes' old new old' new'
-    one_step (Put name count) body bytes bytes' a b =
+    one_step : (c : Command) (body bytes bytes' : List ℕ) → IsItem commands item c → Step g limit old c body bytes new → Step g most old' c body bytes' new' → IsSame g table item bytes bytes' old new old' new'
+    one_step (Put name count) body bytes bytes' i a b =
         edited name (Puts old.held.sources name count body) (Puts old'.held.sources name count body) bytes bytes' a b
         (one_insert old.held.sources name body count _ a.says.said b.says.said new.held.sources new'.held.sources a.says.holds (subst (λ (t : Texts). Puts t name count body b.says.said new'.held.sources) same b.says.holds))
-    one_step (Take name) body bytes bytes' a b = file_same name bytes bytes' told.files_are told'.files_are none none' a b
-    one_step (Remove name) body bytes bytes' a b =
+    one_step (Take name) body bytes bytes' i a b = file_same name bytes bytes' told.files_are told'.files_are none none' a b
+    one_step (Remove name) body bytes bytes' i a b =
         edited name (Removes old.held.sources name) (Removes old'.held.sources name) bytes bytes' a b
         (one_remove (get old.held.sources name) old.held.sources name a.says.said b.says.said new.held.sources new'.held.sources a.says.holds (subst (λ (t : Texts). Removes t name b.says.said new'.held.sources) same b.says.holds))
-    one_step (Ask text) body bytes bytes' a b = asked text bytes bytes' told.right told'.right none none' a b
-    one_step (Plan text) body bytes bytes' a b =
+    one_step (Ask text) body bytes bytes' i a b = asked text bytes bytes' i told.right told'.right none none' a b
+    one_step (Plan text) body bytes bytes' i a b =
         unchanged bytes bytes' (inl (same_bytes _ _ bytes bytes' a.says b.says (one_plan g text a.says.said b.says.said a.says.holds b.says.holds))) a.same b.same
-    one_step Sources body bytes bytes' a b = unchanged bytes bytes' (inl (b.0 ∙ ap (λ (t : Texts). reply_text (reply.Sources (source_lines t))) same ∙ sym a.0)) a.1 b.1
-    one_step Kept body bytes bytes' a b = unchanged bytes bytes' (inr (record { bytes_are = a.0; others_are = b.0 })) a.1 b.1
-    one_step Quit body bytes bytes' a b = unchanged bytes bytes' (inl (b.0 ∙ sym a.0)) a.1 b.1
-    one_step Nothing body bytes bytes' a b = unchanged bytes bytes' (inl (b.0 ∙ sym a.0)) a.1 b.1
-    one_step Bad body bytes bytes' a b = unchanged bytes bytes' (inl (b.0 ∙ sym a.0)) a.1 b.1
-    one_step (BadName count) body bytes bytes' a b = unchanged bytes bytes' (inl (b.0 ∙ sym a.0)) a.1 b.1
+    one_step Sources body bytes bytes' i a b = unchanged bytes bytes' (inl (b.0 ∙ ap (λ (t : Texts). reply_text (reply.Sources (source_lines t))) same ∙ sym a.0)) a.1 b.1
+    one_step Kept body bytes bytes' i a b = unchanged bytes bytes' (inr (record { bytes_are = a.0; others_are = b.0 })) a.1 b.1
+    one_step Quit body bytes bytes' i a b = unchanged bytes bytes' (inl (b.0 ∙ sym a.0)) a.1 b.1
+    one_step Nothing body bytes bytes' i a b = unchanged bytes bytes' (inl (b.0 ∙ sym a.0)) a.1 b.1
+    one_step Bad body bytes bytes' i a b = unchanged bytes bytes' (inl (b.0 ∙ sym a.0)) a.1 b.1
+    one_step (BadName count) body bytes bytes' i a b = unchanged bytes bytes' (inl (b.0 ∙ sym a.0)) a.1 b.1
 
     -- an item is one command
-    one_item : (item : Item) (bytes bytes' : List ℕ) → AnswersItem commands (Step g) old item bytes new → AnswersItem commands (Step g) old' item bytes' new' → IsSame g table bytes bytes' old new old' new'
-    one_item item bytes bytes' a b =
+    one_item : (bytes bytes' : List ℕ) → AnswersItem commands (Step g limit) old item bytes new → AnswersItem commands (Step g most) old' item bytes' new' → IsSame g table item bytes bytes' old new old' new'
+    one_item bytes bytes' a b =
         let command : b.command ≡ a.command = one_command a.command b.command (without_cr item.line) a.item_is.spelled b.item_is.spelled in
-        one_step a.command item.body bytes bytes' a.step (subst (λ (c : Command). Step g old' c item.body bytes' new') command b.step)
+        one_step a.command item.body bytes bytes' a.item_is a.step (subst (λ (c : Command). Step g most old' c item.body bytes' new') command b.step)
 
 -- ---- a transcript
 
 -- no fault is counted on the way
-parts : (g : Graph) (first last : State) (item : Item) (items : List Item) (bytes : List ℕ) (replies : List (List ℕ)) (mid : State)
-    → (a : AnswersItem commands (Step g) first item bytes mid) → Transcript commands (Step g) mid items replies last → CountsNone first last → CountsNone first mid × CountsNone mid last
-parts g first last item items bytes replies mid a run none =
-    let step = counted g first a.command item.body bytes mid a.step in
-    let rest = counts g mid last items replies run in
+parts : (g : Graph) (limit : ℕ) (first last : State) (item : Item) (items : List Item) (bytes : List ℕ) (replies : List (List ℕ)) (mid : State)
+    → (a : AnswersItem commands (Step g limit) first item bytes mid) → Transcript commands (Step g limit) mid items replies last → CountsNone first last → CountsNone first mid × CountsNone mid last
+parts g limit first last item items bytes replies mid a run none =
+    let step = counted g limit first a.command item.body bytes mid a.step in
+    let rest = counts g limit mid last items replies run in
     let tools = between first.tools.faults mid.tools.faults last.tools.faults _ _ step.starts rest.starts none.tools in
     let tree = between first.tree.faults mid.tree.faults last.tree.faults _ _ step.reads rest.reads none.tree in
     (record { tools = tools.0; tree = tree.0 }, record { tools = tools.1; tree = tree.1 })
 
 module _ (g : Graph) (table : Table) (files : Files) where
-  told_on : (first mid : State) (item : Item) (bytes : List ℕ) → AnswersItem commands (Step g) first item bytes mid → IsToldBy table files first → IsToldBy table files mid
-  told_on first mid item bytes a told =
-      let stays = step_tree g first a.command item.body bytes mid a.step in
-      record { right = step_true g table first mid told.right a.command item.body bytes a.step; files_are = stays.files ∙ told.files_are }
+  told_on : (limit : ℕ) (first mid : State) (item : Item) (bytes : List ℕ) → AnswersItem commands (Step g limit) first item bytes mid → IsToldBy table files first → IsToldBy table files mid
+  told_on limit first mid item bytes a told =
+      let stays = step_tree g limit first a.command item.body bytes mid a.step in
+      record { right = step_true g limit table first mid told.right a.command item.body bytes a.step; files_are = stays.files ∙ told.files_are }
 
   -- nothing is left to answer
-  ended : (first last first' last' : State) → first'.held.sources ≡ first.held.sources → last ≡ first → last' ≡ first' → AreSame g table [] [] [] first last first' last'
-  ended first last first' last' same run run' =
-      subst (λ (z : State). AreSame g table [] [] [] first z first' last') (sym run)
-      (subst (λ (z : State). AreSame g table [] [] [] first first first' z) (sym run')
+  ended : (limit most : ℕ) (first last first' last' : State) → first'.held.sources ≡ first.held.sources → last ≡ first → last' ≡ first' → AreSame g limit most table [] [] [] first last first' last'
+  ended limit most first last first' last' same run run' =
+      subst (λ (z : State). AreSame g limit most table [] [] [] first z first' last') (sym run)
+      (subst (λ (z : State). AreSame g limit most table [] [] [] first first first' z) (sym run')
       (record { replies = AreSideBySide.at_end first first'; sources = same; tree = λ (e : first'.tree ≡ first.tree). e }))
 
-  once : (items : List Item) (one other : List (List ℕ)) (first last first' last' : State) → first'.held.sources ≡ first.held.sources → IsToldBy table files first → IsToldBy table files first'
-      → Transcript commands (Step g) first items one last → Transcript commands (Step g) first' items other last'
-      → CountsNone first last → CountsNone first' last' → AreSame g table items one other first last first' last'
-  once [] [] [] first last first' last' same told told' run run' none none' = ended first last first' last' same run run'
-  once [] (bytes ∷ one) other first last first' last' same told told' run run' none none' = absurd run
-  once [] [] (bytes ∷ other) first last first' last' same told told' run run' none none' = absurd run'
-  once (item ∷ items) [] other first last first' last' same told told' run run' none none' = absurd run
-  once (item ∷ items) (bytes ∷ one) [] first last first' last' same told told' run run' none none' = absurd run'
-  once (item ∷ items) (bytes ∷ one) (bytes' ∷ other) first last first' last' same told told' run run' none none' =
-      let here = parts g first last item items bytes one run.0 run.1 run.2 none in
-      let here' = parts g first' last' item items bytes' other run'.0 run'.1 run'.2 none' in
-      let step = one_item g table files first run.0 first' run'.0 same told told' here.0 here'.0 item bytes bytes' run.1 run'.1 in
-      let rest = once items one other run.0 last run'.0 last' step.sources (told_on first run.0 item bytes run.1 told) (told_on first' run'.0 item bytes' run'.1 told') run.2 run'.2 here.1 here'.1 in
+  once : (limit most : ℕ) (items : List Item) (one other : List (List ℕ)) (first last first' last' : State) → first'.held.sources ≡ first.held.sources → IsToldBy table files first → IsToldBy table files first'
+      → Transcript commands (Step g limit) first items one last → Transcript commands (Step g most) first' items other last'
+      → CountsNone first last → CountsNone first' last' → AreSame g limit most table items one other first last first' last'
+  once limit most [] [] [] first last first' last' same told told' run run' none none' = ended limit most first last first' last' same run run'
+  once limit most [] (bytes ∷ one) other first last first' last' same told told' run run' none none' = absurd run
+  once limit most [] [] (bytes ∷ other) first last first' last' same told told' run run' none none' = absurd run'
+  once limit most (item ∷ items) [] other first last first' last' same told told' run run' none none' = absurd run
+  once limit most (item ∷ items) (bytes ∷ one) [] first last first' last' same told told' run run' none none' = absurd run'
+  once limit most (item ∷ items) (bytes ∷ one) (bytes' ∷ other) first last first' last' same told told' run run' none none' =
+      let here = parts g limit first last item items bytes one run.0 run.1 run.2 none in
+      let here' = parts g most first' last' item items bytes' other run'.0 run'.1 run'.2 none' in
+      let step = one_item g limit most table files item first run.0 first' run'.0 same told told' here.0 here'.0 bytes bytes' run.1 run'.1 in
+      let rest = once limit most items one other run.0 last run'.0 last' step.sources (told_on limit first run.0 item bytes run.1 told) (told_on most first' run'.0 item bytes' run'.1 told') run.2 run'.2 here.1 here'.1 in
       record {
         replies = AreSideBySide.one_more item items bytes bytes' one other first run.0 first' run'.0 last last' run.1 run'.1 step.alike step.sources rest.replies;
         sources = rest.sources;
         tree = λ (e : first'.tree ≡ first.tree). rest.tree (step.tree e);
       }
 
-pub one_transcript : (g : Graph) (table : Table) (files : Files) (items : List Item) (one other : List (List ℕ)) (first last first' last' : State) → first'.held.sources ≡ first.held.sources
+pub one_transcript : (g : Graph) (limit most : ℕ) (table : Table) (files : Files) (items : List Item) (one other : List (List ℕ)) (first last first' last' : State) → first'.held.sources ≡ first.held.sources
     → IsToldBy table files first → IsToldBy table files first'
-    → Transcript commands (Step g) first items one last → CountsNone first last
-    → Transcript commands (Step g) first' items other last' → CountsNone first' last' → AreSame g table items one other first last first' last'
-one_transcript g table files items one other first last first' last' same told told' run none run' none' =
-    once g table files items one other first last first' last' same told told' run run' none none'
+    → Transcript commands (Step g limit) first items one last → CountsNone first last
+    → Transcript commands (Step g most) first' items other last' → CountsNone first' last' → AreSame g limit most table items one other first last first' last'
+one_transcript g limit most table files items one other first last first' last' same told told' run none run' none' =
+    once g table files limit most items one other first last first' last' same told told' run run' none none'

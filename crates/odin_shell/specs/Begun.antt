@@ -1,12 +1,12 @@
 -- The session over an opened store, over every history that its opening may have.
-use Rattle.std.specs.Prelude.{◌≡◌, ◌≢◌, ℕ, []}
+use Rattle.std.specs.Prelude.{◌≡◌, ℕ, []}
 use Rattle.odin_outside.specs.Spawned.{Spawned}
 use Rattle.meaning_graph.specs.Graphs.{Text, Graph}
 use Rattle.odin_store.specs.Held.{Held}
 use Rattle.odin_journal.specs.Rest.{IsReady}
 use Rattle.odin_engine.specs.Engaged.{Engaged}
 use Rattle.odin_shell.specs.declared.ending.Ending.{Ending}
-use Rattle.odin_shell.specs.declared.ending.Ending.TheVariants.{Memory}
+use Rattle.odin_shell.specs.Endings.{LeavesTools}
 use Rattle.odin_shell.specs.Filed.{DiskMeaning}
 use Rattle.odin_shell.specs.Machine.{at_first, Told, Belongs}
 use Rattle.odin_shell.specs.Objects.{SourceTold}
@@ -19,15 +19,15 @@ pub record MayBegin (code : Engaged) (size : ℕ) (tools : Spawned) : Type 0 whe
   pub idle : tools.running ≡ []
 
 module _ {D : Type 0} (disk : DiskMeaning D) where
-  -- The store was opened over this graph, from what was held when the run started.
-  pub record BeginsWith (g : Graph) (text : Text) (held : Held) (start : Told D) (code : Engaged) (before : Told D) : Type 0 where
+  -- The store was opened over this graph, for so many tools at once, from what was held when the run started.
+  pub record BeginsWith (g : Graph) (text : Text) (limit : ℕ) (held : Held) (start : Told D) (code : Engaged) (before : Told D) : Type 0 where
     pub sink : before.sink ≡ start.sink
-    pub fits : Belongs disk g text (at_first held start.tools start.tree) start code (at_first held start.tools start.tree) before
+    pub fits : Belongs disk g text limit (at_first held start.tools start.tree) start code (at_first held start.tools start.tree) before
 
   -- A session ended so, whatever it began with.
   pub record SessionServes (code : Engaged) (input left : SourceTold) (before after : Told D) (ending : Ending) : Type 0 where
-    pub leaves : (g : Graph) (text : Text) (held : Held) (start : Told D) → BeginsWith g text held start code before
-        → SessionLeaves disk g text held ending input.left left.left start after
+    pub leaves : (g : Graph) (text : Text) (limit : ℕ) (held : Held) (start : Told D) → BeginsWith g text limit held start code before
+        → SessionLeaves disk g text limit held ending input.left left.left start after
     pub read : InputCount ending input.faults left.faults
     pub counted : DiskCount ending (disk.faults before.disk) (disk.faults after.disk)
-    pub idle : ending ≢ Memory → after.tools.running ≡ []
+    pub idle : ¬ LeavesTools ending → after.tools.running ≡ []

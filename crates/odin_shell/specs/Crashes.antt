@@ -25,11 +25,11 @@ use Rattle.odin_shell.specs.Language.{commands}
 use Rattle.odin_shell.specs.Machine.{State, Told, Step, MayLeave, IsLeft}
 
 -- A session has come this far over these items: all are answered, or the last of them was begun and has no reply.
-pub data ComesTo (g : Graph) (first : State) : List Item → State → Type 0 where
-  answered : (items : List Item) (replies : List (List ℕ)) (state : State) → Transcript commands (Step g) first items replies state → ComesTo g first items state
+pub data ComesTo (g : Graph) (limit : ℕ) (first : State) : List Item → State → Type 0 where
+  answered : (items : List Item) (replies : List (List ℕ)) (state : State) → Transcript commands (Step g limit) first items replies state → ComesTo g limit first items state
   begun : (items : List Item) (replies : List (List ℕ)) (state : State) (item : Item) (command : Command) (furthest : State)
-      → Transcript commands (Step g) first items replies state → IsItem commands item command → MayLeave g state command item.body furthest
-      → ComesTo g first (items ++ item ∷ []) furthest
+      → Transcript commands (Step g limit) first items replies state → IsItem commands item command → MayLeave g limit state command item.body furthest
+      → ComesTo g limit first (items ++ item ∷ []) furthest
 
 -- The item asks for a node, and the call is one of that node by the sources that are held then, whatever else comes to be known than what is
 -- kept and was given.
@@ -42,40 +42,40 @@ pub record IsCallOfAsk (g : Graph) (old : State) (item : Item) (call : Call) : T
   pub from : (outcomes : Outcomes) → Agrees old.held.calls given outcomes → IsCallFrom g (derived g old.held.sources outcomes) node call
 
 -- It is one of an ask among these items.
-pub record ComesOfAsk (g : Graph) (first : State) (items : List Item) (call : Call) : Type 0 where
+pub record ComesOfAsk (g : Graph) (limit : ℕ) (first : State) (items : List Item) (call : Call) : Type 0 where
   pub front : List Item
   pub item : Item
   pub rest : List Item
   pub cuts : items ≡ front ++ item ∷ rest
   pub replies : List (List ℕ)
   pub old : State
-  pub run : Transcript commands (Step g) first front replies old
+  pub run : Transcript commands (Step g limit) first front replies old
   pub is : IsCallOfAsk g old item call
 
 -- A call was kept at the start, or is one of an ask.
-abbrev pub IsOurs : Graph → State → List Item → Call → Type 0
-IsOurs g first items call = IsSome (kept_outcome first.held.calls call) ⊎ ComesOfAsk g first items call
+abbrev pub IsOurs : Graph → ℕ → State → List Item → Call → Type 0
+IsOurs g limit first items call = IsSome (kept_outcome first.held.calls call) ⊎ ComesOfAsk g limit first items call
 
 -- The image stands for what the first of the changes made, at least so many of them. Each call that it keeps is ours, and has the outcome
 -- that a table gives by which the tools answer.
-pub record HoldsOurs (g : Graph) (first : State) (items : List Item) (furthest : State) (least : ℕ) (image : List ℕ) : Type 0 where
+pub record HoldsOurs (g : Graph) (limit : ℕ) (first : State) (items : List Item) (furthest : State) (least : ℕ) (image : List ℕ) : Type 0 where
   pub held : Held
   pub stands : StandsFor held image
   pub count : ℕ
   pub at_least : least ≤ count
   pub is : held ≡ after store_keeping (take count furthest.changes) first.held
-  pub calls : (call : Call) → IsSome (kept_outcome held.calls call) → IsOurs g first items call
+  pub calls : (call : Call) → IsSome (kept_outcome held.calls call) → IsOurs g limit first items call
   pub right : (table : Table) → IsTrueFor table first.tools first.held.calls → HasMore (kept_outcome held.calls) (table_outcomes table)
 
 module _ {D : Type 0} (disk : DiskMeaning D) where
   -- At an exit of a session that began with no change, over a disk on which nothing was pending: an image that a crash since the start may
   -- have left, and one that a crash may leave now, with all that is acknowledged.
-  pub record LeavesOurs (g : Graph) (first : State) (items : List Item) (start : Told D) (acknowledged furthest : State) (now : Told D) : Type 0 where
-    pub since : (image : List ℕ) → (disk.told now.disk).left_since (disk.told start.disk).moment image → HoldsOurs g first items furthest 0 image
-    pub left : (image : List ℕ) → MayBeLeft (disk.told now.disk) image → HoldsOurs g first items furthest (length acknowledged.changes) image
+  pub record LeavesOurs (g : Graph) (limit : ℕ) (first : State) (items : List Item) (start : Told D) (acknowledged furthest : State) (now : Told D) : Type 0 where
+    pub since : (image : List ℕ) → (disk.told now.disk).left_since (disk.told start.disk).moment image → HoldsOurs g limit first items furthest 0 image
+    pub left : (image : List ℕ) → MayBeLeft (disk.told now.disk) image → HoldsOurs g limit first items furthest (length acknowledged.changes) image
 
   abbrev pub ImagesHoldOurs : Type 0
   ImagesHoldOurs =
-      (g : Graph) (text : Text) (first : State) (items : List Item) (start : Told D) (acknowledged furthest : State) (now : Told D)
-      → first.changes ≡ [] → IsQuiet (disk.told start.disk) → ComesTo g first items furthest
-      → IsLeft disk g text first start acknowledged furthest now → LeavesOurs g first items start acknowledged furthest now
+      (g : Graph) (limit : ℕ) (text : Text) (first : State) (items : List Item) (start : Told D) (acknowledged furthest : State) (now : Told D)
+      → first.changes ≡ [] → IsQuiet (disk.told start.disk) → ComesTo g limit first items furthest
+      → IsLeft disk g text limit first start acknowledged furthest now → LeavesOurs g limit first items start acknowledged furthest now

@@ -1,5 +1,5 @@
 -- The ways in which a run ends, each with its status.
-use Rattle.std.specs.Prelude.{ℕ}
+use Rattle.std.specs.Prelude.{⊤, ℕ}
 use Rattle.odin_shell.specs.declared.ending.Ending.{Ending}
 use Rattle.odin_shell.specs.declared.ending.Ending.TheVariants.{Whole, CutShort, BadGraph, Disk, Memory, Output, Input, NotOurs, Full, Usage, TooLong, Loaded, Room}
 use Rattle.odin_journal.specs.declared.fault.JournalFault.{JournalFault}
@@ -21,6 +21,13 @@ status_of Usage = 9
 status_of TooLong = 10
 status_of Loaded = 0
 status_of Room = 3
+
+-- the endings that leave what runs: those of the store's faults, and want of memory
+abbrev pub LeavesTools : Ending → Type 0
+LeavesTools Disk = ⊤
+LeavesTools Memory = ⊤
+LeavesTools (Full at size) = ⊤
+LeavesTools other = ⊥
 
 -- how a run ends whose serving stopped
 abbrev pub ending_of : Stop → Ending

@@ -68,6 +68,19 @@ pub record IsFull (text : Text) (furthest : List Change) (start now : Telling) (
 
 -- ---- what stays
 
+-- The file has the batches of all these changes, and every image that a crash may leave now has them.
+pub record HoldsAll (text : Text) (held : Held) (changes : List Change) (start now : Telling) : Type 0 where
+  pub store : Store
+  pub written : HasWritten text changes start store now
+  pub crash : Leaves store_keeping held start changes changes now
+
+-- Every such image has all of these changes but the last.
+pub record LacksLast (held : Held) (changes : List Change) (start now : Telling) : Type 0 where
+  pub front : List Change
+  pub change : Change
+  pub whole : changes ≡ front ++ change ∷ []
+  pub crash : Leaves store_keeping held start front changes now
+
 -- the file stands for this, where nothing is pending on it
 abbrev pub StartsFrom : Telling → Held → Type 0
 StartsFrom start held = IsQuiet start → StandsFor held start.seen

@@ -11,6 +11,7 @@ use Rattle.meaning_run.specs.Items.{Item, IsItem, OneCut}
 use Rattle.meaning_run.specs.Machines.{AnswersItem, Transcript}
 use Rattle.meaning_answers.specs.Laws.{BothShowChains}
 use Rattle.meaning_commands.specs.declared.commands.Command.{Command}
+use Rattle.meaning_commands.specs.declared.commands.Command.TheVariants.{Ask}
 use Rattle.meaning_commands.specs.declared.replies.Reply.{Reply}
 use Rattle.meaning_commands.specs.declared.replies.Reply.TheVariants.{Kept, RefusedRead, RefusedToolStart}
 use Rattle.meaning_commands.specs.Replies.{reply_text}
@@ -40,12 +41,12 @@ OpenedIsOne = (given : Option Text) (o p : Opened) → IsOpened given o → IsOp
 
 -- Behind each command, with its reply or without, the sources are names with texts that are not too long.
 pub record SourcesStay : Type 0 where
-  pub replied : (g : Graph) (old new : State) (item : Item) (command : Command) (reply : List ℕ)
+  pub replied : (g : Graph) (limit : ℕ) (old new : State) (item : Item) (command : Command) (reply : List ℕ)
       → AreSources old.held.sources → IsItem commands item command
-      → Step g old command item.body reply new → AreSources new.held.sources
-  pub left : (g : Graph) (old furthest : State) (item : Item) (command : Command)
+      → Step g limit old command item.body reply new → AreSources new.held.sources
+  pub left : (g : Graph) (limit : ℕ) (old furthest : State) (item : Item) (command : Command)
       → AreSources old.held.sources → IsItem commands item command
-      → MayLeave g old command item.body furthest → AreSources furthest.held.sources
+      → MayLeave g limit old command item.body furthest → AreSources furthest.held.sources
 
 -- These changes were made on the way, and what is held at its end is what they make of what was held before it.
 pub record IsMade (first last : State) : Type 0 where
@@ -55,20 +56,20 @@ pub record IsMade (first last : State) : Type 0 where
 
 -- What is held behind a transcript is what its changes made, and so is what a command without a reply leaves.
 pub record HeldIsMade : Type 0 where
-  pub replied : (g : Graph) (first last : State) (items : List Item) (replies : List (List ℕ))
-      → Transcript commands (Step g) first items replies last → IsMade first last
-  pub left : (g : Graph) (old furthest : State) (command : Command) (body : List ℕ)
-      → MayLeave g old command body furthest → IsMade old furthest
+  pub replied : (g : Graph) (limit : ℕ) (first last : State) (items : List Item) (replies : List (List ℕ))
+      → Transcript commands (Step g limit) first items replies last → IsMade first last
+  pub left : (g : Graph) (limit : ℕ) (old furthest : State) (command : Command) (body : List ℕ)
+      → MayLeave g limit old command body furthest → IsMade old furthest
 
 -- Where the tools answer by a table what is kept stays what it gives, whatever is kept more.
 pub record KeptStaysTrue : Type 0 where
-  pub replied : (g : Graph) (table : Table) (first last : State) (items : List Item)
-      (replies : List (List ℕ)) → IsTrueFor table first.tools first.held.calls
-      → Transcript commands (Step g) first items replies last
+  pub replied : (g : Graph) (limit : ℕ) (table : Table) (first last : State)
+      (items : List Item) (replies : List (List ℕ)) → IsTrueFor table first.tools first.held.calls
+      → Transcript commands (Step g limit) first items replies last
       → IsTrueFor table last.tools last.held.calls
-  pub left : (g : Graph) (table : Table) (old furthest : State) (command : Command)
-      (body : List ℕ) → IsTrueFor table old.tools old.held.calls
-      → MayLeave g old command body furthest → IsTrueFor table furthest.tools furthest.held.calls
+  pub left : (g : Graph) (limit : ℕ) (table : Table) (old furthest : State)
+      (command : Command) (body : List ℕ) → IsTrueFor table old.tools old.held.calls
+      → MayLeave g limit old command body furthest → IsTrueFor table furthest.tools furthest.held.calls
 
 -- ---- replies that tell faults
 
@@ -87,8 +88,8 @@ pub record FitsCounts (first last : State) (replies : List (List ℕ)) : Type 0 
 
 abbrev pub RefusalsAreCounted : Type 0
 RefusalsAreCounted =
-    (g : Graph) (first last : State) (items : List Item) (replies : List (List ℕ))
-    → Transcript commands (Step g) first items replies last → FitsCounts first last replies
+    (g : Graph) (limit : ℕ) (first last : State) (items : List Item) (replies : List (List ℕ))
+    → Transcript commands (Step g limit) first items replies last → FitsCounts first last replies
 
 -- From the one count to the other no fault was counted. A count at its last number may hide one.
 pub record NoFault (first last : ℕ) : Type 0 where
@@ -102,10 +103,11 @@ pub record CountsNone (first last : State) : Type 0 where
 
 -- ---- transcripts of the same items
 
--- Both replies show chains of the node of one text over these sources.
-pub record BothRefuse (g : Graph) (table : Table) (texts : Texts)
+-- The item asks for a text, and both replies show chains of its node over these sources.
+pub record BothRefuse (g : Graph) (table : Table) (texts : Texts) (item : Item)
     (bytes others : List ℕ) : Type 0 where
   pub text : Text
+  pub asks : IsItem commands item (Ask text)
   pub reply : Reply
   pub other : Reply
   pub bytes_are : bytes ≡ reply_text reply
@@ -124,28 +126,28 @@ pub record SaysSame (bytes others : List ℕ) (old new old' new' : State) : Type
   pub kept : KeepSame old.held.calls old'.held.calls → KeepSame new.held.calls new'.held.calls
 
 -- The same item is answered alike: by the same reply, but for the choice of the chain that a refusal shows.
-abbrev pub AreAlike : Graph → Table → List ℕ → List ℕ → State → State → State → State → Type 0
-AreAlike g table bytes others old new old' new' =
-    SaysSame bytes others old new old' new' ⊎ BothRefuse g table old.held.sources bytes others
+abbrev pub AreAlike : Graph → Table → Item → List ℕ → List ℕ → State → State → State → State → Type 0
+AreAlike g table item bytes others old new old' new' =
+    SaysSame bytes others old new old' new' ⊎ BothRefuse g table old.held.sources item bytes others
 
--- Two transcripts of the same items, side by side: each item is answered alike, and the sources
--- behind it are the same.
-pub data AreSideBySide (g : Graph) (table : Table)
+-- Two transcripts of the same items, side by side, each with its own limit of tools: each item is
+-- answered alike, and the sources behind it are the same.
+pub data AreSideBySide (g : Graph) (limit most : ℕ) (table : Table)
     : State → State → List Item → List (List ℕ) → List (List ℕ) → State → State → Type 0 where
-  at_end : (last last' : State) → AreSideBySide g table last last' [] [] [] last last'
+  at_end : (last last' : State) → AreSideBySide g limit most table last last' [] [] [] last last'
   one_more : (item : Item) (items : List Item) (bytes others : List ℕ)
       (replies rest : List (List ℕ)) (old new old' new' last last' : State)
-      → AnswersItem commands (Step g) old item bytes new
-      → AnswersItem commands (Step g) old' item others new'
-      → AreAlike g table bytes others old new old' new' → new'.held.sources ≡ new.held.sources
-      → AreSideBySide g table new new' items replies rest last last'
-      → AreSideBySide g table old old' (item ∷ items) (bytes ∷ replies) (others ∷ rest) last last'
+      → AnswersItem commands (Step g limit) old item bytes new
+      → AnswersItem commands (Step g most) old' item others new'
+      → AreAlike g table item bytes others old new old' new' → new'.held.sources ≡ new.held.sources
+      → AreSideBySide g limit most table new new' items replies rest last last'
+      → AreSideBySide g limit most table old old' (item ∷ items) (bytes ∷ replies) (others ∷ rest) last last'
 
 -- The replies are alike one by one, and the sources in the end are the same, and so is what is told
 -- of the tree where it was the same at the start.
-pub record AreSame (g : Graph) (table : Table) (items : List Item) (one other : List (List ℕ))
-    (first last first' last' : State) : Type 0 where
-  pub replies : AreSideBySide g table first first' items one other last last'
+pub record AreSame (g : Graph) (limit most : ℕ) (table : Table) (items : List Item)
+    (one other : List (List ℕ)) (first last first' last' : State) : Type 0 where
+  pub replies : AreSideBySide g limit most table first first' items one other last last'
   pub sources : last'.held.sources ≡ last.held.sources
   pub tree : first'.tree ≡ first.tree → last'.tree ≡ last.tree
 
@@ -154,13 +156,14 @@ pub record IsToldBy (table : Table) (files : Files) (first : State) : Type 0 whe
   pub right : IsTrueFor table first.tools first.held.calls
   pub files_are : first.tree.files ≡ Some files
 
--- Where a table and the files are told and no fault is counted, items have one transcript at most from the same sources, whatever is kept:
--- so with nothing kept, too.
+-- Where a table and the files are told and no fault is counted, items have one transcript at most from the same sources, whatever is kept
+-- and however many tools may run at once: so with nothing kept and one tool at a time, too.
 abbrev pub TranscriptIsOne : Type 0
 TranscriptIsOne =
-    (g : Graph) (table : Table) (files : Files) (items : List Item) (one other : List (List ℕ))
-    (first last first' last' : State) → first'.held.sources ≡ first.held.sources
+    (g : Graph) (limit most : ℕ) (table : Table) (files : Files) (items : List Item)
+    (one other : List (List ℕ)) (first last first' last' : State)
+    → first'.held.sources ≡ first.held.sources
     → IsToldBy table files first → IsToldBy table files first'
-    → Transcript commands (Step g) first items one last → CountsNone first last
-    → Transcript commands (Step g) first' items other last' → CountsNone first' last'
-    → AreSame g table items one other first last first' last'
+    → Transcript commands (Step g limit) first items one last → CountsNone first last
+    → Transcript commands (Step g most) first' items other last' → CountsNone first' last'
+    → AreSame g limit most table items one other first last first' last'

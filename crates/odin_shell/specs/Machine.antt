@@ -1,5 +1,6 @@
 -- The machine of a session: what each command replies, what the outside does for it, and what is held after it.
 use Rattle.std.specs.Prelude.{◌≡◌, ◌≢◌, ◌⊎◌, ℕ, ◌≤◌, List, [], ◌∷◌, ◌++◌, length, Option, Some, None}
+use Rattle.odin_outside.specs.Causes.{Rose}
 use Rattle.odin_outside.specs.Disk.{IsQuiet}
 use Rattle.odin_outside.specs.Spawned.{Spawned}
 use Rattle.disk_trails.specs.Trails.{Trail, after}
@@ -25,7 +26,7 @@ use Rattle.meaning_commands.specs.declared.replies.Reply.TheVariants as reply
 use Rattle.meaning_commands.specs.Replies.{reply_text}
 use Rattle.odin_shell.specs.declared.stop.Stop.{Stop}
 use Rattle.odin_shell.specs.declared.stop.Stop.TheVariants as stop
-use Rattle.odin_shell.specs.Filed.{DiskMeaning, HasWritten, IsFull, IsSafe}
+use Rattle.odin_shell.specs.Filed.{DiskMeaning, HasWritten, HoldsAll, LacksLast, IsFull, IsSafe}
 use Rattle.source_edits.specs.Edits.{Says, TreeTold, TreeStays, IsAsked, Puts, Takes, Removes, source_lines}
 use Rattle.source_edits.specs.Changes.{edit_changes}
 
@@ -72,10 +73,10 @@ pub record EditsByFile (name : Text) (old : State) (bytes : List ℕ) (new : Sta
   pub tools : new.tools ≡ old.tools
 
 -- The object of a text is answered as it is derived from the present sources with nothing kept; it may be refused where the count of the
--- tools' faults rose. Tools run only as its derivation calls them, and each outcome is kept.
-pub record Asks (g : Graph) (text : Text) (old : State) (bytes : List ℕ) (new : State) : Type 0 where
+-- tools' faults rose. Tools run only as its derivation calls them, as many at once as may, and each outcome is kept.
+pub record Asks (g : Graph) (limit : ℕ) (text : Text) (old : State) (bytes : List ℕ) (new : State) : Type 0 where
   pub given : Calls
-  pub says : Says (λ said. IsReply g old.held.sources old.held.calls text said given old.tools new.tools) bytes
+  pub says : Says (λ said. IsReply g old.held.sources old.held.calls limit text said given old.tools new.tools) bytes
   pub makes : Makes (keeps_of given) old new
   pub tree : new.tree ≡ old.tree
 
@@ -88,19 +89,20 @@ pub record Shows (P : Reply → Type 0) (old : State) (bytes : List ℕ) (new : 
 abbrev pub Replies : Reply → State → List ℕ → State → Type 0
 Replies said old bytes new = (bytes ≡ reply_text said) × (new ≡ old)
 
--- From the old state the command with these bytes behind its line gets this reply, and the new state comes after it.
-abbrev pub Step : Graph → State → Command → List ℕ → List ℕ → State → Type 0
-Step g old (Put name count) body bytes new = Edits name (Puts old.held.sources name count body) old bytes new
-Step g old (Take name) body bytes new = EditsByFile name old bytes new
-Step g old (Remove name) body bytes new = Edits name (Removes old.held.sources name) old bytes new
-Step g old (Ask text) body bytes new = Asks g text old bytes new
-Step g old (Plan text) body bytes new = Shows (answers.Plan g text) old bytes new
-Step g old Sources body bytes new = Replies (reply.Sources (source_lines old.held.sources)) old bytes new
-Step g old Kept body bytes new = Replies (reply.Kept (length old.held.calls)) old bytes new
-Step g old Quit body bytes new = Replies reply.Bye old bytes new
-Step g old Nothing body bytes new = (bytes ≡ []) × (new ≡ old)
-Step g old Bad body bytes new = Replies reply.RefusedCommand old bytes new
-Step g old (BadName count) body bytes new = Replies reply.RefusedName old bytes new
+-- From the old state the command with these bytes behind its line gets this reply, and the new state comes after it. So many tools may run at
+-- once.
+abbrev pub Step : Graph → ℕ → State → Command → List ℕ → List ℕ → State → Type 0
+Step g limit old (Put name count) body bytes new = Edits name (Puts old.held.sources name count body) old bytes new
+Step g limit old (Take name) body bytes new = EditsByFile name old bytes new
+Step g limit old (Remove name) body bytes new = Edits name (Removes old.held.sources name) old bytes new
+Step g limit old (Ask text) body bytes new = Asks g limit text old bytes new
+Step g limit old (Plan text) body bytes new = Shows (answers.Plan g text) old bytes new
+Step g limit old Sources body bytes new = Replies (reply.Sources (source_lines old.held.sources)) old bytes new
+Step g limit old Kept body bytes new = Replies (reply.Kept (length old.held.calls)) old bytes new
+Step g limit old Quit body bytes new = Replies reply.Bye old bytes new
+Step g limit old Nothing body bytes new = (bytes ≡ []) × (new ≡ old)
+Step g limit old Bad body bytes new = Replies reply.RefusedCommand old bytes new
+Step g limit old (BadName count) body bytes new = Replies reply.RefusedName old bytes new
 
 -- ---- commands without a reply
 
@@ -118,35 +120,39 @@ pub record MayEdit (Asked : Change → Type 0) (old new : State) : Type 0 where
   pub makes : Makes changes old new
   pub tools : new.tools ≡ old.tools
 
--- An `ask` may have begun its derivation.
-pub record MayHaveAsked (g : Graph) (text : Text) (old new : State) : Type 0 where
+-- An `ask` may have begun its derivation: each outcome that came of it is kept, but for the last at most.
+pub record MayHaveAsked (g : Graph) (limit : ℕ) (text : Text) (old new : State) : Type 0 where
   pub given : Calls
-  pub begun : MayHaveBegun g old.held.sources old.held.calls text given old.tools new.tools
+  pub rest : Calls
+  pub few : length rest ≤ 1
+  pub begun : MayHaveBegun g old.held.sources old.held.calls limit text (given ++ rest) old.tools new.tools
   pub makes : Makes (keeps_of given) old new
   pub tree : new.tree ≡ old.tree
 
 -- What a command without its reply may leave: of an edit its change; of an `ask` its derivation, as far as it was begun; of a `take` that the
 -- tree was asked; of any other command nothing.
-abbrev pub MayLeave : Graph → State → Command → List ℕ → State → Type 0
-MayLeave g old (Put name count) body new = MayEdit (IsPutChange name count body) old new × (new.tree ≡ old.tree)
-MayLeave g old (Take name) body new = MayEdit (IsTakeChange name old.tree) old new × IsAsked old.tree new.tree
-MayLeave g old (Remove name) body new = MayEdit (λ change. change ≡ drops name) old new × (new.tree ≡ old.tree)
-MayLeave g old (Ask text) body new = MayHaveAsked g text old new
-MayLeave g old other body new = new ≡ old
+abbrev pub MayLeave : Graph → ℕ → State → Command → List ℕ → State → Type 0
+MayLeave g limit old (Put name count) body new = MayEdit (IsPutChange name count body) old new × (new.tree ≡ old.tree)
+MayLeave g limit old (Take name) body new = MayEdit (IsTakeChange name old.tree) old new × IsAsked old.tree new.tree
+MayLeave g limit old (Remove name) body new = MayEdit (λ change. change ≡ drops name) old new × (new.tree ≡ old.tree)
+MayLeave g limit old (Ask text) body new = MayHaveAsked g limit text old new
+MayLeave g limit old other body new = new ≡ old
 
 -- ---- between two commands, and at an exit
 
--- What stays of the tools: their answers; no count of faults falls, and at most one of them runs.
+-- What stays of the tools: their answers; no count of faults falls, and no more of them run than may ever run at once.
 pub record ToolsStay (start now : Spawned) : Type 0 where
   pub answers : now.answer ≡ start.answer
   pub later : start.faults ≤ now.faults
-  pub few : length now.running ≤ 1
+  pub few : length now.running ≤ 64
 
-module _ {Disk : Type 0} (disk : DiskMeaning Disk) (g : Graph) (text : Text) where
-  -- Between two commands the store holds what the state does, and rests on its file; tools and tree are told as in the state, and no tool
-  -- runs. No fault of the disk was counted.
+module _ {Disk : Type 0} (disk : DiskMeaning Disk) (g : Graph) (text : Text) (limit : ℕ) where
+  -- Between two commands the engine works by this graph and this limit, 64 at most; the store holds what the state does, and rests on its file; tools and
+  -- tree are told as in the state, and no tool runs. No fault of the disk was counted.
   pub record Belongs (first : State) (start : Told Disk) (code : Engaged) (state : State) (now : Told Disk) : Type 0 where
     pub graph : code.graph ≡ g
+    pub jobs : code.jobs ≡ limit
+    pub few : limit ≤ 64
     pub held : held_in code.store ≡ state.held
     pub tools : now.tools ≡ state.tools
     pub tree : now.tree ≡ state.tree
@@ -159,13 +165,13 @@ module _ {Disk : Type 0} (disk : DiskMeaning Disk) (g : Graph) (text : Text) whe
     pub written : IsQuiet (disk.told start.disk) → HasWritten text state.changes (disk.told start.disk) code.store (disk.told now.disk)
     pub within : now.over ≡ None
 
-  -- the store stopped the session: its disk failed, or a batch didn't fit
-  abbrev pub StoreStopped : Told Disk → Told Disk → Type 0
-  StoreStopped start now = (disk.faults now.disk ≢ disk.faults start.disk) ⊎ (now.over ≢ None)
+  -- its disk failed, or a batch didn't fit
+  abbrev pub StoreFailed : Told Disk → Told Disk → Type 0
+  StoreFailed start now = Rose (disk.faults start.disk) (disk.faults now.disk) ⊎ (now.over ≢ None)
 
   -- At an exit tools and tree have done what they did in the furthest state, and no more, and no fault is acknowledged that they have not
-  -- counted. Where the store stopped the session, no start was refused behind what is acknowledged. All changes that are acknowledged are in
-  -- every image that a crash may leave.
+  -- counted. All changes that are acknowledged are in every image that a crash may leave; and so are all others, but for the last one, where
+  -- the disk failed at it or its batch didn't fit.
   pub record IsLeft (first : State) (start : Told Disk) (acknowledged furthest : State) (now : Told Disk) : Type 0 where
     pub tools : now.tools ≡ furthest.tools
     pub tree : now.tree ≡ furthest.tree
@@ -173,15 +179,16 @@ module _ {Disk : Type 0} (disk : DiskMeaning Disk) (g : Graph) (text : Text) whe
     pub tree_counted : acknowledged.tree.faults ≤ now.tree.faults
     pub stay : ToolsStay start.tools now.tools
     pub tree_stays : TreeStays start.tree now.tree
-    pub unrefused : StoreStopped start now → furthest.tools.faults ≡ acknowledged.tools.faults
     pub safe : IsSafe text first.held acknowledged.changes furthest.changes (disk.told start.disk) (disk.told now.disk) (disk.faults start.disk) (disk.faults now.disk)
+    pub lasting : IsQuiet (disk.told start.disk) → HoldsAll text first.held furthest.changes (disk.told start.disk) (disk.told now.disk)
+        ⊎ (StoreFailed start now × LacksLast first.held furthest.changes (disk.told start.disk) (disk.told now.disk))
     pub full : (at size : ℕ) → now.over ≡ Some (at, size) → IsFull text furthest.changes (disk.told start.disk) (disk.told now.disk) at size
 
   abbrev pub machine : Machine Command Engaged State (Told Disk)
   machine = record {
     sink = λ told. told.sink;
-    Step = Step g;
-    MayLeave = λ state command body furthest. MayLeave g state command body furthest;
+    Step = Step g limit;
+    MayLeave = λ state command body furthest. MayLeave g limit state command body furthest;
     Invariant = λ first start code state now. Belongs first start code state now;
     AtExit = λ first start acknowledged furthest now. IsLeft first start acknowledged furthest now;
   }

@@ -17,7 +17,7 @@ use Rattle.odin_store.specs.Held.{Held}
 use Rattle.odin_store.specs.Opening as store
 use Rattle.odin_shell.specs.declared.ending.Ending.{Ending}
 use Rattle.odin_shell.specs.declared.ending.Ending.TheVariants.{Whole, CutShort, BadGraph, Disk, Memory, Output, Input, NotOurs, Full, Usage, TooLong, Loaded, Room}
-use Rattle.odin_shell.specs.Endings.{status_of}
+use Rattle.odin_shell.specs.Endings.{status_of, LeavesTools}
 use Rattle.odin_words.specs.Asked.{AsksFor, IsNotAccepted, Serve, Load}
 use Rattle.load_session.specs.declared.loaded.Loaded.{Loaded as Counts}
 use Rattle.load_session.specs.Loads.{IsLoaded, IsLoadFault}
@@ -41,19 +41,19 @@ pub data LastLine (line : Text) (due : Ending) (before now : SinkTold) : Ending 
 
 -- What a session has read of its input and written, from what its file stood for at the start, what its tools and the tree did, and what
 -- its file has, by the way it ended. At 0 its input was read to the end, or up to the command that ends the run.
-abbrev pub SessionLeaves : {D : Type 0} → DiskMeaning D → Graph → Text → Held → Ending → Option (List ℕ) → Option (List ℕ) → Told D → Told D → Type 0
-SessionLeaves disk g text held Whole input left start now =
-    HasRead (EndsWhole commands (machine disk g text) (at_first held start.tools start.tree) start now) input left
-    ⊎ HasRead (EndsAtWord commands (machine disk g text) (at_first held start.tools start.tree) start now) input left
-SessionLeaves disk g text held CutShort input left start now = HasRead (EndsCutShort commands (machine disk g text) (at_first held start.tools start.tree) start now) input left
-SessionLeaves disk g text held Disk input left start now = HasRead (EndsBeforeReply commands (machine disk g text) (at_first held start.tools start.tree) start now) input left
-SessionLeaves disk g text held Memory input left start now = HasRead (EndsBeforeReply commands (machine disk g text) (at_first held start.tools start.tree) start now) input left
-SessionLeaves disk g text held Output input left start now = HasRead (EndsWithinReply commands (machine disk g text) (at_first held start.tools start.tree) start now) input left
-SessionLeaves disk g text held Input input left start now = HasRead (EndsUnread commands (machine disk g text) (at_first held start.tools start.tree) start now) input left
-SessionLeaves disk g text held (Full at size) input left start now =
-    HasRead (EndsBeforeReply commands (machine disk g text) (at_first held start.tools start.tree) start (record now { over = Some (at, size) })) input left
-SessionLeaves disk g text held TooLong input left start now = HasRead (EndsAtLimit commands (machine disk g text) (at_first held start.tools start.tree) start now) input left
-SessionLeaves disk g text held other input left start now = ⊥
+abbrev pub SessionLeaves : {D : Type 0} → DiskMeaning D → Graph → Text → ℕ → Held → Ending → Option (List ℕ) → Option (List ℕ) → Told D → Told D → Type 0
+SessionLeaves disk g text limit held Whole input left start now =
+    HasRead (EndsWhole commands (machine disk g text limit) (at_first held start.tools start.tree) start now) input left
+    ⊎ HasRead (EndsAtWord commands (machine disk g text limit) (at_first held start.tools start.tree) start now) input left
+SessionLeaves disk g text limit held CutShort input left start now = HasRead (EndsCutShort commands (machine disk g text limit) (at_first held start.tools start.tree) start now) input left
+SessionLeaves disk g text limit held Disk input left start now = HasRead (EndsBeforeReply commands (machine disk g text limit) (at_first held start.tools start.tree) start now) input left
+SessionLeaves disk g text limit held Memory input left start now = HasRead (EndsBeforeReply commands (machine disk g text limit) (at_first held start.tools start.tree) start now) input left
+SessionLeaves disk g text limit held Output input left start now = HasRead (EndsWithinReply commands (machine disk g text limit) (at_first held start.tools start.tree) start now) input left
+SessionLeaves disk g text limit held Input input left start now = HasRead (EndsUnread commands (machine disk g text limit) (at_first held start.tools start.tree) start now) input left
+SessionLeaves disk g text limit held (Full at size) input left start now =
+    HasRead (EndsBeforeReply commands (machine disk g text limit) (at_first held start.tools start.tree) start (record now { over = Some (at, size) })) input left
+SessionLeaves disk g text limit held TooLong input left start now = HasRead (EndsAtLimit commands (machine disk g text limit) (at_first held start.tools start.tree) start now) input left
+SessionLeaves disk g text limit held other input left start now = ⊥
 
 -- the count of the input's faults rises at this ending alone
 abbrev pub InputCount : Ending → ℕ → ℕ → Type 0
@@ -65,14 +65,14 @@ abbrev pub DiskCount : Ending → ℕ → ℕ → Type 0
 DiskCount Disk before now = IsCounted before now
 DiskCount other before now = now ≡ before
 
--- A session over a graph ended so, from what its file stood for.
-pub record SessionEnds {D : Type 0} (disk : DiskMeaning D) (g : Graph) (text : Text) (input left : SourceTold) (start now : Told D) (ending : Ending) : Type 0 where
+-- A session over a graph ended so, from what its file stood for, with at most so many tools at once.
+pub record SessionEnds {D : Type 0} (disk : DiskMeaning D) (g : Graph) (text : Text) (limit : ℕ) (input left : SourceTold) (start now : Told D) (ending : Ending) : Type 0 where
   pub held : Held
   pub starts : StartsFrom (disk.told start.disk) held
-  pub leaves : SessionLeaves disk g text held ending input.left left.left start now
+  pub leaves : SessionLeaves disk g text limit held ending input.left left.left start now
   pub read : InputCount ending input.faults left.faults
   pub counted : DiskCount ending (disk.faults start.disk) (disk.faults now.disk)
-  pub idle : ending ≢ Memory → now.tools.running ≡ []
+  pub idle : ¬ LeavesTools ending → now.tools.running ≡ []
 
 -- A last line where this ending is due, or want of memory before it.
 abbrev pub Says : Text → Ending → SinkTold → SinkTold → Ending → Type 0
@@ -149,14 +149,14 @@ module _ {I O T S D : Type 0} (m : Meaning I O T S D) where
     pub later : m.disk.faults before.disk ≤ m.disk.faults after.disk
     pub cause : IsCauseOf (m.disk.faults before.disk) (m.disk.faults after.disk) fault
 
-  -- Each way to end over the text of a graph.
-  pub data StoreEnds (text : Text) (g : Graph) (before after : Outside I O T S D) (ending : Ending) : Type 0 where
+  -- Each way to end over the text of a graph, with at most so many tools at once.
+  pub data StoreEnds (text : Text) (g : Graph) (limit : ℕ) (before after : Outside I O T S D) (ending : Ending) : Type 0 where
     -- the store was not opened, and nothing else was done but that its last line was written
     unopened : (fault : JournalFault) → IsUnopened text before after fault → ClosesFor fault (sink before) (sink after) ending
-        → after ≡ record before { output = after.output; disk = after.disk } → StoreEnds text g before after ending
+        → after ≡ record before { output = after.output; disk = after.disk } → StoreEnds text g limit before after ending
     -- a session was served over the graph and what the file stood for
-    served : (due : Ending) (written : SinkTold) → SessionEnds m.disk g text (source before) (source after) (told before) (record (told after) { sink = written }) due
-        → Closes due written (sink after) ending → StoreEnds text g before after ending
+    served : (due : Ending) (written : SinkTold) → SessionEnds m.disk g text limit (source before) (source after) (told before) (record (told after) { sink = written }) due
+        → Closes due written (sink after) ending → StoreEnds text g limit before after ending
 
 -- ---- a run
 
@@ -209,9 +209,9 @@ module _ {I O T S D : Type 0} (m : Meaning I O T S D) (words : List Text) (befor
     -- the file is refused, by this line
     graph_refused : (given : Option Text) (line : Text) → Gives opened given → IsRefused given line → LastLine line BadGraph (sink m before) (sink m after) ending
         → opened ≡ tree m after → after ≡ record before { output = after.output; tree = after.tree } → EndsAs opened ending
-    -- the file is one of this graph, and the run ended over it
-    graph_read : (text : Text) (g : Graph) (mid : Outside I O T S D) → GivesGraph opened text g → mid ≡ record before { tree = mid.tree } → opened ≡ tree m mid
-        → StoreEnds m text g mid after ending → EndsAs opened ending
+    -- the file is one of this graph, and the run ended over it, with as many tools at once as the words ask for
+    graph_read : (text : Text) (g : Graph) (mid : Outside I O T S D) → (given : GivesGraph opened text g) → mid ≡ record before { tree = mid.tree } → opened ≡ tree m mid
+        → StoreEnds m text g given.gives.asks.jobs mid after ending → EndsAs opened ending
 
   -- the input's count rose, or the tree's while the graph was read; and neither at any other ending
   abbrev pub ReadCounts : TreeTold → Ending → Type 0

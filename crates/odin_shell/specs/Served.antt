@@ -1,5 +1,5 @@
 -- One command: its change and its reply, over every history that fits before it.
-use Rattle.std.specs.Prelude.{◌≡◌, ◌≢◌, ◌+◌, ◌≤◌, ◌^◌, ℕ, List, [], None, Result, OnOk, IfErr}
+use Rattle.std.specs.Prelude.{◌≡◌, ◌+◌, ◌≤◌, ◌^◌, ℕ, List, [], None}
 use Rattle.odin_outside.specs.Causes.{IsCounted}
 use Rattle.odin_outside.specs.Spawned.{Spawned}
 use Rattle.meaning_graph.specs.Graphs.{Text, Graph}
@@ -9,7 +9,6 @@ use Rattle.meaning_commands.specs.declared.commands.Command.{Command}
 use Rattle.meaning_commands.specs.declared.commands.Command.TheVariants.{Ask}
 use Rattle.odin_journal.specs.Rest.{IsReady}
 use Rattle.odin_journal.specs.declared.fault.JournalFault.{JournalFault}
-use Rattle.odin_journal.specs.declared.fault.JournalFault.TheVariants as fault
 use Rattle.odin_engine.specs.Engaged.{Engaged}
 use Rattle.source_edits.specs.Edits.{TreeTold}
 use Rattle.odin_shell.specs.declared.stop.Stop.{Stop}
@@ -40,34 +39,29 @@ abbrev pub Counts : Stop → ℕ → ℕ → Type 0
 Counts stop.Disk before after = IsCounted before after
 Counts other before after = after ≡ before
 
--- No tool runs, but for want of memory, where one may.
-pub record IsIdle {T : Type 0} (tools : Spawned) (result : Result T JournalFault) : Type 0 where
-  pub ok : OnOk result (tools.running ≡ [])
-  pub err : IfErr result (λ why. why ≢ fault.Memory → tools.running ≡ [])
-
 module _ {D : Type 0} (disk : DiskMeaning D) where
   -- The command with the bytes that were kept of it gets this reply, and what comes after it fits; and it may be left before that.
-  pub record HasStepped (g : Graph) (text : Text) (first : State) (start : Told D) (state : State) (command : Command) (body reply : List ℕ) (code : Engaged) (now : Told D) : Type 0 where
+  pub record HasStepped (g : Graph) (text : Text) (limit : ℕ) (first : State) (start : Told D) (state : State) (command : Command) (body reply : List ℕ) (code : Engaged) (now : Told D) : Type 0 where
     pub new : State
-    pub step : Step g state command body reply new
-    pub fits : Belongs disk g text first start code new now
-    pub left : IsLeft disk g text first start state new now
+    pub step : Step g limit state command body reply new
+    pub fits : Belongs disk g text limit first start code new now
+    pub left : IsLeft disk g text limit first start state new now
 
   abbrev pub Answers : Engaged → Command → List ℕ → Told D → List ℕ → Engaged → Told D → Type 0
   Answers code command kept told reply code' told' =
-      (g : Graph) (text : Text) (first : State) (start : Told D) (state : State) (body : List ℕ) → SameBody commands command body kept
-      → Belongs disk g text first start code state told → HasStepped g text first start state command body reply code' told'
+      (g : Graph) (text : Text) (limit : ℕ) (first : State) (start : Told D) (state : State) (body : List ℕ) → SameBody commands command body kept
+      → Belongs disk g text limit first start code state told → HasStepped g text limit first start state command body reply code' told'
 
   -- The command gets no reply, for a fault of the store or for want of memory, and this may be left of it.
-  pub record HasHalted (g : Graph) (text : Text) (first : State) (start : Told D) (state : State) (command : Command) (body : List ℕ) (now : Told D) : Type 0 where
+  pub record HasHalted (g : Graph) (text : Text) (limit : ℕ) (first : State) (start : Told D) (state : State) (command : Command) (body : List ℕ) (now : Told D) : Type 0 where
     pub furthest : State
-    pub may : MayLeave g state command body furthest
-    pub exit : IsLeft disk g text first start state furthest now
+    pub may : MayLeave g limit state command body furthest
+    pub exit : IsLeft disk g text limit first start state furthest now
 
   abbrev pub Halts : Engaged → Command → List ℕ → Told D → JournalFault → Told D → Type 0
   Halts code command kept told why told' =
-      (g : Graph) (text : Text) (first : State) (start : Told D) (state : State) (body : List ℕ) → SameBody commands command body kept
-      → Belongs disk g text first start code state told → HasHalted g text first start state command body (stopped (stop_of why) told')
+      (g : Graph) (text : Text) (limit : ℕ) (first : State) (start : Told D) (state : State) (body : List ℕ) → SameBody commands command body kept
+      → Belongs disk g text limit first start code state told → HasHalted g text limit first start state command body (stopped (stop_of why) told')
 
   -- ---- the object of a text, whatever was kept of the command, and whatever is told of sink and tree
 

@@ -1,6 +1,7 @@
 // The entry of the program: its words, its graph, its store, its session and its status.
 ghost use Rattle.std.specs.Prelude.{◌≡◌, ◌≢◌, [], map, string_bytes};
 ghost use Rattle.dg_reader.specs.Files.{IsRead};
+ghost use Rattle.odin_engine.specs.Engaged.{IsLimit};
 ghost use Rattle.odin_shell.specs.Filed.{disk_meaning};
 ghost use Rattle.odin_shell.specs.Objects.{sink_of, outside, meaning};
 ghost use Rattle.source_edits.specs.Edits.{TreeStays, tree_of};
@@ -63,11 +64,12 @@ fn end_unopened<O: Sink>(alloc: Global, output: &mut O, fault: StoreFault) -> En
     }
 }
 
-/// Opens the store, and serves the commands of the input over it.
+/// Opens the store, and serves the commands of the input over it, with at most so many tools at once.
 fn serve_store<I: Source, O: Sink, T: Tree, S: Spawner, D: Disk>(
     alloc: Global,
     text: &[u8],
     graph: Graph,
+    jobs: u32,
     input: &mut I,
     output: &mut O,
     tree: &mut T,
@@ -75,15 +77,16 @@ fn serve_store<I: Source, O: Sink, T: Tree, S: Spawner, D: Disk>(
     disk: &mut D,
 ) -> Ending
     requires read { IsRead text.now graph }
+    requires jobs { IsLimit jobs }
     requires idle { (S.told tools.old).running ≡ [] }
     ensures { let on = disk_meaning D.told D.size_of D.faults in let means =
         meaning I.left I.faults O.taken O.faults T.files T.faults T.reads S.told on in
         let before = outside input.old output.old tree.old tools.old disk.old in
         let after = outside input.new output.new tree.new tools.new disk.new in
-        StoreEnds means text.now graph before after result }
+        StoreEnds means text.now graph jobs before after result }
 {
     keeps_changes::<D>();
-    match Engine::open(alloc, disk, graph, text, 1) {
+    match Engine::open(alloc, disk, graph, text, jobs) {
         Ok(engine) => {
             let due = serve_input(alloc, engine, input, output, tree, tools, disk);
             close(alloc, output, due)
@@ -124,6 +127,7 @@ fn run_words<I: Source, O: Sink, T: Tree, D: Disk, S: Spawner>(
                 alloc,
                 text.as_slice(),
                 graph,
+                asked.jobs as u32,
                 input,
                 output,
                 tree,
@@ -158,11 +162,13 @@ pub fn run<I: Source, O: Sink, T: Tree, D: Disk, S: Spawner>(
         let after = outside input.new output.new tree.new tools.new disk.new in
         RunEnds means (map string_bytes words.now) before after result }
 
-    // The tree keeps its files and the tools their answers, no count falls, and no tool runs on but for want of memory.
+    // The tree keeps its files and the tools their answers, and no count falls. No tool runs on, but at the statuses that leave what runs: 3, 4
+    // and 8, and 5 where the line of 8 could not be written.
     ensures tree { let told = tree_of T.files T.faults T.reads in
         TreeStays (told tree.old) (told tree.new) }
     ensures tools { ToolsStay (S.told tools.old) (S.told tools.new) }
-    ensures idle { result ≢ 4 → (S.told tools.new).running ≡ [] }
+    ensures idle { result ≢ 3 → result ≢ 4 → result ≢ 5 → result ≢ 8
+        → (S.told tools.new).running ≡ [] }
 {
     run_words(alloc, words, input, output, tree, disk, tools).status()
 }

@@ -42,7 +42,8 @@ pub fn refusals_are_counted()
 {}
 
 /// Where the tools answer by a table, the tree tells its files and no fault of either is counted, an input has one transcript, whatever is
-/// kept, but for the chains that refusals show and the number of kept calls. Where the same calls are kept, the same are run.
+/// kept and however many tools may run at once, but for the chains that refusals show and the number of kept calls. Where the same calls are
+/// kept, the same are run.
 pub fn transcript_is_one()
     ensures { TranscriptIsOne }
 {}

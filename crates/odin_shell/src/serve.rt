@@ -1,12 +1,12 @@
 // One command: its change, and its reply.
-ghost use Rattle.std.specs.Prelude.{IfOk, OnOk, IfErr};
+ghost use Rattle.std.specs.Prelude.{◌≡◌, [], IfOk, OnOk, IfErr};
 ghost use Rattle.meaning_answers.specs.Answers as answers;
 ghost use Rattle.meaning_run.specs.Objects.{SinkTold};
 ghost use Rattle.odin_journal.specs.Faults.{IsCause};
 ghost use Rattle.source_edits.specs.Edits.{Says, tree_of};
 ghost use Rattle.odin_shell.specs.Filed.{disk_meaning};
 ghost use Rattle.odin_shell.specs.Objects.{told_of};
-ghost use Rattle.odin_shell.specs.Served.{telling, MayServe, Answers, Halts, AnswersAsk, HaltsAsk, Counts, IsOnward, IsIdle};
+ghost use Rattle.odin_shell.specs.Served.{telling, MayServe, Answers, Halts, AnswersAsk, HaltsAsk, Counts, IsOnward};
 ghost use Rattle.odin_shell.specs.Sessions.{Serves, StopsServing};
 
 use crate::stop::Stop;
@@ -77,7 +77,7 @@ fn answer<T: Tree, S: Spawner, D: Disk>(
     ensures cause { IsCause (D.faults disk.old) (D.faults disk.new) result }
     ensures onward { let on = disk_meaning D.told D.size_of D.faults in
         OnOk result (IsOnward on 1 engine.old engine.new disk.old disk.new) }
-    ensures idle { IsIdle (S.told tools.new) result }
+    ensures idle { OnOk result ((S.told tools.new).running ≡ []) }
 {
     let (command, body) = whole.into_parts();
     match command {
@@ -113,7 +113,7 @@ fn ask<S: Spawner, D: Disk>(
     ensures cause { IsCause (D.faults disk.old) (D.faults disk.new) result }
     ensures onward { let on = disk_meaning D.told D.size_of D.faults in
         OnOk result (IsOnward on 1 engine.old engine.new disk.old disk.new) }
-    ensures idle { IsIdle (S.told tools.new) result }
+    ensures idle { OnOk result ((S.told tools.new).running ≡ []) }
 {
     let reply = answer_ask(alloc, engine, disk, text, tools)?;
     Ok(text_of(alloc, reply)?)

@@ -21,7 +21,7 @@ use Rattle.job_runner.specs.Flights.{flying, calls_in, tool_of, AreDistinct, Are
 use Rattle.job_runner.proofs.Lemmas.{no_more, told_one_more, call_there}
 use Rattle.plain_derive.specs.Given.{AreGiven, HaveCome, IsRefusedBy}
 use Rattle.plain_derive.specs.Flights.{Flight, Waits, IsCalled, IsFull, Course, on_course, off_course, Why, for_chain, for_spawn, Flies}
-use Rattle.plain_derive.specs.FlightLaws.{FullIsLesser, IsFlown, FlightsAreGiven, CountedOn, FlightsAreCounted, IsUnflown, RefusedFlyNone, KnownFlyNone}
+use Rattle.plain_derive.specs.FlightLaws.{FullIsLesser, FlightsAreFew, IsFlown, FlightsAreGiven, CountedOn, FlightsAreCounted, IsUnflown, RefusedFlyNone, KnownFlyNone}
 use Rattle.plain_derive.proofs.KeptLemmas.{one_more_known}
 
 none_between : {A : Type 0} (front back : List A) (x : A) → [] ≡ front ++ x ∷ back → ⊥
@@ -39,6 +39,9 @@ came_more answer given call outcome came last c o i = elim (in_either (c, o) giv
   | inr (inr none) ↦ absurd none
 ]
 
+fewer : (front back : List Flying) (x : Flying) (all : List Flying) {limit : ℕ} → all ≡ front ++ x ∷ back → length all ≤ limit → length (front ++ back) ≤ limit
+fewer front back x all is few = omega (arith, few, ap length is, length-append front (x ∷ back), length-append front back)
+
 module _ (g : Graph) (s : Sources) (kept : Outcomes) (n : Node) (limit : ℕ) (before : Spawned) where
   -- a call that runs is one at which the derivation stops, where as many run as may
   pub full_waits : (f : Flight) (front back : List Flying) (slot : ℕ) (call : Call) → f.running ≡ front ++ flying slot call ∷ back → IsFull (Waits g s kept n f.given) limit (calls_in f.running) → Waits g s kept n f.given call
@@ -48,56 +51,67 @@ module _ (g : Graph) (s : Sources) (kept : Outcomes) (n : Node) (limit : ℕ) (b
 
   pub flown_given : (course : Course) (f : Flight) → Flies g s kept n limit before course f → AreGiven g s kept n f.given
   flown_given way f Flies.none_flown = AreGiven.none_given
-  flown_given way f (Flies.one_began o slot call flown waits called apart) = flown_given on_course o flown
+  flown_given way f (Flies.one_began o slot call flown may) = flown_given on_course o flown
   flown_given way f (Flies.one_ended o front back slot call outcome flown is full clear came) = AreGiven.one_more o.given call outcome (flown_given on_course o flown) (full_waits o front back slot call is full)
   flown_given way f (Flies.chain_found o flown refused) = flown_given on_course f flown
-  flown_given way f (Flies.start_refused o call tools flown waits called fails) = flown_given on_course o flown
+  flown_given way f (Flies.start_refused o call tools flown may fails) = flown_given on_course o flown
   flown_given way f (Flies.end_lost o front back slot call faults flown is full clear counted) = flown_given on_course o flown
   flown_given way f (Flies.one_drained why o front back slot call outcome flown is waits came) = AreGiven.one_more o.given call outcome (flown_given (off_course why) o flown) waits
   flown_given way f (Flies.drain_lost why o front back slot call faults flown is counted) = flown_given (off_course why) o flown
 
   pub flown_came : (course : Course) (f : Flight) → Flies g s kept n limit before course f → HaveCome before.answer f.given
   flown_came way f Flies.none_flown = λ call outcome i. absurd i
-  flown_came way f (Flies.one_began o slot call flown waits called apart) = flown_came on_course o flown
+  flown_came way f (Flies.one_began o slot call flown may) = flown_came on_course o flown
   flown_came way f (Flies.one_ended o front back slot call outcome flown is full clear came) = came_more before.answer o.given call outcome (flown_came on_course o flown) came
   flown_came way f (Flies.chain_found o flown refused) = flown_came on_course f flown
-  flown_came way f (Flies.start_refused o call tools flown waits called fails) = flown_came on_course o flown
+  flown_came way f (Flies.start_refused o call tools flown may fails) = flown_came on_course o flown
   flown_came way f (Flies.end_lost o front back slot call faults flown is full clear counted) = flown_came on_course o flown
   flown_came way f (Flies.one_drained why o front back slot call outcome flown is waits came) = came_more before.answer o.given call outcome (flown_came (off_course why) o flown) came
   flown_came way f (Flies.drain_lost why o front back slot call faults flown is counted) = flown_came (off_course why) o flown
 
   pub flown_answer : (course : Course) (f : Flight) → Flies g s kept n limit before course f → f.tools.answer ≡ before.answer
   flown_answer way f Flies.none_flown = refl
-  flown_answer way f (Flies.one_began o slot call flown waits called apart) = flown_answer on_course o flown
+  flown_answer way f (Flies.one_began o slot call flown may) = flown_answer on_course o flown
   flown_answer way f (Flies.one_ended o front back slot call outcome flown is full clear came) = flown_answer on_course o flown
   flown_answer way f (Flies.chain_found o flown refused) = flown_answer on_course f flown
-  flown_answer way f (Flies.start_refused o call tools flown waits called fails) = ap (λ (z : Spawned). z.answer) fails.is ∙ flown_answer on_course o flown
+  flown_answer way f (Flies.start_refused o call tools flown may fails) = ap (λ (z : Spawned). z.answer) fails.is ∙ flown_answer on_course o flown
   flown_answer way f (Flies.end_lost o front back slot call faults flown is full clear counted) = flown_answer on_course o flown
   flown_answer way f (Flies.one_drained why o front back slot call outcome flown is waits came) = flown_answer (off_course why) o flown
   flown_answer way f (Flies.drain_lost why o front back slot call faults flown is counted) = flown_answer (off_course why) o flown
 
   pub flown_told : before.running ≡ [] → (course : Course) (f : Flight) → Flies g s kept n limit before course f → AreTold f.running f.tools
   flown_told idle way f Flies.none_flown = idle
-  flown_told idle way f (Flies.one_began o slot call flown waits called apart) = ap (λ (l : List Running). l ++ tool_of (flying slot call) ∷ []) (flown_told idle on_course o flown) ∙ sym (told_one_more o.running (flying slot call))
+  flown_told idle way f (Flies.one_began o slot call flown may) = ap (λ (l : List Running). l ++ tool_of (flying slot call) ∷ []) (flown_told idle on_course o flown) ∙ sym (told_one_more o.running (flying slot call))
   flown_told idle way f (Flies.one_ended o front back slot call outcome flown is full clear came) = refl
   flown_told idle way f (Flies.chain_found o flown refused) = flown_told idle on_course f flown
-  flown_told idle way f (Flies.start_refused o call tools flown waits called fails) = ap (λ (z : Spawned). z.running) fails.is ∙ flown_told idle on_course o flown
+  flown_told idle way f (Flies.start_refused o call tools flown may fails) = ap (λ (z : Spawned). z.running) fails.is ∙ flown_told idle on_course o flown
   flown_told idle way f (Flies.end_lost o front back slot call faults flown is full clear counted) = refl
   flown_told idle way f (Flies.one_drained why o front back slot call outcome flown is waits came) = refl
   flown_told idle way f (Flies.drain_lost why o front back slot call faults flown is counted) = refl
+
+  -- no more run than may
+  pub flown_few : (course : Course) (f : Flight) → Flies g s kept n limit before course f → length f.running ≤ limit
+  flown_few way f Flies.none_flown = omega arith
+  flown_few way f (Flies.one_began o slot call flown may) = omega (arith, may.room, length-append o.running (flying slot call ∷ []))
+  flown_few way f (Flies.one_ended o front back slot call outcome flown is full clear came) = fewer front back (flying slot call) o.running is (flown_few on_course o flown)
+  flown_few way f (Flies.chain_found o flown refused) = flown_few on_course f flown
+  flown_few way f (Flies.start_refused o call tools flown may fails) = flown_few on_course o flown
+  flown_few way f (Flies.end_lost o front back slot call faults flown is full clear counted) = fewer front back (flying slot call) o.running is (flown_few on_course o flown)
+  flown_few way f (Flies.one_drained why o front back slot call outcome flown is waits came) = fewer front back (flying slot call) o.running is (flown_few (off_course why) o flown)
+  flown_few way f (Flies.drain_lost why o front back slot call faults flown is counted) = fewer front back (flying slot call) o.running is (flown_few (off_course why) o flown)
 
   -- ---- on its course
 
   -- no fault is counted
   pub flown_faults : (f : Flight) → Flies g s kept n limit before on_course f → f.tools.faults ≡ before.faults
   flown_faults f Flies.none_flown = refl
-  flown_faults f (Flies.one_began o slot call flown waits called apart) = flown_faults o flown
+  flown_faults f (Flies.one_began o slot call flown may) = flown_faults o flown
   flown_faults f (Flies.one_ended o front back slot call outcome flown is full clear came) = flown_faults o flown
 
   -- where nothing came and nothing runs nothing happened
   pub none_flew : (f : Flight) → Flies g s kept n limit before on_course f → f.given ≡ [] → f.running ≡ [] → f.tools ≡ before
   none_flew f Flies.none_flown given running = refl
-  none_flew f (Flies.one_began o slot call flown waits called apart) given running = absurd (none_between o.running [] (flying slot call) (sym running))
+  none_flew f (Flies.one_began o slot call flown may) given running = absurd (none_between o.running [] (flying slot call) (sym running))
   none_flew f (Flies.one_ended o front back slot call outcome flown is full clear came) given running = absurd (none_between o.given [] (call, outcome) (sym given))
 
   -- ---- off it
@@ -108,7 +122,7 @@ module _ (g : Graph) (s : Sources) (kept : Outcomes) (n : Node) (limit : ℕ) (b
   faults_later f (Flies.drain_lost why o front back slot call faults flown is counted) = let first = faults_later o flown in omega (arith, first, counted.later)
 
   pub faults_rose : (f : Flight) → Flies g s kept n limit before (off_course for_spawn) f → IsCounted before.faults f.tools.faults
-  faults_rose f (Flies.start_refused o call tools flown waits called fails) = subst (λ k. IsCounted k f.tools.faults) (flown_faults o flown) fails.counted
+  faults_rose f (Flies.start_refused o call tools flown may fails) = subst (λ k. IsCounted k f.tools.faults) (flown_faults o flown) fails.counted
   faults_rose f (Flies.end_lost o front back slot call faults flown is full clear counted) = subst (λ k. IsCounted k faults) (flown_faults o flown) counted
   faults_rose f (Flies.one_drained why o front back slot call outcome flown is waits came) = faults_rose o flown
   faults_rose f (Flies.drain_lost why o front back slot call faults flown is counted) =
@@ -132,10 +146,10 @@ module _ (g : Graph) (s : Sources) (kept : Outcomes) (n : Node) (limit : ℕ) (b
   -- No tool is touched where the derivation stopped at no call.
   pub none_flies : ((call : Call) → IsCalled g s kept n [] call → ⊥) → (course : Course) (f : Flight) → Flies g s kept n limit before course f → IsUnflown before course f
   none_flies never way f Flies.none_flown = record { none = refl; idle = refl; told = refl; unrefused = λ e. cc }
-  none_flies never way f (Flies.one_began o slot call flown waits called apart) = absurd (never call (subst (λ l. IsCalled g s kept n l call) (none_flies never on_course o flown).none called))
+  none_flies never way f (Flies.one_began o slot call flown may) = absurd (never call (subst (λ l. IsCalled g s kept n l call) (none_flies never on_course o flown).none may.called))
   none_flies never way f (Flies.one_ended o front back slot call outcome flown is full clear came) = absurd (none_between front back (flying slot call) (sym (none_flies never on_course o flown).idle ∙ is))
   none_flies never way f (Flies.chain_found o flown refused) = let un = none_flies never on_course f flown in record { none = un.none; idle = un.idle; told = un.told; unrefused = λ e. cc }
-  none_flies never way f (Flies.start_refused o call tools flown waits called fails) = absurd (never call (subst (λ l. IsCalled g s kept n l call) (none_flies never on_course o flown).none called))
+  none_flies never way f (Flies.start_refused o call tools flown may fails) = absurd (never call (subst (λ l. IsCalled g s kept n l call) (none_flies never on_course o flown).none may.called))
   none_flies never way f (Flies.end_lost o front back slot call faults flown is full clear counted) = absurd (none_between front back (flying slot call) (sym (none_flies never on_course o flown).idle ∙ is))
   none_flies never way f (Flies.one_drained why o front back slot call outcome flown is waits came) = absurd (none_between front back (flying slot call) (sym (none_flies never (off_course why) o flown).idle ∙ is))
   none_flies never way f (Flies.drain_lost why o front back slot call faults flown is counted) = absurd (none_between front back (flying slot call) (sym (none_flies never (off_course why) o flown).idle ∙ is))
@@ -149,6 +163,9 @@ is_flown g s kept n limit before course f flown = record {
   answer = flown_answer g s kept n limit before course f flown;
   told = λ idle. flown_told g s kept n limit before idle course f flown;
 }
+
+pub flights_are_few : FlightsAreFew
+flights_are_few g s kept n limit before course f flown = flown_few g s kept n limit before course f flown
 
 pub counted_on : FlightsAreCounted
 counted_on g s kept n limit before on_course f flown = flown_faults g s kept n limit before f flown

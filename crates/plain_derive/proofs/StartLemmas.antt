@@ -110,20 +110,20 @@ module _ (g : Graph) (s : Sources) (kept : Outcomes) (n : Node) (limit : ℕ) (b
     };
     there = λ call i. absurd i;
   }
-  starts_there f (Flies.one_began o slot call flown waits called apart) =
+  starts_there f (Flies.one_began o slot call flown may) =
       let so = starts_there o flown in
       let is_last : (c : Call) → IsIn c (so.has.calls ++ call ∷ []) → IsIn c so.has.calls ⊎ (c ≡ call) = λ c i. elim (in_either c so.has.calls (call ∷ []) i) [ inl j ↦ inl j | inr (inl e) ↦ inr e | inr (inr none) ↦ absurd none ] in
       record {
         has = record {
           calls = so.has.calls ++ call ∷ [];
-          once = once_more so.has.calls call so.has.once (λ i. elim (so.there call i) [ inl j ↦ not_among g s kept n o.given call waits.outside j | inr j ↦ apart j ]);
+          once = once_more so.has.calls call so.has.once (λ i. elim (so.there call i) [ inl j ↦ not_among g s kept n o.given call may.waits.outside j | inr j ↦ may.new j ]);
           none = λ c i. elim (is_last c i) [
             | inl j ↦ so.has.none c j
-            | inr e ↦ subst (λ z. kept z ≡ None) (sym e) (kept_none g s kept n o.given (flown_given g s kept n limit before on_course o flown) call waits.outside)
+            | inr e ↦ subst (λ z. kept z ≡ None) (sym e) (kept_none g s kept n o.given (flown_given g s kept n limit before on_course o flown) call may.waits.outside)
           ];
           each = λ outcomes more c i. elim (is_last c i) [
             | inl j ↦ so.has.each outcomes more c j
-            | inr e ↦ subst (IsCallFrom g (derived g s outcomes) n) (sym e) ((calls_stay g s (after kept o.given) outcomes more n).calls call waits.from)
+            | inr e ↦ subst (IsCallFrom g (derived g s outcomes) n) (sym e) ((calls_stay g s (after kept o.given) outcomes more n).calls call may.waits.from)
           ];
           starts = λ small. let old = so.has.starts small in omega (arith, old, length-append so.has.calls (call ∷ []));
           log = log_began before.log o.tools.log so.has.calls slot call so.has.log;
@@ -150,10 +150,10 @@ module _ (g : Graph) (s : Sources) (kept : Outcomes) (n : Node) (limit : ℕ) (b
 
   pub starts_so : (course : Course) (f : Flight) → Flies g s kept n limit before course f → HasStarted g s kept n before f
   starts_so way f Flies.none_flown = (starts_there f Flies.none_flown).has
-  starts_so way f (Flies.one_began o slot call flown waits called apart) = (starts_there f (Flies.one_began o slot call flown waits called apart)).has
+  starts_so way f (Flies.one_began o slot call flown may) = (starts_there f (Flies.one_began o slot call flown may)).has
   starts_so way f (Flies.one_ended o front back slot call outcome flown is full clear came) = after_end o (front ++ back) slot call outcome (full_waits g s kept n limit before o front back slot call is full).outside (starts_so on_course o flown)
   starts_so way f (Flies.chain_found o flown refused) = starts_so on_course f flown
-  starts_so way f (Flies.start_refused o call tools flown waits called fails) =
+  starts_so way f (Flies.start_refused o call tools flown may fails) =
       let has = starts_so on_course o flown in
       record {
         calls = has.calls;
@@ -170,7 +170,7 @@ module _ (g : Graph) (s : Sources) (kept : Outcomes) (n : Node) (limit : ℕ) (b
   -- On its course each call that came or runs was started, and nothing else, as far as the number goes.
   pub flown_starts : (f : Flight) → before.starts ≤ last_count → Flies g s kept n limit before on_course f → f.tools.starts ≡ min (before.starts + (length f.given + length f.running)) last_count
   flown_starts f small Flies.none_flown = omega (arith, small)
-  flown_starts f small (Flies.one_began o slot call flown waits called apart) = let old = flown_starts o small flown in omega (arith, old, length-append o.running (flying slot call ∷ []))
+  flown_starts f small (Flies.one_began o slot call flown may) = let old = flown_starts o small flown in omega (arith, old, length-append o.running (flying slot call ∷ []))
   flown_starts f small (Flies.one_ended o front back slot call outcome flown is full clear came) =
       let old = flown_starts o small flown in
       omega (arith, old, length-append o.given ((call, outcome) ∷ []), ap length is, length-append front (flying slot call ∷ back), length-append front back)

@@ -30,6 +30,13 @@ FullIsLesser =
     → ((call : Call) → IsFrontier g s outcomes n call → IsIn call all)
     → length running ≡ min limit (length all)
 
+-- No more run than may, at any moment.
+abbrev pub FlightsAreFew : Type 0
+FlightsAreFew =
+    (g : Graph) (s : Sources) (kept : Outcomes) (n : Node) (limit : ℕ) (before : Spawned)
+    (course : Course) (f : Flight) → Flies g s kept n limit before course f
+    → length f.running ≤ limit
+
 -- ---- what came, and what is told
 
 -- Each outcome was given at a call at which the derivation stopped, by what was given before it, and came of that call. The tools answer as

@@ -1,5 +1,5 @@
 //! Laws of what a derivation made. Each is the contract of a function with an empty body.
-ghost use Rattle.plain_derive.specs.FlightLaws.{FullIsLesser, FlightsAreGiven, FlightsAreCounted, OnlyNeededStarts, RefusedFlyNone, KnownFlyNone};
+ghost use Rattle.plain_derive.specs.FlightLaws.{FullIsLesser, FlightsAreFew, FlightsAreGiven, FlightsAreCounted, OnlyNeededStarts, RefusedFlyNone, KnownFlyNone};
 ghost use Rattle.plain_derive.specs.GivenLaws.{GivenAreAll, GivenAreCalls, GivenAreNew, GivenAreTrue, GivenFit, KeptStays, NoneIsGiven};
 ghost use Rattle.plain_derive.specs.Laws.{FoundByAll, MadeAreCalls, MadeAreOnce, AllAreMade, MadeCountsNone, GivenUpIsCounted};
 
@@ -38,10 +38,11 @@ pub fn given_are_known()
     ensures right { GivenAreTrue }
 {}
 
-/// As many as may run is the lesser of the limit and of the number of calls at which the derivation
-/// stops.
+/// No more run than may, and as many as may run is the lesser of the limit and of the number of calls
+/// at which the derivation stops.
 pub fn flights_are_full()
-    ensures { FullIsLesser }
+    ensures few { FlightsAreFew }
+    ensures lesser { FullIsLesser }
 {}
 
 /// What came of tools in flight was given at calls at which the derivation stopped, and came of them;

@@ -6,6 +6,7 @@ ghost use Rattle.odin_store.specs.Held.{puts, drops};
 ghost use Rattle.odin_store.specs.OnDisk.{IsLeft, IsOpen};
 ghost use Rattle.odin_store.specs.Changes.{MayPut};
 ghost use Rattle.odin_store.specs.Edited.{HasFailed};
+ghost use Rattle.odin_engine.specs.Engaged.{Stays};
 ghost use Rattle.source_edits.specs.Edits as edits;
 ghost use Rattle.source_edits.specs.Changes.{EditsSource, HasFailedToPut, IsPut, IsTaken, MayBeTaken, MayPutCounted, PutsSource};
 ghost use Rattle.source_edits.specs.Edits.{Says, IsAsked, tree_of};
@@ -44,7 +45,7 @@ fn set_text<D: Disk>(
         engine.old.store engine.new.store disk.old disk.new) }
     ensures err { IfErr result (HasFailed D.told (puts name.now text)
         engine.old.store engine.new.store disk.old disk.new) }
-    ensures graph { engine.new.graph ≡ engine.old.graph }
+    ensures stays { Stays engine.old engine.new }
     ensures left { IsLeft engine.new.store (D.size_of disk.new) result }
     ensures cause { IsCause (D.faults disk.old) (D.faults disk.new) result }
 {
@@ -70,7 +71,7 @@ pub fn put<D: Disk>(
         (EditsSource D.told name engine.old.store engine.new.store disk.old disk.new) }
     ensures err { IfErr result (HasFailedToPut D.told (IsPut count text) name
         engine.old.store engine.new.store disk.old disk.new) }
-    ensures graph { engine.new.graph ≡ engine.old.graph }
+    ensures stays { Stays engine.old engine.new }
     ensures left { IsLeft engine.new.store (D.size_of disk.new) result }
     ensures cause { IsCause (D.faults disk.old) (D.faults disk.new) result }
 {
@@ -107,7 +108,7 @@ fn take_file<D: Disk>(
         (EditsSource D.told name engine.old.store engine.new.store disk.old disk.new) }
     ensures err { IfErr result (HasFailedToPut D.told (IsTaken file) name
         engine.old.store engine.new.store disk.old disk.new) }
-    ensures graph { engine.new.graph ≡ engine.old.graph }
+    ensures stays { Stays engine.old engine.new }
     ensures left { IsLeft engine.new.store (D.size_of disk.new) result }
     ensures cause { IsCause (D.faults disk.old) (D.faults disk.new) result }
 {
@@ -143,7 +144,7 @@ pub fn take<D: Disk, T: Tree>(
         (EditsSource D.told name engine.old.store engine.new.store disk.old disk.new) }
     ensures err { IfErr result (HasFailedToPut D.told (MayBeTaken (T.files tree.old) name) name
         engine.old.store engine.new.store disk.old disk.new) }
-    ensures graph { engine.new.graph ≡ engine.old.graph }
+    ensures stays { Stays engine.old engine.new }
     ensures left { IsLeft engine.new.store (D.size_of disk.new) result }
     ensures cause { IsCause (D.faults disk.old) (D.faults disk.new) result }
     ensures asked { let told = tree_of T.files T.faults T.reads in
@@ -172,7 +173,7 @@ pub fn remove<D: Disk>(
         (EditsSource D.told name engine.old.store engine.new.store disk.old disk.new) }
     ensures err { IfErr result (HasFailed D.told (drops name)
         engine.old.store engine.new.store disk.old disk.new) }
-    ensures graph { engine.new.graph ≡ engine.old.graph }
+    ensures stays { Stays engine.old engine.new }
     ensures left { IsLeft engine.new.store (D.size_of disk.new) result }
     ensures cause { IsCause (D.faults disk.old) (D.faults disk.new) result }
 {

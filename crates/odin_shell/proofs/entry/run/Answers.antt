@@ -1,6 +1,5 @@
-use Rattle.std.proofs.Common.{ap, ◌∙◌}
-use Rattle.odin_shell.specs.Endings.{status_of}
 use Rattle.odin_shell.proofs.RunLemmas.{run_ends, tree_stays, tools_stay, tools_idle}
+use Rattle.odin_shell.proofs.StoreLemmas.{status_runs}
 use Rattle.odin_shell.proofs.entry.run.Goals as goal
 
 pub returns-clause-ends : goal.returns-clause-ends
@@ -13,4 +12,4 @@ pub returns-clause-tools : goal.returns-clause-tools
 returns-clause-tools g c = tools_stay _ _ _ _ c.run_words.result c.requires c.run_words.ensures
 
 pub returns-clause-idle : goal.returns-clause-idle
-returns-clause-idle g c = λ other. tools_idle _ _ _ _ c.run_words.result c.requires (λ e. other (c.status.ensures ∙ ap status_of e)) c.run_words.ensures
+returns-clause-idle g c = λ three four five eight. tools_idle _ _ _ _ c.run_words.result c.requires (status_runs c.run_words.result _ c.status.ensures three four five eight) c.run_words.ensures

@@ -1,8 +1,9 @@
-use Rattle.std.proofs.Common.{◌≡◌, ◌∙◌, ℕ, ◌≤◌, List, Err, ap, sym, refl, subst}
+use Rattle.std.proofs.Common.{◌≡◌, ◌∙◌, ℕ, ◌≤◌, List, Option, Some, None, Err, ap, sym, refl, subst, arith}
 use Rattle.meaning_graph.specs.Graphs.{Text}
 use Rattle.dg_reader.specs.Files.{IsRead}
 use Rattle.odin_words.specs.declared.Work.{Work}
-use Rattle.odin_words.specs.Asked.{AskedWork, Serve, Load, work_of, AsksFor}
+use Rattle.odin_words.specs.Asked.{AskedWork, Serve, Load, work_of, IsJobs, AsksFor}
+use Rattle.odin_engine.specs.Engaged.{IsLimit}
 use Rattle.odin_shell.specs.Run.{words_refused, words_unread, load_ended, tree_failed, graph_unread, graph_refused, graph_read}
 use Rattle.odin_shell.proofs.LoadLemmas.{units_within}
 use Rattle.odin_shell.proofs.RunLemmas.{asks, gives}
@@ -15,6 +16,11 @@ named words work said name jobs is name_is asked = subst (λ (w : AskedWork). As
 -- they ask for so many units
 counted : (words : List Text) (work : Work) (units jobs : ℕ) → work_of work ≡ Load units → AsksFor words (work_of work) jobs → AsksFor words (Load units) jobs
 counted words work units jobs is asked = subst (λ (w : AskedWork). AsksFor words w jobs) is asked
+
+-- at least one job, and 64 at most
+jobs_within : (value : Option (List ℕ)) (jobs : ℕ) → IsJobs value jobs → IsLimit jobs
+jobs_within None jobs is = record { some = omega (arith, is); few = omega (arith, is) }
+jobs_within (Some word) jobs is = record { some = is.some; few = is.few }
 
 within : (words : List Text) (work : Work) (units jobs : ℕ) → work_of work ≡ Load units → AsksFor words (work_of work) jobs → (1 ≤ units) × (units ≤ 2000)
 within words work units jobs is asked = units_within _ _ units (counted words work units jobs is asked).has.work_is
@@ -38,6 +44,9 @@ returns-in-Load g c =
 
 pub serve_store-requires-clause-read : goal.serve_store-requires-clause-read
 serve_store-requires-clause-read g c = let opens = rw c.in-Ok-Ready.field-0-is at c.in-Ok-Ready.ensures.ok in subst (λ t. IsRead t c.in-Ok-Ready.graph) (sym c.as_slice.ensures) opens.opened.read
+
+pub serve_store-requires-clause-jobs : goal.serve_store-requires-clause-jobs
+serve_store-requires-clause-jobs g c = let asked = rw c.in-Ok-Some.field-0-is at c.in-Ok-Some.ensures.asked in jobs_within _ _ asked.has.jobs_is
 
 pub returns-in-Ok-Ready : goal.returns-in-Ok-Ready
 returns-in-Ok-Ready g c =

@@ -15,7 +15,7 @@ use Rattle.odin_shell.proofs.serve.answer.Goals as goal
 pub returns-in-Put-clause-ok : goal.returns-in-Put-clause-ok
 returns-in-Put-clause-ok g c =
     put_said _ _ _ _ _ _ _ _ _ c.in-Put.name c.in-Put.count _ (sym c.into_parts-command.ensures.command ∙ c.in-Put.is) c.into_parts-command.ensures.body c.put.result
-    c.put.ensures.says c.put.ensures.ok c.put.ensures.graph c.put.ensures.left c.put.ensures.cause
+    c.put.ensures.says c.put.ensures.ok c.put.ensures.stays c.put.ensures.left c.put.ensures.cause
 
 pub returns-in-Put-clause-err : goal.returns-in-Put-clause-err
 returns-in-Put-clause-err g c =
@@ -24,7 +24,7 @@ returns-in-Put-clause-err g c =
 pub returns-in-Take-clause-ok : goal.returns-in-Take-clause-ok
 returns-in-Take-clause-ok g c =
     take_said _ _ _ _ _ _ _ _ _ _ c.in-Take.name (sym c.into_parts-command.ensures.command ∙ c.in-Take.is) c.take.ensures.asked c.take.result
-    c.take.ensures.says c.take.ensures.ok c.take.ensures.graph c.take.ensures.left c.take.ensures.cause
+    c.take.ensures.says c.take.ensures.ok c.take.ensures.stays c.take.ensures.left c.take.ensures.cause
 
 pub returns-in-Take-clause-err : goal.returns-in-Take-clause-err
 returns-in-Take-clause-err g c =
@@ -33,7 +33,7 @@ returns-in-Take-clause-err g c =
 pub returns-in-Remove-clause-ok : goal.returns-in-Remove-clause-ok
 returns-in-Remove-clause-ok g c =
     remove_said _ _ _ _ _ _ _ _ _ c.in-Remove.name (sym c.into_parts-command.ensures.command ∙ c.in-Remove.is) c.remove.result
-    c.remove.ensures.says c.remove.ensures.ok c.remove.ensures.graph c.remove.ensures.left c.remove.ensures.cause
+    c.remove.ensures.says c.remove.ensures.ok c.remove.ensures.stays c.remove.ensures.left c.remove.ensures.cause
 
 pub returns-in-Remove-clause-err : goal.returns-in-Remove-clause-err
 returns-in-Remove-clause-err g c = remove_unsaid _ _ c.remove.new.engine _ _ _ _ _ _ c.in-Remove.name (sym c.into_parts-command.ensures.command ∙ c.in-Remove.is) c.remove.result c.remove.ensures.err c.remove.ensures.cause
@@ -55,7 +55,7 @@ returns-in_ok-plan-in-Plan-clause-ok g c =
 
 pub returns-in_err-plan-in-Plan-clause-err : goal.returns-in_err-plan-in-Plan-clause-err
 returns-in_err-plan-in-Plan-clause-err g c =
-    at_stop _ fault.Memory _ c.from_residual.ensures.1 (unshown _ _ _ (command.Plan c.in-Plan.text) _ _ _ _ (sym c.into_parts-command.ensures.command ∙ c.in-Plan.is) (λ on state body. refl))
+    at_stop _ fault.Memory _ c.from_residual.ensures.1 (unshown _ _ _ (command.Plan c.in-Plan.text) _ _ _ _ (sym c.into_parts-command.ensures.command ∙ c.in-Plan.is) (λ on limit state body. refl))
 
 pub returns-in_ok-list-in-Sources-clause-ok : goal.returns-in_ok-list-in-Sources-clause-ok
 returns-in_ok-list-in-Sources-clause-ok g c =
@@ -63,7 +63,7 @@ returns-in_ok-list-in-Sources-clause-ok g c =
 
 pub returns-in_err-list-in-Sources-clause-err : goal.returns-in_err-list-in-Sources-clause-err
 returns-in_err-list-in-Sources-clause-err g c =
-    at_stop _ fault.Memory _ c.from_residual-in_err-list-in-Sources.ensures.1 (unshown _ _ _ command.Sources _ _ _ _ (sym c.into_parts-command.ensures.command ∙ c.in-Sources.is) (λ on state body. refl))
+    at_stop _ fault.Memory _ c.from_residual-in_err-list-in-Sources.ensures.1 (unshown _ _ _ command.Sources _ _ _ _ (sym c.into_parts-command.ensures.command ∙ c.in-Sources.is) (λ on limit state body. refl))
 
 pub returns-in_ok-text_of-in-Kept-clause-ok : goal.returns-in_ok-text_of-in-Kept-clause-ok
 returns-in_ok-text_of-in-Kept-clause-ok g c =
@@ -72,36 +72,36 @@ returns-in_ok-text_of-in-Kept-clause-ok g c =
 
 pub returns-in_err-text_of-in-Kept-clause-err : goal.returns-in_err-text_of-in-Kept-clause-err
 returns-in_err-text_of-in-Kept-clause-err g c =
-    at_stop _ fault.Memory _ c.from_residual-in_err-text_of-in-Kept.ensures.1 (unshown _ _ _ command.Kept _ _ _ _ (sym c.into_parts-command.ensures.command ∙ c.in-Kept.is) (λ on state body. refl))
+    at_stop _ fault.Memory _ c.from_residual-in_err-text_of-in-Kept.ensures.1 (unshown _ _ _ command.Kept _ _ _ _ (sym c.into_parts-command.ensures.command ∙ c.in-Kept.is) (λ on limit state body. refl))
 
 pub returns-in_ok-text_of-in-Quit-clause-ok : goal.returns-in_ok-text_of-in-Quit-clause-ok
 returns-in_ok-text_of-in-Quit-clause-ok g c =
     shown _ _ _ command.Quit _ _ _ _ (sym c.into_parts-command.ensures.command ∙ c.in-Quit.is) _
-    (λ told. same_answers _ _ command.Quit _ _ told (λ on state body graph held. (c.in_ok-text_of-in-Quit.ensures, refl)))
+    (λ told. same_answers _ _ command.Quit _ _ told (λ on limit state body graph held. (c.in_ok-text_of-in-Quit.ensures, refl)))
 
 pub returns-in_err-text_of-in-Quit-clause-err : goal.returns-in_err-text_of-in-Quit-clause-err
 returns-in_err-text_of-in-Quit-clause-err g c =
-    at_stop _ fault.Memory _ c.from_residual-in_err-text_of-in-Quit.ensures.1 (unshown _ _ _ command.Quit _ _ _ _ (sym c.into_parts-command.ensures.command ∙ c.in-Quit.is) (λ on state body. refl))
+    at_stop _ fault.Memory _ c.from_residual-in_err-text_of-in-Quit.ensures.1 (unshown _ _ _ command.Quit _ _ _ _ (sym c.into_parts-command.ensures.command ∙ c.in-Quit.is) (λ on limit state body. refl))
 
 pub returns-in-Nothing-clause-ok : goal.returns-in-Nothing-clause-ok
 returns-in-Nothing-clause-ok g c =
-    shown _ _ _ command.Nothing _ _ _ _ (sym c.into_parts-command.ensures.command ∙ c.in-Nothing.is) _ (λ told. same_answers _ _ command.Nothing _ _ told (λ on state body graph held. (c.new.ensures, refl)))
+    shown _ _ _ command.Nothing _ _ _ _ (sym c.into_parts-command.ensures.command ∙ c.in-Nothing.is) _ (λ told. same_answers _ _ command.Nothing _ _ told (λ on limit state body graph held. (c.new.ensures, refl)))
 
 pub returns-in_ok-text_of-in-Bad-clause-ok : goal.returns-in_ok-text_of-in-Bad-clause-ok
 returns-in_ok-text_of-in-Bad-clause-ok g c =
     shown _ _ _ command.Bad _ _ _ _ (sym c.into_parts-command.ensures.command ∙ c.in-Bad.is) _
-    (λ told. same_answers _ _ command.Bad _ _ told (λ on state body graph held. (c.in_ok-text_of-in-Bad.ensures, refl)))
+    (λ told. same_answers _ _ command.Bad _ _ told (λ on limit state body graph held. (c.in_ok-text_of-in-Bad.ensures, refl)))
 
 pub returns-in_err-text_of-in-Bad-clause-err : goal.returns-in_err-text_of-in-Bad-clause-err
 returns-in_err-text_of-in-Bad-clause-err g c =
-    at_stop _ fault.Memory _ c.from_residual-in_err-text_of-in-Bad.ensures.1 (unshown _ _ _ command.Bad _ _ _ _ (sym c.into_parts-command.ensures.command ∙ c.in-Bad.is) (λ on state body. refl))
+    at_stop _ fault.Memory _ c.from_residual-in_err-text_of-in-Bad.ensures.1 (unshown _ _ _ command.Bad _ _ _ _ (sym c.into_parts-command.ensures.command ∙ c.in-Bad.is) (λ on limit state body. refl))
 
 pub returns-in_ok-refuse_name-in-BadName-clause-ok : goal.returns-in_ok-refuse_name-in-BadName-clause-ok
 returns-in_ok-refuse_name-in-BadName-clause-ok g c =
     shown _ _ _ (command.BadName c.in-BadName.count) _ _ _ _ (sym c.into_parts-command.ensures.command ∙ c.in-BadName.is) _
-    (λ told. same_answers _ _ (command.BadName c.in-BadName.count) _ _ told (λ on state body graph held. (c.in_ok-refuse_name-in-BadName.ensures, refl)))
+    (λ told. same_answers _ _ (command.BadName c.in-BadName.count) _ _ told (λ on limit state body graph held. (c.in_ok-refuse_name-in-BadName.ensures, refl)))
 
 pub returns-in_err-refuse_name-in-BadName-clause-err : goal.returns-in_err-refuse_name-in-BadName-clause-err
 returns-in_err-refuse_name-in-BadName-clause-err g c =
     at_stop _ fault.Memory _ c.from_residual-in_err-refuse_name-in-BadName.ensures.1
-    (unshown _ _ _ (command.BadName c.in-BadName.count) _ _ _ _ (sym c.into_parts-command.ensures.command ∙ c.in-BadName.is) (λ on state body. refl))
+    (unshown _ _ _ (command.BadName c.in-BadName.count) _ _ _ _ (sym c.into_parts-command.ensures.command ∙ c.in-BadName.is) (λ on limit state body. refl))

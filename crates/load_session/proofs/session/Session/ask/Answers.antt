@@ -9,7 +9,7 @@ returns-in_err-reply-clause-err c =
     at_stop _ c.in_err-reply.field-0.0 _ c.from_residual.ensures.1
     (ask_stops c.args.self.now
     (record { engine = c.answer_ask-answer.new.engine; disk = c.answer_ask-answer.new.disk; tools = c.answer_ask-answer.new.tools })
-    c.in_err-reply.field-0.0 c.in_err-reply.ensures.err c.in_err-reply.ensures.cause.err c.fails_past_room.ensures)
+    c.in_err-reply.field-0.0 c.requires c.in_err-reply.ensures.err c.in_err-reply.ensures.cause.err c.fails_past_room.ensures)
 
 pub overflow_sub-result : goal.overflow_sub-result
 overflow_sub-result c =
@@ -25,6 +25,6 @@ returns-clause-ok c =
     let kept_is = c.calls-kept.ensures ∙ ap (λ (k : Kept). length k.tables.calls) (c.kept.ensures ∙ ap (λ (s : Store). s.kept) c.store.ensures) in
     ask_served c.args.self.now
     (record { engine = c.answer_ask-answer.new.engine; disk = c.answer_ask-answer.new.disk; tools = c.answer_ask-answer.new.tools })
-    _ c.in_ok-reply.reply c.in_ok-reply.ensures.ok c.in_ok-reply.ensures.graph c.in_ok-reply.ensures.left.ready
-    (c.in_ok-reply.ensures.rest.idle (λ e. cc)) c.requires (omega (arith, c.starts-before.ensures, c.starts-after.ensures)) c.shown_length.ensures
+    _ c.in_ok-reply.reply c.in_ok-reply.ensures.ok c.in_ok-reply.ensures.stays c.in_ok-reply.ensures.left.ready
+    c.in_ok-reply.ensures.rest.idle c.requires (omega (arith, c.starts-before.ensures, c.starts-after.ensures)) c.shown_length.ensures
     kept_is (subst (λ n. n < 2 ^ 64) kept_is c.calls-kept.type_inv)
