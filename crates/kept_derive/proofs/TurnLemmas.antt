@@ -27,7 +27,7 @@ use Rattle.job_runner.specs.Flights.{InFlight, flying, calls_in, AreDistinct, la
 use Rattle.job_runner.specs.Made.{IsOutcomeOf}
 use Rattle.job_runner.proofs.Lemmas.{distinct_more, calls_one_more, call_or_last}
 use Rattle.plain_derive.specs.Given.{IsRefusedBy}
-use Rattle.plain_derive.specs.Flights.{Flight, ends, loses, Course, on_course, off_course, Why, for_chain, for_spawn, Waits, IsCalled, Flies, AreFlown}
+use Rattle.plain_derive.specs.Flights.{Flight, ends, loses, Course, on_course, off_course, Why, for_chain, for_spawn, Waits, IsCalled, MayBegin, Flies, AreFlown}
 use Rattle.plain_derive.proofs.Lemmas.{flown_answer}
 use Rattle.kept_derive.specs.declared.fault.KeptFault.{KeptFault}
 use Rattle.kept_derive.specs.declared.fault.KeptFault.TheVariants.{Spawn, Disk, Full, Memory}
@@ -216,6 +216,9 @@ module _ {D : Type 0} (told : D → Telling) (g : Graph) (n : Node) (first : At 
   -- ---- on its course
 
   module _ (walked : Walked) (jobs : InFlight) (old : At D) (way : IsOnWay told g n on_course first walked jobs old) where
+    may_begin : walked.result ≡ None → (call : Call) → IsStartable walked.wanted jobs call → MayBegin g first.store.sources.texts (known_in first.store) n jobs.limit (flight_at walked jobs old.tools) call
+    may_begin still call next = record { waits = waits told g n first on_course walked jobs old way call next.wanted; called = way.called still call next.wanted; new = next.new; room = next.room }
+
     -- a call is started
     pub starts : walked.result ≡ None → (call : Call) (jobs' : InFlight) (tools : Spawned) → IsStartable walked.wanted jobs call → HasBegun call jobs old.tools jobs' tools → IsOnWay told g n on_course first walked jobs' (at old.store old.disk tools)
     starts still call jobs' tools next begins =
@@ -224,7 +227,7 @@ module _ {D : Type 0} (told : D → Telling) (g : Graph) (n : Node) (first : At 
         record {
           root = way.root;
           flown = subst (λ (z : InFlight × Spawned). Flies g first.store.sources.texts (known_in first.store) n z.0.limit first.tools on_course (record { running = z.0.running; given = walked.given; tools = z.1 })) (λ i. (sym begins.is i, sym begins.told i))
-              (Flies.one_began (flight_at walked jobs old.tools) begins.slot call way.flown (waits told g n first on_course walked jobs old way call next.wanted) (way.called still call next.wanted) next.new);
+              (Flies.one_began (flight_at walked jobs old.tools) begins.slot call way.flown (may_begin still call next));
           apart = subst (λ (l : List Flying). AreDistinct (calls_in l)) (sym running) (subst AreDistinct (sym (calls_one_more jobs.running (flying begins.slot call))) (distinct_more (calls_in jobs.running) call way.apart next.new));
           few = omega (arith, next.room, limit, ap length running, length-append jobs.running (flying begins.slot call ∷ []));
           goes = way.goes;
@@ -242,7 +245,7 @@ module _ {D : Type 0} (told : D → Telling) (g : Graph) (n : Node) (first : At 
     refuses still call jobs' tools next same fails =
         let there : IsOnWay told g n (off_course for_spawn) first walked jobs (at old.store old.disk tools) = record {
           root = way.root;
-          flown = Flies.start_refused (flight_at walked jobs old.tools) call tools way.flown (waits told g n first on_course walked jobs old way call next.wanted) (way.called still call next.wanted) fails;
+          flown = Flies.start_refused (flight_at walked jobs old.tools) call tools way.flown (may_begin still call next) fails;
           apart = way.apart;
           few = way.few;
           goes = way.goes;
