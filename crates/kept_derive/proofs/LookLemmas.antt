@@ -181,6 +181,7 @@ pub flight_looks_at : {D : Type 0} (result : Result Flown KeptFault) (told : D �
 flight_looks_at result told g n limit k first now walked before last fault is same looks =
     subst (FlightLooks told g n limit first now walked before last) (sym is) (subst (λ m. AreLooks told g n m first now before last (Err fault)) same looks)
 
-pub looks_at : {D : Type 0} (result : Result Found KeptFault) (told : D → Telling) (g : Graph) (n : Node) (limit : ℕ) (first now : At D) (before last : ℕ) (fault : KeptFault) → result ≡ Err fault → AreLooks told g n limit first now before last (Err fault)
-    → AreLooks told g n limit first now before last result
-looks_at result told g n limit first now before last fault is looks = subst (AreLooks told g n limit first now before last) (sym is) looks
+pub looks_at : {D : Type 0} (result : Result Found KeptFault) (told : D → Telling) (g : Graph) (n : Node) (limit k : ℕ) (first now : At D) (before last : ℕ) (fault : KeptFault) → result ≡ Err fault → k ≡ limit
+    → AreLooks told g n k first now before last (Err fault) → AreLooks told g n limit first now before last result
+looks_at result told g n limit k first now before last fault is same looks =
+    subst (AreLooks told g n limit first now before last) (sym is) (subst (λ m. AreLooks told g n m first now before last (Err fault)) same looks)

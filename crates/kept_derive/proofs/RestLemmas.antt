@@ -52,5 +52,5 @@ module _ {D : Type 0} (told : D → Telling) (g : Graph) (n : Node) (limit : ℕ
   stopped_rests Memory wanting = flown_rests g old.store.sources.texts (known_in old.store) n limit old.tools new.tools idle Memory _ tt wanting.flown
 
   -- as the answers say it
-  pub rests_at : {T : Type 0} (result : Result T KeptFault) (fault : KeptFault) → result ≡ Err fault → IsStopped told g n limit old new fault → ComesToRest LeavesTools limit old.tools new.tools result
-  rests_at result fault is stopped = subst (ComesToRest LeavesTools limit old.tools new.tools) (sym is) (stopped_rests fault stopped)
+  pub rests_at : {T : Type 0} (result : Result T KeptFault) (fault : KeptFault) (k : ℕ) → result ≡ Err fault → k ≡ limit → IsStopped told g n k old new fault → ComesToRest LeavesTools limit old.tools new.tools result
+  rests_at result fault k is same stopped = subst (ComesToRest LeavesTools limit old.tools new.tools) (sym is) (stopped_rests fault (subst (λ m. IsStopped told g n m old new fault) same stopped))

@@ -1,6 +1,6 @@
 -- One turn of a derivation on its way: a call is started, or one ends or is lost, or the walk goes on.
 use Rattle.std.proofs.Common.{◌≡◌, ◌≤◌, ◌⊎◌, ℕ, List, [], ◌∷◌, ◌++◌, length, inl, inr, refl, sym, ap, subst, arith, append_assoc, length-append, ◌∙◌}
-use Rattle.std.specs.Prelude.{None, Result, Err, IfErr}
+use Rattle.std.specs.Prelude.{Bool, None, Result, Err, IfErr, IsTrue}
 use Rattle.object_values.specs.declared.nodes.Node.{Node}
 use Rattle.object_values.specs.declared.calls.Call.{Call}
 use Rattle.object_values.specs.declared.calls.Outcome.{Outcome}
@@ -15,6 +15,7 @@ use Rattle.meaning_derive.specs.Derive.{Sources, Outcomes}
 use Rattle.meaning_records.specs.Tables.{Calls}
 use Rattle.odin_journal.specs.declared.fault.JournalFault.{JournalFault}
 use Rattle.odin_journal.specs.declared.fault.JournalFault.TheVariants as store
+use Rattle.odin_journal.specs.Rest.{IsReady}
 use Rattle.odin_store.specs.declared.store.Store.{Store}
 use Rattle.odin_store.specs.Held.{Change, keeps}
 use Rattle.odin_store.specs.OnDisk.{IsSame}
@@ -31,6 +32,7 @@ use Rattle.plain_derive.specs.Flights.{Flight, ends, loses, Course, on_course, o
 use Rattle.plain_derive.proofs.Lemmas.{flown_answer}
 use Rattle.kept_derive.specs.declared.fault.KeptFault.{KeptFault}
 use Rattle.kept_derive.specs.declared.fault.KeptFault.TheVariants.{Spawn, Disk, Full, Memory}
+use Rattle.kept_derive.specs.Looked.{AreCounted}
 use Rattle.kept_derive.specs.Runs.{At, at, known_in, world_in, keeps_of}
 use Rattle.kept_derive.specs.Stops.{IsUnkept, IsStopped}
 use Rattle.kept_derive.specs.declared.landing.Landed.{Landed}
@@ -38,7 +40,7 @@ use Rattle.kept_derive.specs.declared.landing.Landed.TheVariants.{Kept, Lost}
 use Rattle.kept_derive.specs.Calls.{HasLanded, HasCrashed, HasSpilled, Lands, FailsToLand}
 use Rattle.kept_derive.specs.Ways.{IsOnWay, IsStartable, StaysOff, DrainStops}
 use Rattle.kept_derive.proofs.HeldLemmas.{keeps_one_more, nothing_behind}
-use Rattle.kept_derive.proofs.CallLemmas.{out_rest, out_limit, out_ran, out_fewer, out_before, out_other, out_apart}
+use Rattle.kept_derive.proofs.CallLemmas.{same_here, out_rest, out_limit, out_ran, out_fewer, out_before, out_other, out_apart}
 use Rattle.kept_derive.proofs.WayLemmas.{flight_at, MayEnd, worlds_are, waits, frontier}
 
 -- a lost end puts a derivation off its course, if it isn't off it yet
@@ -194,6 +196,17 @@ module _ {D : Type 0} (told : D → Telling) (g : Graph) (n : Node) (first : At 
 
   -- ---- where it is
 
+  -- it is given up before anything is done
+  pub none_begun : ChangesFollow told → (limit : ℕ) → IsStopped told g n limit first first Memory
+  none_begun follow limit = record {
+    given = [];
+    rest = [];
+    few = omega arith;
+    flown = record { course = on_course; running = []; few = omega arith; flown = Flies.none_flown };
+    goes = follow.none first.store first.store first.disk first.disk (same_here first.store first.disk);
+    epoch = refl;
+  }
+
   module _ (course : Course) (walked : Walked) (jobs : InFlight) (old : At D) (way : IsOnWay told g n course first walked jobs old) where
     -- memory was wanting, and nothing happened
     pub gives_up : (limit : ℕ) → jobs.limit ≡ limit → (tools : Spawned) → tools ≡ old.tools → IsStopped told g n limit first (at old.store old.disk tools) Memory
@@ -306,3 +319,23 @@ stopped_at result told g n limit k old new fault is same stopped = subst (λ r. 
 
 pub drain_stops_at : {T D : Type 0} (result : Result T KeptFault) (told : D → Telling) (walked : Walked) (jobs : InFlight) (old new : At D) (fault : KeptFault) → result ≡ Err fault → DrainStops told walked jobs old new fault → IfErr result (DrainStops told walked jobs old new)
 drain_stops_at result told walked jobs old new fault is stops = subst (λ r. IfErr r (DrainStops told walked jobs old new)) (sym is) stops
+
+-- ---- a flight in its turns
+
+-- It is on its way, nothing is found, and where it is fresh the walk has gone as far as it can.
+pub record IsFlying {D : Type 0} (told : D → Telling) (size_of faults : D → ℕ) (g : Graph) (n : Node) (most : ℕ) (first : At D) (begun : ℕ) (walked : Walked) (jobs : InFlight) (store : Store) (disk : D) (tools : Spawned) (steps : ℕ) (newest : Bool) : Type 0 where
+  pub way : IsOnWay told g n on_course first walked jobs (at store disk tools)
+  pub still : walked.result ≡ None
+  pub fresh : IsTrue newest → IsAdvanced (world_in g store walked.given) walked
+  pub ready : IsReady store.journal (size_of disk)
+  pub limit : jobs.limit ≡ most
+  pub cause : faults disk ≡ faults first.disk
+  pub counted : AreCounted begun steps 0 walked
+
+pub flying_moves : {D : Type 0} (told : D → Telling) (size_of faults : D → ℕ) (g : Graph) (n : Node) (most : ℕ) (first : At D) (begun : ℕ)
+    {walked walked' : Walked} {jobs jobs' : InFlight} {store store' : Store} {disk disk' : D} {tools tools' : Spawned} {steps steps' : ℕ} {newest newest' : Bool}
+    → walked' ≡ walked → jobs' ≡ jobs → store' ≡ store → disk' ≡ disk → tools' ≡ tools → steps' ≡ steps → newest' ≡ newest
+    → IsFlying told size_of faults g n most first begun walked jobs store disk tools steps newest → IsFlying told size_of faults g n most first begun walked' jobs' store' disk' tools' steps' newest'
+flying_moves {D} told size_of faults g n most first begun walked_is jobs_is store_is disk_is tools_is steps_is newest_is it =
+    subst (λ (z : Walked × InFlight × Store × D × Spawned × ℕ × Bool). IsFlying told size_of faults g n most first begun z.0 z.1 z.2 z.3 z.4 z.5 z.6)
+    (λ i. (sym walked_is i, sym jobs_is i, sym store_is i, sym disk_is i, sym tools_is i, sym steps_is i, sym newest_is i)) it

@@ -15,6 +15,7 @@ use job_runner::Jobs;
 use object_values::{Copied, Node};
 use odin_outside::{Disk, Spawner, Steps};
 use odin_store::Store;
+use odin_store::laws::changes_follow;
 use path_planner::Plans;
 use std::alloc::Global;
 use std::sync::ledger::Ledger;
@@ -48,6 +49,7 @@ pub fn derive_kept<D: Disk, S: Spawner, L: Ledger>(
         steps.old steps.new result }
 {
     graph.checked();
+    changes_follow::<D>();
     let mut core = Core::new(alloc, node.copy(alloc)?);
     let mut jobs = Jobs::new(alloc, limit);
     let flown = fly(

@@ -2,15 +2,16 @@ use Rattle.std.proofs.Common.{rules, ◌≡◌, ◌∙◌, ◌<◌, false, true,
 use Rattle.std.specs.Prelude.{None, Err}
 use Rattle.std.proofs.lemmas.Result.{err_from_is_err_and}
 use Rattle.derive_walk.specs.Walks.{Walked}
+use Rattle.job_runner.specs.Flights.{InFlight}
 use Rattle.kept_derive.specs.declared.fault.KeptFault.TheVariants.{Memory}
-use Rattle.kept_derive.specs.Runs.{world_in}
+use Rattle.kept_derive.specs.Runs.{at, known_in, world_in}
 use Rattle.kept_derive.specs.Ways.{IsStartable, IsNext}
 use Rattle.kept_derive.proofs.HeldLemmas.{kept_fit}
 use Rattle.kept_derive.proofs.CallLemmas.{kept_is, lost_is}
 use Rattle.kept_derive.proofs.WayLemmas.{IsFresh, start, right_now, told_now, may_drain, may_wait, one_runs}
-use Rattle.kept_derive.proofs.TurnLemmas.{lands, crashes, fails, gives_up, starts, refuses, advances, stopped_at}
-use Rattle.kept_derive.proofs.LookLemmas.{none_counted, advance_counted, gives_up_looked, advance_looked, fails_looked, flight_looks_at}
-use Rattle.kept_derive.proofs.flight.fly.Goals.{then-fresh, else-fresh}
+use Rattle.kept_derive.proofs.TurnLemmas.{IsFlying, flying_moves, lands, crashes, fails, gives_up, starts, refuses, advances, stopped_at}
+use Rattle.kept_derive.proofs.LookLemmas.{none_counted, advance_counted, ends_counted, same_sought, gives_up_looked, advance_looked, fails_looked, flight_looks_at}
+use Rattle.kept_derive.proofs.flight.fly.Goals.{in-Some+in-Ok, in_default+then-is_full+in_ok-land+in-Kept, then-fresh, else-fresh, in_default+else-is_full+in_ok-advance+else-is_some}
 use Rattle.kept_derive.proofs.flight.fly.Goals as goal
 
 pub loop-init : goal.loop-init
@@ -103,7 +104,52 @@ returns-then-is_some-clause-flown g c = record {
 -- ---- each turn, and where there are too many
 
 pub loop-preserved : goal.loop-preserved
-loop-preserved g c = ?
+loop-preserved g c =
+    let first = at c.args.store.now c.args.disk.now (g.S.Spawner.told c.args.tools.now) in
+    let it : IsFlying g.D.Disk.told g.D.Disk.size_of g.D.Disk.faults c.args.graph.now c.args.core.now.root c.args.jobs.now.limit first c.args.steps.now c.match-next_call.core c.match-next_call.jobs c.match-next_call.store c.match-next_call.disk
+        (g.S.Spawner.told c.match-next_call.tools) c.match-next_call.steps c.match-next_call.fresh =
+    elim c.match-next_call.branch [
+      | in-Some+in-Ok w ↦
+          let next = subst (λ l. IsStartable l c.loop.jobs w.in-Some.call.now) c.wanted.ensures w.in-Some.ensures in
+          flying_moves g.D.Disk.told g.D.Disk.size_of g.D.Disk.faults c.args.graph.now c.args.core.now.root c.args.jobs.now.limit first c.args.steps.now w.core-is w.jobs-is w.store-is w.disk-is (ap g.S.Spawner.told w.tools-is) w.steps-is w.fresh-is (record {
+            way = starts g.D.Disk.told _ _ _ _ _ _ c.loop.invariant.way c.loop.invariant.still w.in-Some.call.now _ _ next w.in-Ok.ensures.ok;
+            still = c.loop.invariant.still;
+            fresh = c.loop.invariant.fresh;
+            ready = c.loop.invariant.ready;
+            limit = ap (λ (z : InFlight). z.limit) w.in-Ok.ensures.ok.is ∙ c.loop.invariant.limit;
+            cause = c.loop.invariant.cause;
+            counted = c.loop.invariant.counted;
+          })
+      | in_default+then-is_full+in_ok-land+in-Kept w ↦
+          let next = subst (λ l. IsNext l c.loop.jobs None) c.wanted.ensures w.in_default.ensures in
+          let fresh : IsFresh (world_in c.args.graph.now c.loop.store c.loop.core.given) c.loop.core c.loop.jobs =
+          elim w.if-fresh.branch [ then-fresh v ↦ inr (c.loop.invariant.fresh v.if-fresh.true) | else-fresh v ↦ inl (v.is_full.ensures.0 (sym v.value-is ∙ w.if-is_full.true)) ] in
+          let may = may_wait g.D.Disk.told _ _ _ _ _ _ _ c.loop.invariant.way c.loop.invariant.still next fresh in
+          let drain = may_drain g.D.Disk.told _ _ _ _ _ _ _ c.loop.invariant.way c.requires.derivable.spellable c.checked.ensures c.loop.store.are c.requires.idle.none _ c.loop.invariant.ready in
+          let has = kept_is g.D.Disk.told _ _ _ _ _ _ _ w.in-Kept.is w.in_ok-land.ensures.lands in
+          flying_moves g.D.Disk.told g.D.Disk.size_of g.D.Disk.faults c.args.graph.now c.args.core.now.root c.args.jobs.now.limit first c.args.steps.now w.core-is w.jobs-is w.store-is w.disk-is (ap g.S.Spawner.told w.tools-is) w.steps-is w.fresh-is (record {
+            way = lands g.D.Disk.told _ _ _ _ _ _ _ c.loop.invariant.way may c.changes_follow.ensures _ _ _ has
+                (w.in_ok-land.ensures.right c.args.graph.now c.args.store.now.sources.texts (known_in c.args.store.now) c.loop.invariant.way.right);
+            still = has.given.result ∙ c.loop.invariant.still;
+            fresh = λ e. let no : false ≡ true = e in cc;
+            ready = w.in_ok-land.ensures.left.ready;
+            limit = w.in_ok-land.ensures.limit ∙ c.loop.invariant.limit;
+            cause = w.in_ok-land.ensures.cause.ok ∙ c.loop.invariant.cause;
+            counted = ends_counted _ _ _ _ c.loop.invariant.counted (same_sought g.D.Disk.told _ _ _ _ _ _ _ drain _ w.in_ok-land.ensures.lands);
+          })
+      | in_default+else-is_full+in_ok-advance+else-is_some w ↦
+          let still : w.advance.new.core.result ≡ None = search rules in
+          flying_moves g.D.Disk.told g.D.Disk.size_of g.D.Disk.faults c.args.graph.now c.args.core.now.root c.args.jobs.now.limit first c.args.steps.now w.core-is w.jobs-is w.store-is w.disk-is (ap g.S.Spawner.told w.tools-is) w.steps-is w.fresh-is (record {
+            way = advances g.D.Disk.told _ _ _ _ _ _ c.loop.invariant.way _ w.in_ok-advance.ensures.on w.in_ok-advance.ensures.right w.in_ok-advance.ensures.advanced;
+            still = still;
+            fresh = λ e. w.in_ok-advance.ensures.advanced;
+            ready = c.loop.invariant.ready;
+            limit = c.loop.invariant.limit;
+            cause = c.loop.invariant.cause;
+            counted = advance_counted _ _ _ _ _ _ c.loop.invariant.counted w.in_ok-advance.ensures.on.given w.in_ok-advance.ensures.counted;
+          })
+    ] in
+    record { way = it.way; still = it.still; fresh = it.fresh; ready = it.ready; limit = it.limit; cause = it.cause; counted = it.counted }
 
 pub returns-clause-stopped : goal.returns-clause-stopped
 returns-clause-stopped g c = gives_up g.D.Disk.told _ _ _ _ _ _ _ c.loop.invariant.way _ c.loop.invariant.limit _ refl
