@@ -34,6 +34,16 @@ use Rattle.kept_derive.proofs.HeldLemmas.{sources_after}
 use Rattle.kept_derive.proofs.WayLemmas.{waits}
 use Rattle.kept_derive.proofs.TurnLemmas.{finds_chain}
 
+cut_not_found : flight.Cut ≡ flight.Found → ⊥
+cut_not_found e = cc
+
+found_not_cut : flight.Found ≡ flight.Cut → ⊥
+found_not_cut e = cc
+
+none_not_some : (o : Option Found) → o ≡ None → IsSome o → ⊥
+none_not_some (Some found) e some = cc
+none_not_some None e some = let no : false ≡ true = some in cc
+
 module _ {D : Type 0} (told : D → Telling) (g : Graph) (n : Node) (first : At D) where
   module _ (course : Course) (walked : Walked) (jobs : InFlight) (now : At D) (way : IsOnWay told g n course first walked jobs now) where
     is_found : (found : Found) → walked.result ≡ Some found → IsFound g first.store.sources.texts (after (known_in first.store) walked.given) n found
@@ -98,7 +108,7 @@ module _ {D : Type 0} (told : D → Telling) (g : Graph) (n : Node) (first : At 
       by_result (Some found) is there =
           let d = is_drained_for walked jobs now has.way found is some in
           (d.0, subst (λ k. IsOnWay told g n k first walked jobs now) d.1 (takes_course walked jobs now has.way found is))
-      by_result None is there = let no : false ≡ true = there in cc
+      by_result None is there = absurd (none_not_some None refl there)
 
 pub none_runs : (running : List Flying) → length running ≤ 0 → running ≡ []
 none_runs [] none = refl
@@ -119,9 +129,9 @@ module _ {D : Type 0} (told : D → Telling) (g : Graph) (n : Node) (most : ℕ)
     limit = limit;
     same = refl;
     found = λ e found is. takes_course told g n first walked jobs now has.way found is;
-    cut = λ e. cc;
+    cut = λ e. absurd (found_not_cut e);
   }
-  settles_now walked jobs now flight.Cut way limit none = record { none = none; limit = limit; same = refl; found = λ e. cc; cut = λ e. way }
+  settles_now walked jobs now flight.Cut way limit none = record { none = none; limit = limit; same = refl; found = λ e. absurd (cut_not_found e); cut = λ e. way }
 
   pub settles_drained : (walked : Walked) (jobs : InFlight) (now : At D) (flown : Flown) → ComesTo told g n first walked jobs now flown → jobs.limit ≡ most → 0 < length jobs.running
       → (walked' : Walked) (jobs' : InFlight) (new : At D) → Drains told walked jobs now walked' jobs' new → IsSettled told g n most (sought_by walked) first walked' jobs' new flown
@@ -134,13 +144,13 @@ module _ {D : Type 0} (told : D → Telling) (g : Graph) (n : Node) (most : ℕ)
         let d = is_drained_for told g n first walked jobs now has.way found was some in
         let way = subst (λ k. IsOnWay told g n k first walked jobs now) d.1 (takes_course told g n first walked jobs now has.way found was) in
         subst (λ k. IsOnWay told g n k first walked' jobs' new) (sym d.1) (drains.on g n d.0 first way);
-    cut = λ e. cc;
+    cut = λ e. absurd (found_not_cut e);
   }
   settles_drained walked jobs now flight.Cut way limit some walked' jobs' new drains = record {
     none = drains.none;
     limit = drains.limit ∙ limit;
     same = drains.sought;
-    found = λ e. cc;
+    found = λ e. absurd (cut_not_found e);
     cut = λ e. drains.on g n for_spawn first way;
   }
 
