@@ -1,6 +1,6 @@
 -- What follows of a flight: what came, what is told, how faults are counted, and when nothing happens.
-use Rattle.std.proofs.Common.{◌≡◌, ◌≤◌, ◌+◌, ℕ, Bool, true, false, List, [], ◌∷◌, ◌++◌, map, length, inl, inr, refl, sym, ap, subst, arith, length-append, ◌∙◌}
-use Rattle.std.specs.Prelude.{min, Option, Some, None, IsSome}
+use Rattle.std.proofs.Common.{◌≡◌, ◌≤◌, ℕ, true, false, List, [], ◌∷◌, ◌++◌, length, inl, inr, refl, sym, ap, subst, arith, length-append, ◌∙◌}
+use Rattle.std.specs.Prelude.{Option, Some, None, IsSome}
 use Rattle.object_values.specs.declared.nodes.Node.{Node}
 use Rattle.object_values.specs.declared.calls.Call.{Call}
 use Rattle.object_values.specs.declared.calls.Outcome.{Outcome}
@@ -17,11 +17,11 @@ use Rattle.walk_tables.specs.Calls.{Outcomes as Listed}
 use Rattle.derive_walk.specs.Outcomes.{after}
 use Rattle.job_runner.specs.declared.jobs.Flying.{Flying}
 use Rattle.job_runner.specs.Made.{IsOutcomeOf}
-use Rattle.job_runner.specs.Flights.{flying, calls_in, tool_of, AreDistinct, AreTold}
+use Rattle.job_runner.specs.Flights.{flying, calls_in, tool_of, AreTold}
 use Rattle.job_runner.proofs.Lemmas.{no_more, told_one_more, call_there}
 use Rattle.plain_derive.specs.Given.{AreGiven, HaveCome, IsRefusedBy}
-use Rattle.plain_derive.specs.Flights.{Flight, Waits, IsCalled, IsFull, Course, on_course, off_course, Why, for_chain, for_spawn, Flies}
-use Rattle.plain_derive.specs.FlightLaws.{FullIsLesser, FlightsAreFew, IsFlown, FlightsAreGiven, CountedOn, FlightsAreCounted, IsUnflown, RefusedFlyNone, KnownFlyNone}
+use Rattle.plain_derive.specs.Flights.{Flight, Waits, IsCalled, IsFull, Course, on_course, off_course, for_chain, for_spawn, Flies}
+use Rattle.plain_derive.specs.FlightLaws.{FullIsLesser, FlightsAreFew, FlightsAreGiven, FlightsAreCounted, IsUnflown, RefusedFlyNone, KnownFlyNone}
 use Rattle.plain_derive.proofs.KeptLemmas.{one_more_known}
 
 none_between : {A : Type 0} (front back : List A) (x : A) → [] ≡ front ++ x ∷ back → ⊥

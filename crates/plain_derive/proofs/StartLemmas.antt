@@ -16,14 +16,13 @@ use Rattle.meaning_calls.specs.Jobs.{job_of}
 use Rattle.meaning_graph.specs.Graphs.{Graph}
 use Rattle.meaning_derive.specs.Derive.{Sources, Outcomes, derived}
 use Rattle.meaning_derive.specs.Calls.{IsCallFrom}
-use Rattle.meaning_derive.specs.Laws.{HasMore}
 use Rattle.meaning_derive.proofs.Lemmas.{kept as calls_stay}
 use Rattle.derive_walk.specs.Outcomes.{after}
 use Rattle.job_runner.specs.declared.jobs.Flying.{Flying}
 use Rattle.job_runner.specs.Flights.{flying, calls_in}
 use Rattle.job_runner.proofs.Lemmas.{call_goes_on, call_left, call_there}
 use Rattle.plain_derive.specs.Given.{calls_of}
-use Rattle.plain_derive.specs.Flights.{Flight, Waits, begins, ends, loses, Course, on_course, off_course, Flies}
+use Rattle.plain_derive.specs.Flights.{Flight, ends, loses, Course, on_course, off_course, Flies}
 use Rattle.plain_derive.specs.FlightLaws.{started_in, LogHas, HasStarted, OnlyNeededStarts}
 use Rattle.plain_derive.proofs.GivenLemmas.{one_more_call}
 use Rattle.plain_derive.proofs.KeptLemmas.{then_more, one_more_known, not_among, kept_none}

@@ -1,4 +1,5 @@
 // Calls in flight on small tables.
+ghost use Rattle.std.specs.Prelude.{◌≡◌};
 ghost use Rattle.job_runner.specs.Flights.{AreTold};
 
 use super::texts::{Text, call_of};
@@ -19,6 +20,9 @@ enum Step {
     Loses,
 }
 
+// How many run at once at most.
+const MOST: u32 = 2;
+
 // What is done; then how many run, and whether as many as may.
 type Row = (Step, usize, bool);
 
@@ -35,9 +39,11 @@ fn start<S: Spawner>(
     call: &Call,
 ) -> Option<Result<(), JobFault>>
     requires told { AreTold jobs.old.running (S.told tools.old) }
+    requires limit { jobs.old.limit ≡ MOST }
     ensures told { AreTold jobs.new.running (S.told tools.new) }
+    ensures limit { jobs.new.limit ≡ MOST }
 {
-    if jobs.is_full() || jobs.has(call) {
+    if jobs.running() >= MOST as usize || jobs.has(call) {
         return None;
     }
     Some(jobs.start(alloc, call, tools))
@@ -50,7 +56,9 @@ fn finish<S: Spawner>(
     tools: &mut S,
 ) -> Option<Result<(Call, Outcome), JobFault>>
     requires told { AreTold jobs.old.running (S.told tools.old) }
+    requires limit { jobs.old.limit ≡ MOST }
     ensures told { AreTold jobs.new.running (S.told tools.new) }
+    ensures limit { jobs.new.limit ≡ MOST }
 {
     if jobs.running() == 0 {
         return None;
@@ -67,7 +75,9 @@ fn starts<S: Spawner>(
     wanted: Result<(), JobFault>,
 ) -> Result<bool, Memory>
     requires told { AreTold jobs.old.running (S.told tools.old) }
+    requires limit { jobs.old.limit ≡ MOST }
     ensures told { AreTold jobs.new.running (S.told tools.new) }
+    ensures limit { jobs.new.limit ≡ MOST }
 {
     let call = call(alloc, word)?;
     let went = start(alloc, jobs, tools, &call);
@@ -83,7 +93,9 @@ fn ends<S: Spawner>(
     status: Status,
 ) -> Result<bool, Memory>
     requires told { AreTold jobs.old.running (S.told tools.old) }
+    requires limit { jobs.old.limit ≡ MOST }
     ensures told { AreTold jobs.new.running (S.told tools.new) }
+    ensures limit { jobs.new.limit ≡ MOST }
 {
     let call = call(alloc, word)?;
     match finish(alloc, jobs, tools) {
@@ -102,7 +114,9 @@ fn goes<S: Spawner>(
     step: Step,
 ) -> Result<bool, Memory>
     requires told { AreTold jobs.old.running (S.told tools.old) }
+    requires limit { jobs.old.limit ≡ MOST }
     ensures told { AreTold jobs.new.running (S.told tools.new) }
+    ensures limit { jobs.new.limit ≡ MOST }
 {
     match step {
         Step::Starts(word) => starts(alloc, jobs, tools, word, Ok(())),
@@ -120,6 +134,7 @@ fn rows_gone<S: Spawner>(
     rows: &[Row],
 ) -> Result<usize, Memory>
     requires told { AreTold jobs.old.running (S.told tools.old) }
+    requires limit { jobs.old.limit ≡ MOST }
 {
     for (place, (step, running, full)) in rows.iter().enumerate() {
         if !goes(alloc, jobs, tools, *step)? {
@@ -163,7 +178,7 @@ const ORDERED: &[Row] = &[
 
 #[test]
 fn gives_the_call_that_ended(rt: HostRuntime) -> Result<(), Fail> {
-    let mut jobs = Jobs::new(rt.alloc(), 2);
+    let mut jobs = Jobs::new(rt.alloc(), MOST);
     let mut tools = tools(rt.alloc(), &[1])?;
     let gone = rows_gone(rt.alloc(), &mut jobs, &mut tools, ORDERED)?;
     assert!(rt; gone == 6);
@@ -183,7 +198,7 @@ const FAILING: &[Row] = &[
 
 #[test]
 fn loses_a_start_and_an_end(rt: HostRuntime) -> Result<(), Fail> {
-    let mut jobs = Jobs::new(rt.alloc(), 2);
+    let mut jobs = Jobs::new(rt.alloc(), MOST);
     let fails = Seq::from_vec([2, 4].to_vec(rt.alloc())?);
     let mut tools = FailTools::new(tools(rt.alloc(), &[1])?, fails);
     let gone = rows_gone(rt.alloc(), &mut jobs, &mut tools, FAILING)?;
