@@ -11,7 +11,7 @@ use Rattle.object_values.specs.Exact.{call_exact}
 use Rattle.object_sources.specs.Texts.{Texts}
 use Rattle.odin_outside.specs.Spawned.{Table}
 use Rattle.meaning_texts.specs.Lists.{IsIn}
-use Rattle.meaning_texts.proofs.Lemmas.{in_left, in_right, in_either}
+use Rattle.meaning_texts.proofs.Lemmas.{in_left, in_right}
 use Rattle.meaning_graph.specs.Graphs.{Text, Graph}
 use Rattle.meaning_derive.specs.Derive.{derived}
 use Rattle.meaning_derive.specs.Given.{table_outcomes}
@@ -27,7 +27,7 @@ use Rattle.meaning_answers.specs.Answers.{Answer}
 use Rattle.meaning_answers.proofs.Lemmas.{not_refused, one_node}
 use Rattle.plain_derive.specs.Given.{calls_of, HaveCome}
 use Rattle.plain_derive.specs.Flights.{Course, AreRun, at_rest, off_course, for_spawn}
-use Rattle.plain_derive.proofs.Lemmas.{given_are_calls, given_are_true, flown_given, flown_came}
+use Rattle.plain_derive.proofs.Lemmas.{given_are_calls, given_are_new, given_are_true, flown_given, flown_came}
 use Rattle.odin_store.specs.Held.{Held}
 use Rattle.kept_derive.specs.Runs.{course_of}
 use Rattle.odin_answers.specs.Answers.{Agrees, AreAll, IsLeftAlone, IsDerived, IsReply}
@@ -37,6 +37,7 @@ use Rattle.odin_shell.specs.Language.{commands}
 use Rattle.odin_shell.specs.Machine.{State, Step, Asks}
 use Rattle.odin_shell.specs.Fresh.{fresh_of, GrowsBySome, GrowsByAll, FreshAnswer, FreshStep}
 use Rattle.odin_shell.proofs.MadeLemmas.{kept_calls, kept_sources, edits_keep, step_true}
+use Rattle.odin_shell.proofs.OnceLemmas.{given_there}
 
 -- a call that has an outcome is one of those that are kept
 kept_in : (kept : Calls) (call : Call) → IsSome (kept_outcome kept call) → IsIn call (calls_of kept)
@@ -81,16 +82,17 @@ module _ (g : Graph) (table : Table) (limit : ℕ) (text : Text) (old new : Stat
   run_agrees : (n : Node) (course : Course) → AreRun g s (kept_outcome kept) n limit course given old.tools new.tools → Agrees kept given (table_outcomes table)
   run_agrees n course run = came_agrees (flown_came g s (kept_outcome kept) n limit old.tools course (at_rest given new.tools) run.flown)
 
-  -- the calls that came are those of the node
+  -- the calls that came are those of the node, and weren't kept
   grows : (n : Node) (course : Course) → AreRun g s (kept_outcome kept) n limit course given old.tools new.tools → GrowsBySome g table (fresh_of old) (fresh_of new) n
   grows n course run =
       let are = flown_given g s (kept_outcome kept) n limit old.tools course (at_rest given new.tools) run.flown in
+      let unkept = given_are_new g s (kept_outcome kept) n given are in
       record {
-        stays = λ call i. subst (IsIn call) (sym calls_are) (in_left call (calls_of kept) (calls_of given) i);
-        only = λ call i. elim (in_either call (calls_of kept) (calls_of given) (subst (IsIn call) calls_are i)) [
-          | inl was ↦ inl was
-          | inr came ↦ inr (given_are_calls g s (kept_outcome kept) n given are (table_outcomes table) (run_agrees n course run) call came)
-        ];
+        came = calls_of given;
+        kept = calls_are;
+        once = unkept.once;
+        unkept = λ call i j. given_there kept call j (unkept.none call i);
+        only = λ call i. given_are_calls g s (kept_outcome kept) n given are (table_outcomes table) (run_agrees n course run) call i;
         sources = sources_are;
         tree = asks.tree;
       }

@@ -59,7 +59,8 @@ behind_none (x ∷ kept) given call none = by_test (call_eq.eq call x.0) none (b
     by_test true none more = absurd (let no : ⊥ = cc in no)
     by_test false none more = more none
 
-given_there : (given : Calls) (call : Call) → IsIn call (calls_of given) → kept_outcome given call ≡ None → ⊥
+-- a call that was given an outcome has one
+pub given_there : (given : Calls) (call : Call) → IsIn call (calls_of given) → kept_outcome given call ≡ None → ⊥
 given_there [] call i none = i
 given_there (x ∷ given) call i none = by_test (call_eq.eq call x.0) refl none (given_there given call)
   where

@@ -2,7 +2,7 @@
 --
 -- It is what a session means to whoever reads its replies. It knows no store, no outcome and no tool that runs: only the sources, which calls
 -- count as kept, and what is told of the tree.
-use Rattle.std.specs.Prelude.{◌≡◌, ◌⊎◌, ℕ, List, [], length, Some}
+use Rattle.std.specs.Prelude.{◌≡◌, ℕ, List, [], ◌++◌, length, Some}
 use Rattle.object_values.specs.declared.nodes.Node.{Node}
 use Rattle.object_values.specs.declared.views.View.{View}
 use Rattle.object_values.specs.declared.calls.Call.{Call}
@@ -23,6 +23,7 @@ use Rattle.meaning_commands.specs.declared.replies.Reply.TheVariants as reply
 use Rattle.meaning_commands.specs.Replies.{reply_text}
 use Rattle.meaning_answers.specs.Replies.{shown, refused_circular, refused_deep}
 use Rattle.meaning_answers.specs.Answers as answers
+use Rattle.walk_tables.specs.Calls.{AreOnce}
 use Rattle.plain_derive.specs.Given.{calls_of}
 use Rattle.odin_answers.specs.Laws.{IsTrueFor}
 use Rattle.source_edits.specs.Edits.{Says, TreeTold, IsAsked, Puts, Takes, Removes, source_lines}
@@ -44,10 +45,13 @@ module _ (g : Graph) (table : Table) (old new : FreshState) where
   abbrev pub IsOfNode : Node → Call → Type 0
   IsOfNode n call = IsCallFrom g (derived g old.sources (table_outcomes table)) n call
 
-  -- Of the node's calls some are kept more, and nothing else changes.
+  -- Of the node's calls some are kept more, each once and none that was kept, and nothing else changes.
   pub record GrowsBySome (n : Node) : Type 0 where
-    pub stays : (call : Call) → IsIn call old.calls → IsIn call new.calls
-    pub only : (call : Call) → IsIn call new.calls → IsIn call old.calls ⊎ IsOfNode n call
+    pub came : List Call
+    pub kept : new.calls ≡ old.calls ++ came
+    pub once : AreOnce came
+    pub unkept : (call : Call) → IsIn call came → IsIn call old.calls → ⊥
+    pub only : (call : Call) → IsIn call came → IsOfNode n call
     pub sources : new.sources ≡ old.sources
     pub tree : new.tree ≡ old.tree
 
@@ -104,8 +108,8 @@ FreshStep g table old (BadName count) body bytes new = FreshReplies reply.Refuse
 -- ---- the headline
 
 -- Where the tools answer by a table and what was kept is what it gives, the replies of a session are those of this machine: as derived with
--- nothing kept. What it holds at its end is what this machine comes to: the kept calls grow by exactly those of the node at an answer, by
--- some of them at a chain or a refused start, and by no others.
+-- nothing kept. What it holds at its end is what this machine comes to: the kept calls grow by exactly those of the node that weren't kept at
+-- an answer, by some of them at a chain or a refused start, and by no others.
 abbrev pub RunIsFresh : Type 0
 RunIsFresh =
     (g : Graph) (limit : ℕ) (table : Table) (first last : State) (items : List Item) (replies : List (List ℕ))

@@ -1,5 +1,5 @@
 // Calls in flight on small tables.
-ghost use Rattle.std.specs.Prelude.{◌≡◌};
+ghost use Rattle.std.specs.Prelude.{◌≡◌, [], IfOk};
 ghost use Rattle.job_runner.specs.Flights.{AreTold};
 
 use super::texts::{Text, call_of};
@@ -136,7 +136,7 @@ fn rows_gone<S: Spawner>(
     requires told { AreTold jobs.old.running (S.told tools.old) }
     requires limit { jobs.old.limit ≡ MOST }
 {
-    for (place, (step, running, full)) in rows.iter().enumerate() {
+    'rows: for (place, (step, running, full)) in rows.iter().enumerate() {
         if !goes(alloc, jobs, tools, *step)? {
             return Ok(place);
         }
@@ -156,7 +156,9 @@ fn raw(alloc: Global, code: u8) -> Raw {
 }
 
 // Tools with these orders of their ends, in which the job of `ld` ends with exit status 1, and all others with 0.
-fn tools(alloc: Global, order: &[u32]) -> Result<TableTools, Memory> {
+fn tools(alloc: Global, order: &[u32]) -> Result<TableTools, Memory>
+    ensures { IfOk result (λ tools. tools.running ≡ []) }
+{
     let mut pairs = Seq::new(alloc);
     pairs.push(JobRaw {
         job: job_of(alloc, &call(alloc, b"ld")?)?,
