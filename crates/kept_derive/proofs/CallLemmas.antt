@@ -27,7 +27,7 @@ use Rattle.kept_derive.specs.declared.landing.Landed.{Landed}
 use Rattle.kept_derive.specs.declared.landing.Landed.TheVariants.{Kept, Lost}
 use Rattle.kept_derive.specs.Calls.{IsKeepable, MayDrain, HasLanded, HasCrashed, Lands, FailsToLand}
 use Rattle.kept_derive.specs.Faults.{of_store, IsLeftBy, IsLeft, IsCauseOf, IsCause}
-use Rattle.kept_derive.specs.Runs.{At, known_in}
+use Rattle.kept_derive.specs.Runs.{At}
 use Rattle.kept_derive.proofs.HeldLemmas.{calls_after}
 
 -- nothing happened to a store and its disk

@@ -1,9 +1,8 @@
 -- How a derivation leaves the tools.
-use Rattle.std.proofs.Common.{◌≡◌, ℕ, [], length, sym, ap, subst, arith, ◌∙◌}
+use Rattle.std.proofs.Common.{◌≡◌, ℕ, [], length, sym, ap, subst, arith}
 use Rattle.std.specs.Prelude.{Result, Ok, Err}
 use Rattle.std.proofs.lemmas.List.{length-map}
 use Rattle.object_values.specs.declared.nodes.Node.{Node}
-use Rattle.odin_outside.specs.declared.events.Running.{Running}
 use Rattle.odin_outside.specs.Disk.{Telling}
 use Rattle.odin_outside.specs.Spawned.{Spawned}
 use Rattle.meaning_graph.specs.Graphs.{Graph}

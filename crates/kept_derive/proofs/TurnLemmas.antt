@@ -1,5 +1,5 @@
 -- One turn of a derivation on its way: a call is started, or one ends or is lost, or the walk goes on.
-use Rattle.std.proofs.Common.{◌≡◌, ◌≤◌, ◌⊎◌, ℕ, List, [], ◌∷◌, ◌++◌, length, inl, inr, refl, sym, ap, subst, arith, append_assoc, length-append, ◌∙◌}
+use Rattle.std.proofs.Common.{◌≡◌, ◌≤◌, ℕ, List, [], ◌∷◌, ◌++◌, length, inl, inr, refl, sym, ap, subst, arith, append_assoc, length-append, ◌∙◌}
 use Rattle.std.specs.Prelude.{Bool, None, Result, Err, IfErr, IsTrue}
 use Rattle.object_values.specs.declared.nodes.Node.{Node}
 use Rattle.object_values.specs.declared.calls.Call.{Call}
@@ -9,7 +9,6 @@ use Rattle.odin_outside.specs.Causes.{IsCounted}
 use Rattle.odin_outside.specs.Disk.{Telling}
 use Rattle.odin_outside.specs.Spawned.{Spawned, begun, Fails}
 use Rattle.meaning_texts.specs.Lists.{IsIn}
-use Rattle.meaning_calls.specs.Jobs.{job_of}
 use Rattle.meaning_graph.specs.Graphs.{Graph}
 use Rattle.meaning_derive.specs.Derive.{Sources, Outcomes}
 use Rattle.meaning_records.specs.Tables.{Calls}
@@ -28,7 +27,7 @@ use Rattle.job_runner.specs.Flights.{InFlight, flying, calls_in, AreDistinct, la
 use Rattle.job_runner.specs.Made.{IsOutcomeOf}
 use Rattle.job_runner.proofs.Lemmas.{distinct_more, calls_one_more, call_or_last}
 use Rattle.plain_derive.specs.Given.{IsRefusedBy}
-use Rattle.plain_derive.specs.Flights.{Flight, ends, loses, Course, on_course, off_course, Why, for_chain, for_spawn, Waits, IsCalled, MayBegin, Flies, AreFlown}
+use Rattle.plain_derive.specs.Flights.{Flight, ends, loses, Course, on_course, off_course, for_chain, for_spawn, Waits, IsCalled, MayBegin, Flies, AreFlown}
 use Rattle.plain_derive.proofs.Lemmas.{flown_answer}
 use Rattle.kept_derive.specs.declared.fault.KeptFault.{KeptFault}
 use Rattle.kept_derive.specs.declared.fault.KeptFault.TheVariants.{Spawn, Disk, Full, Memory}
@@ -89,8 +88,8 @@ module _ {D : Type 0} (told : D → Telling) (g : Graph) (n : Node) (first : At 
         let tools : new.tools ≡ landed old.tools (ended.out.front ++ ended.out.back) (Ended ended.slot) old.tools.faults = ended.told ∙ ap (λ l. landed old.tools l (Ended ended.slot) old.tools.faults) rest in
         subst (λ (z : List Flying × Spawned). Flies g first.store.sources.texts (known_in first.store) n jobs.limit first.tools course (record { running = z.0; given = walked.given ++ (call, outcome) ∷ []; tools = z.1 })) (λ i. (sym rest i, sym tools i))
         (flies_ended course (flight_at walked jobs old.tools) jobs.limit ended.out.front ended.out.back ended.slot call outcome way.flown may ended.out.was
-          (waits told g n first course walked jobs old way call (way.runs call (out_ran ended.slot call jobs jobs' ended.out)))
-          (subst (λ a. IsOutcomeOf a call outcome) (flown_answer g first.store.sources.texts (known_in first.store) n jobs.limit first.tools course (flight_at walked jobs old.tools) way.flown) ended.came))
+        (waits told g n first course walked jobs old way call (way.runs call (out_ran ended.slot call jobs jobs' ended.out)))
+        (subst (λ a. IsOutcomeOf a call outcome) (flown_answer g first.store.sources.texts (known_in first.store) n jobs.limit first.tools course (flight_at walked jobs old.tools) way.flown) ended.came))
 
     flight_lost : (jobs' : InFlight) (new : At D) → HasLost jobs old.tools jobs' new.tools
         → Flies g first.store.sources.texts (known_in first.store) n jobs.limit first.tools (after_loss course) (record { running = jobs'.running; given = walked.given; tools = new.tools })

@@ -150,8 +150,7 @@ module _ {D : Type 0} (told : D → Telling) (g : Graph) (n : Node) (first : At 
     may_wait still (inl full) fresh = limited full
     may_wait still (inr all) (inl full) = limited full
     may_wait still (inr all) (inr ended) =
-        let there = frontier walked now way.root way.goes still ended in
-        (
+        let there = frontier walked now way.root way.goes still ended in (
           record { only = λ call i. waits call (way.runs call i); once = way.apart; few = omega (arith, way.few, calls_long jobs.running); full = inr (λ call stops. all call (there.each call stops)) },
           inr (λ r. there.calm r.chain r.is),
         )

@@ -1,4 +1,4 @@
-use Rattle.std.proofs.Common.{rules, arith, ◌≡◌, ◌<◌, ◌∙◌, [], length, sym, ap, subst, refl}
+use Rattle.std.proofs.Common.{arith, ◌≡◌, ◌<◌, ◌∙◌, [], length, sym, ap, subst, refl}
 use Rattle.std.specs.Prelude.{Err}
 use Rattle.std.proofs.lemmas.Result.{err_from_is_err_and}
 use Rattle.derive_walk.specs.Walks.{Walked}
@@ -43,35 +43,35 @@ drain-requires g c =
 
 pub returns-in_err-drain-clause-stopped : goal.returns-in_err-drain-clause-stopped
 returns-in_err-drain-clause-stopped g c =
-    let given = err_from_is_err_and _ c.from_residual-in_err-drain.ensures.1 in
     let first = at c.args.store.now c.args.disk.now (g.S.Spawner.told c.args.tools.now) in
     let now = at c.fly.new.store c.fly.new.disk (g.S.Spawner.told c.fly.new.tools) in
     let comes = subst (λ z. ComesTo g.D.Disk.told c.args.graph.now z first c.fly.new.core c.fly.new.jobs now c.in_ok-flown.flown) (ap (λ (z : Walked). z.root) c.new-core.ensures.is ∙ c.in_ok-copy.ensures) c.in_ok-flown.ensures.flown in
     let some : 0 < length c.fly.new.jobs.running = omega (arith, c.if-running-gt0.true, c.running.ensures) in
     let for = drained_for g.D.Disk.told c.args.graph.now c.args.node.now first c.fly.new.core c.fly.new.jobs now c.in_ok-flown.flown comes some in
+    let given = err_from_is_err_and _ c.from_residual-in_err-drain.ensures.1 in
     stopped_at _ _ _ _ _ c.fly.new.jobs.limit _ _ _ (given.1 ∙ ap (λ f. Err f) given.2) (c.fly.ensures.limit ∙ ap (λ (z : InFlight). z.limit) c.new-jobs.ensures)
     (c.in_err-drain.ensures.stops c.args.graph.now c.args.node.now for.0 first for.1).stopped
 
 pub returns-in_err-drain-clause-rest : goal.returns-in_err-drain-clause-rest
 returns-in_err-drain-clause-rest g c =
-    let given = err_from_is_err_and _ c.from_residual-in_err-drain.ensures.1 in
     let first = at c.args.store.now c.args.disk.now (g.S.Spawner.told c.args.tools.now) in
     let now = at c.fly.new.store c.fly.new.disk (g.S.Spawner.told c.fly.new.tools) in
     let new = at c.drain.new.store c.drain.new.disk (g.S.Spawner.told c.drain.new.tools) in
     let comes = subst (λ z. ComesTo g.D.Disk.told c.args.graph.now z first c.fly.new.core c.fly.new.jobs now c.in_ok-flown.flown) (ap (λ (z : Walked). z.root) c.new-core.ensures.is ∙ c.in_ok-copy.ensures) c.in_ok-flown.ensures.flown in
     let some : 0 < length c.fly.new.jobs.running = omega (arith, c.if-running-gt0.true, c.running.ensures) in
     let for = drained_for g.D.Disk.told c.args.graph.now c.args.node.now first c.fly.new.core c.fly.new.jobs now c.in_ok-flown.flown comes some in
+    let given = err_from_is_err_and _ c.from_residual-in_err-drain.ensures.1 in
     rests_at g.D.Disk.told c.args.graph.now c.args.node.now c.args.limit first new c.requires.idle.none _ _ c.fly.new.jobs.limit (given.1 ∙ ap (λ f. Err f) given.2) (c.fly.ensures.limit ∙ ap (λ (z : InFlight). z.limit) c.new-jobs.ensures)
     (c.in_err-drain.ensures.stops c.args.graph.now c.args.node.now for.0 first for.1).stopped
 
 pub returns-in_err-drain-clause-counted : goal.returns-in_err-drain-clause-counted
 returns-in_err-drain-clause-counted g c =
-    let given = err_from_is_err_and _ c.from_residual-in_err-drain.ensures.1 in
     let first = at c.args.store.now c.args.disk.now (g.S.Spawner.told c.args.tools.now) in
     let now = at c.fly.new.store c.fly.new.disk (g.S.Spawner.told c.fly.new.tools) in
     let comes = subst (λ z. ComesTo g.D.Disk.told c.args.graph.now z first c.fly.new.core c.fly.new.jobs now c.in_ok-flown.flown) (ap (λ (z : Walked). z.root) c.new-core.ensures.is ∙ c.in_ok-copy.ensures) c.in_ok-flown.ensures.flown in
     let some : 0 < length c.fly.new.jobs.running = omega (arith, c.if-running-gt0.true, c.running.ensures) in
     let for = drained_for g.D.Disk.told c.args.graph.now c.args.node.now first c.fly.new.core c.fly.new.jobs now c.in_ok-flown.flown comes some in
+    let given = err_from_is_err_and _ c.from_residual-in_err-drain.ensures.1 in
     looks_at _ _ _ _ _ c.fly.new.jobs.limit _ _ _ _ _ (given.1 ∙ ap (λ f. Err f) given.2) (c.fly.ensures.limit ∙ ap (λ (z : InFlight). z.limit) c.new-jobs.ensures)
     ((c.in_err-drain.ensures.stops c.args.graph.now c.args.node.now for.0 first for.1).looks _ _ c.in_ok-flown.ensures.counted)
 

@@ -10,7 +10,7 @@ pub returns-in_err-land-clause-stops : goal.returns-in_err-land-clause-stops
 returns-in_err-land-clause-stops g c =
     let given = err_from_is_err_and _ c.from_residual.ensures.1 in
     drain_stops_at _ _ _ _ _ _ _ (given.1 ∙ ap (λ f. Err f) given.2) (λ g' n why first way.
-        halts g.D.Disk.told g' n first _ _ _ _ (c.loop.invariant.on g' n why first way) c.changes_follow.ensures tt _ _ _ _ c.in_err-land.ensures.fails _ c.loop.invariant.limit c.args.core.now c.loop.invariant.sought)
+    halts g.D.Disk.told g' n first _ _ _ _ (c.loop.invariant.on g' n why first way) c.changes_follow.ensures tt _ _ _ _ c.in_err-land.ensures.fails _ c.loop.invariant.limit c.args.core.now c.loop.invariant.sought)
 
 pub loop-preserved : goal.loop-preserved
 loop-preserved g c = record {

@@ -1,4 +1,4 @@
-use Rattle.std.proofs.Common.{rules, ◌≡◌, ◌∙◌, ◌<◌, false, true, length, inl, inr, sym, ap, subst, refl}
+use Rattle.std.proofs.Common.{rules, ◌≡◌, ◌∙◌, ◌<◌, false, true, inl, inr, sym, ap, subst, refl}
 use Rattle.std.specs.Prelude.{None, Err}
 use Rattle.std.proofs.lemmas.Result.{err_from_is_err_and}
 use Rattle.derive_walk.specs.Walks.{Walked}
@@ -107,7 +107,7 @@ pub loop-preserved : goal.loop-preserved
 loop-preserved g c =
     let first = at c.args.store.now c.args.disk.now (g.S.Spawner.told c.args.tools.now) in
     let it : IsFlying g.D.Disk.told g.D.Disk.size_of g.D.Disk.faults c.args.graph.now c.args.core.now.root c.args.jobs.now.limit first c.args.steps.now c.match-next_call.core c.match-next_call.jobs c.match-next_call.store c.match-next_call.disk
-        (g.S.Spawner.told c.match-next_call.tools) c.match-next_call.steps c.match-next_call.fresh =
+    (g.S.Spawner.told c.match-next_call.tools) c.match-next_call.steps c.match-next_call.fresh =
     elim c.match-next_call.branch [
       | in-Some+in-Ok w ↦
           let next = subst (λ l. IsStartable l c.loop.jobs w.in-Some.call.now) c.wanted.ensures w.in-Some.ensures in

@@ -1,4 +1,4 @@
-use Rattle.std.proofs.Common.{rules, arith, ◌≡◌, ◌<◌, true, length, get_or, inr}
+use Rattle.std.proofs.Common.{rules, arith, ◌≡◌, true, inr}
 use Rattle.std.specs.Prelude.{IsTrue}
 use Rattle.object_values.specs.declared.calls.Call.{Call}
 use Rattle.meaning_texts.specs.Lists.{IsIn}
