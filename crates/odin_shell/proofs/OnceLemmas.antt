@@ -85,7 +85,7 @@ new_both : (kept given rest : Calls) → AreNew (kept_outcome kept) given → Ar
 new_both kept given rest first next =
     let both : calls_of (given ++ rest) ≡ calls_of given ++ calls_of rest = map-append (λ (x : Call × Outcome). x.0) given rest in
     let apart : (c : Call) → IsIn c (calls_of rest) → IsIn c (calls_of given) → ⊥ =
-        λ c i j. given_there given c j (sym (behind_none kept given c (first.none c j)) ∙ next.none c i) in
+    λ c i j. given_there given c j (sym (behind_none kept given c (first.none c j)) ∙ next.none c i) in
     record {
       once = subst AreOnce (sym both) (once_both (calls_of given) (calls_of rest) first.once next.once apart);
       none = λ c i. elim (in_either c (calls_of given) (calls_of rest) (subst (IsIn c) both i)) [
