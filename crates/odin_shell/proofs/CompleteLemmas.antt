@@ -2,7 +2,7 @@
 use Rattle.std.proofs.Common.{◌≡◌, ◌⊎◌, ℕ, ◌<◌, ◌≤◌, List, length, IfSome, arith, ap, sym, refl, ◌∙◌, subst, inl, inr}
 use Rattle.std.specs.Prelude.{⊤, Option, Some}
 use Rattle.odin_outside.specs.Disk.{IsQuiet}
-use Rattle.odin_outside.specs.Files.{Files, IsGiven, given_of}
+use Rattle.odin_outside.specs.Files.{IsGiven, given_of}
 use Rattle.meaning_graph.specs.Graphs.{Text, Graph}
 use Rattle.meaning_records.specs.Laws.{StandsForOne}
 use Rattle.meaning_records.specs.Stands.{StandsNot}
@@ -10,7 +10,7 @@ use Rattle.meaning_run.specs.Endings.{input_limit}
 use Rattle.meaning_run.specs.Objects.{SinkTold}
 use Rattle.odin_journal.specs.declared.fault.JournalFault.{JournalFault}
 use Rattle.odin_journal.specs.declared.fault.JournalFault.TheVariants as fault
-use Rattle.odin_words.specs.Asked.{AskedWork, Serve, Load}
+use Rattle.odin_words.specs.Asked.{Serve, Load}
 use Rattle.odin_words.specs.Laws.{AskedIsOne}
 use Rattle.source_edits.specs.Edits.{TreeTold}
 use Rattle.odin_shell.specs.declared.ending.Ending.{Ending}
@@ -24,7 +24,7 @@ use Rattle.odin_shell.specs.Machine.{Told}
 use Rattle.odin_shell.specs.Opened.{IsRefused}
 use Rattle.odin_shell.specs.Run as run
 use Rattle.odin_shell.specs.Run.{AllowedBy, OutputCount, DiskCount, Closes, ClosesFor, SessionEnds}
-use Rattle.odin_shell.specs.Complete.{IsServable, NoneFailed, RunsComplete}
+use Rattle.odin_shell.specs.Complete.{IsServable, RunsComplete}
 use Rattle.odin_shell.proofs.OpenedLemmas.{opened_is_one}
 use Rattle.odin_shell.proofs.StoreLemmas.{at_end}
 use Rattle.odin_shell.proofs.TranscriptLemmas.{not_counted}

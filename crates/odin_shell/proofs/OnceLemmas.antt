@@ -1,6 +1,6 @@
 -- Over a session no call comes to an outcome twice, and an acknowledged answer survives a crash.
-use Rattle.std.proofs.Common.{◌≡◌, ◌⊎◌, ◌≤◌, ◌+◌, ◌-◌, ℕ, Bool, true, false, cond, List, [], ◌∷◌, ◌++◌, length, take, map, append-nil, append_assoc, arith, ap, sym, refl, ◌∙◌, subst, inl, inr, is_some}
-use Rattle.std.specs.Prelude.{Option, Some, None, IsSome}
+use Rattle.std.proofs.Common.{◌≡◌, ◌≤◌, ◌+◌, ◌-◌, ℕ, Bool, true, false, cond, List, [], ◌∷◌, ◌++◌, length, take, append-nil, append_assoc, arith, ap, sym, refl, ◌∙◌, subst, inl, inr}
+use Rattle.std.specs.Prelude.{Some, None}
 use Rattle.std.proofs.lemmas.List.{length-append, map-append}
 use Rattle.std.proofs.Math.Seq.{take-append-add}
 use Rattle.object_values.specs.declared.calls.Call.{Call}
@@ -33,7 +33,7 @@ use Rattle.odin_answers.specs.Laws.{AskedAgain}
 use Rattle.odin_answers.proofs.Lemmas.{kept_first}
 use Rattle.odin_shell.specs.Filed.{DiskMeaning}
 use Rattle.odin_shell.specs.Language.{commands}
-use Rattle.odin_shell.specs.Machine.{State, Told, Makes, Step, IsLeft}
+use Rattle.odin_shell.specs.Machine.{State, Told, Step, IsLeft}
 use Rattle.odin_shell.specs.Laws.{IsMade}
 use Rattle.odin_shell.specs.Once.{CameOnce, IsAcknowledged, GoesBeyond, StaysAnswered}
 use Rattle.odin_shell.proofs.MadeLemmas.{after_both, kept_calls, edits_keep, step_made, is_made, left_made, made_on}
@@ -85,7 +85,7 @@ new_both : (kept given rest : Calls) → AreNew (kept_outcome kept) given → Ar
 new_both kept given rest first next =
     let both : calls_of (given ++ rest) ≡ calls_of given ++ calls_of rest = map-append (λ (x : Call × Outcome). x.0) given rest in
     let apart : (c : Call) → IsIn c (calls_of rest) → IsIn c (calls_of given) → ⊥ =
-        λ c i j. given_there given c j (sym (behind_none kept given c (first.none c j)) ∙ next.none c i) in
+    λ c i j. given_there given c j (sym (behind_none kept given c (first.none c j)) ∙ next.none c i) in
     record {
       once = subst AreOnce (sym both) (once_both (calls_of given) (calls_of rest) first.once next.once apart);
       none = λ c i. elim (in_either c (calls_of given) (calls_of rest) (subst (IsIn c) both i)) [
