@@ -9,6 +9,7 @@ use Rattle.odin_outside.specs.Disk.{IsQuiet}
 use Rattle.odin_outside.specs.Spawned.{Table, Spawned}
 use Rattle.disk_trails.specs.Trails.{after, IsPrefix}
 use Rattle.meaning_graph.specs.Graphs.{Text, Graph}
+use Rattle.meaning_derive.specs.Given.{table_outcomes}
 use Rattle.meaning_texts.specs.Lists.{IsIn}
 use Rattle.meaning_records.specs.Tables.{Calls, kept_outcome}
 use Rattle.meaning_answers.specs.Answers as answers
@@ -17,20 +18,21 @@ use Rattle.meaning_run.specs.Machines.{AnswersItem, Transcript}
 use Rattle.meaning_commands.specs.declared.commands.Command.{Command}
 use Rattle.meaning_commands.specs.declared.commands.Command.TheVariants.{Put, Take, Remove, Ask, Plan, Sources, Kept, Quit, Nothing, Bad, BadName}
 use Rattle.meaning_commands.specs.declared.replies.Reply.{Reply}
-use Rattle.plain_derive.specs.Given.{calls_of, AreGiven}
-use Rattle.plain_derive.specs.Flights.{at_rest, off_course, for_spawn}
-use Rattle.plain_derive.proofs.Lemmas.{given_are_calls, flown_given}
+use Rattle.job_runner.specs.declared.jobs.Flying.{Flying}
+use Rattle.plain_derive.specs.Given.{calls_of, AreGiven, HaveCome}
+use Rattle.plain_derive.specs.Flights.{Flight, Course, off_course, for_spawn, Flies}
+use Rattle.plain_derive.proofs.Lemmas.{given_are_calls, given_are_true, flown_given, flown_came}
 use Rattle.odin_store.specs.Held.{Held, Change, puts, drops, keeps, apply}
 use Rattle.odin_store.specs.Keeping.{store_keeping}
 use Rattle.kept_derive.specs.Runs.{keeps_of, course_of}
-use Rattle.odin_answers.specs.Answers.{IsReply, MayHaveBegun}
+use Rattle.odin_answers.specs.Answers.{Agrees, IsReply, MayHaveBegun}
 use Rattle.odin_answers.specs.Laws.{IsTrueFor}
 use Rattle.odin_answers.proofs.Lemmas.{kept_first, kept_by_either}
 use Rattle.odin_shell.specs.Filed.{DiskMeaning}
 use Rattle.odin_shell.specs.Language.{commands}
 use Rattle.odin_shell.specs.Machine.{State, Told, Makes, Step, MayLeave, IsLeft}
 use Rattle.odin_shell.specs.Laws.{IsMade}
-use Rattle.odin_shell.specs.Crashes.{ComesTo, IsCallOfAsk, ComesOfAsk, IsOurs, HoldsOurs, LeavesOurs}
+use Rattle.odin_shell.specs.Crashes.{ComesTo, IsCallOfAsk, ComesOfAsk, ComesByTable, IsOurs, HoldsOurs, LeavesOurs}
 use Rattle.odin_shell.proofs.MadeLemmas.{after_both, kept_calls, edits_keep, edit_keeps, puts_keep, drops_keep, is_made, left_made, made_on, stays_true, left_true}
 
 -- ---- calls that are kept stay
@@ -57,30 +59,35 @@ there None y grows is = absurd (let no : ⊥ = cc in no)
 
 -- calls that came of an ask
 module _ (g : Graph) (old : State) (item : Item) (text : Text) (given : Calls) (is : IsItem commands item (Ask text)) where
-  run_ours : (n : Node) → answers.Asks g text n → AreGiven g old.held.sources (kept_outcome old.held.calls) n given → (call : Call) → IsIn call (calls_of given) → IsCallOfAsk g old item call
-  run_ours n asks are call i = record {
+  run_ours : (n : Node) → answers.Asks g text n → HaveCome old.tools.answer given → AreGiven g old.held.sources (kept_outcome old.held.calls) n given → (call : Call) → IsIn call (calls_of given) → IsCallOfAsk g old item call
+  run_ours n asks came are call i = record {
     text = text;
     is = is;
     node = n;
     asks = asks;
     given = given;
+    came = came;
+    are = are;
     from = λ outcomes agrees. given_are_calls g old.held.sources (kept_outcome old.held.calls) n given are outcomes agrees call i;
   }
 
-  reply_ours : (limit : ℕ) (said : Reply) (before now : Spawned) → IsReply g old.held.sources old.held.calls limit text said given before now → (call : Call) → IsIn call (calls_of given) → IsCallOfAsk g old item call
-  reply_ours limit said before now (inl answer) call i = elim answer.did [
-    | inl alone ↦ absurd (subst (λ (l : Calls). IsIn call (calls_of l)) alone.none i)
-    | inr d ↦ run_ours d.node d.asks (flown_given g old.held.sources (kept_outcome old.held.calls) d.node limit before (course_of d.found) (at_rest given now) d.run.flown) call i
-  ]
-  reply_ours limit said before now (inr refused) call i =
-      let d = refused.drained in
-      run_ours d.node d.asks (flown_given g old.held.sources (kept_outcome old.held.calls) d.node limit before (off_course for_spawn) (at_rest given now) d.run.flown) call i
+  -- so it is of a flight
+  flown_ours : (n : Node) → answers.Asks g text n → (limit : ℕ) (course : Course) (running : List Flying) (now : Spawned)
+      → Flies g old.held.sources (kept_outcome old.held.calls) n limit old.tools course (record { running = running; given = given; tools = now }) → (call : Call) → IsIn call (calls_of given) → IsCallOfAsk g old item call
+  flown_ours n asks limit course running now flown =
+      let at : Flight = record { running = running; given = given; tools = now } in
+      run_ours n asks (flown_came g old.held.sources (kept_outcome old.held.calls) n limit old.tools course at flown) (flown_given g old.held.sources (kept_outcome old.held.calls) n limit old.tools course at flown)
 
-  begun_ours : (limit : ℕ) (before now : Spawned) → MayHaveBegun g old.held.sources old.held.calls limit text given before now → (call : Call) → IsIn call (calls_of given) → IsCallOfAsk g old item call
-  begun_ours limit before now (inl untouched) call i = absurd (subst (λ (l : Calls). IsIn call (calls_of l)) untouched.none i)
-  begun_ours limit before now (inr b) call i =
-      run_ours b.node b.asks
-      (flown_given g old.held.sources (kept_outcome old.held.calls) b.node limit before b.flown.course (record { running = b.flown.running; given = given; tools = now }) b.flown.flown) call i
+  reply_ours : (limit : ℕ) (said : Reply) (now : Spawned) → IsReply g old.held.sources old.held.calls limit text said given old.tools now → (call : Call) → IsIn call (calls_of given) → IsCallOfAsk g old item call
+  reply_ours limit said now (inl answer) call i = elim answer.did [
+    | inl alone ↦ absurd (subst (λ (l : Calls). IsIn call (calls_of l)) alone.none i)
+    | inr d ↦ flown_ours d.node d.asks limit (course_of d.found) [] now d.run.flown call i
+  ]
+  reply_ours limit said now (inr refused) call i = let d = refused.drained in flown_ours d.node d.asks limit (off_course for_spawn) [] now d.run.flown call i
+
+  begun_ours : (limit : ℕ) (now : Spawned) → MayHaveBegun g old.held.sources old.held.calls limit text given old.tools now → (call : Call) → IsIn call (calls_of given) → IsCallOfAsk g old item call
+  begun_ours limit now (inl untouched) call i = absurd (subst (λ (l : Calls). IsIn call (calls_of l)) untouched.none i)
+  begun_ours limit now (inr b) call i = flown_ours b.node b.asks limit b.flown.course b.flown.running now b.flown.flown call i
 
 -- the first of them are among them
 among : (call : Call) (given rest : Calls) → IsIn call (calls_of given) → IsIn call (calls_of (given ++ rest))
@@ -110,7 +117,7 @@ module _ (g : Graph) (old new : State) (item : Item) (call : Call) where
   step_ours limit (Put name count) bytes is step = same_calls (edits_keep name old new step.makes)
   step_ours limit (Take name) bytes is step = same_calls (edits_keep name old new step.makes)
   step_ours limit (Remove name) bytes is step = same_calls (edits_keep name old new step.makes)
-  step_ours limit (Ask text) bytes is step = more_calls step.given step.makes (reply_ours g old item text step.given is limit step.says.said old.tools new.tools step.says.holds)
+  step_ours limit (Ask text) bytes is step = more_calls step.given step.makes (reply_ours g old item text step.given is limit step.says.said new.tools step.says.holds)
   step_ours limit (Plan text) bytes is step = same_state step.same
   step_ours limit Sources bytes is step = same_state step.1
   step_ours limit Kept bytes is step = same_state step.1
@@ -123,7 +130,7 @@ module _ (g : Graph) (old new : State) (item : Item) (call : Call) where
   left_ours limit (Put name count) is may = same_calls (edit_keeps _ old new (λ change due. puts_keep name item.body change due.1) may.0)
   left_ours limit (Take name) is may = same_calls (edit_keeps _ old new (λ change due. puts_keep name due.0 change due.3) may.0)
   left_ours limit (Remove name) is may = same_calls (edit_keeps _ old new (drops_keep name) may.0)
-  left_ours limit (Ask text) is may = more_calls may.given may.makes (λ c i. begun_ours g old item text (may.given ++ may.rest) is limit old.tools new.tools may.begun c (among c may.given may.rest i))
+  left_ours limit (Ask text) is may = more_calls may.given may.makes (λ c i. begun_ours g old item text (may.given ++ may.rest) is limit new.tools may.begun c (among c may.given may.rest i))
   left_ours limit (Plan text) is may = same_state may
   left_ours limit Sources is may = same_state may
   left_ours limit Kept is may = same_state may
@@ -194,6 +201,19 @@ come_true g limit table first items furthest right (ComesTo.answered _ replies _
 come_true g limit table first _ furthest right (ComesTo.begun items replies state item command _ run is may) =
     left_true g limit table state furthest command item.body (stays_true g limit table first state items replies right run) may
 
+-- ---- by a table
+
+module _ (g : Graph) (limit : ℕ) (table : Table) (first : State) (items : List Item) (right : IsTrueFor table first.tools first.held.calls) (call : Call) where
+  -- what is kept then, and what came, is what the table gives
+  agrees_by : (c : ComesOfAsk g limit first items call) → Agrees c.old.held.calls c.is.given (table_outcomes table)
+  agrees_by c =
+      let there = stays_true g limit table first c.old c.front c.replies right c.run in
+      given_are_true table (kept_outcome c.old.held.calls) c.is.given there.gives (subst (λ (a : Option Table). HaveCome a c.is.given) there.told c.is.came)
+
+  by_table : IsOurs g limit first items call → IsSome (kept_outcome first.held.calls call) ⊎ ComesByTable g limit first items table call
+  by_table (inl was) = inl was
+  by_table (inr c) = inr (record { ask = c; from = c.is.from (table_outcomes table) (agrees_by c) })
+
 -- ---- images
 
 module _ (g : Graph) (limit : ℕ) (first : State) (items : List Item) (furthest : State) (none : first.changes ≡ []) (comes : ComesTo g limit first items furthest) where
@@ -204,6 +224,11 @@ module _ (g : Graph) (limit : ℕ) (first : State) (items : List Item) (furthest
   kept_furthest : (k : ℕ) (call : Call) (o : Outcome) → kept_outcome (after store_keeping (take k furthest.changes) first.held).calls call ≡ Some o → kept_outcome furthest.held.calls call ≡ Some o
   kept_furthest k call o e = ap (λ (h : Held). kept_outcome h.calls call) held_is ∙ first_grows k furthest.changes first.held call o e
 
+  kept_ours : (k : ℕ) (call : Call) → IsSome (kept_outcome (after store_keeping (take k furthest.changes) first.held).calls call) → IsOurs g limit first items call
+  kept_ours k call kept =
+      come_ours g limit first items furthest comes call
+      (there (kept_outcome (after store_keeping (take k furthest.changes) first.held).calls call) (kept_outcome furthest.held.calls call) (kept_furthest k call) kept)
+
   holds_ours : (least : ℕ) (image : List ℕ) → IsPrefix store_keeping first.held least furthest.changes image → HoldsOurs g limit first items furthest least image
   holds_ours least image some = record {
     held = after store_keeping (take some.k furthest.changes) first.held;
@@ -211,8 +236,8 @@ module _ (g : Graph) (limit : ℕ) (first : State) (items : List Item) (furthest
     count = some.k;
     at_least = some.at_least;
     is = refl;
-    calls = λ call kept. come_ours g limit first items furthest comes call
-        (there (kept_outcome (after store_keeping (take some.k furthest.changes) first.held).calls call) (kept_outcome furthest.held.calls call) (kept_furthest some.k call) kept);
+    calls = kept_ours some.k;
+    table_calls = λ table right call kept. by_table g limit table first items right call (kept_ours some.k call kept);
     right = λ table right call o e. (let kept_true = come_true g limit table first items furthest right comes in kept_true.gives call o (kept_furthest some.k call o e));
   }
 

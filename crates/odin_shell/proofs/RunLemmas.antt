@@ -1,5 +1,5 @@
 -- What every way to end says: which counts of faults rose, what the input says of the status, and what stays of tree and tools.
-use Rattle.std.proofs.Common.{◌≡◌, ◌≢◌, ℕ, ◌≤◌, List, [], IfSome, ap, sym, refl, ◌∙◌, subst, inl, inr}
+use Rattle.std.proofs.Common.{◌≡◌, ℕ, ◌≤◌, List, [], IfSome, ap, sym, refl, ◌∙◌, subst, inl, inr}
 use Rattle.std.specs.Prelude.{⊤}
 use Rattle.std.proofs.Math.Nat.{le_refl}
 use Rattle.odin_outside.specs.Causes.{once_more}

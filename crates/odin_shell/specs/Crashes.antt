@@ -16,6 +16,7 @@ use Rattle.meaning_run.specs.Items.{Item, IsItem}
 use Rattle.meaning_run.specs.Machines.{Transcript}
 use Rattle.meaning_commands.specs.declared.commands.Command.{Command}
 use Rattle.meaning_commands.specs.declared.commands.Command.TheVariants.{Ask}
+use Rattle.plain_derive.specs.Given.{AreGiven, HaveCome}
 use Rattle.odin_store.specs.Held.{Held, StandsFor}
 use Rattle.odin_store.specs.Keeping.{store_keeping}
 use Rattle.odin_answers.specs.Answers.{Agrees}
@@ -31,14 +32,16 @@ pub data ComesTo (g : Graph) (limit : ℕ) (first : State) : List Item → State
       → Transcript commands (Step g limit) first items replies state → IsItem commands item command → MayLeave g limit state command item.body furthest
       → ComesTo g limit first (items ++ item ∷ []) furthest
 
--- The item asks for a node, and the call is one of that node by the sources that are held then, whatever else comes to be known than what is
--- kept and was given.
+-- The item asks for a node. These outcomes came of the tools, at calls at which its derivation stopped by the sources and the calls that are
+-- held then; and the call is one of the node, whatever else comes to be known than what is kept and what came.
 pub record IsCallOfAsk (g : Graph) (old : State) (item : Item) (call : Call) : Type 0 where
   pub text : Text
   pub is : IsItem commands item (Ask text)
   pub node : Node
   pub asks : answers.Asks g text node
   pub given : Calls
+  pub came : HaveCome old.tools.answer given
+  pub are : AreGiven g old.held.sources (kept_outcome old.held.calls) node given
   pub from : (outcomes : Outcomes) → Agrees old.held.calls given outcomes → IsCallFrom g (derived g old.held.sources outcomes) node call
 
 -- It is one of an ask among these items.
@@ -56,8 +59,13 @@ pub record ComesOfAsk (g : Graph) (limit : ℕ) (first : State) (items : List It
 abbrev pub IsOurs : Graph → ℕ → State → List Item → Call → Type 0
 IsOurs g limit first items call = IsSome (kept_outcome first.held.calls call) ⊎ ComesOfAsk g limit first items call
 
--- The image stands for what the first of the changes made, at least so many of them. Each call that it keeps is ours, and has the outcome
--- that a table gives by which the tools answer.
+-- By a table it is one of a node of an ask among these items: by the sources that are held then, with nothing kept.
+pub record ComesByTable (g : Graph) (limit : ℕ) (first : State) (items : List Item) (table : Table) (call : Call) : Type 0 where
+  pub ask : ComesOfAsk g limit first items call
+  pub from : IsCallFrom g (derived g ask.old.held.sources (table_outcomes table)) ask.is.node call
+
+-- The image stands for what the first of the changes made, at least so many of them. Each call that it keeps is ours; and where the tools
+-- answer by a table it is ours by the table, and has the outcome that the table gives.
 pub record HoldsOurs (g : Graph) (limit : ℕ) (first : State) (items : List Item) (furthest : State) (least : ℕ) (image : List ℕ) : Type 0 where
   pub held : Held
   pub stands : StandsFor held image
@@ -65,6 +73,8 @@ pub record HoldsOurs (g : Graph) (limit : ℕ) (first : State) (items : List Ite
   pub at_least : least ≤ count
   pub is : held ≡ after store_keeping (take count furthest.changes) first.held
   pub calls : (call : Call) → IsSome (kept_outcome held.calls call) → IsOurs g limit first items call
+  pub table_calls : (table : Table) → IsTrueFor table first.tools first.held.calls → (call : Call) → IsSome (kept_outcome held.calls call)
+      → IsSome (kept_outcome first.held.calls call) ⊎ ComesByTable g limit first items table call
   pub right : (table : Table) → IsTrueFor table first.tools first.held.calls → HasMore (kept_outcome held.calls) (table_outcomes table)
 
 module _ {D : Type 0} (disk : DiskMeaning D) where

@@ -147,8 +147,8 @@ pub record ToolsStay (start now : Spawned) : Type 0 where
   pub few : length now.running ≤ 64
 
 module _ {Disk : Type 0} (disk : DiskMeaning Disk) (g : Graph) (text : Text) (limit : ℕ) where
-  -- Between two commands the engine works by this graph and this limit, 64 at most; the store holds what the state does, and rests on its file; tools and
-  -- tree are told as in the state, and no tool runs. No fault of the disk was counted.
+  -- Between two commands the engine works by this graph and this limit, 64 at most. The store holds what the state does, and rests on its
+  -- file; tools and tree are told as in the state, and no tool runs. No fault of the disk was counted.
   pub record Belongs (first : State) (start : Told Disk) (code : Engaged) (state : State) (now : Told Disk) : Type 0 where
     pub graph : code.graph ≡ g
     pub jobs : code.jobs ≡ limit

@@ -2,7 +2,7 @@
 --
 -- A run works in four parts, one after another: its words, the graph in the file that they name, the store, and the session over them. Each
 -- way to end is a constructor of `EndsAs`, or a case of `SessionLeaves`, which `EndsAs` has in it.
-use Rattle.std.specs.Prelude.{◌≡◌, ◌≢◌, ⊤, ℕ, ◌<◌, ◌≤◌, ◌⊎◌, List, [], length, take, Option, Some, None, IfSome}
+use Rattle.std.specs.Prelude.{◌≡◌, ⊤, ℕ, ◌<◌, ◌≤◌, ◌⊎◌, List, [], length, take, Option, Some, None, IfSome}
 use Rattle.odin_outside.specs.Causes.{IsCounted}
 use Rattle.odin_outside.specs.Disk.{Telling}
 use Rattle.odin_outside.specs.Files.{IsGiven}
@@ -65,7 +65,8 @@ abbrev pub DiskCount : Ending → ℕ → ℕ → Type 0
 DiskCount Disk before now = IsCounted before now
 DiskCount other before now = now ≡ before
 
--- A session over a graph ended so, from what its file stood for, with at most so many tools at once.
+-- A session over a graph ended so, from what its file stood for, with at most so many tools at once. None runs then, but where what runs is
+-- left.
 pub record SessionEnds {D : Type 0} (disk : DiskMeaning D) (g : Graph) (text : Text) (limit : ℕ) (input left : SourceTold) (start now : Told D) (ending : Ending) : Type 0 where
   pub held : Held
   pub starts : StartsFrom (disk.told start.disk) held

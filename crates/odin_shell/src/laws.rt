@@ -50,7 +50,7 @@ pub fn transcript_is_one()
 
 /// Whenever a session is stopped, each image that a crash may leave stands for what the first of its changes made, with all that are
 /// acknowledged; and each call that is kept in it was kept at the start, or is one of the node of an ask of the session. Where the tools answer
-/// by a table, all of them are true.
+/// by a table, all of them are true, and those that were not kept at the start are calls of their nodes by the table.
 pub fn images_hold_calls_of_asks<D: Disk>()
     ensures { let on = disk_meaning D.told D.size_of D.faults in ImagesHoldOurs on }
 {}
