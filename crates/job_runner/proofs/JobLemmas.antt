@@ -12,35 +12,9 @@ use Rattle.odin_outside.specs.Spawned.{Spawned, IsRunning, IsLeastFree, noted, S
 use Rattle.meaning_calls.specs.Jobs.{job_of}
 use Rattle.meaning_calls.specs.Outcomes.{outcome_of, OutcomeFits}
 use Rattle.meaning_texts.specs.Lists.{IsIn}
-use Rattle.meaning_texts.proofs.Lemmas.{in_left, in_right, in_either}
 use Rattle.job_runner.specs.declared.jobs.Flying.{Flying}
 use Rattle.job_runner.specs.Flights.{flying, calls_in, slots_in, tool_of, landed, AreTold, AreDistinct, InFlight, IsInFlight, HasEnded, HasLost, IsFirst}
-
-apart_more : {A : Type 0} (xs : List A) (x : A) → AreDistinct xs → (IsIn x xs → ⊥) → AreDistinct (xs ++ x ∷ [])
-apart_more [] x apart new = (λ i. i, tt)
-apart_more (y ∷ xs) x apart new = (
-  λ i. elim (in_either y xs (x ∷ []) i) [ inl j ↦ apart.0 j | inr (inl e) ↦ new (inl (sym e)) | inr (inr none) ↦ absurd none ],
-  apart_more xs x apart.1 (λ i. new (inr i)),
-)
-
-in_more : {A : Type 0} (y x : A) (front back : List A) → IsIn y (front ++ back) → IsIn y (front ++ x ∷ back)
-in_more y x front back i = elim (in_either y front back i) [ inl j ↦ in_left y front (x ∷ back) j | inr j ↦ in_right y front (x ∷ back) (inr j) ]
-
-apart_less : {A : Type 0} (front back : List A) (x : A) → AreDistinct (front ++ x ∷ back) → AreDistinct (front ++ back)
-apart_less [] back x apart = apart.1
-apart_less (y ∷ front) back x apart = (λ i. apart.0 (in_more y x front back i), apart_less front back x apart.1)
-
-calls_one_more : (running : List Flying) (f : Flying) → calls_in (running ++ f ∷ []) ≡ calls_in running ++ f.call ∷ []
-calls_one_more [] f = refl
-calls_one_more (x ∷ running) f = ap (λ l. x.call ∷ l) (calls_one_more running f)
-
-slots_one_more : (running : List Flying) (f : Flying) → slots_in (running ++ f ∷ []) ≡ slots_in running ++ f.slot ∷ []
-slots_one_more [] f = refl
-slots_one_more (x ∷ running) f = ap (λ l. x.slot ∷ l) (slots_one_more running f)
-
-length_one_more : (running : List Flying) (f : Flying) → length (running ++ f ∷ []) ≡ suc (length running)
-length_one_more [] f = refl
-length_one_more (x ∷ running) f = ap suc (length_one_more running f)
+use Rattle.job_runner.proofs.ListLemmas.{distinct_more, distinct_less, calls_one_more, slots_one_more, length_one_more, calls_cut, slots_cut, calls_both, slots_both}
 
 runs_there : (running : List Flying) (slot : ℕ) → IsIn slot (slots_in running) → IsRunning (map tool_of running) slot
 runs_there [] slot i = absurd i
@@ -51,8 +25,8 @@ runs_there (x ∷ running) slot (inr i) = let (k, tool, inside, at, holds) = run
 pub one_more : (limit slot : ℕ) (call : Call) (running : List Flying) (told : List Running) → IsInFlight limit running → told ≡ map tool_of running → IsLeastFree told slot
     → (IsIn call (calls_in running) → ⊥) → length running < limit → IsInFlight limit (running ++ flying slot call ∷ [])
 one_more limit slot call running told is same free new room = record {
-  once = subst AreDistinct (sym (calls_one_more running (flying slot call))) (apart_more (calls_in running) call is.once new);
-  apart = subst AreDistinct (sym (slots_one_more running (flying slot call))) (apart_more (slots_in running) slot is.apart (λ i. free.free (subst (λ l. IsRunning l slot) (sym same) (runs_there running slot i))));
+  once = subst AreDistinct (sym (calls_one_more running (flying slot call))) (distinct_more (calls_in running) call is.once new);
+  apart = subst AreDistinct (sym (slots_one_more running (flying slot call))) (distinct_more (slots_in running) slot is.apart (λ i. free.free (subst (λ l. IsRunning l slot) (sym same) (runs_there running slot i))));
   few = let longer = length_one_more running (flying slot call) in omega (arith, room, longer);
 }
 
@@ -148,29 +122,13 @@ none_at_all (y ∷ xs) slot zero all none i = absurd (omega (arith, all))
 none_at_all (y ∷ xs) slot (suc k) all none (inl e) = none (inl e)
 none_at_all (y ∷ xs) slot (suc k) all none (inr i) = none_at_all xs slot k (omega (arith, all)) (λ j. none (inr j)) i
 
-calls_cut : (front back : List Flying) (x : Flying) → calls_in (front ++ x ∷ back) ≡ calls_in front ++ x.call ∷ calls_in back
-calls_cut [] back x = refl
-calls_cut (y ∷ front) back x = ap (λ l. y.call ∷ l) (calls_cut front back x)
-
-slots_cut : (front back : List Flying) (x : Flying) → slots_in (front ++ x ∷ back) ≡ slots_in front ++ x.slot ∷ slots_in back
-slots_cut [] back x = refl
-slots_cut (y ∷ front) back x = ap (λ l. y.slot ∷ l) (slots_cut front back x)
-
-calls_both : (front back : List Flying) → calls_in (front ++ back) ≡ calls_in front ++ calls_in back
-calls_both [] back = refl
-calls_both (y ∷ front) back = ap (λ l. y.call ∷ l) (calls_both front back)
-
-slots_both : (front back : List Flying) → slots_in (front ++ back) ≡ slots_in front ++ slots_in back
-slots_both [] back = refl
-slots_both (y ∷ front) back = ap (λ l. y.slot ∷ l) (slots_both front back)
-
 -- one less runs
 pub one_less : (limit k : ℕ) (x : Flying) (xs ys : List Flying) → IsInFlight limit xs → ys ≡ remove xs k → IsCutAt xs k x → IsInFlight limit ys
 one_less limit k x xs ys is removed cut =
     let left : ys ≡ take k xs ++ cut.back = removed ∙ cut.is in
     record {
-      once = subst AreDistinct (sym (ap calls_in left ∙ calls_both (take k xs) cut.back)) (apart_less (calls_in (take k xs)) (calls_in cut.back) x.call (subst AreDistinct (ap calls_in cut.was ∙ calls_cut (take k xs) cut.back x) is.once));
-      apart = subst AreDistinct (sym (ap slots_in left ∙ slots_both (take k xs) cut.back)) (apart_less (slots_in (take k xs)) (slots_in cut.back) x.slot (subst AreDistinct (ap slots_in cut.was ∙ slots_cut (take k xs) cut.back x) is.apart));
+      once = subst AreDistinct (sym (ap calls_in left ∙ calls_both (take k xs) cut.back)) (distinct_less (calls_in (take k xs)) (calls_in cut.back) x.call (subst AreDistinct (ap calls_in cut.was ∙ calls_cut (take k xs) cut.back x) is.once));
+      apart = subst AreDistinct (sym (ap slots_in left ∙ slots_both (take k xs) cut.back)) (distinct_less (slots_in (take k xs)) (slots_in cut.back) x.slot (subst AreDistinct (ap slots_in cut.was ∙ slots_cut (take k xs) cut.back x) is.apart));
       few = omega (arith, is.few, ap length cut.was, ap length left, length-append (take k xs) (x ∷ cut.back), length-append (take k xs) cut.back);
     }
 

@@ -1,9 +1,10 @@
 mod HeldLemmas
 mod CallLemmas
 mod WayLemmas
-mod LoopLemmas
+mod TurnLemmas
+mod LookLemmas
+mod EndLemmas
+mod RestLemmas
 mod LawLemmas
 mod StopLemmas
-mod RestLemmas
-mod LookLemmas
 pub mod Lemmas

@@ -1,6 +1,7 @@
 -- How a derivation leaves the tools.
-use Rattle.std.proofs.Common.{◌≡◌, [], inl, inr, refl, sym, ap, subst, ◌∙◌}
+use Rattle.std.proofs.Common.{◌≡◌, ℕ, [], length, sym, ap, subst, arith}
 use Rattle.std.specs.Prelude.{Result, Ok, Err}
+use Rattle.std.proofs.lemmas.List.{length-map}
 use Rattle.object_values.specs.declared.nodes.Node.{Node}
 use Rattle.odin_outside.specs.Disk.{Telling}
 use Rattle.odin_outside.specs.Spawned.{Spawned}
@@ -8,54 +9,47 @@ use Rattle.meaning_graph.specs.Graphs.{Graph}
 use Rattle.meaning_derive.specs.Derive.{Sources, Outcomes}
 use Rattle.meaning_records.specs.Tables.{Calls}
 use Rattle.walk_tables.specs.declared.found.Found.{Found}
-use Rattle.plain_derive.specs.declared.fault.PlainFault.{PlainFault}
-use Rattle.plain_derive.specs.declared.fault.PlainFault.TheVariants as plain
-use Rattle.plain_derive.specs.Given.{calls_of}
-use Rattle.plain_derive.specs.Logs.{ComeToRest}
-use Rattle.plain_derive.specs.Runs.{AreRun, IsGivenUp}
-use Rattle.plain_derive.proofs.Lemmas.{same_answer, none_run, few_run, cut_rests}
+use Rattle.job_runner.specs.Flights.{tool_of}
+use Rattle.plain_derive.specs.Flights.{Course, at_rest, AreRun, AreFlown}
+use Rattle.plain_derive.proofs.Lemmas.{flown_answer, flown_told}
 use Rattle.kept_derive.specs.declared.fault.KeptFault.{KeptFault}
 use Rattle.kept_derive.specs.declared.fault.KeptFault.TheVariants.{Spawn, Disk, Full, Memory}
-use Rattle.kept_derive.specs.Runs.{At, HasFound}
-use Rattle.kept_derive.specs.Stops.{IsStopped, IsCutOff}
-use Rattle.kept_derive.specs.Rests.{ComesToRest}
+use Rattle.kept_derive.specs.Runs.{At, known_in, course_of, HasFound}
+use Rattle.kept_derive.specs.Stops.{IsStopped}
+use Rattle.kept_derive.specs.Rests.{LeavesTools, ComesToRest}
 
-pub calm : {T : Type 0} (result : Result T KeptFault) (before now : Spawned) → now.answer ≡ before.answer → now.running ≡ [] → ComesToRest Memory before now result
-calm result before now answer idle = record { answer = answer; one = few_run now idle; idle = λ differs. idle }
+module _ (g : Graph) (s : Sources) (kept : Outcomes) (n : Node) (limit : ℕ) (before now : Spawned) (idle : before.running ≡ []) where
+  -- none runs any more
+  run_rests : {T : Type 0} (result : Result T KeptFault) (course : Course) (given : Calls) → AreRun g s kept n limit course given before now → ComesToRest LeavesTools limit before now result
+  run_rests result course given run =
+      let none : now.running ≡ [] = flown_told g s kept n limit before idle course (at_rest given now) run.flown in
+      resting result (flown_answer g s kept n limit before course (at_rest given now) run.flown) none
+    where
+      resting : {T : Type 0} (result : Result T KeptFault) → now.answer ≡ before.answer → now.running ≡ [] → ComesToRest LeavesTools limit before now result
+      resting (Ok value) answer none = record { answer = answer; few = omega (arith, ap length none); idle = none; left = tt }
+      resting (Err fault) answer none = record { answer = answer; few = omega (arith, ap length none); idle = tt; left = λ keeps. none }
 
-run_rests : {T : Type 0} (result : Result T KeptFault) (g : Graph) (s : Sources) (kept : Outcomes) (n : Node) (given : Calls) (before now : Spawned) → before.running ≡ [] → AreRun g s kept n given before now → ComesToRest Memory before now result
-run_rests result g s kept n given before now idle run =
-    calm result before now (ap (λ (z : Spawned). z.answer) run.now_is ∙ same_answer before (calls_of given)) (ap (λ (z : Spawned). z.running) run.now_is ∙ none_run before (calls_of given) idle)
+  -- some may run, after a fault that leaves them
+  flown_rests : {T : Type 0} (fault : KeptFault) (given : Calls) → LeavesTools fault → AreFlown g s kept n limit given before now → ComesToRest {T = T} LeavesTools limit before now (Err fault)
+  flown_rests fault given leaves flown =
+      let told = flown_told g s kept n limit before idle flown.course (record { running = flown.running; given = given; tools = now }) flown.flown in
+      record {
+        answer = flown_answer g s kept n limit before flown.course (record { running = flown.running; given = given; tools = now }) flown.flown;
+        few = omega (arith, flown.few, ap length told, length-map flown.running tool_of);
+        idle = tt;
+        left = λ keeps. absurd (keeps leaves);
+      }
 
--- none runs after a start that failed, or an end that was lost
-spawn_rests : {T : Type 0} (before mid now : Spawned) → mid.answer ≡ before.answer → ComeToRest mid now (Err plain.Spawn) → ComesToRest {T = T} Memory before now (Err Spawn)
-spawn_rests before mid now same rest = record { answer = rest.answer ∙ same; one = rest.one; idle = λ differs. rest.idle (λ e. cc) }
+module _ {D : Type 0} (told : D → Telling) (g : Graph) (n : Node) (limit : ℕ) (old new : At D) (idle : old.tools.running ≡ []) where
+  pub found_rests : (found : Found) → HasFound told g n limit old new found → ComesToRest LeavesTools limit old.tools new.tools (Ok found)
+  found_rests found has = run_rests g old.store.sources.texts (known_in old.store) n limit old.tools new.tools idle (Ok found) (course_of found) has.given has.run.run
 
-memory_rests : {T : Type 0} (before mid now : Spawned) → mid.answer ≡ before.answer → ComeToRest mid now (Err plain.Memory) → ComesToRest {T = T} Memory before now (Err Memory)
-memory_rests before mid now same rest = record { answer = rest.answer ∙ same; one = rest.one; idle = λ differs. absurd (differs refl) }
-
-given_up_rests : (fault : PlainFault) (g : Graph) (s : Sources) (kept : Outcomes) (n : Node) (given : Calls) (mid now : Spawned) → mid.running ≡ [] → IsGivenUp g s kept n given fault mid now → ComeToRest mid now (Err fault)
-given_up_rests fault g s kept n given mid now idle (inl wanted) =
-    let none : now.running ≡ [] = ap (λ (z : Spawned). z.running) wanted.same ∙ idle in
-    record { answer = ap (λ (z : Spawned). z.answer) wanted.same; one = few_run now none; idle = λ differs. none }
-given_up_rests fault g s kept n given mid now idle (inr next) = cut_rests fault next.call mid now idle next.cut
-
-module _ {D : Type 0} (told : D → Telling) (g : Graph) (n : Node) (old new : At D) (idle : old.tools.running ≡ []) where
-  cut_off_rests : (fault : PlainFault) (cut : IsCutOff told g n fault old new) → (cut.mid.tools.answer ≡ old.tools.answer) × ComeToRest cut.mid.tools new.tools (Err fault)
-  cut_off_rests fault cut =
-      let none : cut.mid.tools.running ≡ [] = ap (λ (z : Spawned). z.running) cut.run.run.now_is ∙ none_run old.tools (calls_of cut.given) idle in
-      let same : cut.mid.tools.answer ≡ old.tools.answer = ap (λ (z : Spawned). z.answer) cut.run.run.now_is ∙ same_answer old.tools (calls_of cut.given) in
-      (same, given_up_rests fault g _ _ n cut.given cut.mid.tools new.tools none cut.cut)
-
-  pub found_rests : (found : Found) → HasFound told g n old new found → ComesToRest Memory old.tools new.tools (Ok found)
-  found_rests found has = run_rests (Ok found) g _ _ n has.given old.tools new.tools idle has.run.run
-
-  pub stopped_rests : {T : Type 0} (fault : KeptFault) → IsStopped told g n old new fault → ComesToRest {T = T} Memory old.tools new.tools (Err fault)
-  stopped_rests Spawn cut = let rests = cut_off_rests plain.Spawn cut in spawn_rests old.tools cut.mid.tools new.tools rests.0 rests.1
-  stopped_rests Memory cut = let rests = cut_off_rests plain.Memory cut in memory_rests old.tools cut.mid.tools new.tools rests.0 rests.1
-  stopped_rests Disk unkept = run_rests (Err Disk) g _ _ n _ old.tools new.tools idle unkept.ran
-  stopped_rests (Full end count) unkept = run_rests (Err (Full end count)) g _ _ n _ old.tools new.tools idle unkept.ran
+  pub stopped_rests : {T : Type 0} (fault : KeptFault) → IsStopped told g n limit old new fault → ComesToRest {T = T} LeavesTools limit old.tools new.tools (Err fault)
+  stopped_rests {T} Spawn drained = run_rests g old.store.sources.texts (known_in old.store) n limit old.tools new.tools idle {T = T} (Err Spawn) _ drained.given drained.run.run
+  stopped_rests Disk unkept = flown_rests g old.store.sources.texts (known_in old.store) n limit old.tools new.tools idle Disk _ tt unkept.flown
+  stopped_rests (Full end count) unkept = flown_rests g old.store.sources.texts (known_in old.store) n limit old.tools new.tools idle (Full end count) _ tt unkept.flown
+  stopped_rests Memory wanting = flown_rests g old.store.sources.texts (known_in old.store) n limit old.tools new.tools idle Memory _ tt wanting.flown
 
   -- as the answers say it
-  pub rests_at : {T : Type 0} (result : Result T KeptFault) (fault : KeptFault) → result ≡ Err fault → IsStopped told g n old new fault → ComesToRest Memory old.tools new.tools result
-  rests_at result fault is stopped = subst (ComesToRest Memory old.tools new.tools) (sym is) (stopped_rests fault stopped)
+  pub rests_at : {T : Type 0} (result : Result T KeptFault) (fault : KeptFault) (k : ℕ) → result ≡ Err fault → k ≡ limit → IsStopped told g n k old new fault → ComesToRest LeavesTools limit old.tools new.tools result
+  rests_at result fault k is same stopped = subst (ComesToRest LeavesTools limit old.tools new.tools) (sym is) (stopped_rests fault (subst (λ m. IsStopped told g n m old new fault) same stopped))

@@ -1,139 +1,162 @@
--- A derivation on its way: it goes on by a call, or stops.
-use Rattle.std.proofs.Common.{◌≡◌, ◌≢◌, Bool, true, false, cond, [], ◌∷◌, ◌++◌, inl, inr, refl, sym, ap, subst, ◌∙◌}
-use Rattle.std.specs.Prelude.{Some, None, Result, Err, IfErr}
+-- A derivation on its way: where it begins, what is known by now, and what may be waited for.
+use Rattle.std.proofs.Common.{◌≡◌, ◌<◌, ◌⊎◌, ℕ, List, [], ◌∷◌, length, inl, inr, refl, sym, ap, subst, arith, ◌∙◌}
+use Rattle.std.specs.Prelude.{⊤, Option, Some, None}
 use Rattle.object_values.specs.declared.nodes.Node.{Node}
 use Rattle.object_values.specs.declared.calls.Call.{Call}
 use Rattle.object_values.specs.declared.calls.Outcome.{Outcome}
-use Rattle.object_values.specs.contracts.calls.CallPartialEq.TheImpl.{ghosts as call_eq}
-use Rattle.object_values.specs.Exact.{call_exact}
-use Rattle.odin_outside.specs.declared.events.ToolEvent.TheVariants.{Ended}
 use Rattle.odin_outside.specs.Disk.{Telling}
 use Rattle.odin_outside.specs.Spawned.{Spawned}
 use Rattle.meaning_texts.specs.Lists.{IsIn}
-use Rattle.meaning_texts.proofs.Lemmas.{in_either}
 use Rattle.meaning_graph.specs.Graphs.{Graph}
+use Rattle.meaning_graph_text.specs.Grammar.{IsSpellable}
+use Rattle.meaning_graph_text.specs.Checks.{Checked}
+use Rattle.meaning_nodes.specs.Nodes.{Fits}
 use Rattle.meaning_derive.specs.Derive.{Sources, Outcomes}
 use Rattle.meaning_derive.specs.Calls.{IsFrontier}
+use Rattle.meaning_derive.specs.Given.{AreSources, OutcomesFit}
 use Rattle.meaning_records.specs.Tables.{Calls, kept_outcome}
-use Rattle.odin_store.specs.Held.{keeps}
+use Rattle.odin_journal.specs.Rest.{IsReady}
 use Rattle.odin_store.specs.Going.{Goes, ChangesFollow}
-use Rattle.derive_walk.specs.Outcomes.{after}
-use Rattle.derive_walk.specs.Walks.{Walked, IsRight, IsGiven}
-use Rattle.plain_derive.specs.Given.{calls_of, AreGiven, IsRefusedBy}
-use Rattle.plain_derive.specs.Logs.{closed}
-use Rattle.plain_derive.specs.Made.{IsOutcomeOf}
-use Rattle.plain_derive.specs.Runs.{AreRun}
-use Rattle.plain_derive.proofs.Lemmas.{one_more_made, same_answer, last_or}
-use Rattle.kept_derive.specs.declared.fault.KeptFault.{KeptFault}
-use Rattle.kept_derive.specs.declared.fault.KeptFault.TheVariants.{Spawn, Disk, Full, Memory}
-use Rattle.kept_derive.specs.Runs.{At, known_in, world_in, keeps_of, HasRun}
-use Rattle.kept_derive.specs.Stops.{IsStopped}
-use Rattle.kept_derive.specs.Calls.{IsKeepable, IsKeptCall, StopsCall}
-use Rattle.kept_derive.specs.Ways.{IsOnWay, Stops}
-use Rattle.kept_derive.proofs.HeldLemmas.{keeps_one_more, calls_after}
+use Rattle.walk_tables.specs.Calls.{outcome_in}
+use Rattle.derive_walk.specs.Outcomes.{given_or, after}
+use Rattle.derive_walk.specs.Walks.{Walked, new_walk, IsRight, AreFrontier, IsAdvanced, EndsWith}
+use Rattle.derive_walk.specs.Worlds.{World, world, IsWorld}
+use Rattle.derive_walk.proofs.Lemmas.{wanted_formed}
+use Rattle.job_runner.specs.declared.jobs.Flying.{Flying}
+use Rattle.job_runner.specs.Flights.{InFlight, none_in_flight, calls_in, AreDistinct, AreTold}
+use Rattle.job_runner.proofs.Lemmas.{calls_long}
+use Rattle.plain_derive.specs.Given.{AreGiven}
+use Rattle.plain_derive.specs.Flights.{Flight, Course, on_course, off_course, Waits, IsFull, IsClear, Flies}
+use Rattle.plain_derive.proofs.Lemmas.{given_are_new, flown_told}
+use Rattle.kept_derive.specs.Runs.{At, known_in, world_in, keeps_of}
+use Rattle.kept_derive.specs.Calls.{MayDrain}
+use Rattle.kept_derive.specs.Ways.{IsOnWay, IsNext}
+use Rattle.kept_derive.proofs.HeldLemmas.{calls_after, sources_after, same_known, known_after}
 use Rattle.kept_derive.proofs.CallLemmas.{same_here}
 
--- ---- one call more
+-- no call was given an outcome, nor is it kept
+outside : (o kept : Option Outcome) → given_or o kept ≡ None → kept ≡ None
+outside None kept e = e
+outside (Some x) kept e = cc
 
-pub run_one_more : (g : Graph) (s : Sources) (kept : Outcomes) (n : Node) (given : Calls) (before mid now : Spawned) (call : Call) (outcome : Outcome) → AreRun g s kept n given before mid → IsFrontier g s (after kept given) n call
-    → IsOutcomeOf mid.answer call outcome → now ≡ closed mid call (Ended 0) → ¬ IsRefusedBy g s kept n → AreRun g s kept n (given ++ (call, outcome) ∷ []) before now
-run_one_more g s kept n given before mid now call outcome run stops came made calm = record {
-  are = AreGiven.one_more given call outcome run.are stops;
-  came = λ c o i. elim (in_either (c, o) given ((call, outcome) ∷ []) i) [
-    | inl k ↦ run.came c o k
-    | inr (inl e) ↦ subst (λ (z : Call × Outcome). IsOutcomeOf before.answer z.0 z.1) (sym e) (subst (λ a. IsOutcomeOf a call outcome) (ap (λ (z : Spawned). z.answer) run.now_is ∙ same_answer before (calls_of given)) came)
-    | inr (inr none) ↦ absurd none
-  ];
-  now_is = made ∙ ap (λ z. closed z call (Ended 0)) run.now_is ∙ sym (one_more_made before given call outcome);
-  untouched = λ r. absurd (calm r);
+-- A new walk is right wherever its root fits.
+new_is_right : (w : World) (root : Node) → Fits w.graph root → OutcomesFit w.outcomes → IsRight w (new_walk root)
+new_is_right w root fits fit = record {
+  fit = fit;
+  root = fits;
+  done = record { each = λ n d e. cc; needs = λ n d e m need. cc; different = tt };
+  met = λ n i. absurd i;
+  wanted = λ call i. absurd i;
+  once = tt;
+  found = tt;
 }
 
-module _ {D : Type 0} (told : D → Telling) (g : Graph) (n : Node) (first : At D) (walked : Walked) (old : At D) (way : IsOnWay told g n first walked old) (calm : ¬ IsRefusedBy g first.store.sources.texts (known_in first.store) n) where
-  next_stops : (call : Call) → IsIn call walked.wanted → IsFrontier g first.store.sources.texts (after (known_in first.store) walked.given) n call
-  next_stops call i = subst (λ z. IsFrontier g first.store.sources.texts (after (known_in first.store) walked.given) z call) way.root (way.right.wanted call i)
+some_run : (running : List Flying) (call : Call) → IsIn call (calls_in running) → 0 < length running
+some_run [] call i = absurd i
+some_run (f ∷ running) call i = omega arith
 
-  -- the calls that were run, with one that is kept
-  pub run_kept : ChangesFollow told → (call : Call) (outcome : Outcome) (new : At D) → IsIn call walked.wanted → IsKeptCall told call old new outcome → HasRun told g n first (walked.given ++ (call, outcome) ∷ []) new
-  run_kept follow call outcome new i kept = record {
-    run = run_one_more g first.store.sources.texts (known_in first.store) n walked.given first.tools old.tools new.tools call outcome way.run.run (next_stops call i) kept.came kept.tools_are calm;
-    goes = subst (λ l. Goes told l first.store new.store first.disk new.disk) (sym (keeps_one_more walked.given call outcome))
-        (follow.behind (keeps_of walked.given) (keeps call outcome ∷ []) first.store old.store new.store first.disk old.disk new.disk way.run.goes kept.goes);
-    epoch = kept.epoch ∙ way.run.epoch;
-  }
+abbrev pub flight_at : Walked → InFlight → Spawned → Flight
+flight_at walked jobs tools = record { running = jobs.running; given = walked.given; tools = tools }
 
-  pub goes_on : ChangesFollow told → (call : Call) (outcome : Outcome) (new : At D) (walked' : Walked) → IsIn call walked.wanted → IsKeptCall told call old new outcome → IsGiven call outcome walked walked'
-      → IsRight (world_in g first.store walked'.given) walked' → IsOnWay told g n first walked' new
-  goes_on follow call outcome new walked' i kept is right = record {
-    root = is.root ∙ way.root;
-    run = subst (λ l. HasRun told g n first l new) (sym is.given) (run_kept follow call outcome new i kept);
-    right = right;
-  }
+-- what an end stands on: on its course as many run as may
+abbrev pub MayEnd : Graph → Sources → Outcomes → Node → ℕ → Course → Flight → Type 0
+MayEnd g s kept n limit on_course f = IsFull (Waits g s kept n f.given) limit (calls_in f.running) × IsClear g s kept n limit f
+MayEnd g s kept n limit (off_course why) f = ⊤
 
-  -- memory was wanting after a call that was kept
-  pub wanting_after : ChangesFollow told → (call : Call) (outcome : Outcome) (new : At D) → IsIn call walked.wanted → IsKeptCall told call old new outcome → IsStopped told g n first new Memory
-  wanting_after follow call outcome new i kept = record {
-    given = walked.given ++ (call, outcome) ∷ [];
-    mid = new;
-    run = run_kept follow call outcome new i kept;
-    cut = inl (record { memory = refl; same = refl });
-    same = same_here new.store new.disk;
-    untouched = λ r. absurd (calm r);
-  }
+-- as many run as may, or the walk has gone as far as it can
+abbrev pub IsFresh : World → Walked → InFlight → Type 0
+IsFresh w walked jobs = (length jobs.running ≡ jobs.limit) ⊎ IsAdvanced w walked
 
-  pub stopped : (call : Call) (new : At D) (fault : KeptFault) → IsIn call walked.wanted → StopsCall told call old new fault → IsStopped told g n first new fault
-  stopped call new Spawn i stops = record {
-    given = walked.given;
-    mid = old;
-    run = way.run;
-    cut = inr (record { call = call; stops = next_stops call i; cut = stops.cut });
-    same = stops.same;
-    untouched = λ r. absurd (calm r);
-  }
-  stopped call new Memory i stops = record {
-    given = walked.given;
-    mid = old;
-    run = way.run;
-    cut = inr (record { call = call; stops = next_stops call i; cut = stops.cut });
-    same = stops.same;
-    untouched = λ r. absurd (calm r);
-  }
-  stopped call new Disk i stops = record {
-    given = walked.given;
-    mid = old;
-    run = way.run;
-    call = call;
-    outcome = stops.outcome;
-    ran = run_one_more g first.store.sources.texts (known_in first.store) n walked.given first.tools old.tools new.tools call stops.outcome way.run.run (next_stops call i) stops.came stops.tools_are calm;
-    failed = stops.failed;
-  }
-  stopped call new (Full end count) i stops = record {
-    given = walked.given;
-    mid = old;
-    run = way.run;
-    call = call;
-    outcome = stops.outcome;
-    ran = run_one_more g first.store.sources.texts (known_in first.store) n walked.given first.tools old.tools new.tools call stops.outcome way.run.run (next_stops call i) stops.came stops.tools_are calm;
-    failed = stops.failed;
-  }
+module _ {D : Type 0} (told : D → Telling) (g : Graph) (n : Node) (first : At D) where
+  -- ---- at the start
 
--- ---- what may be run next
+  pub start : ChangesFollow told → (walked : Walked) (jobs : InFlight) → walked ≡ new_walk n → jobs ≡ none_in_flight jobs.limit → Fits g n → OutcomesFit (known_in first.store) → IsOnWay told g n on_course first walked jobs first
+  start follow walked jobs is rested fits fit =
+      let none : jobs.running ≡ [] = ap (λ (z : InFlight). z.running) rested in
+      let nothing : walked.given ≡ [] = ap (λ (z : Walked). z.given) is in
+      record {
+        root = ap (λ (z : Walked). z.root) is;
+        flown = subst (λ (z : List Flying × Calls). Flies g first.store.sources.texts (known_in first.store) n jobs.limit first.tools on_course (record { running = z.0; given = z.1; tools = first.tools })) (λ i. (sym none i, sym nothing i)) Flies.none_flown;
+        apart = subst (λ (l : List Flying). AreDistinct (calls_in l)) (sym none) tt;
+        few = omega (arith, ap length none);
+        goes = subst (λ (l : Calls). Goes told (keeps_of l) first.store first.store first.disk first.disk) (sym nothing) (follow.none first.store first.store first.disk first.disk (same_here first.store first.disk));
+        epoch = refl;
+        right = subst (λ (z : Walked). IsRight (world_in g first.store z.given) z) (sym is) (new_is_right (world_in g first.store []) n fits fit);
+        runs = λ call i. absurd (subst (λ (l : List Flying). IsIn call (calls_in l)) none i);
+        called = λ still call i. absurd (subst (λ (z : Walked). IsIn call z.wanted) is i);
+      }
 
-differs : (c call : Call) → c ≢ call → call_eq.eq c call ≡ false
-differs c call apart = by_test (call_eq.eq c call) refl
-  where
-    by_test : (b : Bool) → call_eq.eq c call ≡ b → call_eq.eq c call ≡ false
-    by_test true e = absurd (apart ((call_exact c call).0 e))
-    by_test false e = e
+  -- ---- what is known by now
 
--- Another call that may be kept may be so still.
-pub still_keepable : {D : Type 0} (told : D → Telling) (call : Call) (outcome : Outcome) (old new : At D) (c : Call) → IsKeptCall told call old new outcome → IsKeepable old.store c → c ≢ call → IsKeepable new.store c
-still_keepable told call outcome old new c kept may apart = record {
-  formed = may.formed;
-  new =
-      let calls : new.store.kept.tables.calls ≡ old.store.kept.tables.calls ++ (call, outcome) ∷ [] = calls_after told ((call, outcome) ∷ []) old.store new.store old.disk new.disk kept.goes in
-      ap (λ (l : Calls). kept_outcome l c) calls ∙ last_or old.store.kept.tables.calls call outcome c may.new ∙ ap (λ b. cond b (Some outcome) None) (differs c call apart);
-}
+  pub worlds_are : (given : Calls) (now : At D) → Goes told (keeps_of given) first.store now.store first.disk now.disk → world_in g now.store given ≡ world_in g first.store given
+  worlds_are given now goes =
+      let sources : now.store.sources.texts ≡ first.store.sources.texts = sources_after told given first.store now.store first.disk now.disk goes in
+      let calls = calls_after told given first.store now.store first.disk now.disk goes in
+      let known : ◌≡◌ {A = Outcomes} (after (known_in now.store) given) (after (known_in first.store) given) = ap (λ (l : Calls). after (kept_outcome l) given) calls ∙ same_known first.store.kept.tables.calls given in
+      λ i. world g (sources i) (known i)
 
--- as the answers say it
-pub way_stops_at : {T D : Type 0} (result : Result T KeptFault) (told : D → Telling) (walked : Walked) (before now : At D) (fault : KeptFault) → result ≡ Err fault → Stops told walked before now fault → IfErr result (Stops told walked before now)
-way_stops_at result told walked before now fault is stops = subst (λ r. IfErr r (Stops told walked before now)) (sym is) stops
+  pub known_now : (given : Calls) (now : At D) → AreGiven g first.store.sources.texts (known_in first.store) n given → Goes told (keeps_of given) first.store now.store first.disk now.disk
+      → ◌≡◌ {A = Outcomes} (known_in now.store) (after (known_in first.store) given)
+  known_now given now are goes =
+      ap kept_outcome (calls_after told given first.store now.store first.disk now.disk goes)
+      ∙ known_after first.store.kept.tables.calls given (given_are_new g first.store.sources.texts (known_in first.store) n given are)
+
+  -- Where nothing is found what is wanted is the whole frontier.
+  pub frontier : (walked : Walked) (now : At D) → walked.root ≡ n → Goes told (keeps_of walked.given) first.store now.store first.disk now.disk → walked.result ≡ None → IsAdvanced (world_in g now.store walked.given) walked
+      → AreFrontier (world_in g first.store walked.given) n walked.wanted
+  frontier walked now root goes still ended =
+      let there = subst (λ z. EndsWith (world_in g now.store walked.given) walked.root walked.wanted z) still ended in
+      let at_first = subst (λ w. EndsWith w walked.root walked.wanted None) (worlds_are walked.given now goes) there in
+      subst (λ z. EndsWith (world_in g first.store walked.given) z walked.wanted None) root at_first
+
+  module _ (course : Course) (walked : Walked) (jobs : InFlight) (now : At D) (way : IsOnWay told g n course first walked jobs now) where
+    pub waits : (call : Call) → IsIn call walked.wanted → Waits g first.store.sources.texts (known_in first.store) n walked.given call
+    waits call i = subst (λ z. IsFrontier g first.store.sources.texts (after (known_in first.store) walked.given) z call) way.root (way.right.wanted call i)
+
+    pub right_now : IsRight (world_in g now.store walked.given) walked
+    right_now = subst (λ w. IsRight w walked) (sym (worlds_are walked.given now way.goes)) way.right
+
+    pub told_now : first.tools.running ≡ [] → AreTold jobs.running now.tools
+    told_now idle = flown_told g first.store.sources.texts (known_in first.store) n jobs.limit first.tools idle course (flight_at walked jobs now.tools) way.flown
+
+    -- Each call that runs may be kept as it ends.
+    pub may_drain : IsSpellable g → Checked g → AreSources now.store.sources.texts → first.tools.running ≡ [] → (size : ℕ) → IsReady now.store.journal size → MayDrain walked jobs now.store size now.tools
+    may_drain spellable checked sources idle size ready =
+        let w : World = world_in g now.store walked.given in
+        let right : IsRight w walked = right_now in
+        let is : IsWorld w = record { spellable = spellable; checked = checked; sources = sources; fit = right.fit } in
+        record {
+          told = told_now idle;
+          apart = way.apart;
+          once = right.once;
+          wanted = way.runs;
+          keepable = λ call i. record {
+            formed = wanted_formed w is walked right call (way.runs call i);
+            new = outside (outcome_in walked.given call) (known_in now.store call) (right.wanted call (way.runs call i)).outside;
+          };
+          ready = ready;
+        }
+
+    -- ---- what may be waited for
+
+    limited : length jobs.running ≡ jobs.limit → MayEnd g first.store.sources.texts (known_in first.store) n jobs.limit on_course (flight_at walked jobs now.tools)
+    limited full = (
+      record { only = λ call i. waits call (way.runs call i); once = way.apart; few = omega (arith, way.few, calls_long jobs.running); full = inl (calls_long jobs.running ∙ full) },
+      inl full,
+    )
+
+    -- as many run as may
+    pub may_wait : walked.result ≡ None → IsNext walked.wanted jobs None → IsFresh (world_in g now.store walked.given) walked jobs → MayEnd g first.store.sources.texts (known_in first.store) n jobs.limit on_course (flight_at walked jobs now.tools)
+    may_wait still (inl full) fresh = limited full
+    may_wait still (inr all) (inl full) = limited full
+    may_wait still (inr all) (inr ended) =
+        let there = frontier walked now way.root way.goes still ended in (
+          record { only = λ call i. waits call (way.runs call i); once = way.apart; few = omega (arith, way.few, calls_long jobs.running); full = inr (λ call stops. all call (there.each call stops)) },
+          inr (λ r. there.calm r.chain r.is),
+        )
+
+    -- and one at least does
+    pub one_runs : 0 < jobs.limit → walked.result ≡ None → IsNext walked.wanted jobs None → IsFresh (world_in g now.store walked.given) walked jobs → 0 < length jobs.running
+    one_runs some still (inl full) fresh = omega (arith, some, full)
+    one_runs some still (inr all) (inl full) = omega (arith, some, full)
+    one_runs some still (inr all) (inr ended) = let there = frontier walked now way.root way.goes still ended in some_run jobs.running there.one.0 (all there.one.0 there.one.1)

@@ -15,7 +15,8 @@ use Rattle.odin_store.specs.OnDisk.{IsSame}
 use Rattle.odin_store.specs.Going.{Goes}
 use Rattle.odin_store.specs.Edited.{HasFailed}
 use Rattle.derive_walk.specs.Walks.{Walked, IsGiven}
-use Rattle.job_runner.specs.Flights.{InFlight, calls_in, AreTold, HasEnded, HasLost, MayHaveEnded}
+use Rattle.walk_tables.specs.Calls.{AreOnce}
+use Rattle.job_runner.specs.Flights.{InFlight, calls_in, AreTold, AreDistinct, HasEnded, HasLost, MayHaveEnded}
 use Rattle.kept_derive.specs.declared.landing.Landed.{Landed}
 use Rattle.kept_derive.specs.declared.landing.Landed.TheVariants.{Kept, Lost}
 use Rattle.kept_derive.specs.declared.fault.KeptFault.{KeptFault}
@@ -32,13 +33,19 @@ pub record IsKeepable (store : Store) (call : Call) : Type 0 where
   pub formed : IsWellFormed call
   pub new : known_in store call ≡ None
 
--- One at least runs; each that runs is wanted, and may be kept as it ends.
-pub record MayLand (walked : Walked) (jobs : InFlight) (store : Store) (size : ℕ) (tools : Spawned) : Type 0 where
+-- Each call that runs is wanted, and may be kept as it ends.
+pub record MayDrain (walked : Walked) (jobs : InFlight) (store : Store) (size : ℕ) (tools : Spawned) : Type 0 where
   pub told : AreTold jobs.running tools
-  pub one : 0 < length jobs.running
+  pub apart : AreDistinct (calls_in jobs.running)
+  pub once : AreOnce walked.wanted
   pub wanted : (call : Call) → IsIn call (calls_in jobs.running) → IsIn call walked.wanted
   pub keepable : (call : Call) → IsIn call (calls_in jobs.running) → IsKeepable store call
   pub ready : IsReady store.journal size
+
+-- and one at least runs
+pub record MayLand (walked : Walked) (jobs : InFlight) (store : Store) (size : ℕ) (tools : Spawned) : Type 0 where
+  pub may : MayDrain walked jobs store size tools
+  pub one : 0 < length jobs.running
 
 -- ---- what came of one end
 

@@ -6,7 +6,7 @@ use Rattle.odin_journal.specs.declared.fault.JournalFault.TheVariants as store
 use Rattle.odin_journal.specs.Rest.{IsReady}
 use Rattle.odin_store.specs.declared.store.Store.{Store}
 use Rattle.kept_derive.specs.declared.fault.KeptFault.{KeptFault}
-use Rattle.kept_derive.specs.declared.fault.KeptFault.TheVariants.{Spawn, Disk, Full, Memory}
+use Rattle.kept_derive.specs.declared.fault.KeptFault.TheVariants.{Disk, Full, Memory}
 
 -- A change never finds that a file is not ours.
 abbrev pub of_store : JournalFault → KeptFault

@@ -21,6 +21,12 @@ use Rattle.plain_derive.specs.GivenLaws.{AreNew}
 use Rattle.plain_derive.specs.Flights.{Course, off_course, for_spawn}
 use Rattle.kept_derive.specs.Runs.{At, known_in, HasRun, HasFound}
 
+-- Nothing was run, and no tool touched: none was refused.
+pub record IsSpared {Disk : Type 0} (course : Course) (old : At Disk) (given : Calls) (new : At Disk) : Type 0 where
+  pub none : given ≡ []
+  pub told : new.tools ≡ old.tools
+  pub unrefused : course ≢ off_course for_spawn
+
 module _ {Disk : Type 0} (told : Disk → Telling) where
   -- ---- the calls that are run
 
@@ -42,12 +48,6 @@ module _ {Disk : Type 0} (told : Disk → Telling) where
   AllAreKept =
       (g : Graph) (n : Node) (limit : ℕ) (old new : At Disk) (view : View) → HasFound told g n limit old new (Answer view)
       → (call : Call) → IsCallFrom g (derived g old.store.sources.texts (known_in new.store)) n call → IsSome (known_in new.store call)
-
-  -- Nothing was run, and no tool touched: none was refused.
-  pub record IsSpared (course : Course) (old : At Disk) (given : Calls) (new : At Disk) : Type 0 where
-    pub none : given ≡ []
-    pub told : new.tools ≡ old.tools
-    pub unrefused : course ≢ off_course for_spawn
 
   -- Once a node is found nothing is run for it again, from the same sources, whatever else is kept by then, and however many may run.
   abbrev pub NoneIsRunAgain : Type 0

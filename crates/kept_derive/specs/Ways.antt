@@ -1,41 +1,39 @@
 -- A derivation on its way over what a store keeps.
-use Rattle.std.specs.Prelude.{◌≡◌, ◌⊎◌, ◌<◌, ℕ, List, [], length, Option, Some, None, IsSome, Err}
+use Rattle.std.specs.Prelude.{◌≡◌, ◌⊎◌, ◌<◌, ◌≤◌, ℕ, List, [], length, Option, Some, None, IsSome, Err}
 use Rattle.object_values.specs.declared.nodes.Node.{Node}
 use Rattle.object_values.specs.declared.calls.Call.{Call}
 use Rattle.odin_outside.specs.Disk.{Telling}
-use Rattle.odin_outside.specs.Spawned.{Spawned}
 use Rattle.meaning_texts.specs.Lists.{IsIn}
 use Rattle.meaning_graph.specs.Graphs.{Graph}
-use Rattle.odin_journal.specs.Rest.{IsReady}
-use Rattle.odin_store.specs.declared.store.Store.{Store}
 use Rattle.odin_store.specs.Going.{Goes}
-use Rattle.derive_walk.specs.Walks.{Walked, IsRight, IsAdvanced}
-use Rattle.job_runner.specs.Flights.{InFlight, calls_in, AreTold}
+use Rattle.derive_walk.specs.Walks.{Walked, IsRight}
+use Rattle.job_runner.specs.Flights.{InFlight, calls_in, AreDistinct}
 use Rattle.plain_derive.specs.Flights.{Why, Course, on_course, off_course, for_spawn, IsCalled, Flies}
 use Rattle.kept_derive.specs.declared.fault.KeptFault.{KeptFault}
 use Rattle.kept_derive.specs.declared.flight.Flown.{Flown}
 use Rattle.kept_derive.specs.declared.flight.Flown.TheVariants.{Found, Cut}
-use Rattle.kept_derive.specs.Calls.{IsKeepable}
-use Rattle.kept_derive.specs.Looked.{sought_by, AreCounted, AreLooks, KeepsMore}
+use Rattle.kept_derive.specs.Looked.{sought_by, AreCounted, AreLooks}
 use Rattle.kept_derive.specs.Runs.{At, known_in, world_in, keeps_of}
 use Rattle.kept_derive.specs.Stops.{IsStopped}
 
--- Its tools in flight, what came of them kept, and the walk right by what was kept before and by what came. What runs is wanted, and what is
--- wanted was so at a moment at which no chain was there.
+-- Its tools in flight, what came of them kept, and the walk right by what was kept before and by what came. What runs is wanted; and while
+-- nothing is found, what is wanted was so at a moment at which no chain was there.
 pub record IsOnWay {Disk : Type 0} (told : Disk → Telling) (g : Graph) (n : Node) (course : Course) (first : At Disk) (walked : Walked) (jobs : InFlight) (now : At Disk) : Type 0 where
   pub root : walked.root ≡ n
   pub flown : Flies g first.store.sources.texts (known_in first.store) n jobs.limit first.tools course (record { running = jobs.running; given = walked.given; tools = now.tools })
+  pub apart : AreDistinct (calls_in jobs.running)
+  pub few : length jobs.running ≤ jobs.limit
   pub goes : Goes told (keeps_of walked.given) first.store now.store first.disk now.disk
   pub epoch : now.store.epoch ≡ first.store.epoch
   pub right : IsRight (world_in g first.store walked.given) walked
   pub runs : (call : Call) → IsIn call (calls_in jobs.running) → IsIn call walked.wanted
-  pub called : (call : Call) → IsIn call walked.wanted → IsCalled g first.store.sources.texts (known_in first.store) n walked.given call
+  pub called : walked.result ≡ None → (call : Call) → IsIn call walked.wanted → IsCalled g first.store.sources.texts (known_in first.store) n walked.given call
 
 -- ---- the next start
 
 -- A wanted call that doesn't run, where a slot is free; none where no slot is, or all that is wanted runs.
-pub record IsStartable (wanted : List Call) (jobs : InFlight) (call : Call) : Type 0 where
-  pub wanted : IsIn call wanted
+pub record IsStartable (calls : List Call) (jobs : InFlight) (call : Call) : Type 0 where
+  pub wanted : IsIn call calls
   pub new : IsIn call (calls_in jobs.running) → ⊥
   pub room : length jobs.running < jobs.limit
 
@@ -49,14 +47,6 @@ IsNext wanted jobs None = (length jobs.running ≡ jobs.limit) ⊎ ((call : Call
 pub record HasCome {Disk : Type 0} (told : Disk → Telling) (g : Graph) (n : Node) (first : At Disk) (walked : Walked) (jobs : InFlight) (now : At Disk) : Type 0 where
   pub way : IsOnWay told g n on_course first walked jobs now
   pub found : IsSome walked.result
-  pub advanced : IsAdvanced (world_in g now.store walked.given) walked
-
--- each call that runs may be kept as it ends
-pub record MayDrain (walked : Walked) (jobs : InFlight) (store : Store) (size : ℕ) (tools : Spawned) : Type 0 where
-  pub told : AreTold jobs.running tools
-  pub wanted : (call : Call) → IsIn call (calls_in jobs.running) → IsIn call walked.wanted
-  pub keepable : (call : Call) → IsIn call (calls_in jobs.running) → IsKeepable store call
-  pub ready : IsReady store.journal size
 
 abbrev pub ComesTo : {Disk : Type 0} → (Disk → Telling) → Graph → Node → At Disk → Walked → InFlight → At Disk → Flown → Type 0
 ComesTo told g n first walked jobs now Found = HasCome told g n first walked jobs now
@@ -64,14 +54,18 @@ ComesTo told g n first walked jobs now Cut = IsOnWay told g n (off_course for_sp
 
 -- ---- the draining
 
--- Every derivation that is off its course stays so, and none of its tools runs any more.
+-- every derivation that is off its course stays so
+abbrev pub StaysOff : {Disk : Type 0} → (Disk → Telling) → Walked → InFlight → At Disk → Walked → InFlight → At Disk → Type 0
+StaysOff {Disk} told walked jobs old walked' jobs' new =
+    (g : Graph) (n : Node) (why : Why) (first : At Disk) → IsOnWay told g n (off_course why) first walked jobs old → IsOnWay told g n (off_course why) first walked' jobs' new
+
+-- None of its tools runs any more, and what is found of it is the same.
 pub record Drains {Disk : Type 0} (told : Disk → Telling) (walked : Walked) (jobs : InFlight) (old : At Disk) (walked' : Walked) (jobs' : InFlight) (new : At Disk) : Type 0 where
-  pub on : (g : Graph) (n : Node) (why : Why) (first : At Disk) → IsOnWay told g n (off_course why) first walked jobs old → IsOnWay told g n (off_course why) first walked' jobs' new
+  pub on : StaysOff told walked jobs old walked' jobs' new
   pub none : jobs'.running ≡ []
   pub limit : jobs'.limit ≡ jobs.limit
   pub result : walked'.result ≡ walked.result
   pub sought : sought_by walked' ≡ sought_by walked
-  pub keeps : KeepsMore old.store new.store
 
 -- Every one is stopped by the fault, and so are its looks.
 pub record IsHalted {Disk : Type 0} (told : Disk → Telling) (g : Graph) (n : Node) (limit : ℕ) (first : At Disk) (walked : Walked) (new : At Disk) (fault : KeptFault) : Type 0 where
@@ -80,4 +74,4 @@ pub record IsHalted {Disk : Type 0} (told : Disk → Telling) (g : Graph) (n : N
 
 abbrev pub DrainStops : {Disk : Type 0} → (Disk → Telling) → Walked → InFlight → At Disk → At Disk → KeptFault → Type 0
 DrainStops {Disk} told walked jobs old new fault =
-    (g : Graph) (n : Node) (why : Why) (first : At Disk) → first.tools.running ≡ [] → IsOnWay told g n (off_course why) first walked jobs old → IsHalted told g n jobs.limit first walked new fault
+    (g : Graph) (n : Node) (why : Why) (first : At Disk) → IsOnWay told g n (off_course why) first walked jobs old → IsHalted told g n jobs.limit first walked new fault

@@ -15,6 +15,7 @@ use job_runner::Jobs;
 use object_values::{Copied, Node};
 use odin_outside::{Disk, Spawner, Steps};
 use odin_store::Store;
+use odin_store::laws::changes_follow;
 use path_planner::Plans;
 use std::alloc::Global;
 use std::sync::ledger::Ledger;
@@ -47,6 +48,8 @@ pub fn derive_kept<D: Disk, S: Spawner, L: Ledger>(
         AreLooks D.told graph.now node.now limit old (at store.new disk.new (S.told tools.new))
         steps.old steps.new result }
 {
+    graph.checked();
+    changes_follow::<D>();
     let mut core = Core::new(alloc, node.copy(alloc)?);
     let mut jobs = Jobs::new(alloc, limit);
     let flown = fly(

@@ -1,17 +1,17 @@
 // The tools of a derivation: started, waited for, and drained.
-ghost use Rattle.std.specs.Prelude.{◌≡◌, ◌<◌, [], OnOk, IfOk, IfErr, option_map};
+ghost use Rattle.std.specs.Prelude.{◌≡◌, ◌<◌, ◌≤◌, length, OnOk, IfOk, IfErr, option_map};
 ghost use Rattle.meaning_graph_text.specs.Grammar.{IsSpellable};
 ghost use Rattle.path_planner.specs.Ends.{plans_of};
 ghost use Rattle.derive_walk.specs.Looks.{AreFew, lost, met_by};
 ghost use Rattle.derive_walk.specs.Walks.{IsRight, IsAdvanced, GoesOn, new_walk};
 ghost use Rattle.job_runner.specs.Flights.{none_in_flight};
-ghost use Rattle.kept_derive.specs.Calls.{IsIdle};
+ghost use Rattle.kept_derive.specs.Calls.{IsIdle, MayDrain};
 ghost use Rattle.kept_derive.specs.Faults.{IsCause, IsLeft};
 ghost use Rattle.kept_derive.specs.Looked.{FlightLooks};
 ghost use Rattle.kept_derive.specs.Rests.{IsDerivable};
 ghost use Rattle.kept_derive.specs.Runs.{at, world_in};
 ghost use Rattle.kept_derive.specs.Stops.{IsStopped};
-ghost use Rattle.kept_derive.specs.Ways.{IsNext, ComesTo, MayDrain, Drains, DrainStops};
+ghost use Rattle.kept_derive.specs.Ways.{IsNext, ComesTo, Drains, DrainStops};
 
 use crate::fault::KeptFault;
 use crate::landing::{Landed, land};
@@ -92,6 +92,7 @@ pub(crate) fn fly<D: Disk, S: Spawner, L: Ledger>(
 
 // The first wanted call that doesn't run; none where as many run as may.
 fn next_call<'a>(wanted: &'a [Call], jobs: &Jobs) -> Option<&'a Call>
+    requires { length jobs.now.running ≤ jobs.now.limit }
     ensures { IsNext wanted.now jobs.now (option_map (λ call. call.now) result) }
 {
     if jobs.is_full() {

@@ -3,7 +3,7 @@ ghost use Rattle.kept_derive.specs.Laws.{AllAreKept, AnswerStays, FoundIsTrue, N
 ghost use Rattle.kept_derive.specs.StopLaws.{DiskStops, StopsAreTrue, StopsKeep};
 
 use odin_outside::Disk;
-use odin_store::laws::{changes_follow, changes_stop};
+use odin_store::laws::changes_follow;
 
 /// What is run are calls of the node that are not kept, each once; they are kept then, and nothing is
 /// run for the node again.
@@ -28,5 +28,4 @@ pub fn stops_keep<D: Disk>()
     ensures right { StopsAreTrue D.told }
 {
     changes_follow::<D>();
-    changes_stop::<D>();
 }

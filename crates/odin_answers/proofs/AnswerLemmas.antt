@@ -1,5 +1,5 @@
 -- Replies to texts, from what an ask of the engine did.
-use Rattle.std.proofs.Common.{◌≡◌, ℕ, List, [], ◌∷◌, ◌++◌, refl, ap, sym, subst, ◌∙◌, inl, inr, is_some}
+use Rattle.std.proofs.Common.{◌≡◌, ℕ, List, [], ◌∷◌, ◌++◌, refl, ap, sym, subst, arith, inl, inr, is_some}
 use Rattle.object_values.specs.declared.nodes.Node.{Node}
 use Rattle.object_values.specs.declared.calls.Call.{Call}
 use Rattle.object_values.specs.declared.calls.Outcome.{Outcome}
@@ -18,28 +18,24 @@ use Rattle.odin_journal.specs.declared.fault.JournalFault.TheVariants as store
 use Rattle.odin_store.specs.declared.store.Store.{Store}
 use Rattle.odin_store.specs.Held.{Change, keeps}
 use Rattle.odin_store.specs.OnDisk.{IsSame, IsOver}
-use Rattle.odin_store.specs.Going.{IsBatchOf, Goes, Stops}
-use Rattle.odin_store.proofs.Lemmas.{goes_none, goes_on, stops_behind, nothing_behind}
+use Rattle.odin_store.specs.Going.{IsBatchOf, Goes}
+use Rattle.odin_store.proofs.Lemmas.{goes_none, goes_on, nothing_behind}
 use Rattle.walk_tables.specs.declared.found.Found.{Found}
 use Rattle.walk_tables.specs.declared.found.Found.TheVariants as found
 use Rattle.derive_walk.specs.Founds.{IsFound}
 use Rattle.derive_walk.specs.Outcomes.{after}
 use Rattle.derive_walk.proofs.Lemmas.{found_stays}
-use Rattle.plain_derive.specs.declared.fault.PlainFault.{PlainFault}
-use Rattle.plain_derive.specs.declared.fault.PlainFault.TheVariants as plain
-use Rattle.plain_derive.specs.Given.{calls_of}
-use Rattle.plain_derive.specs.Logs.{after_calls}
-use Rattle.plain_derive.specs.Runs.{AreRun}
+use Rattle.plain_derive.specs.Flights.{Course, AreRun}
 use Rattle.plain_derive.proofs.Lemmas.{given_are_all}
-use Rattle.kept_derive.specs.Runs.{At, keeps_of}
-use Rattle.kept_derive.specs.Stops.{IsCutOff, IsUnkept}
+use Rattle.kept_derive.specs.Runs.{At, keeps_of, course_of}
+use Rattle.kept_derive.specs.Stops.{IsDrained as IsDrainedFor, IsUnkept, IsWanting}
 use Rattle.odin_engine.specs.declared.fault.AskFault.{AskFault}
 use Rattle.odin_engine.specs.declared.fault.AskFault.TheVariants as fault
 use Rattle.odin_engine.specs.Asked.{IsNodeOf}
 use Rattle.odin_engine.specs.Asking.{IsFoundFor, IsAskFault}
-use Rattle.odin_answers.specs.Answers.{AreAll, IsBegun, HaveRun, IsReply, MayHaveBegun, found_reply}
+use Rattle.odin_answers.specs.Answers.{AreAll, HaveFlown, IsReply, MayHaveBegun, found_reply}
 use Rattle.odin_answers.specs.Faults as faults
-use Rattle.odin_answers.specs.Replied.{HasReplied, HasRun, HasWanted, HasFailed, IsFull, HasStopped}
+use Rattle.odin_answers.specs.Replied.{HasReplied, HasWanted, HasFailed, IsFull, HasStopped}
 
 -- the changes of one more call that is kept
 pub keeps_behind : (given : Calls) (call : Call) (outcome : Outcome) → keeps_of (given ++ (call, outcome) ∷ []) ≡ keeps_of given ++ keeps call outcome ∷ []
@@ -61,31 +57,22 @@ answers g s outcomes text n (found.Answer view) asks is = Answer.object text n v
 answers g s outcomes text n (found.Circular chain) asks is = Answer.circular text n chain asks is
 answers g s outcomes text n (found.Deep chain) asks is = Answer.deep text n chain asks is
 
--- no call, and nothing is told
-none_told : (given : Calls) (before now : Spawned) → now ≡ after_calls before (calls_of given) → given ≡ [] → now ≡ before
-none_told given before now is none = is ∙ ap (λ (l : Calls). after_calls before (calls_of l)) none
-
--- what was run whole was begun
-run_begun : (g : Graph) (s : Sources) (kept : Calls) (text : Text) (n : Node) (given : Calls) (before now : Spawned) → Asks g text n → AreRun g s (kept_outcome kept) n given before now → IsBegun g s kept text given plain.Memory before now
-run_begun g s kept text n given before now asks run = record {
+-- tools that ran to their end
+run_begun : (g : Graph) (s : Sources) (kept : Calls) (limit : ℕ) (text : Text) (n : Node) (course : Course) (given : Calls) (before now : Spawned) → Asks g text n → AreRun g s (kept_outcome kept) n limit course given before now
+    → HaveFlown g s kept limit text given before now
+run_begun g s kept limit text n course given before now asks run = record {
   node = n;
   asks = asks;
-  mid = now;
-  run = run;
-  cut = inl (record { memory = refl; same = refl });
-  untouched = λ refused. none_told given before now run.now_is (run.untouched refused);
+  flown = record { course = course; running = []; few = omega arith; flown = run.flown };
 }
 
-pub ran_begun : (g : Graph) (s : Sources) (kept : Calls) (text : Text) (given : Calls) (before now : Spawned) → HaveRun g s kept text given before now → MayHaveBegun g s kept text given before now
-ran_begun g s kept text given before now ran = inr (plain.Memory, run_begun g s kept text ran.node given before now ran.asks ran.run)
-
--- and so was what a reply tells
-pub reply_begun : (g : Graph) (s : Sources) (kept : Calls) (text : Text) (reply : Reply) (given : Calls) (before now : Spawned) → IsReply g s kept text reply given before now → MayHaveBegun g s kept text given before now
-reply_begun g s kept text reply given before now (inl answer) = elim answer.did [
+-- A reply is one of an ask that was begun.
+pub reply_begun : (g : Graph) (s : Sources) (kept : Calls) (limit : ℕ) (text : Text) (reply : Reply) (given : Calls) (before now : Spawned) → IsReply g s kept limit text reply given before now → MayHaveBegun g s kept limit text given before now
+reply_begun g s kept limit text reply given before now (inl answer) = elim answer.did [
   | inl alone ↦ inl (record { none = alone.none; told = alone.told })
-  | inr derived ↦ inr (plain.Memory, run_begun g s kept text derived.node given before now derived.asks derived.run)
+  | inr derived ↦ inr (run_begun g s kept limit text derived.node (course_of derived.found) given before now derived.asks derived.run)
 ]
-reply_begun g s kept text reply given before now (inr refused) = inr (plain.Spawn, refused.begun)
+reply_begun g s kept limit text reply given before now (inr refused) = inr (run_begun g s kept limit text refused.drained.node _ given before now refused.drained.asks refused.drained.run)
 
 -- ---- the store
 
@@ -99,27 +86,19 @@ module _ {Disk : Type 0} (told : Disk → Telling) where
       subst (λ c. Goes told c store next disk after) (nothing_behind changes)
       (goes_on told changes [] store mid next disk between after goes (goes_none told mid next between after same))
 
-  module _ (g : Graph) (text : Text) (old new : At Disk) where
-    record IsCutFor (f : PlainFault) : Type 0 where
-      node : Node
-      is : IsNodeOf g text node
-      cut : IsCutOff told g node f old new
-
-    record IsUnkeptFor (f : JournalFault) : Type 0 where
-      node : Node
-      is : IsNodeOf g text node
-      unkept : IsUnkept told g node f old new
-
+  module _ (g : Graph) (limit : ℕ) (text : Text) (old new : At Disk) where
     -- ---- nothing was done
 
-    untouched : new ≡ old → HasWanted told g text old new
+    untouched : new ≡ old → HasWanted told g limit text old new
     untouched e = record {
       given = [];
+      rest = [];
+      few = omega arith;
       begun = inl (record { none = refl; told = ap (λ (z : At Disk). z.tools) e });
       goes = goes_none told old.store new.store old.disk new.disk (same_at old new e);
     }
 
-    refused_reply : (reply : Reply) → Refused g text reply → new ≡ old → HasReplied told g text old new reply
+    refused_reply : (reply : Reply) → Refused g text reply → new ≡ old → HasReplied told g limit text old new reply
     refused_reply reply refused e = record {
       given = [];
       is = inl (record {
@@ -138,7 +117,7 @@ module _ {Disk : Type 0} (told : Disk → Telling) where
     abbrev kept : Calls
     kept = old.store.kept.tables.calls
 
-    pub replied : (f : Found) (reply : Reply) → IsFoundFor told g text old new f → reply ≡ found_reply g f → HasReplied told g text old new reply
+    pub replied : (f : Found) (reply : Reply) → IsFoundFor told g limit text old new f → reply ≡ found_reply g f → HasReplied told g limit text old new reply
     replied f reply for is =
         let given = for.has.given in
         record {
@@ -147,71 +126,69 @@ module _ {Disk : Type 0} (told : Disk → Telling) where
             answer = λ outcomes agrees.
                 subst (Answer g sources outcomes text) (sym is)
                 (answers g sources outcomes text for.node f for.is.asks (found_stays g sources (after (kept_outcome kept) given) outcomes agrees for.node f for.has.is));
-            did = inr (record { node = for.node; asks = for.is.asks; run = for.has.run.run; all = all_known g sources kept for.node given f for.has.is });
+            did = inr (record {
+              node = for.node;
+              asks = for.is.asks;
+              found = f;
+              run = for.has.run.run;
+              is = for.has.is;
+              all = all_known g sources kept for.node given f for.has.is;
+            });
           });
           goes = for.has.run.goes;
           epoch = for.has.run.epoch;
         }
 
     -- of which the reply was not written
-    pub unreplied : (f : Found) → IsFoundFor told g text old new f → HasWanted told g text old new
+    pub unreplied : (f : Found) → IsFoundFor told g limit text old new f → HasWanted told g limit text old new
     unreplied f for = record {
       given = for.has.given;
-      begun = inr (plain.Memory, run_begun g sources kept text for.node for.has.given old.tools new.tools for.is.asks for.has.run.run);
+      rest = [];
+      few = omega arith;
+      begun = inr (subst (λ (l : Calls). HaveFlown g sources kept limit text l old.tools new.tools) (sym (nothing_behind for.has.given))
+          (run_begun g sources kept limit text for.node (course_of f) for.has.given old.tools new.tools for.is.asks for.has.run.run));
       goes = for.has.run.goes;
     }
 
     -- ---- faults
 
-    -- cut off behind the calls that were kept
-    goes_cut : (f : PlainFault) (for : IsCutFor f) → Goes told (keeps_of for.cut.given) old.store new.store old.disk new.disk
-    goes_cut f for = goes_same (keeps_of for.cut.given) old.store for.cut.mid.store new.store old.disk for.cut.mid.disk new.disk for.cut.run.goes for.cut.same
-
-    cut_begun : (f : PlainFault) (for : IsCutFor f) → IsBegun g sources kept text for.cut.given f old.tools new.tools
-    cut_begun f for = record {
-      node = for.node;
-      asks = for.is.asks;
-      mid = for.cut.mid.tools;
-      run = for.cut.run.run;
-      cut = for.cut.cut;
-      untouched = for.cut.untouched;
+    start_refused : (reply : Reply) (n : Node) → IsNodeOf g text n → IsDrainedFor told g n limit old new → reply ≡ RefusedToolStart → HasReplied told g limit text old new reply
+    start_refused reply n of drained is = record {
+      given = drained.given;
+      is = inr (record { is = is; drained = record { node = n; asks = of.asks; run = drained.run.run } });
+      goes = drained.run.goes;
+      epoch = drained.run.epoch;
     }
 
-    start_refused : (reply : Reply) → IsCutFor plain.Spawn → reply ≡ RefusedToolStart → HasReplied told g text old new reply
-    start_refused reply for is = record {
-      given = for.cut.given;
-      is = inr (record { is = is; begun = cut_begun plain.Spawn for });
-      goes = goes_cut plain.Spawn for;
-      epoch = for.cut.same.store_is.epoch ∙ for.cut.run.epoch;
+    wanted : (n : Node) → IsNodeOf g text n → IsWanting told g n limit old new → HasWanted told g limit text old new
+    wanted n of wanting = record {
+      given = wanting.given;
+      rest = wanting.rest;
+      few = wanting.few;
+      begun = inr (record { node = n; asks = of.asks; flown = wanting.flown });
+      goes = wanting.goes;
     }
 
-    wanted : IsCutFor plain.Memory → HasWanted told g text old new
-    wanted for = record { given = for.cut.given; begun = inr (plain.Memory, cut_begun plain.Memory for); goes = goes_cut plain.Memory for }
+    failed : (n : Node) → IsNodeOf g text n → IsUnkept told g n limit store.Disk old new → HasFailed told g limit text old new
+    failed n of u = record {
+      given = u.given;
+      call = u.call;
+      outcome = u.outcome;
+      came = record { node = n; asks = of.asks; flown = u.flown };
+      mid = u.mid;
+      goes = u.goes;
+      stops = u.failed.1;
+    }
 
-    -- run to its end, but not kept
-    unkept_ran : (f : JournalFault) (for : IsUnkeptFor f) → HasRun told g text old new (for.unkept.given ++ (for.unkept.call, for.unkept.outcome) ∷ [])
-    unkept_ran f for = record { node = for.node; asks = for.is.asks; run = for.unkept.ran }
-
-    failed : IsUnkeptFor store.Disk → HasFailed told g text old new
-    failed for =
-        let u = for.unkept in
-        record {
-          given = u.given ++ (u.call, u.outcome) ∷ [];
-          ran = unkept_ran store.Disk for;
-          stops = subst (λ c. Stops told c old.store old.disk new.disk) (sym (keeps_behind u.given u.call u.outcome))
-              (stops_behind told (keeps_of u.given) (keeps u.call u.outcome ∷ []) old.store u.mid.store old.disk u.mid.disk new.disk u.run.goes u.failed.1);
-        }
-
-    full : (at size : ℕ) → IsUnkeptFor (store.Full at size) → IsFull told g text old new at size
-    full at size for =
-        let u = for.unkept in
+    full : (at size : ℕ) (n : Node) → IsNodeOf g text n → IsUnkept told g n limit (store.Full at size) old new → IsFull told g limit text old new at size
+    full at size n of u =
         let same = u.failed.1.0 in
         record {
           given = u.given;
           call = u.call;
           outcome = u.outcome;
-          ran = unkept_ran (store.Full at size) for;
-          goes = goes_same (keeps_of u.given) old.store u.mid.store new.store old.disk u.mid.disk new.disk u.run.goes same;
+          came = record { node = n; asks = of.asks; flown = u.flown };
+          goes = goes_same (keeps_of u.given) old.store u.mid.store new.store old.disk u.mid.disk new.disk u.goes same;
           items = u.failed.1.1.0;
           batch = subst (λ (t : Tables). IsBatchOf t.contents (keeps u.call u.outcome) u.failed.1.1.0) (sym same.store_is.tables) u.failed.1.1.1;
           over = subst (λ (j : Journal). IsOver u.failed.1.1.0 j.end at size) (sym same.store_is.journal) u.failed.1.1.2;
@@ -219,29 +196,29 @@ module _ {Disk : Type 0} (told : Disk → Telling) where
 
     -- ---- by the fault
 
-    pub refused : (f : AskFault) (reply : Reply) → IsAskFault told g text old new f → faults.Refuses g f reply → HasReplied told g text old new reply
-    refused (fault.Expression place) reply is says = subst (HasReplied told g text old new) (sym says) (refused_reply (RefusedExpression place) is.0 is.1)
-    refused (fault.UnknownType name) reply is says = subst (HasReplied told g text old new) (sym says) (refused_reply (RefusedType name) is.0 is.1)
-    refused (fault.UnknownParam name) reply is says = subst (HasReplied told g text old new) (sym says) (refused_reply (RefusedParam name) is.0 is.1)
-    refused (fault.Path step) reply is says = subst (HasReplied told g text old new) (sym says) (refused_reply (RefusedPath step) is.0 is.1)
+    pub refused : (f : AskFault) (reply : Reply) → IsAskFault told g limit text old new f → faults.Refuses g f reply → HasReplied told g limit text old new reply
+    refused (fault.Expression place) reply is says = subst (HasReplied told g limit text old new) (sym says) (refused_reply (RefusedExpression place) is.0 is.1)
+    refused (fault.UnknownType name) reply is says = subst (HasReplied told g limit text old new) (sym says) (refused_reply (RefusedType name) is.0 is.1)
+    refused (fault.UnknownParam name) reply is says = subst (HasReplied told g limit text old new) (sym says) (refused_reply (RefusedParam name) is.0 is.1)
+    refused (fault.Path step) reply is says = subst (HasReplied told g limit text old new) (sym says) (refused_reply (RefusedPath step) is.0 is.1)
     refused (fault.Circular chain) reply is says = replied (found.Circular chain) reply is says
     refused (fault.Deep chain) reply is says = replied (found.Deep chain) reply is says
-    refused fault.Spawn reply is says = start_refused reply (record { node = is.node; is = is.is; cut = is.stopped }) says
+    refused fault.Spawn reply is says = start_refused reply is.node is.is is.stopped says
     refused fault.Disk reply is says = absurd says
     refused (fault.Full at size) reply is says = absurd says
     refused fault.Memory reply is says = absurd says
 
-    pub stopped : (f : AskFault) (why : JournalFault) → IsAskFault told g text old new f → faults.Stops f why → HasStopped told g text old new why
-    stopped (fault.Expression place) why is says = subst (HasStopped told g text old new) (sym says) (untouched is.1)
-    stopped (fault.UnknownType name) why is says = subst (HasStopped told g text old new) (sym says) (untouched is.1)
-    stopped (fault.UnknownParam name) why is says = subst (HasStopped told g text old new) (sym says) (untouched is.1)
-    stopped (fault.Path step) why is says = subst (HasStopped told g text old new) (sym says) (untouched is.1)
-    stopped (fault.Circular chain) why is says = subst (HasStopped told g text old new) (sym says) (unreplied (found.Circular chain) is)
-    stopped (fault.Deep chain) why is says = subst (HasStopped told g text old new) (sym says) (unreplied (found.Deep chain) is)
+    pub stopped : (f : AskFault) (why : JournalFault) → IsAskFault told g limit text old new f → faults.Stops f why → HasStopped told g limit text old new why
+    stopped (fault.Expression place) why is says = subst (HasStopped told g limit text old new) (sym says) (untouched is.1)
+    stopped (fault.UnknownType name) why is says = subst (HasStopped told g limit text old new) (sym says) (untouched is.1)
+    stopped (fault.UnknownParam name) why is says = subst (HasStopped told g limit text old new) (sym says) (untouched is.1)
+    stopped (fault.Path step) why is says = subst (HasStopped told g limit text old new) (sym says) (untouched is.1)
+    stopped (fault.Circular chain) why is says = subst (HasStopped told g limit text old new) (sym says) (unreplied (found.Circular chain) is)
+    stopped (fault.Deep chain) why is says = subst (HasStopped told g limit text old new) (sym says) (unreplied (found.Deep chain) is)
     stopped fault.Spawn why is says = absurd says
-    stopped fault.Disk why is says = subst (HasStopped told g text old new) (sym says) (failed (record { node = is.node; is = is.is; unkept = is.stopped }))
-    stopped (fault.Full at size) why is says = subst (HasStopped told g text old new) (sym says) (full at size (record { node = is.node; is = is.is; unkept = is.stopped }))
-    stopped fault.Memory why is says = subst (HasStopped told g text old new) (sym says) (elim is [
+    stopped fault.Disk why is says = subst (HasStopped told g limit text old new) (sym says) (failed is.node is.is is.stopped)
+    stopped (fault.Full at size) why is says = subst (HasStopped told g limit text old new) (sym says) (full at size is.node is.is is.stopped)
+    stopped fault.Memory why is says = subst (HasStopped told g limit text old new) (sym says) (elim is [
       | inl same ↦ untouched same
-      | inr ended ↦ wanted (record { node = ended.node; is = ended.is; cut = ended.stopped })
+      | inr ended ↦ wanted ended.node ended.is ended.stopped
     ])

@@ -1,80 +1,97 @@
 -- The count of the tools' faults over replies, and what else stays of the tools.
-use Rattle.std.proofs.Common.{◌≡◌, ◌≤◌, ◌∙◌, inl, inr, ap, sym, subst, arith}
+use Rattle.std.proofs.Common.{◌≡◌, ◌≤◌, ℕ, inl, inr, ap, subst, arith}
 use Rattle.odin_outside.specs.Causes.{IsCounted}
 use Rattle.odin_outside.specs.Spawned.{Spawned}
 use Rattle.object_values.specs.declared.nodes.Node.{Node}
 use Rattle.meaning_graph.specs.Graphs.{Text, Graph}
-use Rattle.meaning_derive.specs.Derive.{Sources, Outcomes}
+use Rattle.meaning_derive.specs.Derive.{Sources, Outcomes, IsFounded}
+use Rattle.meaning_derive.proofs.Lemmas.{no_chain}
 use Rattle.meaning_records.specs.Tables.{Calls, kept_outcome}
 use Rattle.meaning_commands.specs.declared.replies.Reply.{Reply}
-use Rattle.plain_derive.specs.declared.fault.PlainFault.{PlainFault}
-use Rattle.plain_derive.specs.declared.fault.PlainFault.TheVariants.{Spawn, Memory}
-use Rattle.plain_derive.specs.Given.{calls_of}
-use Rattle.plain_derive.specs.Laws.{CountedFor}
-use Rattle.plain_derive.specs.Runs.{AreRun, IsGivenUp}
-use Rattle.plain_derive.proofs.Lemmas.{same_faults, same_answer, cut_counted, cut_answer}
-use Rattle.odin_answers.specs.Answers.{HasAnswer, IsBegun, IsStartRefused, HaveRun, IsReply, MayHaveBegun}
+use Rattle.meaning_answers.specs.Answers.{Asks}
+use Rattle.meaning_answers.proofs.Lemmas.{one_node}
+use Rattle.walk_tables.specs.declared.found.Found.{Found}
+use Rattle.walk_tables.specs.declared.found.Found.TheVariants as found
+use Rattle.derive_walk.specs.Founds.{IsFound}
+use Rattle.derive_walk.specs.Outcomes.{after}
+use Rattle.derive_walk.proofs.Lemmas.{found_stays}
+use Rattle.plain_derive.specs.Flights.{Course, on_course, off_course, for_chain, for_spawn, at_rest, AreRun}
+use Rattle.plain_derive.specs.FlightLaws.{IsFlown, CountedOn}
+use Rattle.plain_derive.proofs.Lemmas.{is_flown, counted_on}
+use Rattle.kept_derive.specs.Runs.{course_of}
+use Rattle.odin_answers.specs.Answers.{Agrees, IsDerived, IsDrained, HasAnswer, IsStartRefused, HaveFlown, IsReply, MayHaveBegun}
 
 -- ---- counts
 
-run_uncounted : (g : Graph) (s : Sources) (kept : Outcomes) (n : Node) (given : Calls) (before now : Spawned) → AreRun g s kept n given before now → now.faults ≡ before.faults
-run_uncounted g s kept n given before now run = ap (λ (z : Spawned). z.faults) run.now_is ∙ same_faults before (calls_of given)
+-- Off its course or on it the count never falls.
+counted_later : (course : Course) (before now : Spawned) → CountedOn course before now → before.faults ≤ now.faults
+counted_later on_course before now same = omega (arith, same)
+counted_later (off_course for_chain) before now later = later
+counted_later (off_course for_spawn) before now counted = counted.later
 
-pub answer_uncounted : (g : Graph) (s : Sources) (kept : Calls) (text : Text) (reply : Reply) (given : Calls) (before now : Spawned) → HasAnswer g s kept text reply given before now → now.faults ≡ before.faults
-answer_uncounted g s kept text reply given before now answer = elim answer.did [
-  | inl alone ↦ ap (λ (z : Spawned). z.faults) alone.told
-  | inr derived ↦ run_uncounted g s (kept_outcome kept) derived.node given before now derived.run
+derived_counted : (g : Graph) (s : Sources) (kept : Calls) (limit : ℕ) (text : Text) (given : Calls) (before now : Spawned) → (d : IsDerived g s kept limit text given before now) → CountedOn (course_of d.found) before now
+derived_counted g s kept limit text given before now d = counted_on g s (kept_outcome kept) d.node limit before (course_of d.found) (at_rest given now) d.run.flown
+
+pub answer_later : (g : Graph) (s : Sources) (kept : Calls) (limit : ℕ) (text : Text) (reply : Reply) (given : Calls) (before now : Spawned) → HasAnswer g s kept limit text reply given before now → before.faults ≤ now.faults
+answer_later g s kept limit text reply given before now answer = elim answer.did [
+  | inl alone ↦ let e : now.faults ≡ before.faults = ap (λ (z : Spawned). z.faults) alone.told in omega (arith, e)
+  | inr derived ↦ counted_later (course_of derived.found) before now (derived_counted g s kept limit text given before now derived)
 ]
 
--- nor do calls that were run with no refused start among them
-pub ran_uncounted : (g : Graph) (s : Sources) (kept : Calls) (text : Text) (given : Calls) (before now : Spawned) → HaveRun g s kept text given before now → now.faults ≡ before.faults
-ran_uncounted g s kept text given before now ran = run_uncounted g s (kept_outcome kept) ran.node given before now ran.run
+-- where a view was found no fault was counted
+found_counted : (g : Graph) (s : Sources) (outcomes : Outcomes) (n : Node) (f : Found) (before now : Spawned) → IsFounded g s outcomes n → IsFound g s outcomes n f → CountedOn (course_of f) before now → now.faults ≡ before.faults
+found_counted g s outcomes n (found.Answer view) before now founded is same = same
+found_counted g s outcomes n (found.Circular chain) before now founded is later = absurd (no_chain g s outcomes n founded chain (inl is))
+found_counted g s outcomes n (found.Deep chain) before now founded is later = absurd (no_chain g s outcomes n founded chain (inr is))
 
-given_up_counted : (g : Graph) (s : Sources) (kept : Outcomes) (n : Node) (given : Calls) (fault : PlainFault) (before now : Spawned) → IsGivenUp g s kept n given fault before now → CountedFor fault before now
-given_up_counted g s kept n given fault before now (inl wanted) = subst (λ f. CountedFor f before now) (sym wanted.memory) (ap (λ (z : Spawned). z.faults) wanted.same)
-given_up_counted g s kept n given fault before now (inr next) = cut_counted next.call fault before now next.cut
+pub answer_uncounted : (g : Graph) (s : Sources) (kept : Calls) (limit : ℕ) (text : Text) (reply : Reply) (given : Calls) (before now : Spawned) → HasAnswer g s kept limit text reply given before now
+    → (n : Node) → Asks g text n → (outcomes : Outcomes) → Agrees kept given outcomes → IsFounded g s outcomes n → now.faults ≡ before.faults
+answer_uncounted g s kept limit text reply given before now answer n asks outcomes agrees founded = elim answer.did [
+  | inl alone ↦ ap (λ (z : Spawned). z.faults) alone.told
+  | inr derived ↦ found_counted g s outcomes n derived.found before now founded
+      (subst (λ m. IsFound g s outcomes m derived.found) (one_node g text n derived.node asks derived.asks) (found_stays g s (after (kept_outcome kept) given) outcomes agrees derived.node derived.found derived.is))
+      (derived_counted g s kept limit text given before now derived)
+]
 
--- over what was run before
-moved : (fault : PlainFault) (before mid now : Spawned) → mid.faults ≡ before.faults → CountedFor fault mid now → CountedFor fault before now
-moved Memory before mid now same counted = counted ∙ same
-moved Spawn before mid now same counted = subst (λ k. IsCounted k now.faults) same counted
+pub refusal_counted : (g : Graph) (s : Sources) (kept : Calls) (limit : ℕ) (text : Text) (reply : Reply) (given : Calls) (before now : Spawned) → IsStartRefused g s kept limit text reply given before now → IsCounted before.faults now.faults
+refusal_counted g s kept limit text reply given before now refused = counted_on g s (kept_outcome kept) refused.drained.node limit before (off_course for_spawn) (at_rest given now) refused.drained.run.flown
 
-begun_counted : (g : Graph) (s : Sources) (kept : Calls) (text : Text) (given : Calls) (fault : PlainFault) (before now : Spawned) → IsBegun g s kept text given fault before now → CountedFor fault before now
-begun_counted g s kept text given fault before now begun =
-    moved fault before begun.mid now (run_uncounted g s (kept_outcome kept) begun.node given before begun.mid begun.run) (given_up_counted g s (kept_outcome kept) begun.node given fault begun.mid now begun.cut)
+-- tools that ran, to their end or not
+pub flown_later : (g : Graph) (s : Sources) (kept : Calls) (limit : ℕ) (text : Text) (given : Calls) (before now : Spawned) → HaveFlown g s kept limit text given before now → before.faults ≤ now.faults
+flown_later g s kept limit text given before now have =
+    counted_later have.flown.course before now (counted_on g s (kept_outcome kept) have.node limit before have.flown.course (record { running = have.flown.running; given = given; tools = now }) have.flown.flown)
 
-pub refusal_counted : (g : Graph) (s : Sources) (kept : Calls) (text : Text) (reply : Reply) (given : Calls) (before now : Spawned) → IsStartRefused g s kept text reply given before now → IsCounted before.faults now.faults
-refusal_counted g s kept text reply given before now refused = begun_counted g s kept text given Spawn before now refused.begun
-
-pub begun_later : (g : Graph) (s : Sources) (kept : Calls) (text : Text) (given : Calls) (before now : Spawned) → MayHaveBegun g s kept text given before now → before.faults ≤ now.faults
-begun_later g s kept text given before now (inl untouched) = let e : now.faults ≡ before.faults = ap (λ (z : Spawned). z.faults) untouched.told in omega (arith, e)
-begun_later g s kept text given before now (inr (Memory, begun)) = let e : now.faults ≡ before.faults = begun_counted g s kept text given Memory before now begun in omega (arith, e)
-begun_later g s kept text given before now (inr (Spawn, begun)) = let counted = begun_counted g s kept text given Spawn before now begun in counted.later
+pub begun_later : (g : Graph) (s : Sources) (kept : Calls) (limit : ℕ) (text : Text) (given : Calls) (before now : Spawned) → MayHaveBegun g s kept limit text given before now → before.faults ≤ now.faults
+begun_later g s kept limit text given before now (inl untouched) = let e : now.faults ≡ before.faults = ap (λ (z : Spawned). z.faults) untouched.told in omega (arith, e)
+begun_later g s kept limit text given before now (inr have) = flown_later g s kept limit text given before now have
 
 -- no reply lets the count of faults fall
-pub reply_later : (g : Graph) (s : Sources) (kept : Calls) (text : Text) (reply : Reply) (given : Calls) (before now : Spawned) → IsReply g s kept text reply given before now → before.faults ≤ now.faults
-reply_later g s kept text reply given before now (inl answered) = let same = answer_uncounted g s kept text reply given before now answered in omega (arith, same)
-reply_later g s kept text reply given before now (inr refused) = let counted = refusal_counted g s kept text reply given before now refused in counted.later
+pub reply_later : (g : Graph) (s : Sources) (kept : Calls) (limit : ℕ) (text : Text) (reply : Reply) (given : Calls) (before now : Spawned) → IsReply g s kept limit text reply given before now → before.faults ≤ now.faults
+reply_later g s kept limit text reply given before now (inl answered) = answer_later g s kept limit text reply given before now answered
+reply_later g s kept limit text reply given before now (inr refused) = let counted = refusal_counted g s kept limit text reply given before now refused in counted.later
 
--- ---- answers
+-- ---- what came, and answers
 
-pub run_answer : (g : Graph) (s : Sources) (kept : Outcomes) (n : Node) (given : Calls) (before now : Spawned) → AreRun g s kept n given before now → now.answer ≡ before.answer
-run_answer g s kept n given before now run = ap (λ (z : Spawned). z.answer) run.now_is ∙ same_answer before (calls_of given)
+pub run_flown : (g : Graph) (s : Sources) (kept : Outcomes) (n : Node) (limit : ℕ) (course : Course) (given : Calls) (before now : Spawned) → AreRun g s kept n limit course given before now → IsFlown g s kept n before (at_rest given now)
+run_flown g s kept n limit course given before now run = is_flown g s kept n limit before course (at_rest given now) run.flown
 
-begun_answer_at : (g : Graph) (s : Sources) (kept : Calls) (text : Text) (given : Calls) (fault : PlainFault) (before now : Spawned) → IsBegun g s kept text given fault before now → now.answer ≡ before.answer
-begun_answer_at g s kept text given fault before now begun =
-    elim begun.cut [
-      | inl wanted ↦ ap (λ (z : Spawned). z.answer) wanted.same
-      | inr next ↦ cut_answer next.call fault begun.mid now next.cut
-    ] ∙ run_answer g s (kept_outcome kept) begun.node given before begun.mid begun.run
+pub derived_flown : (g : Graph) (s : Sources) (kept : Calls) (limit : ℕ) (text : Text) (given : Calls) (before now : Spawned) → (d : IsDerived g s kept limit text given before now) → IsFlown g s (kept_outcome kept) d.node before (at_rest given now)
+derived_flown g s kept limit text given before now d = run_flown g s (kept_outcome kept) d.node limit (course_of d.found) given before now d.run
 
-pub begun_answer : (g : Graph) (s : Sources) (kept : Calls) (text : Text) (given : Calls) (before now : Spawned) → MayHaveBegun g s kept text given before now → now.answer ≡ before.answer
-begun_answer g s kept text given before now (inl untouched) = ap (λ (z : Spawned). z.answer) untouched.told
-begun_answer g s kept text given before now (inr begun) = begun_answer_at g s kept text given begun.0 before now begun.1
+pub drained_flown : (g : Graph) (s : Sources) (kept : Calls) (limit : ℕ) (text : Text) (given : Calls) (before now : Spawned) → (d : IsDrained g s kept limit text given before now) → IsFlown g s (kept_outcome kept) d.node before (at_rest given now)
+drained_flown g s kept limit text given before now d = run_flown g s (kept_outcome kept) d.node limit (off_course for_spawn) given before now d.run
 
-pub reply_answer : (g : Graph) (s : Sources) (kept : Calls) (text : Text) (reply : Reply) (given : Calls) (before now : Spawned) → IsReply g s kept text reply given before now → now.answer ≡ before.answer
-reply_answer g s kept text reply given before now (inl answered) = elim answered.did [
+pub have_flown : (g : Graph) (s : Sources) (kept : Calls) (limit : ℕ) (text : Text) (given : Calls) (before now : Spawned) → (h : HaveFlown g s kept limit text given before now)
+    → IsFlown g s (kept_outcome kept) h.node before (record { running = h.flown.running; given = given; tools = now })
+have_flown g s kept limit text given before now h = is_flown g s (kept_outcome kept) h.node limit before h.flown.course (record { running = h.flown.running; given = given; tools = now }) h.flown.flown
+
+pub begun_answer : (g : Graph) (s : Sources) (kept : Calls) (limit : ℕ) (text : Text) (given : Calls) (before now : Spawned) → MayHaveBegun g s kept limit text given before now → now.answer ≡ before.answer
+begun_answer g s kept limit text given before now (inl untouched) = ap (λ (z : Spawned). z.answer) untouched.told
+begun_answer g s kept limit text given before now (inr have) = let is = have_flown g s kept limit text given before now have in is.answer
+
+pub reply_answer : (g : Graph) (s : Sources) (kept : Calls) (limit : ℕ) (text : Text) (reply : Reply) (given : Calls) (before now : Spawned) → IsReply g s kept limit text reply given before now → now.answer ≡ before.answer
+reply_answer g s kept limit text reply given before now (inl answered) = elim answered.did [
   | inl alone ↦ ap (λ (z : Spawned). z.answer) alone.told
-  | inr derived ↦ run_answer g s (kept_outcome kept) derived.node given before now derived.run
+  | inr derived ↦ let is = derived_flown g s kept limit text given before now derived in is.answer
 ]
-reply_answer g s kept text reply given before now (inr refused) = begun_answer_at g s kept text given Spawn before now refused.begun
+reply_answer g s kept limit text reply given before now (inr refused) = let is = drained_flown g s kept limit text given before now refused.drained in is.answer

@@ -1,5 +1,5 @@
 -- What an ask without a view leaves of tools, store and disk, by its reply or by the fault for which it has none.
-use Rattle.std.proofs.Common.{◌≡◌, ◌≤◌, ℕ, ap, refl, sym, subst}
+use Rattle.std.proofs.Common.{◌≡◌, ◌≤◌, ℕ, [], length, ap, refl, sym, subst}
 use Rattle.std.specs.Prelude.{Result, Ok, Err, IfOk, IfErr, IsErrOf, IsErrAnd}
 use Rattle.std.proofs.lemmas.Result.{err_from_is_err_and}
 use Rattle.object_values.specs.declared.views.View.{View}
@@ -12,7 +12,7 @@ use Rattle.odin_journal.specs.declared.fault.JournalFault.{JournalFault}
 use Rattle.odin_journal.specs.declared.fault.JournalFault.TheVariants as store
 use Rattle.odin_store.specs.declared.store.Store.{Store}
 use Rattle.odin_store.specs.OnDisk.{IsLeft}
-use Rattle.kept_derive.specs.Rests.{ComesToRest}
+use Rattle.kept_derive.specs.Rests.{ComesToRest, LeavesAll}
 use Rattle.odin_engine.specs.declared.fault.AskFault.{AskFault}
 use Rattle.odin_engine.specs.declared.fault.AskFault.TheVariants as fault
 use Rattle.odin_engine.specs.Asking as asking
@@ -49,21 +49,31 @@ at_want r Q is q =
     let p = err_from_is_err_and r is in
     subst (λ v. IfErr v Q) (sym p.1) (subst Q (sym p.2) q)
 
+-- ---- what runs
+
+at_rest : (limit : ℕ) (before now : Spawned) (r : Result Reply JournalFault) → now.answer ≡ before.answer → length now.running ≤ limit → now.running ≡ [] → ComesToRest LeavesAll limit before now r
+at_rest limit before now (Ok reply) answer few idle = record { answer = answer; few = few; idle = idle; left = tt }
+at_rest limit before now (Err why) answer few idle = record { answer = answer; few = few; idle = tt; left = λ not. idle }
+
+-- what runs is left where there is no reply
+pub tools_left : (limit : ℕ) (before now : Spawned) (r : Result Reply JournalFault) → IfOk r (λ reply. ⊥) → now.answer ≡ before.answer → length now.running ≤ limit → ComesToRest LeavesAll limit before now r
+tools_left limit before now (Ok reply) none answer few = absurd none
+tools_left limit before now (Err why) none answer few = record { answer = answer; few = few; idle = tt; left = λ not. absurd (not tt) }
+
 -- ---- behind a fault
 
 module _ (g : Graph) where
-  pub refused_rests : (before now : Spawned) (f : AskFault) (r : Result Reply JournalFault) → IfOk r (Refuses g f) → IfErr r (Stops f) → ComesToRest {T = View} fault.Memory before now (Err f) → ComesToRest store.Memory before now r
-  refused_rests before now (fault.Expression place) r ok err rest = record { answer = rest.answer; one = rest.one; idle = λ differs. rest.idle (λ e. cc) }
-  refused_rests before now (fault.UnknownType name) r ok err rest = record { answer = rest.answer; one = rest.one; idle = λ differs. rest.idle (λ e. cc) }
-  refused_rests before now (fault.UnknownParam name) r ok err rest = record { answer = rest.answer; one = rest.one; idle = λ differs. rest.idle (λ e. cc) }
-  refused_rests before now (fault.Path step) r ok err rest = record { answer = rest.answer; one = rest.one; idle = λ differs. rest.idle (λ e. cc) }
-  refused_rests before now (fault.Circular chain) r ok err rest = record { answer = rest.answer; one = rest.one; idle = λ differs. rest.idle (λ e. cc) }
-  refused_rests before now (fault.Deep chain) r ok err rest = record { answer = rest.answer; one = rest.one; idle = λ differs. rest.idle (λ e. cc) }
-  refused_rests before now fault.Spawn r ok err rest = record { answer = rest.answer; one = rest.one; idle = λ differs. rest.idle (λ e. cc) }
-  refused_rests before now fault.Disk r ok err rest = record { answer = rest.answer; one = rest.one; idle = λ differs. rest.idle (λ e. cc) }
-  refused_rests before now (fault.Full end size) r ok err rest = record { answer = rest.answer; one = rest.one; idle = λ differs. rest.idle (λ e. cc) }
-  refused_rests before now fault.Memory (Ok reply) ok err rest = absurd ok
-  refused_rests before now fault.Memory (Err why) ok err rest = record { answer = rest.answer; one = rest.one; idle = λ differs. absurd (differs (ap (λ w. Err w) err)) }
+  pub refused_rests : (limit : ℕ) (before now : Spawned) (f : AskFault) (r : Result Reply JournalFault) → IfOk r (Refuses g f) → IfErr r (Stops f) → ComesToRest {T = View} asking.LeavesTools limit before now (Err f) → ComesToRest LeavesAll limit before now r
+  refused_rests limit before now (fault.Expression place) r ok err rest = at_rest limit before now r rest.answer rest.few (rest.left (λ not. not))
+  refused_rests limit before now (fault.UnknownType name) r ok err rest = at_rest limit before now r rest.answer rest.few (rest.left (λ not. not))
+  refused_rests limit before now (fault.UnknownParam name) r ok err rest = at_rest limit before now r rest.answer rest.few (rest.left (λ not. not))
+  refused_rests limit before now (fault.Path step) r ok err rest = at_rest limit before now r rest.answer rest.few (rest.left (λ not. not))
+  refused_rests limit before now (fault.Circular chain) r ok err rest = at_rest limit before now r rest.answer rest.few (rest.left (λ not. not))
+  refused_rests limit before now (fault.Deep chain) r ok err rest = at_rest limit before now r rest.answer rest.few (rest.left (λ not. not))
+  refused_rests limit before now fault.Spawn r ok err rest = at_rest limit before now r rest.answer rest.few (rest.left (λ not. not))
+  refused_rests limit before now fault.Disk r ok err rest = tools_left limit before now r ok rest.answer rest.few
+  refused_rests limit before now (fault.Full end size) r ok err rest = tools_left limit before now r ok rest.answer rest.few
+  refused_rests limit before now fault.Memory r ok err rest = tools_left limit before now r ok rest.answer rest.few
 
   pub refused_left : (made : Store) (size : ℕ) (f : AskFault) (r : Result Reply JournalFault) → IfOk r (Refuses g f) → IfErr r (Stops f) → asking.IsLeftBy made size f → IsLeft made size r
   refused_left made size (fault.Expression place) r ok err left = ready_left made size r (wanted r err) left

@@ -1,8 +1,8 @@
 -- The lemmas that other crates may cite.
 -- What stays of the tools over replies, and the count of their faults.
-pub use Rattle.odin_answers.proofs.CountLemmas.{answer_uncounted, ran_uncounted, refusal_counted, begun_later, reply_later, begun_answer, reply_answer}
+pub use Rattle.odin_answers.proofs.CountLemmas.{answer_later, answer_uncounted, refusal_counted, flown_later, begun_later, reply_later, begun_answer, reply_answer}
 -- A text has one answer, and what is kept stays true.
 pub use Rattle.odin_answers.proofs.OnceLemmas.{reply_true, begun_true}
 pub use Rattle.odin_answers.proofs.SameLemmas.{same_answers, kept_first, kept_by_either}
 -- A reply is one of an ask that was begun, and one more call is one more change.
-pub use Rattle.odin_answers.proofs.AnswerLemmas.{reply_begun, ran_begun, keeps_behind}
+pub use Rattle.odin_answers.proofs.AnswerLemmas.{reply_begun, keeps_behind}

@@ -2,5 +2,6 @@ mod AnswerLemmas
 mod CountLemmas
 mod FaultLemmas
 mod OnceLemmas
+mod OtherLemmas
 mod SameLemmas
 pub mod Lemmas

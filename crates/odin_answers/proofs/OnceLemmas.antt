@@ -1,102 +1,105 @@
 -- What was run for a text, and that what is kept stays true.
-use Rattle.std.proofs.Common.{◌≡◌, ◌⊎◌, Bool, true, false, cond, [], ◌∷◌, ◌++◌, ap, refl, sym, ◌∙◌, subst, inl, inr, is_some}
-use Rattle.std.specs.Prelude.{Option, Some, None, IsSome}
+use Rattle.std.proofs.Common.{◌≡◌, ◌⊎◌, ℕ, Bool, true, false, cond, [], ◌∷◌, ◌++◌, refl, ap, sym, subst, inl, inr, is_some, ◌∙◌}
+use Rattle.std.specs.Prelude.{Some}
+use Rattle.object_values.specs.declared.nodes.Node.{Node}
 use Rattle.object_values.specs.declared.calls.Call.{Call}
 use Rattle.object_values.specs.declared.calls.Outcome.{Outcome}
 use Rattle.object_values.specs.contracts.calls.CallPartialEq.TheImpl.{ghosts as call_eq}
-use Rattle.object_values.specs.Exact.{call_exact}
 use Rattle.odin_outside.specs.Spawned.{Table, Spawned}
-use Rattle.meaning_texts.specs.Lists.{IsIn}
+use Rattle.meaning_texts.proofs.Lemmas.{in_left}
 use Rattle.meaning_graph.specs.Graphs.{Text, Graph}
-use Rattle.meaning_derive.specs.Derive.{Sources, Outcomes, derived}
-use Rattle.meaning_derive.specs.Calls.{IsCallFrom}
+use Rattle.meaning_derive.specs.Derive.{Sources}
+use Rattle.meaning_derive.specs.Calls.{IsFrontier}
 use Rattle.meaning_derive.specs.Given.{table_outcomes}
 use Rattle.meaning_derive.specs.Laws.{HasMore}
+use Rattle.meaning_derive.proofs.Lemmas.{no_frontier}
 use Rattle.meaning_records.specs.Tables.{Calls, kept_outcome}
 use Rattle.meaning_commands.specs.declared.replies.Reply.{Reply}
-use Rattle.meaning_answers.specs.Answers.{Answer}
+use Rattle.meaning_answers.specs.Answers.{Asks, Answer}
 use Rattle.meaning_answers.proofs.Lemmas.{not_refused, one_node}
 use Rattle.walk_tables.specs.Calls.{outcome_in}
-use Rattle.derive_walk.specs.Outcomes.{after, given_or}
-use Rattle.plain_derive.specs.Given.{calls_of, HaveCome, AreGiven, IsRefusedBy}
-use Rattle.plain_derive.specs.Logs.{after_calls}
-use Rattle.plain_derive.proofs.Lemmas.{kept_stays, given_are_calls, given_are_new, none_is_given, given_are_true, given_is_in}
-use Rattle.odin_answers.specs.Answers.{Agrees, IsKnown, AreAll, IsLeftAlone, IsDerived, HasAnswer, IsReply, MayHaveBegun}
-use Rattle.odin_answers.specs.Laws.{AreItsCalls, IsTrueFor}
-use Rattle.odin_answers.proofs.CountLemmas.{begun_answer, reply_answer}
+use Rattle.plain_derive.specs.Given.{HaveCome, IsRefusedBy}
+use Rattle.plain_derive.specs.Flights.{Course, Flight, Flies, at_rest, for_spawn, off_course}
+use Rattle.plain_derive.specs.FlightLaws.{HasStarted, IsUnflown}
+use Rattle.plain_derive.proofs.Lemmas.{given_are_calls, given_are_new, given_are_true, given_is_in, known_fly_none, refused_fly_none, only_needed_starts}
+use Rattle.kept_derive.specs.Runs.{course_of}
+use Rattle.odin_answers.specs.Answers.{IsDerived, HasAnswer, IsReply, MayHaveBegun}
+use Rattle.odin_answers.specs.Laws.{AreItsCalls, StartsOnlyIts, IsAnsweredAtOnce, IsTrueFor}
+use Rattle.odin_answers.proofs.CountLemmas.{derived_flown, drained_flown, have_flown, begun_answer, reply_answer}
 
 -- ---- the calls
 
-pub its_own : (g : Graph) (s : Sources) (kept : Calls) (text : Text) (given : Calls) (before now : Spawned) → (d : IsDerived g s kept text given before now) → AreItsCalls g s kept d.node given
-its_own g s kept text given before now d =
-    let new = given_are_new g s (kept_outcome kept) d.node given d.run.are in
+pub its_own : (g : Graph) (s : Sources) (kept : Calls) (limit : ℕ) (text : Text) (given : Calls) (before now : Spawned) → (d : IsDerived g s kept limit text given before now) → AreItsCalls g s kept d.node given
+its_own g s kept limit text given before now d =
+    let is = derived_flown g s kept limit text given before now d in
+    let new = given_are_new g s (kept_outcome kept) d.node given is.are in
     record {
-      only = λ outcomes agrees call i. given_are_calls g s (kept_outcome kept) d.node given d.run.are outcomes agrees call i;
+      only = λ outcomes agrees call i. given_are_calls g s (kept_outcome kept) d.node given is.are outcomes agrees call i;
       once = new.once;
       new = new.none;
       all = d.all;
     }
 
+-- ---- the starts
+
+pub reply_starts : (g : Graph) (s : Sources) (kept : Calls) (limit : ℕ) (text : Text) (reply : Reply) (given : Calls) (before now : Spawned) → IsReply g s kept limit text reply given before now → StartsOnlyIts g s kept text given before now
+reply_starts g s kept limit text reply given before now (inl answered) = elim answered.did [
+  | inl alone ↦ inl alone.told
+  | inr d ↦ inr (record {
+    node = d.node;
+    asks = d.asks;
+    started = only_needed_starts g s (kept_outcome kept) d.node limit before (course_of d.found) (at_rest given now) d.run.flown;
+  })
+]
+reply_starts g s kept limit text reply given before now (inr refused) =
+    let d = refused.drained in
+    inr (record {
+      node = d.node;
+      asks = d.asks;
+      started = only_needed_starts g s (kept_outcome kept) d.node limit before (off_course for_spawn) (at_rest given now) d.run.flown;
+    })
+
+-- what runs still is none of it
+at_its_rest : (g : Graph) (s : Sources) (kept : Calls) (n : Node) (before : Spawned) (f : Flight) → HasStarted g s (kept_outcome kept) n before f → HasStarted g s (kept_outcome kept) n before (at_rest f.given f.tools)
+at_its_rest g s kept n before f has = record { calls = has.calls; once = has.once; none = has.none; each = has.each; starts = has.starts; log = has.log }
+
+pub begun_starts : (g : Graph) (s : Sources) (kept : Calls) (limit : ℕ) (text : Text) (given : Calls) (before now : Spawned) → MayHaveBegun g s kept limit text given before now → StartsOnlyIts g s kept text given before now
+begun_starts g s kept limit text given before now (inl untouched) = inl untouched.told
+begun_starts g s kept limit text given before now (inr h) =
+    let f : Flight = record { running = h.flown.running; given = given; tools = now } in
+    inr (record {
+      node = h.node;
+      asks = h.asks;
+      started = at_its_rest g s kept h.node before f (only_needed_starts g s (kept_outcome kept) h.node limit before h.flown.course f h.flown.flown);
+    })
+
 -- ---- the same text again
 
--- a call that is known is kept, where all that is known is
-known_kept : (kept given later : Calls) → Agrees kept given (kept_outcome later) → ((call : Call) → IsIn call (calls_of given) → IsSome (after (kept_outcome kept) given call))
-    → HasMore (kept_outcome kept) (after (kept_outcome kept) given) → (call : Call) → IsKnown kept given call → IsSome (kept_outcome later call)
-known_kept kept given later agrees here stays call (inl there) = some_of (kept_outcome kept call) refl there
-  where
-    some_of : (o : Option Outcome) → kept_outcome kept call ≡ o → IsSome o → IsSome (kept_outcome later call)
-    some_of (Some o) e there = ap is_some (agrees call o (stays call o e))
-    some_of None e there = absurd (let no : ⊥ = cc in no)
-known_kept kept given later agrees here stays call (inr i) = some_of (after (kept_outcome kept) given call) refl (here call i)
-  where
-    some_of : (o : Option Outcome) → after (kept_outcome kept) given call ≡ o → IsSome o → IsSome (kept_outcome later call)
-    some_of (Some o) e there = ap is_some (agrees call o e)
-    some_of None e there = absurd (let no : ⊥ = cc in no)
+-- Where a text of a node is answered by what is kept, none of its tools is touched.
+none_flies : (g : Graph) (s : Sources) (kept : Calls) (text : Text) (reply : Reply) → Answer g s (kept_outcome kept) text reply → (n : Node) → Asks g text n
+    → (limit : ℕ) (before : Spawned) (course : Course) (f : Flight) → Flies g s (kept_outcome kept) n limit before course f → IsUnflown before course f
+none_flies g s kept text reply (Answer.refused _ _ refused) n asks limit before path f flies = absurd (not_refused g text reply n asks refused)
+none_flies g s kept text reply (Answer.object _ m view asked is) n asks limit before path f flies =
+    known_fly_none g s (kept_outcome kept) n limit before path f flies
+    (λ call waits. no_frontier g s (kept_outcome kept) m call (ap is_some is) (subst (λ k. IsFrontier g s (kept_outcome kept) k call) (one_node g text m n asked asks) waits))
+none_flies g s kept text reply (Answer.circular _ m chain asked is) n asks limit before path f flies =
+    refused_fly_none g s (kept_outcome kept) n limit before path f flies (subst (IsRefusedBy g s (kept_outcome kept)) (one_node g text n m asks asked) (record { chain = chain; is = inl is }))
+none_flies g s kept text reply (Answer.deep _ m chain asked is) n asks limit before path f flies =
+    refused_fly_none g s (kept_outcome kept) n limit before path f flies (subst (IsRefusedBy g s (kept_outcome kept)) (one_node g text n m asks asked) (record { chain = chain; is = inr is }))
 
--- a call that was given an outcome has one
-given_known : (kept : Outcomes) (given : Calls) (call : Call) → IsIn call (calls_of given) → IsSome (after kept given call)
-given_known kept [] call i = absurd i
-given_known kept (x ∷ given) call i = by_test (call_eq.eq call x.0) refl (λ j. given_known kept given call j)
-  where
-    by_test : (b : Bool) → call_eq.eq call x.0 ≡ b → (IsIn call (calls_of given) → IsSome (after kept given call)) → IsSome (given_or (cond b (Some x.1) (outcome_in given call)) (kept call))
-    by_test true same there = refl
-    by_test false other there = elim i [
-      | inl e ↦ let yes : call_eq.eq call x.0 ≡ true = (call_exact call x.0).1 e in absurd (let no : ⊥ = cc in no)
-      | inr j ↦ there j
-    ]
-
-more_itself : (outcomes : Outcomes) → HasMore outcomes outcomes
-more_itself outcomes call o e = e
-
-none_more : (before now : Spawned) (more : Calls) → more ≡ [] → now ≡ after_calls before (calls_of more) → (more ≡ []) × (now ≡ before)
-none_more before now more none is = (none, is ∙ ap (λ (l : Calls). after_calls before (calls_of l)) none)
-
-module _ (g : Graph) (s : Sources) (kept later : Calls) (text : Text) (given more : Calls) (before now before' now' : Spawned) (agrees : Agrees kept given (kept_outcome later)) where
-  -- by the answer from what is kept then
-  by_answer : (reply : Reply) → Answer g s (kept_outcome later) text reply → (d : IsDerived g s kept text given before now) → (e : IsDerived g s later text more before' now') → more ≡ []
-  by_answer reply (Answer.refused _ _ refused) d e = absurd (not_refused g text reply d.node d.asks refused)
-  by_answer reply (Answer.object _ n view asks is) d e =
-      let first : d.node ≡ n = one_node g text n d.node asks d.asks in
-      let second : e.node ≡ n = one_node g text n e.node asks e.asks in
-      let all : AreAll g s kept n given = subst (λ m. AreAll g s kept m given) first d.all in
-      let stays : HasMore (kept_outcome kept) (after (kept_outcome kept) given) = kept_stays g s (kept_outcome kept) d.node given d.run.are in
-      let there : (call : Call) → IsCallFrom g (derived g s (kept_outcome later)) n call → IsSome (kept_outcome later call) =
-      λ call from. known_kept kept given later agrees (λ c i. given_known (kept_outcome kept) given c i) stays call (all (kept_outcome later) agrees (ap is_some is) call from) in
-      none_is_given g s (kept_outcome later) n (kept_outcome later) (more_itself (kept_outcome later)) there more (subst (λ m. AreGiven g s (kept_outcome later) m more) second e.run.are)
-  by_answer reply (Answer.circular _ n chain asks is) d e =
-      let second : e.node ≡ n = one_node g text n e.node asks e.asks in
-      e.run.untouched (subst (IsRefusedBy g s (kept_outcome later)) (sym second) (record { chain = chain; is = inl is }))
-  by_answer reply (Answer.deep _ n chain asks is) d e =
-      let second : e.node ≡ n = one_node g text n e.node asks e.asks in
-      e.run.untouched (subst (IsRefusedBy g s (kept_outcome later)) (sym second) (record { chain = chain; is = inr is }))
-
-  pub asked_again : (reply other : Reply) → HasAnswer g s kept text reply given before now → HasAnswer g s later text other more before' now' → (more ≡ []) × (now' ≡ before')
-  asked_again reply other first second = by_work first.did second.did
-    where
-      by_work : IsLeftAlone g text reply given before now ⊎ IsDerived g s kept text given before now → IsLeftAlone g text other more before' now' ⊎ IsDerived g s later text more before' now' → (more ≡ []) × (now' ≡ before')
-      by_work did (inl alone) = (alone.none, alone.told)
-      by_work (inl alone) (inr e) = absurd (not_refused g text reply e.node e.asks alone.refused)
-      by_work (inr d) (inr e) = none_more before' now' more (by_answer reply (first.answer (kept_outcome later) agrees) d e) e.run.now_is
+-- Such a text is answered at once.
+pub at_once : (g : Graph) (s : Sources) (kept : Calls) (limit : ℕ) (text : Text) (said reply : Reply) (given : Calls) (before now : Spawned) → Answer g s (kept_outcome kept) text said → IsReply g s kept limit text reply given before now
+    → IsAnsweredAtOnce g s kept limit text reply given before now
+at_once g s kept limit text said reply given before now by_kept (inl answered) = elim answered.did [
+  | inl alone ↦ record { answer = answered; none = alone.none; told = alone.told }
+  | inr d ↦
+      let none = none_flies g s kept text said by_kept d.node d.asks limit before (course_of d.found) (at_rest given now) d.run.flown in
+      record { answer = answered; none = none.none; told = none.told }
+]
+at_once g s kept limit text said reply given before now by_kept (inr refused) =
+    let d = refused.drained in
+    let none = none_flies g s kept text said by_kept d.node d.asks limit before (off_course for_spawn) (at_rest given now) d.run.flown in
+    absurd (none.unrefused refl)
 
 -- ---- the table
 
@@ -125,26 +128,29 @@ none_come_yet table given none = subst (HaveCome (Some table)) (sym none) (λ ca
 pub come_by : (table : Table) (before : Spawned) (given : Calls) → before.answer ≡ Some table → HaveCome before.answer given → HaveCome (Some table) given
 come_by table before given told came = subst (λ a. HaveCome a given) told came
 
-module _ (g : Graph) (table : Table) (s : Sources) (kept : Calls) (text : Text) (given : Calls) (before now : Spawned) (right : IsTrueFor table before kept) where
-  answered_came : (reply : Reply) → HasAnswer g s kept text reply given before now → HaveCome (Some table) given
-  answered_came reply answer = elim answer.did [
+module _ (g : Graph) (table : Table) (s : Sources) (kept : Calls) (limit : ℕ) (text : Text) (before now : Spawned) (right : IsTrueFor table before kept) where
+  answered_came : (reply : Reply) (given : Calls) → HasAnswer g s kept limit text reply given before now → HaveCome (Some table) given
+  answered_came reply given answer = elim answer.did [
     | inl alone ↦ none_come_yet table given alone.none
-    | inr derived ↦ come_by table before given right.told derived.run.came
+    | inr d ↦ let is = derived_flown g s kept limit text given before now d in come_by table before given right.told is.came
   ]
 
-  reply_came : (reply : Reply) → IsReply g s kept text reply given before now → HaveCome (Some table) given
-  reply_came reply (inl answer) = answered_came reply answer
-  reply_came reply (inr refused) = come_by table before given right.told refused.begun.run.came
+  reply_came : (reply : Reply) (given : Calls) → IsReply g s kept limit text reply given before now → HaveCome (Some table) given
+  reply_came reply given (inl answer) = answered_came reply given answer
+  reply_came reply given (inr refused) = let is = drained_flown g s kept limit text given before now refused.drained in come_by table before given right.told is.came
 
-  begun_came : MayHaveBegun g s kept text given before now → HaveCome (Some table) given
-  begun_came (inl untouched) = none_come_yet table given untouched.none
-  begun_came (inr begun) = come_by table before given right.told begun.1.run.came
+  begun_came : (given : Calls) → MayHaveBegun g s kept limit text given before now → HaveCome (Some table) given
+  begun_came given (inl untouched) = none_come_yet table given untouched.none
+  begun_came given (inr h) = let is = have_flown g s kept limit text given before now h in come_by table before given right.told is.came
 
-  pub reply_true : (reply : Reply) → IsReply g s kept text reply given before now → IsTrueFor table now (kept ++ given)
-  reply_true reply is = true_behind table kept given now (reply_answer g s kept text reply given before now is ∙ right.told) right.gives (reply_came reply is)
+  pub reply_true : (reply : Reply) (given : Calls) → IsReply g s kept limit text reply given before now → IsTrueFor table now (kept ++ given)
+  reply_true reply given is = true_behind table kept given now (reply_answer g s kept limit text reply given before now is ∙ right.told) right.gives (reply_came reply given is)
 
-  pub begun_true : MayHaveBegun g s kept text given before now → IsTrueFor table now (kept ++ given)
-  begun_true begun = true_behind table kept given now (begun_answer g s kept text given before now begun ∙ right.told) right.gives (begun_came begun)
+  -- of the outcomes that came some first ones are kept
+  pub begun_true : (given rest : Calls) → MayHaveBegun g s kept limit text (given ++ rest) before now → IsTrueFor table now (kept ++ given)
+  begun_true given rest begun =
+      true_behind table kept given now (begun_answer g s kept limit text (given ++ rest) before now begun ∙ right.told) right.gives
+      (λ call o i. begun_came (given ++ rest) begun call o (in_left (call, o) given rest i))
 
-  pub fresh : (reply : Reply) → HasAnswer g s kept text reply given before now → Answer g s (table_outcomes table) text reply
-  fresh reply answer = answer.answer (table_outcomes table) (given_are_true table (kept_outcome kept) given right.gives (answered_came reply answer))
+  pub fresh : (reply : Reply) (given : Calls) → HasAnswer g s kept limit text reply given before now → Answer g s (table_outcomes table) text reply
+  fresh reply given answer = answer.answer (table_outcomes table) (given_are_true table (kept_outcome kept) given right.gives (answered_came reply given answer))

@@ -1,5 +1,5 @@
 -- A text has one answer, but for the choice of the chain; and where the same calls are kept, the same are run for it.
-use Rattle.std.proofs.Common.{◌≡◌, ◌⊎◌, Bool, true, false, cond, [], ◌∷◌, ◌++◌, append-nil, ap, refl, sym, ◌∙◌, subst, inl, inr, is_some}
+use Rattle.std.proofs.Common.{◌≡◌, ◌⊎◌, ℕ, Bool, true, false, cond, [], ◌∷◌, ◌++◌, append-nil, ap, refl, sym, ◌∙◌, subst, inl, inr, is_some}
 use Rattle.std.specs.Prelude.{Option, Some, None, IsSome}
 use Rattle.object_values.specs.declared.nodes.Node.{Node}
 use Rattle.object_values.specs.declared.calls.Call.{Call}
@@ -22,6 +22,7 @@ use Rattle.plain_derive.specs.Given.{calls_of}
 use Rattle.plain_derive.proofs.Lemmas.{given_are_true, given_is_in}
 use Rattle.odin_answers.specs.Answers.{Agrees, IsLeftAlone, IsDerived, HasAnswer}
 use Rattle.odin_answers.specs.Laws.{IsTrueFor, KeepSame, RunSame, AreSameAnswers}
+use Rattle.odin_answers.proofs.CountLemmas.{derived_flown}
 use Rattle.odin_answers.proofs.OnceLemmas.{its_own, come_by, kept_or_given, reply_true, fresh}
 
 -- ---- what is kept of a call behind more calls
@@ -76,16 +77,18 @@ some_is_none None there none = let no : ⊥ = cc in no
 
 -- ---- the same calls are run
 
-module _ (g : Graph) (table : Table) (s : Sources) (text : Text) (n : Node) (founded : IsFounded g s (table_outcomes table) n) where
+module _ (g : Graph) (table : Table) (s : Sources) (limit most : ℕ) (text : Text) (n : Node) (founded : IsFounded g s (table_outcomes table) n) where
   -- each call of the one derivation that is not kept is given an outcome in the other
   given_also : (kept kept' given given' : Calls) (before now before' now' : Spawned) → IsTrueFor table before kept → IsTrueFor table before' kept'
-      → (d : IsDerived g s kept text given before now) → d.node ≡ n → (e : IsDerived g s kept' text given' before' now') → e.node ≡ n
+      → (d : IsDerived g s kept limit text given before now) → d.node ≡ n → (e : IsDerived g s kept' most text given' before' now') → e.node ≡ n
       → KeepSame kept kept' → (call : Call) → IsIn call (calls_of given) → IsIn call (calls_of given')
   given_also kept kept' given given' before now before' now' right right' d d_node e e_node same call i =
-      let own = its_own g s kept text given before now d in
-      let other = its_own g s kept' text given' before' now' e in
-      let agrees : Agrees kept given (table_outcomes table) = given_are_true table (kept_outcome kept) given right.gives (come_by table before given right.told d.run.came) in
-      let agrees' : Agrees kept' given' (table_outcomes table) = given_are_true table (kept_outcome kept') given' right'.gives (come_by table before' given' right'.told e.run.came) in
+      let d_is = derived_flown g s kept limit text given before now d in
+      let e_is = derived_flown g s kept' most text given' before' now' e in
+      let own = its_own g s kept limit text given before now d in
+      let other = its_own g s kept' most text given' before' now' e in
+      let agrees : Agrees kept given (table_outcomes table) = given_are_true table (kept_outcome kept) given right.gives (come_by table before given right.told d_is.came) in
+      let agrees' : Agrees kept' given' (table_outcomes table) = given_are_true table (kept_outcome kept') given' right'.gives (come_by table before' given' right'.told e_is.came) in
       elim (other.all (table_outcomes table) agrees' (subst (IsFounded g s (table_outcomes table)) (sym e_node) founded) call
       (subst (λ m. IsCallFrom g (derived g s (table_outcomes table)) m call) (d_node ∙ sym e_node) (own.only (table_outcomes table) agrees call i))) [
         | inl there ↦ absurd (some_is_none (kept_outcome kept call) (subst IsSome (same call) there) (own.new call i))
@@ -122,33 +125,33 @@ none_run kept kept' given given' none none' same =
 
 -- ---- one answer
 
-module _ (g : Graph) (table : Table) (s : Sources) (kept kept' : Calls) (text : Text) (reply other : Reply) (given given' : Calls) (before now before' now' : Spawned) (right : IsTrueFor table before kept) (right' : IsTrueFor table before' kept') where
-  run_same : (n : Node) → IsFounded g s (table_outcomes table) n → Asks g text n → (d : IsDerived g s kept text given before now) → (e : IsDerived g s kept' text given' before' now')
+module _ (g : Graph) (table : Table) (s : Sources) (kept kept' : Calls) (limit most : ℕ) (text : Text) (reply other : Reply) (given given' : Calls) (before now before' now' : Spawned) (right : IsTrueFor table before kept) (right' : IsTrueFor table before' kept') where
+  run_same : (n : Node) → IsFounded g s (table_outcomes table) n → Asks g text n → (d : IsDerived g s kept limit text given before now) → (e : IsDerived g s kept' most text given' before' now')
       → HasMore (kept_outcome (kept ++ given)) (table_outcomes table) → HasMore (kept_outcome (kept' ++ given')) (table_outcomes table) → KeepSame kept kept' → RunSame kept kept' given given'
   run_same n founded asks d e gives gives' same =
       let d_node : d.node ≡ n = one_node g text n d.node asks d.asks in
       let e_node : e.node ≡ n = one_node g text n e.node asks e.asks in
-      let also = given_also g table s text n founded kept kept' given given' before now before' now' right right' d d_node e e_node same in
-      let back = given_also g table s text n founded kept' kept given' given before' now' before now right' right e e_node d d_node (λ c. sym (same c)) in
+      let also = given_also g table s limit most text n founded kept kept' given given' before now before' now' right right' d d_node e e_node same in
+      let back = given_also g table s most limit text n founded kept' kept given' given before' now' before now right' right e e_node d d_node (λ c. sym (same c)) in
       record { calls = λ call. (also call, back call); keep = keep_same table kept kept' given given' gives gives' same also back }
 
-  module _ (a : HasAnswer g s kept text reply given before now) (b : HasAnswer g s kept' text other given' before' now') where
+  module _ (a : HasAnswer g s kept limit text reply given before now) (b : HasAnswer g s kept' most text other given' before' now') where
     gives : HasMore (kept_outcome (kept ++ given)) (table_outcomes table)
-    gives = let kept_true = reply_true g table s kept text given before now right reply (inl a) in kept_true.gives
+    gives = let kept_true = reply_true g table s kept limit text before now right reply given (inl a) in kept_true.gives
 
     gives' : HasMore (kept_outcome (kept' ++ given')) (table_outcomes table)
-    gives' = let kept_true = reply_true g table s kept' text given' before' now' right' other (inl b) in kept_true.gives
+    gives' = let kept_true = reply_true g table s kept' most text before' now' right' other given' (inl b) in kept_true.gives
 
     -- a text of a node with a result
-    founded_run : (n : Node) → IsFounded g s (table_outcomes table) n → Asks g text n → IsLeftAlone g text reply given before now ⊎ IsDerived g s kept text given before now
-        → IsLeftAlone g text other given' before' now' ⊎ IsDerived g s kept' text given' before' now' → KeepSame kept kept' → RunSame kept kept' given given'
+    founded_run : (n : Node) → IsFounded g s (table_outcomes table) n → Asks g text n → IsLeftAlone g text reply given before now ⊎ IsDerived g s kept limit text given before now
+        → IsLeftAlone g text other given' before' now' ⊎ IsDerived g s kept' most text given' before' now' → KeepSame kept kept' → RunSame kept kept' given given'
     founded_run n founded asks (inl alone) did' same = absurd (not_refused g text reply n asks alone.refused)
     founded_run n founded asks (inr d) (inl alone) same = absurd (not_refused g text other n asks alone.refused)
     founded_run n founded asks (inr d) (inr e) same = run_same n founded asks d e gives gives' same
 
     -- a refused text
-    refused_run : (said : Reply) → Refused g text said → IsLeftAlone g text reply given before now ⊎ IsDerived g s kept text given before now
-        → IsLeftAlone g text other given' before' now' ⊎ IsDerived g s kept' text given' before' now' → KeepSame kept kept' → RunSame kept kept' given given'
+    refused_run : (said : Reply) → Refused g text said → IsLeftAlone g text reply given before now ⊎ IsDerived g s kept limit text given before now
+        → IsLeftAlone g text other given' before' now' ⊎ IsDerived g s kept' most text given' before' now' → KeepSame kept kept' → RunSame kept kept' given given'
     refused_run said refused (inl alone) (inl alone') same = none_run kept kept' given given' alone.none alone'.none same
     refused_run said refused (inr d) did' same = absurd (not_refused g text said d.node d.asks refused)
     refused_run said refused (inl alone) (inr e) same = absurd (not_refused g text said e.node e.asks refused)
@@ -171,5 +174,5 @@ module _ (g : Graph) (table : Table) (s : Sources) (kept kept' : Calls) (text : 
 
     pub same_answers : AreSameAnswers kept kept' given given' reply other ⊎ BothShowChains g s (table_outcomes table) text reply other
     same_answers =
-        let one = fresh g table s kept text given before now right reply a in
-        by_answer reply refl one (one_answer g s (table_outcomes table) text reply other one (fresh g table s kept' text given' before' now' right' other b))
+        let one = fresh g table s kept limit text before now right reply given a in
+        by_answer reply refl one (one_answer g s (table_outcomes table) text reply other one (fresh g table s kept' most text before' now' right' other given' b))

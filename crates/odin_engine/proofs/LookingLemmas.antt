@@ -17,11 +17,11 @@ use Rattle.odin_engine.specs.Asked.{IsNodeOf, IsRefusedFor}
 use Rattle.odin_engine.specs.Asking.{answer_of}
 use Rattle.odin_engine.specs.Looking.{IsLookedFor, AreAskLooks}
 
-module _ {D : Type 0} (told : D → Telling) (g : Graph) (text : Text) (node : Node) (is : IsNodeOf g text node) (old new : At D) (first last : ℕ) where
+module _ {D : Type 0} (told : D → Telling) (g : Graph) (limit : ℕ) (text : Text) (node : Node) (is : IsNodeOf g text node) (old new : At D) (first last : ℕ) where
   looked_for : (spare : ℕ) → HasLooked g node old.store new.store first last spare → IsLookedFor g text old.store new.store first last spare
   looked_for spare looked = record { node = node; is = is; looked = looked }
 
-  pub looks_so : (r : Result Found KeptFault) → AreLooks told g node old new first last r → AreAskLooks told g text old new first last (answer_of r)
+  pub looks_so : (r : Result Found KeptFault) → AreLooks told g node limit old new first last r → AreAskLooks told g limit text old new first last (answer_of r)
   looks_so (Ok (found.Answer view)) looks = looked_for 0 looks
   looks_so (Ok (found.Circular chain)) looks = inr (looked_for 0 looks)
   looks_so (Ok (found.Deep chain)) looks = inr (looked_for 0 looks)
@@ -30,18 +30,18 @@ module _ {D : Type 0} (told : D → Telling) (g : Graph) (text : Text) (node : N
   looks_so (Err (stop.Full end count)) looks = inr (looked_for 0 looks)
   looks_so (Err stop.Memory) looks = inr (looked_for 1 looks)
 
-none_taken : {D : Type 0} (told : D → Telling) (g : Graph) (text : Text) (now : At D) (count : ℕ) (given : AskFault) → IsRefusedFor g text given → AreAskLooks told g text now now count count (Err given)
-none_taken told g text now count (fault.Expression place) refused = inl refl
-none_taken told g text now count (fault.UnknownType name) refused = inl refl
-none_taken told g text now count (fault.UnknownParam name) refused = inl refl
-none_taken told g text now count (fault.Path step) refused = inl refl
-none_taken told g text now count (fault.Circular chain) refused = inl refl
-none_taken told g text now count (fault.Deep chain) refused = inl refl
-none_taken told g text now count fault.Spawn refused = inl refl
-none_taken told g text now count fault.Disk refused = absurd refused
-none_taken told g text now count (fault.Full end length) refused = inl refl
-none_taken told g text now count fault.Memory refused = inl refl
+none_taken : {D : Type 0} (told : D → Telling) (g : Graph) (limit : ℕ) (text : Text) (now : At D) (count : ℕ) (given : AskFault) → IsRefusedFor g text given → AreAskLooks told g limit text now now count count (Err given)
+none_taken told g limit text now count (fault.Expression place) refused = inl refl
+none_taken told g limit text now count (fault.UnknownType name) refused = inl refl
+none_taken told g limit text now count (fault.UnknownParam name) refused = inl refl
+none_taken told g limit text now count (fault.Path step) refused = inl refl
+none_taken told g limit text now count (fault.Circular chain) refused = inl refl
+none_taken told g limit text now count (fault.Deep chain) refused = inl refl
+none_taken told g limit text now count fault.Spawn refused = inl refl
+none_taken told g limit text now count fault.Disk refused = absurd refused
+none_taken told g limit text now count (fault.Full end length) refused = inl refl
+none_taken told g limit text now count fault.Memory refused = inl refl
 
 -- a text that asks for nothing
-pub refused_looks : {D : Type 0} (r : Result View AskFault) (told : D → Telling) (g : Graph) (text : Text) (now : At D) (count : ℕ) (given : AskFault) → r ≡ Err given → IsRefusedFor g text given → AreAskLooks told g text now now count count r
-refused_looks r told g text now count given is refused = subst (AreAskLooks told g text now now count count) (sym is) (none_taken told g text now count given refused)
+pub refused_looks : {D : Type 0} (r : Result View AskFault) (told : D → Telling) (g : Graph) (limit : ℕ) (text : Text) (now : At D) (count : ℕ) (given : AskFault) → r ≡ Err given → IsRefusedFor g text given → AreAskLooks told g limit text now now count count r
+refused_looks r told g limit text now count given is refused = subst (AreAskLooks told g limit text now now count count) (sym is) (none_taken told g limit text now count given refused)

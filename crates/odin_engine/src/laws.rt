@@ -2,7 +2,7 @@
 ghost use Rattle.odin_engine.specs.AskLaws.{AnswersKeep, DiskStopsAsk, FaultsKeep};
 
 use odin_outside::Disk;
-use odin_store::laws::{changes_follow, changes_stop};
+use odin_store::laws::changes_follow;
 
 /// An ask keeps calls, one after another, and changes nothing else; after a fault of the disk some
 /// first ones are there.
@@ -12,5 +12,4 @@ pub fn asks_keep<D: Disk>()
     ensures disk { DiskStopsAsk D.told }
 {
     changes_follow::<D>();
-    changes_stop::<D>();
 }

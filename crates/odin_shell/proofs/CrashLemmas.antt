@@ -37,7 +37,7 @@ use Rattle.odin_shell.proofs.MadeLemmas.{after_both, kept_calls, edits_keep, edi
 
 -- ---- calls that are kept stay
 
-grows : (changes : List Change) (held : Held) (call : Call) (o : Outcome) → kept_outcome held.calls call ≡ Some o → kept_outcome (after store_keeping changes held).calls call ≡ Some o
+pub grows : (changes : List Change) (held : Held) (call : Call) (o : Outcome) → kept_outcome held.calls call ≡ Some o → kept_outcome (after store_keeping changes held).calls call ≡ Some o
 grows [] held call o e = e
 grows (puts name text ∷ changes) held call o e = grows changes (apply (puts name text) held) call o e
 grows (drops name ∷ changes) held call o e = grows changes (apply (drops name) held) call o e

@@ -1,14 +1,17 @@
 mod AnswerLemmas
 mod CommandLemmas
+mod CompleteLemmas
 mod CountLemmas
 mod CrashLemmas
 mod CutLemmas
 mod EditLemmas
+mod FreshLemmas
 mod HeldLemmas
 mod InputLemmas
 mod LineLemmas
 mod LoadLemmas
 mod MadeLemmas
+mod OnceLemmas
 mod OpenedLemmas
 mod OpeningLemmas
 mod RunLemmas

@@ -82,7 +82,7 @@ made_on first mid last begins goes = record {
   held = goes.held ∙ ap (after store_keeping goes.made) begins.held ∙ sym (after_both begins.made goes.made first.held);
 }
 
-step_made : (g : Graph) (limit : ℕ) (old : State) (c : Command) (body bytes : List ℕ) (new : State) → Step g limit old c body bytes new → IsMade old new
+pub step_made : (g : Graph) (limit : ℕ) (old : State) (c : Command) (body bytes : List ℕ) (new : State) → Step g limit old c body bytes new → IsMade old new
 step_made g limit old (Put name count) body bytes new step = made_by _ old new step.makes
 step_made g limit old (Take name) body bytes new step = made_by _ old new step.makes
 step_made g limit old (Remove name) body bytes new step = made_by _ old new step.makes

@@ -42,7 +42,7 @@ between first mid last more rest begins goes none =
     let same : mid ≡ first = alike first mid last more rest begins goes none.same none.below in
     (record { same = same; below = none.below }, record { same = none.same ∙ sym same; below = subst (λ k. k < last_count) (sym same) none.below })
 
-not_counted : (before now : ℕ) → NoFault before now → IsCounted before now → ⊥
+pub not_counted : (before now : ℕ) → NoFault before now → IsCounted before now → ⊥
 not_counted before now none counted = let rose = counted.rose in let same = none.same in let below = none.below in absurd (omega (arith, same, below, rose))
 
 -- ---- one edit

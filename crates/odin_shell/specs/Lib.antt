@@ -14,3 +14,6 @@ pub mod Sessions
 pub mod Crashes
 pub mod Laws
 pub mod Loading
+pub mod Fresh
+pub mod Once
+pub mod Complete

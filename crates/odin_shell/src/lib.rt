@@ -14,6 +14,7 @@ mod load;
 mod pending;
 mod serve;
 mod session;
+pub mod session_laws;
 mod stop;
 mod whole;
 mod write;

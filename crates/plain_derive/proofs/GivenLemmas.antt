@@ -19,8 +19,9 @@ use Rattle.meaning_derive.specs.Given.{table_outcomes}
 use Rattle.meaning_derive.specs.Laws.{HasMore}
 use Rattle.walk_tables.specs.Calls.{Outcomes as Listed, outcome_in, call_in}
 use Rattle.derive_walk.specs.Outcomes.{nothing_known, given_or, after}
+use Rattle.job_runner.specs.Made.{IsOutcomeOf}
 use Rattle.plain_derive.specs.Logs.{among, AreMade}
-use Rattle.plain_derive.specs.Made.{IsOutcomeOf, AreGivenBy}
+use Rattle.plain_derive.specs.Made.{AreGivenBy}
 use Rattle.plain_derive.specs.Given.{calls_of, AreGiven}
 
 -- ---- the outcome of a call among those that were given

@@ -64,7 +64,7 @@ one_more_known kept front call outcome none c o e = by_front (outcome_in front c
     by_front None is = by_last is (call_eq.eq c call) refl
     by_front (Some y) is = by_given kept more c y (first_stays front (call, outcome) c y is) ∙ sym (by_given kept front c y is) ∙ e
 
-then_more : (some more most : Outcomes) → HasMore some more → HasMore more most → HasMore some most
+pub then_more : (some more most : Outcomes) → HasMore some more → HasMore more most → HasMore some most
 then_more some more most first second call o e = second call o (first call o e)
 
 -- ---- the calls
@@ -85,7 +85,7 @@ module _ (g : Graph) (s : Sources) (kept : Outcomes) (n : Node) where
       ]
 
   -- a call that is known no more than was given is none of those
-  not_among : (given : Listed) (call : Call) → after kept given call ≡ None → IsIn call (calls_of given) → ⊥
+  pub not_among : (given : Listed) (call : Call) → after kept given call ≡ None → IsIn call (calls_of given) → ⊥
   not_among [] call none i = i
   not_among (x ∷ given) call none i = by_test (call_eq.eq call x.0) refl none (not_among given call)
     where
@@ -96,7 +96,7 @@ module _ (g : Graph) (s : Sources) (kept : Outcomes) (n : Node) where
         | inr j ↦ below none j
       ]
 
-  kept_none : (given : Listed) → AreGiven g s kept n given → (call : Call) → after kept given call ≡ None → kept call ≡ None
+  pub kept_none : (given : Listed) → AreGiven g s kept n given → (call : Call) → after kept given call ≡ None → kept call ≡ None
   kept_none given are call none = by_kept_outcome (kept call) refl
     where
       by_kept_outcome : (o : Option Outcome) → kept call ≡ o → kept call ≡ None

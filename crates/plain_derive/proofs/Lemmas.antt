@@ -9,3 +9,7 @@ pub use Rattle.plain_derive.proofs.KeptLemmas.{by_given, by_kept, given_or_kept,
 pub use Rattle.plain_derive.proofs.GivenLemmas.{given_is_in}
 pub use Rattle.plain_derive.proofs.OnLemmas.{first_in, one_more_made}
 pub use Rattle.plain_derive.proofs.LogLemmas.{same_answer, same_faults, none_run, few_run, cut_rests, cut_counted, cut_answer}
+-- Tools in flight.
+pub use Rattle.plain_derive.proofs.FlightLemmas.{full_waits, flown_given, flown_came, flown_answer, flown_told, flown_few, flown_faults, none_flew, faults_later, faults_rose, refused_more, off_for_chain, none_flies}
+pub use Rattle.plain_derive.proofs.FlightLemmas.{is_flown, flights_are_few, counted_on, refused_fly_none, known_fly_none, full_is_lesser, founded_rests}
+pub use Rattle.plain_derive.proofs.StartLemmas.{flown_starts, only_needed_starts}

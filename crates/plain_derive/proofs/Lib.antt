@@ -4,4 +4,6 @@ mod LogLemmas
 mod MadeLemmas
 mod OnLemmas
 mod RunLemmas
+mod FlightLemmas
+mod StartLemmas
 pub mod Lemmas

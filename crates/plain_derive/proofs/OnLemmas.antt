@@ -20,10 +20,10 @@ use Rattle.derive_walk.specs.Outcomes.{nothing_known, after}
 use Rattle.derive_walk.specs.NothingFits.{nothing_fits}
 use Rattle.derive_walk.specs.Walks.{Walked, new_walk, IsRight, IsGiven, IsAdvanced, EndsWith, GoesOn as WalkGoesOn}
 use Rattle.derive_walk.specs.Worlds.{World, world}
+use Rattle.job_runner.specs.Made.{IsOutcomeOf}
 use Rattle.plain_derive.specs.declared.fault.PlainFault.{PlainFault}
 use Rattle.plain_derive.specs.declared.fault.PlainFault.TheVariants.{Memory}
 use Rattle.plain_derive.specs.Logs.{closed, IsCut, IsWanted, after_calls, IsRefusedAtOnce, HasDerived, HasGivenUp}
-use Rattle.plain_derive.specs.Made.{IsOutcomeOf}
 use Rattle.plain_derive.specs.Given.{calls_of, AreGiven}
 use Rattle.plain_derive.specs.Ways.{IsSoFar, Stops}
 use Rattle.plain_derive.proofs.GivenLemmas.{among_is, frontier_among, are_made, go_by}

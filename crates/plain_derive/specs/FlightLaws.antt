@@ -1,5 +1,5 @@
 -- What follows of tools in flight.
-use Rattle.std.specs.Prelude.{◌≡◌, ◌≢◌, ◌+◌, ◌≤◌, ⊤, ℕ, List, [], ◌∷◌, ◌++◌, map, length, min, Option, Some, None}
+use Rattle.std.specs.Prelude.{◌≡◌, ◌≢◌, ◌+◌, ◌≤◌, ℕ, List, [], ◌∷◌, ◌++◌, map, length, min, Option, Some, None}
 use Rattle.object_values.specs.declared.nodes.Node.{Node}
 use Rattle.object_values.specs.declared.calls.Call.{Call}
 use Rattle.object_values.specs.declared.jobs.Job.{Job}
@@ -29,6 +29,13 @@ FullIsLesser =
     → ((call : Call) → IsIn call all → IsFrontier g s outcomes n call)
     → ((call : Call) → IsFrontier g s outcomes n call → IsIn call all)
     → length running ≡ min limit (length all)
+
+-- No more run than may, at any moment.
+abbrev pub FlightsAreFew : Type 0
+FlightsAreFew =
+    (g : Graph) (s : Sources) (kept : Outcomes) (n : Node) (limit : ℕ) (before : Spawned)
+    (course : Course) (f : Flight) → Flies g s kept n limit before course f
+    → length f.running ≤ limit
 
 -- ---- what came, and what is told
 

@@ -3,7 +3,7 @@
 -- A flight is all that a derivation does with its tools, event by event: a start, an end, an end that was lost. It is said once, here, and
 -- all that is promised of tools in flight is read off it: that as many run as may, that nothing is started without need or twice, and that
 -- nothing more is started once the derivation is off its course.
-use Rattle.std.specs.Prelude.{◌≡◌, ◌⊎◌, ◌≤◌, ℕ, List, [], ◌∷◌, ◌++◌, length}
+use Rattle.std.specs.Prelude.{◌≡◌, ◌⊎◌, ◌<◌, ◌≤◌, ℕ, List, [], ◌∷◌, ◌++◌, length}
 use Rattle.object_values.specs.declared.nodes.Node.{Node}
 use Rattle.object_values.specs.declared.calls.Call.{Call}
 use Rattle.object_values.specs.declared.calls.Outcome.{Outcome}
@@ -63,6 +63,13 @@ pub record IsCalled (g : Graph) (s : Sources) (kept : Outcomes) (n : Node) (give
   pub stops : Waits g s kept n seen call
   pub calm : ¬ IsRefusedBy g s (after kept seen) n
 
+-- It may be started then: the derivation stops at it, it doesn't run, and a slot is free.
+pub record MayBegin (g : Graph) (s : Sources) (kept : Outcomes) (n : Node) (limit : ℕ) (f : Flight) (call : Call) : Type 0 where
+  pub waits : Waits g s kept n f.given call
+  pub called : IsCalled g s kept n f.given call
+  pub new : IsIn call (calls_in f.running) → ⊥
+  pub room : length f.running < limit
+
 -- As many run as may: the limit, or all calls at which the derivation stops; each is one of these, and none runs twice.
 pub record IsFull (Waits : Call → Type 0) (limit : ℕ) (running : List Call) : Type 0 where
   pub only : (call : Call) → IsIn call running → Waits call
@@ -86,12 +93,12 @@ pub data Course : Type 0 where
 
 -- ---- the flight
 
--- The tools of a derivation, event by event. A start is that of a call at which the derivation stops and that doesn't run. Immediately
--- before each end on its course as many run as may. Once it is off its course nothing is started, and what runs ends or is lost.
+-- The tools of a derivation, event by event. A start is that of a call at which the derivation stops and that doesn't run, where one more
+-- may run. Immediately before each end on its course as many run as may. Once it is off its course nothing is started, and what runs ends
+-- or is lost.
 pub data Flies (g : Graph) (s : Sources) (kept : Outcomes) (n : Node) (limit : ℕ) (before : Spawned) : Course → Flight → Type 0 where
   none_flown : Flies g s kept n limit before on_course (none_flown_yet before)
-  one_began : (f : Flight) (slot : ℕ) (call : Call) → Flies g s kept n limit before on_course f
-      → Waits g s kept n f.given call → IsCalled g s kept n f.given call → (IsIn call (calls_in f.running) → ⊥)
+  one_began : (f : Flight) (slot : ℕ) (call : Call) → Flies g s kept n limit before on_course f → MayBegin g s kept n limit f call
       → Flies g s kept n limit before on_course (begins f slot call)
   one_ended : (f : Flight) (front back : List Flying) (slot : ℕ) (call : Call) (outcome : Outcome) → Flies g s kept n limit before on_course f
       → f.running ≡ front ++ flying slot call ∷ back → IsFull (Waits g s kept n f.given) limit (calls_in f.running) → IsClear g s kept n limit f
@@ -99,8 +106,7 @@ pub data Flies (g : Graph) (s : Sources) (kept : Outcomes) (n : Node) (limit : �
       → Flies g s kept n limit before on_course (ends f (front ++ back) slot call outcome)
   chain_found : (f : Flight) → Flies g s kept n limit before on_course f → IsRefusedBy g s (after kept f.given) n
       → Flies g s kept n limit before (off_course for_chain) f
-  start_refused : (f : Flight) (call : Call) (tools : Spawned) → Flies g s kept n limit before on_course f
-      → Waits g s kept n f.given call → IsCalled g s kept n f.given call → Fails f.tools tools
+  start_refused : (f : Flight) (call : Call) (tools : Spawned) → Flies g s kept n limit before on_course f → MayBegin g s kept n limit f call → Fails f.tools tools
       → Flies g s kept n limit before (off_course for_spawn) (record f { tools = tools })
   end_lost : (f : Flight) (front back : List Flying) (slot : ℕ) (call : Call) (faults : ℕ) → Flies g s kept n limit before on_course f
       → f.running ≡ front ++ flying slot call ∷ back → IsFull (Waits g s kept n f.given) limit (calls_in f.running) → IsClear g s kept n limit f

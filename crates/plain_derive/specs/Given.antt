@@ -11,7 +11,7 @@ use Rattle.meaning_derive.specs.Chains.{IsRefusal}
 use Rattle.meaning_derive.specs.Calls.{IsFrontier}
 use Rattle.walk_tables.specs.Calls.{Outcomes as Listed}
 use Rattle.derive_walk.specs.Outcomes.{after}
-use Rattle.plain_derive.specs.Made.{IsOutcomeOf}
+use Rattle.job_runner.specs.Made.{IsOutcomeOf}
 
 abbrev pub calls_of : Listed → List Call
 calls_of given = map (λ (x : Call × Outcome). x.0) given

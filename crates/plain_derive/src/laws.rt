@@ -1,4 +1,5 @@
 //! Laws of what a derivation made. Each is the contract of a function with an empty body.
+ghost use Rattle.plain_derive.specs.FlightLaws.{FullIsLesser, FlightsAreFew, FlightsAreGiven, FlightsAreCounted, OnlyNeededStarts, RefusedFlyNone, KnownFlyNone};
 ghost use Rattle.plain_derive.specs.GivenLaws.{GivenAreAll, GivenAreCalls, GivenAreNew, GivenAreTrue, GivenFit, KeptStays, NoneIsGiven};
 ghost use Rattle.plain_derive.specs.Laws.{FoundByAll, MadeAreCalls, MadeAreOnce, AllAreMade, MadeCountsNone, GivenUpIsCounted};
 
@@ -35,4 +36,29 @@ pub fn given_are_known()
     ensures stays { KeptStays }
     ensures fit { GivenFit }
     ensures right { GivenAreTrue }
+{}
+
+/// No more run than may, and as many as may run is the lesser of the limit and of the number of calls
+/// at which the derivation stops.
+pub fn flights_are_full()
+    ensures few { FlightsAreFew }
+    ensures lesser { FullIsLesser }
+{}
+
+/// What came of tools in flight was given at calls at which the derivation stopped, and came of them;
+/// faults are counted where a flight is off its course, and nowhere else.
+pub fn flights_are_given()
+    ensures given { FlightsAreGiven }
+    ensures counted { FlightsAreCounted }
+{}
+
+/// What is started are calls of the node that are not kept, each once.
+pub fn only_needed_starts()
+    ensures { OnlyNeededStarts }
+{}
+
+/// Nothing is started for a node that is refused by what is kept, or whose derivation stops at no call.
+pub fn nothing_is_flown()
+    ensures refused { RefusedFlyNone }
+    ensures known { KnownFlyNone }
 {}

@@ -1,8 +1,8 @@
 // Wanted calls, run one after another.
 ghost use Rattle.std.specs.Prelude.{◌≡◌, [], None, OnOk, IfOk, IfErr};
 ghost use Rattle.odin_outside.specs.declared.events.ToolEvent.TheVariants.{Ended};
+ghost use Rattle.job_runner.specs.Made.{IsOutcomeOf};
 ghost use Rattle.plain_derive.specs.Logs.{closed, IsCut};
-ghost use Rattle.plain_derive.specs.Made.{IsOutcomeOf};
 ghost use Rattle.plain_derive.specs.Ways.{GoesOn, Stops};
 
 use crate::fault::PlainFault;

@@ -5,6 +5,8 @@
 #[cfg(test)]
 mod failing;
 #[cfg(test)]
+mod flights;
+#[cfg(test)]
 mod keeping;
 #[cfg(test)]
 mod program;

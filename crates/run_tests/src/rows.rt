@@ -1,6 +1,7 @@
 // Worked rows of sessions over a store: each reply, and the jobs that are started for it.
 use super::stored::{
-    Graph, NONE, Starts, Step, Text, commands_of, disk_of, front, replies_of, run_on, starts_of,
+    Graph, JOBS, NONE, Starts, Step, Text, commands_of, disk_of, front, replies_of, run_at, run_on,
+    starts_of,
 };
 use object_values::{Bytes, Memory};
 use odin_fakes::MemDisk;
@@ -341,12 +342,12 @@ fn each_step_goes_so_in_one_run(rt: HostRuntime) -> Result<(), Fail> {
     Ok(())
 }
 
-// Whether each of the steps goes so in a run of its own over the file that the one before left.
-fn goes_run_by_run(alloc: Global, row: &Row) -> Result<bool, Memory> {
+// Whether each of the steps goes so in a run of its own over the file that the one before left, with so many tools at once.
+fn goes_run_by_run(alloc: Global, row: &Row, jobs: &str) -> Result<bool, Memory> {
     let mut image = Bytes::new(alloc);
     for step in row.steps {
         let mut disk = disk_of(alloc, image.as_slice())?;
-        let ran = run_on(alloc, row.graph, &mut disk, step.commands)?;
+        let ran = run_at(alloc, jobs, row.graph, &mut disk, step.commands)?;
         if !ran.went(step.replies, step.starts) {
             return Ok(false);
         }
@@ -358,7 +359,9 @@ fn goes_run_by_run(alloc: Global, row: &Row) -> Result<bool, Memory> {
 #[test]
 fn each_step_goes_so_in_a_run_of_its_own(rt: HostRuntime) -> Result<(), Fail> {
     for row in ROWS {
-        assert!(rt; goes_run_by_run(rt.alloc(), row)?, "{}", row.name);
+        for jobs in JOBS {
+            assert!(rt; goes_run_by_run(rt.alloc(), row, jobs)?, "{}", row.name);
+        }
     }
     Ok(())
 }

@@ -14,6 +14,9 @@ pub type Text = &'static [u8];
 /// The pieces of a graph file.
 pub type Graph = &'static [Text];
 
+/// How many tools may run at once, as words: a session has the same replies and the same starts at each.
+pub const JOBS: [&str; 3] = ["1", "3", "64"];
+
 // Room on a disk for what these sessions write, in bytes and in calls.
 const DISK_BYTES: usize = 1 << 16;
 
@@ -139,9 +142,10 @@ pub fn behind(steps: &[Step], count: usize) -> &[Step] {
     &steps[count.min(steps.len())..]
 }
 
-/// The status of a run over a graph.
-pub fn status_on<D: Disk, O: Sink, S: Spawner>(
+/// The status of a run over a graph, with so many tools at once.
+pub fn status_at<D: Disk, O: Sink, S: Spawner>(
     alloc: Global,
+    jobs: &str,
     graph: &[&[u8]],
     disk: &mut D,
     commands: &[u8],
@@ -150,7 +154,7 @@ pub fn status_on<D: Disk, O: Sink, S: Spawner>(
 ) -> Result<u8, Memory>
     requires { (S.told tools.old).running ≡ [] }
 {
-    let words = owned(alloc, &["odin", "g0"])?;
+    let words = owned(alloc, &["odin", "--jobs", jobs, "g0"])?;
     let text = graph_text(alloc, graph)?;
     let mut tree = tree_of(alloc, &[(b"g0", text.as_slice())])?;
     let mut input = source(alloc, commands, 5000)?;
@@ -163,6 +167,20 @@ pub fn status_on<D: Disk, O: Sink, S: Spawner>(
         disk,
         tools,
     ))
+}
+
+/// The same with one tool after another.
+pub fn status_on<D: Disk, O: Sink, S: Spawner>(
+    alloc: Global,
+    graph: &[&[u8]],
+    disk: &mut D,
+    commands: &[u8],
+    output: &mut O,
+    tools: &mut S,
+) -> Result<u8, Memory>
+    requires { (S.told tools.old).running ≡ [] }
+{
+    status_at(alloc, "1", graph, disk, commands, output, tools)
 }
 
 /// The status and the output of a run, and what was started.
@@ -185,19 +203,38 @@ impl Ran {
     }
 }
 
-/// A run over a graph and a disk.
-pub fn run_on<D: Disk>(
+/// A run over a graph and a disk, with so many tools at once.
+pub fn run_at<D: Disk>(
     alloc: Global,
+    jobs: &str,
     graph: &[&[u8]],
     disk: &mut D,
     commands: &[u8],
 ) -> Result<Ran, Memory> {
     let mut tools = TableTools::toy(alloc, Seq::new(alloc));
     let mut output = sink(alloc, 20_000, 5000)?;
-    let status = status_on(alloc, graph, disk, commands, &mut output, &mut tools)?;
+    let status = status_at(
+        alloc,
+        jobs,
+        graph,
+        disk,
+        commands,
+        &mut output,
+        &mut tools,
+    )?;
     Ok(Ran {
         status,
         output: output.taken().to_vec(alloc)?,
         starts: Starts::of(tools.log()),
     })
+}
+
+/// The same with one tool after another.
+pub fn run_on<D: Disk>(
+    alloc: Global,
+    graph: &[&[u8]],
+    disk: &mut D,
+    commands: &[u8],
+) -> Result<Ran, Memory> {
+    run_at(alloc, "1", graph, disk, commands)
 }

@@ -1,7 +1,7 @@
 // The worked rows of graphs and tools, over objects in memory.
 ghost use Rattle.std.specs.Prelude.{◌≡◌, ◌<◌, []};
 
-use super::runs::{outcome_over, status_with, with_taken};
+use super::runs::{JOBS, outcome_over, status_with, with_taken};
 use object_values::{Memory, Seq};
 use odin_fakes::{FailSink, FailTools, FailTree, TableTools};
 use odin_outside::Spawner;
@@ -123,6 +123,7 @@ fn outcome_in<S: Spawner>(
     alloc: Global,
     graph: &[u8],
     tools: &mut S,
+    jobs: &str,
     text: &[u8],
     piece: usize,
 ) -> Result<(u8, Vec<u8>), Memory>
@@ -130,31 +131,34 @@ fn outcome_in<S: Spawner>(
     requires idle { (S.told tools.old).running ≡ [] }
 {
     let mut tree = tree_of(alloc, &[(b"g0", graph)])?;
-    outcome_over(alloc, &mut tree, tools, text, piece)
+    outcome_over(alloc, &mut tree, tools, jobs, text, piece)
 }
 
 // The same over the toy tools, and how many starts and ends there were.
 fn outcome(
     alloc: Global,
     graph: &[u8],
+    jobs: &str,
     text: &[u8],
     piece: usize,
 ) -> Result<(u8, Vec<u8>, usize), Memory>
     requires { 0 < piece }
 {
     let mut tools = TableTools::toy(alloc, Seq::new(alloc));
-    let (status, output) = outcome_in(alloc, graph, &mut tools, text, piece)?;
+    let (status, output) = outcome_in(alloc, graph, &mut tools, jobs, text, piece)?;
     Ok((status, output, tools.log().len()))
 }
 
 #[test]
 fn answers_the_worked_rows(rt: HostRuntime) -> Result<(), Fail> {
     for (graph, input, end, want, events) in &ROWS {
-        for piece in [1, 2, 7, 5000] {
-            let (status, output, counted) = outcome(rt.alloc(), graph, input, piece)?;
-            assert_eq!(rt; status, *end);
-            assert!(rt; output.as_slice() == *want);
-            assert_eq!(rt; counted, *events);
+        for jobs in JOBS {
+            for piece in [1, 2, 7, 5000] {
+                let (status, output, counted) = outcome(rt.alloc(), graph, jobs, input, piece)?;
+                assert_eq!(rt; status, *end);
+                assert!(rt; output.as_slice() == *want);
+                assert_eq!(rt; counted, *events);
+            }
         }
     }
     Ok(())
@@ -177,7 +181,7 @@ fn taken(alloc: Global, number: u32, piece: usize) -> Result<(u8, Vec<u8>), Memo
 {
     let mut tree = failing_tree(alloc, number)?;
     let mut tools = TableTools::toy(alloc, Seq::new(alloc));
-    outcome_over(alloc, &mut tree, &mut tools, EDITS, piece)
+    outcome_over(alloc, &mut tree, &mut tools, "1", EDITS, piece)
 }
 
 #[test]
@@ -218,7 +222,7 @@ fn ends_or_refuses_where_the_tree_fails(rt: HostRuntime) -> Result<(), Fail> {
 // The status and the output over a text of so many blanks in place of a graph.
 fn blank_outcome(alloc: Global, count: usize) -> Result<(u8, Vec<u8>), Memory> {
     let text = vec![in alloc; b' '; count]?;
-    let (status, output, _) = outcome(alloc, text.as_slice(), b"ask a\n", 7)?;
+    let (status, output, _) = outcome(alloc, text.as_slice(), "1", b"ask a\n", 7)?;
     Ok((status, output))
 }
 
@@ -273,7 +277,7 @@ fn failing_tools(alloc: Global, number: u32) -> Result<(u8, Vec<u8>, usize), Mem
     let fails = only(alloc, number)?;
     let mut tools = FailTools::new(TableTools::toy(alloc, Seq::new(alloc)), fails);
     let text = b"put a.c 4\nx=1\nask a.c:o\nask a.c:o\nask a.c:o\n";
-    let (status, output) = outcome_in(alloc, GRAPH, &mut tools, text, 7)?;
+    let (status, output) = outcome_in(alloc, GRAPH, &mut tools, "1", text, 7)?;
     Ok((status, output, tools.inner().log().len()))
 }
 
@@ -339,7 +343,7 @@ fn sixty_four(alloc: Global) -> Result<(u8, Vec<u8>, usize), Memory> {
     let mut graph = Vec::new(alloc);
     put_types(&mut graph)?;
     let text = b"put a.x 2\n1\nask a.x:x63\nask a.x:x64\n";
-    outcome(alloc, graph.as_slice(), text, 5000)
+    outcome(alloc, graph.as_slice(), "64", text, 5000)
 }
 
 #[test]

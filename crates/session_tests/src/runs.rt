@@ -8,6 +8,9 @@ use odin_shell::run;
 use session_samples::{CC_ONLY, owned, sink, source, tree_of};
 use std::alloc::Global;
 
+/// How many tools may run at once, as words: a session has the same replies and the same starts at each.
+pub const JOBS: [&str; 3] = ["1", "3", "64"];
+
 /// Room on a disk for the longest text and some more, in bytes, and for the calls of each session here.
 pub const DISK_BYTES: usize = 20_000_000;
 
@@ -53,18 +56,19 @@ pub fn status_with<I: Source, O: Sink>(
     )
 }
 
-/// The status and the output of a run over this tree and these tools, read and written in such pieces.
+/// The status and the output of a run over this tree and these tools, of which so many may run at once, read and written in such pieces.
 pub fn outcome_over<T: Tree, S: Spawner>(
     alloc: Global,
     tree: &mut T,
     tools: &mut S,
+    jobs: &str,
     text: &[u8],
     piece: usize,
 ) -> Result<(u8, Vec<u8>), Memory>
     requires piece { 0 < piece }
     requires idle { (S.told tools.old).running ≡ [] }
 {
-    let words = owned(alloc, &["odin", "g0"])?;
+    let words = owned(alloc, &["odin", "--jobs", jobs, "g0"])?;
     let mut input = source(alloc, text, piece)?;
     let mut output = sink(alloc, 20_000, piece)?;
     let status = status_over(

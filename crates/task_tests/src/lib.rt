@@ -4,6 +4,8 @@
 #[cfg(test)]
 mod closures;
 #[cfg(test)]
+mod derived;
+#[cfg(test)]
 mod extras;
 #[cfg(test)]
 mod graphs;

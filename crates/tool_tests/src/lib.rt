@@ -4,6 +4,8 @@
 #[cfg(test)]
 mod calls;
 #[cfg(test)]
+mod flights;
+#[cfg(test)]
 mod messages;
 #[cfg(test)]
 mod outcomes;

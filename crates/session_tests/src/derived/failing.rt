@@ -85,7 +85,14 @@ fn is_right(alloc: Global, graph: Pieces, parts: &[Part], number: u32) -> Result
     fails.push(number)?;
     let mut tools = FailTools::new(TableTools::toy(alloc, Seq::new(alloc)), fails);
     let (input, want) = written(alloc, parts, number)?;
-    gives(alloc, graph, input.as_slice(), want.as_slice(), &mut tools)
+    gives(
+        alloc,
+        graph,
+        "1",
+        input.as_slice(),
+        want.as_slice(),
+        &mut tools,
+    )
 }
 
 #[test]

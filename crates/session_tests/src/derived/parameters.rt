@@ -63,7 +63,7 @@ fn goes(alloc: Global, node: &[u8], call: &[u8], want: &[u8]) -> Result<bool, Me
     let mut tools = TableTools::toy(alloc, Seq::new(alloc));
     let mut input = Bytes::from_slice(alloc, b"put a.c 4\nx=1\nask ")?;
     input.extend_from_slice(node)?;
-    let as_wanted = gives(alloc, PARAMS, input.as_slice(), want, &mut tools)?;
+    let as_wanted = gives(alloc, PARAMS, "1", input.as_slice(), want, &mut tools)?;
     Ok(as_wanted && has_started(tools.log(), call))
 }
 

@@ -1,7 +1,7 @@
 // Runs over objects in memory.
 ghost use Rattle.std.specs.Prelude.{◌≡◌, []};
 
-use crate::runs::status_over;
+use crate::runs::{JOBS, status_over};
 use object_values::{Memory, Seq};
 use odin_fakes::TableTools;
 use odin_outside::Spawner;
@@ -11,17 +11,18 @@ use std::alloc::Global;
 // Room for the longest output.
 const ROOM: usize = 500_000;
 
-/// Whether a run over the graph and these tools takes all of the input, and gives this output.
+/// Whether a run over the graph and these tools, of which so many may run at once, takes all of the input, and gives this output.
 pub(super) fn gives<S: Spawner>(
     alloc: Global,
     graph: &[&[u8]],
+    jobs: &str,
     input: &[u8],
     want: &[u8],
     tools: &mut S,
 ) -> Result<bool, Memory>
     requires { (S.told tools.old).running ≡ [] }
 {
-    let words = owned(alloc, &["odin", "g"])?;
+    let words = owned(alloc, &["odin", "--jobs", jobs, "g"])?;
     let text = graph_text(alloc, graph)?;
     let mut tree = tree_of(alloc, &[(b"g", text.as_slice())])?;
     let mut commands = source(alloc, input, 5000)?;
@@ -37,7 +38,21 @@ pub(super) fn gives<S: Spawner>(
     Ok(status == 0 && output.taken() == want)
 }
 
-/// Whether a run with the toy tools gives this output, by so many starts, each with its end.
+// Whether a run with the toy tools gives this output, by so many starts, each with its end.
+fn gives_at(
+    alloc: Global,
+    graph: &[&[u8]],
+    jobs: &str,
+    input: &[u8],
+    want: &[u8],
+    starts: usize,
+) -> Result<bool, Memory> {
+    let mut tools = TableTools::toy(alloc, Seq::new(alloc));
+    let as_wanted = gives(alloc, graph, jobs, input, want, &mut tools)?;
+    Ok(as_wanted && tools.log().len() / 2 == starts)
+}
+
+/// Whether runs with the toy tools do so, however many of them may run at once.
 pub(super) fn gives_by(
     alloc: Global,
     graph: &[&[u8]],
@@ -45,7 +60,10 @@ pub(super) fn gives_by(
     want: &[u8],
     starts: usize,
 ) -> Result<bool, Memory> {
-    let mut tools = TableTools::toy(alloc, Seq::new(alloc));
-    let as_wanted = gives(alloc, graph, input, want, &mut tools)?;
-    Ok(as_wanted && tools.log().len() / 2 == starts)
+    for jobs in JOBS {
+        if !gives_at(alloc, graph, jobs, input, want, starts)? {
+            return Ok(false);
+        }
+    }
+    Ok(true)
 }

@@ -2,10 +2,10 @@ use Rattle.kept_derive.proofs.StopLemmas.{stops_keep as keep, disk_stops, stops_
 use Rattle.kept_derive.proofs.laws.stops_keep.Goals as goal
 
 pub returns-clause-keep : goal.returns-clause-keep
-returns-clause-keep g c = λ graph n old new fault apart stopped. keep g.D.Disk.told graph n old new c.changes_follow.ensures fault apart stopped
+returns-clause-keep g c = λ graph n limit old new fault apart stopped. keep g.D.Disk.told graph n limit old new c.changes_follow.ensures fault apart stopped
 
 pub returns-clause-disk : goal.returns-clause-disk
-returns-clause-disk g c = λ graph n old new stopped. disk_stops g.D.Disk.told graph n old new c.changes_stop.ensures stopped
+returns-clause-disk g c = λ graph n limit old new stopped. disk_stops g.D.Disk.told graph n limit old new stopped
 
 pub returns-clause-right : goal.returns-clause-right
-returns-clause-right g c = λ table graph n old new fault apart answer right stopped. stops_are_true g.D.Disk.told graph n old new table fault apart answer right stopped
+returns-clause-right g c = λ table graph n limit old new fault apart answer right stopped. stops_are_true g.D.Disk.told graph n limit old new table fault apart answer right stopped

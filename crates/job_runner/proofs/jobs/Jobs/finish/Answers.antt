@@ -1,4 +1,4 @@
-use Rattle.std.proofs.Common.{rules, ◌≡◌, inl, inr, refl, sym, subst}
+use Rattle.std.proofs.Common.{rules, ◌≡◌, inr, refl, subst}
 use Rattle.std.specs.Prelude.{Option, Some, None}
 use Rattle.odin_outside.specs.Spawned.{Loses}
 use Rattle.meaning_calls.specs.Outcomes.{outcome_of}

@@ -3,8 +3,7 @@ use Rattle.std.specs.Prelude.{Err, IfOk, IfErr}
 use Rattle.std.proofs.lemmas.Result.{err_from_is_err_and}
 use Rattle.kept_derive.specs.Rests.{ComesToRest}
 use Rattle.kept_derive.specs.Runs.{at}
-use Rattle.odin_engine.specs.declared.fault.AskFault.TheVariants.{Memory}
-use Rattle.odin_engine.specs.Asking.{IsAnswered, IsAskFault, IsCause, IsLeft}
+use Rattle.odin_engine.specs.Asking.{IsAnswered, IsAskFault, IsCause, IsLeft, LeavesTools}
 use Rattle.odin_engine.specs.Looking.{AreAskLooks}
 use Rattle.odin_engine.proofs.AskLemmas.{answered, faulted, left_so, cause_so, rests_so, refused_at, refused_leaves, refused_counts, refused_rests}
 use Rattle.odin_engine.proofs.LookingLemmas.{looks_so, refused_looks}
@@ -15,10 +14,10 @@ use Rattle.odin_engine.proofs.engine.Engine.ask.Goals as goal
 pub returns-in_err-node-clause-err : goal.returns-in_err-node-clause-err
 returns-in_err-node-clause-err g c =
     let given = err_from_is_err_and _ c.from_residual.ensures.1 in
-    refused_at _ g.D.Disk.told _ _ _ _ (given.1 ∙ ap (λ f. Err f) given.2) c.in_err-node.ensures.err
+    refused_at _ g.D.Disk.told _ _ _ _ _ (given.1 ∙ ap (λ f. Err f) given.2) c.in_err-node.ensures.err
 
 pub returns-in_err-node-clause-rest : goal.returns-in_err-node-clause-rest
-returns-in_err-node-clause-rest g c = refused_rests _ _ c.requires.none
+returns-in_err-node-clause-rest g c = refused_rests _ _ _ c.requires.none
 
 pub returns-in_err-node-clause-left : goal.returns-in_err-node-clause-left
 returns-in_err-node-clause-left g c =
@@ -34,7 +33,7 @@ pub returns-in_err-node-clause-counted : goal.returns-in_err-node-clause-counted
 returns-in_err-node-clause-counted g c =
     let given = err_from_is_err_and _ c.from_residual.ensures.1 in
     let now = at c.args.self.now.store c.args.disk.now (g.S.Spawner.told c.args.tools.now) in
-    refused_looks _ g.D.Disk.told c.args.self.now.graph c.args.text.now now _ _ (given.1 ∙ ap (λ f. Err f) given.2) c.in_err-node.ensures.err
+    refused_looks _ g.D.Disk.told c.args.self.now.graph c.args.self.now.jobs c.args.text.now now _ _ (given.1 ∙ ap (λ f. Err f) given.2) c.in_err-node.ensures.err
 
 -- ---- a text of a node
 
@@ -42,18 +41,18 @@ pub returns-clause-ok : goal.returns-clause-ok
 returns-clause-ok g c =
     let old = at c.args.self.now.store c.args.disk.now (g.S.Spawner.told c.args.tools.now) in
     let new = at c.derive-derived.new.self.store c.derive-derived.new.disk (g.S.Spawner.told c.derive-derived.new.tools) in
-    subst (λ r. IfOk r (IsAnswered g.D.Disk.told c.args.self.now.graph c.args.text.now old new)) (sym c.answer_of.ensures)
-    (answered g.D.Disk.told c.args.self.now.graph c.args.text.now c.in_ok-node.node c.in_ok-node.ensures.ok old new c.derive-derived.result c.derive-derived.ensures.derived.found)
+    subst (λ r. IfOk r (IsAnswered g.D.Disk.told c.args.self.now.graph c.args.self.now.jobs c.args.text.now old new)) (sym c.answer_of.ensures)
+    (answered g.D.Disk.told c.args.self.now.graph c.args.self.now.jobs c.args.text.now c.in_ok-node.node c.in_ok-node.ensures.ok old new c.derive-derived.result c.derive-derived.ensures.derived.found)
 
 pub returns-clause-err : goal.returns-clause-err
 returns-clause-err g c =
     let old = at c.args.self.now.store c.args.disk.now (g.S.Spawner.told c.args.tools.now) in
     let new = at c.derive-derived.new.self.store c.derive-derived.new.disk (g.S.Spawner.told c.derive-derived.new.tools) in
-    subst (λ r. IfErr r (IsAskFault g.D.Disk.told c.args.self.now.graph c.args.text.now old new)) (sym c.answer_of.ensures)
-    (faulted g.D.Disk.told c.args.self.now.graph c.args.text.now c.in_ok-node.node c.in_ok-node.ensures.ok old new c.derive-derived.result c.derive-derived.ensures.derived.found c.derive-derived.ensures.derived.stopped)
+    subst (λ r. IfErr r (IsAskFault g.D.Disk.told c.args.self.now.graph c.args.self.now.jobs c.args.text.now old new)) (sym c.answer_of.ensures)
+    (faulted g.D.Disk.told c.args.self.now.graph c.args.self.now.jobs c.args.text.now c.in_ok-node.node c.in_ok-node.ensures.ok old new c.derive-derived.result c.derive-derived.ensures.derived.found c.derive-derived.ensures.derived.stopped)
 
 pub returns-clause-rest : goal.returns-clause-rest
-returns-clause-rest g c = subst (ComesToRest Memory _ _) (sym c.answer_of.ensures) (rests_so _ _ c.derive-derived.result c.derive-derived.ensures.rest)
+returns-clause-rest g c = subst (ComesToRest LeavesTools _ _ _) (sym c.answer_of.ensures) (rests_so _ _ _ c.derive-derived.result c.derive-derived.ensures.rest)
 
 pub returns-clause-left : goal.returns-clause-left
 returns-clause-left g c = subst (IsLeft _ _) (sym c.answer_of.ensures) (left_so c.derive-derived.new.self.store _ c.derive-derived.result c.derive-derived.ensures.left)
@@ -65,5 +64,5 @@ pub returns-clause-counted : goal.returns-clause-counted
 returns-clause-counted g c =
     let old = at c.args.self.now.store c.args.disk.now (g.S.Spawner.told c.args.tools.now) in
     let new = at c.derive-derived.new.self.store c.derive-derived.new.disk (g.S.Spawner.told c.derive-derived.new.tools) in
-    subst (AreAskLooks g.D.Disk.told c.args.self.now.graph c.args.text.now old new _ _) (sym c.answer_of.ensures)
-    (looks_so g.D.Disk.told c.args.self.now.graph c.args.text.now c.in_ok-node.node c.in_ok-node.ensures.ok old new _ _ c.derive-derived.result c.derive-derived.ensures.derived.looks)
+    subst (AreAskLooks g.D.Disk.told c.args.self.now.graph c.args.self.now.jobs c.args.text.now old new _ _) (sym c.answer_of.ensures)
+    (looks_so g.D.Disk.told c.args.self.now.graph c.args.self.now.jobs c.args.text.now c.in_ok-node.node c.in_ok-node.ensures.ok old new _ _ c.derive-derived.result c.derive-derived.ensures.derived.looks)

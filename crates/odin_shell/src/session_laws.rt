@@ -1,0 +1,41 @@
+// Laws over whole sessions and whole runs.
+ghost use Rattle.odin_shell.specs.Complete.{RunsComplete};
+ghost use Rattle.odin_shell.specs.Filed.{disk_meaning};
+ghost use Rattle.odin_shell.specs.Fresh.{RunIsFresh};
+ghost use Rattle.odin_shell.specs.Objects.{meaning};
+ghost use Rattle.odin_shell.specs.Once.{NeverTwice, AnswersSurvive};
+
+use meaning_records::laws::stands_for_one;
+use odin_answers::laws::asked_again;
+use odin_outside::{Disk, Sink, Source, Spawner, Tree};
+use odin_words::laws::asked_is_one;
+
+/// Where the tools answer by a table, and what was kept is what it gives, the replies of a session are those of a machine that keeps no
+/// outcome: each object is that of the table, derived with nothing kept.
+pub fn run_is_fresh()
+    ensures { RunIsFresh }
+{}
+
+/// Over a session no tool was run twice to its end for the same inputs: what came of tools is of calls that weren't kept, each once.
+pub fn never_twice()
+    ensures { NeverTwice }
+{}
+
+/// What was answered and acknowledged stays answered: whatever image a crash leaves at an exit, over what it stands for, and the sources of
+/// then, the text is answered at once, with nothing run.
+pub fn answers_survive<D: Disk>()
+    ensures { let on = disk_meaning D.told D.size_of D.faults in AnswersSurvive on }
+{
+    asked_again();
+}
+
+/// A run comes to its end with all replies written, where its words, its graph, its store and its input are sound, and no fault is counted:
+/// but for want of memory, and for a store that is full.
+pub fn runs_complete<I: Source, O: Sink, T: Tree, S: Spawner, D: Disk>()
+    ensures { let on = disk_meaning D.told D.size_of D.faults in let means =
+        meaning I.left I.faults O.taken O.faults T.files T.faults T.reads S.told on in
+        RunsComplete means }
+{
+    asked_is_one();
+    stands_for_one();
+}

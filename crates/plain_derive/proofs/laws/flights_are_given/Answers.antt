@@ -1,0 +1,8 @@
+use Rattle.plain_derive.proofs.FlightLemmas.{is_flown, counted_on}
+use Rattle.plain_derive.proofs.laws.flights_are_given.Goals as goal
+
+pub returns-clause-given : goal.returns-clause-given
+returns-clause-given c = is_flown
+
+pub returns-clause-counted : goal.returns-clause-counted
+returns-clause-counted c = counted_on
