@@ -213,15 +213,7 @@ pub fn run_at<D: Disk>(
 ) -> Result<Ran, Memory> {
     let mut tools = TableTools::toy(alloc, Seq::new(alloc));
     let mut output = sink(alloc, 20_000, 5000)?;
-    let status = status_at(
-        alloc,
-        jobs,
-        graph,
-        disk,
-        commands,
-        &mut output,
-        &mut tools,
-    )?;
+    let status = status_at(alloc, jobs, graph, disk, commands, &mut output, &mut tools)?;
     Ok(Ran {
         status,
         output: output.taken().to_vec(alloc)?,

@@ -16,7 +16,8 @@ const MADE: &[&[u8]] = &[
 // The first of two texts names itself.
 const PUTS: Text = b"put x.t 6\nx.t:u\nput y.t 0\nput m.r 12\nx.t:u\ny.t:u\nask m.r:u\nkept\n";
 
-const CIRCLE: Text = b"put x.t 6\nput y.t 0\nput m.r 12\nrefused circular 3\nm.r:l:u\nx.t:s:l:u\nx.t:s:l:u\n";
+const CIRCLE: Text =
+    b"put x.t 6\nput y.t 0\nput m.r 12\nrefused circular 3\nm.r:l:u\nx.t:s:l:u\nx.t:s:l:u\n";
 
 // The starts and ends that fail, how many calls are kept, and what the tools did.
 struct Row {
@@ -78,13 +79,23 @@ fn goes(alloc: Global, row: &Row) -> Result<bool, Memory> {
     );
     let mut disk = disk_of(alloc, b"")?;
     let mut output = sink(alloc, 20_000, 5000)?;
-    let status = status_at(alloc, row.jobs, MADE, &mut disk, PUTS, &mut output, &mut tools)?;
+    let status = status_at(
+        alloc,
+        row.jobs,
+        MADE,
+        &mut disk,
+        PUTS,
+        &mut output,
+        &mut tools,
+    )?;
     let mut replies = CIRCLE.to_vec(alloc)?;
     replies.extend_from_slice(row.kept)?;
-    Ok(status == 0
-        && output.taken() == replies.as_slice()
-        && Events::of(tools.inner().log()) == row.events
-        && tools.running() == 0)
+    Ok(
+        status == 0
+            && output.taken() == replies.as_slice()
+            && Events::of(tools.inner().log()) == row.events
+            && tools.running() == 0,
+    )
 }
 
 #[test]

@@ -54,10 +54,12 @@ fn drains(alloc: Global, places: &[u32], number: u32) -> Result<bool, Memory> {
     let refused = replies_with(alloc, b"refused tool start\n", events.ended)?;
     let drained = starts_nothing_behind(log, number as usize) && tools.running() == 0;
     let left = CALLS.saturating_sub(events.ended);
-    Ok(first.replied(refused.as_slice())
-        && drained
-        && events.began == events.ended.saturating_add(events.lost)
-        && builds_the_rest(alloc, &mut disk, left)?)
+    Ok(
+        first.replied(refused.as_slice())
+            && drained
+            && events.began == events.ended.saturating_add(events.lost)
+            && builds_the_rest(alloc, &mut disk, left)?,
+    )
 }
 
 // Whether the object is there by so many calls.
@@ -113,9 +115,11 @@ fn keeps_all_but_the_last(alloc: Global, number: u32) -> Result<bool, Memory> {
     replies.extend_from_slice(OBJECT)?;
     let began = Events::of(tools.log()).began;
     let left = CALLS.saturating_sub(events.ended);
-    Ok(ran.status == 3
-        && again.replied(replies.as_slice())
-        && (began == left || began == left.saturating_add(1)))
+    Ok(
+        ran.status == 3
+            && again.replied(replies.as_slice())
+            && (began == left || began == left.saturating_add(1)),
+    )
 }
 
 // How many calls of the disk a run makes where none fails.

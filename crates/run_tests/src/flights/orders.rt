@@ -76,9 +76,12 @@ fn refuses_the_second(alloc: Global) -> Result<bool, Memory> {
     commands.extend_from_slice(b"kept\nask m.sm:exe\nkept\n")?;
     let ran = ran_with(alloc, "2", &mut disk, commands.as_slice(), &mut tools)?;
     let events = Events::of(tools.inner().log());
-    Ok(ran.replied(b"put m.sm 8\nput a.c 4\nput b.c 4\nrefused tool start\nkept 1\nobject ok simple 8\nx=1\ny=2\n\nmessages 0\nkept 5\n")
-        && events.began == 5
-        && tools.running() == 0)
+    Ok(
+        ran.replied(
+            b"put m.sm 8\nput a.c 4\nput b.c 4\nrefused tool start\nkept 1\nobject ok simple 8\nx=1\ny=2\n\nmessages 0\nkept 5\n",
+        ) && events.began == 5
+            && tools.running() == 0,
+    )
 }
 
 #[test]

@@ -9,7 +9,8 @@ use session_samples::{C_UNITS, sink};
 use std::alloc::Global;
 
 /// Five units over two headers are put.
-pub(super) const PUTS: Text = b"put h1.h 5\nw1=1\nput h2.h 5\nw2=1\nput a.c 20\ninclude h1.h\nva=100\nput b.c 20\ninclude h2.h\nvb=100\nput c.c 20\ninclude h1.h\nvc=100\nput d.c 20\ninclude h2.h\nvd=100\nput e.c 20\ninclude h1.h\nve=100\nput m.sm 20\na.c\nb.c\nc.c\nd.c\ne.c\n";
+pub(super) const PUTS: Text =
+    b"put h1.h 5\nw1=1\nput h2.h 5\nw2=1\nput a.c 20\ninclude h1.h\nva=100\nput b.c 20\ninclude h2.h\nvb=100\nput c.c 20\ninclude h1.h\nvc=100\nput d.c 20\ninclude h2.h\nvd=100\nput e.c 20\ninclude h1.h\nve=100\nput m.sm 20\na.c\nb.c\nc.c\nd.c\ne.c\n";
 
 /// And this is replied.
 pub(super) const PUT_REPLIES: Text =
@@ -19,7 +20,8 @@ pub(super) const PUT_REPLIES: Text =
 pub(super) const ASK: Text = b"ask m.sm:exe\n";
 
 /// The program.
-pub(super) const OBJECT: Text = b"object ok simple 60\nva=100\nw1=1\nvb=100\nw2=1\nvc=100\nw1=1\nvd=100\nw2=1\nve=100\nw1=1\n\nmessages 0\n";
+pub(super) const OBJECT: Text =
+    b"object ok simple 60\nva=100\nw1=1\nvb=100\nw2=1\nvc=100\nw1=1\nvd=100\nw2=1\nve=100\nw1=1\n\nmessages 0\n";
 
 /// How many tools it takes: each unit and each header is scanned, each unit is compiled, and all are linked.
 pub(super) const CALLS: usize = 13;
