@@ -1,10 +1,10 @@
 // Each start, each end and each call of the disk fails in turn while several tools are in flight.
 use super::project::{ASK, CALLS, Events, OBJECT, PUT_REPLIES, PUTS, order_of, ran_with};
-use crate::stored::{Ran, disk_of, status_at};
+use crate::stored::disk_of;
 use object_values::{Memory, Seq};
 use odin_fakes::{FailDisk, FailTools, MemDisk, TableTools};
-use odin_outside::{Disk, Spawner, ToolEvent};
-use session_samples::{C_UNITS, only, sink};
+use odin_outside::{Spawner, ToolEvent};
+use session_samples::only;
 use std::alloc::Global;
 use std::test::Fail;
 
@@ -79,33 +79,23 @@ fn each_start_and_each_end_that_fails_drains_what_runs(rt: HostRuntime) -> Resul
     Ok(())
 }
 
-// A run with three tools at once over a disk of which this call fails, and what its tools did.
-fn ran_over(alloc: Global, number: u32) -> Result<(Ran, Events, Vec<u8>), Memory> {
+// The order in which tools end over a disk that fails.
+const MIXED: &[u32] = &[2, 0, 1, 2, 0, 1];
+
+// A run with three tools at once over a disk of which this call fails: its status, what its tools did, and the file.
+fn ran_over(alloc: Global, number: u32) -> Result<(u8, Events, Vec<u8>), Memory> {
     let mut disk = FailDisk::new(disk_of(alloc, b"")?, only(alloc, number)?);
-    let mut tools = TableTools::toy(alloc, order_of(alloc, &[2, 0, 1, 2, 0, 1])?);
-    let mut output = sink(alloc, 20_000, 5000)?;
+    let mut tools = TableTools::toy(alloc, order_of(alloc, MIXED)?);
     let commands = asked_once(alloc)?;
-    let status = status_at(
-        alloc,
-        "3",
-        &[C_UNITS],
-        &mut disk,
-        commands.as_slice(),
-        &mut output,
-        &mut tools,
-    )?;
+    let given = ran_with(alloc, "3", &mut disk, commands.as_slice(), &mut tools)?;
     let events = Events::of(tools.log());
-    let ran = Ran {
-        status,
-        output: output.taken().to_vec(alloc)?,
-        starts: crate::stored::NONE,
-    };
-    Ok((ran, events, disk.inner().image().to_vec(alloc)?))
+    let image = disk.inner().image().to_vec(alloc)?;
+    Ok((given.status, events, image))
 }
 
 // Whether the file has all outcomes that came, but for the last one at most: what is left is built by the other calls.
 fn keeps_all_but_the_last(alloc: Global, number: u32) -> Result<bool, Memory> {
-    let (ran, events, image) = ran_over(alloc, number)?;
+    let (status, events, image) = ran_over(alloc, number)?;
     let mut disk = disk_of(alloc, image.as_slice())?;
     let mut tools = TableTools::toy(alloc, Seq::new(alloc));
     let mut commands = PUTS.to_vec(alloc)?;
@@ -116,7 +106,7 @@ fn keeps_all_but_the_last(alloc: Global, number: u32) -> Result<bool, Memory> {
     let began = Events::of(tools.log()).began;
     let left = CALLS.saturating_sub(events.ended);
     Ok(
-        ran.status == 3
+        status == 3
             && again.replied(replies.as_slice())
             && (began == left || began == left.saturating_add(1)),
     )
@@ -125,7 +115,7 @@ fn keeps_all_but_the_last(alloc: Global, number: u32) -> Result<bool, Memory> {
 // How many calls of the disk a run makes where none fails.
 fn disk_calls(alloc: Global) -> Result<usize, Memory> {
     let mut disk = disk_of(alloc, b"")?;
-    let mut tools = TableTools::toy(alloc, order_of(alloc, &[2, 0, 1, 2, 0, 1])?);
+    let mut tools = TableTools::toy(alloc, order_of(alloc, MIXED)?);
     let commands = asked_once(alloc)?;
     let ran = ran_with(alloc, "3", &mut disk, commands.as_slice(), &mut tools)?;
     if ran.status == 0 {

@@ -1,10 +1,9 @@
 // Units that are scanned, compiled and linked: runs in which several tools are in flight, and what their log tells.
 ghost use Rattle.std.specs.Prelude.{◌≡◌, []};
 
-use crate::stored::{Ran, Starts, Text, status_at};
+use crate::stored::{Text, status_at};
 use object_values::{Memory, Seq};
-use odin_fakes::MemDisk;
-use odin_outside::{Sink, Spawner, ToolEvent};
+use odin_outside::{Disk, Spawner, ToolEvent};
 use session_samples::{C_UNITS, sink};
 use std::alloc::Global;
 
@@ -35,27 +34,40 @@ pub(super) fn order_of(alloc: Global, places: &[u32]) -> Result<Seq<u32>, Memory
     Ok(order)
 }
 
-/// A run of these commands over the graph of units, and what was started by this log.
-pub(super) fn ran_with<S: Spawner>(
+/// The status and the output of a run.
+#[derive(Drop)]
+pub(super) struct Given {
+    pub(super) status: u8,
+    output: Vec<u8>,
+}
+
+impl Given {
+    /// Whether the input was taken to its end, with these replies.
+    pub(super) fn replied(&self, replies: &[u8]) -> bool {
+        self.status == 0 && self.output.as_slice() == replies
+    }
+}
+
+/// A run of these commands over the graph of units.
+pub(super) fn ran_with<D: Disk, S: Spawner>(
     alloc: Global,
     jobs: &str,
-    disk: &mut MemDisk,
+    disk: &mut D,
     commands: &[u8],
     tools: &mut S,
-) -> Result<Ran, Memory>
+) -> Result<Given, Memory>
     requires { (S.told tools.old).running ≡ [] }
 {
     let mut output = sink(alloc, 20_000, 5000)?;
     let status = status_at(alloc, jobs, &[C_UNITS], disk, commands, &mut output, tools)?;
-    Ok(Ran {
+    Ok(Given {
         status,
         output: output.taken().to_vec(alloc)?,
-        starts: Starts::of(&[]),
     })
 }
 
 /// How many starts, ends and lost ends a log has.
-#[derive(Clone, Copy, PartialEq, Eq, Debug)]
+#[derive(Clone, Copy, PartialEq, Eq)]
 pub(super) struct Events {
     pub(super) began: usize,
     pub(super) ended: usize,
