@@ -1,7 +1,7 @@
 #!/usr/bin/env python3
-"""Builds the same project by odin and by those of ninja, make and tup that are there, one job at a time, in one run:
+"""Builds the same project by odin and by those of ninja, make and tup that are there, J jobs at a time (1 where it isn't said), in one run:
 
-    peers.py [--units N[,N..]] [--tools toy[,gcc]] [--rounds R] [--again T] [--folder DIR] [--odin FOLDER] [--keep]
+    peers.py [--units N[,N..]] [--tools toy[,gcc]] [--jobs J] [--rounds R] [--again T] [--folder DIR] [--odin FOLDER] [--keep]
 
 The project has N units, 12 headers of which each unit includes one, and a program of them all. It is built from nothing, once more with nothing
 changed, with one header changed, and with that header changed back: each peer does these four in turn, in each round in a folder of its own, the
@@ -211,12 +211,12 @@ class Project:
 class Odin:
     name = "odin"
 
-    def __init__(self, crates):
+    def __init__(self, crates, jobs):
         self.crates = crates
         programs = [crates + "/%s/out/%s" % (name, name) for name in ("odin", "odin_takes", "odin_get")]
         self.there = all(os.path.exists(program) for program in programs)
         self.odin, takes, get = programs
-        self.line = "{ %s src; echo ask src/m.list:exe; } | %s graph | %s -m -o prog" % (takes, self.odin, get)
+        self.line = "{ %s src; echo ask src/m.list:exe; } | %s --jobs %d graph | %s -m -o prog" % (takes, self.odin, jobs, get)
 
     def prepare(self, project, folder):
         if project.tools == "toy":
@@ -236,6 +236,9 @@ class Ninja:
     name = "ninja"
     there = shutil.which("ninja") is not None
 
+    def __init__(self, jobs):
+        self.jobs = "-j%d" % jobs
+
     def prepare(self, project, folder):
         lines = ["rule cc", " command = " + project.compile("$in", "$out", "$out.d"), " depfile = $out.d", " deps = gcc"]
         lines += ["rule ld", " command = " + project.link("@$out.rsp" if project.tools == "gcc" else "$in", "$out")]
@@ -245,12 +248,15 @@ class Ninja:
         write(folder + "/build.ninja", "\n".join(lines) + "\n")
 
     def command(self):
-        return ["ninja", "-j1", "--quiet", "prog"]
+        return ["ninja", self.jobs, "--quiet", "prog"]
 
 
 class Make:
     name = "make"
     there = shutil.which("make") is not None
+
+    def __init__(self, jobs):
+        self.jobs = "-j%d" % jobs
 
     def prepare(self, project, folder):
         os.mkdir(folder + "/obj")
@@ -262,12 +268,15 @@ class Make:
         write(folder + "/Makefile", "\n".join(lines) + "\n")
 
     def command(self):
-        return ["make", "-s", "-j1", "prog"]
+        return ["make", "-s", self.jobs, "prog"]
 
 
 class Tup:
     name = "tup"
     there = shutil.which("tup") is not None
+
+    def __init__(self, jobs):
+        self.jobs = "-j%d" % jobs
 
     def prepare(self, project, folder):
         objects = " ".join("obj/%s.o" % name for name in project.names())
@@ -277,7 +286,7 @@ class Tup:
         subprocess.run(["tup", "init"], cwd=folder, check=True, capture_output=True)
 
     def command(self):
-        return ["tup", "upd", "-j1", "--quiet"]
+        return ["tup", "upd", self.jobs, "--quiet"]
 
 
 def build(peer, project, folder):
@@ -393,16 +402,17 @@ def main():
     words = argparse.ArgumentParser()
     words.add_argument("--units", default="200,2000")
     words.add_argument("--tools", default="toy,gcc")
+    words.add_argument("--jobs", type=int, default=1)
     words.add_argument("--rounds", type=int, default=5)
     words.add_argument("--again", type=int, default=1)
     words.add_argument("--folder", default=None)
     words.add_argument("--odin", default=TOP + "/crates")
     words.add_argument("--keep", action="store_true")
     asked = words.parse_args()
-    peers = [peer for peer in (Odin(asked.odin), Ninja(), Make(), Tup()) if peer.there]
+    peers = [peer for peer in (Odin(asked.odin, asked.jobs), Ninja(asked.jobs), Make(asked.jobs), Tup(asked.jobs)) if peer.there]
     if not peers or peers[0].name != "odin":
         sys.exit("peers: odin, odin_takes and odin_get are not built")
-    print("found: " + ", ".join(peer.name for peer in peers), flush=True)
+    print("found: " + ", ".join(peer.name for peer in peers) + ", each with %d jobs" % asked.jobs, flush=True)
     units = [int(word) for word in asked.units.split(",")]
     for tools in asked.tools.split(","):
         medians = [compare_in(peers, tools, count, asked) for count in units]

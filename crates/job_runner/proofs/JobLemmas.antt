@@ -21,12 +21,16 @@ runs_there [] slot i = absurd i
 runs_there (x ∷ running) slot (inl e) = (0, tool_of x, omega arith, refl, sym e)
 runs_there (x ∷ running) slot (inr i) = let (k, tool, inside, at, holds) = runs_there running slot i in (suc k, tool, omega (arith, inside), at, holds)
 
+-- None of these runs in a slot that is told to be free.
+pub none_there : (slot : ℕ) (running : List Flying) (told : List Running) → told ≡ map tool_of running → IsLeastFree told slot → IsIn slot (slots_in running) → ⊥
+none_there slot running told same free i = free.free (subst (λ l. IsRunning l slot) (sym same) (runs_there running slot i))
+
 -- a call that didn't run, in a slot that was free
 pub one_more : (limit slot : ℕ) (call : Call) (running : List Flying) (told : List Running) → IsInFlight limit running → told ≡ map tool_of running → IsLeastFree told slot
     → (IsIn call (calls_in running) → ⊥) → length running < limit → IsInFlight limit (running ++ flying slot call ∷ [])
 one_more limit slot call running told is same free new room = record {
   once = subst AreDistinct (sym (calls_one_more running (flying slot call))) (distinct_more (calls_in running) call is.once new);
-  apart = subst AreDistinct (sym (slots_one_more running (flying slot call))) (distinct_more (slots_in running) slot is.apart (λ i. free.free (subst (λ l. IsRunning l slot) (sym same) (runs_there running slot i))));
+  apart = subst AreDistinct (sym (slots_one_more running (flying slot call))) (distinct_more (slots_in running) slot is.apart (none_there slot running told same free));
   few = let longer = length_one_more running (flying slot call) in omega (arith, room, longer);
 }
 

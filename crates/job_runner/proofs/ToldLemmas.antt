@@ -1,4 +1,4 @@
--- Jobs and tools agree behind each start and each end, whatever it answered.
+-- Jobs and tools agree after each start and each end, whatever it answered.
 use Rattle.std.proofs.Common.{◌≡◌, List, [], ◌∷◌, ◌++◌, map, inl, inr, refl, sym, ap, ◌∙◌}
 use Rattle.std.specs.Prelude.{Result, Ok, Err, OnOk, OnErr, IfOk}
 use Rattle.object_values.specs.declared.calls.Call.{Call}

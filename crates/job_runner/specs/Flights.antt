@@ -57,9 +57,10 @@ landed old running event faults = record old { running = map tool_of running; lo
 
 -- ---- a start
 
--- The call runs, in a slot, and nothing else happened.
+-- The call runs, in a slot in which none ran, and nothing else happened.
 pub record HasBegun (call : Call) (old : InFlight) (before : Spawned) (new : InFlight) (now : Spawned) : Type 0 where
   pub slot : ℕ
+  pub free : IsIn slot (slots_in old.running) → ⊥
   pub is : new ≡ record old { running = old.running ++ flying slot call ∷ [] }
   pub told : now ≡ begun before slot (job_of call)
 

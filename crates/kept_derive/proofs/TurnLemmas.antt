@@ -239,7 +239,7 @@ module _ {D : Type 0} (told : D → Telling) (g : Graph) (n : Node) (first : At 
         record {
           root = way.root;
           flown = subst (λ (z : InFlight × Spawned). Flies g first.store.sources.texts (known_in first.store) n z.0.limit first.tools on_course (record { running = z.0.running; given = walked.given; tools = z.1 })) (λ i. (sym begins.is i, sym begins.told i))
-              (Flies.one_began (flight_at walked jobs old.tools) begins.slot call way.flown (may_begin still call next));
+              (Flies.one_began (flight_at walked jobs old.tools) begins.slot call way.flown (may_begin still call next) begins.free);
           apart = subst (λ (l : List Flying). AreDistinct (calls_in l)) (sym running) (subst AreDistinct (sym (calls_one_more jobs.running (flying begins.slot call))) (distinct_more (calls_in jobs.running) call way.apart next.new));
           few = omega (arith, next.room, limit, ap length running, length-append jobs.running (flying begins.slot call ∷ []));
           goes = way.goes;

@@ -28,6 +28,11 @@ pub record IsIdle (store : Store) (size : ℕ) (tools : Spawned) : Type 0 where
   pub ready : IsReady store.journal size
   pub none : tools.running ≡ []
 
+-- and one tool at least may run
+pub record MayDerive (store : Store) (size limit : ℕ) (tools : Spawned) : Type 0 where
+  pub idle : IsIdle store size tools
+  pub some : 0 < limit
+
 -- a call that may be kept, as far as its outcome goes
 pub record IsKeepable (store : Store) (call : Call) : Type 0 where
   pub formed : IsWellFormed call

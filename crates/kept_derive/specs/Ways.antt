@@ -6,8 +6,8 @@ use Rattle.odin_outside.specs.Disk.{Telling}
 use Rattle.meaning_texts.specs.Lists.{IsIn}
 use Rattle.meaning_graph.specs.Graphs.{Graph}
 use Rattle.odin_store.specs.Going.{Goes}
-use Rattle.derive_walk.specs.Walks.{Walked, IsRight}
-use Rattle.job_runner.specs.Flights.{InFlight, calls_in, AreDistinct}
+use Rattle.derive_walk.specs.Walks.{Walked, new_walk, IsRight}
+use Rattle.job_runner.specs.Flights.{InFlight, none_in_flight, calls_in, AreDistinct}
 use Rattle.plain_derive.specs.Flights.{Why, Course, on_course, off_course, for_spawn, IsCalled, Flies}
 use Rattle.kept_derive.specs.declared.fault.KeptFault.{KeptFault}
 use Rattle.kept_derive.specs.declared.flight.Flown.{Flown}
@@ -28,6 +28,12 @@ pub record IsOnWay {Disk : Type 0} (told : Disk → Telling) (g : Graph) (n : No
   pub right : IsRight (world_in g first.store walked.given) walked
   pub runs : (call : Call) → IsIn call (calls_in jobs.running) → IsIn call walked.wanted
   pub called : walked.result ≡ None → (call : Call) → IsIn call walked.wanted → IsCalled g first.store.sources.texts (known_in first.store) n walked.given call
+
+-- Nothing has been done for it, and one tool at least may run.
+pub record IsUnbegun (walked : Walked) (jobs : InFlight) : Type 0 where
+  pub walk : walked ≡ new_walk walked.root
+  pub rested : jobs ≡ none_in_flight jobs.limit
+  pub some : 0 < jobs.limit
 
 -- ---- the next start
 
@@ -51,6 +57,11 @@ pub record HasCome {Disk : Type 0} (told : Disk → Telling) (g : Graph) (n : No
 abbrev pub ComesTo : {Disk : Type 0} → (Disk → Telling) → Graph → Node → At Disk → Walked → InFlight → At Disk → Flown → Type 0
 ComesTo told g n first walked jobs now Found = HasCome told g n first walked jobs now
 ComesTo told g n first walked jobs now Cut = IsOnWay told g n (off_course for_spawn) first walked jobs now
+
+-- A flight came to it, and as many may run as before.
+pub record HasFlown {Disk : Type 0} (told : Disk → Telling) (g : Graph) (n : Node) (most : ℕ) (first : At Disk) (walked : Walked) (jobs : InFlight) (now : At Disk) (flown : Flown) : Type 0 where
+  pub comes : ComesTo told g n first walked jobs now flown
+  pub limit : jobs.limit ≡ most
 
 -- ---- the draining
 

@@ -1,6 +1,6 @@
 // Derivation of a node over what a store keeps.
-ghost use Rattle.std.specs.Prelude.{◌≡◌, ◌<◌, IfOk, IfErr};
-ghost use Rattle.kept_derive.specs.Calls.{IsIdle};
+ghost use Rattle.std.specs.Prelude.{◌≡◌, IfOk, IfErr};
+ghost use Rattle.kept_derive.specs.Calls.{MayDerive};
 ghost use Rattle.kept_derive.specs.Faults.{IsCause, IsLeft};
 ghost use Rattle.kept_derive.specs.Looked.{AreLooks};
 ghost use Rattle.kept_derive.specs.Rests.{ComesToRest, IsDerivable, LeavesTools};
@@ -35,8 +35,7 @@ pub fn derive_kept<D: Disk, S: Spawner, L: Ledger>(
     steps: &mut Steps<L>,
 ) -> Result<Found, KeptFault>
     requires derivable { IsDerivable graph.now plans.now node.now }
-    requires idle { IsIdle store.old (D.size_of disk.old) (S.told tools.old) }
-    requires some { 0 < limit }
+    requires may { MayDerive store.old (D.size_of disk.old) limit (S.told tools.old) }
     ensures found { let old = at store.old disk.old (S.told tools.old) in IfOk result
         (HasFound D.told graph.now node.now limit old (at store.new disk.new (S.told tools.new))) }
     ensures stopped { let old = at store.old disk.old (S.told tools.old) in IfErr result

@@ -1,17 +1,16 @@
 // The tools of a derivation: started, waited for, and drained.
-ghost use Rattle.std.specs.Prelude.{◌≡◌, ◌<◌, ◌≤◌, length, OnOk, IfOk, IfErr, option_map};
+ghost use Rattle.std.specs.Prelude.{◌≡◌, ◌≤◌, length, OnOk, IfOk, IfErr, option_map};
 ghost use Rattle.meaning_graph_text.specs.Grammar.{IsSpellable};
 ghost use Rattle.path_planner.specs.Ends.{plans_of};
 ghost use Rattle.derive_walk.specs.Looks.{AreFew, lost, met_by};
-ghost use Rattle.derive_walk.specs.Walks.{IsRight, IsAdvanced, GoesOn, new_walk};
-ghost use Rattle.job_runner.specs.Flights.{none_in_flight};
+ghost use Rattle.derive_walk.specs.Walks.{IsRight, IsAdvanced, GoesOn};
 ghost use Rattle.kept_derive.specs.Calls.{IsIdle, MayDrain};
 ghost use Rattle.kept_derive.specs.Faults.{IsCause, IsLeft};
 ghost use Rattle.kept_derive.specs.Looked.{FlightLooks};
 ghost use Rattle.kept_derive.specs.Rests.{IsDerivable};
 ghost use Rattle.kept_derive.specs.Runs.{at, world_in};
 ghost use Rattle.kept_derive.specs.Stops.{IsStopped};
-ghost use Rattle.kept_derive.specs.Ways.{IsNext, ComesTo, Drains, DrainStops};
+ghost use Rattle.kept_derive.specs.Ways.{IsUnbegun, IsNext, HasFlown, Drains, DrainStops};
 
 use crate::fault::KeptFault;
 use crate::landing::{Landed, land};
@@ -47,16 +46,14 @@ pub(crate) fn fly<D: Disk, S: Spawner, L: Ledger>(
     steps: &mut Steps<L>,
 ) -> Result<Flown, KeptFault>
     requires derivable { IsDerivable graph.now plans.now core.old.root }
-    requires first { core.old ≡ new_walk core.old.root }
-    requires rested { (jobs.old ≡ none_in_flight jobs.old.limit) × (0 < jobs.old.limit) }
+    requires unbegun { IsUnbegun core.old jobs.old }
     requires idle { IsIdle store.old (D.size_of disk.old) (S.told tools.old) }
     ensures flown { let old = at store.old disk.old (S.told tools.old) in
-        IfOk result (ComesTo D.told graph.now core.old.root old
+        IfOk result (HasFlown D.told graph.now core.old.root jobs.old.limit old
         core.new jobs.new (at store.new disk.new (S.told tools.new))) }
     ensures stopped { let old = at store.old disk.old (S.told tools.old) in
         IfErr result (IsStopped D.told graph.now core.old.root jobs.old.limit
         old (at store.new disk.new (S.told tools.new))) }
-    ensures limit { jobs.new.limit ≡ jobs.old.limit }
     ensures left { IsLeft store.new (D.size_of disk.new) result }
     ensures cause { IsCause (D.faults disk.old) (D.faults disk.new) result }
     ensures counted { let old = at store.old disk.old (S.told tools.old) in

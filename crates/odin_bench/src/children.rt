@@ -1,7 +1,7 @@
 // Starts and ends `true` as a child program so many times, one after another, and says how often it ended well.
 use crate::fault::Fault;
 use object_values::{Bytes, End, FileBody, Job, Memory, Seq, Text};
-use odin_children::ChildTools;
+use odin_children::{ChildTools, HostSystem};
 use odin_outside::Spawner;
 use std::alloc::Global;
 
@@ -49,8 +49,10 @@ fn count_well<S: Spawner>(alloc: Global, tools: &mut S, count: u32) -> Result<u3
 
 /// Says how many of so many runs end well.
 pub(crate) fn tell(rt: &HostRuntime, count: u32) -> Result<(), Fault> {
-    let mut tools = ChildTools::new(rt.alloc(), rt, rt.stderr());
-    let well = count_well(rt.alloc(), &mut tools, count)?;
+    let mut tools = ChildTools::new(rt.alloc(), HostSystem::new(rt), rt.stderr());
+    let well = count_well(rt.alloc(), &mut tools, count);
+    tools.wait_rest(rt.alloc());
+    let well = well?;
     let _ = println!(rt; "{well} ended well");
     Ok(())
 }

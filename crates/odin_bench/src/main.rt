@@ -9,6 +9,7 @@ mod lists;
 mod shared_texts;
 mod store;
 mod tasks;
+mod uneven;
 mod words;
 
 use crate::fault::Fault;
@@ -22,6 +23,7 @@ fn each(rt: &HostRuntime) -> Result<(), Fault> {
     graphs::tell(rt, 2)?;
     shared_texts::tell(rt, 2)?;
     children::tell(rt, 3)?;
+    uneven::tell(rt, 5, 2)?;
     store::make(rt, "-", 30, 5)?;
     tasks::tell(rt, "list", 3)
 }
@@ -35,6 +37,7 @@ fn chosen(rt: &HostRuntime, bench: &str, words: &[String]) -> Result<(), Fault> 
         "graph" => graphs::tell(rt, number_at(words, 0)?),
         "texts" => shared_texts::tell(rt, number_at(words, 0)?),
         "children" => children::tell(rt, number_at(words, 0)?),
+        "uneven" => uneven::tell(rt, number_at(words, 0)?, number_at(words, 1)?),
         "store" => store::measured(rt, words),
         "tasks" => tasks::measured(rt, words),
         _ => Err(Fault::Words),

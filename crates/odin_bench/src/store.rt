@@ -9,7 +9,7 @@ use crate::store::filling::{GRAPH, disk_for, filled};
 use crate::store::images::tell_images;
 use crate::store::timing::timed;
 use crate::words::number_at;
-use odin_files::FileDisk;
+use odin_files::{FileDisk, NamedFile};
 use odin_store::Store;
 use std::fs;
 
@@ -48,7 +48,7 @@ pub(crate) fn make(rt: &HostRuntime, path: &str, sources: u32, calls: u32) -> Re
 }
 
 fn open(rt: &HostRuntime, path: &str) -> Result<(), Fault> {
-    let mut disk = FileDisk::open(rt, path);
+    let mut disk = FileDisk::open(NamedFile::new(rt, path));
     let store = Store::open(rt.alloc(), &mut disk, GRAPH)?;
     tell(rt, &store);
     Ok(())

@@ -1,2 +1,5 @@
+mod AskedLemmas
+mod CutLemmas
+mod FaultLemmas
 mod FolderLemmas
 mod RunningLemmas

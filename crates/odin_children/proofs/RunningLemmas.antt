@@ -1,11 +1,10 @@
 -- Lists of child programs, and what runs by them.
 use Rattle.std.proofs.Common.{◌≡◌, ◌≢◌, ◌∙◌, ◌<◌, ℕ, List, [], ◌∷◌, map, length, get_or, sym, ap, ap₂, subst, arith}
-use Rattle.std.specs.Prelude.{Any, remove}
+use Rattle.std.specs.Prelude.{Any}
 use Rattle.std.proofs.lemmas.List.{length-map, get_or-map, get_or_default}
 use Rattle.odin_outside.specs.declared.events.Running.{Running}
 use Rattle.odin_outside.specs.Causes.{IsCounted}
-use Rattle.odin_outside.specs.Spawned.{Fails, Loses}
-use Rattle.odin_children.specs.Oldest.{IsFirst}
+use Rattle.odin_outside.specs.Spawned.{Fails}
 use Rattle.odin_children.specs.Told.{told_of}
 
 pub any_to_map : {X Y : Type 0} (f : X → Y) (P : Y → Type 0) (xs : List X) → Any (λ x. P (f x)) xs → Any P (map f xs)
@@ -23,11 +22,6 @@ any_of_map f P (first ∷ xs) (k, y, inside, at, holds) =
       subst P (sym at ∙ get_or-map f (first ∷ xs) k first y within) holds,
     )
 
--- what the removal of the first item leaves
-pub first_out : {X Y : Type 0} (f : X → Y) (xs : List X) (first : X) → 0 < length xs → first ≡ get_or xs 0 first → map f xs ≡ f first ∷ map f (remove xs 0)
-first_out f [] first some at = absurd (omega (arith, some))
-first_out f (x ∷ xs) first some at = ap (λ y. f y ∷ map f xs) (sym at)
-
 -- the item at a place has another number
 abbrev pub Misses : {X : Type 0} → (X → ℕ) → List X → ℕ → ℕ → Type 0
 Misses {X} f xs number k = (x : X) → get_or xs k x ≡ x → f x ≢ number
@@ -41,8 +35,3 @@ none_has f xs number misses (k, x, inside, at, same) = misses k inside x at same
 -- what is told where nothing happened but a fault
 pub fails : (running running' : List Running) (starts starts' before now : ℕ) → running' ≡ running → starts' ≡ starts → IsCounted before now → Fails (told_of running starts before) (told_of running' starts' now)
 fails running running' starts starts' before now same_running same_starts counted = record { counted = counted; is = ap₂ (λ r s. told_of r s now) same_running same_starts }
-
--- what is told where the oldest ended and its result is lost
-pub loses : (running others : List Running) (starts starts' before now slot named : ℕ) → IsFirst running slot others → starts' ≡ starts → IsCounted before now → slot ≡ named → Loses (told_of running starts before) named (told_of others starts' now)
-loses running others starts starts' before now slot named (job, first) same_starts counted same =
-    subst (λ n. Loses (told_of running starts before) n (told_of others starts' now)) same (record { job = job; counted = counted; stops = record { before = []; after = others; ran = first; is = ap (λ n. told_of others n now) same_starts } })

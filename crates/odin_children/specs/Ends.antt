@@ -1,12 +1,12 @@
 -- How a child program ended, and what it left.
-use Rattle.std.specs.Prelude.{◌≡◌, ℕ, pos, Option, Some, None, IfSome}
+use Rattle.std.specs.Prelude.{◌≡◌, ℕ, false, pos, List, Option, Some, None, IfSome, codes}
 use Rattle.std.specs.Process.{exit_code}
 use Rattle.std.specs.declared.process.status.ExitStatus.{ExitStatus}
 use Rattle.object_values.specs.declared.jobs.End.{End}
 use Rattle.object_values.specs.declared.jobs.End.TheVariants.{Exit, Signal}
 use Rattle.object_values.specs.declared.jobs.Raw.{Raw}
-use Rattle.odin_outside.specs.declared.events.Running.{Running}
-use Rattle.odin_children.specs.Folders.{Standing, removed, AreLeft, SameBut}
+use Rattle.odin_children.specs.Folders.{Held, Standing, has_name, AreLeft, IsToldOf}
+use Rattle.odin_children.specs.Told.{Seen}
 
 -- with the exit code of its status, or by a signal where that has none
 abbrev pub IsEndOf : ExitStatus → End → Type 0
@@ -17,10 +17,17 @@ IsEndOf status Signal = exit_code status ≡ None
 abbrev pub HasEnded : Option ExitStatus → End → Type 0
 HasEnded told end = (status : ExitStatus) × (told ≡ Some status) × IsEndOf status end
 
--- It left the files of its outputs and no others, and its folder is gone; the folders of other slots are as they were. Where an earlier
--- wait has told its end, that is its end.
-pub record HasLeft (tool : Running) (told : Option ExitStatus) (old new : ℕ → Option Standing) (raw : Raw) : Type 0 where
-  pub end : IfSome told (λ status. IsEndOf status raw.end)
-  pub files : AreLeft (old tool.slot) tool.job.outs raw.files
-  pub gone : new tool.slot ≡ removed (old tool.slot)
-  pub others : SameBut tool.slot old new
+-- what a tool leaves in its folder that has no outcome
+abbrev pub no_outcome : List ℕ
+no_outcome = codes "no-outcome"
+
+-- it is told what stands there, and that it has an outcome
+abbrev pub HasOutcome : Option Standing → Type 0
+HasOutcome None = ⊥
+HasOutcome (Some standing) = has_name standing no_outcome ≡ false
+
+-- It has an outcome, and left the files of its outputs and no others. Where an earlier wait has told its end, that is its end.
+pub record HasLeft (tool : Seen) (held : Held) (raw : Raw) : Type 0 where
+  pub end : IfSome tool.status (λ status. IsEndOf status raw.end)
+  pub outcome : IsToldOf (held tool.folder) no_outcome false
+  pub files : AreLeft (held tool.folder) tool.running.job.outs raw.files

@@ -1,36 +1,48 @@
--- What stands in the places of the folders that child programs run in: nothing (`None`), or a folder with files, in the order in which they
--- were made. Where that isn't told there is `None` in its place, before a call and after it.
-use Rattle.std.specs.Prelude.{◌≡◌, ◌≢◌, ⊤, ℕ, false, nat_eq, List, [], ◌∷◌, ◌++◌, Option, Some, None, take}
+-- What stands at the paths where child programs run: nothing (`None`), or a folder with files, in the order in which they were made. Where
+-- that isn't told there is `None` in its place, before a call and after it.
+use Rattle.std.specs.Prelude.{◌≡◌, ◌≢◌, ⊤, ℕ, Bool, true, false, nat_eq, List, [], ◌∷◌, ◌++◌, Option, Some, None, take}
 use Rattle.std.specs.Option.{option_map}
 use Rattle.std.specs.List.{list_any, filter_map}
+use Rattle.std.specs.Str.{IsUtf8}
 use Rattle.object_values.specs.declared.jobs.FileBody.{FileBody}
 use Rattle.odin_outside.specs.Files.{file_limit}
 use Rattle.meaning_calls.specs.Outcomes.{file_in}
 
--- what stands in one place
+-- what stands at one path
 abbrev pub Standing : Type 0
 Standing = Option (List FileBody)
+
+-- what stands at each path, where that is told
+abbrev pub Held : Type 0
+Held = List ℕ → Option Standing
 
 -- a name without a slash, which would lead out of the folder
 abbrev pub IsPlain : List ℕ → Type 0
 IsPlain name = list_any (λ byte. nat_eq byte 47) name ≡ false
 
+-- a name that a file in a folder can have: a text without a slash
+pub record IsFileName (name : List ℕ) : Type 0 where
+  pub plain : IsPlain name
+  pub text : IsUtf8 name
+
 -- ---- what stands there after a call
 
--- in the place of every other slot the same
-abbrev pub SameBut : ℕ → (ℕ → Option Standing) → (ℕ → Option Standing) → Type 0
-SameBut slot old new = (other : ℕ) → other ≢ slot → new other ≡ old other
+-- at every other path the same
+abbrev pub SameBut : List ℕ → Held → Held → Type 0
+SameBut path old new = (other : List ℕ) → other ≢ path → new other ≡ old other
+
+-- at every path but these two the same
+abbrev pub SameBeside : List ℕ → List ℕ → Held → Held → Type 0
+SameBeside home path old new = (other : List ℕ) → other ≢ home → other ≢ path → new other ≡ old other
 
 abbrev pub removed : Option Standing → Option Standing
 removed held = option_map (λ standing. None) held
 
--- what a folder holds that was there stays
-abbrev pub made_where : Standing → List FileBody
-made_where None = []
-made_where (Some files) = files
-
-abbrev pub made : Option Standing → Option Standing
-made held = option_map (λ standing. Some (made_where standing)) held
+-- nothing was there, and now there is an empty folder
+abbrev pub IsMade : Option Standing → Option Standing → Type 0
+IsMade None new = new ≡ None
+IsMade (Some None) new = new ≡ Some (Some [])
+IsMade (Some (Some files)) new = ⊥
 
 -- a folder with these files and no others, whatever was there
 abbrev pub laid_out : List FileBody → Option Standing → Option Standing
@@ -54,6 +66,19 @@ abbrev pub IsFound : Option Standing → List ℕ → Option (List ℕ) → Type
 IsFound None name answer = ⊤
 IsFound (Some standing) name answer = answer ≡ front_of standing name
 
+abbrev pub is_some : Option (List ℕ) → Bool
+is_some None = false
+is_some (Some bytes) = true
+
+-- the folder has something of that name
+abbrev pub has_name : Standing → List ℕ → Bool
+has_name standing name = is_some (front_of standing name)
+
+-- the answer is whether the folder has something of that name, where it is told what stands there
+abbrev pub IsToldOf : Option Standing → List ℕ → Bool → Type 0
+IsToldOf None name answer = ⊤
+IsToldOf (Some standing) name answer = answer ≡ has_name standing name
+
 abbrev pub left_file : Standing → List ℕ → Option FileBody
 left_file standing name = option_map (λ body. record { name = name; body = body }) (front_of standing name)
 
@@ -62,7 +87,7 @@ abbrev pub AreLeft : Option Standing → List (List ℕ) → List FileBody → T
 AreLeft None names files = ⊤
 AreLeft (Some standing) names files = files ≡ filter_map (left_file standing) names
 
--- the file of one more name was put behind those that were there, where it was left
+-- the file of one more name was put after those that were there, where it was left
 abbrev pub IsPutLeft : Option Standing → List ℕ → List FileBody → List FileBody → Type 0
 IsPutLeft None name old new = ⊤
 IsPutLeft (Some standing) name old new = new ≡ old ++ filter_map (left_file standing) (name ∷ [])

@@ -1,4 +1,8 @@
 pub mod Ends
+pub mod Finishes
 pub mod Folders
-pub mod Oldest
+pub mod Logs
+pub mod Paths
+pub mod Seen
+pub mod Starts
 pub mod Told

@@ -1,9 +1,11 @@
 // What a folder holds before a child program runs in it, and what is taken from it afterwards.
 ghost use Rattle.std.specs.Prelude.{◌≡◌, IsOk, IfOk, OnOk};
+ghost use Rattle.std.specs.List.{All};
 ghost use Rattle.std.specs.Str.{IsUtf8};
-ghost use Rattle.odin_children.specs.Folders.{laid_out, IsAdded, IsPlain, IsPutLeft, AreLeft, SameBut};
+ghost use Rattle.odin_children.specs.Folders.{laid_out, IsAdded, IsPlain, IsFileName, IsPutLeft, AreLeft, SameBut};
+ghost use Rattle.odin_children.specs.Logs.{CountsWhere};
 
-use crate::folders::Folders;
+use crate::system::System;
 use object_values::{Bytes, Copied, Seq, Text};
 use odin_files::{SystemFault, text_of};
 use odin_outside::FileBody;
@@ -13,7 +15,7 @@ use std::alloc::Global;
 fn plain_name(name: &[u8]) -> Result<&str, SystemFault>
     ensures name { IfOk result (λ text. text.now ≡ name.now) }
     ensures plain { IfOk result (λ text. IsPlain text.now) }
-    ensures given { IsPlain name.now → IsUtf8 name.now → IsOk result }
+    ensures given { IsFileName name.now → IsOk result }
 {
     if name.contains(&b'/') {
         return Err(SystemFault::Failed);
@@ -21,50 +23,59 @@ fn plain_name(name: &[u8]) -> Result<&str, SystemFault>
     text_of(name)
 }
 
-fn add_file<F: Folders>(
-    folders: &mut F,
+fn add_file<S: System>(
+    system: &mut S,
     alloc: Global,
-    slot: u32,
+    folder: &str,
     file: &FileBody,
 ) -> Result<(), SystemFault>
     ensures ok { OnOk result (IsAdded file.now
-        (F.held folders.old slot) (F.held folders.new slot)) }
-    ensures others { SameBut slot (F.held folders.old) (F.held folders.new) }
+        (S.held system.old folder.now) (S.held system.new folder.now)) }
+    ensures others { SameBut folder.now (S.held system.old) (S.held system.new) }
+    ensures counts { CountsWhere (IsFileName file.now.name) SystemFault.Memory
+        (S.log system.old) (S.log system.new) result }
 {
     let name = plain_name(file.name.as_slice())?;
-    folders.add(alloc, slot, name, file.body.as_slice())
+    system.add(alloc, folder, name, file.body.as_slice())
 }
 
-/// Makes the folder of a slot, which holds these files alone. What an earlier run left there is removed before.
-pub fn lay_out<F: Folders>(
-    folders: &mut F,
+/// Makes a folder that holds these files alone. What is there is discarded before.
+pub fn lay_out<S: System>(
+    system: &mut S,
     alloc: Global,
-    slot: u32,
+    folder: &str,
     files: &[FileBody],
 ) -> Result<(), SystemFault>
-    ensures ok { OnOk result (F.held folders.new slot
-        ≡ laid_out files.now (F.held folders.old slot)) }
-    ensures others { SameBut slot (F.held folders.old) (F.held folders.new) }
+    ensures ok { OnOk result (S.held system.new folder.now
+        ≡ laid_out files.now (S.held system.old folder.now)) }
+    ensures others { SameBut folder.now (S.held system.old) (S.held system.new) }
+    ensures counts { CountsWhere (All (λ file. IsFileName file.name) files.now)
+        SystemFault.Memory (S.log system.old) (S.log system.new) result }
 {
-    folders.remove(alloc, slot)?;
-    folders.make(alloc, slot)?;
+    system.discard(alloc, folder);
+    system.make(folder)?;
     for file in files {
-        add_file(folders, alloc, slot, file)?;
+        add_file(system, alloc, folder, file)?;
     }
     Ok(())
 }
 
 // Adds a file of the folder, where it was left.
-fn put_left<F: Folders>(
-    folders: &F,
+fn put_left<S: System>(
+    system: &mut S,
     alloc: Global,
-    slot: u32,
+    folder: &str,
     name: &Bytes,
     files: &mut Seq<FileBody>,
 ) -> Result<(), SystemFault>
-    ensures { OnOk result (IsPutLeft (F.held folders.now slot) name.now files.old files.new) }
+    ensures ok { OnOk result (IsPutLeft (S.held system.old folder.now) name.now
+        files.old files.new) }
+    ensures held { S.held system.new ≡ S.held system.old }
+    ensures counts { CountsWhere (IsFileName name.now) SystemFault.Memory
+        (S.log system.old) (S.log system.new) result }
 {
-    if let Some(body) = folders.read(alloc, slot, plain_name(name.as_slice())?)? {
+    let plain = plain_name(name.as_slice())?;
+    if let Some(body) = system.read(alloc, folder, plain)? {
         let name = name.copy(alloc)?;
         let body = Text::of(body)?;
         files.push(FileBody { name, body })?;
@@ -72,18 +83,21 @@ fn put_left<F: Folders>(
     Ok(())
 }
 
-/// Those of the named files that were left in the folder of a slot, each cut after 16,777,217 bytes.
-pub fn left_in<F: Folders>(
-    folders: &F,
+/// Those of the named files that were left in a folder, each cut after 16,777,217 bytes.
+pub fn left_in<S: System>(
+    system: &mut S,
     alloc: Global,
-    slot: u32,
+    folder: &str,
     names: &[Bytes],
 ) -> Result<Seq<FileBody>, SystemFault>
-    ensures { IfOk result (AreLeft (F.held folders.now slot) names.now) }
+    ensures left { IfOk result (AreLeft (S.held system.old folder.now) names.now) }
+    ensures held { S.held system.new ≡ S.held system.old }
+    ensures counts { CountsWhere (All IsFileName names.now) SystemFault.Memory
+        (S.log system.old) (S.log system.new) result }
 {
     let mut files = Seq::new(alloc);
     for name in names {
-        put_left(folders, alloc, slot, name, &mut files)?;
+        put_left(system, alloc, folder, name, &mut files)?;
     }
     Ok(files)
 }

@@ -2,12 +2,15 @@
 #![tactic(auto)]
 
 mod contents;
-mod folders;
+mod homes;
+mod host;
 mod program;
 mod slots;
+mod sweep;
 mod system;
 mod tools;
+mod waits;
 
-pub use contents::{lay_out, left_in};
-pub use folders::Folders;
+pub use host::HostSystem;
+pub use system::System;
 pub use tools::ChildTools;

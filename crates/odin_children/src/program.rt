@@ -1,33 +1,37 @@
 // A child program: how it is started, and what it leaves.
-ghost use Rattle.std.specs.Prelude.{◌≡◌, [], ◌∷◌, ◌++◌, Some, Err, codes, decimal, false, IfOk, OnOk};
-ghost use Rattle.std.specs.Process.{command_program, command_args, command_dir, clears_env, child_status};
+ghost use Rattle.std.specs.Prelude.{◌≡◌, ◌≢◌, Some, Err, IfOk, OnOk};
+ghost use Rattle.std.specs.Process.{child_status};
 ghost use Rattle.odin_children.specs.Ends.{IsEndOf, HasEnded, HasLeft};
+ghost use Rattle.odin_children.specs.Finishes.{CanBeGiven, IsCleared};
 ghost use Rattle.odin_children.specs.Folders.{laid_out, SameBut};
+ghost use Rattle.odin_children.specs.Seen.{seen_of};
+ghost use Rattle.odin_children.specs.Starts.{AreWords, IsStartable};
+ghost use Rattle.odin_children.specs.Told.{Seen, IsAsked};
+ghost use Rattle.odin_children.specs.Logs.{CountsWhere, LaunchesWhere, launch_of, Inherits};
 
 use crate::contents::{lay_out, left_in};
-use crate::folders::Folders;
-use crate::system::folder_of;
+use crate::system::System;
 use object_values::{Bytes, Job};
 use odin_files::{SystemFault, text_of};
 use odin_outside::{End, Raw, Running};
 use std::alloc::Global;
 use std::io::Stderr;
-use std::process::{Child, Command, ExitStatus, Processes, Stdio};
+use std::process::{Child, Command, ExitStatus};
 
-/// A child program that runs, with its slot and job.
+/// A child program that runs, with its slot, its job and the path of its folder.
 #[derive(Drop)]
-pub struct Started<R: Processes> {
+pub struct Started<S: System> {
     pub running: Running,
-    pub child: Child<R::Started>,
+    pub folder: String,
+    pub child: Child<S::Started>,
 }
 
-// The command of these words in the folder of a slot. The program is searched for in PATH, and has the environment of this one.
-fn command_of(alloc: Global, slot: u32, words: &[Bytes]) -> Result<Command, SystemFault>
-    ensures words { IfOk result (λ c. command_program c ∷ command_args c ≡ words.now) }
-    ensures folder { IfOk result (λ c.
-        command_dir c ≡ Some (codes "odin.work/" ++ decimal slot)) }
-    ensures inherits { IfOk result (λ c. clears_env c ≡ false) }
-    ensures empty { words.now ≡ [] → result ≡ Err SystemFault.Failed }
+// The command of these words in a folder. The program is searched for in PATH, and has the environment of this one.
+fn command_of(alloc: Global, folder: &str, words: &[Bytes]) -> Result<Command, SystemFault>
+    ensures launch { IfOk result (λ command. launch_of command
+        ≡ record { words = words.now; folder = Some folder.now }) }
+    ensures inherits { IfOk result Inherits }
+    ensures failed { AreWords words.now → result ≢ Err SystemFault.Failed }
 {
     let [program, others @ ..] = words else {
         return Err(SystemFault::Failed);
@@ -36,46 +40,48 @@ fn command_of(alloc: Global, slot: u32, words: &[Bytes]) -> Result<Command, Syst
     for word in others {
         command.arg(text_of(word.as_slice())?)?;
     }
-    command.current_dir(folder_of(alloc, slot)?.as_str())?;
+    command.current_dir(folder)?;
     Ok(command)
 }
 
-// Starts a child program in the folder of a slot, which is laid out for it. Its input is empty, and all its output goes to the standard
-// error.
-fn start_in<R: Processes + Folders>(
-    rt: &mut R,
+// Starts a child program in a folder, which is laid out for it.
+fn start_in<S: System>(
+    system: &mut S,
     errors: Stderr,
     alloc: Global,
-    slot: u32,
+    folder: &str,
     job: &Job,
-) -> Result<Child<R::Started>, SystemFault>
-    ensures ok { OnOk result (R.held rt.new slot
-        ≡ laid_out job.now.files (R.held rt.old slot)) }
-    ensures others { SameBut slot (R.held rt.old) (R.held rt.new) }
+) -> Result<Child<S::Started>, SystemFault>
+    ensures ok { OnOk result (S.held system.new folder.now
+        ≡ laid_out job.now.files (S.held system.old folder.now)) }
+    ensures others { SameBut folder.now (S.held system.old) (S.held system.new) }
+    ensures launches { LaunchesWhere (IsStartable job.now)
+        (record { words = job.now.words; folder = Some folder.now }) SystemFault.Memory
+        (S.log system.old) (S.log system.new) result }
 {
-    lay_out(rt, alloc, slot, job.files.as_slice())?;
-    let mut command = command_of(alloc, slot, job.words.as_slice())?;
-    command.stdin(Stdio::null());
-    command.stdout(errors);
-    command.stderr(errors);
-    Ok(command.spawn(rt)?)
+    lay_out(system, alloc, folder, job.files.as_slice())?;
+    let command = command_of(alloc, folder, job.words.as_slice())?;
+    system.spawn(command, errors)
 }
 
-/// Starts the child program of a job in the folder of a slot. Where it can't be started the folder is removed again, if it can be.
-pub fn start_child<R: Processes + Folders>(
-    rt: &mut R,
+/// Starts the child program of a job in a folder. Where it can't be started the folder is discarded again.
+pub fn start_child<S: System>(
+    system: &mut S,
     errors: Stderr,
     alloc: Global,
-    slot: u32,
+    folder: &str,
     job: &Job,
-) -> Result<Child<R::Started>, SystemFault>
-    ensures ok { OnOk result (R.held rt.new slot
-        ≡ laid_out job.now.files (R.held rt.old slot)) }
-    ensures others { SameBut slot (R.held rt.old) (R.held rt.new) }
+) -> Result<Child<S::Started>, SystemFault>
+    ensures ok { OnOk result (S.held system.new folder.now
+        ≡ laid_out job.now.files (S.held system.old folder.now)) }
+    ensures others { SameBut folder.now (S.held system.old) (S.held system.new) }
+    ensures launches { LaunchesWhere (IsStartable job.now)
+        (record { words = job.now.words; folder = Some folder.now }) SystemFault.Memory
+        (S.log system.old) (S.log system.new) result }
 {
-    let started = start_in(rt, errors, alloc, slot, job);
+    let started = start_in(system, errors, alloc, folder, job);
     if started.is_err() {
-        let _ = rt.remove(alloc, slot);
+        system.discard(alloc, folder);
     }
     started
 }
@@ -90,25 +96,42 @@ fn end_of(status: ExitStatus) -> End
     }
 }
 
-impl<R: Processes> Started<R> {
-    /// Waits for the end, and gives what was left in the folder, which is removed. For want of memory nothing is removed yet, and the call
-    /// can be made again: the end is the same one then.
-    pub fn end<F: Folders>(&mut self, alloc: Global, folders: &mut F) -> Result<Raw, SystemFault>
-        ensures running { self.new.running ≡ self.old.running }
+impl<S: System> Started<S> {
+    // Waits for the end, and gives what was left in the folder, where it has an outcome.
+    fn outcome(&mut self, alloc: Global, system: &mut S) -> Result<Raw, SystemFault>
+        ensures asked { IsAsked (seen_of self.old) (seen_of self.new) }
         ensures end { IfOk result (λ raw. HasEnded (child_status self.new.child) raw.end) }
-        ensures left { IfOk result (HasLeft self.old.running (child_status self.old.child)
-            (F.held folders.old) (F.held folders.new)) }
-        ensures others { SameBut self.old.running.slot
-            (F.held folders.old) (F.held folders.new) }
-        ensures memory { result ≡ Err SystemFault.Memory →
-            F.held folders.new ≡ F.held folders.old }
+        ensures left { IfOk result (HasLeft (seen_of self.old) (S.held system.old)) }
+        ensures held { S.held system.new ≡ S.held system.old }
+        ensures counts { CountsWhere (CanBeGiven (S.held system.old) (seen_of self.old))
+            SystemFault.Memory (S.log system.old) (S.log system.new) result }
     {
-        let end = end_of(self.child.wait()?);
-        let slot = self.running.slot;
-        let files = left_in(folders, alloc, slot, self.running.job.outs.as_slice())?;
-        if folders.remove(alloc, slot).is_err() {
+        let end = end_of(system.wait(&mut self.child)?);
+        let folder = self.folder.as_str();
+        if system.has(alloc, folder, "no-outcome")? {
             return Err(SystemFault::Failed);
         }
+        let files = left_in(system, alloc, folder, self.running.job.outs.as_slice())?;
         Ok(Raw { end, files })
+    }
+
+    /// Waits for the end, and gives what was left in the folder, which is discarded. For want of memory it stays, and the call can be made
+    /// again: the end is the same one then.
+    pub fn end(&mut self, alloc: Global, system: &mut S) -> Result<Raw, SystemFault>
+        ensures asked { IsAsked (seen_of self.old) (seen_of self.new) }
+        ensures end { IfOk result (λ raw. HasEnded (child_status self.new.child) raw.end) }
+        ensures left { IfOk result (HasLeft (seen_of self.old) (S.held system.old)) }
+        ensures cleared { result ≢ Err SystemFault.Memory →
+            IsCleared (seen_of self.old) (S.held system.old) (S.held system.new) }
+        ensures memory { result ≡ Err SystemFault.Memory → S.held system.new ≡ S.held system.old }
+        ensures counts { CountsWhere (CanBeGiven (S.held system.old) (seen_of self.old))
+            SystemFault.Memory (S.log system.old) (S.log system.new) result }
+    {
+        let ended = self.outcome(alloc, system);
+        match ended {
+            Err(SystemFault::Memory) => {}
+            _ => system.discard(alloc, self.folder.as_str()),
+        }
+        ended
     }
 }

@@ -1,22 +1,23 @@
 // The child programs that run, in the order of their starts, each in its slot.
-ghost use Rattle.std.specs.Prelude.{◌≡◌, ◌<◌, ◌↔◌, ℕ, map, drop, vec_len, Err, IsTrue, IfOk, IfSome, Any};
+ghost use Rattle.std.specs.Prelude.{◌≡◌, ◌≢◌, ◌<◌, ◌↔◌, ℕ, map, remove, vec_len, Err, IsTrue, IfOk, IfSome, Any};
 ghost use Rattle.std.specs.List.{HoldsAt};
-ghost use Rattle.std.specs.Process.{child_status};
 ghost use Rattle.odin_outside.specs.Spawned.{IsLeastFree, IsRunning};
-ghost use Rattle.odin_children.specs.Ends.{HasEnded, HasLeft};
-ghost use Rattle.odin_children.specs.Oldest.{IsFirst};
+ghost use Rattle.odin_children.specs.Ends.{HasLeft};
+ghost use Rattle.odin_children.specs.Finishes.{CanBeGiven, IsCleared};
+ghost use Rattle.odin_children.specs.Seen.{seen_of};
+ghost use Rattle.odin_children.specs.Told.{AreAsked};
+ghost use Rattle.odin_children.specs.Logs.{CountsWhere};
 
-use crate::folders::Folders;
 use crate::program::Started;
+use crate::system::System;
 use object_values::Raw;
 use odin_files::SystemFault;
 use std::alloc::Global;
-use std::process::Processes;
 
 /// How many child programs run at once, at most.
 const MOST: u32 = 64;
 
-fn is_running<R: Processes>(started: &[Started<R>], slot: u32) -> bool
+fn is_running<S: System>(started: &[Started<S>], slot: u32) -> bool
     ensures { IsTrue result ↔ Any (λ tool. tool.running.slot ≡ slot) started.now }
 {
     for tool in started {
@@ -28,7 +29,7 @@ fn is_running<R: Processes>(started: &[Started<R>], slot: u32) -> bool
 }
 
 /// The least slot in which none runs, where there is one left.
-pub fn least_free<R: Processes>(started: &[Started<R>]) -> Option<u32>
+pub fn least_free<S: System>(started: &[Started<S>]) -> Option<u32>
     ensures some { IfSome result (IsLeastFree (map (λ tool. tool.running) started.now)) }
     ensures none { result ≡ None → (slot : ℕ) → slot < MOST →
         IsRunning (map (λ tool. tool.running) started.now) slot }
@@ -41,34 +42,33 @@ pub fn least_free<R: Processes>(started: &[Started<R>]) -> Option<u32>
     None
 }
 
-/// Waits for the end of the oldest child program, and gives what it left. It counts as running until it is taken out. All others are as
-/// they were.
-pub fn end_oldest<R: Processes, F: Folders>(
-    started: &mut Vec<Started<R>>,
+/// Waits for the end of the child program at a place, and gives what it left. It counts as running until it is taken out.
+pub fn end_at<S: System>(
+    started: &mut Vec<Started<S>>,
+    place: usize,
     alloc: Global,
-    folders: &mut F,
+    system: &mut S,
 ) -> Result<Raw, SystemFault>
-    requires { 0 < vec_len started.old }
-    ensures running { map (λ tool. tool.running) started.new.items
-        ≡ map (λ tool. tool.running) started.old.items }
-    ensures others { drop 1 started.new.items ≡ drop 1 started.old.items }
-    ensures end { IfOk result (λ raw.
-        HoldsAt (λ tool. HasEnded (child_status tool.child) raw.end) started.new.items 0) }
-    ensures left { IfOk result (λ raw. HoldsAt (λ tool. HasLeft tool.running
-        (child_status tool.child) (F.held folders.old) (F.held folders.new) raw)
-        started.old.items 0) }
-    ensures memory { result ≡ Err SystemFault.Memory →
-        F.held folders.new ≡ F.held folders.old }
+    requires { place < vec_len started.old }
+    ensures length { vec_len started.new ≡ vec_len started.old }
+    ensures asked { AreAsked (map seen_of started.old.items) (map seen_of started.new.items) }
+    ensures left { IfOk result (λ raw. HoldsAt (λ tool. HasLeft (seen_of tool)
+        (S.held system.old) raw) started.old.items place) }
+    ensures cleared { result ≢ Err SystemFault.Memory → HoldsAt (λ tool. IsCleared (seen_of tool)
+        (S.held system.old) (S.held system.new)) started.old.items place }
+    ensures memory { result ≡ Err SystemFault.Memory → S.held system.new ≡ S.held system.old }
+    ensures counts { CountsWhere (HoldsAt (λ tool. CanBeGiven (S.held system.old) (seen_of tool))
+        started.old.items place) SystemFault.Memory
+        (S.log system.old) (S.log system.new) result }
 {
-    started[0].end(alloc, folders)
+    started[place].end(alloc, system)
 }
 
-/// Takes the oldest child program out, and gives its slot.
-pub fn take_oldest<R: Processes>(started: &mut Vec<Started<R>>) -> u32
-    requires { 0 < vec_len started.old }
-    ensures first { IsFirst (map (λ tool. tool.running) started.old.items) result
-        (map (λ tool. tool.running) started.new.items) }
-    ensures others { started.new.items ≡ drop 1 started.old.items }
+/// Takes the child program at a place out, and gives its slot.
+pub fn take_at<S: System>(started: &mut Vec<Started<S>>, place: usize) -> u32
+    requires { place < vec_len started.old }
+    ensures slot { HoldsAt (λ tool. tool.running.slot ≡ result) started.old.items place }
+    ensures others { started.new.items ≡ remove started.old.items place }
 {
-    started.remove(0).running.slot
+    started.remove(place).running.slot
 }

@@ -1,86 +1,107 @@
-// Folders of the system.
-ghost use Rattle.std.specs.Prelude.{◌≡◌, ◌++◌, ◌∷◌, codes, decimal, string_bytes, true, IfOk};
-ghost use Rattle.std.specs.Fs.{asks_create_new};
+// What child programs need of the system, path by path.
+ghost use Rattle.std.specs.Prelude.{◌≡◌, ⊤, Some, Ok, IfOk, OnOk, IfSome};
+ghost use Rattle.std.specs.Process.{child_status};
+ghost use Rattle.odin_children.specs.Folders.{Held, removed, IsMade, IsAdded, IsFound, IsPlain, IsToldOf, SameBut};
+ghost use Rattle.odin_children.specs.Logs.{Log, Counts, LaunchesWhere, launch_of, Inherits};
 
-use crate::folders::Folders;
 use object_values::Bytes;
-use odin_files::{SystemFault, read_file};
-use std::alloc::{AllocError, Global};
-use std::fs::{self, OpenOptions};
-use std::io::{ErrorKind, Write};
-use std::rt::Files;
+use odin_files::SystemFault;
+use std::alloc::Global;
+use std::io::Stderr;
+use std::process::{Child, Command, ExitStatus, OpenProcess};
+use std::time::Duration;
 
-/// The path of the folder of a slot.
-pub fn folder_of(alloc: Global, slot: u32) -> Result<String, AllocError>
-    ensures { IfOk result (λ path. string_bytes path ≡ codes "odin.work/" ++ decimal slot) }
-{
-    format!(in alloc; "odin.work/{slot}")
-}
+/// What child programs need of the system. A path is one from the current folder.
+pub trait System {
+    type Started: OpenProcess + Drop;
 
-// The path of a file right in the folder of a slot.
-fn path_in(alloc: Global, slot: u32, name: &str) -> Result<String, AllocError>
-    ensures { IfOk result (λ path. string_bytes path
-        ≡ codes "odin.work/" ++ decimal slot ++ 47 ∷ name.now) }
-{
-    format!(in alloc; "odin.work/{slot}/{name}")
-}
+    /// What stands at each path, where it is told: nothing, or a folder with these files.
+    ghost held: { Self → Held };
 
-// How a file is opened that is to be made: nothing of its name may be there, so that no link is followed.
-fn new_file() -> OpenOptions
-    ensures { asks_create_new result ≡ true }
-{
-    let mut options = OpenOptions::new();
-    options.write(true).create_new(true);
-    options
-}
+    /// What the system did, where it is told.
+    ghost log: { Self → Log };
 
-/// The folders `odin.work/SLOT` of the current folder. They tell nothing of what stands there.
-impl<R: Files> Folders for R {
-    ghost use Rattle.std.specs.Prelude.{None};
+    /// A random number.
+    fn draw(&mut self) -> Result<u64, SystemFault>
+        ensures held { held self.new ≡ held self.old }
+        ensures counts { Counts SystemFault.Memory (log self.old) (log self.new) result };
 
-    ghost held = { λ _ _. None };
+    /// Makes the folder of a session in `odin.work`, which is made where there is none. Where `odin.work` is no folder, but a link to one
+    /// too, this fails, and what is at its other end isn't touched. What else is in `odin.work` is removed as far as it can be: it is of
+    /// sessions that ended.
+    fn open(&mut self, alloc: Global, home: &str) -> Result<(), SystemFault>
+        ensures others { SameBut home.now (held self.old) (held self.new) }
+        ensures counts { Counts SystemFault.Memory (log self.old) (log self.new) result };
 
-    fn remove(&mut self, alloc: Global, slot: u32) -> Result<(), SystemFault> {
-        let path = folder_of(alloc, slot)?;
-        match fs::symlink_metadata(self, path.as_str()) {
-            Ok(found) => {
-                if found.is_dir() {
-                    self.remove_dir_all(alloc, path.as_str())?;
-                } else {
-                    fs::remove_file(self, path.as_str())?;
-                }
-                Ok(())
-            }
-            Err(error) => {
-                if error.kind() == ErrorKind::NotFound {
-                    Ok(())
-                } else {
-                    Err(error.into())
-                }
-            }
-        }
-    }
+    /// Removes the folder of a session, as far as it can be.
+    fn close(&mut self, alloc: Global, home: &str);
 
-    fn make(&mut self, alloc: Global, slot: u32) -> Result<(), SystemFault> {
-        fs::create_dir_all(self, "odin.work")?;
-        fs::create_dir(self, folder_of(alloc, slot)?.as_str())?;
-        Ok(())
-    }
+    /// Removes what stands at a path right in the folder of a session: nothing, a file, a link and not what it leads to, or a folder with all that it holds.
+    /// What can't be removed is moved out of the way. Where not even that can be done it stays, but no clause says so: a later `make` fails then.
+    fn discard(&mut self, alloc: Global, path: &str)
+        ensures gone { held self.new path.now ≡ removed (held self.old path.now) }
+        ensures others { SameBut path.now (held self.old) (held self.new) }
+        ensures log { log self.new ≡ log self.old };
 
+    /// Makes a folder where nothing is.
+    fn make(&mut self, path: &str) -> Result<(), SystemFault>
+        ensures ok { OnOk result (IsMade (held self.old path.now) (held self.new path.now)) }
+        ensures others { SameBut path.now (held self.old) (held self.new) }
+        ensures counts { Counts SystemFault.Memory (log self.old) (log self.new) result };
+
+    /// Makes a file in a folder. Where it has one of that name already this fails.
     fn add(
         &mut self,
         alloc: Global,
-        slot: u32,
+        folder: &str,
         name: &str,
         body: &[u8],
-    ) -> Result<(), SystemFault> {
-        let path = path_in(alloc, slot, name)?;
-        let mut file = new_file().open(self, path.as_str())?;
-        file.write_all(body)?;
-        Ok(())
-    }
+    ) -> Result<(), SystemFault>
+        requires { IsPlain name.now }
+        ensures ok { OnOk result (IsAdded (record { name = name.now; body = body.now })
+            (held self.old folder.now) (held self.new folder.now)) }
+        ensures others { SameBut folder.now (held self.old) (held self.new) }
+        ensures counts { Counts SystemFault.Memory (log self.old) (log self.new) result };
 
-    fn read(&self, alloc: Global, slot: u32, name: &str) -> Result<Option<Bytes>, SystemFault> {
-        read_file(self, alloc, path_in(alloc, slot, name)?.as_str())
-    }
+    /// The first 16,777,217 bytes of a file in a folder, or all where it is shorter. `None` is said where there is no such file.
+    fn read(
+        &mut self,
+        alloc: Global,
+        folder: &str,
+        name: &str,
+    ) -> Result<Option<Bytes>, SystemFault>
+        requires { IsPlain name.now }
+        ensures found { IfOk result (IsFound (held self.old folder.now) name.now) }
+        ensures held { held self.new ≡ held self.old }
+        ensures counts { Counts SystemFault.Memory (log self.old) (log self.new) result };
+
+    /// Whether a folder has anything of a name: a file, a folder, a link or whatever else.
+    fn has(&mut self, alloc: Global, folder: &str, name: &str) -> Result<bool, SystemFault>
+        requires { IsPlain name.now }
+        ensures found { IfOk result (IsToldOf (held self.old folder.now) name.now) }
+        ensures held { held self.new ≡ held self.old }
+        ensures counts { Counts SystemFault.Memory (log self.old) (log self.new) result };
+
+    /// Starts a program. Its input is empty, and its output and its errors go to `errors`.
+    fn spawn(
+        &mut self,
+        command: Command,
+        errors: Stderr,
+    ) -> Result<Child<Self::Started>, SystemFault>
+        requires { Inherits command }
+        ensures held { held self.new ≡ held self.old }
+        ensures launches { LaunchesWhere ⊤ (launch_of command) SystemFault.Memory
+            (log self.old) (log self.new) result };
+
+    /// Waits for the end of a program. A status that was told before is told again.
+    fn wait(&mut self, child: &mut Child<Self::Started>) -> Result<ExitStatus, SystemFault>
+        ensures again { IfSome (child_status child.old) (λ told. result ≡ Ok told) }
+        ensures stays { IfSome (child_status child.old)
+            (λ told. child_status child.new ≡ Some told) }
+        ensures kept { IfOk result (λ status. child_status child.new ≡ Some status) }
+        ensures held { held self.new ≡ held self.old }
+        ensures counts { Counts SystemFault.Memory (log self.old) (log self.new) result };
+
+    /// Lets so much time pass.
+    fn pause(&self, time: Duration);
 }

@@ -1,41 +1,47 @@
 // Tools as child programs.
-ghost use Rattle.std.specs.Prelude.{◌≡◌, ◌<◌, ◌++◌, ◌∷◌, [], map, drop, length, vec_len, vec_capacity, IfOk, OnOk};
-ghost use Rattle.std.specs.List.{HoldsAt};
-ghost use Rattle.std.specs.Process.{child_status};
+ghost use Rattle.std.specs.Prelude.{◌≡◌, ◌<◌, ◌++◌, ◌∷◌, [], ℕ, List, Some, Err, map, length, option_map, string_bytes, vec_len, vec_capacity, IfOk, OnOk, OnErr};
+ghost use Rattle.std.specs.List.{All};
 ghost use Rattle.odin_outside.specs.Causes.{once_more, IsCounted};
 ghost use Rattle.odin_outside.specs.Spawned.{IsLeastFree, begun, Fails, Ends, LosesAt};
-ghost use Rattle.odin_children.specs.Ends.{HasLeft};
-ghost use Rattle.odin_children.specs.Folders.{laid_out, SameBut};
+ghost use Rattle.odin_children.specs.Finishes.{CanBeGiven, Finishes};
+ghost use Rattle.odin_children.specs.Seen.{seen_of};
+ghost use Rattle.odin_children.specs.Starts.{IsHome, IsPlace, IsLaunched, IsStartable, IsStarted, CanStart};
 ghost use Rattle.odin_children.specs.Told.{told_of};
+ghost use Rattle.odin_children.specs.Logs.{Counts, CountsWhere, FailsWhere};
 
-use crate::folders::Folders;
+use crate::homes::{folder_in, open_home};
 use crate::program::{Started, start_child};
-use crate::slots::{end_oldest, least_free, take_oldest};
+use crate::slots::{end_at, least_free, take_at};
+use crate::system::System;
+use crate::waits::wait_any;
 use object_values::{Copied, Job, Raw};
 use odin_files::SystemFault;
 use odin_outside::{FinishFault, Running, Spawner, StartFault};
 use std::alloc::Global;
 use std::io::Stderr;
-use std::process::{Child, Processes};
+use std::process::Child;
 
-/// Child programs, at most 64 at once, each in the folder `odin.work/SLOT` of the current folder. The end of the oldest is waited for.
+/// Child programs, at most 64 at once, each in the folder `odin.work/NAME/SLOT` of the current folder. NAME is that of the session: a tool of
+/// an earlier one that runs on writes nothing into a folder of this one. A child program that has ended is given first, the oldest of those.
 #[derive(Drop)]
-pub struct ChildTools<R: Processes + Folders + Drop> {
-    rt: R,
+pub struct ChildTools<S: System + Drop> {
+    system: S,
+    home: Option<String>,
     errors: Stderr,
-    started: Vec<Started<R>>,
+    started: Vec<Started<S>>,
     starts: u64,
     faults: u64,
 }
 
-impl<R: Processes + Folders + Drop> ChildTools<R> {
+impl<S: System + Drop> ChildTools<S> {
     /// None runs yet. What the child programs write goes to `errors`.
-    pub fn new(alloc: Global, rt: R, errors: Stderr) -> Self
+    pub fn new(alloc: Global, system: S, errors: Stderr) -> Self
         ensures idle { result.started.items ≡ [] }
         ensures faults { result.faults ≡ 0 }
     {
         ChildTools {
-            rt,
+            system,
+            home: None,
             errors,
             started: Vec::new(alloc),
             starts: 0,
@@ -47,6 +53,8 @@ impl<R: Processes + Folders + Drop> ChildTools<R> {
         ensures counted { IsCounted self.old.faults self.new.faults }
         ensures started { self.new.started ≡ self.old.started }
         ensures starts { self.new.starts ≡ self.old.starts }
+        ensures system { self.new.system ≡ self.old.system }
+        ensures home { self.new.home ≡ self.old.home }
     {
         self.faults = self.faults.saturating_add(1);
     }
@@ -59,53 +67,141 @@ impl<R: Processes + Folders + Drop> ChildTools<R> {
             self.old.faults)
             (told_of (map (λ tool. tool.running) self.new.started.items) self.new.starts
             self.new.faults) }
+        ensures system { self.new.system ≡ self.old.system }
+        ensures home { self.new.home ≡ self.old.home }
     {
         self.count_fault();
         Err(StartFault::Failed)
     }
 
+    // The path of the folder of a slot, in that of the session, which is made where there is none.
+    fn folder_of(&mut self, alloc: Global, slot: u32) -> Result<String, SystemFault>
+        ensures place { IfOk result (λ folder. IsPlace (option_map string_bytes self.new.home) slot
+            (string_bytes folder) (S.held self.old.system) (S.held self.new.system)) }
+        ensures home { IsHome (option_map string_bytes self.old.home)
+            (option_map string_bytes self.new.home) }
+        ensures counts { Counts SystemFault.Memory (S.log self.old.system)
+            (S.log self.new.system) result }
+        ensures started { self.new.started ≡ self.old.started }
+        ensures starts { self.new.starts ≡ self.old.starts }
+        ensures faults { self.new.faults ≡ self.old.faults }
+    {
+        let home = match self.home.take() {
+            Some(home) => home,
+            None => open_home(&mut self.system, alloc)?,
+        };
+        let folder = folder_in(alloc, home.as_str(), slot);
+        self.home = Some(home);
+        Ok(folder?)
+    }
+
+    // Starts the child program of a job in the folder of a slot, and gives the path of that folder.
+    fn begin(
+        &mut self,
+        alloc: Global,
+        slot: u32,
+        job: &Job,
+    ) -> Result<(String, Child<S::Started>), SystemFault>
+        ensures launched { IfOk result (λ begun. IsLaunched (option_map string_bytes self.new.home)
+            slot job.now (string_bytes begun.0) (S.held self.old.system) (S.held self.new.system)
+            (S.log self.old.system) (S.log self.new.system)) }
+        ensures home { IsHome (option_map string_bytes self.old.home)
+            (option_map string_bytes self.new.home) }
+        ensures fails { FailsWhere (IsStartable job.now) SystemFault.Memory
+            (S.log self.old.system) (S.log self.new.system) result }
+        ensures started { self.new.started ≡ self.old.started }
+        ensures starts { self.new.starts ≡ self.old.starts }
+        ensures faults { self.new.faults ≡ self.old.faults }
+    {
+        let folder = self.folder_of(alloc, slot)?;
+        let child = start_child(&mut self.system, self.errors, alloc, folder.as_str(), job)?;
+        Ok((folder, child))
+    }
+
+    // Makes room for one more child program that runs.
+    fn make_room(&mut self) -> Result<(), StartFault>
+        ensures room { OnOk result (vec_len self.new.started < vec_capacity self.new.started) }
+        ensures items { self.new.started.items ≡ self.old.started.items }
+        ensures memory { OnErr result (result ≡ Err StartFault.Memory) }
+        ensures starts { self.new.starts ≡ self.old.starts }
+        ensures faults { self.new.faults ≡ self.old.faults }
+        ensures system { self.new.system ≡ self.old.system }
+        ensures home { self.new.home ≡ self.old.home }
+    {
+        match self.started.reserve(1) {
+            Ok(()) => Ok(()),
+            Err(_) => Err(StartFault::Memory),
+        }
+    }
+
     // Adds a child program that runs. Room for it was made before it was started, so that none is lost.
-    fn add(&mut self, running: Running, child: Child<R::Started>)
+    fn add(&mut self, tool: Started<S>)
         requires { vec_len self.old.started < vec_capacity self.old.started }
-        ensures running { map (λ tool. tool.running) self.new.started.items
-            ≡ map (λ tool. tool.running) self.old.started.items ++ running ∷ [] }
+        ensures tools { self.new.started.items ≡ self.old.started.items ++ tool ∷ [] }
         ensures starts { self.new.starts ≡ once_more self.old.starts }
         ensures faults { self.new.faults ≡ self.old.faults }
-        ensures rt { self.new.rt ≡ self.old.rt }
+        ensures system { self.new.system ≡ self.old.system }
+        ensures home { self.new.home ≡ self.old.home }
     {
-        let _ = self.started.push(Started { running, child });
+        let _ = self.started.push(tool);
         self.starts = self.starts.saturating_add(1);
+    }
+
+    /// Waits for the end of each that runs, and gives its result up. Then the folder of the session is removed, as far as it can be. This is
+    /// called at the end of the program, so that no tool writes after it.
+    pub fn wait_rest(&mut self, alloc: Global)
+        ensures none { self.new.started.items ≡ [] }
+        ensures starts { self.new.starts ≡ self.old.starts }
+        ensures faults { self.new.faults ≡ self.old.faults }
+    {
+        while let Some(mut tool) = self.started.pop() {
+            let _ = self.system.wait(&mut tool.child);
+            self.system.discard(alloc, tool.folder.as_str());
+        }
+        if let Some(home) = self.home.take() {
+            self.system.close(alloc, home.as_str());
+        }
     }
 }
 
-impl<R: Processes + Folders + Drop> Spawner for ChildTools<R> {
+impl<S: System + Drop> Spawner for ChildTools<S> {
     ghost use Rattle.std.specs.Prelude.{map};
     ghost use Rattle.odin_children.specs.Told.{told_of};
 
     ghost told = { λ s. told_of (map (λ tool. tool.running) s.started.items) s.starts s.faults };
 
     fn start(&mut self, alloc: Global, job: &Job) -> Result<u32, StartFault>
-        ensures slot { let told = ⟦<ChildTools<R> as Spawner>⟧.told in
+        ensures slot { let told = ⟦<ChildTools<S> as Spawner>⟧.told in
             IfOk result (IsLeastFree (told self.old).running) }
-        ensures ok { let told = ⟦<ChildTools<R> as Spawner>⟧.told in
+        ensures ok { let told = ⟦<ChildTools<S> as Spawner>⟧.told in
             IfOk result (λ slot. told self.new ≡ begun (told self.old) slot job.now) }
-        ensures failed { let told = ⟦<ChildTools<R> as Spawner>⟧.told in
+        ensures failed { let told = ⟦<ChildTools<S> as Spawner>⟧.told in
             result ≡ Err StartFault.Failed → Fails (told self.old) (told self.new) }
-        ensures memory { let told = ⟦<ChildTools<R> as Spawner>⟧.told in
+        ensures memory { let told = ⟦<ChildTools<S> as Spawner>⟧.told in
             result ≡ Err StartFault.Memory → told self.new ≡ told self.old }
-        ensures files { IfOk result (λ slot. R.held self.new.rt slot
-            ≡ laid_out job.now.files (R.held self.old.rt slot)) }
-        ensures folders { IfOk result (λ slot.
-            SameBut slot (R.held self.old.rt) (R.held self.new.rt)) }
+        ensures started { IfOk result (λ slot. IsStarted (map seen_of self.old.started.items)
+            (map seen_of self.new.started.items) (option_map string_bytes self.new.home)
+            slot job.now (S.held self.old.system) (S.held self.new.system)
+            (S.log self.old.system) (S.log self.new.system)) }
+        ensures home { IsHome (option_map string_bytes self.old.home)
+            (option_map string_bytes self.new.home) }
+        ensures fails { FailsWhere
+            (CanStart (map (λ tool. tool.running) self.old.started.items) job.now)
+            StartFault.Memory (S.log self.old.system) (S.log self.new.system) result }
     {
         let Some(slot) = least_free(self.started.as_slice()) else {
             return self.refuse();
         };
         let kept = job.copy(alloc)?;
-        self.started.reserve(1).map_err(|_| StartFault::Memory)?;
-        match start_child(&mut self.rt, self.errors, alloc, slot, job) {
-            Ok(child) => {
-                self.add(Running { slot, job: kept }, child);
+        self.make_room()?;
+        match self.begin(alloc, slot, job) {
+            Ok((folder, child)) => {
+                let running = Running { slot, job: kept };
+                self.add(Started {
+                    running,
+                    folder,
+                    child,
+                });
                 Ok(slot)
             }
             Err(SystemFault::Memory) => Err(StartFault::Memory),
@@ -114,27 +210,28 @@ impl<R: Processes + Folders + Drop> Spawner for ChildTools<R> {
     }
 
     fn finish(&mut self, alloc: Global) -> Result<(u32, Raw), FinishFault>
-        requires { 0 < length (⟦<ChildTools<R> as Spawner>⟧.told self.old).running }
-        ensures ok { let told = ⟦<ChildTools<R> as Spawner>⟧.told in
+        requires { 0 < length (⟦<ChildTools<S> as Spawner>⟧.told self.old).running }
+        ensures ok { let told = ⟦<ChildTools<S> as Spawner>⟧.told in
             IfOk result (λ end. Ends (told self.old) end.0 end.1 (told self.new)) }
-        ensures lost { let told = ⟦<ChildTools<R> as Spawner>⟧.told in
+        ensures lost { let told = ⟦<ChildTools<S> as Spawner>⟧.told in
             LosesAt (told self.old) (told self.new) result }
-        ensures memory { let told = ⟦<ChildTools<R> as Spawner>⟧.told in
+        ensures memory { let told = ⟦<ChildTools<S> as Spawner>⟧.told in
             result ≡ Err FinishFault.Memory → told self.new ≡ told self.old }
-        ensures others { OnOk result
-            (self.new.started.items ≡ drop 1 self.old.started.items) }
-        ensures left { IfOk result (λ end. HoldsAt (λ tool. HasLeft tool.running
-            (child_status tool.child) (R.held self.old.rt) (R.held self.new.rt) end.1)
-            self.old.started.items 0) }
-        ensures folders { result ≡ Err FinishFault.Memory →
-            R.held self.new.rt ≡ R.held self.old.rt }
+        ensures finishes { Finishes (map seen_of self.old.started.items)
+            (map seen_of self.new.started.items) (S.held self.old.system)
+            (S.held self.new.system) result }
+        ensures home { self.new.home ≡ self.old.home }
+        ensures counts { CountsWhere
+            (All (CanBeGiven (S.held self.old.system)) (map seen_of self.old.started.items))
+            FinishFault.Memory (S.log self.old.system) (S.log self.new.system) result }
     {
-        match end_oldest(&mut self.started, alloc, &mut self.rt) {
-            Ok(raw) => Ok((take_oldest(&mut self.started), raw)),
+        let place = wait_any(&self.system, &mut self.started);
+        match end_at(&mut self.started, place, alloc, &mut self.system) {
+            Ok(raw) => Ok((take_at(&mut self.started, place), raw)),
             Err(SystemFault::Memory) => Err(FinishFault::Memory),
             Err(SystemFault::Failed) => {
                 self.count_fault();
-                Err(FinishFault::Failed(take_oldest(&mut self.started)))
+                Err(FinishFault::Failed(take_at(&mut self.started, place)))
             }
         }
     }

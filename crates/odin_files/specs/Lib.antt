@@ -1,1 +1,7 @@
+pub mod Answers
+pub mod Hold
+pub mod Names
+pub mod Opens
+pub mod Raw
 pub mod Silent
+pub mod Standings

@@ -1,228 +1,269 @@
 // One file as a disk.
-ghost use Rattle.std.specs.Prelude.{◌≡◌, ◌+◌, ◌^◌, ◌≤◌, length, true, false, IsErr, IfOk, OnOk};
-ghost use Rattle.std.specs.Fs.{asks_read, asks_write, asks_create, asks_truncate};
-ghost use Rattle.odin_outside.specs.Causes.{HasCause};
-ghost use Rattle.odin_outside.specs.Disk.{size_with};
+ghost use Rattle.std.specs.Prelude.{◌≡◌, ◌+◌, ◌^◌, ◌≤◌, IsTrue, length, Option, None, IfOk, OnOk, OnErr};
+ghost use Rattle.std.specs.Option.{ForSome};
+ghost use Rattle.odin_outside.specs.Causes.{IsCounted, once_more};
+ghost use Rattle.odin_outside.specs.Disk.{Goes, Gives, SeesSame, SeesCut, SeesTaken, SeesTorn, SeesWritten, cut_to, same_pending, size_with, synced_as, wrote};
+ghost use Rattle.odin_files.specs.Raw.{HasSize, Stays, Syncs, idle, size_over};
+ghost use Rattle.odin_files.specs.Standings.{Fares, IsHeld, IsReady, StaysSeen, Stands, WasSeen, is_gone, is_in_use};
 
+use crate::opening::{found, made};
+use crate::raw::RawFile;
+use crate::standing::Standing;
 use odin_outside::{Disk, Failed};
-use std::fs::{self, File, OpenOptions};
-use std::io::{self, Error, ErrorKind};
-use std::os::unix::fs::FileExt;
-use std::rt::Files;
 
-/// One file, with its size and the count of its errors. It was synced when it was made. Where it could not be opened or synced, each
-/// call fails, and so it is after a sync that failed, since a later one could not tell what was lost.
+/// One file as a disk, with its size and the count of its faults. A file that isn't there yet is made by the first call that writes, cuts or syncs. Its
+/// lock is held, and before each change it is looked at: it must stand under its own name and be as long as it was left. After a fault each
+/// call fails, since a later one could not tell what was lost.
 #[derive(Drop)]
-pub struct FileDisk {
-    file: Option<File>,
+pub struct FileDisk<F: RawFile + Drop> {
+    file: F,
     size: u64,
+    standing: Standing,
     faults: u64,
+    ghost stands: { Stands standing (F.told file) (F.hold file) size },
 }
 
-// The path of the folder that holds a file.
-fn folder_of(path: &str) -> &str {
-    match path.rsplit_once('/') {
-        Some(("", _)) => "/",
-        Some((folder, _)) => folder,
-        None => ".",
-    }
-}
-
-// Syncs the folder of a file, so that its name is there after a crash too. Some systems have no sync of a folder, or no leave to open it.
-fn sync_name<R: Files<File = File>>(rt: &R, path: &str) -> io::Result<()> {
-    match fs::open(rt, folder_of(path)).and_then(|folder| folder.sync_all()) {
-        Err(error) if error.kind() == ErrorKind::InvalidInput => Ok(()),
-        Err(error) if error.kind() == ErrorKind::PermissionDenied => Ok(()),
-        synced => synced,
-    }
-}
-
-// How the file is opened: it is read and written, and made where there is none. What it holds stays.
-fn read_and_write() -> OpenOptions
-    ensures read { asks_read result ≡ true }
-    ensures write { asks_write result ≡ true }
-    ensures create { asks_create result ≡ true }
-    ensures kept { asks_truncate result ≡ false }
+// Counts a fault, and gives the file up.
+fn give_up(standing: &mut Standing, faults: &mut u64) -> Failed
+    ensures counted { faults.new ≡ once_more faults.old }
+    ensures rose { IsCounted faults.old faults.new }
+    ensures used { is_in_use standing.new ≡ is_in_use standing.old }
+    ensures gone { IsTrue (is_gone standing.new) }
 {
-    let mut options = OpenOptions::new();
-    options.read(true).write(true).create(true);
-    options
+    *faults = faults.saturating_add(1);
+    if *standing != Standing::InUse {
+        *standing = Standing::Lost;
+    }
+    Failed
 }
 
-// A file that is there and synced, and its size.
-fn open_synced<R: Files<File = File>>(rt: &R, path: &str) -> io::Result<(File, u64)> {
-    let file = read_and_write().open(rt, path)?;
-    let found = file.metadata()?;
-    if !found.is_file() {
-        return Err(Error::from(ErrorKind::InvalidInput));
-    }
-    file.sync_all()?;
-    sync_name(rt, path)?;
-    Ok((file, found.len()))
-}
-
-impl FileDisk {
-    /// The file at a path, which is made where there is none.
-    pub fn open<R: Files<File = File>>(rt: &R, path: &str) -> Self
-        ensures { result.faults ≡ 0 }
+impl<F: RawFile + Drop> FileDisk<F> {
+    /// A disk over a file, which is locked, looked at and synced where it is there.
+    pub fn open(file: F) -> Self
+        ensures faults { result.faults ≡ 0 }
+        ensures syncs { Syncs (F.told file) (F.told result.file) }
+        ensures opened { result.standing ≡ Standing.Open
+            → IsHeld (F.told result.file) (F.hold result.file) result.size }
     {
-        match open_synced(rt, path) {
-            Ok((file, size)) => FileDisk {
-                file: Some(file),
-                size,
-                faults: 0,
-            },
-            Err(_) => FileDisk {
-                file: None,
-                size: 0,
-                faults: 0,
-            },
+        let mut file = file;
+        let (standing, size) = found(&mut file);
+        FileDisk {
+            file,
+            size,
+            standing,
+            faults: 0,
         }
     }
 
-    fn opened(&self) -> io::Result<&File>
-        ensures { self.now.file ≡ None → IsErr result }
+    /// Whether another program has the lock of the file.
+    pub fn is_in_use(&self) -> bool
+        ensures standing { result ≡ is_in_use self.now.standing }
+        ensures told { ForSome (F.hold self.now.file) (λ h. h.others ≡ result) }
     {
-        match &self.file {
-            Some(file) => Ok(file),
-            None => Err(Error::from(ErrorKind::NotFound)),
-        }
+        self.standing == Standing::InUse
     }
 
-    // The open file, where it has so many bytes: another program may have cut it, and a write behind its end would leave a gap.
-    fn reaching(&self, size: u64) -> io::Result<&File>
-        ensures { self.now.file ≡ None → IsErr result }
-    {
-        let file = self.opened()?;
-        if file.metadata()?.len() < size {
-            return Err(Error::from(ErrorKind::UnexpectedEof));
-        }
-        Ok(file)
-    }
-
-    fn look(&self) -> io::Result<()>
-        ensures { self.now.file ≡ None → IsErr result }
-    {
-        self.reaching(self.size)?;
-        Ok(())
-    }
-
-    fn fill(&self, at: u64, into: &mut [u8]) -> io::Result<()>
-        ensures length { length into.new ≡ length into.old }
-        ensures gone { self.now.file ≡ None → IsErr result }
-    {
-        self.opened()?.read_exact_at(into, at)
-    }
-
-    fn put(&self, at: u64, bytes: &[u8]) -> io::Result<()>
-        ensures { self.now.file ≡ None → IsErr result }
-    {
-        self.reaching(at)?.write_all_at(bytes, at)
-    }
-
-    fn shorten(&self, size: u64) -> io::Result<()>
-        ensures { self.now.file ≡ None → IsErr result }
-    {
-        self.reaching(size)?.set_len(size)
-    }
-
-    fn flush(&self) -> io::Result<()>
-        ensures { self.now.file ≡ None → IsErr result }
-    {
-        self.opened()?.sync_all()
-    }
-
-    // The failure of a call, which is counted.
-    fn fail<T>(&mut self) -> Result<T, Failed>
-        ensures err { IsErr result }
+    // Makes the file where none stood there.
+    fn make_absent(&mut self)
+        ensures stays { Stays (F.told self.old.file) (F.told self.new.file) }
+        ensures there { ¬ (self.new.standing ≡ Standing.Absent) }
+        ensures gone { IsTrue (is_gone self.old.standing) → self.new.standing ≡ self.old.standing }
         ensures size { self.new.size ≡ self.old.size }
-        ensures file { self.new.file ≡ self.old.file }
-        ensures cause { HasCause self.old.faults self.new.faults result }
+        ensures faults { self.new.faults ≡ self.old.faults }
     {
-        self.faults = self.faults.saturating_add(1);
-        Err(Failed)
+        if self.standing == Standing::Absent {
+            self.standing = made(&mut self.file);
+        }
+    }
+
+    // Whether the open file stands under its own name, and is as long as it was left.
+    fn is_as_left(&mut self) -> bool
+        ensures ready { IsTrue result → ForSome (F.hold self.new.file) (StaysSeen self.old.size) }
+        ensures stays { Stays (F.told self.old.file) (F.told self.new.file) }
+        ensures standing { self.new.standing ≡ self.old.standing }
+        ensures open { IsTrue result → self.old.standing ≡ Standing.Open }
+        ensures size { self.new.size ≡ self.old.size }
+        ensures faults { self.new.faults ≡ self.old.faults }
+    {
+        if self.standing != Standing::Open {
+            return false;
+        }
+        match self.file.look() {
+            Ok(Some(size)) => size == self.size,
+            _ => false,
+        }
+    }
+
+    // Whether nothing stands there still, or the file is as it was left.
+    fn is_still(&mut self) -> bool
+        ensures size_told { IsTrue result → HasSize (F.told self.new.file) self.new.size }
+        ensures look { IsTrue result → self.new.standing ≡ Standing.Open
+            → ForSome (F.hold self.new.file) (StaysSeen self.old.size) }
+        ensures stays { Stays (F.told self.old.file) (F.told self.new.file) }
+        ensures standing { self.new.standing ≡ self.old.standing }
+        ensures gone { IsTrue result → ¬ IsTrue (is_gone self.old.standing) }
+        ensures size { self.new.size ≡ self.old.size }
+        ensures faults { self.new.faults ≡ self.old.faults }
+    {
+        if self.standing == Standing::Absent {
+            return self.is_absent();
+        }
+        self.is_as_left()
+    }
+
+    // Whether nothing stands there still.
+    fn is_absent(&mut self) -> bool
+        requires { self.old.standing ≡ Standing.Absent }
+        ensures stays { Stays (F.told self.old.file) (F.told self.new.file) }
+        ensures standing { self.new.standing ≡ self.old.standing }
+        ensures size { self.new.size ≡ self.old.size }
+        ensures faults { self.new.faults ≡ self.old.faults }
+    {
+        match self.file.find() {
+            Ok(found) => !found,
+            Err(_) => false,
+        }
+    }
+
+    // Whether the file may be changed: it is made where none stood there, and looked at.
+    fn is_ready(&mut self) -> bool
+        ensures ready { IsTrue result → IsReady self.new.standing (F.hold self.new.file) self.new.size }
+        ensures stays { Stays (F.told self.old.file) (F.told self.new.file) }
+        ensures gone { IsTrue (is_gone self.old.standing) → ¬ IsTrue result }
+        ensures size { self.new.size ≡ self.old.size }
+        ensures faults { self.new.faults ≡ self.old.faults }
+    {
+        self.make_absent();
+        self.is_as_left()
     }
 }
 
-impl Disk for FileDisk {
-    ghost use Rattle.std.specs.Prelude.{◌≡◌};
-    ghost use Rattle.std.proofs.lemmas.Bool.{false≢true};
-    ghost use Rattle.odin_files.specs.Silent.{silent};
+impl<F: RawFile + Drop> Disk for FileDisk<F> {
+    ghost use Rattle.std.specs.Prelude.{◌≡◌, length, if◌then◌else◌};
+    ghost use Rattle.std.proofs.Common.{ap};
 
-    ghost told = { λ _. silent };
+    ghost told = { λ d. idle (F.told d.file) };
 
-    ghost size_of = { λ d. d.size };
+    ghost size_of = { λ d. size_over (F.told d.file) d.size };
 
     ghost faults = { λ d. d.faults };
 
-    ghost sized = { λ d follows. absurd (false≢true follows) };
+    ghost sized = { λ d follows. ap (λ b. if b then length (F.told d.file).seen else d.size) follows };
 
-    ghost reads_image = { λ d follows. absurd (false≢true follows) };
+    ghost reads_image = { λ d follows. F.reads_image d.file follows };
 
-    ghost counts_now = { λ d t c follows le left. absurd (false≢true follows) };
+    ghost counts_now = { λ d t c follows le left. F.counts_now d.file t c follows le left };
 
-    ghost only_now = { λ d c follows left. absurd (false≢true follows) };
+    ghost only_now = { λ d c follows left. F.only_now d.file c follows left };
 
     fn size(&mut self) -> Result<u64, Failed>
-        ensures size { IfOk result (λ n. n ≡ self.old.size) }
-        ensures kept { OnOk result (self.new.size ≡ self.old.size) }
-        ensures cause { HasCause self.old.faults self.new.faults result }
-        ensures gone { self.old.file ≡ None → IsErr result × (self.new.file ≡ None) }
+        ensures size { IfOk result (λ n. n ≡ size_over (F.told self.old.file) self.old.size) }
+        ensures kept { OnOk result (size_over (F.told self.new.file) self.new.size
+            ≡ size_over (F.told self.old.file) self.old.size) }
+        ensures seen { SeesSame (F.told self.old.file) (F.told self.new.file) }
+        ensures goes { let old = idle (F.told self.old.file) in
+            Goes same_pending old (idle (F.told self.new.file)) result }
+        ensures look { OnOk result (self.new.standing ≡ Standing.Open
+            → ForSome (F.hold self.new.file) (StaysSeen self.old.size)) }
+        ensures fares { Fares self.old.standing self.new.standing
+            self.old.faults self.new.faults result }
     {
-        match self.look() {
-            Ok(()) => Ok(self.size),
-            Err(_) => self.fail(),
+        if !self.is_still() {
+            return Err(give_up(&mut self.standing, &mut self.faults));
         }
+        Ok(self.size)
     }
 
     fn read(&mut self, at: u64, into: &mut [u8]) -> Result<(), Failed>
-        requires { at + length into.old ≤ self.old.size }
-        ensures kept { OnOk result (self.new.size ≡ self.old.size) }
-        ensures cause { HasCause self.old.faults self.new.faults result }
-        ensures gone { self.old.file ≡ None → IsErr result × (self.new.file ≡ None) }
+        requires { at + length into.old ≤ size_over (F.told self.old.file) self.old.size }
+        ensures bytes { OnOk result
+            (Gives at (length into.old) (F.told self.old.file) into.new) }
+        ensures kept { OnOk result (size_over (F.told self.new.file) self.new.size
+            ≡ size_over (F.told self.old.file) self.old.size) }
+        ensures seen { SeesSame (F.told self.old.file) (F.told self.new.file) }
+        ensures goes { let old = idle (F.told self.old.file) in
+            Goes same_pending old (idle (F.told self.new.file)) result }
+        ensures fares { Fares self.old.standing self.new.standing
+            self.old.faults self.new.faults result }
     {
-        match self.fill(at, into) {
-            Ok(()) => Ok(()),
-            Err(_) => self.fail(),
+        if self.standing == Standing::Absent {
+            return Ok(());
         }
+        if self.standing != Standing::Open {
+            return Err(give_up(&mut self.standing, &mut self.faults));
+        }
+        if self.file.read_at(at, into).is_err() {
+            return Err(give_up(&mut self.standing, &mut self.faults));
+        }
+        Ok(())
     }
 
     fn write_at(&mut self, at: u64, bytes: &[u8]) -> Result<(), Failed>
-        requires inside { at ≤ self.old.size }
+        requires inside { at ≤ size_over (F.told self.old.file) self.old.size }
         requires end { at + length bytes.now ≤ 2 ^ 30 }
-        ensures size { OnOk result (self.new.size ≡ size_with self.old.size at bytes.now) }
-        ensures cause { HasCause self.old.faults self.new.faults result }
-        ensures gone { self.old.file ≡ None → IsErr result × (self.new.file ≡ None) }
+        ensures written { OnOk result
+            (SeesWritten at bytes.now (F.told self.old.file) (F.told self.new.file)) }
+        ensures size { OnOk result (size_over (F.told self.new.file) self.new.size
+            ≡ size_with (size_over (F.told self.old.file) self.old.size) at bytes.now) }
+        ensures err { OnErr result
+            (SeesTorn at bytes.now (F.told self.old.file) (F.told self.new.file)) }
+        ensures goes { let old = idle (F.told self.old.file) in
+            Goes (wrote at (length bytes.now)) old (idle (F.told self.new.file)) result }
+        ensures look { OnOk result (ForSome (F.hold self.new.file) (WasSeen self.old.size)) }
+        ensures fares { Fares self.old.standing self.new.standing
+            self.old.faults self.new.faults result }
     {
-        if self.put(at, bytes).is_err() {
-            return self.fail();
+        if !self.is_ready() {
+            return Err(give_up(&mut self.standing, &mut self.faults));
+        }
+        if self.file.write_at(at, bytes).is_err() {
+            return Err(give_up(&mut self.standing, &mut self.faults));
         }
         self.size = self.size.max(at + bytes.len() as u64);
         Ok(())
     }
 
     fn cut(&mut self, size: u64) -> Result<(), Failed>
-        requires { size ≤ self.old.size }
-        ensures size { OnOk result (self.new.size ≡ size) }
-        ensures cause { HasCause self.old.faults self.new.faults result }
-        ensures gone { self.old.file ≡ None → IsErr result × (self.new.file ≡ None) }
+        requires { size ≤ size_over (F.told self.old.file) self.old.size }
+        ensures seen { OnOk result
+            (SeesTaken size (F.told self.old.file) (F.told self.new.file)) }
+        ensures size { OnOk result (size_over (F.told self.new.file) self.new.size ≡ size) }
+        ensures err { OnErr result
+            (SeesCut size (F.told self.old.file) (F.told self.new.file)) }
+        ensures goes { let old = idle (F.told self.old.file) in
+            Goes (cut_to size) old (idle (F.told self.new.file)) result }
+        ensures look { OnOk result (ForSome (F.hold self.new.file) (WasSeen self.old.size)) }
+        ensures fares { Fares self.old.standing self.new.standing
+            self.old.faults self.new.faults result }
     {
-        if self.shorten(size).is_err() {
-            return self.fail();
+        if !self.is_ready() {
+            return Err(give_up(&mut self.standing, &mut self.faults));
+        }
+        if self.file.cut(size).is_err() {
+            return Err(give_up(&mut self.standing, &mut self.faults));
         }
         self.size = size;
         Ok(())
     }
 
     fn sync(&mut self) -> Result<(), Failed>
-        ensures kept { OnOk result (self.new.size ≡ self.old.size) }
-        ensures cause { HasCause self.old.faults self.new.faults result }
-        ensures gone { self.old.file ≡ None → IsErr result × (self.new.file ≡ None) }
-        ensures given_up { IsErr result → self.new.file ≡ None }
+        ensures kept { OnOk result (size_over (F.told self.new.file) self.new.size
+            ≡ size_over (F.told self.old.file) self.old.size) }
+        ensures seen { SeesSame (F.told self.old.file) (F.told self.new.file) }
+        ensures goes { let old = idle (F.told self.old.file) in
+            Goes (synced_as old) old (idle (F.told self.new.file)) result }
+        ensures look { OnOk result (ForSome (F.hold self.new.file) (StaysSeen self.old.size)) }
+        ensures fares { Fares self.old.standing self.new.standing
+            self.old.faults self.new.faults result }
     {
-        if self.flush().is_err() {
-            self.file = None;
-            return self.fail();
+        if !self.is_ready() {
+            return Err(give_up(&mut self.standing, &mut self.faults));
+        }
+        if self.file.sync().is_err() {
+            return Err(give_up(&mut self.standing, &mut self.faults));
+        }
+        if !self.is_as_left() {
+            return Err(give_up(&mut self.standing, &mut self.faults));
         }
         Ok(())
     }

@@ -1,14 +1,17 @@
 // The front of a file.
-ghost use Rattle.std.specs.Prelude.{◌≡◌, take, Err, IfOk, IsOk, IfSome};
+ghost use Rattle.std.specs.Prelude.{◌≡◌, take, Err, IfOk, IfErr, IsOk, IfSome};
 ghost use Rattle.std.specs.Str.{IsUtf8};
-ghost use Rattle.odin_outside.specs.Files.{file_limit};
+ghost use Rattle.odin_outside.specs.Files.{IsGiven, file_limit};
+ghost use Rattle.odin_files.specs.Opens.{HasOpened, IsAbsentIn, IsOpened, says_absent};
+ghost use Rattle.odin_files.specs.Answers.{answer_of};
 
 use crate::fault::SystemFault;
+use crate::raw_files::RawFiles;
+use crate::system_files::Outputs;
 use object_values::{BODY_LIMIT, Bytes};
 use std::alloc::Global;
-use std::io::{ErrorKind, Read};
+use std::io::{self, ErrorKind, Read};
 use std::rt::Files;
-use std::{fs, io};
 
 /// How many bytes of a file are read at most: one more than a text may have, so that a longer one shows.
 const LIMIT: u64 = BODY_LIMIT as u64 + 1;
@@ -37,38 +40,73 @@ pub fn read_front<R: Read + Drop>(alloc: Global, reader: R) -> Result<Bytes, Sys
     }
 }
 
-// A file that is open for reading, where there is one: no folder and no device.
-fn open_file<R: Files>(rt: &R, path: &str) -> io::Result<Option<R::File>> {
-    if fs::metadata(rt, path)?.is_file() {
-        Ok(Some(fs::open(rt, path)?))
+// Whether such an error says that no file is at the path.
+fn is_absent(kind: ErrorKind) -> bool
+    ensures { result ≡ says_absent kind }
+{
+    kind == ErrorKind::NotFound
+        || kind == ErrorKind::NotADirectory
+        || kind == ErrorKind::FilesystemLoop
+        || kind == ErrorKind::InvalidFilename
+}
+
+// What is answered at an error.
+fn answer_at(error: io::Error) -> Result<Option<Bytes>, SystemFault>
+    ensures { result ≡ answer_of error }
+{
+    if is_absent(error.kind()) {
+        Ok(None)
+    } else {
+        Err(error.into())
+    }
+}
+
+// Opens the file at a path, where one stands there. What stands there is asked first, since opening a device may do something.
+fn open_file<R: RawFiles>(files: &mut R, path: &str) -> io::Result<Option<R::Opened>>
+    ensures ok { IfOk result (IsOpened R.Opened.remaining (R.bodies files.old) path.now) }
+    ensures absent { IfErr result (IsAbsentIn (R.bodies files.old) path.now) }
+    ensures kept { R.bodies files.new ≡ R.bodies files.old }
+    ensures counted { HasOpened (R.opened files.old) (R.opened files.new) }
+{
+    if files.is_file(path)? {
+        files.open(path)
     } else {
         Ok(None)
     }
 }
 
-// Whether such an error says that nothing is at the path.
-fn is_absent(kind: ErrorKind) -> bool {
-    kind == ErrorKind::NotFound
-        || kind == ErrorKind::NotADirectory
-        || kind == ErrorKind::FilesystemLoop
+/// The first 16,777,217 bytes of a file. `None` is said where no file is: nothing, a folder, a device, or a link that leads to none.
+pub fn read_raw<R: RawFiles>(
+    files: &mut R,
+    alloc: Global,
+    path: &str,
+) -> Result<Option<Bytes>, SystemFault>
+    ensures ok { IfOk result (IsGiven (R.bodies files.old) path.now) }
+    ensures kept { R.bodies files.new ≡ R.bodies files.old }
+    ensures counted { HasOpened (R.opened files.old) (R.opened files.new) }
+{
+    match open_file(files, path) {
+        Ok(Some(file)) => Ok(Some(read_front(alloc, file)?)),
+        Ok(None) => Ok(None),
+        Err(error) => answer_at(error),
+    }
 }
 
-/// The first 16,777,217 bytes of a file. `None` is said where no file is: nothing, a folder, a device, or a link that leads to none. No clause says so,
-/// since the system tells neither what stands at a path nor what is in a file.
+/// What `read_raw` gives of the system's file, opened for reading.
 pub fn read_file<R: Files>(
     rt: &R,
     alloc: Global,
     path: &str,
 ) -> Result<Option<Bytes>, SystemFault> {
-    match open_file(rt, path) {
-        Ok(Some(file)) => Ok(Some(read_front(alloc, file)?)),
-        Ok(None) => Ok(None),
-        Err(error) => {
-            if is_absent(error.kind()) {
-                Ok(None)
-            } else {
-                Err(error.into())
-            }
-        }
-    }
+    let mut files = rt;
+    read_raw(&mut files, alloc, path)
+}
+
+/// What `read_raw` gives of a file that a tool left, whatever stands there once it is opened: nothing makes this wait.
+pub fn read_output<R: Files>(
+    rt: &R,
+    alloc: Global,
+    path: &str,
+) -> Result<Option<Bytes>, SystemFault> {
+    read_raw(&mut Outputs::new(rt), alloc, path)
 }

@@ -1,10 +1,11 @@
 -- Over a session no call comes to an outcome twice, and an acknowledged answer survives a crash.
-use Rattle.std.proofs.Common.{◌≡◌, ◌≤◌, ◌+◌, ◌-◌, ℕ, Bool, true, false, cond, List, [], ◌∷◌, ◌++◌, length, take, append-nil, append_assoc, arith, ap, sym, refl, ◌∙◌, subst, inl, inr}
+use Rattle.std.proofs.Common.{◌≡◌, ◌≤◌, ◌+◌, ◌-◌, ℕ, Bool, true, false, cond, List, [], ◌∷◌, ◌++◌, map, length, take, append-nil, append_assoc, arith, ap, sym, refl, ◌∙◌, subst, inl, inr}
 use Rattle.std.specs.Prelude.{Some, None}
 use Rattle.std.proofs.lemmas.List.{length-append, map-append}
 use Rattle.std.proofs.Math.Seq.{take-append-add}
 use Rattle.object_values.specs.declared.calls.Call.{Call}
 use Rattle.object_values.specs.declared.calls.Outcome.{Outcome}
+use Rattle.object_values.specs.declared.jobs.Job.{Job}
 use Rattle.object_values.specs.contracts.calls.CallPartialEq.TheImpl.{ghosts as call_eq}
 use Rattle.object_values.specs.Exact.{call_exact}
 use Rattle.odin_outside.specs.Disk.{MayLeave as MayBeLeft, IsQuiet}
@@ -12,6 +13,7 @@ use Rattle.odin_outside.specs.Spawned.{Spawned}
 use Rattle.disk_trails.specs.Trails.{after, IsPrefix}
 use Rattle.meaning_texts.specs.Lists.{IsIn}
 use Rattle.meaning_texts.proofs.Lemmas.{in_either, in_map}
+use Rattle.meaning_calls.specs.Jobs.{job_of}
 use Rattle.meaning_graph.specs.Graphs.{Text, Graph}
 use Rattle.meaning_derive.specs.Derive.{Sources}
 use Rattle.meaning_records.specs.Tables.{Calls, kept_outcome}
@@ -24,7 +26,8 @@ use Rattle.walk_tables.specs.Calls.{AreOnce}
 use Rattle.plain_derive.specs.Given.{calls_of}
 use Rattle.plain_derive.specs.GivenLaws.{AreNew}
 use Rattle.plain_derive.specs.Flights.{at_rest, off_course, for_spawn}
-use Rattle.plain_derive.proofs.Lemmas.{flown_given, given_are_new, given_or_kept, given_is_in}
+use Rattle.plain_derive.specs.Followed.{LogLeadsTo}
+use Rattle.plain_derive.proofs.Lemmas.{flown_given, given_are_new, given_or_kept, given_is_in, log_stays, log_both, flights_are_logged}
 use Rattle.odin_store.specs.Held.{Held, Change}
 use Rattle.odin_store.specs.Keeping.{store_keeping}
 use Rattle.kept_derive.specs.Runs.{keeps_of, course_of}
@@ -112,6 +115,19 @@ module _ (g : Graph) (s : Sources) (kept : Calls) (limit : ℕ) (text : Text) (s
       let d = refused.drained in
       given_are_new g s (kept_outcome kept) d.node given (flown_given g s (kept_outcome kept) d.node limit before (off_course for_spawn) (at_rest given now) d.run.flown)
 
+  -- the tools' log has the ends of just these calls
+  answer_logged : HasAnswer g s kept limit text said given before now → LogLeadsTo before.log now.log [] (map job_of (calls_of given))
+  answer_logged answer = elim answer.did [
+    | inl alone ↦ subst (λ (z : Calls × Spawned). LogLeadsTo before.log z.1.log [] (map job_of (calls_of z.0))) (λ i. (sym alone.none i, sym alone.told i)) (log_stays before.log)
+    | inr d ↦ flights_are_logged g s (kept_outcome kept) d.node limit before (course_of d.found) (at_rest given now) d.run.flown
+  ]
+
+  reply_logged : IsReply g s kept limit text said given before now → LogLeadsTo before.log now.log [] (map job_of (calls_of given))
+  reply_logged (inl answer) = answer_logged answer
+  reply_logged (inr refused) =
+      let d = refused.drained in
+      flights_are_logged g s (kept_outcome kept) d.node limit before (off_course for_spawn) (at_rest given now) d.run.flown
+
   -- What is kept behind an answer agrees with all that was known at it.
   answer_agrees : HasAnswer g s kept limit text said given before now → Agrees kept given (kept_outcome (kept ++ given))
   answer_agrees answer call o e = elim (given_or_kept (kept_outcome kept) given call o e) [
@@ -124,35 +140,51 @@ module _ (g : Graph) (s : Sources) (kept : Calls) (limit : ℕ) (text : Text) (s
 
 -- ---- over a session
 
-none_came : (old new : State) → new.held.calls ≡ old.held.calls → CameOnce old new
-none_came old new same = record { came = []; kept = same ∙ sym (append-nil old.held.calls); new = none_new old.held.calls [] refl }
+none_came : (old new : State) → new.held.calls ≡ old.held.calls → new.tools ≡ old.tools → CameOnce old new
+none_came old new same tools = record {
+  came = [];
+  kept = same ∙ sym (append-nil old.held.calls);
+  new = none_new old.held.calls [] refl;
+  log = subst (λ (t : Spawned). LogLeadsTo old.tools.log t.log [] []) (sym tools) (log_stays old.tools.log);
+}
+
+-- the same, of a state that is the same
+none_done : (old new : State) → new ≡ old → CameOnce old new
+none_done old new same = none_came old new (ap (λ (s : State). s.held.calls) same) (ap (λ (s : State). s.tools) same)
+
+jobs_both : (calls more : Calls) → ◌≡◌ {A = List Job} (map job_of (calls_of (calls ++ more))) (map job_of (calls_of calls) ++ map job_of (calls_of more))
+jobs_both [] more = refl
+jobs_both (x ∷ calls) more = ap (λ (l : List Job). job_of x.0 ∷ l) (jobs_both calls more)
 
 came_both : (first mid last : State) → CameOnce first mid → CameOnce mid last → CameOnce first last
 came_both first mid last a b = record {
   came = a.came ++ b.came;
   kept = b.kept ∙ ap (λ l. l ++ b.came) a.kept ∙ append_assoc first.held.calls a.came b.came;
   new = new_both first.held.calls a.came b.came a.new (subst (λ l. AreNew (kept_outcome l) b.came) a.kept b.new);
+  log = subst (λ (l : List Job). LogLeadsTo first.tools.log last.tools.log [] l) (sym (jobs_both a.came b.came))
+      (log_both first.tools.log mid.tools.log last.tools.log (map job_of (calls_of a.came)) (map job_of (calls_of b.came)) a.log b.log);
 }
 
 step_once : (g : Graph) (limit : ℕ) (old : State) (c : Command) (body bytes : List ℕ) (new : State) → Step g limit old c body bytes new → CameOnce old new
-step_once g limit old (Put name count) body bytes new step = none_came old new (edits_keep name old new step.makes)
-step_once g limit old (Take name) body bytes new step = none_came old new (edits_keep name old new step.makes)
-step_once g limit old (Remove name) body bytes new step = none_came old new (edits_keep name old new step.makes)
+step_once g limit old (Put name count) body bytes new step = none_came old new (edits_keep name old new step.makes) step.tools
+step_once g limit old (Take name) body bytes new step = none_came old new (edits_keep name old new step.makes) step.tools
+step_once g limit old (Remove name) body bytes new step = none_came old new (edits_keep name old new step.makes) step.tools
 step_once g limit old (Ask text) body bytes new step = record {
   came = step.given;
   kept = ap (λ (h : Held). h.calls) step.makes.held ∙ kept_calls step.given old.held;
   new = reply_new g old.held.sources old.held.calls limit text step.says.said step.given old.tools new.tools step.says.holds;
+  log = reply_logged g old.held.sources old.held.calls limit text step.says.said step.given old.tools new.tools step.says.holds;
 }
-step_once g limit old (Plan text) body bytes new step = none_came old new (ap (λ (s : State). s.held.calls) step.same)
-step_once g limit old ListSources body bytes new step = none_came old new (ap (λ (s : State). s.held.calls) step.1)
-step_once g limit old Kept body bytes new step = none_came old new (ap (λ (s : State). s.held.calls) step.1)
-step_once g limit old Quit body bytes new step = none_came old new (ap (λ (s : State). s.held.calls) step.1)
-step_once g limit old Nothing body bytes new step = none_came old new (ap (λ (s : State). s.held.calls) step.1)
-step_once g limit old Bad body bytes new step = none_came old new (ap (λ (s : State). s.held.calls) step.1)
-step_once g limit old (BadName count) body bytes new step = none_came old new (ap (λ (s : State). s.held.calls) step.1)
+step_once g limit old (Plan text) body bytes new step = none_done old new step.same
+step_once g limit old ListSources body bytes new step = none_done old new step.1
+step_once g limit old Kept body bytes new step = none_done old new step.1
+step_once g limit old Quit body bytes new step = none_done old new step.1
+step_once g limit old Nothing body bytes new step = none_done old new step.1
+step_once g limit old Bad body bytes new step = none_done old new step.1
+step_once g limit old (BadName count) body bytes new step = none_done old new step.1
 
 pub came_once : (g : Graph) (limit : ℕ) (first last : State) (items : List Item) (replies : List (List ℕ)) → Transcript commands (Step g limit) first items replies last → CameOnce first last
-came_once g limit first last [] [] run = none_came first last (ap (λ (s : State). s.held.calls) run)
+came_once g limit first last [] [] run = none_done first last run
 came_once g limit first last [] (bytes ∷ replies) run = absurd run
 came_once g limit first last (item ∷ items) [] run = absurd run
 came_once g limit first last (item ∷ items) (bytes ∷ replies) run =

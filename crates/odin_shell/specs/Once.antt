@@ -1,7 +1,8 @@
 -- What was answered stays answered: over a whole session no call comes to an outcome twice, and an acknowledged answer survives a crash.
-use Rattle.std.specs.Prelude.{◌≡◌, ℕ, List, [], ◌++◌}
+use Rattle.std.specs.Prelude.{◌≡◌, ℕ, List, [], ◌++◌, map}
 use Rattle.odin_outside.specs.Disk.{MayLeave as MayBeLeft, IsQuiet}
 use Rattle.odin_outside.specs.Spawned.{Spawned}
+use Rattle.meaning_calls.specs.Jobs.{job_of}
 use Rattle.meaning_graph.specs.Graphs.{Text, Graph}
 use Rattle.meaning_derive.specs.Derive.{Sources}
 use Rattle.meaning_records.specs.Tables.{Calls, kept_outcome}
@@ -10,6 +11,8 @@ use Rattle.meaning_run.specs.Machines.{AnswersItem, Transcript}
 use Rattle.meaning_commands.specs.declared.commands.Command.{Command}
 use Rattle.meaning_commands.specs.declared.replies.Reply.{Reply}
 use Rattle.odin_store.specs.Held.{Held, StandsFor}
+use Rattle.plain_derive.specs.Followed.{LogLeadsTo}
+use Rattle.plain_derive.specs.Given.{calls_of}
 use Rattle.plain_derive.specs.GivenLaws.{AreNew}
 use Rattle.kept_derive.specs.Runs.{keeps_of}
 use Rattle.odin_answers.specs.Answers.{HasAnswer, IsReply}
@@ -20,12 +23,14 @@ use Rattle.odin_shell.specs.Machine.{State, Told, Makes, Step, MayLeave, IsLeft}
 
 -- ---- over a whole session
 
--- All outcomes that came of tools are kept behind those of before, in their order. None is of a call that was kept, and no two are of one
--- call: no tool was run twice to its end for the same inputs.
+-- All outcomes that came of tools are kept after those of before, in their order. None is of a call that was kept, and no two are of one
+-- call: no tool was run twice to its end for the same inputs. Where the tools' log is told, the tools that came to their end by it are just
+-- those of these calls, in this order, and none that was started runs still.
 pub record CameOnce (first last : State) : Type 0 where
   pub came : Calls
   pub kept : last.held.calls ≡ first.held.calls ++ came
   pub new : AreNew (kept_outcome first.held.calls) came
+  pub log : LogLeadsTo first.tools.log last.tools.log [] (map job_of (calls_of came))
 
 abbrev pub NeverTwice : Type 0
 NeverTwice =

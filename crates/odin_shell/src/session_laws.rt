@@ -16,7 +16,8 @@ pub fn run_is_fresh()
     ensures { RunIsFresh }
 {}
 
-/// Over a session no tool was run twice to its end for the same inputs: what came of tools is of calls that weren't kept, each once.
+/// Over a session no tool was run twice to its end for the same inputs: what came of tools is of calls that weren't kept, each once, and
+/// a log that the tools tell has the ends of just these.
 pub fn never_twice()
     ensures { NeverTwice }
 {}

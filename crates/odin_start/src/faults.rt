@@ -1,10 +1,14 @@
 // What the program says of its exit status.
 ghost use Rattle.std.specs.Prelude.{◌≡◌, ◌≢◌, Some, None};
+ghost use Rattle.odin_start.specs.Lines.{in_use_line};
 
 use thiserror::Error;
 
 /// The exit status for want of memory.
 pub const MEMORY: u8 = 4;
+
+// The exit status for a fault of the disk.
+const DISK: u8 = 3;
 
 /// Why a run ended early, where standard error tells it.
 #[derive(Debug, Drop, Error)]
@@ -13,6 +17,8 @@ pub enum Fault {
     CutShort,
     #[error("odin: disk fault")]
     Disk,
+    #[error("odin: odin.store is in use")]
+    InUse,
     #[error("odin: out of memory")]
     Memory,
     #[error("odin: output fault")]
@@ -36,11 +42,22 @@ pub fn fault_of(status: u8) -> Option<Fault>
 {
     match status {
         1 => Some(Fault::CutShort),
-        3 => Some(Fault::Disk),
+        DISK => Some(Fault::Disk),
         MEMORY => Some(Fault::Memory),
         5 => Some(Fault::Output),
         6 => Some(Fault::Input),
         10 => Some(Fault::TooLong),
         _ => None,
+    }
+}
+
+/// The cause that is told before the fault of the status: another session has the store. It is told where that ended the run, and at no other status.
+pub fn cause_of(status: u8, in_use: bool) -> Option<Fault>
+    ensures { result ≡ in_use_line status in_use }
+{
+    if status == DISK && in_use {
+        Some(Fault::InUse)
+    } else {
+        None
     }
 }

@@ -51,7 +51,7 @@ module _ (g : Graph) (s : Sources) (kept : Outcomes) (n : Node) (limit : ℕ) (b
 
   pub flown_given : (course : Course) (f : Flight) → Flies g s kept n limit before course f → AreGiven g s kept n f.given
   flown_given way f Flies.none_flown = AreGiven.none_given
-  flown_given way f (Flies.one_began o slot call flown may) = flown_given on_course o flown
+  flown_given way f (Flies.one_began o slot call flown may free) = flown_given on_course o flown
   flown_given way f (Flies.one_ended o front back slot call outcome flown is full clear came) = AreGiven.one_more o.given call outcome (flown_given on_course o flown) (full_waits o front back slot call is full)
   flown_given way f (Flies.chain_found o flown refused) = flown_given on_course f flown
   flown_given way f (Flies.start_refused o call tools flown may fails) = flown_given on_course o flown
@@ -61,7 +61,7 @@ module _ (g : Graph) (s : Sources) (kept : Outcomes) (n : Node) (limit : ℕ) (b
 
   pub flown_came : (course : Course) (f : Flight) → Flies g s kept n limit before course f → HaveCome before.answer f.given
   flown_came way f Flies.none_flown = λ call outcome i. absurd i
-  flown_came way f (Flies.one_began o slot call flown may) = flown_came on_course o flown
+  flown_came way f (Flies.one_began o slot call flown may free) = flown_came on_course o flown
   flown_came way f (Flies.one_ended o front back slot call outcome flown is full clear came) = came_more before.answer o.given call outcome (flown_came on_course o flown) came
   flown_came way f (Flies.chain_found o flown refused) = flown_came on_course f flown
   flown_came way f (Flies.start_refused o call tools flown may fails) = flown_came on_course o flown
@@ -71,7 +71,7 @@ module _ (g : Graph) (s : Sources) (kept : Outcomes) (n : Node) (limit : ℕ) (b
 
   pub flown_answer : (course : Course) (f : Flight) → Flies g s kept n limit before course f → f.tools.answer ≡ before.answer
   flown_answer way f Flies.none_flown = refl
-  flown_answer way f (Flies.one_began o slot call flown may) = flown_answer on_course o flown
+  flown_answer way f (Flies.one_began o slot call flown may free) = flown_answer on_course o flown
   flown_answer way f (Flies.one_ended o front back slot call outcome flown is full clear came) = flown_answer on_course o flown
   flown_answer way f (Flies.chain_found o flown refused) = flown_answer on_course f flown
   flown_answer way f (Flies.start_refused o call tools flown may fails) = ap (λ (z : Spawned). z.answer) fails.is ∙ flown_answer on_course o flown
@@ -81,7 +81,7 @@ module _ (g : Graph) (s : Sources) (kept : Outcomes) (n : Node) (limit : ℕ) (b
 
   pub flown_told : before.running ≡ [] → (course : Course) (f : Flight) → Flies g s kept n limit before course f → AreTold f.running f.tools
   flown_told idle way f Flies.none_flown = idle
-  flown_told idle way f (Flies.one_began o slot call flown may) = ap (λ (l : List Running). l ++ tool_of (flying slot call) ∷ []) (flown_told idle on_course o flown) ∙ sym (told_one_more o.running (flying slot call))
+  flown_told idle way f (Flies.one_began o slot call flown may free) = ap (λ (l : List Running). l ++ tool_of (flying slot call) ∷ []) (flown_told idle on_course o flown) ∙ sym (told_one_more o.running (flying slot call))
   flown_told idle way f (Flies.one_ended o front back slot call outcome flown is full clear came) = refl
   flown_told idle way f (Flies.chain_found o flown refused) = flown_told idle on_course f flown
   flown_told idle way f (Flies.start_refused o call tools flown may fails) = ap (λ (z : Spawned). z.running) fails.is ∙ flown_told idle on_course o flown
@@ -92,7 +92,7 @@ module _ (g : Graph) (s : Sources) (kept : Outcomes) (n : Node) (limit : ℕ) (b
   -- no more run than may
   pub flown_few : (course : Course) (f : Flight) → Flies g s kept n limit before course f → length f.running ≤ limit
   flown_few way f Flies.none_flown = omega arith
-  flown_few way f (Flies.one_began o slot call flown may) = omega (arith, may.room, length-append o.running (flying slot call ∷ []))
+  flown_few way f (Flies.one_began o slot call flown may free) = omega (arith, may.room, length-append o.running (flying slot call ∷ []))
   flown_few way f (Flies.one_ended o front back slot call outcome flown is full clear came) = fewer front back (flying slot call) o.running is (flown_few on_course o flown)
   flown_few way f (Flies.chain_found o flown refused) = flown_few on_course f flown
   flown_few way f (Flies.start_refused o call tools flown may fails) = flown_few on_course o flown
@@ -105,13 +105,13 @@ module _ (g : Graph) (s : Sources) (kept : Outcomes) (n : Node) (limit : ℕ) (b
   -- no fault is counted
   pub flown_faults : (f : Flight) → Flies g s kept n limit before on_course f → f.tools.faults ≡ before.faults
   flown_faults f Flies.none_flown = refl
-  flown_faults f (Flies.one_began o slot call flown may) = flown_faults o flown
+  flown_faults f (Flies.one_began o slot call flown may free) = flown_faults o flown
   flown_faults f (Flies.one_ended o front back slot call outcome flown is full clear came) = flown_faults o flown
 
   -- where nothing came and nothing runs nothing happened
   pub none_flew : (f : Flight) → Flies g s kept n limit before on_course f → f.given ≡ [] → f.running ≡ [] → f.tools ≡ before
   none_flew f Flies.none_flown given running = refl
-  none_flew f (Flies.one_began o slot call flown may) given running = absurd (none_between o.running [] (flying slot call) (sym running))
+  none_flew f (Flies.one_began o slot call flown may free) given running = absurd (none_between o.running [] (flying slot call) (sym running))
   none_flew f (Flies.one_ended o front back slot call outcome flown is full clear came) given running = absurd (none_between o.given [] (call, outcome) (sym given))
 
   -- ---- off it
@@ -146,7 +146,7 @@ module _ (g : Graph) (s : Sources) (kept : Outcomes) (n : Node) (limit : ℕ) (b
   -- No tool is touched where the derivation stopped at no call.
   pub none_flies : ((call : Call) → IsCalled g s kept n [] call → ⊥) → (course : Course) (f : Flight) → Flies g s kept n limit before course f → IsUnflown before course f
   none_flies never way f Flies.none_flown = record { none = refl; idle = refl; told = refl; unrefused = λ e. cc }
-  none_flies never way f (Flies.one_began o slot call flown may) = absurd (never call (subst (λ l. IsCalled g s kept n l call) (none_flies never on_course o flown).none may.called))
+  none_flies never way f (Flies.one_began o slot call flown may free) = absurd (never call (subst (λ l. IsCalled g s kept n l call) (none_flies never on_course o flown).none may.called))
   none_flies never way f (Flies.one_ended o front back slot call outcome flown is full clear came) = absurd (none_between front back (flying slot call) (sym (none_flies never on_course o flown).idle ∙ is))
   none_flies never way f (Flies.chain_found o flown refused) = let un = none_flies never on_course f flown in record { none = un.none; idle = un.idle; told = un.told; unrefused = λ e. cc }
   none_flies never way f (Flies.start_refused o call tools flown may fails) = absurd (never call (subst (λ l. IsCalled g s kept n l call) (none_flies never on_course o flown).none may.called))

@@ -13,3 +13,5 @@ pub use Rattle.plain_derive.proofs.LogLemmas.{same_answer, same_faults, none_run
 pub use Rattle.plain_derive.proofs.FlightLemmas.{full_waits, flown_given, flown_came, flown_answer, flown_told, flown_few, flown_faults, none_flew, faults_later, faults_rose, refused_more, off_for_chain, none_flies}
 pub use Rattle.plain_derive.proofs.FlightLemmas.{is_flown, flights_are_few, counted_on, refused_fly_none, known_fly_none, full_is_lesser, founded_rests}
 pub use Rattle.plain_derive.proofs.StartLemmas.{flown_starts, only_needed_starts}
+-- What the log of a flight leads to.
+pub use Rattle.plain_derive.proofs.FollowLemmas.{log_stays, log_both, flown_apart, flights_are_logged}

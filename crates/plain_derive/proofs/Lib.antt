@@ -6,4 +6,5 @@ mod OnLemmas
 mod RunLemmas
 mod FlightLemmas
 mod StartLemmas
+mod FollowLemmas
 pub mod Lemmas

@@ -43,7 +43,7 @@ started_same (Began k j ∷ events) event none = ap (λ l. j ∷ l) (started_sam
 started_same (Ended k ∷ events) event none = started_same events event none
 started_same (Lost k ∷ events) event none = started_same events event none
 
-jobs_more : (calls : List Call) (call : Call) → ◌≡◌ {A = List Job} (map job_of (calls ++ call ∷ [])) (map job_of calls ++ job_of call ∷ [])
+pub jobs_more : (calls : List Call) (call : Call) → ◌≡◌ {A = List Job} (map job_of (calls ++ call ∷ [])) (map job_of calls ++ job_of call ∷ [])
 jobs_more [] call = refl
 jobs_more (c ∷ calls) call = ap (λ (l : List Job). job_of c ∷ l) (jobs_more calls call)
 
@@ -109,7 +109,7 @@ module _ (g : Graph) (s : Sources) (kept : Outcomes) (n : Node) (limit : ℕ) (b
     };
     there = λ call i. absurd i;
   }
-  starts_there f (Flies.one_began o slot call flown may) =
+  starts_there f (Flies.one_began o slot call flown may free) =
       let so = starts_there o flown in
       let is_last : (c : Call) → IsIn c (so.has.calls ++ call ∷ []) → IsIn c so.has.calls ⊎ (c ≡ call) = λ c i. elim (in_either c so.has.calls (call ∷ []) i) [ inl j ↦ inl j | inr (inl e) ↦ inr e | inr (inr none) ↦ absurd none ] in
       record {
@@ -149,7 +149,7 @@ module _ (g : Graph) (s : Sources) (kept : Outcomes) (n : Node) (limit : ℕ) (b
 
   pub starts_so : (course : Course) (f : Flight) → Flies g s kept n limit before course f → HasStarted g s kept n before f
   starts_so way f Flies.none_flown = (starts_there f Flies.none_flown).has
-  starts_so way f (Flies.one_began o slot call flown may) = (starts_there f (Flies.one_began o slot call flown may)).has
+  starts_so way f (Flies.one_began o slot call flown may free) = (starts_there f (Flies.one_began o slot call flown may free)).has
   starts_so way f (Flies.one_ended o front back slot call outcome flown is full clear came) = after_end o (front ++ back) slot call outcome (full_waits g s kept n limit before o front back slot call is full).outside (starts_so on_course o flown)
   starts_so way f (Flies.chain_found o flown refused) = starts_so on_course f flown
   starts_so way f (Flies.start_refused o call tools flown may fails) =
@@ -169,7 +169,7 @@ module _ (g : Graph) (s : Sources) (kept : Outcomes) (n : Node) (limit : ℕ) (b
   -- On its course each call that came or runs was started, and nothing else, as far as the number goes.
   pub flown_starts : (f : Flight) → before.starts ≤ last_count → Flies g s kept n limit before on_course f → f.tools.starts ≡ min (before.starts + (length f.given + length f.running)) last_count
   flown_starts f small Flies.none_flown = omega (arith, small)
-  flown_starts f small (Flies.one_began o slot call flown may) = let old = flown_starts o small flown in omega (arith, old, length-append o.running (flying slot call ∷ []))
+  flown_starts f small (Flies.one_began o slot call flown may free) = let old = flown_starts o small flown in omega (arith, old, length-append o.running (flying slot call ∷ []))
   flown_starts f small (Flies.one_ended o front back slot call outcome flown is full clear came) =
       let old = flown_starts o small flown in
       omega (arith, old, length-append o.given ((call, outcome) ∷ []), ap length is, length-append front (flying slot call ∷ back), length-append front back)

@@ -15,9 +15,10 @@ use Rattle.meaning_derive.specs.Calls.{IsCallFrom, IsFrontier}
 use Rattle.meaning_derive.specs.Laws.{HasMore}
 use Rattle.walk_tables.specs.Calls.{AreOnce}
 use Rattle.derive_walk.specs.Outcomes.{after}
-use Rattle.job_runner.specs.Flights.{AreDistinct, AreTold}
-use Rattle.plain_derive.specs.Given.{AreGiven, HaveCome, IsRefusedBy}
+use Rattle.job_runner.specs.Flights.{tool_of, AreDistinct, AreTold}
+use Rattle.plain_derive.specs.Given.{calls_of, AreGiven, HaveCome, IsRefusedBy}
 use Rattle.plain_derive.specs.Flights.{Flight, Waits, IsFull, Course, on_course, off_course, for_chain, for_spawn, Flies}
+use Rattle.plain_derive.specs.Followed.{LogLeadsTo}
 
 -- ---- how many run
 
@@ -64,6 +65,13 @@ FlightsAreCounted =
     (g : Graph) (s : Sources) (kept : Outcomes) (n : Node) (limit : ℕ) (before : Spawned)
     (course : Course) (f : Flight) → Flies g s kept n limit before course f
     → CountedOn course before f.tools
+
+-- The log leads to just what runs, and to the ends of just the calls that were given outcomes, in their order.
+abbrev pub FlightsAreLogged : Type 0
+FlightsAreLogged =
+    (g : Graph) (s : Sources) (kept : Outcomes) (n : Node) (limit : ℕ) (before : Spawned)
+    (course : Course) (f : Flight) → Flies g s kept n limit before course f
+    → LogLeadsTo before.log f.tools.log (map tool_of f.running) (map job_of (calls_of f.given))
 
 -- ---- what is started
 

@@ -19,7 +19,7 @@ use Rattle.walk_tables.specs.Calls.{Outcomes as Listed}
 use Rattle.derive_walk.specs.Outcomes.{after}
 use Rattle.job_runner.specs.declared.jobs.Flying.{Flying}
 use Rattle.job_runner.specs.Made.{IsOutcomeOf}
-use Rattle.job_runner.specs.Flights.{flying, calls_in, AreDistinct, landed}
+use Rattle.job_runner.specs.Flights.{flying, calls_in, slots_in, AreDistinct, landed}
 use Rattle.plain_derive.specs.Given.{IsRefusedBy}
 
 -- ---- one moment
@@ -94,11 +94,11 @@ pub data Course : Type 0 where
 -- ---- the flight
 
 -- The tools of a derivation, event by event. A start is that of a call at which the derivation stops and that doesn't run, where one more
--- may run. Immediately before each end on its course as many run as may. Once it is off its course nothing is started, and what runs ends
--- or is lost.
+-- may run, in a slot in which none runs. Immediately before each end on its course as many run as may. Once it is off its course nothing is
+-- started, and what runs ends or is lost.
 pub data Flies (g : Graph) (s : Sources) (kept : Outcomes) (n : Node) (limit : ℕ) (before : Spawned) : Course → Flight → Type 0 where
   none_flown : Flies g s kept n limit before on_course (none_flown_yet before)
-  one_began : (f : Flight) (slot : ℕ) (call : Call) → Flies g s kept n limit before on_course f → MayBegin g s kept n limit f call
+  one_began : (f : Flight) (slot : ℕ) (call : Call) → Flies g s kept n limit before on_course f → MayBegin g s kept n limit f call → (IsIn slot (slots_in f.running) → ⊥)
       → Flies g s kept n limit before on_course (begins f slot call)
   one_ended : (f : Flight) (front back : List Flying) (slot : ℕ) (call : Call) (outcome : Outcome) → Flies g s kept n limit before on_course f
       → f.running ≡ front ++ flying slot call ∷ back → IsFull (Waits g s kept n f.given) limit (calls_in f.running) → IsClear g s kept n limit f

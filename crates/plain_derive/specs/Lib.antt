@@ -3,6 +3,7 @@ pub mod Made
 pub mod Given
 pub mod Logs
 pub mod Flights
+pub mod Followed
 pub mod Ways
 pub mod Laws
 pub mod GivenLaws

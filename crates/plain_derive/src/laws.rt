@@ -1,5 +1,5 @@
 //! Laws of what a derivation made. Each is the contract of a function with an empty body.
-ghost use Rattle.plain_derive.specs.FlightLaws.{FullIsLesser, FlightsAreFew, FlightsAreGiven, FlightsAreCounted, OnlyNeededStarts, RefusedFlyNone, KnownFlyNone};
+ghost use Rattle.plain_derive.specs.FlightLaws.{FullIsLesser, FlightsAreFew, FlightsAreGiven, FlightsAreCounted, FlightsAreLogged, OnlyNeededStarts, RefusedFlyNone, KnownFlyNone};
 ghost use Rattle.plain_derive.specs.GivenLaws.{GivenAreAll, GivenAreCalls, GivenAreNew, GivenAreTrue, GivenFit, KeptStays, NoneIsGiven};
 ghost use Rattle.plain_derive.specs.Laws.{FoundByAll, MadeAreCalls, MadeAreOnce, AllAreMade, MadeCountsNone, GivenUpIsCounted};
 
@@ -46,10 +46,12 @@ pub fn flights_are_full()
 {}
 
 /// What came of tools in flight was given at calls at which the derivation stopped, and came of them;
-/// faults are counted where a flight is off its course, and nowhere else.
+/// faults are counted where a flight is off its course, and nowhere else. The log has the ends of just
+/// these calls.
 pub fn flights_are_given()
     ensures given { FlightsAreGiven }
     ensures counted { FlightsAreCounted }
+    ensures logged { FlightsAreLogged }
 {}
 
 /// What is started are calls of the node that are not kept, each once.

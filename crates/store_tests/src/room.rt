@@ -2,7 +2,7 @@
 use crate::given::{Given, call_of, outcome_of, text_of};
 use crate::images::{FRONT, GRAPH};
 use object_values::Status;
-use odin_files::FileDisk;
+use odin_files::{FileDisk, NamedFile};
 use odin_outside::Disk;
 use odin_store::{Store, StoreFault};
 use std::alloc::Global;
@@ -93,7 +93,7 @@ const LAST: u64 = GATE + 99;
 fn a_full_store_tells_its_end_and_the_batch(rt: HostRuntime) -> Result<(), Fail> {
     let _ = fs::remove_file(&rt, PATH);
     make_file(&rt)?;
-    let mut disk = FileDisk::open(&rt, PATH);
+    let mut disk = FileDisk::open(NamedFile::new(&rt, PATH));
     assert!(rt; putting(rt.alloc(), &mut disk, 49) == Err(StoreFault::Full(BEHIND, 71)));
     assert!(rt; putting(rt.alloc(), &mut disk, 48) == Ok((true, LAST)));
     assert!(rt; putting(rt.alloc(), &mut disk, 48) == Ok((false, LAST)));

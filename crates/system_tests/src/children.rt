@@ -2,13 +2,15 @@
 ghost use Rattle.std.specs.Prelude.{◌<◌};
 
 use object_values::{Bytes, FileBody, Job, Memory, Seq, Text};
-use odin_children::ChildTools;
+use odin_children::{ChildTools, HostSystem};
 use odin_outside::{End, FinishFault, Raw, Spawner, StartFault};
 use std::alloc::Global;
-use std::os::unix::fs::symlink;
+use std::fs::{self, Permissions};
+use std::io;
+use std::os::unix::fs::{PermissionsExt, symlink};
 use std::rt::Files;
 use std::test::Fail;
-use std::{fs, io};
+use std::time::{Duration, Instant};
 
 // A job of these words, which finds the file `i1` and leaves `out.a` and `out.b`.
 fn job_of(alloc: Global, words: &[&[u8]]) -> Result<Job, Memory> {
@@ -46,6 +48,33 @@ fn is_left(raw: &Raw, end: End, files: &[(&[u8], &[u8])]) -> bool {
         }
     }
     true
+}
+
+// A session of child programs.
+fn tools_of(rt: &HostRuntime) -> ChildTools<HostSystem<&HostRuntime>> {
+    ChildTools::new(rt.alloc(), HostSystem::new(rt), rt.stderr())
+}
+
+// How many things are in a folder.
+fn count_in(rt: &HostRuntime, path: &str) -> io::Result<u32> {
+    let mut count: u32 = 0;
+    for entry in fs::read_dir(&rt, path)? {
+        entry?;
+        count = count.saturating_add(1);
+    }
+    Ok(count)
+}
+
+// Whether the folders of sessions have nothing but the folder for what is to be removed, with nothing in it.
+fn is_clear(rt: &HostRuntime) -> io::Result<bool> {
+    for entry in fs::read_dir(&rt, "odin.work")? {
+        let entry = entry?;
+        let left = format!(in rt.alloc(); "{}/.moved", entry.path().as_str())?;
+        if count_in(rt, entry.path().as_str())? != 1 || count_in(rt, left.as_str())? != 0 {
+            return Ok(false);
+        }
+    }
+    Ok(true)
 }
 
 // The slot and what is left of the tool that ends next, where one runs.
@@ -99,27 +128,49 @@ const SCRIPTS: &[(&[u8], End, &[(&[u8], &[u8])])] = &[
         End::Exit(0),
         &[(b"out.a", b"new\n")],
     ),
+    // what can't be removed without other rights
+    (
+        b"echo kept > out.a; mkdir -p shut/in; : > shut/f; chmod 0 shut/in; chmod 0555 shut",
+        End::Exit(0),
+        &[(b"out.a", b"kept\n")],
+    ),
+    (
+        b"echo kept > out.a; chmod 0555 .",
+        End::Exit(0),
+        &[(b"out.a", b"kept\n")],
+    ),
+    // a name that is no text
+    (
+        b"mkdir -p \"$(printf 'a\\377')/b/c\" \"b/$(printf '\\377')\"; : > \"b/$(printf '\\377')/c\"; echo kept > out.a",
+        End::Exit(0),
+        &[(b"out.a", b"kept\n")],
+    ),
+    // 10,000 folders in each other
+    (
+        b"p=$(printf 'd/%.0s' $(seq 1000)); mkdir old; for n in $(seq 10); do mkdir -p new/$p; mv old new/$p; mv new old; done",
+        End::Exit(0),
+        &[],
+    ),
 ];
 
 #[test]
 fn scripts_leave_their_files(rt: HostRuntime) -> Result<(), Fail> {
-    let mut tools = ChildTools::new(rt.alloc(), &rt, rt.stderr());
+    let mut tools = tools_of(&rt);
     for (text, end, files) in SCRIPTS {
         let Some(raw) = left_by(rt.alloc(), &mut tools, text)? else {
             assert!(rt; false, "{text:?}");
             continue;
         };
         assert!(rt; is_left(&raw, *end, files), "{text:?}");
-        assert!(rt; !fs::exists(&rt, "odin.work/0")?, "{text:?}");
+        assert!(rt; is_clear(&rt)?, "{text:?}");
     }
     Ok(())
 }
 
 #[test]
 fn an_end_waits_for_no_program_that_was_left_behind(rt: HostRuntime) -> Result<(), Fail> {
-    let mut tools = ChildTools::new(rt.alloc(), &rt, rt.stderr());
-    let _ = fs::remove_file(&rt, "odin.work/late");
-    let text = b"d=$(cd .. && pwd); (sleep 2; : > \"$d/late\") & echo now > out.a";
+    let mut tools = tools_of(&rt);
+    let text = b"d=$(cd ../.. && pwd); (sleep 2; : > \"$d/late\") & echo now > out.a";
     let left = left_by(rt.alloc(), &mut tools, text)?;
     let Some(raw) = left else {
         assert!(rt; false, "no end");
@@ -127,32 +178,40 @@ fn an_end_waits_for_no_program_that_was_left_behind(rt: HostRuntime) -> Result<(
     };
     assert!(rt; is_left(&raw, End::Exit(0), &[(b"out.a", b"now\n")]));
     assert!(rt; !fs::exists(&rt, "odin.work/late")?);
-    assert!(rt; !fs::exists(&rt, "odin.work/0")?);
+    assert!(rt; is_clear(&rt)?);
+    tools.wait_rest(rt.alloc());
     Ok(())
 }
 
-// Leaves something in the place of the folder of the slot 0.
+// Leaves something in the folder of the folders of sessions, as another session may.
 fn leave<R: Files + Alloc>(rt: &R, kind: u8) -> io::Result<()> {
-    let slot = "odin.work/0";
+    let place = "odin.work/0";
     match kind {
-        0 => fs::write(rt, slot, "a file"),
-        1 => symlink(rt, "..", slot),
-        2 => symlink(rt, "none", slot),
-        3 => symlink(rt, "../system_tests.kept", slot),
-        _ => {
+        0 => fs::write(rt, place, "a file"),
+        1 => symlink(rt, "..", place),
+        2 => symlink(rt, "none", place),
+        3 => symlink(rt, "../system_tests.kept", place),
+        4 => {
             fs::create_dir_all(rt, "odin.work/0/i1/deep")?;
             fs::write(rt, "odin.work/0/left", "")
+        }
+        _ => {
+            fs::create_dir_all(rt, "odin.work/other/0/shut")?;
+            symlink(rt, "../../system_tests.kept", "odin.work/other/link")?;
+            fs::write(rt, "odin.work/other/0/shut/left", "")?;
+            fs::set_permissions(rt, "odin.work/other/0/shut", Permissions::from_mode(0o500))?;
+            fs::set_permissions(rt, "odin.work/other", Permissions::from_mode(0o500))
         }
     }
 }
 
 #[test]
-fn what_a_killed_run_left_is_removed(rt: HostRuntime) -> Result<(), Fail> {
-    let mut tools = ChildTools::new(rt.alloc(), &rt, rt.stderr());
+fn what_other_sessions_left_is_removed(rt: HostRuntime) -> Result<(), Fail> {
     fs::create_dir_all(&rt, "odin.work")?;
     fs::create_dir_all(&rt, "system_tests.kept")?;
     fs::write(&rt, "system_tests.kept/left", "stays")?;
-    for kind in 0..5u8 {
+    for kind in 0..6u8 {
+        let mut tools = tools_of(&rt);
         leave(&rt, kind)?;
         let text = b"test -e left || test -h i1 || cat i1 > out.a";
         let Some(raw) = left_by(rt.alloc(), &mut tools, text)? else {
@@ -163,10 +222,97 @@ fn what_a_killed_run_left_is_removed(rt: HostRuntime) -> Result<(), Fail> {
             is_left(&raw, End::Exit(0), &[(b"out.a", b"first\n")]),
             "{kind}"
         );
-        assert!(rt; !fs::exists(&rt, "odin.work/0")?, "{kind}");
+        assert!(rt; count_in(&rt, "odin.work")? == 1, "{kind}");
+        tools.wait_rest(rt.alloc());
+        assert!(rt; count_in(&rt, "odin.work")? == 0, "{kind}");
     }
     assert!(rt; fs::read(&rt, "system_tests.kept/left")?.as_slice() == b"stays".as_slice());
     fs::remove_dir_all(&rt, "system_tests.kept")?;
+    Ok(())
+}
+
+#[test]
+fn where_odin_work_is_no_folder_nothing_is_touched(rt: HostRuntime) -> Result<(), Fail> {
+    let mut tools = tools_of(&rt);
+    fs::create_dir_all(&rt, "odin.work")?;
+    fs::create_dir_all(&rt, "system_tests.kept/0")?;
+    fs::write(&rt, "system_tests.kept/0/left", "stays")?;
+    fs::remove_dir_all(&rt, "odin.work")?;
+    symlink(&rt, "system_tests.kept", "odin.work")?;
+    assert!(rt; is_refused(rt.alloc(), &mut tools, &[b"true"])?);
+    assert!(rt; count_in(&rt, "system_tests.kept")? == 1);
+    assert!(rt; fs::read(&rt, "system_tests.kept/0/left")?.as_slice() == b"stays".as_slice());
+    fs::remove_file(&rt, "odin.work")?;
+    fs::write(&rt, "odin.work", "a file")?;
+    assert!(rt; is_refused(rt.alloc(), &mut tools, &[b"true"])?);
+    assert!(rt; fs::read(&rt, "odin.work")?.as_slice() == b"a file".as_slice());
+    fs::remove_file(&rt, "odin.work")?;
+    assert!(rt; left_by(rt.alloc(), &mut tools, b"exit 0")?.is_some());
+    tools.wait_rest(rt.alloc());
+    fs::remove_dir_all(&rt, "system_tests.kept")?;
+    Ok(())
+}
+
+// Writes late: into its folder, and by the path that this had.
+const ORPHAN: &[u8] =
+    b"d=$PWD; sleep 1; echo late > out.a; echo late > \"$d/out.b\"; echo late > ../0/out.b";
+
+#[test]
+fn a_tool_of_another_session_writes_into_no_folder(rt: HostRuntime) -> Result<(), Fail> {
+    let mut tools = tools_of(&rt);
+    let job = script(rt.alloc(), ORPHAN)?;
+    assert!(rt; tools.start(rt.alloc(), &job) == Ok(0));
+    drop(tools);
+    let mut tools = tools_of(&rt);
+    let Some(raw) = left_by(rt.alloc(), &mut tools, b"sleep 2")? else {
+        assert!(rt; false, "no end");
+        return Ok(());
+    };
+    assert!(rt; is_left(&raw, End::Exit(0), &[]));
+    tools.wait_rest(rt.alloc());
+    assert!(rt; count_in(&rt, "odin.work")? == 0);
+    Ok(())
+}
+
+// Scripts of tools that have no outcome.
+const WITHOUT: [&[u8]; 4] = [
+    b"echo a > out.a; : > no-outcome",
+    b"mkdir no-outcome",
+    b"ln -s none no-outcome",
+    b"mkfifo no-outcome; exit 3",
+];
+
+#[test]
+fn a_tool_without_an_outcome_is_lost(rt: HostRuntime) -> Result<(), Fail> {
+    let mut tools = tools_of(&rt);
+    for text in WITHOUT {
+        let job = script(rt.alloc(), text)?;
+        assert!(rt; tools.start(rt.alloc(), &job) == Ok(0));
+        assert!(rt;
+            next_end(rt.alloc(), &mut tools) == Err(FinishFault::Failed(0)),
+            "{text:?}"
+        );
+        assert!(rt; is_clear(&rt)?);
+        let left = left_by(rt.alloc(), &mut tools, b"echo b > out.b")?;
+        assert!(rt; left.is_some_and(|raw| is_left(&raw, End::Exit(0), &[(b"out.b", b"b\n")])));
+    }
+    tools.wait_rest(rt.alloc());
+    Ok(())
+}
+
+#[test]
+fn the_rest_is_waited_for(rt: HostRuntime) -> Result<(), Fail> {
+    let mut tools = tools_of(&rt);
+    for _ in 0..3u32 {
+        let job = script(rt.alloc(), b"sleep 1; echo > ../../mark.$$")?;
+        assert!(rt; tools.start(rt.alloc(), &job).is_ok());
+    }
+    tools.wait_rest(rt.alloc());
+    assert!(rt; tools.running() == 0);
+    assert!(rt; count_in(&rt, "odin.work")? == 3);
+    assert!(rt; left_by(rt.alloc(), &mut tools, b"exit 0")?.is_some());
+    tools.wait_rest(rt.alloc());
+    assert!(rt; count_in(&rt, "odin.work")? == 0);
     Ok(())
 }
 
@@ -179,47 +325,105 @@ fn is_refused<S: Spawner>(alloc: Global, tools: &mut S, words: &[&[u8]]) -> Resu
 
 #[test]
 fn what_is_no_program_is_not_started(rt: HostRuntime) -> Result<(), Fail> {
-    let mut tools = ChildTools::new(rt.alloc(), &rt, rt.stderr());
+    let mut tools = tools_of(&rt);
     let rows: [&[&[u8]]; 4] = [&[], &[b"no such program"], &[b"\xff"], &[b"./i1"]];
     for words in rows {
         assert!(rt; is_refused(rt.alloc(), &mut tools, words)?);
-        assert!(rt; !fs::exists(&rt, "odin.work/0")?);
+        assert!(rt; is_clear(&rt)?);
     }
+    tools.wait_rest(rt.alloc());
     Ok(())
 }
 
-// Starts so many scripts, of which the first waits for a mark of the last, and gives the slots.
-fn start_many<S: Spawner>(alloc: Global, tools: &mut S, count: u32) -> Result<bool, Memory> {
-    let waits = script(
-        alloc,
-        b"for n in $(seq 1000); do test -e ../mark && break; sleep 0.01; done; test -e ../mark && echo seen > out.a",
+// A script that waits for the mark of a number, where it is below 64, and then makes the mark of the number before.
+fn waiting(alloc: Global, number: u32) -> Result<Job, Memory> {
+    let text = format!(in alloc;
+        "n={number}; for i in $(seq 6000); do test $n = 64 || test -e ../mark.$n && break; sleep 0.01; done; > ../mark.$((n - 1))"
     )?;
-    let marks = script(alloc, b"> ../mark")?;
-    for slot in 0..count {
-        let job = if slot == 0 { &waits } else { &marks };
-        if tools.start(alloc, job) != Ok(slot) {
+    script(alloc, text.as_bytes())
+}
+
+// Starts 64 scripts, each of which waits for the next one, and says whether they got their slots and no more was started.
+fn start_most<S: Spawner>(alloc: Global, tools: &mut S) -> Result<bool, Memory> {
+    for slot in 0..64u32 {
+        if tools.start(alloc, &waiting(alloc, slot + 1)?) != Ok(slot) {
             return Ok(false);
         }
     }
-    Ok(tools.start(alloc, &marks) == Err(StartFault::Failed))
+    Ok(tools.start(alloc, &waiting(alloc, 64)?) == Err(StartFault::Failed))
 }
 
 #[test]
-fn sixty_four_run_at_once_and_the_oldest_ends_first(rt: HostRuntime) -> Result<(), Fail> {
-    let mut tools = ChildTools::new(rt.alloc(), &rt, rt.stderr());
-    let _ = fs::remove_file(&rt, "odin.work/mark");
-    assert!(rt; start_many(rt.alloc(), &mut tools, 64)?);
-    for wanted in 0..64u32 {
+fn sixty_four_run_at_once_and_end_from_the_youngest_on(rt: HostRuntime) -> Result<(), Fail> {
+    let mut tools = tools_of(&rt);
+    assert!(rt; start_most(rt.alloc(), &mut tools)?);
+    let mut slots: u64 = 0;
+    for turn in 0..64u32 {
         let Ok((slot, raw)) = next_end(rt.alloc(), &mut tools) else {
             assert!(rt; false, "no end");
             continue;
         };
-        assert!(rt; slot == wanted);
         assert!(rt; raw.end == End::Exit(0));
-        assert!(rt; (raw.files.len() == 1) == (slot == 0));
+        assert!(rt; turn > 0 || slot > 31);
+        assert!(rt; slot < 64);
+        slots |= 1 << (slot % 64);
     }
+    assert!(rt; slots == u64::MAX);
     assert!(rt; tools.running() == 0);
-    fs::remove_dir_all(&rt, "odin.work")?;
+    tools.wait_rest(rt.alloc());
+    Ok(())
+}
+
+// Scripts that are started together, and in which order they end, where slots are free in the order of the starts.
+const ORDERS: &[(&[&[u8]], &[(u32, End)])] = &[
+    (
+        &[b"sleep 1", b"exit 0"],
+        &[(1, End::Exit(0)), (0, End::Exit(0))],
+    ),
+    // one is killed from outside
+    (
+        &[
+            b"sleep 2",
+            b"echo $$ > ../part; mv ../part ../pid; sleep 9; sleep 9",
+            b"while ! test -e ../pid; do sleep 0.01; done; kill -9 $(cat ../pid); sleep 1",
+        ],
+        &[(1, End::Signal), (2, End::Exit(0)), (0, End::Exit(0))],
+    ),
+];
+
+#[test]
+fn the_first_that_ends_is_given_first(rt: HostRuntime) -> Result<(), Fail> {
+    for (texts, ends) in ORDERS {
+        let mut tools = tools_of(&rt);
+        for text in *texts {
+            let job = script(rt.alloc(), *text)?;
+            assert!(rt; tools.start(rt.alloc(), &job).is_ok());
+        }
+        for (wanted, end) in *ends {
+            let Ok((slot, raw)) = next_end(rt.alloc(), &mut tools) else {
+                assert!(rt; false, "no end");
+                continue;
+            };
+            assert!(rt; slot == *wanted);
+            assert!(rt; raw.end == *end);
+        }
+        tools.wait_rest(rt.alloc());
+    }
+    Ok(())
+}
+
+#[test]
+fn an_end_is_seen_soon(rt: HostRuntime) -> Result<(), Fail> {
+    let mut tools = tools_of(&rt);
+    for text in [b"sleep 5".as_slice(), b"exit 0".as_slice()] {
+        let job = script(rt.alloc(), text)?;
+        assert!(rt; tools.start(rt.alloc(), &job).is_ok());
+    }
+    let start = Instant::now(&rt)?;
+    let end = next_end(rt.alloc(), &mut tools);
+    assert!(rt; end.is_ok_and(|(slot, _)| slot == 1));
+    assert!(rt; start.elapsed(&rt)? < Duration::from_millis(500));
+    tools.wait_rest(rt.alloc());
     Ok(())
 }
 
@@ -231,27 +435,25 @@ const PAIR: [&[u8]; 2] = [
 
 #[test]
 fn two_see_each_other_run(rt: HostRuntime) -> Result<(), Fail> {
-    let mut tools = ChildTools::new(rt.alloc(), &rt, rt.stderr());
-    let _ = fs::remove_dir_all(&rt, "odin.work");
+    let mut tools = tools_of(&rt);
     for text in PAIR {
         let job = script(rt.alloc(), text)?;
         assert!(rt; tools.start(rt.alloc(), &job).is_ok());
     }
-    for wanted in 0..2u32 {
-        let Ok((slot, raw)) = next_end(rt.alloc(), &mut tools) else {
+    for _ in 0..2u32 {
+        let Ok((_, raw)) = next_end(rt.alloc(), &mut tools) else {
             assert!(rt; false, "no end");
             continue;
         };
-        assert!(rt; slot == wanted);
         assert!(rt; raw.end == End::Exit(0));
     }
-    fs::remove_dir_all(&rt, "odin.work")?;
+    tools.wait_rest(rt.alloc());
     Ok(())
 }
 
 #[test]
 fn a_long_output_is_cut(rt: HostRuntime) -> Result<(), Fail> {
-    let mut tools = ChildTools::new(rt.alloc(), &rt, rt.stderr());
+    let mut tools = tools_of(&rt);
     let text = b"head -c 20000000 /dev/zero > out.a";
     let left = left_by(rt.alloc(), &mut tools, text)?;
     let Some(raw) = left else {
@@ -262,5 +464,21 @@ fn a_long_output_is_cut(rt: HostRuntime) -> Result<(), Fail> {
     for file in raw.files.as_slice() {
         assert!(rt; file.body.len() == 16_777_217);
     }
+    Ok(())
+}
+
+#[test]
+fn an_output_whose_name_no_file_can_have_is_missing(rt: HostRuntime) -> Result<(), Fail> {
+    let mut tools = tools_of(&rt);
+    let mut job = script(rt.alloc(), b"echo a > out.a")?;
+    let long = vec![in rt.alloc(); b'x'; 300]?;
+    job.outs.push(Bytes::from_vec(long))?;
+    assert!(rt; tools.start(rt.alloc(), &job).is_ok());
+    let Ok((_, raw)) = next_end(rt.alloc(), &mut tools) else {
+        assert!(rt; false, "no end");
+        return Ok(());
+    };
+    assert!(rt; is_left(&raw, End::Exit(0), &[(b"out.a", b"a\n")]));
+    tools.wait_rest(rt.alloc());
     Ok(())
 }

@@ -1,6 +1,6 @@
 // A journal over a real file: the rows of bytes that a journal in memory has.
 use object_values::{Bytes, Memory};
-use odin_files::FileDisk;
+use odin_files::{FileDisk, NamedFile};
 use odin_journal::{Journal, JournalFault};
 use odin_outside::Disk;
 use std::alloc::Global;
@@ -27,13 +27,13 @@ const HI: &[u8; 72] =
     b"ODINSTO1\0\0\0\0\0\0\0\0\0\0\0\0\0\0\0\x40\0\0\0\0\0\0\0\0\0\0\0\0\0\0\0\0\0\0\0\0\0\0\0\0\0\0\0\0\0\0\0\0\0\0\0\0\0\0\0\0\x01\0\0\0\x02hi\0";
 
 // Adds `hi` to a store that is new, and opens it again.
-fn add_twice<R: Files<File = File>>(
+fn add_twice<R: Files<File = File> + Alloc>(
     rt: &R,
     alloc: Global,
     path: &str,
 ) -> Result<((u64, u64), (u64, usize)), JournalFault> {
-    let first = added(alloc, &mut FileDisk::open(rt, path))?;
-    let second = counted(alloc, &mut FileDisk::open(rt, path))?;
+    let first = added(alloc, &mut FileDisk::open(NamedFile::new(rt, path)))?;
+    let second = counted(alloc, &mut FileDisk::open(NamedFile::new(rt, path)))?;
     Ok((first, second))
 }
 
@@ -96,7 +96,7 @@ fn a_file_is_a_store_or_is_not_ours(rt: HostRuntime) -> Result<(), Fail> {
     for (place, byte, behind, wanted) in FILES {
         let image = image(rt.alloc(), *place, *byte, behind)?;
         fs::write(&rt, path, image.as_slice())?;
-        let mut disk = FileDisk::open(&rt, path);
+        let mut disk = FileDisk::open(NamedFile::new(&rt, path));
         assert!(rt; counted(rt.alloc(), &mut disk) == *wanted);
     }
     fs::remove_file(&rt, path)?;

@@ -1,6 +1,6 @@
 // What the program takes its words to be, and what it says of its exit status.
 use object_values::Memory;
-use odin_start::{fault_of, words_of};
+use odin_start::{cause_of, fault_of, words_of};
 use std::alloc::Global;
 use std::env::{Env, FillError};
 use std::test::Fail;
@@ -76,6 +76,13 @@ fn tells_the_faults_of_statuses(rt: HostRuntime) -> Result<(), Fail> {
             "at {status}"
         );
     }
+    let Some(cause) = cause_of(3, true) else {
+        assert!(rt; false, "no cause");
+        return Ok(());
+    };
+    assert!(rt; cause.to_string(rt.alloc())?.as_str() == "odin: odin.store is in use");
+    assert!(rt; cause_of(3, false).is_none());
+    assert!(rt; cause_of(5, true).is_none());
     for status in [0, 2, 9] {
         assert!(rt; fault_of(status).is_none(), "at {status}");
     }

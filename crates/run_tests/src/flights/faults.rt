@@ -32,8 +32,8 @@ fn replies_with(alloc: Global, answer: &[u8], kept: usize) -> Result<Vec<u8>, Me
     Ok(replies)
 }
 
-// Whether nothing was started behind the events that were counted before this one, from 1.
-fn starts_nothing_behind(log: &[ToolEvent], number: usize) -> bool {
+// Whether nothing was started after the events that were counted before this one, from 1.
+fn starts_nothing_after(log: &[ToolEvent], number: usize) -> bool {
     log.iter()
         .skip(number.saturating_sub(1))
         .all(|event| !matches!(event, ToolEvent::Began(_, _)))
@@ -52,7 +52,7 @@ fn drains(alloc: Global, places: &[u32], number: u32) -> Result<bool, Memory> {
     let log = tools.inner().log();
     let events = Events::of(log);
     let refused = replies_with(alloc, b"refused tool start\n", events.ended)?;
-    let drained = starts_nothing_behind(log, number as usize) && tools.running() == 0;
+    let drained = starts_nothing_after(log, number as usize) && tools.running() == 0;
     let left = CALLS.saturating_sub(events.ended);
     Ok(
         first.replied(refused.as_slice())

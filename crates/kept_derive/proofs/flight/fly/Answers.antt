@@ -16,8 +16,8 @@ use Rattle.kept_derive.proofs.flight.fly.Goals as goal
 
 pub loop-init : goal.loop-init
 loop-init g c = record {
-  way = start g.D.Disk.told _ _ _ c.changes_follow.ensures _ _ c.requires.first c.requires.rested.0 c.requires.derivable.fits (kept_fit _ (search (rules, c.fit.ensures)));
-  still = ap (λ (z : Walked). z.result) c.requires.first;
+  way = start g.D.Disk.told _ _ _ c.changes_follow.ensures _ _ c.requires.unbegun.walk c.requires.unbegun.rested c.requires.derivable.fits (kept_fit _ (search (rules, c.fit.ensures)));
+  still = ap (λ (z : Walked). z.result) c.requires.unbegun.walk;
   fresh = λ e. let no : false ≡ true = e in cc;
   ready = c.requires.idle.ready;
   limit = refl;
@@ -33,7 +33,10 @@ start-requires-clause-told g c = told_now g.D.Disk.told _ _ _ _ _ _ _ c.loop.inv
 pub returns-in-Err-Spawn-clause-flown : goal.returns-in-Err-Spawn-clause-flown
 returns-in-Err-Spawn-clause-flown g c =
     let next = subst (λ l. IsStartable l c.loop.jobs c.in-Some.call.now) c.wanted.ensures c.in-Some.ensures in
-    refuses g.D.Disk.told _ _ _ _ _ _ c.loop.invariant.way c.loop.invariant.still c.in-Some.call.now _ _ next c.in-Err-Spawn.ensures.same (search (rules, c.in-Err-Spawn.ensures.failed))
+    record {
+      comes = refuses g.D.Disk.told _ _ _ _ _ _ c.loop.invariant.way c.loop.invariant.still c.in-Some.call.now _ _ next c.in-Err-Spawn.ensures.same (search (rules, c.in-Err-Spawn.ensures.failed));
+      limit = ap (λ (z : InFlight). z.limit) c.in-Err-Spawn.ensures.same ∙ c.loop.invariant.limit;
+    }
 
 pub returns-in-Err-Memory-clause-stopped : goal.returns-in-Err-Memory-clause-stopped
 returns-in-Err-Memory-clause-stopped g c = gives_up g.D.Disk.told _ _ _ _ _ _ _ c.loop.invariant.way _ c.loop.invariant.limit _ (search (rules, c.in-Err-Memory.ensures.memory))
@@ -50,7 +53,7 @@ land-requires g c =
     elim c.if-fresh.branch [ then-fresh w ↦ inr (c.loop.invariant.fresh w.if-fresh.true) | else-fresh w ↦ inl (w.is_full.ensures.0 (sym w.value-is ∙ c.if-is_full.true)) ] in
     record {
       may = may_drain g.D.Disk.told _ _ _ _ _ _ _ c.loop.invariant.way c.requires.derivable.spellable c.checked.ensures c.loop.store.are c.requires.idle.none _ c.loop.invariant.ready;
-      one = one_runs g.D.Disk.told _ _ _ _ _ _ _ c.loop.invariant.way (subst (λ k. 0 < k) (sym c.loop.invariant.limit) c.requires.rested.1) c.loop.invariant.still next fresh;
+      one = one_runs g.D.Disk.told _ _ _ _ _ _ _ c.loop.invariant.way (subst (λ k. 0 < k) (sym c.loop.invariant.limit) c.requires.unbegun.some) c.loop.invariant.still next fresh;
     }
 
 pub returns-in_err-land-clause-stopped : goal.returns-in_err-land-clause-stopped
@@ -77,7 +80,10 @@ returns-in-Lost-clause-flown g c =
     let fresh : IsFresh (world_in c.args.graph.now c.loop.store c.loop.core.given) c.loop.core c.loop.jobs =
     elim c.if-fresh.branch [ then-fresh w ↦ inr (c.loop.invariant.fresh w.if-fresh.true) | else-fresh w ↦ inl (w.is_full.ensures.0 (sym w.value-is ∙ c.if-is_full.true)) ] in
     let may = may_wait g.D.Disk.told _ _ _ _ _ _ _ c.loop.invariant.way c.loop.invariant.still next fresh in
-    crashes g.D.Disk.told _ _ _ _ _ _ _ c.loop.invariant.way may c.changes_follow.ensures _ _ _ (lost_is g.D.Disk.told _ _ _ _ _ _ _ c.in-Lost.is c.in_ok-land.ensures.lands)
+    record {
+      comes = crashes g.D.Disk.told _ _ _ _ _ _ _ c.loop.invariant.way may c.changes_follow.ensures _ _ _ (lost_is g.D.Disk.told _ _ _ _ _ _ _ c.in-Lost.is c.in_ok-land.ensures.lands);
+      limit = c.in_ok-land.ensures.limit ∙ c.loop.invariant.limit;
+    }
 
 -- ---- the walk goes on
 
@@ -97,8 +103,11 @@ returns-in_err-advance-clause-counted g c =
 
 pub returns-then-is_some-clause-flown : goal.returns-then-is_some-clause-flown
 returns-then-is_some-clause-flown g c = record {
-  way = advances g.D.Disk.told _ _ _ _ _ _ c.loop.invariant.way _ c.in_ok-advance.ensures.on c.in_ok-advance.ensures.right c.in_ok-advance.ensures.advanced;
-  found = search rules;
+  comes = record {
+    way = advances g.D.Disk.told _ _ _ _ _ _ c.loop.invariant.way _ c.in_ok-advance.ensures.on c.in_ok-advance.ensures.right c.in_ok-advance.ensures.advanced;
+    found = search rules;
+  };
+  limit = c.loop.invariant.limit;
 }
 
 -- ---- each turn, and where there are too many

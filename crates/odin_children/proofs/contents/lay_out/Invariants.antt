@@ -4,6 +4,7 @@ use Rattle.odin_children.proofs.contents.lay_out.Given as goal
 
 abbrev pub invariant-loop-file : goal.invariant-loop-file
 invariant-loop-file g l = record {
-  laid : g.F.Folders.held l.folders l.slot ≡ laid_out (take l.file-index l.files) (g.F.Folders.held l.fn.folders l.slot);
-  others : SameBut l.slot (g.F.Folders.held l.fn.folders) (g.F.Folders.held l.folders);
+  laid : g.S.System.held l.system l.folder ≡ laid_out (take l.file-index l.files) (g.S.System.held l.fn.system l.folder);
+  others : SameBut l.folder (g.S.System.held l.fn.system) (g.S.System.held l.system);
+  log : g.S.System.log l.system ≡ g.S.System.log l.fn.system;
 }

@@ -1,6 +1,10 @@
-use Rattle.std.proofs.Common.{take}
+use Rattle.std.proofs.Common.{◌≡◌, take}
 use Rattle.odin_children.specs.Folders.{AreLeft}
 use Rattle.odin_children.proofs.contents.left_in.Given as goal
 
 abbrev pub invariant-loop-name : goal.invariant-loop-name
-invariant-loop-name g l = AreLeft (g.F.Folders.held l.folders l.slot) (take l.name-index l.names) l.files
+invariant-loop-name g l = record {
+  left : AreLeft (g.S.System.held l.fn.system l.folder) (take l.name-index l.names) l.files;
+  held : g.S.System.held l.system ≡ g.S.System.held l.fn.system;
+  log : g.S.System.log l.system ≡ g.S.System.log l.fn.system;
+}

@@ -1,0 +1,7 @@
+use Rattle.std.proofs.Common.{rules}
+use Rattle.odin_children.specs.Seen.{seen_of}
+use Rattle.odin_children.proofs.AskedLemmas.{asked_there, all_same}
+use Rattle.odin_children.proofs.slots.end_at.Goals as goal
+
+pub returns-clause-asked : goal.returns-clause-asked
+returns-clause-asked g c = asked_there seen_of _ c.args.started.now.items c.args.place c.index_mut.result.now c.end.new.self (search rules) (all_same _) (search rules)

@@ -1,0 +1,79 @@
+// The files of the system, opened for reading. They tell nothing.
+use crate::raw_files::RawFiles;
+use std::fs::{self, OpenFile, OpenOptions};
+use std::io::{self, ErrorKind};
+use std::rt::Files;
+
+// What is open, where it is a file.
+fn regular<F: OpenFile + Drop>(file: F) -> io::Result<Option<F>> {
+    Ok(if file.metadata()?.is_file() {
+        Some(file)
+    } else {
+        None
+    })
+}
+
+/// The files of the current folder.
+impl<R: Files> RawFiles for R {
+    ghost use Rattle.std.specs.Prelude.{None};
+
+    type Opened = R::File;
+
+    ghost bodies = { λ _. None };
+
+    ghost opened = { λ _. None };
+
+    fn is_file(&mut self, path: &str) -> io::Result<bool> {
+        Ok(fs::metadata(self, path)?.is_file())
+    }
+
+    fn open(&mut self, path: &str) -> io::Result<Option<R::File>> {
+        regular(fs::open(self, path)?)
+    }
+}
+
+/// The same of files that tools leave behind, whose programs may still run: one that puts a pipe in the place of a file before it is opened can't make the
+/// opening wait, since a pipe that is opened for reading and writing doesn't.
+#[derive(Drop)]
+pub struct Outputs<'a, R: Files> {
+    rt: &'a R,
+}
+
+impl<'a, R: Files> Outputs<'a, R> {
+    pub fn new(rt: &'a R) -> Self {
+        Outputs { rt }
+    }
+}
+
+// Whether such an error says that the file may be read and not written.
+fn is_read_only(kind: ErrorKind) -> bool {
+    kind == ErrorKind::PermissionDenied
+        || kind == ErrorKind::ReadOnlyFilesystem
+        || kind == ErrorKind::ExecutableFileBusy
+}
+
+// Opens for reading and writing, or for reading where only that is allowed.
+fn open_at_once<R: Files>(rt: &R, path: &str) -> io::Result<R::File> {
+    match OpenOptions::new().read(true).write(true).open(rt, path) {
+        Err(error) if is_read_only(error.kind()) => fs::open(rt, path),
+        opened => opened,
+    }
+}
+
+impl<'a, R: Files> RawFiles for Outputs<'a, R> {
+    ghost use Rattle.std.specs.Prelude.{None};
+
+    type Opened = R::File;
+
+    ghost bodies = { λ _. None };
+
+    ghost opened = { λ _. None };
+
+    fn is_file(&mut self, path: &str) -> io::Result<bool> {
+        Ok(fs::metadata(self.rt, path)?.is_file())
+    }
+
+    fn open(&mut self, path: &str) -> io::Result<Option<R::File>> {
+        regular(open_at_once(self.rt, path)?)
+    }
+}
