@@ -25,11 +25,11 @@ pub struct Call {
     pub outs: Seq<Bytes>,
 }
 
-/// A message of a call, which gets the label of the node that it is made for.
+/// A message of a call, which gets the label of the node that it is made for. Its text is shared with each message that is made of it.
 #[derive(PartialEq, Eq, Drop)]
 pub struct OwnLine {
     pub level: Status,
-    pub text: Bytes,
+    pub text: Text,
 }
 
 /// What came of a call. At `Abort` there are no outputs.

@@ -26,7 +26,7 @@ pub use limits::{
 pub use messages::{Message, Status};
 pub use nodes::{Node, ParamValue, Step};
 pub use sequences::{
-    Bytes, Copied, Exact, Memory, Seq, ShortSeq, copy_five, copy_two, same, when_done,
+    Bytes, Copied, Exact, Memory, Seq, SharedSeq, ShortSeq, copy_five, copy_two, same, when_done,
 };
 pub use text::Text;
 pub use views::{Part, Value, View};

@@ -1,5 +1,6 @@
 // Statuses and messages.
-use sequences::{Bytes, Copied, Memory};
+use crate::text::Text;
+use sequences::{Copied, Memory};
 use std::alloc::Global;
 
 /// How an object is, from the best to the worst. An object at `Abort` has no value.
@@ -11,12 +12,25 @@ pub enum Status {
     Abort,
 }
 
-/// A message of an object: the label of the node that it comes from, its level and its text.
-#[derive(PartialEq, Eq, Hash, Drop)]
+/// A message of an object: the label of the node that it comes from, its level and its text. A copy shares both.
+#[derive(PartialEq, Eq, Hash)]
 pub struct Message {
-    pub label: Bytes,
+    pub label: Text,
     pub level: Status,
-    pub text: Bytes,
+    pub text: Text,
+}
+
+// By hand: a drop is one call, where a derived one is opened field by field at each early return.
+impl Drop for Message {
+    fn drop(self) {
+        let Message {
+            label,
+            level: _,
+            text,
+        } = self;
+        drop(label);
+        drop(text);
+    }
 }
 
 impl Copied for Status {

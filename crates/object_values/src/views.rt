@@ -2,7 +2,7 @@
 use crate::messages::{Message, Status};
 use crate::nodes::Node;
 use crate::text::Text;
-use sequences::{Bytes, Copied, Memory, Seq};
+use sequences::{Bytes, Copied, Memory, Seq, SharedSeq};
 use std::alloc::Global;
 
 /// A named part of a compound.
@@ -20,12 +20,12 @@ pub enum Value {
     Compound(Seq<Part>),
 }
 
-/// An object as it is shown. It has a value exactly where its status is not `Abort`.
+/// An object as it is shown. It has a value exactly where its status is not `Abort`. A copy shares the messages.
 #[derive(PartialEq, Eq, Drop)]
 pub struct View {
     pub value: Option<Value>,
     pub status: Status,
-    pub messages: Seq<Message>,
+    pub messages: SharedSeq<Message>,
 }
 
 impl Copied for Part {

@@ -186,16 +186,17 @@ impl Ord for Bytes {
 }
 
 impl Hash for Bytes {
-    ghost use Rattle.std.specs.Hash as fed;
-    ghost use Rattle.std.specs.Hash.{items_Alike, same_Alike};
-    ghost use Rattle.std.proofs.lemmas.Bool.Decides.{Decides-eqb};
+    ghost use Rattle.std.specs.Hash.{same_Alike};
+    ghost use Rattle.std.specs.Cmp.Lexicographic.{bytes_decides};
+    ghost use Rattle.sequences.specs.Fed.{bytes_fed};
 
-    ghost hash_input = { fed.slice fed.u8 };
+    ghost hash_input = { bytes_fed };
 
-    ghost respects_eq = { (items_Alike (same_Alike fed.u8 Decides-eqb)).fed };
+    ghost respects_eq = { (same_Alike bytes_fed bytes_decides).fed };
 
     fn hash<H: Hasher>(&self, state: &mut H) {
-        self.as_slice().hash(state);
+        state.write_usize(self.len());
+        state.write(self.as_slice());
     }
 }
 

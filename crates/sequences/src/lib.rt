@@ -7,6 +7,7 @@ mod done;
 mod exact;
 mod memory;
 mod seq;
+mod shared_seq;
 mod short_seq;
 
 pub use bytes::Bytes;
@@ -15,4 +16,5 @@ pub use done::when_done;
 pub use exact::{Exact, same};
 pub use memory::Memory;
 pub use seq::Seq;
+pub use shared_seq::SharedSeq;
 pub use short_seq::ShortSeq;
