@@ -1,6 +1,6 @@
 -- Messages each messages_once: what stays the same where a message stands there already, and where there are as many as may be.
 use Rattle.std.proofs.Common.{◌≡◌, ◌≤◌, Bool, true, false, not, List, [], ◌∷◌, ◌++◌, length, take, ap, sym, ◌∙◌, refl, rules}
-use Rattle.std.specs.Prelude.{filter, Decides, ◌==◌}
+use Rattle.std.specs.Prelude.{filter, Decides, ◌==◌, if◌then◌else◌}
 use Rattle.std.specs.List.{list_any, IsDistinct, AllByRecursion}
 use Rattle.std.proofs.lemmas.List.{take_all, take-append-le, append-nil, append_assoc}
 use Rattle.std.proofs.lemmas.Bool.Decides.{same_from_decides}
@@ -11,6 +11,7 @@ use Rattle.object_values.specs.declared.messages.Status.TheVariants.{Ok, Warning
 use Rattle.object_values.specs.declared.messages.Message.{Message}
 use Rattle.object_values.specs.contracts.messages.MessagePartialEq.TheImpl.{ghosts as message_eq}
 use Rattle.object_values.specs.Exact.{message_exact}
+use Rattle.indexmap.specs.IndexSet.{insert_key}
 use Rattle.odin_nodes.specs.Inheriting.{AreFew}
 use Rattle.meaning_nodes.specs.Values.{rank, is_message, messages_once, inherit}
 
@@ -150,3 +151,11 @@ inherits_new messages more m = ap (λ xs. take 1000 (messages_once xs)) (append_
 pub inherits_same : (messages more : List Message) (m : Message) → list_any (message_eq.eq m) messages ≡ true → inherit messages more ≡ inherit messages (m ∷ more)
 unfolding inherit
 inherits_same messages more m there = ap (take 1000) (sym (there_already messages more m there))
+
+-- one that is put in, where it isn't there
+pub inherits_put : (messages more : List Message) (m : Message) → inherit (insert_key message_eq.eq messages m) more ≡ inherit messages (m ∷ more)
+inherits_put messages more m = by (list_any (message_eq.eq m) messages) refl
+  where
+    by : (b : Bool) → list_any (message_eq.eq m) messages ≡ b → inherit (if b then messages else messages ++ m ∷ []) more ≡ inherit messages (m ∷ more)
+    by true there = inherits_same messages more m there
+    by false e = inherits_new messages more m

@@ -5,7 +5,7 @@ ghost use Rattle.meaning_nodes.specs.Values.{inherit};
 ghost use Rattle.odin_nodes.specs.Inheriting.{Inherits};
 
 use indexmap::IndexSet;
-use object_values::{Copied, MESSAGE_LIMIT, Memory, Message, Seq, View};
+use object_values::{Copied, MESSAGE_LIMIT, Memory, Message, Seq, SharedSeq, View};
 use std::alloc::Global;
 use std::marker::Model;
 
@@ -47,7 +47,7 @@ impl Inherited {
     fn push(&mut self, alloc: Global, message: &Message) -> Result<(), Memory>
         ensures { OnOk result (Inherits self.old (message.now ∷ []) self.new) }
     {
-        if self.messages.len() >= MESSAGE_LIMIT || self.messages.contains(message) {
+        if self.messages.len() >= MESSAGE_LIMIT {
             return Ok(());
         }
         self.messages.insert(message.copy(alloc)?)?;
@@ -67,17 +67,17 @@ impl Inherited {
     }
 
     /// The messages.
-    pub fn into_messages(self, alloc: Global) -> Result<Seq<Message>, Memory>
+    pub fn into_messages(self, alloc: Global) -> Result<SharedSeq<Message>, Memory>
         ensures { IfOk result (λ messages. messages ≡ self) }
     {
         let messages = self.messages.into_iter().collect(alloc)?;
-        Ok(Seq::from_vec(messages))
+        SharedSeq::of(Seq::from_vec(messages))
     }
 }
 
 /// The messages of the needs in order and then the own ones, each once, and no more than the first
 /// 1,000.
-pub fn inherit(alloc: Global, needs: &[View], own: &[Message]) -> Result<Seq<Message>, Memory>
+pub fn inherit(alloc: Global, needs: &[View], own: &[Message]) -> Result<SharedSeq<Message>, Memory>
     ensures { let taken = flat_map (λ view. view.messages) needs.now in
         IfOk result (λ messages. messages ≡ inherit taken own.now) }
 {
