@@ -1,5 +1,5 @@
 -- What stands at the place of a name among sorted pairs, and what an edit there makes of the map.
-use Rattle.std.proofs.Common.{◌≡◌, ℕ, zero, suc, ◌-◌, ◌<◌, ◌≤◌, ◌⊎◌, inl, inr, [], ◌∷◌, length, cond, not, true, false, Bool, Option, Some, None, IsSome, IfOk, IfErr, Result, Ok, Err, T, ◌&&◌, slice_index_or, slice_get, slice_set, refl, sym, ap, subst, ◌∙◌, arith, rules}
+use Rattle.std.proofs.Common.{◌≡◌, ℕ, zero, suc, ◌<◌, ◌≤◌, inl, inr, [], ◌∷◌, length, cond, not, true, false, Bool, Some, None, IfOk, IfErr, Result, Ok, Err, T, ◌&&◌, slice_index_or, slice_set, refl, sym, ap, subst, ◌∙◌, arith}
 use Rattle.std.specs.List.{remove, insert}
 use Rattle.std.specs.List.Sorted.{IsSearchInRange, IsBinarySearchResult, IsNonDecreasingBy}
 use Rattle.std.specs.Ordering.{nat_cmp, eq_by_cmp, is_eq, is_lt, ordering_index, ordering_reverse}
@@ -21,30 +21,30 @@ abbrev pub AreSorted : Pairs → Type 0
 AreSorted pairs = T (map.is_sorted by_bytes pairs)
 
 -- the pairs whose names don't tie with a name
-abbrev without : Text → Pairs → Pairs
+abbrev pub without : Text → Pairs → Pairs
 without name = where_key by_bytes (λ other. not (eq_by_cmp by_bytes name other))
 
-both : (a b : Bool) → T a → T b → T (a && b)
+pub both : (a b : Bool) → T a → T b → T (a && b)
 both true b p q = q
 both false b p q = p
 
-first : (a b : Bool) → T (a && b) → T a
+pub first : (a b : Bool) → T (a && b) → T a
 first true b p = tt
 first false b p = p
 
-second : (a b : Bool) → T (a && b) → T b
+pub second : (a b : Bool) → T (a && b) → T b
 second true b p = p
 second false b p = absurd p
 
-less : (order : Ordering) → T (is_lt order) → order ≡ Less
+pub less : (order : Ordering) → T (is_lt order) → order ≡ Less
 less Less p = refl
 less Equal p = absurd p
 less Greater p = absurd p
 
-is_less : (order : Ordering) → order ≡ Less → T (is_lt order)
+pub is_less : (order : Ordering) → order ≡ Less → T (is_lt order)
 is_less order e = subst (λ o. T (is_lt o)) (sym e) tt
 
-turned : (a b : Text) (order : Ordering) → by_bytes a b ≡ order → by_bytes b a ≡ ordering_reverse order
+pub turned : (a b : Text) (order : Ordering) → by_bytes a b ≡ order → by_bytes b a ≡ ordering_reverse order
 turned a b order e = nat_list_cmp_total.antisymm b a ∙ ap ordering_reverse e
 
 -- a name that is below all of a list's is below the one at each place
@@ -61,7 +61,7 @@ rises (x ∷ pairs) pair sorted zero (suc j) lt within = below_at x.0 pairs j pa
 rises (x ∷ pairs) pair sorted (suc i) (suc j) lt within = rises pairs pair (second _ _ sorted) i j (omega (arith, lt)) (omega (arith, within))
 
 -- what compares with a greater name comes out no lesser
-ranked_by : (a b name : Text) (order : Ordering) → by_bytes b name ≡ order → by_bytes a b ≡ Less → ordering_index (by_bytes a name) ≤ ordering_index order
+pub ranked_by : (a b name : Text) (order : Ordering) → by_bytes b name ≡ order → by_bytes a b ≡ Less → ordering_index (by_bytes a name) ≤ ordering_index order
 ranked_by a b name Less e lt = subst (λ o. ordering_index o ≤ 0) (sym (nat_list_cmp_total.trans a b name lt e)) (omega arith)
 ranked_by a b name Equal e lt = subst (λ o. ordering_index o ≤ 1) (sym (sym (alike_right nat_list_cmp_total b name a e) ∙ lt)) (omega arith)
 ranked_by a b name Greater e lt = at_most_two (by_bytes a name)
@@ -88,19 +88,19 @@ searched pairs name sorted (Err place) within parted =
     record { found = tt; gap = record { in_range = within; less_before = λ i lt. parts.0 i ([], []) (omega arith) lt; greater_after = λ i le lt. parts.1 i ([], []) le lt } }
 
 -- the name ties with the one at a place, and is greater than those before
-Stands : Pairs → Text → ℕ → Type 0
+pub Stands : Pairs → Text → ℕ → Type 0
 Stands [] name place = ⊥
 Stands (x ∷ pairs) name zero = by_bytes name x.0 ≡ Equal
 Stands (x ∷ pairs) name (suc place) = (by_bytes name x.0 ≡ Greater) × Stands pairs name place
 
 -- the name is greater than those before a place, and less than the one there
-Parts : Pairs → Text → ℕ → Type 0
+pub Parts : Pairs → Text → ℕ → Type 0
 Parts [] name zero = Unit {0}
 Parts [] name (suc place) = ⊥
 Parts (x ∷ pairs) name zero = by_bytes name x.0 ≡ Less
 Parts (x ∷ pairs) name (suc place) = (by_bytes name x.0 ≡ Greater) × Parts pairs name place
 
-stands : (pairs : Pairs) (name : Text) (place : ℕ) → AreSorted pairs → IsAt pairs name place → Stands pairs name place
+pub stands : (pairs : Pairs) (name : Text) (place : ℕ) → AreSorted pairs → IsAt pairs name place → Stands pairs name place
 unfolding Stands
 stands [] name place sorted at = absurd (omega (arith, at.in_range))
 stands (x ∷ pairs) name zero sorted at = turned x.0 name Equal at.has_name
@@ -110,7 +110,7 @@ stands (x ∷ pairs) name (suc place) sorted at =
     let lesser : by_bytes x.0 name ≡ Less = sym (alike_right nat_list_cmp_total here.0 name x.0 at.has_name) ∙ below_at x.0 pairs place ([], []) (first _ _ sorted) within in
     (turned x.0 name Less lesser, stands pairs name place (second _ _ sorted) (record { in_range = within; has_name = at.has_name }))
 
-parts : (pairs : Pairs) (name : Text) (place : ℕ) → IsGap pairs name place → Parts pairs name place
+pub parts : (pairs : Pairs) (name : Text) (place : ℕ) → IsGap pairs name place → Parts pairs name place
 unfolding Parts
 parts [] name zero gap = tt
 parts [] name (suc place) gap = absurd (omega (arith, gap.in_range))
@@ -120,7 +120,7 @@ parts (x ∷ pairs) name (suc place) gap = (
   parts pairs name place (record { in_range = omega (arith, gap.in_range); less_before = λ i lt. gap.less_before (suc i) (omega arith); greater_after = λ i le lt. gap.greater_after (suc i) (omega arith) (omega arith) }),
 )
 
-below_less : (name other : Text) (pairs : Pairs) → by_bytes name other ≡ Less → T (below_all by_bytes other pairs) → T (below_all by_bytes name pairs)
+pub below_less : (name other : Text) (pairs : Pairs) → by_bytes name other ≡ Less → T (below_all by_bytes other pairs) → T (below_all by_bytes name pairs)
 below_less name other [] lt below = tt
 below_less name other (x ∷ pairs) lt below = both _ _ (is_less _ (nat_list_cmp_total.trans name other x.0 lt (less _ (first _ _ below)))) (below_less name other pairs lt (second _ _ below))
 
@@ -129,11 +129,11 @@ below_tied name other [] tie below = tt
 below_tied name other (x ∷ pairs) tie below = both _ _ (is_less _ (nat_list_cmp_total.congr name other x.0 tie ∙ less _ (first _ _ below))) (below_tied name other pairs tie (second _ _ below))
 
 -- a name below all isn't found, and taking it out changes nothing
-find_below : (name : Text) (pairs : Pairs) → T (below_all by_bytes name pairs) → map.find by_bytes name pairs ≡ None
+pub find_below : (name : Text) (pairs : Pairs) → T (below_all by_bytes name pairs) → map.find by_bytes name pairs ≡ None
 find_below name [] below = refl
 find_below name (x ∷ pairs) below = ap (λ order. cond (is_eq order) (Some x.1) (map.find by_bytes name pairs)) (less _ (first _ _ below)) ∙ find_below name pairs (second _ _ below)
 
-without_below : (name : Text) (pairs : Pairs) → T (below_all by_bytes name pairs) → without name pairs ≡ pairs
+pub without_below : (name : Text) (pairs : Pairs) → T (below_all by_bytes name pairs) → without name pairs ≡ pairs
 without_below name [] below = refl
 without_below name (x ∷ pairs) below = ap (λ order. cond (not (is_eq order)) (x ∷ without name pairs) (without name pairs)) (less _ (first _ _ below)) ∙ ap (λ rest. x ∷ rest) (without_below name pairs (second _ _ below))
 
@@ -149,25 +149,25 @@ find_gap [] name place sorted gap = refl
 find_gap (x ∷ pairs) name zero sorted gap = find_below name (x ∷ pairs) (both _ _ (is_less _ gap) (below_less name x.0 pairs gap (first _ _ sorted)))
 find_gap (x ∷ pairs) name (suc place) sorted gap = ap (λ order. cond (is_eq order) (Some x.1) (map.find by_bytes name pairs)) gap.0 ∙ find_gap pairs name place (second _ _ sorted) gap.1
 
-without_at : (pairs : Pairs) (name : Text) (place : ℕ) → AreSorted pairs → Stands pairs name place → without name pairs ≡ remove pairs place
+pub without_at : (pairs : Pairs) (name : Text) (place : ℕ) → AreSorted pairs → Stands pairs name place → without name pairs ≡ remove pairs place
 unfolding Stands
 without_at [] name place sorted here = absurd here
 without_at (x ∷ pairs) name zero sorted here = ap (λ order. cond (not (is_eq order)) (x ∷ without name pairs) (without name pairs)) here ∙ without_below name pairs (below_tied name x.0 pairs here (first _ _ sorted))
 without_at (x ∷ pairs) name (suc place) sorted here = ap (λ order. cond (not (is_eq order)) (x ∷ without name pairs) (without name pairs)) here.0 ∙ ap (λ rest. x ∷ rest) (without_at pairs name place (second _ _ sorted) here.1)
 
-without_gap : (pairs : Pairs) (name : Text) (place : ℕ) → AreSorted pairs → Parts pairs name place → without name pairs ≡ pairs
+pub without_gap : (pairs : Pairs) (name : Text) (place : ℕ) → AreSorted pairs → Parts pairs name place → without name pairs ≡ pairs
 unfolding Parts
 without_gap [] name place sorted gap = refl
 without_gap (x ∷ pairs) name zero sorted gap = without_below name (x ∷ pairs) (both _ _ (is_less _ gap) (below_less name x.0 pairs gap (first _ _ sorted)))
 without_gap (x ∷ pairs) name (suc place) sorted gap = ap (λ order. cond (not (is_eq order)) (x ∷ without name pairs) (without name pairs)) gap.0 ∙ ap (λ rest. x ∷ rest) (without_gap pairs name place (second _ _ sorted) gap.1)
 
-put_at : (pairs : Pairs) (name text : Text) (place : ℕ) (pair : Text × Text) → Stands pairs name place → pair ≡ slice_index_or pairs place pair → put by_bytes name text pairs ≡ slice_set pairs place (pair.0, text)
+pub put_at : (pairs : Pairs) (name text : Text) (place : ℕ) (pair : Text × Text) → Stands pairs name place → pair ≡ slice_index_or pairs place pair → put by_bytes name text pairs ≡ slice_set pairs place (pair.0, text)
 unfolding Stands
 put_at [] name text place pair here is = absurd here
 put_at (x ∷ pairs) name text zero pair here is = ap (λ order. by_order order ((name, text) ∷ x ∷ pairs) ((x.0, text) ∷ pairs) (x ∷ put by_bytes name text pairs)) here ∙ ap (λ (y : Text × Text). (y.0, text) ∷ pairs) (sym is)
 put_at (x ∷ pairs) name text (suc place) pair here is = ap (λ order. by_order order ((name, text) ∷ x ∷ pairs) ((x.0, text) ∷ pairs) (x ∷ put by_bytes name text pairs)) here.0 ∙ ap (λ rest. x ∷ rest) (put_at pairs name text place pair here.1 is)
 
-put_gap : (pairs : Pairs) (name text : Text) (place : ℕ) → Parts pairs name place → put by_bytes name text pairs ≡ insert pairs place (name, text)
+pub put_gap : (pairs : Pairs) (name text : Text) (place : ℕ) → Parts pairs name place → put by_bytes name text pairs ≡ insert pairs place (name, text)
 unfolding Parts
 put_gap [] name text zero gap = refl
 put_gap [] name text (suc place) gap = absurd gap
@@ -183,7 +183,7 @@ pub record Makes (pairs : Pairs) (texts : Texts) : Type 0 where
   pub sorted : AreSorted pairs
   pub made : map_of pairs ≡ texts
 
-placed : (pairs new : Pairs) (name text : Text) → AreSorted pairs → put by_bytes name text pairs ≡ new → Makes new (map.insert (map_of pairs) name text)
+pub placed : (pairs new : Pairs) (name text : Text) → AreSorted pairs → put by_bytes name text pairs ≡ new → Makes new (map.insert (map_of pairs) name text)
 placed pairs new name text sorted is =
     let still = subst AreSorted is (is_sorted-put by_bytes nat_list_cmp_total name text pairs sorted) in
     record { sorted = still; made = map.same_entries_map _ _ (map.entries-from_sorted by_bytes new still ∙ sym is ∙ ap (put by_bytes name text) (sym (map.entries-from_sorted by_bytes pairs sorted)) ∙ sym (map.entries-insert nat_list_cmp_total (map_of pairs) name text)) }
@@ -192,7 +192,7 @@ turned_cond : {A : Type 0} (b : Bool) (x y : A) → cond (not b) x y ≡ cond b 
 turned_cond true x y = refl
 turned_cond false x y = refl
 
-removed : (pairs new : Pairs) (name : Text) → AreSorted pairs → without name pairs ≡ new → Makes new (map.remove (map_of pairs) name)
+pub removed : (pairs new : Pairs) (name : Text) → AreSorted pairs → without name pairs ≡ new → Makes new (map.remove (map_of pairs) name)
 removed pairs new name sorted is =
     let still = subst AreSorted is (is_sorted-where_key by_bytes (λ other. not (eq_by_cmp by_bytes name other)) pairs sorted) in
     record {
@@ -211,40 +211,7 @@ module _ (pairs : Pairs) (sorted : AreSorted pairs) (name : Text) (place : ℕ) 
   pub found : (pair : Text × Text) → pair ≡ slice_index_or pairs place pair → map.get (map_of pairs) name ≡ Some pair.1
   found pair is = map.get-from_sorted by_bytes pairs name sorted ∙ find_at pairs name place pair (stands pairs name place sorted at) is
 
-  -- another text there is a put
-  pub swapped : (pair : Text × Text) (text : Text) → pair ≡ slice_index_or pairs place pair → Makes (slice_set pairs place (pair.0, text)) (map.insert (map_of pairs) name text)
-  swapped pair text is = placed pairs _ name text sorted (put_at pairs name text place pair (stands pairs name place sorted at) is)
-
-  -- without that pair, the name is removed
-  pub taken : Makes (remove pairs place) (map.remove (map_of pairs) name)
-  taken = removed pairs _ name sorted (without_at pairs name place sorted (stands pairs name place sorted at))
-
 module _ (pairs : Pairs) (sorted : AreSorted pairs) (name : Text) (place : ℕ) (gap : IsGap pairs name place) where
   -- a name with a gap isn't there
   pub missing : map.get (map_of pairs) name ≡ None
   missing = map.get-from_sorted by_bytes pairs name sorted ∙ find_gap pairs name place sorted (parts pairs name place gap)
-
-  -- a new pair there is a put
-  pub added : (text : Text) → Makes (insert pairs place (name, text)) (map.insert (map_of pairs) name text)
-  added text = placed pairs _ name text sorted (put_gap pairs name text place (parts pairs name place gap))
-
-  -- and to remove the name changes nothing
-  pub untouched : map_of pairs ≡ map.remove (map_of pairs) name
-  untouched = (removed pairs pairs name sorted (without_gap pairs name place sorted (parts pairs name place gap))).made
-
--- where the name isn't there, the condition of a put leaves room
-pub has_room : (found : Option Text) (spare len cap : ℕ) → spare ≡ cap - len → found ≡ None → (1 ≤ spare) ⊎ IsSome found → len < cap
-has_room found spare len cap is none (inl room) = omega (arith, is, room)
-has_room None spare len cap is none (inr there) = search rules
-has_room (Some x) spare len cap is none (inr there) = search rules
-
--- what stands at a place, and that nothing stands past the end
-pub got : (pairs : Pairs) (place : ℕ) (pair : Text × Text) → place < length pairs → pair ≡ slice_index_or pairs place pair → Some pair ≡ slice_get pairs place
-got [] place pair lt is = absurd (omega (arith, lt))
-got (x ∷ pairs) zero pair lt is = ap (λ (y : Text × Text). Some y) is
-got (x ∷ pairs) (suc place) pair lt is = got pairs place pair (omega (arith, lt)) is
-
-pub past : (pairs : Pairs) (place : ℕ) → length pairs ≤ place → None ≡ slice_get pairs place
-past [] place le = refl
-past (x ∷ pairs) zero le = absurd (omega (arith, le))
-past (x ∷ pairs) (suc place) le = past pairs place (omega (arith, le))

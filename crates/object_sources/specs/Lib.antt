@@ -1,3 +1,4 @@
+pub mod Blocks
 pub mod Gets
 pub mod Places
 pub mod Texts

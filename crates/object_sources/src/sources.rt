@@ -1,43 +1,52 @@
 // Sources: texts by name, in the order of the names' bytes.
-ghost use Rattle.std.specs.Prelude.{◌≡◌, ◌≤◌, ◌⊎◌, IfOk, IfErr, OnOk, IsSome, T, option_map};
+ghost use Rattle.std.specs.Prelude.{◌≡◌, ◌≤◌, ◌<◌, ◌∷◌, [], ◌⊎◌, Some, IfOk, IsSome, length, option_map, slice_get, slice_index_or, slice_set, vec_len, vec_capacity, OnOk};
+ghost use Rattle.std.specs.List.{insert, remove};
 ghost use Rattle.std.specs.FinMap as map;
-ghost use Rattle.std.specs.Ordering.{nat_cmp};
-ghost use Rattle.std.specs.Cmp.Lexicographic.{slice_cmp};
+ghost use Rattle.object_sources.specs.Blocks.{AreFilled, IsSpare, joined};
 ghost use Rattle.object_sources.specs.Texts.{no_texts, entry_at};
-ghost use Rattle.object_sources.specs.Places.{IsAt, IsGap};
 
-use object_values::{Bytes, Copied, Memory, Text};
+use crate::block::{Block, insert_within};
+use crate::places::{block_of, place_of};
+use object_values::{Bytes, Memory, Text};
 use std::alloc::Global;
-use std::cmp::Ordering;
 use std::marker::Model;
-use std::mem;
+
+/// The room of the first blocks. Later ones have room for about the root of the count: then blocks are short, and so is their list.
+const ROOM: usize = 128;
 
 /// A finite map from names to texts. Contracts see the texts, and the room reserved for more.
 pub struct Sources {
-    pairs: Vec<(Bytes, Text)>,
+    blocks: Vec<Block>,
+    // For the half of a block that has no room for a name more.
+    spare: Option<Block>,
+    count: usize,
 }
 
 impl Drop for Sources {
     fn drop(self) {
-        let Sources { pairs } = self;
-        drop(pairs);
+        let Sources {
+            blocks,
+            spare,
+            count: _,
+        } = self;
+        drop(blocks);
+        drop(spare);
     }
 }
 
 impl Model for Sources {
-    ghost use Rattle.std.specs.Prelude.{◌-◌, T, vec_len, vec_capacity};
-    ghost use Rattle.std.specs.FinMap.{from_sorted, is_sorted};
-    ghost use Rattle.std.specs.Ordering.{nat_cmp};
-    ghost use Rattle.std.specs.Cmp.Lexicographic.{slice_cmp};
+    ghost use Rattle.std.specs.Prelude.{◌-◌, vec_len, vec_capacity};
+    ghost use Rattle.std.specs.FinMap.{from_sorted};
+    ghost use Rattle.object_sources.specs.Blocks.{joined, room_left, AreBlocks};
     ghost use Rattle.object_sources.specs.Texts.{Stock, stock_code};
 
     ghost Value = { Stock };
 
     ghost coded = { stock_code };
 
-    ghost view = { λ s. record { texts = from_sorted s.pairs.items; spare = vec_capacity s.pairs - vec_len s.pairs } };
+    ghost view = { λ s. record { texts = from_sorted (joined s.blocks.items); spare = room_left (vec_capacity s.blocks - vec_len s.blocks) s.spare s.count } };
 
-    ghost invariant = { λ s. T (is_sorted (slice_cmp nat_cmp) s.pairs.items) };
+    ghost invariant = { λ s. AreBlocks s.blocks.items s.spare s.count };
 }
 
 impl Sources {
@@ -45,21 +54,25 @@ impl Sources {
         ensures { result.texts ≡ no_texts }
     {
         Sources {
-            pairs: Vec::new(alloc),
+            blocks: Vec::new(alloc),
+            spare: None,
+            count: 0,
         }
     }
 
     pub fn len(&self) -> usize
         ensures { result ≡ map.len self.now.texts }
     {
-        self.pairs.len()
+        self.count
     }
 
     pub fn get(&self, name: &[u8]) -> Option<&Text>
         ensures { option_map (λ text. text.now) result ≡ map.get self.now.texts name.now }
     {
-        match place_of(&self.pairs, name) {
-            Ok(place) => Some(&self.pairs[place].1),
+        let block = block_of(&self.blocks, name)?;
+        let pairs = self.blocks[block].as_slice();
+        match place_of(pairs, name) {
+            Ok(place) => Some(&pairs[place].1),
             Err(_) => None,
         }
     }
@@ -68,7 +81,7 @@ impl Sources {
     pub fn at(&self, place: usize) -> Option<(&Bytes, &Text)>
         ensures { option_map (λ p. (p.0.now, p.1.now)) result ≡ entry_at self.now.texts place }
     {
-        let (name, text) = self.pairs.get(place)?;
+        let (name, text) = pair_at(&self.blocks, place)?;
         Some((name, text))
     }
 
@@ -77,7 +90,14 @@ impl Sources {
         ensures ok { OnOk result (1 ≤ self.new.spare) }
         ensures same { self.new.texts ≡ self.old.texts }
     {
-        self.pairs.reserve(1)?;
+        if self.count == usize::MAX {
+            return Err(Memory);
+        }
+        self.blocks.reserve(1)?;
+        if self.spare.is_none() {
+            let alloc = *self.blocks.allocator();
+            self.spare = Some(Block::new(alloc, self.count.isqrt().max(ROOM))?);
+        }
         Ok(())
     }
 
@@ -87,10 +107,22 @@ impl Sources {
         ensures before { result ≡ map.get self.old.texts name }
         ensures put { self.new.texts ≡ map.insert self.old.texts name text }
     {
-        match place_of(&self.pairs, name.as_slice()) {
-            Ok(place) => Some(mem::replace(&mut self.pairs[place].1, text)),
+        let Some(block) = block_of(&self.blocks, name.as_slice()) else {
+            self.count += 1;
+            add_first(&mut self.blocks, &mut self.spare, (name, text));
+            return None;
+        };
+        match place_of(self.blocks[block].as_slice(), name.as_slice()) {
+            Ok(place) => Some(self.blocks[block].set_text(place, text)),
             Err(place) => {
-                let _ = self.pairs.insert(place, (name, text));
+                self.count += 1;
+                add(
+                    &mut self.blocks,
+                    &mut self.spare,
+                    block,
+                    place,
+                    (name, text),
+                );
                 None
             }
         }
@@ -101,8 +133,12 @@ impl Sources {
         ensures before { result ≡ map.get self.old.texts name.now }
         ensures removed { self.new.texts ≡ map.remove self.old.texts name.now }
     {
-        match place_of(&self.pairs, name) {
-            Ok(place) => Some(self.pairs.remove(place).1),
+        let block = block_of(&self.blocks, name)?;
+        match place_of(self.blocks[block].as_slice(), name) {
+            Ok(place) => {
+                self.count -= 1;
+                Some(take_out(&mut self.blocks, block, place))
+            }
             Err(_) => None,
         }
     }
@@ -111,24 +147,88 @@ impl Sources {
     pub fn copy(&self, alloc: Global) -> Result<Self, Memory>
         ensures { IfOk result (λ copy. copy.texts ≡ self.now.texts) }
     {
-        let mut pairs = Vec::new(alloc);
-        pairs.reserve_exact(self.pairs.len())?;
-        for (name, text) in &self.pairs {
-            pairs.push((name.copy(alloc)?, text.copy(alloc)?))?;
+        let mut blocks = Vec::new(alloc);
+        blocks.reserve_exact(self.blocks.len())?;
+        for block in &self.blocks {
+            blocks.push(block.copy(alloc)?)?;
         }
-        Ok(Sources { pairs })
+        Ok(Sources {
+            blocks,
+            spare: None,
+            count: self.count,
+        })
     }
 }
 
-// Where the name is, or where it would go.
-fn place_of(pairs: &[(Bytes, Text)], name: &[u8]) -> Result<usize, usize>
-    requires { T (map.is_sorted (slice_cmp nat_cmp) pairs.now) }
-    ensures found { IfOk result (IsAt pairs.now name.now) }
-    ensures gap { IfErr result (IsGap pairs.now name.now) }
+// The pair at a place among those of all blocks.
+fn pair_at(blocks: &[Block], place: usize) -> Option<&(Bytes, Text)>
+    ensures { option_map (λ pair. pair.now) result ≡ slice_get (joined blocks.now) place }
 {
-    pairs.binary_search_by(
-        |pair| -> Ordering
-            ensures { result ≡ slice_cmp nat_cmp pair.now.0 name.entry.now }
-        { pair.0.as_slice().cmp(&name) },
-    )
+    let mut left = place;
+    for block in blocks {
+        if left < block.len() {
+            return Some(&block.as_slice()[left]);
+        }
+        left -= block.len();
+    }
+    None
+}
+
+// Makes the spare block the first one, with the pair.
+fn add_first(blocks: &mut Vec<Block>, spare: &mut Option<Block>, pair: (Bytes, Text))
+    requires none { blocks.old.items ≡ [] }
+    requires room { vec_len blocks.old < vec_capacity blocks.old }
+    requires spare { spare.old ≡ Some [] }
+    ensures added { blocks.new.items ≡ (pair ∷ []) ∷ [] }
+    ensures spare { IsSpare spare.new }
+{
+    if let Some(mut first) = spare.take() {
+        let _ = first.insert(0, pair);
+        let _ = blocks.push(first);
+    }
+}
+
+// Adds the pair at a place of a block. Where that is full, half of it becomes a block of its own.
+fn add(
+    blocks: &mut Vec<Block>,
+    spare: &mut Option<Block>,
+    at: usize,
+    place: usize,
+    pair: (Bytes, Text),
+)
+    requires room { vec_len blocks.old < vec_capacity blocks.old }
+    requires spare { spare.old ≡ Some [] }
+    requires at { at < length blocks.old.items }
+    requires place { place ≤ length (slice_index_or blocks.old.items at []) }
+    ensures added { let block = insert (slice_index_or blocks.old.items at []) place pair in
+        joined blocks.new.items ≡ joined (slice_set blocks.old.items at block) }
+    ensures filled { AreFilled blocks.old.items → AreFilled blocks.new.items }
+    ensures spare { IsSpare spare.new }
+{
+    let block = &mut blocks[at];
+    let Err(pair) = block.insert(place, pair) else {
+        return;
+    };
+    if let Some(empty) = spare.take() {
+        let rest = block.split(place, pair, empty);
+        insert_within(blocks, at + 1, rest);
+    }
+}
+
+// Takes a pair out, and its block where it has no other.
+fn take_out(blocks: &mut Vec<Block>, at: usize, place: usize) -> Text
+    requires at { at < length blocks.old.items }
+    requires place { place < length (slice_index_or blocks.old.items at []) }
+    ensures before { let pair = slice_index_or (slice_index_or blocks.old.items at []) place ([], []) in
+        result ≡ pair.1 }
+    ensures removed { let block = remove (slice_index_or blocks.old.items at []) place in
+        joined blocks.new.items ≡ joined (slice_set blocks.old.items at block) }
+    ensures filled { AreFilled blocks.old.items → AreFilled blocks.new.items }
+{
+    let block = &mut blocks[at];
+    let text = block.remove(place);
+    if block.len() == 0 {
+        drop(blocks.remove(at));
+    }
+    text
 }

@@ -1,5 +1,6 @@
-use Rattle.std.proofs.Common.{[], length, ap, ◌∙◌}
+use Rattle.std.proofs.Common.{List, [], length, ap, ◌∙◌}
 use Rattle.std.specs.FinMap as map
+use Rattle.object_sources.specs.Blocks.{joined}
 use Rattle.object_sources.specs.Places.{Pairs}
 use Rattle.object_sources.proofs.PlaceLemmas.{by_bytes}
 use Rattle.object_sources.proofs.sources.Sources.new.Goals as goal
@@ -7,4 +8,4 @@ use Rattle.object_sources.proofs.sources.Sources.new.Goals as goal
 pub returns : goal.returns
 returns c =
     let none : Pairs = [] in
-    ap (map.from_sorted {R = by_bytes}) c.new.ensures.items ∙ map.empty_of_len _ (map.len-entries _ ∙ ap length (map.entries-from_sorted by_bytes none tt))
+    ap (λ (blocks : List Pairs). map.from_sorted {R = by_bytes} (joined blocks)) c.new.ensures.items ∙ map.empty_of_len _ (map.len-entries _ ∙ ap length (map.entries-from_sorted by_bytes none tt))

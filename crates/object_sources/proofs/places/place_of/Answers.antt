@@ -1,7 +1,7 @@
 use Rattle.std.proofs.Common.{rules}
 use Rattle.std.proofs.lemmas.Fn.{always_returns_same}
 use Rattle.object_sources.proofs.PlaceLemmas.{by_bytes, searched}
-use Rattle.object_sources.proofs.sources.place_of.Goals as goal
+use Rattle.object_sources.proofs.places.place_of.Goals as goal
 
 -- the closure compares a pair's name, and the search meets its bounds
 pub returns : goal.returns
