@@ -1,8 +1,8 @@
 -- Child programs that were asked whether they have ended.
 use Rattle.std.proofs.Common.{◌≡◌, ◌∙◌, ◌<◌, ℕ, zero, suc, List, [], ◌∷◌, map, length, slice_index_or, slice_set, refl, sym, ap, ap₂, subst, arith}
-use Rattle.std.specs.Prelude.{Option, Some, None, IfSome, IfOk, Result, Ok}
+use Rattle.std.specs.Prelude.{Option, Some, None, IfSome, IfOk, Result, Ok, remove}
 use Rattle.odin_outside.specs.declared.events.Running.{Running}
-use Rattle.odin_children.specs.Told.{Seen, IsAsked, AreAsked}
+use Rattle.odin_children.specs.Told.{Seen, IsAsked, AreAsked, NoneEnded}
 
 known : {X : Type 0} (x : Option X) → IfSome x (λ value. x ≡ Some value)
 known None = tt
@@ -62,3 +62,27 @@ runs_of f (x ∷ xs) = ap (λ tools. (f x).running ∷ tools) (runs_of f xs)
 -- the same of the tools that are seen so
 pub runs_on : {X : Type 0} (f : X → Seen) (olds news : List X) → AreAsked (map f olds) (map f news) → map (λ x. (f x).running) news ≡ map (λ x. (f x).running) olds
 runs_on f olds news asked = sym (runs_of f news) ∙ runs_same (map f olds) (map f news) asked ∙ runs_of f olds
+
+-- one at a place or after it is asked: those before it are as they were
+pub none_still : {X : Type 0} (f : X → Seen) (xs : List X) (k : ℕ) (tool : X) → NoneEnded k (map f xs) → NoneEnded k (map f (slice_set xs k tool))
+none_still f [] k tool before = before
+none_still f (x ∷ xs) zero tool before = tt
+none_still f (x ∷ xs) (suc k) tool before = (before.0, none_still f xs k tool before.1)
+
+-- and where it has told no end either, none up to it has
+pub none_more : {X : Type 0} (f : X → Seen) (xs : List X) (k : ℕ) (tool : X) → NoneEnded k (map f xs) → (f tool).status ≡ None → NoneEnded (suc k) (map f (slice_set xs k tool))
+none_more f [] k tool before runs = tt
+none_more f (x ∷ xs) zero tool before runs = (runs, tt)
+none_more f (x ∷ xs) (suc k) tool before runs = (before.0, none_more f xs k tool before.1 runs)
+
+-- those before a place stay where the one at it is taken out
+pub none_left : {X : Type 0} (f : X → Seen) (xs : List X) (k : ℕ) → NoneEnded k (map f xs) → NoneEnded k (map f (remove xs k))
+none_left f [] k before = before
+none_left f (x ∷ xs) zero before = tt
+none_left f (x ∷ xs) (suc k) before = (before.0, none_left f xs k before.1)
+
+-- beside the one at a place the same
+pub same_beside : {X : Type 0} (xs : List X) (k : ℕ) (tool : X) → remove (slice_set xs k tool) k ≡ remove xs k
+same_beside [] k tool = refl
+same_beside (x ∷ xs) zero tool = refl
+same_beside (x ∷ xs) (suc k) tool = ap (λ rest. x ∷ rest) (same_beside xs k tool)

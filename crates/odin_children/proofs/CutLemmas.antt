@@ -10,14 +10,15 @@ use Rattle.odin_outside.specs.Spawned.{Ends, Loses}
 use Rattle.odin_children.specs.Ends.{HasLeft, IsEndOf, HasOutcome, no_outcome}
 use Rattle.odin_children.specs.Finishes.{IsCleared, IsGivenUp, IsGiven, CanBeGiven}
 use Rattle.odin_children.specs.Folders.{Held, removed, AreLeft, IsToldOf, IsFileName}
-use Rattle.odin_children.specs.Told.{Seen, IsAsked, AreAsked, told_of}
-use Rattle.odin_children.proofs.AskedLemmas.{known_on, asked_twice, all_twice, runs_same, runs_of}
+use Rattle.odin_children.specs.Told.{Seen, IsAsked, AreAsked, NoneEnded, told_of}
+use Rattle.odin_children.proofs.AskedLemmas.{known_on, asked_twice, all_twice, none_left, runs_same, runs_of}
 
 -- The tool at a place, as it was at first, when P held of it and when Q held of it, and the others.
 pub record Cut {X : Type 0} (f : X → Seen) (P Q : X → Type 0) (olds : List Seen) (news : List X) (k : ℕ) : Type 0 where
   pub before : List Seen
   pub tool : Seen
   pub after : List Seen
+  pub place : length before ≡ k
   pub item : X
   pub now : X
   pub ran : olds ≡ before ++ tool ∷ after
@@ -35,6 +36,7 @@ cut f P Q (old ∷ olds) (x ∷ xs) (new ∷ news) zero inside first second hold
   before = [];
   tool = old;
   after = olds;
+  place = refl;
   item = x;
   now = new;
   ran = refl;
@@ -49,6 +51,7 @@ cut f P Q (old ∷ olds) (x ∷ xs) (new ∷ news) (suc k) inside first second h
       before = old ∷ rest.before;
       tool = rest.tool;
       after = rest.after;
+      place = ap suc rest.place;
       item = rest.item;
       now = rest.now;
       ran = ap (λ tools. old ∷ tools) rest.ran;
@@ -84,13 +87,17 @@ can_at f held [] (x ∷ xs) k inside asked can = absurd asked
 can_at f held (old ∷ olds) (x ∷ xs) zero inside asked can = λ d. can_now old (f x) held asked.0 (can 0 old (omega arith))
 can_at f held (old ∷ olds) (x ∷ xs) (suc k) inside asked can = can_at f held olds xs k (omega (arith, inside)) asked.1 (λ i d within. can (suc i) d (omega (arith, within)))
 
+-- none before it has told an end, also once it is taken out
+oldest_left : {X : Type 0} (f : X → Seen) (xs news : List X) (k : ℕ) (before : List Seen) → length before ≡ k → NoneEnded k (map f xs) → remove news k ≡ remove xs k → NoneEnded (length before) (map f (remove news k))
+oldest_left f xs news k before place oldest others = subst (λ n. NoneEnded n (map f (remove news k))) (sym place) (subst (λ items. NoneEnded k (map f items)) (sym others) (none_left f xs k oldest))
+
 -- what is known of the tool that is given up
 abbrev pub IsOut : {X : Type 0} → (X → Seen) → ℕ → X → Type 0
 IsOut f slot x = (f x).running.slot ≡ slot
 
 pub given_up : {X : Type 0} (f : X → Seen) (olds : List Seen) (xs news : List X) (k slot : ℕ) (held held' : Held) → k < length xs → AreAsked olds (map f xs) → AreAsked (map f xs) (map f news)
-    → HoldsAt (λ x. IsCleared (f x) held held') xs k → HoldsAt (IsOut f slot) news k → IsGivenUp olds (map f (remove news k)) slot held held'
-given_up f olds xs news k slot held held' inside first second cleared out =
+    → HoldsAt (λ x. IsCleared (f x) held held') xs k → HoldsAt (IsOut f slot) news k → NoneEnded k (map f xs) → remove news k ≡ remove xs k → IsGivenUp olds (map f (remove news k)) slot held held'
+given_up f olds xs news k slot held held' inside first second cleared out oldest others =
     let at = cut f (λ x. IsCleared (f x) held held') (IsOut f slot) olds xs news k inside first second cleared out in record {
       before = at.before;
       tool = at.tool;
@@ -99,11 +106,12 @@ given_up f olds xs news k slot held held' inside first second cleared out =
       at = ap (λ (running : Running). running.slot) (sym (at.again.running ∙ at.asked.running)) ∙ at.holds';
       cleared = cleared_first at.tool (f at.item) held held' at.asked at.holds;
       stay = at.stay;
+      oldest = oldest_left f xs news k at.before at.place oldest others;
     }
 
 pub given : {X : Type 0} (f : X → Seen) (olds : List Seen) (xs news : List X) (k slot : ℕ) (raw : Raw) (held held' : Held) → k < length xs → AreAsked olds (map f xs) → AreAsked (map f xs) (map f news)
-    → HoldsAt (λ x. HasLeft (f x) held raw) xs k → HoldsAt (λ x. IsCleared (f x) held held') xs k → HoldsAt (IsOut f slot) news k → IsGiven olds (map f (remove news k)) slot raw held held'
-given f olds xs news k slot raw held held' inside first second left cleared out =
+    → HoldsAt (λ x. HasLeft (f x) held raw) xs k → HoldsAt (λ x. IsCleared (f x) held held') xs k → HoldsAt (IsOut f slot) news k → NoneEnded k (map f xs) → remove news k ≡ remove xs k → IsGiven olds (map f (remove news k)) slot raw held held'
+given f olds xs news k slot raw held held' inside first second left cleared out oldest others =
     let at = cut f (λ x. HasLeft (f x) held raw × IsCleared (f x) held held') (IsOut f slot) olds xs news k inside first second (λ d. (left d, cleared d)) out in record {
       up = record {
         before = at.before;
@@ -113,6 +121,7 @@ given f olds xs news k slot raw held held' inside first second left cleared out 
         at = ap (λ (running : Running). running.slot) (sym (at.again.running ∙ at.asked.running)) ∙ at.holds';
         cleared = cleared_first at.tool (f at.item) held held' at.asked at.holds.1;
         stay = at.stay;
+        oldest = oldest_left f xs news k at.before at.place oldest others;
       };
       left = left_first at.tool (f at.item) held raw at.asked at.holds.0;
     }

@@ -1,19 +1,19 @@
 -- How one of the child programs that run is given up.
-use Rattle.std.specs.Prelude.{◌≡◌, ℕ, List, ◌∷◌, ◌++◌, Result, Ok, Err}
+use Rattle.std.specs.Prelude.{◌≡◌, ℕ, List, ◌∷◌, ◌++◌, length, Result, Ok, Err}
 use Rattle.std.specs.List.{All}
 use Rattle.object_values.specs.declared.jobs.Raw.{Raw}
 use Rattle.odin_outside.specs.declared.spawner.FinishFault.{FinishFault}
 use Rattle.odin_outside.specs.declared.spawner.FinishFault.TheVariants.{Failed, Memory}
 use Rattle.odin_children.specs.Ends.{HasLeft, HasOutcome}
 use Rattle.odin_children.specs.Folders.{Held, removed, IsFileName, SameBut}
-use Rattle.odin_children.specs.Told.{Seen, AreAsked}
+use Rattle.odin_children.specs.Told.{Seen, AreAsked, NoneEnded}
 
 -- Its folder is gone, and at other paths all is as it was.
 pub record IsCleared (tool : Seen) (held held' : Held) : Type 0 where
   pub gone : held' tool.folder ≡ removed (held tool.folder)
   pub others : SameBut tool.folder held held'
 
--- One that ran in this slot is given up: its folder is gone, and all others run on.
+-- One that ran in this slot is given up, the oldest of those that ended: its folder is gone, and all others run on.
 pub record IsGivenUp (old new : List Seen) (slot : ℕ) (held held' : Held) : Type 0 where
   pub before : List Seen
   pub tool : Seen
@@ -22,6 +22,7 @@ pub record IsGivenUp (old new : List Seen) (slot : ℕ) (held held' : Held) : Ty
   pub at : tool.running.slot ≡ slot
   pub cleared : IsCleared tool held held'
   pub stay : AreAsked (before ++ after) new
+  pub oldest : NoneEnded (length before) new
 
 -- the same of one whose result is given
 pub record IsGiven (old new : List Seen) (slot : ℕ) (raw : Raw) (held held' : Held) : Type 0 where

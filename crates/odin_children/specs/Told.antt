@@ -1,5 +1,5 @@
 -- What child programs tell.
-use Rattle.std.specs.Prelude.{◌≡◌, ⊤, ℕ, List, [], ◌∷◌, Option, Some, None, IfSome}
+use Rattle.std.specs.Prelude.{◌≡◌, ⊤, ℕ, zero, suc, List, [], ◌∷◌, Option, Some, None, IfSome}
 use Rattle.std.specs.declared.process.status.ExitStatus.{ExitStatus}
 use Rattle.odin_outside.specs.declared.events.Running.{Running}
 use Rattle.odin_outside.specs.Spawned.{Spawned}
@@ -26,3 +26,9 @@ AreAsked [] [] = ⊤
 AreAsked [] (new ∷ news) = ⊥
 AreAsked (old ∷ olds) [] = ⊥
 AreAsked (old ∷ olds) (new ∷ news) = IsAsked old new × AreAsked olds news
+
+-- None of those before a place has told an end.
+abbrev pub NoneEnded : ℕ → List Seen → Type 0
+NoneEnded zero tools = ⊤
+NoneEnded (suc place) [] = ⊤
+NoneEnded (suc place) (tool ∷ tools) = (tool.status ≡ None) × NoneEnded place tools

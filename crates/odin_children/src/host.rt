@@ -27,7 +27,9 @@ pub struct HostSystem<R: Files + Alloc + Clone + Drop> {
 
 impl<R: Files + Alloc + Clone + Drop> HostSystem<R> {
     /// Nothing was moved out of the way yet.
-    pub fn new(rt: R) -> Self {
+    pub fn new(rt: R) -> Self
+        ensures { result.moved ≡ 0 }
+    {
         HostSystem { rt, moved: 0 }
     }
 }

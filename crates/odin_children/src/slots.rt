@@ -52,6 +52,7 @@ pub fn end_at<S: System>(
     requires { place < vec_len started.old }
     ensures length { vec_len started.new ≡ vec_len started.old }
     ensures asked { AreAsked (map seen_of started.old.items) (map seen_of started.new.items) }
+    ensures others { remove started.new.items place ≡ remove started.old.items place }
     ensures left { IfOk result (λ raw. HoldsAt (λ tool. HasLeft (seen_of tool)
         (S.held system.old) raw) started.old.items place) }
     ensures cleared { result ≢ Err SystemFault.Memory → HoldsAt (λ tool. IsCleared (seen_of tool)

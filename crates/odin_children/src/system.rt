@@ -28,7 +28,7 @@ pub trait System {
 
     /// Makes the folder of a session in `odin.work`, which is made where there is none. Where `odin.work` is no folder, but a link to one
     /// too, this fails, and what is at its other end isn't touched. What else is in `odin.work` is removed as far as it can be: it is of
-    /// sessions that ended.
+    /// sessions that ended, and nothing is told of it.
     fn open(&mut self, alloc: Global, home: &str) -> Result<(), SystemFault>
         ensures others { SameBut home.now (held self.old) (held self.new) }
         ensures counts { Counts SystemFault.Memory (log self.old) (log self.new) result };

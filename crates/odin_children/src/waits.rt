@@ -1,7 +1,7 @@
 // The first child program that ends.
-ghost use Rattle.std.specs.Prelude.{◌≡◌, ◌<◌, map, vec_len, IfSome};
+ghost use Rattle.std.specs.Prelude.{◌≡◌, ◌<◌, map, vec_len, None, IsTrue, IfSome};
 ghost use Rattle.odin_children.specs.Seen.{seen_of};
-ghost use Rattle.odin_children.specs.Told.{IsAsked, AreAsked};
+ghost use Rattle.odin_children.specs.Told.{IsAsked, AreAsked, NoneEnded};
 
 use crate::program::Started;
 use crate::system::System;
@@ -15,7 +15,8 @@ const LONGEST_PAUSE: u64 = 10_000_000;
 
 // Whether a child program has ended, or can't be asked: then the wait for it says why.
 fn has_ended<S: System>(tool: &mut Started<S>) -> bool
-    ensures { IsAsked (seen_of tool.old) (seen_of tool.new) }
+    ensures asked { IsAsked (seen_of tool.old) (seen_of tool.new) }
+    ensures running { ¬ IsTrue result → (seen_of tool.new).status ≡ None }
 {
     match tool.child.try_wait() {
         Ok(None) => false,
@@ -28,6 +29,7 @@ fn ended_now<S: System>(started: &mut Vec<Started<S>>) -> Option<usize>
     ensures inside { IfSome result (λ place. place < vec_len started.new) }
     ensures length { vec_len started.new ≡ vec_len started.old }
     ensures asked { AreAsked (map seen_of started.old.items) (map seen_of started.new.items) }
+    ensures oldest { IfSome result (λ place. NoneEnded place (map seen_of started.new.items)) }
 {
     for place in 0..started.len() {
         if has_ended(&mut started[place]) {
@@ -43,6 +45,7 @@ pub fn wait_any<S: System>(system: &S, started: &mut Vec<Started<S>>) -> usize
     requires { 0 < vec_len started.old }
     ensures inside { result < vec_len started.new }
     ensures asked { AreAsked (map seen_of started.old.items) (map seen_of started.new.items) }
+    ensures oldest { NoneEnded result (map seen_of started.new.items) }
 {
     if started.len() == 1 {
         return 0;

@@ -1,21 +1,26 @@
 -- What is told of a file of the system beside its bytes.
-use Rattle.std.specs.Prelude.{ℕ, Bool, IsTrue, true, false, Option, None, Result, Ok, Err}
-use Rattle.std.specs.Option.{ForSome}
+use Rattle.std.specs.Prelude.{◌≡◌, ℕ, Bool, IsTrue, true, false, Option, None, Result, Ok, Err}
+use Rattle.std.specs.Option.{ForSome, option_map}
 use Rattle.odin_files.specs.declared.lock.LockFault.{LockFault}
 use Rattle.odin_files.specs.declared.lock.LockFault.TheVariants.{InUse, Failed}
 
 -- Whether its lock is ours, or was found to be that of others; the size with which it was seen under its own name, where nothing changed it since;
--- that size right before the last change; and whether its name is there after a crash too.
+-- that size right before the last change; whether its name is there after a crash too; and whether we tried to make it.
 pub record Hold : Type 0 where
   pub ours : Bool
   pub others : Bool
   pub seen : Option ℕ
   pub changed : Option ℕ
   pub lasting : Bool
+  pub made : Bool
 
 -- right after it was opened
 abbrev pub just_opened : Hold → Hold
-just_opened hold = record { ours = false; others = false; seen = None; changed = None; lasting = false }
+just_opened hold = record hold { ours = false; others = false; seen = None; changed = None; lasting = false }
+
+-- right after it was made, or a try to make it
+abbrev pub just_made : Hold → Hold
+just_made hold = record { ours = false; others = false; seen = None; changed = None; lasting = false; made = true }
 
 -- after a try to lock it
 abbrev pub after_lock : {T : Type 0} → Result T LockFault → Hold → Hold
@@ -44,3 +49,7 @@ after_naming (Err _) hold = hold
 -- the lock is ours, where that is told
 abbrev pub IsOurs : Option Hold → Type 0
 IsOurs hold = ForSome hold (λ h. IsTrue h.ours)
+
+-- no file was made meanwhile, where that is told
+abbrev pub MakesNone : Option Hold → Option Hold → Type 0
+MakesNone old new = option_map (λ h. h.made) new ≡ option_map (λ h. h.made) old

@@ -20,7 +20,7 @@ pub record IsNothing (file : Telling) : Type 0 where
 abbrev pub HasSize : Telling → ℕ → Type 0
 HasSize file size = IsTrue file.follows → size ≡ length file.seen
 
--- the place is not behind its bytes
+-- the place is not after its bytes
 abbrev pub IsInside : Telling → ℕ → Type 0
 IsInside file at = IsTrue file.follows → at ≤ length file.seen
 

@@ -3,6 +3,7 @@ ghost use Rattle.std.specs.Prelude.{◌≡◌, ◌+◌, ◌^◌, ◌≤◌, IsTr
 ghost use Rattle.std.specs.Option.{ForSome};
 ghost use Rattle.odin_outside.specs.Causes.{IsCounted, once_more};
 ghost use Rattle.odin_outside.specs.Disk.{Goes, Gives, SeesSame, SeesCut, SeesTaken, SeesTorn, SeesWritten, cut_to, same_pending, size_with, synced_as, wrote};
+ghost use Rattle.odin_files.specs.Hold.{MakesNone};
 ghost use Rattle.odin_files.specs.Raw.{HasSize, Stays, Syncs, idle, size_over};
 ghost use Rattle.odin_files.specs.Standings.{Fares, IsHeld, IsReady, StaysSeen, Stands, WasSeen, is_gone, is_in_use};
 
@@ -44,6 +45,7 @@ impl<F: RawFile + Drop> FileDisk<F> {
         ensures syncs { Syncs (F.told file) (F.told result.file) }
         ensures opened { result.standing ≡ Standing.Open
             → IsHeld (F.told result.file) (F.hold result.file) result.size }
+        ensures makes_none { MakesNone (F.hold file) (F.hold result.file) }
     {
         let mut file = file;
         let (standing, size) = found(&mut file);
@@ -84,6 +86,7 @@ impl<F: RawFile + Drop> FileDisk<F> {
         ensures open { IsTrue result → self.old.standing ≡ Standing.Open }
         ensures size { self.new.size ≡ self.old.size }
         ensures faults { self.new.faults ≡ self.old.faults }
+        ensures makes_none { MakesNone (F.hold self.old.file) (F.hold self.new.file) }
     {
         if self.standing != Standing::Open {
             return false;
@@ -104,6 +107,7 @@ impl<F: RawFile + Drop> FileDisk<F> {
         ensures gone { IsTrue result → ¬ IsTrue (is_gone self.old.standing) }
         ensures size { self.new.size ≡ self.old.size }
         ensures faults { self.new.faults ≡ self.old.faults }
+        ensures makes_none { MakesNone (F.hold self.old.file) (F.hold self.new.file) }
     {
         if self.standing == Standing::Absent {
             return self.is_absent();
@@ -118,6 +122,7 @@ impl<F: RawFile + Drop> FileDisk<F> {
         ensures standing { self.new.standing ≡ self.old.standing }
         ensures size { self.new.size ≡ self.old.size }
         ensures faults { self.new.faults ≡ self.old.faults }
+        ensures makes_none { MakesNone (F.hold self.old.file) (F.hold self.new.file) }
     {
         match self.file.find() {
             Ok(found) => !found,
@@ -127,7 +132,8 @@ impl<F: RawFile + Drop> FileDisk<F> {
 
     // Whether the file may be changed: it is made where none stood there, and looked at.
     fn is_ready(&mut self) -> bool
-        ensures ready { IsTrue result → IsReady self.new.standing (F.hold self.new.file) self.new.size }
+        ensures ready { IsTrue result
+            → IsReady self.new.standing (F.hold self.new.file) self.new.size }
         ensures stays { Stays (F.told self.old.file) (F.told self.new.file) }
         ensures gone { IsTrue (is_gone self.old.standing) → ¬ IsTrue result }
         ensures size { self.new.size ≡ self.old.size }
@@ -165,6 +171,7 @@ impl<F: RawFile + Drop> Disk for FileDisk<F> {
             Goes same_pending old (idle (F.told self.new.file)) result }
         ensures look { OnOk result (self.new.standing ≡ Standing.Open
             → ForSome (F.hold self.new.file) (StaysSeen self.old.size)) }
+        ensures makes_none { MakesNone (F.hold self.old.file) (F.hold self.new.file) }
         ensures fares { Fares self.old.standing self.new.standing
             self.old.faults self.new.faults result }
     {
@@ -183,6 +190,7 @@ impl<F: RawFile + Drop> Disk for FileDisk<F> {
         ensures seen { SeesSame (F.told self.old.file) (F.told self.new.file) }
         ensures goes { let old = idle (F.told self.old.file) in
             Goes same_pending old (idle (F.told self.new.file)) result }
+        ensures makes_none { MakesNone (F.hold self.old.file) (F.hold self.new.file) }
         ensures fares { Fares self.old.standing self.new.standing
             self.old.faults self.new.faults result }
     {

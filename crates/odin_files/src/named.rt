@@ -74,7 +74,11 @@ fn tolerated(synced: io::Result<()>) -> io::Result<()>
 }
 
 impl<'a, R: Files<File = File> + Alloc + Drop> NamedFile<'a, R> {
-    pub fn new(rt: R, path: &'a str) -> Self {
+    /// The file of a path. Nothing is opened yet.
+    pub fn new(rt: R, path: &'a str) -> Self
+        ensures path { result.path.now ≡ path.now }
+        ensures closed { result.file ≡ None }
+    {
         NamedFile {
             rt,
             path,

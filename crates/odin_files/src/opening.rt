@@ -1,5 +1,6 @@
 // The opening of a store's file, and its making.
 ghost use Rattle.std.specs.Prelude.{◌≡◌, IfOk};
+ghost use Rattle.odin_files.specs.Hold.{MakesNone};
 ghost use Rattle.odin_files.specs.Raw.{IsNothing, Stays, Syncs};
 ghost use Rattle.odin_files.specs.Standings.{IsHeld, IsLockedAs, StandsAt};
 
@@ -12,6 +13,7 @@ pub fn hold<F: RawFile>(file: &mut F) -> Result<u64, LockFault>
     ensures ok { IfOk result (IsHeld (F.told file.new) (F.hold file.new)) }
     ensures used { IsLockedAs result (F.hold file.new) }
     ensures syncs { Syncs (F.told file.old) (F.told file.new) }
+    ensures makes_none { MakesNone (F.hold file.old) (F.hold file.new) }
 {
     file.lock()?;
     let Some(size) = file.look()? else {
@@ -26,7 +28,9 @@ pub fn hold<F: RawFile>(file: &mut F) -> Result<u64, LockFault>
 fn held<F: RawFile>(file: &mut F) -> (Standing, u64)
     ensures stands { StandsAt result (F.told file.new) (F.hold file.new) }
     ensures syncs { Syncs (F.told file.old) (F.told file.new) }
-    ensures opened { result.0 ≡ Standing.Open → IsHeld (F.told file.new) (F.hold file.new) result.1 }
+    ensures opened { result.0 ≡ Standing.Open
+        → IsHeld (F.told file.new) (F.hold file.new) result.1 }
+    ensures makes_none { MakesNone (F.hold file.old) (F.hold file.new) }
 {
     match hold(file) {
         Ok(size) => (Standing::Open, size),
@@ -39,7 +43,9 @@ fn held<F: RawFile>(file: &mut F) -> (Standing, u64)
 pub fn found<F: RawFile>(file: &mut F) -> (Standing, u64)
     ensures stands { StandsAt result (F.told file.new) (F.hold file.new) }
     ensures syncs { Syncs (F.told file.old) (F.told file.new) }
-    ensures opened { result.0 ≡ Standing.Open → IsHeld (F.told file.new) (F.hold file.new) result.1 }
+    ensures opened { result.0 ≡ Standing.Open
+        → IsHeld (F.told file.new) (F.hold file.new) result.1 }
+    ensures makes_none { MakesNone (F.hold file.old) (F.hold file.new) }
 {
     match file.find() {
         Ok(true) => held(file),

@@ -3,7 +3,7 @@ ghost use Rattle.std.specs.Prelude.{◌≡◌, ◌+◌, ◌^◌, ◌≤◌, ℕ,
 ghost use Rattle.std.specs.Option.{option_map};
 ghost use Rattle.odin_outside.specs.Disk.{Telling, MayLeave, Goes, wrote, cut_to, synced_as};
 ghost use Rattle.odin_outside.specs.Disk.{SeesSame, Gives, SeesWritten, SeesTorn, SeesTaken, SeesCut};
-ghost use Rattle.odin_files.specs.Hold.{Hold, IsOurs, after_change, after_lock, after_look, after_naming, just_opened, unseen};
+ghost use Rattle.odin_files.specs.Hold.{Hold, IsOurs, after_change, after_lock, after_look, after_naming, just_made, just_opened, unseen};
 ghost use Rattle.odin_files.specs.Raw.{HasSize, IsInside, IsNothing, Stays};
 
 use crate::lock::LockFault;
@@ -27,7 +27,7 @@ pub trait RawFile {
     /// Makes an empty file at the path, or opens what others made there meanwhile.
     fn make(&mut self) -> io::Result<()>
         ensures stays { Stays (told self.old) (told self.new) }
-        ensures hold { hold self.new ≡ option_map just_opened (hold self.old) };
+        ensures hold { hold self.new ≡ option_map just_made (hold self.old) };
 
     /// Takes the lock of the file, for as long as it is open. It doesn't wait.
     fn lock(&mut self) -> Result<(), LockFault>

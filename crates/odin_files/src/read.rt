@@ -28,7 +28,7 @@ pub fn text_of(bytes: &[u8]) -> Result<&str, SystemFault>
     }
 }
 
-/// The first 16,777,217 bytes of what a reader has left, or all where that is shorter. No byte behind them is read.
+/// The first 16,777,217 bytes of what a reader has left, or all where that is shorter. No byte after them is read.
 pub fn read_front<R: Read + Drop>(alloc: Global, reader: R) -> Result<Bytes, SystemFault>
     ensures { IfOk result (λ front.
         IfSome (R.remaining reader) (λ left. front ≡ take file_limit left)) }

@@ -32,7 +32,7 @@ impl<R: Files> RawFiles for R {
     }
 }
 
-/// The same of files that tools leave behind, whose programs may still run: one that puts a pipe in the place of a file before it is opened can't make the
+/// The same of files that tools leave, whose programs may still run: one that puts a pipe in the place of a file before it is opened can't make the
 /// opening wait, since a pipe that is opened for reading and writing doesn't.
 #[derive(Drop)]
 pub struct Outputs<'a, R: Files> {

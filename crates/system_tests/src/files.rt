@@ -78,7 +78,7 @@ fn path_of_pipe<R: Files>(rt: &R, alloc: Global) -> io::Result<(PipeReader, Stri
 fn a_pipe_in_the_place_of_an_output_is_none(rt: HostRuntime) -> Result<(), Fail> {
     let (reader, path) = path_of_pipe(&rt, rt.alloc())?;
     let read = read_output(&rt, rt.alloc(), path.as_str());
-    assert!(rt; matches!(read, Ok(None)));
+    assert!(rt; matches!(&read, Ok(None)));
     assert!(rt; Outputs::new(&rt).open(path.as_str())?.is_none());
     drop(reader);
     Ok(())
@@ -92,7 +92,7 @@ fn an_output_is_read(rt: HostRuntime) -> Result<(), Fail> {
     fs::write(&rt, path, "abc")?;
     fs::set_permissions(&rt, path, Permissions::from_mode(0o444))?;
     let read = read_output(&rt, rt.alloc(), path);
-    assert!(rt; matches!(read, Ok(Some(body)) if body.len() == 3));
+    assert!(rt; matches!(&read, Ok(Some(body)) if body.len() == 3));
     fs::remove_file(&rt, path)?;
     Ok(())
 }

@@ -1,10 +1,10 @@
 use Rattle.std.proofs.Common.{rules}
 use Rattle.odin_children.specs.Seen.{seen_of}
-use Rattle.odin_children.proofs.AskedLemmas.{asked_there, all_same}
+use Rattle.odin_children.proofs.AskedLemmas.{asked_there, all_same, none_more, none_still}
 use Rattle.odin_children.proofs.waits.ended_now.Goals as goal
 
 pub loop-place-init : goal.loop-place-init
-loop-place-init g c = record { asked = all_same _; long = search rules }
+loop-place-init g c = record { asked = all_same _; oldest = tt; long = search rules }
 
 pub returns-then-has_ended-clause-asked : goal.returns-then-has_ended-clause-asked
 returns-then-has_ended-clause-asked g c = asked_there seen_of _ c.loop-place.started.items c.loop-place.place c.index_mut.result.now c.has_ended.new.tool (search rules) c.loop-place.invariant.asked (search rules)
@@ -12,5 +12,9 @@ returns-then-has_ended-clause-asked g c = asked_there seen_of _ c.loop-place.sta
 pub loop-place-preserved : goal.loop-place-preserved
 loop-place-preserved g c = record {
   asked = asked_there seen_of _ c.loop-place.started.items c.loop-place.place c.index_mut.result.now c.has_ended.new.tool (search rules) c.loop-place.invariant.asked (search rules);
+  oldest = none_more seen_of c.loop-place.started.items c.loop-place.place c.has_ended.new.tool c.loop-place.invariant.oldest (c.has_ended.ensures.running (search rules));
   long = search rules;
 }
+
+pub returns-then-has_ended-clause-oldest : goal.returns-then-has_ended-clause-oldest
+returns-then-has_ended-clause-oldest g c = none_still seen_of c.loop-place.started.items c.loop-place.place c.has_ended.new.tool c.loop-place.invariant.oldest

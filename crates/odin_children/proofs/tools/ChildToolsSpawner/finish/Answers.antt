@@ -1,4 +1,5 @@
 use Rattle.std.proofs.Common.{rules, ◌≡◌, ◌∙◌, sym, ap, map, refl, subst}
+use Rattle.std.specs.Prelude.{remove}
 use Rattle.std.specs.List.{HoldsAt}
 use Rattle.odin_children.specs.Finishes.{IsCleared, IsGiven, IsGivenUp}
 use Rattle.odin_children.specs.Seen.{seen_of}
@@ -12,14 +13,14 @@ pub returns-in-Ok-clause-finishes : goal.returns-in-Ok-clause-finishes
 returns-in-Ok-clause-finishes g c =
     subst (λ tools. IsGiven (map seen_of c.args.self.now.started.items) (map seen_of tools) c.take_at.result c.in-Ok.raw (g.S.System.held c.args.self.now.system) (g.S.System.held c.end_at.new.system)) (sym c.take_at.ensures.others)
     (given seen_of (map seen_of c.args.self.now.started.items) c.wait_any-place.new.started.items c.end_at.new.started.items c.wait_any-place.result c.take_at.result c.in-Ok.raw _ _ (search rules) c.wait_any-place.ensures.asked c.end_at.ensures.asked
-    c.in-Ok.ensures.left (c.end_at.ensures.cleared (ok_differs _ c.in-Ok.raw (search rules))) c.take_at.ensures.slot)
+    c.in-Ok.ensures.left (c.end_at.ensures.cleared (ok_differs _ c.in-Ok.raw (search rules))) c.take_at.ensures.slot c.wait_any-place.ensures.oldest c.end_at.ensures.others)
 
 pub returns-in-Ok-clause-ok : goal.returns-in-Ok-clause-ok
 returns-in-Ok-clause-ok g c =
     ends seen_of c.args.self.now.started.items c.take_at.new.started.items c.take_at.result _ _ _ _ c.in-Ok.raw (g.S.System.held c.args.self.now.system) (g.S.System.held c.end_at.new.system)
     (subst (λ tools. IsGivenUp (map seen_of c.args.self.now.started.items) (map seen_of tools) c.take_at.result (g.S.System.held c.args.self.now.system) (g.S.System.held c.end_at.new.system)) (sym c.take_at.ensures.others)
     (given_up seen_of (map seen_of c.args.self.now.started.items) c.wait_any-place.new.started.items c.end_at.new.started.items c.wait_any-place.result c.take_at.result _ _ (search rules) c.wait_any-place.ensures.asked c.end_at.ensures.asked
-    (c.end_at.ensures.cleared (ok_differs _ c.in-Ok.raw (search rules))) c.take_at.ensures.slot))
+    (c.end_at.ensures.cleared (ok_differs _ c.in-Ok.raw (search rules))) c.take_at.ensures.slot c.wait_any-place.ensures.oldest c.end_at.ensures.others))
     refl refl
 
 pub returns-in-Err-Memory-clause-memory : goal.returns-in-Err-Memory-clause-memory
@@ -39,7 +40,8 @@ returns-in-Err-Failed-clause-finishes g c =
     (given_up seen_of (map seen_of c.args.self.now.started.items) c.wait_any-place.new.started.items c.count_fault.new.self.started.items c.wait_any-place.result slot _ _ (search rules) c.wait_any-place.ensures.asked
     (subst (λ started. AreAsked (map seen_of c.wait_any-place.new.started.items) (map seen_of started.items)) (sym c.count_fault.ensures.started) c.end_at.ensures.asked)
     (subst (λ system. HoldsAt (λ tool. IsCleared (seen_of tool) (g.S.System.held c.args.self.now.system) (g.S.System.held system)) c.wait_any-place.new.started.items c.wait_any-place.result) (sym c.count_fault.ensures.system) (c.end_at.ensures.cleared (failed_differs _ (search rules))))
-    c.take_at-in-Err-Failed.ensures.slot)
+    c.take_at-in-Err-Failed.ensures.slot c.wait_any-place.ensures.oldest
+    (subst (λ started. remove started.items c.wait_any-place.result ≡ remove c.wait_any-place.new.started.items c.wait_any-place.result) (sym c.count_fault.ensures.started) c.end_at.ensures.others))
 
 pub returns-in-Err-Failed-clause-lost : goal.returns-in-Err-Failed-clause-lost
 returns-in-Err-Failed-clause-lost g c = λ slot is.
@@ -49,7 +51,8 @@ returns-in-Err-Failed-clause-lost g c = λ slot is.
     (given_up seen_of (map seen_of c.args.self.now.started.items) c.wait_any-place.new.started.items c.count_fault.new.self.started.items c.wait_any-place.result slot _ _ (search rules) c.wait_any-place.ensures.asked
     (subst (λ started. AreAsked (map seen_of c.wait_any-place.new.started.items) (map seen_of started.items)) (sym c.count_fault.ensures.started) c.end_at.ensures.asked)
     (subst (λ system. HoldsAt (λ tool. IsCleared (seen_of tool) (g.S.System.held c.args.self.now.system) (g.S.System.held system)) c.wait_any-place.new.started.items c.wait_any-place.result) (sym c.count_fault.ensures.system) (c.end_at.ensures.cleared (failed_differs _ (search rules))))
-    (subst (λ n. HoldsAt (IsOut seen_of n) c.count_fault.new.self.started.items c.wait_any-place.result) same c.take_at-in-Err-Failed.ensures.slot)))
+    (subst (λ n. HoldsAt (IsOut seen_of n) c.count_fault.new.self.started.items c.wait_any-place.result) same c.take_at-in-Err-Failed.ensures.slot) c.wait_any-place.ensures.oldest
+    (subst (λ started. remove started.items c.wait_any-place.result ≡ remove c.wait_any-place.new.started.items c.wait_any-place.result) (sym c.count_fault.ensures.started) c.end_at.ensures.others)))
     c.count_fault.ensures.starts c.count_fault.ensures.counted
 
 pub returns-in-Err-Failed-clause-counts : goal.returns-in-Err-Failed-clause-counts
