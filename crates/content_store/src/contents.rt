@@ -103,16 +103,7 @@ impl<K: Keying> Contents<K> {
         ensures bodies { OnOk result (self.new ≡ with_body body.now self.old) }
         ensures err { OnErr result (self.new ≡ self.old) }
     {
-        self.intern_hashed(alloc, text_hash(body.as_slice()), body)
-    }
-
-    /// The same where the hash is known.
-    pub fn intern_hashed(&mut self, alloc: Global, hash: u64, body: &Text) -> Result<u64, Memory>
-        requires { hash ≡ hash_of body.now }
-        ensures number { IfOk result (λ id. place_of body.now self.new ≡ Some id) }
-        ensures bodies { OnOk result (self.new ≡ with_body body.now self.old) }
-        ensures err { OnErr result (self.new ≡ self.old) }
-    {
+        let hash = text_hash(body.as_slice());
         if let Some(id) = self.find_hashed(hash, body.as_slice()) {
             return Ok(id);
         }
@@ -180,8 +171,8 @@ impl<K: Keying> Contents<K> {
     }
 }
 
-/// A hash that is many times as quick as a digest.
-pub fn text_hash(body: &[u8]) -> u64
+// A hash that is many times as quick as a digest.
+fn text_hash(body: &[u8]) -> u64
     ensures { result ≡ hash_of body.now }
 {
     let mut hasher = FoldHasher::default();

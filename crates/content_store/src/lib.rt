@@ -2,8 +2,10 @@
 #![tactic(auto)]
 
 mod contents;
+mod hasher;
 mod keying;
 pub mod laws;
 
-pub use contents::{Contents, text_hash};
+pub use contents::Contents;
+pub use hasher::ShaHasher;
 pub use keying::{Keying, OneKey, ShaKeys};

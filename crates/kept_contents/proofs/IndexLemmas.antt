@@ -1,4 +1,4 @@
--- What is found of lists and compounds by their hashes, and contents with one more.
+-- What is found of lists and compounds by their digests, and contents with one more.
 use Rattle.std.proofs.Common.{◌≡◌, ◌≢◌, ℕ, Bool, true, false, cond, List, [], ◌∷◌, ◌++◌, inl, inr, length, append-nil, ap, sym, ◌∙◌, subst, refl, true≢false, arith}
 use Rattle.std.specs.Prelude.{◌↔◌, IsTrue, OnErr, Result, Ok, Err, Option, Some, None, is_some, All, Contains, IfSome, IfNone, nat_eq, slice_get}
 use Rattle.std.specs.Hash.{HashWrites}
@@ -6,7 +6,7 @@ use Rattle.std.specs.List.{flat_map, fold}
 use Rattle.std.proofs.lemmas.Grind.{flat_map-append}
 use Rattle.std.proofs.lemmas.List.Sums.{fold-append}
 use Rattle.std.proofs.lemmas.Option.{none-some, same_Some}
-use Rattle.std.proofs.lemmas.Bool.Decides.{Decides-eqb}
+use Rattle.std.specs.Cmp.Lexicographic.{pointwise, bytes_decides}
 use Rattle.std.proofs.lemmas.List.Elements.{All-contains, All-push, All-weaker, Contains-append_left, Contains-push}
 use Rattle.object_values.specs.declared.views.Value.{Value}
 use Rattle.object_values.specs.declared.views.Value.TheVariants.{Simple}
@@ -16,7 +16,7 @@ use Rattle.meaning_records.proofs.Lemmas.{leads_back, number_before, number_behi
 use Rattle.kept_contents.specs.declared.shared.Shared.{Shared}
 use Rattle.kept_contents.specs.declared.shared.Content.{Content}
 use Rattle.kept_contents.specs.declared.shared.Content.TheVariants.{Text, Other}
-use Rattle.kept_contents.specs.Index.{IsIndexOf, IsNumber, hash_of}
+use Rattle.kept_contents.specs.Index.{IsIndexOf, IsNumber, digest_of}
 use Rattle.kept_contents.specs.Stocks.{IsOther, value_of, values_of}
 use Rattle.kept_contents.proofs.Items.{mapped}
 use Rattle.kept_contents.proofs.Contents.{unmapped}
@@ -40,10 +40,10 @@ number_there contents number value is at = subst (λ (v : Value). number_of v co
 grown : (contents : List Value) (c : Value) (number : ℕ) → IsNumber contents number → IsNumber (contents ++ c ∷ []) number
 grown contents c number is = (is.0, number_stays is.0 contents (c ∷ []) number is.1)
 
-pub empty_index : (first : ℕ → Option ℕ) → ((hash : ℕ) → first hash ≡ None) → IsIndexOf [] first []
+pub empty_index : (first : List ℕ → Option ℕ) → ((key : List ℕ) → first key ≡ None) → IsIndexOf [] first []
 empty_index first nowhere = record {
   found = λ value number other at. absurd (none-some number at);
-  first_right = λ hash number h. absurd (none-some number (sym (nowhere hash) ∙ h));
+  first_right = λ key number h. absurd (none-some number (sym (nowhere key) ∙ h));
   clashing_right = λ k d h. absurd (omega (arith, h));
 }
 
@@ -71,7 +71,7 @@ module _ (items : List Content) (number : ℕ) (value : Value) (other : IsOther 
     λ n. absurd (none-some value (sym (unmapped value_of items number at) ∙ leads_back value (values_of items) number n)),
   )
 
-module _ (contents : List Value) (first : ℕ → Option ℕ) (clashing : List ℕ) (is : IsIndexOf contents first clashing) where
+module _ (contents : List Value) (first : List ℕ → Option ℕ) (clashing : List ℕ) (is : IsIndexOf contents first clashing) where
   -- a text more
   pub index_stays : (c : Value) → (IsOther c → (n : ℕ) × (number_of c contents ≡ Some n)) → IsIndexOf (contents ++ c ∷ []) first clashing
   index_stays c known = record {
@@ -79,20 +79,20 @@ module _ (contents : List Value) (first : ℕ → Option ℕ) (clashing : List �
       | inl before ↦ is.found value number other before
       | inr last ↦ let k = known (subst IsOther last.1 other) in absurd (none-some k.0 (sym last.0 ∙ ap (λ (v : Value). number_of v contents) last.1 ∙ k.1))
     ];
-    first_right = λ hash number h. grown contents c number (is.first_right hash number h);
+    first_right = λ key number h. grown contents c number (is.first_right key number h);
     clashing_right = All-weaker (IsNumber contents) (IsNumber (contents ++ c ∷ [])) (grown contents c) clashing is.clashing_right;
   }
 
   module _ (value : Value) (other : IsOther value) where
-    -- a value whose hash leads nowhere
-    pub no_hash : first (hash_of value) ≡ None → number_of value contents ≡ None
+    -- a value whose digest leads nowhere
+    pub no_hash : first (digest_of value) ≡ None → number_of value contents ≡ None
     no_hash none = (elim (number_of value contents) as (λ o. number_of value contents ≡ o → number_of value contents ≡ None) [
       | None ↦ λ e. e
       | Some n ↦ λ e. let f = is.found value n other e in absurd (none-some f.0 (sym none ∙ f.1))
     ]) refl
 
-    -- what is found from the number that its hash leads to
-    pub answered : (k : ℕ) → first (hash_of value) ≡ Some k → (r : Option ℕ) → IfSome r (λ n. number_of value contents ≡ Some n) → IfNone r (number_of value contents ≢ Some k) → IfNone r (All (λ n. number_of value contents ≢ Some n) clashing) → r ≡ number_of value contents
+    -- what is found from the number that its digest leads to
+    pub answered : (k : ℕ) → first (digest_of value) ≡ Some k → (r : Option ℕ) → IfSome r (λ n. number_of value contents ≡ Some n) → IfNone r (number_of value contents ≢ Some k) → IfNone r (All (λ n. number_of value contents ≢ Some n) clashing) → r ≡ number_of value contents
     answered k at (Some n) here not_first not_others = sym here
     answered k at None here not_first not_others = (elim (number_of value contents) as (λ o. number_of value contents ≡ o → None ≡ number_of value contents) [
       | None ↦ λ e. sym e
@@ -103,34 +103,34 @@ module _ (contents : List Value) (first : ℕ → Option ℕ) (clashing : List �
     ]) refl
 
     module _ (fresh : number_of value contents ≡ None) where
-      -- the value is the first of its hash
-      pub more_first : (next : ℕ → Option ℕ) → first (hash_of value) ≡ None → ((hash : ℕ) → next hash ≡ cond (nat_eq (hash_of value) hash) (Some (length contents)) (first hash)) → IsIndexOf (contents ++ value ∷ []) next clashing
+      -- the value is the first of its digest
+      pub more_first : (next : List ℕ → Option ℕ) → first (digest_of value) ≡ None → ((key : List ℕ) → next key ≡ cond (pointwise nat_eq (digest_of value) key) (Some (length contents)) (first key)) → IsIndexOf (contents ++ value ∷ []) next clashing
       more_first next free led = record {
         found = λ v n o at. elim (number_before contents value v n at) [
           | inl before ↦ let f = is.found v n o before in (
             f.0,
-            led (hash_of v) ∙ elsewhere (hash_of v) f.0 (nat_eq (hash_of value) (hash_of v)) refl f.1,
+            led (digest_of v) ∙ elsewhere (digest_of v) f.0 (pointwise nat_eq (digest_of value) (digest_of v)) refl f.1,
             elim f.2 [
               | inl e ↦ inl e
               | inr c ↦ inr c
             ],
           )
-          | inr last ↦ (length contents, ap (λ (x : Value). next (hash_of x)) last.1 ∙ led (hash_of value) ∙ ap (λ t. cond t (Some (length contents)) (first (hash_of value))) ((Decides-eqb (hash_of value) (hash_of value)).1 refl), inl last.2)
+          | inr last ↦ (length contents, ap (λ (x : Value). next (digest_of x)) last.1 ∙ led (digest_of value) ∙ ap (λ t. cond t (Some (length contents)) (first (digest_of value))) ((bytes_decides (digest_of value) (digest_of value)).1 refl), inl last.2)
         ];
-        first_right = λ hash n e. right hash n (nat_eq (hash_of value) hash) (sym (led hash) ∙ e);
+        first_right = λ key n e. right key n (pointwise nat_eq (digest_of value) key) (sym (led key) ∙ e);
         clashing_right = All-weaker (IsNumber contents) (IsNumber (contents ++ value ∷ [])) (grown contents value) clashing is.clashing_right;
       }
         where
-          elsewhere : (hash n : ℕ) (t : Bool) → nat_eq (hash_of value) hash ≡ t → first hash ≡ Some n → cond t (Some (length contents)) (first hash) ≡ Some n
-          elsewhere hash n true same e = absurd (none-some n (sym free ∙ ap first ((Decides-eqb (hash_of value) hash).0 same) ∙ e))
-          elsewhere hash n false apart e = e
+          elsewhere : (key : List ℕ) (n : ℕ) (t : Bool) → pointwise nat_eq (digest_of value) key ≡ t → first key ≡ Some n → cond t (Some (length contents)) (first key) ≡ Some n
+          elsewhere key n true same e = absurd (none-some n (sym free ∙ ap first ((bytes_decides (digest_of value) key).0 same) ∙ e))
+          elsewhere key n false apart e = e
 
-          right : (hash n : ℕ) (t : Bool) → cond t (Some (length contents)) (first hash) ≡ Some n → IsNumber (contents ++ value ∷ []) n
-          right hash n true e = (value, number_behind value contents fresh ∙ e)
-          right hash n false e = grown contents value n (is.first_right hash n e)
+          right : (key : List ℕ) (n : ℕ) (t : Bool) → cond t (Some (length contents)) (first key) ≡ Some n → IsNumber (contents ++ value ∷ []) n
+          right key n true e = (value, number_behind value contents fresh ∙ e)
+          right key n false e = grown contents value n (is.first_right key n e)
 
-      -- its hash has one before
-      pub more_clashing : (k : ℕ) × (first (hash_of value) ≡ Some k) → IsIndexOf (contents ++ value ∷ []) first (clashing ++ length contents ∷ [])
+      -- its digest has one before
+      pub more_clashing : (k : ℕ) × (first (digest_of value) ≡ Some k) → IsIndexOf (contents ++ value ∷ []) first (clashing ++ length contents ∷ [])
       more_clashing taken = record {
         found = λ v n o at. elim (number_before contents value v n at) [
           | inl before ↦ let f = is.found v n o before in (
@@ -141,9 +141,9 @@ module _ (contents : List Value) (first : ℕ → Option ℕ) (clashing : List �
               | inr c ↦ inr (Contains-append_left clashing (length contents ∷ []) n c)
             ],
           )
-          | inr last ↦ (taken.0, ap (λ (x : Value). first (hash_of x)) last.1 ∙ taken.1, inr (subst (Contains (clashing ++ length contents ∷ [])) (sym last.2) (Contains-push clashing (length contents))))
+          | inr last ↦ (taken.0, ap (λ (x : Value). first (digest_of x)) last.1 ∙ taken.1, inr (subst (Contains (clashing ++ length contents ∷ [])) (sym last.2) (Contains-push clashing (length contents))))
         ];
-        first_right = λ hash n e. grown contents value n (is.first_right hash n e);
+        first_right = λ key n e. grown contents value n (is.first_right key n e);
         clashing_right = All-push (IsNumber (contents ++ value ∷ [])) clashing (length contents) (All-weaker (IsNumber contents) (IsNumber (contents ++ value ∷ [])) (grown contents value) clashing is.clashing_right) (value, number_behind value contents fresh);
       }
 

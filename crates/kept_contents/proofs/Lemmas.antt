@@ -7,6 +7,6 @@ pub use Rattle.kept_contents.proofs.Numbers.{next_number}
 -- Heads and keys of calls.
 pub use Rattle.kept_contents.proofs.HeadLemmas.{heads_not}
 pub use Rattle.kept_contents.proofs.KeyLemmas.{key_grown, one_call_of, one_key}
--- Items of lists by their places.
+-- Items of lists by their places, and texts more.
 pub use Rattle.kept_contents.proofs.Items.{mapped}
-pub use Rattle.kept_contents.proofs.Contents.{unmapped}
+pub use Rattle.kept_contents.proofs.Contents.{grown_not, grown_twice, unmapped}

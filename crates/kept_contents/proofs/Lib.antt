@@ -2,6 +2,7 @@ mod Batched
 mod Contents
 mod HeadLemmas
 mod IndexLemmas
+mod InputLemmas
 mod Items
 mod KeyLemmas
 mod Numbers

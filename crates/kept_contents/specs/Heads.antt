@@ -1,15 +1,16 @@
 -- The heads of calls.
-use Rattle.std.specs.Prelude.{◌≡◌, ℕ, List, ◌++◌, Option}
+use Rattle.std.specs.Prelude.{◌≡◌, ℕ, List, [], ◌∷◌, ◌++◌, Option}
 use Rattle.std.specs.Bool.{Decides}
 use Rattle.std.specs.Hash as fed
 use Rattle.std.specs.Hash.{HashWrites}
 use Rattle.std.specs.Cmp.Lexicographic.{bytes_decides, pointwise_decides}
-use Rattle.std.specs.List.{position}
+use Rattle.std.specs.List.{fold, position}
 use Rattle.std.proofs.Common.{rules}
 use Rattle.object_values.specs.Exact.{param_value_exact}
 use Rattle.object_values.specs.declared.nodes.ParamValue.{ParamValue}
 use Rattle.object_values.specs.declared.calls.Call.{Call}
 use Rattle.object_values.specs.declared.calls.CallPart.{CallPart}
+use Rattle.content_store.specs.Digesting as digesting
 use Rattle.kept_contents.specs.declared.head.CallHead.{CallHead}
 use Rattle.kept_contents.specs.contracts.head.CallHeadPartialEq.TheImpl.{ghosts as head_eq}
 
@@ -30,7 +31,7 @@ place_of_head head heads = position (head_eq.eq head) heads
 abbrev pub AreMore : List CallHead → List CallHead → Type 0
 AreMore old new = (later : List CallHead) × (new ≡ old ++ later)
 
--- ---- what a head feeds a hasher
+-- ---- what is digested of a head
 
 abbrev pair_fed : ParamValue → HashWrites
 pair_fed p = fed.slice fed.u8 p.param ++ fed.slice fed.u8 p.value
@@ -40,6 +41,13 @@ fed_of head =
     fed.slice fed.u8 head.tool ++ fed.slice fed.u8 head.version
     ++ fed.slice (fed.slice fed.u8) head.words ++ fed.slice pair_fed head.params
     ++ fed.slice (fed.slice fed.u8) head.outs
+
+unfoldable pub digest_of : CallHead → List ℕ
+digest_of head = digesting.digest (fold digesting.write digesting.initial (fed_of head))
+
+-- what a head feeds a hasher: its digest
+abbrev pub hashed_of : CallHead → HashWrites
+hashed_of head = digest_of head ∷ []
 
 -- Its `==` answers whether two are equal.
 pub head_exact : (x y : CallHead) → Decides (head_eq.eq x y) (x ≡ y)

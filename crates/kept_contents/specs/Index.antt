@@ -1,30 +1,39 @@
--- How lists and compounds are found among contents: a hash leads to the first value that has it, and the later ones clash.
+-- How lists and compounds are found among contents: a digest leads to the first value that has it, and the later ones clash.
 use Rattle.std.specs.Prelude.{◌≡◌, ◌⊎◌, ℕ, List, ◌++◌, Option, Some, All, Contains, nat_eq}
 use Rattle.std.specs.HashMap.{get}
 use Rattle.std.specs.List.{flat_map, fold}
 use Rattle.std.specs.Hash as fed
 use Rattle.std.specs.Hash.{HashWrites}
-use Rattle.std.specs.Hash.FoldHasher as folding
+use Rattle.std.specs.Cmp.Lexicographic.{pointwise}
 use Rattle.object_values.specs.declared.views.Part.{Part}
 use Rattle.object_values.specs.declared.views.Value.{Value}
+use Rattle.object_values.specs.declared.nodes.Node.{Node}
 use Rattle.object_values.specs.declared.views.Value.TheVariants.{Simple, List as Listed, Compound}
 use Rattle.object_values.specs.contracts.nodes.NodeHash.TheImpl.{ghosts as node_hash}
+use Rattle.content_store.specs.Digesting as digesting
 use Rattle.meaning_records.specs.Numbers.{number_of}
 use Rattle.kept_contents.specs.declared.index.OtherIndex.{OtherIndex}
 use Rattle.kept_contents.specs.Stocks.{IsOther}
 
--- ---- the hash of a value
+-- ---- the digest of a value
 
 abbrev pub part_fed : Part → HashWrites
 part_fed part = fed.slice fed.u8 part.name ++ fed.slice fed.u8 part.body
 
+-- their kinds come first
+abbrev pub nodes_fed : List Node → HashWrites
+nodes_fed nodes = fed.u8 1 ++ fed.slice node_hash.hash_input nodes
+
+abbrev pub parts_fed : List Part → HashWrites
+parts_fed parts = fed.u8 2 ++ flat_map part_fed parts
+
 abbrev pub value_fed : Value → HashWrites
 value_fed (Simple text) = fed.slice fed.u8 text
-value_fed (Listed nodes) = fed.slice node_hash.hash_input nodes
-value_fed (Compound parts) = flat_map part_fed parts
+value_fed (Listed nodes) = nodes_fed nodes
+value_fed (Compound parts) = parts_fed parts
 
-unfoldable pub hash_of : Value → ℕ
-hash_of value = folding.finish (fold folding.write folding.initial (value_fed value))
+unfoldable pub digest_of : Value → List ℕ
+digest_of value = digesting.digest (fold digesting.write digesting.initial (value_fed value))
 
 -- ---- the index
 
@@ -32,13 +41,13 @@ hash_of value = folding.finish (fold folding.write folding.initial (value_fed va
 abbrev pub IsNumber : List Value → ℕ → Type 0
 IsNumber contents number = (value : Value) × (number_of value contents ≡ Some number)
 
-pub record IsIndexOf (contents : List Value) (first : ℕ → Option ℕ) (clashing : List ℕ) : Type 0 where
-  -- The hash of each list and compound leads to it, or to another, and then it clashes.
+pub record IsIndexOf (contents : List Value) (first : List ℕ → Option ℕ) (clashing : List ℕ) : Type 0 where
+  -- The digest of each list and compound leads to it, or to another, and then it clashes.
   pub found : (value : Value) (number : ℕ) → IsOther value → number_of value contents ≡ Some number
-      → (k : ℕ) × (first (hash_of value) ≡ Some k) × ((number ≡ k) ⊎ Contains clashing number)
+      → (k : ℕ) × (first (digest_of value) ≡ Some k) × ((number ≡ k) ⊎ Contains clashing number)
   -- Numbers are of contents.
-  pub first_right : (hash number : ℕ) → first hash ≡ Some number → IsNumber contents number
+  pub first_right : (key : List ℕ) (number : ℕ) → first key ≡ Some number → IsNumber contents number
   pub clashing_right : All (IsNumber contents) clashing
 
 abbrev pub IsIndexed : List Value → OtherIndex → Type 0
-IsIndexed contents index = IsIndexOf contents (get nat_eq index.first) index.clashing.items
+IsIndexed contents index = IsIndexOf contents (get (pointwise nat_eq) index.first) index.clashing.items

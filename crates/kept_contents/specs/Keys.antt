@@ -1,9 +1,9 @@
 -- Which key is that of a call.
-use Rattle.std.specs.Prelude.{◌≡◌, List, ◌++◌, Some}
+use Rattle.std.specs.Prelude.{◌≡◌, ◌⊎◌, List, [], ◌∷◌, ◌++◌, None, Some}
 use Rattle.std.specs.Bool.{Decides}
 use Rattle.std.specs.Hash as fed
 use Rattle.std.specs.Hash.{HashWrites}
-use Rattle.std.specs.Cmp.Lexicographic.{pointwise_decides}
+use Rattle.std.specs.Cmp.Lexicographic.{bytes_decides, pointwise_decides}
 use Rattle.std.proofs.Common.{rules}
 use Rattle.std.proofs.lemmas.Bool.Decides.{Decides-eqb}
 use Rattle.object_values.specs.Exact.{call_part_exact}
@@ -12,17 +12,23 @@ use Rattle.kept_contents.specs.declared.head.CallHead.{CallHead}
 use Rattle.kept_contents.specs.declared.keys.CallKey.{CallKey}
 use Rattle.kept_contents.specs.contracts.keys.CallKeyPartialEq.TheImpl.{ghosts as key_eq}
 use Rattle.kept_contents.specs.Heads.{head_of, place_of_head}
-use Rattle.kept_contents.specs.Inputs.{hash_of_parts}
+use Rattle.content_store.specs.Bodies.{Bodies}
+use Rattle.kept_contents.specs.Inputs.{AreHeldParts, digest_of_parts}
 
-pub record IsKeyOf (heads : List CallHead) (key : CallKey) (call : Call) : Type 0 where
+pub record IsKeyOf (heads : List CallHead) (texts : Bodies) (key : CallKey) (call : Call) : Type 0 where
   pub head : place_of_head (head_of call) heads ≡ Some key.head
-  pub hash : key.hash ≡ hash_of_parts call.parts
+  pub digest : key.digest ≡ digest_of_parts texts call.parts
+  pub held : AreHeldParts texts call.parts
   pub parts : key.parts ≡ call.parts
+
+-- the head of a call, or a text of its inputs, isn't held
+abbrev pub IsUnheld : List CallHead → Bodies → Call → Type 0
+IsUnheld heads texts call = (place_of_head (head_of call) heads ≡ None) ⊎ (¬ AreHeldParts texts call.parts)
 
 -- what a key feeds a hasher
 abbrev pub fed_of : CallKey → HashWrites
-fed_of key = fed.u64 key.head ++ fed.u64 key.hash
+fed_of key = fed.u64 key.head ++ key.digest ∷ []
 
 -- Its `==` answers whether two are equal.
 pub key_exact : (x y : CallKey) → Decides (key_eq.eq x y) (x ≡ y)
-key_exact x y = search (rules, Decides-eqb x.head y.head, Decides-eqb x.hash y.hash, pointwise_decides call_part_exact x.parts y.parts)
+key_exact x y = search (rules, Decides-eqb x.head y.head, bytes_decides x.digest y.digest, pointwise_decides call_part_exact x.parts y.parts)

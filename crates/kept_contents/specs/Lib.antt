@@ -5,4 +5,5 @@ pub mod Held
 pub mod Index
 pub mod Inputs
 pub mod Keys
+pub mod Places
 pub mod Stocks

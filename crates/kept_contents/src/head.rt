@@ -1,8 +1,10 @@
 // The heads of calls: all of a call but its inputs.
 ghost use Rattle.std.specs.Prelude.{◌≡◌, IfOk};
 ghost use Rattle.kept_contents.specs.Borrowed.{as_head};
-ghost use Rattle.kept_contents.specs.Heads.{call_with, head_of};
+ghost use Rattle.std.specs.List.{fold};
+ghost use Rattle.kept_contents.specs.Heads.{call_with, digest_of, fed_of, head_of};
 
+use content_store::ShaHasher;
 use indexmap::Equivalent;
 use object_values::{Bytes, Call, CallPart, Copied, Memory, ParamValue, Seq, copy_five};
 use std::alloc::Global;
@@ -58,6 +60,18 @@ impl CallHead {
         })
     }
 
+    fn borrowed(&self) -> BorrowedHead<'_>
+        ensures { as_head result ≡ self.now }
+    {
+        BorrowedHead {
+            tool: &self.tool,
+            version: &self.version,
+            words: &self.words,
+            params: &self.params,
+            outs: &self.outs,
+        }
+    }
+
     /// The call that has this head and these inputs.
     pub fn call(&self, alloc: Global, parts: &Seq<CallPart>) -> Result<Call, Memory>
         ensures { IfOk result (λ call. call ≡ call_with self.now parts.now) }
@@ -85,18 +99,14 @@ impl CallHead {
 
 impl Hash for CallHead {
     ghost use Rattle.std.specs.Hash.{same_Alike};
-    ghost use Rattle.kept_contents.specs.Heads.{fed_of, head_exact};
+    ghost use Rattle.kept_contents.specs.Heads.{hashed_of, head_exact};
 
-    ghost hash_input = { fed_of };
+    ghost hash_input = { hashed_of };
 
-    ghost respects_eq = { (same_Alike fed_of head_exact).fed };
+    ghost respects_eq = { (same_Alike hashed_of head_exact).fed };
 
     fn hash<H: Hasher>(&self, state: &mut H) {
-        self.tool.hash(state);
-        self.version.hash(state);
-        self.words.hash(state);
-        self.params.hash(state);
-        self.outs.hash(state);
+        state.write(&self.borrowed().digest());
     }
 }
 
@@ -123,18 +133,18 @@ impl<'a> BorrowedHead<'a> {
             outs: &call.outs,
         }
     }
-}
 
-impl Hash for BorrowedHead<'_> {
-    ghost use Rattle.std.specs.Hash.{on_Alike, same_Alike};
-    ghost use Rattle.kept_contents.specs.Heads.{fed_of, head_exact};
-    ghost use Rattle.kept_contents.specs.Borrowed.{as_head};
+    fn digest(&self) -> [u8; 32]
+        ensures { result ≡ digest_of (as_head self.now) }
+    {
+        let mut state = ShaHasher::default();
+        self.feed(&mut state);
+        state.digest()
+    }
 
-    ghost hash_input = { λ q. fed_of (as_head q) };
-
-    ghost respects_eq = { (on_Alike as_head (same_Alike fed_of head_exact)).fed };
-
-    fn hash<H: Hasher>(&self, state: &mut H) {
+    fn feed<H: Hasher>(&self, state: &mut H)
+        ensures { state.new ≡ fold H.write state.old (fed_of (as_head self.now)) }
+    {
         self.tool.hash(state);
         self.version.hash(state);
         self.words.hash(state);
@@ -143,15 +153,29 @@ impl Hash for BorrowedHead<'_> {
     }
 }
 
+impl Hash for BorrowedHead<'_> {
+    ghost use Rattle.std.specs.Hash.{on_Alike, same_Alike};
+    ghost use Rattle.kept_contents.specs.Heads.{hashed_of, head_exact};
+    ghost use Rattle.kept_contents.specs.Borrowed.{as_head};
+
+    ghost hash_input = { λ q. hashed_of (as_head q) };
+
+    ghost respects_eq = { (on_Alike as_head (same_Alike hashed_of head_exact)).fed };
+
+    fn hash<H: Hasher>(&self, state: &mut H) {
+        state.write(&self.digest());
+    }
+}
+
 impl Equivalent<CallHead> for BorrowedHead<'_> {
     ghost use Rattle.std.proofs.Common.{ap};
     ghost use Rattle.kept_contents.specs.contracts.head.CallHeadPartialEq.TheImpl.{ghosts as head_eq};
-    ghost use Rattle.kept_contents.specs.Heads.{fed_of, head_exact};
+    ghost use Rattle.kept_contents.specs.Heads.{hashed_of, head_exact};
     ghost use Rattle.kept_contents.specs.Borrowed.{as_head};
 
     ghost equivalent = { λ q. head_eq.eq (as_head q) };
 
-    ghost respects_hash = { λ q k h. ap fed_of ((head_exact (as_head q) k).0 h) };
+    ghost respects_hash = { λ q k h. ap hashed_of ((head_exact (as_head q) k).0 h) };
 
     ghost respects_eq = { λ q x y h. ap (λ k. head_eq.eq k y) ((head_exact (as_head q) x).0 h) };
 

@@ -1,20 +1,22 @@
 // Calls that are held, with what tells them apart.
-ghost use Rattle.std.specs.Prelude.{◌≡◌, IfOk};
+ghost use Rattle.std.specs.Prelude.{◌≡◌, IfOk, Some};
 ghost use Rattle.kept_contents.specs.Borrowed.{key_of};
-ghost use Rattle.kept_contents.specs.Heads.{AreMore, head_of};
+ghost use Rattle.kept_contents.specs.Heads.{AreMore, head_of, place_of_head};
 ghost use Rattle.kept_contents.specs.Held.{IsHeld};
-ghost use Rattle.kept_contents.specs.Inputs.{hash_of_parts};
+ghost use Rattle.kept_contents.specs.Stocks.{IsGrownFrom};
 
 use crate::head::CallHead;
 use crate::heads::Heads;
-use crate::keys::{CallKey, hash_parts};
+use crate::inputs::hold_parts;
+use crate::keys::CallKey;
+use crate::table::ContentTable;
 use object_values::{Call, Memory};
 use std::alloc::Global;
 
-/// A call with the number of its head and a hash of its inputs.
+/// A call with the number of its head and a digest of its inputs.
 pub struct HeldCall {
     pub head: u64,
-    pub hash: u64,
+    pub digest: [u8; 32],
     pub call: Call,
 }
 
@@ -22,7 +24,7 @@ impl Drop for HeldCall {
     fn drop(self) {
         let HeldCall {
             head: _,
-            hash: _,
+            digest: _,
             call,
         } = self;
         drop(call);
@@ -30,30 +32,37 @@ impl Drop for HeldCall {
 }
 
 impl HeldCall {
-    /// A call whose head is held from now on.
-    pub fn hold(alloc: Global, heads: &mut Heads, call: Call) -> Result<Self, Memory>
-        ensures held { IfOk result (IsHeld heads.new) }
-        ensures call { IfOk result (λ held. held.call ≡ call) }
-        ensures more { AreMore heads.old heads.new }
-    {
-        let hash = hash_parts(call.parts.as_slice());
-        HeldCall::hashed(alloc, heads, hash, call)
-    }
-
-    /// The same where the hash of the inputs is known.
-    pub(crate) fn hashed(
+    /// A call whose head and whose inputs' texts are held from now on.
+    pub fn hold(
         alloc: Global,
+        table: &mut ContentTable,
         heads: &mut Heads,
-        hash: u64,
         call: Call,
     ) -> Result<Self, Memory>
-        requires { hash ≡ hash_of_parts call.parts }
-        ensures held { IfOk result (IsHeld heads.new) }
+        ensures held { IfOk result (IsHeld heads.new table.new.texts) }
+        ensures call { IfOk result (λ held. held.call ≡ call) }
+        ensures more { AreMore heads.old heads.new }
+        ensures contents { table.new.contents ≡ table.old.contents }
+        ensures texts { IsGrownFrom table.old.texts table.new.texts }
+    {
+        let digest = hold_parts(alloc, table, call.parts.as_slice())?;
+        HeldCall::of(alloc, heads, digest, call)
+    }
+
+    // A call with the digest of its inputs, whose head is held from now on.
+    pub(crate) fn of(
+        alloc: Global,
+        heads: &mut Heads,
+        digest: [u8; 32],
+        call: Call,
+    ) -> Result<Self, Memory>
+        ensures head { IfOk result (λ held. place_of_head (head_of call) heads.new ≡ Some held.head) }
+        ensures digest { IfOk result (λ held. held.digest ≡ digest) }
         ensures call { IfOk result (λ held. held.call ≡ call) }
         ensures more { AreMore heads.old heads.new }
     {
         let head = heads.hold(alloc, &call)?;
-        Ok(HeldCall { head, hash, call })
+        Ok(HeldCall { head, digest, call })
     }
 
     /// The key and the head, without memory.
@@ -61,7 +70,7 @@ impl HeldCall {
         ensures key { result.0 ≡ key_of self }
         ensures head { result.1 ≡ head_of self.call }
     {
-        let HeldCall { head, hash, call } = self;
+        let HeldCall { head, digest, call } = self;
         let Call {
             tool,
             version,
@@ -70,7 +79,11 @@ impl HeldCall {
             parts,
             outs,
         } = call;
-        let key = CallKey { head, hash, parts };
+        let key = CallKey {
+            head,
+            digest,
+            parts,
+        };
         let head = CallHead {
             tool,
             version,

@@ -2,20 +2,21 @@
 ghost use Rattle.std.specs.Prelude.{◌≡◌, ◌≢◌, ◌↔◌, ◌∷◌, ◌++◌, [], All, IfNone, IfSome, IsTrue, OnErr, OnOk, Some};
 ghost use Rattle.std.specs.List.{flat_map, fold};
 ghost use Rattle.meaning_records.specs.Numbers.{number_of};
-ghost use Rattle.kept_contents.specs.Index.{IsIndexed, IsNumber, hash_of, part_fed, value_fed};
+ghost use Rattle.kept_contents.specs.Index.{IsIndexed, IsNumber, digest_of, nodes_fed, part_fed, parts_fed, value_fed};
 ghost use Rattle.kept_contents.specs.Stocks.{IsOther, values_of};
 
 use crate::shared::Content;
-use object_values::{Memory, Part, Value};
+use content_store::ShaHasher;
+use object_values::{Memory, Node, Part, Seq, Value};
 use std::alloc::Global;
 use std::collections::HashMap;
-use std::hash::{FoldHasher, Hash, Hasher};
+use std::hash::{Hash, Hasher};
 
-/// The numbers of the lists and compounds among contents. A value is looked up by its hash, and what is found there is compared.
+/// The numbers of the lists and compounds among contents. A value is looked up by its digest, and what is found there is compared.
 pub struct OtherIndex {
-    // the number of the first value that has the hash
-    first: HashMap<u64, u64>,
-    // the numbers of the values whose hash an earlier one has
+    // the number of the first value that has the digest
+    first: HashMap<[u8; 32], u64>,
+    // the numbers of the values whose digest an earlier one has
     clashing: Vec<u64>,
 }
 
@@ -43,7 +44,7 @@ impl OtherIndex {
         requires other { IsOther value.now }
         ensures { result ≡ number_of value.now (values_of contents.now) }
     {
-        self.find_hashed(quick_hash(value), contents, value)
+        self.find_digested(&digest_of(value), contents, value)
     }
 
     /// Takes in the list or the compound that is the next content.
@@ -53,40 +54,40 @@ impl OtherIndex {
         ensures ok { OnOk result (IsIndexed (values_of contents.now ++ value.now ∷ []) self.new) }
         ensures err { OnErr result (IsIndexed (values_of contents.now) self.new) }
     {
-        let hash = quick_hash(value);
-        if self.find_hashed(hash, contents, value).is_some() {
+        let digest = digest_of(value);
+        if self.find_digested(&digest, contents, value).is_some() {
             return Ok(());
         }
         let number = contents.len() as u64;
-        if self.first.contains_key(&hash) {
+        if self.first.contains_key(&digest) {
             self.clashing.push(number)?;
         } else {
-            self.first.insert(hash, number)?;
+            self.first.insert(digest, number)?;
         }
         Ok(())
     }
 
-    // The number of the value that has this hash.
-    fn find_hashed(&self, hash: u64, contents: &[Content], value: &Value) -> Option<u64>
+    // The number of the value that has this digest.
+    fn find_digested(&self, digest: &[u8; 32], contents: &[Content], value: &Value) -> Option<u64>
         requires index { IsIndexed (values_of contents.now) self.now }
         requires other { IsOther value.now }
-        requires hash { hash ≡ hash_of value.now }
+        requires digest { digest.now ≡ digest_of value.now }
         ensures { result ≡ number_of value.now (values_of contents.now) }
     {
-        match self.first.get(&hash) {
+        match self.first.get(digest) {
             Some(first) => find_from(contents, *first, self.clashing.as_slice(), value),
             None => None,
         }
     }
 }
 
-// A hash that is many times as quick as a digest. Nothing rests on it but time.
-fn quick_hash(value: &Value) -> u64
-    ensures { result ≡ hash_of value.now }
+// Nothing rests on it but time.
+fn digest_of(value: &Value) -> [u8; 32]
+    ensures { result ≡ digest_of value.now }
 {
-    let mut state = FoldHasher::default();
+    let mut state = ShaHasher::default();
     feed(value, &mut state);
-    state.finish()
+    state.digest()
 }
 
 fn feed<H: Hasher>(value: &Value, state: &mut H)
@@ -94,9 +95,24 @@ fn feed<H: Hasher>(value: &Value, state: &mut H)
 {
     match value {
         Value::Simple(text) => text.hash(state),
-        Value::List(nodes) => nodes.hash(state),
-        Value::Compound(parts) => feed_parts(parts.as_slice(), state),
+        Value::List(nodes) => feed_list(nodes, state),
+        Value::Compound(parts) => feed_compound(parts.as_slice(), state),
     }
+}
+
+// A kind before each, so that no list feeds what a compound does.
+fn feed_list<H: Hasher>(nodes: &Seq<Node>, state: &mut H)
+    ensures { state.new ≡ fold H.write state.old (nodes_fed nodes.now) }
+{
+    state.write_u8(1);
+    nodes.hash(state);
+}
+
+fn feed_compound<H: Hasher>(parts: &[Part], state: &mut H)
+    ensures { state.new ≡ fold H.write state.old (parts_fed parts.now) }
+{
+    state.write_u8(2);
+    feed_parts(parts, state);
 }
 
 fn feed_parts<H: Hasher>(parts: &[Part], state: &mut H)

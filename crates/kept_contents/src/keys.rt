@@ -1,24 +1,21 @@
 // The keys of kept calls.
-ghost use Rattle.std.specs.Prelude.{◌≡◌, IfNone, IfSome, None, option_map};
-ghost use Rattle.std.specs.List.{flat_map, fold};
-ghost use Rattle.content_store.specs.Index.{hash_of};
+ghost use Rattle.std.specs.Prelude.{◌≡◌, IfNone, IfSome};
 ghost use Rattle.kept_contents.specs.Borrowed.{as_key, key_of};
-ghost use Rattle.kept_contents.specs.Heads.{head_of, place_of_head};
-ghost use Rattle.kept_contents.specs.Inputs.{hash_of_parts, part_fed};
-ghost use Rattle.kept_contents.specs.Keys.{IsKeyOf};
+ghost use Rattle.kept_contents.specs.Keys.{IsKeyOf, IsUnheld};
 
 use crate::heads::Heads;
 use crate::held::HeldCall;
-use content_store::text_hash;
+use crate::inputs::digest_parts;
+use crate::table::ContentTable;
 use indexmap::Equivalent;
 use object_values::{Call, CallPart, Seq};
-use std::hash::{FoldHasher, Hash, Hasher};
+use std::hash::{Hash, Hasher};
 
-/// The key of a kept call: the number of its head, a hash of its inputs, and these. It is hashed by the two numbers.
+/// The key of a kept call: the number of its head, a digest of its inputs, and these. It is hashed by the number and the digest.
 #[derive(PartialEq, Eq)]
 pub struct CallKey {
     pub head: u64,
-    pub hash: u64,
+    pub digest: [u8; 32],
     pub parts: Seq<CallPart>,
 }
 
@@ -26,7 +23,7 @@ impl Drop for CallKey {
     fn drop(self) {
         let CallKey {
             head: _,
-            hash: _,
+            digest: _,
             parts,
         } = self;
         drop(parts);
@@ -43,7 +40,7 @@ impl Hash for CallKey {
 
     fn hash<H: Hasher>(&self, state: &mut H) {
         self.head.hash(state);
-        self.hash.hash(state);
+        state.write(&self.digest);
     }
 }
 
@@ -51,21 +48,24 @@ impl Hash for CallKey {
 #[derive(Clone, Copy, PartialEq, Eq)]
 pub struct SoughtKey<'a> {
     pub head: u64,
-    pub hash: u64,
+    pub digest: [u8; 32],
     pub parts: &'a [CallPart],
 }
 
 impl<'a> SoughtKey<'a> {
-    /// The key of a call. `None` where no call with its head is held.
-    pub fn of(heads: &Heads, call: &'a Call) -> Option<Self>
-        ensures some { IfSome result (λ q. IsKeyOf heads.now (as_key q) call.now) }
-        ensures none { IfNone result (place_of_head (head_of call.now) heads.now ≡ None) }
+    /// The key of a call. `None` where its head or a text of its inputs isn't held.
+    pub fn of(table: &ContentTable, heads: &Heads, call: &'a Call) -> Option<Self>
+        ensures some { IfSome result (λ q. IsKeyOf heads.now table.now.texts (as_key q) call.now) }
+        ensures none { IfNone result (IsUnheld heads.now table.now.texts call.now) }
     {
         let parts = call.parts.as_slice();
-        match heads.find(call) {
-            Some(head) => Some(SoughtKey {
+        let Some(head) = heads.find(call) else {
+            return None;
+        };
+        match digest_parts(table, parts) {
+            Some(digest) => Some(SoughtKey {
                 head,
-                hash: hash_parts(parts),
+                digest,
                 parts,
             }),
             None => None,
@@ -78,7 +78,7 @@ impl<'a> SoughtKey<'a> {
     {
         SoughtKey {
             head: held.head,
-            hash: held.hash,
+            digest: held.digest,
             parts: held.call.parts.as_slice(),
         }
     }
@@ -95,7 +95,7 @@ impl Hash for SoughtKey<'_> {
 
     fn hash<H: Hasher>(&self, state: &mut H) {
         self.head.hash(state);
-        self.hash.hash(state);
+        state.write(&self.digest);
     }
 }
 
@@ -112,37 +112,6 @@ impl Equivalent<CallKey> for SoughtKey<'_> {
     ghost respects_eq = { λ q x y h. ap (λ k. key_eq.eq k y) ((key_exact (as_key q) x).0 h) };
 
     fn equivalent(&self, key: &CallKey) -> bool {
-        self.head == key.head && self.hash == key.hash && self.parts == key.parts.as_slice()
+        self.head == key.head && self.digest == key.digest && self.parts == key.parts.as_slice()
     }
-}
-
-/// A hash of inputs, for whose texts their hashes stand.
-pub(crate) fn hash_parts(parts: &[CallPart]) -> u64
-    ensures { result ≡ hash_of_parts parts.now }
-{
-    let mut state = FoldHasher::default();
-    feed_parts(parts, &mut state);
-    state.finish()
-}
-
-fn feed_parts<H: Hasher>(parts: &[CallPart], state: &mut H)
-    ensures { state.new ≡ fold H.write state.old (flat_map part_fed parts.now) }
-{
-    for part in parts {
-        let text = match &part.body {
-            Some(text) => Some(text_hash(text.as_slice())),
-            None => None,
-        };
-        feed_part(part, text, state);
-    }
-}
-
-/// Feeds an input whose text has this hash.
-pub(crate) fn feed_part<H: Hasher>(part: &CallPart, text: Option<u64>, state: &mut H)
-    requires { text ≡ option_map hash_of part.now.body }
-    ensures { state.new ≡ fold H.write state.old (part_fed part.now) }
-{
-    part.slot.hash(state);
-    part.label.hash(state);
-    text.hash(state);
 }

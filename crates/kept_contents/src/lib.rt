@@ -2,16 +2,19 @@
 //! keys by which kept calls are found.
 #![tactic(auto)]
 
+mod added;
 mod head;
 mod heads;
 mod held;
 mod index;
+mod inputs;
 mod keys;
 mod numbering;
 mod resolving;
 mod shared;
 mod table;
 
+pub use added::AddedTexts;
 pub use head::CallHead;
 pub use heads::Heads;
 pub use held::HeldCall;

@@ -1,12 +1,12 @@
 // From texts to the numbers of a record: those of contents that the file has, and of those that a batch adds behind them.
-ghost use Rattle.std.specs.Prelude.{◌≡◌, ◌≢◌, ◌+◌, All, IfNone, IfOk, IfSome, OnOk, slice_get, Some};
+ghost use Rattle.std.specs.Prelude.{◌≡◌, ◌+◌, IfOk, OnOk, Some};
 ghost use Rattle.meaning_records.specs.Tables.{IsText, IsPartOf, ArePartsOf, IsCallOf, IsOutputOf, AreOutputsOf, IsOutcomeOf};
-ghost use Rattle.kept_contents.specs.declared.shared.Shared.{Shared as SharedValue};
 ghost use Rattle.meaning_records.specs.Batches.{body_of};
 ghost use Rattle.content_store.specs.Bodies.{place_of};
 ghost use Rattle.kept_contents.specs.Stocks.{IsGrownFrom};
 ghost use Rattle.kept_contents.specs.Added.{AddsOne, Adds, AreHeld, contents_with, texts_of, texts_of_parts, texts_of_outputs};
 
+use crate::added::AddedTexts;
 use crate::shared::Shared;
 use crate::table::ContentTable;
 use meaning_records::items::{StoredCall, StoredOutcome, StoredOutput, StoredPart};
@@ -17,7 +17,7 @@ use std::alloc::Global;
 pub fn number_text(
     alloc: Global,
     table: &mut ContentTable,
-    added: &mut Seq<Shared>,
+    added: &mut AddedTexts,
     text: &Text,
 ) -> Result<u32, Memory>
     requires { AreHeld table.old.texts added.old }
@@ -36,7 +36,7 @@ pub fn number_text(
 // The number of a text that is held.
 fn number_shared(
     table: &ContentTable,
-    added: &mut Seq<Shared>,
+    added: &mut AddedTexts,
     shared: Shared,
 ) -> Result<u32, Memory>
     requires text { place_of shared.text table.now.texts ≡ Some shared.id }
@@ -50,26 +50,12 @@ fn number_shared(
     if let Some(number) = table.number(&shared) {
         return Ok(number);
     }
-    if let Some(place) = place_in(added.as_slice(), shared.id) {
+    if let Some(place) = added.place_of(shared.id) {
         return number_behind(table.len(), place);
     }
     let place = added.len();
     added.push(shared)?;
     number_behind(table.len(), place)
-}
-
-// The place of the text that has this number in memory.
-fn place_in(added: &[Shared], id: u64) -> Option<usize>
-    ensures some { IfSome result (λ place.
-        (s : SharedValue) × (slice_get added.now place ≡ Some s) × (s.id ≡ id)) }
-    ensures none { IfNone result (All (λ (s : SharedValue). s.id ≢ id) added.now) }
-{
-    for (place, shared) in added.iter().enumerate() {
-        if shared.id == id {
-            return Some(place);
-        }
-    }
-    None
 }
 
 // The number of the content at a place behind so many.
@@ -86,7 +72,7 @@ fn number_behind(len: usize, place: usize) -> Result<u32, Memory>
 pub fn stored_call(
     alloc: Global,
     table: &mut ContentTable,
-    added: &mut Seq<Shared>,
+    added: &mut AddedTexts,
     call: &Call,
 ) -> Result<StoredCall, Memory>
     requires { AreHeld table.old.texts added.old }
@@ -122,7 +108,7 @@ pub fn stored_call(
 pub fn stored_outcome(
     alloc: Global,
     table: &mut ContentTable,
-    added: &mut Seq<Shared>,
+    added: &mut AddedTexts,
     outcome: &Outcome,
 ) -> Result<StoredOutcome, Memory>
     requires { AreHeld table.old.texts added.old }
@@ -147,7 +133,7 @@ pub fn stored_outcome(
 fn number_parts(
     alloc: Global,
     table: &mut ContentTable,
-    added: &mut Seq<Shared>,
+    added: &mut AddedTexts,
     parts: &[CallPart],
 ) -> Result<Seq<StoredPart>, Memory>
     requires { AreHeld table.old.texts added.old }
@@ -169,7 +155,7 @@ fn number_parts(
 fn number_part(
     alloc: Global,
     table: &mut ContentTable,
-    added: &mut Seq<Shared>,
+    added: &mut AddedTexts,
     part: &CallPart,
 ) -> Result<StoredPart, Memory>
     requires { AreHeld table.old.texts added.old }
@@ -196,7 +182,7 @@ fn number_part(
 fn number_outputs(
     alloc: Global,
     table: &mut ContentTable,
-    added: &mut Seq<Shared>,
+    added: &mut AddedTexts,
     outputs: &[Part],
 ) -> Result<Seq<StoredOutput>, Memory>
     requires { AreHeld table.old.texts added.old }
@@ -218,7 +204,7 @@ fn number_outputs(
 fn number_output(
     alloc: Global,
     table: &mut ContentTable,
-    added: &mut Seq<Shared>,
+    added: &mut AddedTexts,
     output: &Part,
 ) -> Result<StoredOutput, Memory>
     requires { AreHeld table.old.texts added.old }

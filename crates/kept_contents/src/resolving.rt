@@ -1,23 +1,22 @@
 // From the numbers of a record to its texts.
-ghost use Rattle.std.specs.Prelude.{◌≡◌, ℕ, List, Option, IfNone, IfOk, IfSome, option_map};
+ghost use Rattle.std.specs.Prelude.{◌≡◌, ℕ, List, Option, IfNone, IfOk, IfSome};
 ghost use Rattle.object_values.specs.declared.calls.Call.{Call as CallValue};
 ghost use Rattle.object_values.specs.declared.calls.CallPart.{CallPart as PartValue};
 ghost use Rattle.object_values.specs.declared.calls.Outcome.{Outcome as OutcomeValue};
 ghost use Rattle.object_values.specs.declared.views.Part.{Part as OutputValue};
-ghost use Rattle.content_store.specs.Index.{hash_of};
 ghost use Rattle.kept_contents.specs.Heads.{AreMore};
 ghost use Rattle.kept_contents.specs.Held.{IsHeld};
-ghost use Rattle.kept_contents.specs.Inputs.{hash_of_parts};
+ghost use Rattle.kept_contents.specs.Inputs.{AreHeldParts, IsHeldPart, digest_of_parts, id_of};
 ghost use Rattle.meaning_records.specs.Tables.{IsPartOf, ArePartsOf, IsCallOf, IsOutputOf, AreOutputsOf, IsOutcomeOf};
 
 use crate::heads::Heads;
 use crate::held::HeldCall;
-use crate::keys::feed_part;
+use crate::inputs::feed_part;
 use crate::table::ContentTable;
+use content_store::ShaHasher;
 use meaning_records::items::{StoredCall, StoredOutcome, StoredOutput, StoredPart};
 use object_values::{Call, CallPart, Copied, Memory, Outcome, Part, Seq};
 use std::alloc::Global;
-use std::hash::{FoldHasher, Hasher};
 
 /// The call of a record, which is held from now on; its inputs share the texts of the table. `None` where a content isn't there or is no text.
 pub fn call_of(
@@ -28,15 +27,16 @@ pub fn call_of(
 ) -> Result<Option<HeldCall>, Memory>
     ensures some { IfOk result (λ found.
         IfSome found (λ held. IsCallOf table.now.contents stored held.call)) }
-    ensures held { IfOk result (λ found. IfSome found (IsHeld heads.new)) }
+    ensures held { IfOk result (λ found. IfSome found (IsHeld heads.new table.now.texts)) }
     ensures more { AreMore heads.old heads.new }
     ensures none { IfOk result (λ found.
         IfNone found ((call : CallValue) → ¬ IsCallOf table.now.contents stored call)) }
 {
     match parts_of(alloc, table, stored.parts.as_slice())? {
-        Some((parts, hash)) => {
+        Some(found) => {
+            let (parts, digest) = found;
             let call = with_parts(stored, parts);
-            Ok(Some(HeldCall::hashed(alloc, heads, hash, call)?))
+            Ok(Some(HeldCall::of(alloc, heads, digest, call)?))
         }
         None => Ok(None),
     }
@@ -76,16 +76,18 @@ fn parts_of(
     alloc: Global,
     table: &ContentTable,
     stored: &[StoredPart],
-) -> Result<Option<(Seq<CallPart>, u64)>, Memory>
+) -> Result<Option<(Seq<CallPart>, [u8; 32])>, Memory>
     ensures some { IfOk result (λ found.
         IfSome found (λ p. ArePartsOf table.now.contents stored.now p.0)) }
-    ensures hash { IfOk result (λ found.
-        IfSome found (λ p. p.1 ≡ hash_of_parts p.0)) }
+    ensures digest { IfOk result (λ found.
+        IfSome found (λ p. p.1 ≡ digest_of_parts table.now.texts p.0)) }
+    ensures held { IfOk result (λ found.
+        IfSome found (λ p. AreHeldParts table.now.texts p.0)) }
     ensures none { IfOk result (λ found. IfNone found
         ((parts : List PartValue) → ¬ ArePartsOf table.now.contents stored.now parts)) }
 {
     let mut parts = Seq::new(alloc);
-    let mut state = FoldHasher::default();
+    let mut state = ShaHasher::default();
     for part in stored {
         let Some((made, text)) = part_of(alloc, table, part)? else {
             return Ok(None);
@@ -93,7 +95,7 @@ fn parts_of(
         feed_part(&made, text, &mut state);
         parts.push(made)?;
     }
-    Ok(Some((parts, state.finish())))
+    Ok(Some((parts, state.digest())))
 }
 
 fn part_of(
@@ -103,14 +105,16 @@ fn part_of(
 ) -> Result<Option<(CallPart, Option<u64>)>, Memory>
     ensures some { IfOk result (λ found.
         IfSome found (λ p. IsPartOf table.now.contents stored.now p.0)) }
-    ensures hash { IfOk result (λ found.
-        IfSome found (λ p. p.1 ≡ option_map hash_of p.0.body)) }
+    ensures id { IfOk result (λ found.
+        IfSome found (λ p. p.1 ≡ id_of table.now.texts p.0.body)) }
+    ensures held { IfOk result (λ found.
+        IfSome found (λ p. IsHeldPart table.now.texts p.0)) }
     ensures none { IfOk result (λ found.
         IfNone found ((part : PartValue) → ¬ IsPartOf table.now.contents stored.now part)) }
 {
-    let (body, hash) = match stored.content {
+    let (body, id) = match stored.content {
         Some(number) => match table.shared(number) {
-            Some(shared) => (Some(shared.text.copy(alloc)?), Some(shared.hash)),
+            Some(shared) => (Some(shared.text.copy(alloc)?), Some(shared.id)),
             None => return Ok(None),
         },
         None => (None, None),
@@ -121,7 +125,7 @@ fn part_of(
         label,
         body,
     };
-    Ok(Some((part, hash)))
+    Ok(Some((part, id)))
 }
 
 /// The outcome of a record, whose outputs share the texts of the table. `None` where a content isn't there or is no text.

@@ -6,11 +6,10 @@ ghost use Rattle.meaning_records.specs.Numbers.{number_of};
 ghost use Rattle.kept_contents.specs.Stocks.{IsGrownFrom, IsOther};
 ghost use Rattle.kept_contents.specs.Added.{AreHeld, contents_with};
 ghost use Rattle.content_store.specs.Bodies.{place_of};
-ghost use Rattle.content_store.specs.Index.{hash_of};
 
 use crate::index::OtherIndex;
 use crate::shared::{Content, Shared};
-use content_store::{Contents, ShaKeys, text_hash};
+use content_store::{Contents, ShaKeys};
 use object_values::{Copied, Memory, Text, Value};
 use std::alloc::Global;
 use std::marker::Model;
@@ -149,21 +148,26 @@ impl ContentTable {
         ensures contents { self.new.contents ≡ self.old.contents }
         ensures texts { IsGrownFrom self.old.texts self.new.texts }
     {
-        let hash = text_hash(text.as_slice());
-        let id = self.hold(alloc, hash, text)?;
+        let id = self.hold(alloc, text)?;
         let text = self.held(alloc, id)?;
-        Ok(Shared { id, hash, text })
+        Ok(Shared { id, text })
     }
 
-    // The number in memory of a text with its hash, which is held from now on.
-    fn hold(&mut self, alloc: Global, hash: u64, text: &Text) -> Result<u64, Memory>
-        requires { hash ≡ hash_of text.now }
+    // The number in memory of a text that is held.
+    pub(crate) fn id_of(&self, text: &Text) -> Option<u64>
+        ensures { result ≡ place_of text.now self.now.texts }
+    {
+        self.texts.find(text.as_slice())
+    }
+
+    // The number in memory of a text, which is held from now on.
+    pub(crate) fn hold(&mut self, alloc: Global, text: &Text) -> Result<u64, Memory>
         ensures id { IfOk result (λ id. place_of text.now self.new.texts ≡ Some id) }
         ensures contents { self.new.contents ≡ self.old.contents }
         ensures texts { IsGrownFrom self.old.texts self.new.texts }
     {
         self.numbers.reserve(1)?;
-        let id = self.texts.intern_hashed(alloc, hash, text)?;
+        let id = self.texts.intern(alloc, text)?;
         if (self.numbers.as_slice().len() as u64) < self.texts.len() {
             self.numbers.push(None)?;
         }

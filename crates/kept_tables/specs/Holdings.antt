@@ -49,12 +49,12 @@ pub record MayKeep (tables : Tables) (call : Call) (outcome : Outcome) : Type 0 
 -- the call of a batch is held and may be kept
 abbrev pub MayKeepSome : Holding → Option (HeldCall × Outcome) → Type 0
 MayKeepSome kept None = ⊤
-MayKeepSome kept (Some (held, outcome)) = IsHeld kept.heads held × MayKeep kept.tables held.call outcome
+MayKeepSome kept (Some (held, outcome)) = IsHeld kept.heads kept.texts held × MayKeep kept.tables held.call outcome
 
 -- and there is room for it
 abbrev pub MayAdd : Holding → Option (HeldCall × Outcome) → Type 0
 MayAdd kept None = ⊤
-MayAdd kept (Some (held, outcome)) = IsHeld kept.heads held × MayKeep kept.tables held.call outcome × (0 < kept.call_room)
+MayAdd kept (Some (held, outcome)) = IsHeld kept.heads kept.texts held × MayKeep kept.tables held.call outcome × (0 < kept.call_room)
 
 -- the tables with calls more
 abbrev pub with_calls : Tables → Calls → Tables
@@ -121,5 +121,5 @@ abbrev pub calls_in : List (CallKey × Entry) → Calls
 calls_in = map call_in
 
 -- a kept call stands under its key
-abbrev pub IsKeptIn : List CallHead → CallKey × Entry → Type 0
-IsKeptIn heads entry = IsKeyOf heads entry.0 (call_in entry).0 × IsKept (call_in entry)
+abbrev pub IsKeptIn : List CallHead → Bodies → CallKey × Entry → Type 0
+IsKeptIn heads texts entry = IsKeyOf heads texts entry.0 (call_in entry).0 × IsKept (call_in entry)

@@ -24,7 +24,7 @@ use std::hash::Hash;
 use std::marker::Model;
 use store_records::{Item, Recorded, StoredCall, StoredOutcome};
 
-/// What is kept: contents, each once, and the calls with their outcomes. A call is looked up by its key: a number and a hash, and where they are found the
+/// What is kept: contents, each once, and the calls with their outcomes. A call is looked up by its key: a number and a digest, and where they are found the
 /// inputs are compared. Contracts see its `Tables`, and what it holds of them in memory.
 pub struct Kept {
     pub(crate) contents: ContentTable,
@@ -60,7 +60,7 @@ impl Model for Kept {
       call_room = spare k.calls;
     } };
 
-    ghost invariant = { λ k. All (IsKeptIn k.heads) k.calls.entries };
+    ghost invariant = { λ k. All (IsKeptIn k.heads k.contents.texts) k.calls.entries };
 }
 
 // What is kept under the key of a call.
@@ -177,7 +177,7 @@ impl Kept {
         ensures { option_map (λ o. o.now) result
             ≡ kept_outcome self.now.tables.calls call.now }
     {
-        let Some(sought) = SoughtKey::of(&self.heads, call) else {
+        let Some(sought) = SoughtKey::of(&self.contents, &self.heads, call) else {
             return None;
         };
         match self.calls.get(sought) {
@@ -238,7 +238,7 @@ impl Kept {
 
     // Keeps a call for which there is room.
     fn add_kept(&mut self, held: HeldCall, outcome: Outcome)
-        requires held { IsHeld self.old.heads held }
+        requires held { IsHeld self.old.heads self.old.texts held }
         requires may { MayKeep self.old.tables held.call outcome }
         requires room { 0 < self.old.call_room }
         ensures { self.new.tables ≡ with_call held.call outcome self.old.tables }
@@ -269,7 +269,8 @@ impl Kept {
     ) -> Result<Option<HeldCall>, Memory>
         ensures some { IfOk result (λ found.
             IfSome found (λ held. IsCallOf self.old.tables.contents stored held.call)) }
-        ensures held { IfOk result (λ found. IfSome found (IsHeld self.new.heads)) }
+        ensures held { IfOk result (λ found.
+            IfSome found (IsHeld self.new.heads self.new.texts)) }
         ensures none { IfOk result (λ found. IfNone found
             ((call : CallValue) → ¬ IsCallOf self.old.tables.contents stored call)) }
         ensures same { self.new.tables ≡ self.old.tables }
@@ -306,14 +307,14 @@ impl Kept {
 
     // Whether a call that is held may be kept with this outcome, by one look.
     pub(crate) fn may_take(&self, held: &HeldCall, outcome: &Outcome) -> bool
-        requires { IsHeld self.now.heads held.now }
+        requires { IsHeld self.now.heads self.now.texts held.now }
         ensures { IsTrue result ↔ MayKeep self.now.tables held.now.call outcome.now }
     {
         is_well_formed(&held.call) && fits(&held.call, outcome) && !self.has_held(held)
     }
 
     fn has_held(&self, held: &HeldCall) -> bool
-        requires { IsHeld self.now.heads held.now }
+        requires { IsHeld self.now.heads self.now.texts held.now }
         ensures { result ≡ is_some (kept_outcome self.now.tables.calls held.now.call) }
     {
         self.calls.contains_key(SoughtKey::of_held(held))
@@ -321,7 +322,7 @@ impl Kept {
 
     // Keeps a call that isn't kept.
     pub(crate) fn keep(&mut self, held: HeldCall, outcome: Outcome) -> Result<(), Memory>
-        requires held { IsHeld self.old.heads held }
+        requires held { IsHeld self.old.heads self.old.texts held }
         requires may { MayKeep self.old.tables held.call outcome }
         ensures { OnOk result (self.new.tables ≡ with_call held.call outcome self.old.tables) }
     {

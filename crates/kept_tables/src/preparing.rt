@@ -4,12 +4,13 @@ ghost use Rattle.meaning_texts.specs.Limits.{body_limit};
 ghost use Rattle.meaning_records.specs.Batches.{IsPutBatch, IsCallBatch};
 ghost use Rattle.meaning_records.specs.Tables.{IsCallOf, IsText, IsOutcomeOf};
 ghost use Rattle.kept_contents.specs.Held.{IsHeld};
+ghost use Rattle.kept_contents.specs.Stocks.{IsGrownFrom};
 ghost use Rattle.kept_contents.specs.Added.{AddsOne, Adds, AreHeld, contents_with, texts_of, texts_of_outputs, texts_of_parts};
 ghost use Rattle.kept_tables.specs.Holdings.{Makes, MayKeep, MayKeepSome, PreparesSome, items_of_texts, items_with};
 
 use crate::kept::Kept;
 use crate::prepared::Prepared;
-use kept_contents::{HeldCall, Shared, number_text, stored_call, stored_outcome};
+use kept_contents::{AddedTexts, HeldCall, Shared, number_text, stored_call, stored_outcome};
 use object_values::{Call, Copied, Memory, Outcome, Seq, Text, Value};
 use odin_bytes::Name;
 use std::alloc::Global;
@@ -28,7 +29,7 @@ impl Kept {
             (PreparesSome (IsPutBatch self.old.tables.contents name.now text.now) self.new) }
         ensures same { self.new.tables ≡ self.old.tables }
     {
-        let mut added = Seq::new(alloc);
+        let mut added = AddedTexts::new(alloc);
         let number = self.number_text(alloc, &mut added, text)?;
         let name = name.copy(alloc)?.into_bytes();
         self.prepare(alloc, added, Item::Put(name, number), None)
@@ -47,7 +48,7 @@ impl Kept {
         ensures same { self.new.tables ≡ self.old.tables }
     {
         let held = self.hold(alloc, call)?;
-        let mut added = Seq::new(alloc);
+        let mut added = AddedTexts::new(alloc);
         let stored = self.stored_call(alloc, &mut added, call)?;
         let given = self.stored_outcome(alloc, &mut added, outcome)?;
         let kept = (held, outcome.copy(alloc)?);
@@ -56,19 +57,19 @@ impl Kept {
 
     // A call whose inputs' texts are held from now on.
     fn hold(&mut self, alloc: Global, call: &Call) -> Result<HeldCall, Memory>
-        ensures held { IfOk result (IsHeld self.new.heads) }
+        ensures held { IfOk result (IsHeld self.new.heads self.new.texts) }
         ensures call { IfOk result (λ held. held.call ≡ call.now) }
         ensures same { self.new.tables ≡ self.old.tables }
     {
         let call = call.copy(alloc)?;
-        HeldCall::hold(alloc, &mut self.heads, call)
+        HeldCall::hold(alloc, &mut self.contents, &mut self.heads, call)
     }
 
     // The number of a text, which is added where neither the file nor the batch has it.
     fn number_text(
         &mut self,
         alloc: Global,
-        added: &mut Seq<Shared>,
+        added: &mut AddedTexts,
         text: &Text,
     ) -> Result<u32, Memory>
         requires { AreHeld self.old.texts added.old }
@@ -86,7 +87,7 @@ impl Kept {
     fn stored_call(
         &mut self,
         alloc: Global,
-        added: &mut Seq<Shared>,
+        added: &mut AddedTexts,
         call: &Call,
     ) -> Result<StoredCall, Memory>
         requires { AreHeld self.old.texts added.old }
@@ -98,6 +99,7 @@ impl Kept {
         ensures held { OnOk result (AreHeld self.new.texts added.new) }
         ensures same { self.new.tables ≡ self.old.tables }
         ensures heads { self.new.heads ≡ self.old.heads }
+        ensures texts { IsGrownFrom self.old.texts self.new.texts }
     {
         stored_call(alloc, &mut self.contents, added, call)
     }
@@ -106,7 +108,7 @@ impl Kept {
     fn stored_outcome(
         &mut self,
         alloc: Global,
-        added: &mut Seq<Shared>,
+        added: &mut AddedTexts,
         outcome: &Outcome,
     ) -> Result<StoredOutcome, Memory>
         requires { AreHeld self.old.texts added.old }
@@ -118,6 +120,7 @@ impl Kept {
         ensures held { OnOk result (AreHeld self.new.texts added.new) }
         ensures same { self.new.tables ≡ self.old.tables }
         ensures heads { self.new.heads ≡ self.old.heads }
+        ensures texts { IsGrownFrom self.old.texts self.new.texts }
     {
         stored_outcome(alloc, &mut self.contents, added, outcome)
     }
@@ -126,7 +129,7 @@ impl Kept {
     fn prepare(
         &mut self,
         alloc: Global,
-        added: Seq<Shared>,
+        added: AddedTexts,
         last: Item,
         call: Option<(HeldCall, Outcome)>,
     ) -> Result<Prepared, Memory>

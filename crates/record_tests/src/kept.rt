@@ -139,3 +139,35 @@ fn a_call_is_kept_once_and_read_by_others(rt: HostRuntime) -> Result<(), Fail> {
     assert!(rt; again == (1, false));
     Ok(())
 }
+
+// Two inputs whose quick hashes are 0: their last eight bytes are the factor of that hash.
+const COLLIDING: [&[u8; 16]; 2] = [
+    b"int a;\n\n\x15\x7c\x4a\x7f\xb9\x79\x37\x9e",
+    b"int b;\n\n\x15\x7c\x4a\x7f\xb9\x79\x37\x9e",
+];
+
+// Keeps a call with one text as its input and its output, and says what is kept of it then.
+fn keep(alloc: Global, kept: &mut Kept, body: &[u8]) -> Result<Option<Outcome>, Memory> {
+    let call = call_of(alloc, body)?;
+    let outcome = outcome_of(alloc, body)?;
+    if !kept.may_keep(&call, &outcome) {
+        return Ok(None);
+    }
+    let prepared = kept.prepare_call(alloc, &call, &outcome)?;
+    kept.commit(prepared);
+    kept.outcome(alloc, &call)
+}
+
+#[test]
+fn calls_with_texts_that_collide_are_kept_apart(rt: HostRuntime) -> Result<(), Fail> {
+    let alloc = rt.alloc();
+    let mut kept = Kept::new(alloc);
+    for body in COLLIDING {
+        let found = keep(alloc, &mut kept, body)?;
+        assert!(rt; found == Some(outcome_of(alloc, body)?));
+    }
+    assert!(rt; kept.calls() == 2 && kept.contents() == 2);
+    let again = keep(alloc, &mut kept, COLLIDING[0])?;
+    assert!(rt; again.is_none());
+    Ok(())
+}

@@ -1,9 +1,9 @@
-use Rattle.std.specs.Hash.FoldHasher as folding
 use Rattle.std.proofs.Common.{◌<◌, length, ap, sym, ◌∙◌, subst, arith}
+use Rattle.content_store.specs.Digesting as digesting
 use Rattle.meaning_records.specs.declared.items.StoredPart.{StoredPart}
 use Rattle.meaning_records.specs.Tables.{IsPartOf}
-use Rattle.kept_contents.specs.Inputs.{hash_of_parts, part_fed}
-use Rattle.kept_contents.proofs.IndexLemmas.{fed_more}
+use Rattle.kept_contents.specs.Inputs.{digest_of_parts}
+use Rattle.kept_contents.proofs.InputLemmas.{fed_next, held_more}
 use Rattle.kept_contents.proofs.Resolved.{parts_more, no_parts}
 use Rattle.kept_contents.proofs.resolving.parts_of.Goals as goal
 
@@ -18,14 +18,19 @@ returns-in_default-clause-none c =
 pub loop-part-preserved : goal.loop-part-preserved
 loop-part-preserved c =
     let contents = c.args.table.now.contents in
+    let texts = c.args.table.now.texts in
     let here = c.part-item.result in
+    let made = c.in-Some.made in
     let within : c.loop-part.part-index < length c.args.stored.now = omega arith in
-    let is : IsPartOf contents here c.in-Some.made = rw c.in-Some.is at c.in_ok-made.ensures.some in
-    let at = subst (λ (s : StoredPart). IsPartOf contents s c.in-Some.made) c.part-item.is is in (
-      rw c.in_ok-push.ensures.ok (parts_more contents c.args.stored.now c.loop-part.parts c.loop-part.part-index here c.in-Some.made within c.loop-part.invariant.0 at),
-      fed_more folding.write folding.initial c.loop-part.state c.feed_part.new.state part_fed c.loop-part.parts c.push.new.self c.in-Some.made c.loop-part.invariant.1 c.feed_part.ensures c.in_ok-push.ensures.ok,
+    let is : IsPartOf contents here made = rw c.in-Some.is at c.in_ok-made.ensures.some in
+    let at = subst (λ (s : StoredPart). IsPartOf contents s made) c.part-item.is is in
+    let held = rw c.in-Some.is at c.in_ok-made.ensures.held in
+    let id = rw c.in-Some.is at c.in_ok-made.ensures.id in (
+      rw c.in_ok-push.ensures.ok (parts_more contents c.args.stored.now c.loop-part.parts c.loop-part.part-index here made within c.loop-part.invariant.0 at),
+      held_more texts c.loop-part.parts c.push.new.self made c.loop-part.invariant.1 held c.in_ok-push.ensures.ok,
+      fed_next texts c.loop-part.parts c.push.new.self made c.in-Some.text c.loop-part.state c.feed_part.new.state id c.loop-part.invariant.2 c.feed_part.ensures c.in_ok-push.ensures.ok,
     )
 
-pub returns-clause-hash : goal.returns-clause-hash
-unfolding hash_of_parts
-returns-clause-hash c = c.finish.ensures ∙ ap folding.finish c.loop-part.invariant.1
+pub returns-clause-digest : goal.returns-clause-digest
+unfolding digest_of_parts
+returns-clause-digest c = c.digest.ensures ∙ ap digesting.digest c.loop-part.invariant.2

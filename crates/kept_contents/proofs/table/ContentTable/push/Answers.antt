@@ -1,6 +1,7 @@
 use Rattle.std.proofs.Common.{◌≡◌, ap, ◌∙◌, sym, arith, length}
 use Rattle.std.proofs.Math.ListN.{set}
 use Rattle.std.specs.Prelude.{Some, ℕ, nat_eq}
+use Rattle.std.specs.Cmp.Lexicographic.{pointwise}
 use Rattle.std.specs.HashMap.{get}
 use Rattle.object_values.specs.declared.views.Value.TheVariants.{Simple}
 use Rattle.content_store.specs.Bodies.{place_of}
@@ -29,5 +30,5 @@ invariant_of-self c =
     let long : c.len.result ≡ length (values_of items) = many ∙ sym (values_long items) in (
       rw (c.push_within.ensures.items, values_push items (Text c.args.shared)) (pushed (values_of items) texts numbers c.self.invariant.0 text id c.set_first.new.numbers.items held c.set_first.ensures.known (λ none. c.set_first.ensures.fresh none ∙ ap (λ (n : ℕ). set numbers id (Some n)) long)),
       rw c.push_within.ensures.items (held_push texts items (Text c.args.shared) c.self.invariant.1 held),
-      rw (c.push_within.ensures.items, values_push items (Text c.args.shared)) (index_stays (values_of items) (get nat_eq c.self.inside.others.first) c.self.inside.others.clashing.items c.self.invariant.2 (Simple text) (λ other. absurd other)),
+      rw (c.push_within.ensures.items, values_push items (Text c.args.shared)) (index_stays (values_of items) (get (pointwise nat_eq) c.self.inside.others.first) c.self.inside.others.clashing.items c.self.invariant.2 (Simple text) (λ other. absurd other)),
     )

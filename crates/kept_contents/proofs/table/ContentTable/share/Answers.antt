@@ -1,6 +1,5 @@
-use Rattle.std.proofs.Common.{ap, sym, ◌∙◌}
+use Rattle.std.proofs.Common.{sym, ◌∙◌}
 use Rattle.std.proofs.lemmas.Option.{same_Some}
-use Rattle.content_store.specs.Index.{hash_of}
 use Rattle.content_store.proofs.Lemmas.{place_stands}
 use Rattle.kept_contents.proofs.Items.{has_place}
 use Rattle.kept_contents.proofs.table.ContentTable.share.Goals as goal
@@ -10,8 +9,3 @@ held-requires c = has_place _ _ _ (place_stands c.args.text.now c.hold.new.self.
 
 pub returns-clause-text : goal.returns-clause-text
 returns-clause-text c = same_Some _ _ (sym c.in_ok-text.ensures ∙ place_stands c.args.text.now c.hold.new.self.texts c.in_ok-id.id c.in_ok-id.ensures.id)
-
-pub invariant_of-result : goal.invariant_of-result
-invariant_of-result c =
-    let text = same_Some _ _ (sym c.in_ok-text.ensures ∙ place_stands c.args.text.now c.hold.new.self.texts c.in_ok-id.id c.in_ok-id.ensures.id) in
-    record { hashed = c.text_hash-hash.ensures ∙ ap hash_of (c.as_slice.ensures ∙ sym text) }

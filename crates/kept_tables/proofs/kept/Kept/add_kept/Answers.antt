@@ -15,23 +15,25 @@ use Rattle.kept_tables.proofs.kept.Kept.add_kept.Goals as goal
 pub invariant_of-self : goal.invariant_of-self
 invariant_of-self c =
     let heads = c.self.inside.heads in
+    let texts = c.self.inside.contents.texts in
     let entries = c.self.inside.calls.entries in
     let key : CallKey = key_of c.args.held in
     let entry : Entry = record { head = head_of c.args.held.call; outcome = c.args.outcome } in
-    let held : IsHeld heads c.args.held = subst (λ (h : Holding). IsHeld h.heads c.args.held) (sym c.self.view_is) c.requires.held in
+    let held : IsHeld heads texts c.args.held = subst (λ (h : Holding). IsHeld h.heads h.texts c.args.held) (sym c.self.view_is) c.requires.held in
     let new = subst (λ (h : Holding). IsNone (kept_outcome h.tables.calls c.args.held.call)) (sym c.self.view_is) c.requires.may.new in
     let put : c.insert_within.new.map.entries ≡ insert_entry key_eq.eq entries key entry = rw (c.into_parts-key.ensures.key, c.into_parts-key.ensures.head) at c.insert_within.ensures in
-    let last = put ∙ added_last heads entries key entry c.self.invariant held new in
-    rw last (kept_push heads entries key entry c.self.invariant held (c.requires.may.formed, c.requires.may.fits))
+    let last = put ∙ added_last heads texts entries key entry c.self.invariant held new in
+    rw last (kept_push heads texts entries key entry c.self.invariant held (c.requires.may.formed, c.requires.may.fits))
 
 pub returns : goal.returns
 returns c =
     let heads = c.self.inside.heads in
+    let texts = c.self.inside.contents.texts in
     let entries = c.self.inside.calls.entries in
     let key : CallKey = key_of c.args.held in
     let entry : Entry = record { head = head_of c.args.held.call; outcome = c.args.outcome } in
-    let held : IsHeld heads c.args.held = subst (λ (h : Holding). IsHeld h.heads c.args.held) (sym c.self.view_is) c.requires.held in
+    let held : IsHeld heads texts c.args.held = subst (λ (h : Holding). IsHeld h.heads h.texts c.args.held) (sym c.self.view_is) c.requires.held in
     let new = subst (λ (h : Holding). IsNone (kept_outcome h.tables.calls c.args.held.call)) (sym c.self.view_is) c.requires.may.new in
     let put : c.insert_within.new.map.entries ≡ insert_entry key_eq.eq entries key entry = rw (c.into_parts-key.ensures.key, c.into_parts-key.ensures.head) at c.insert_within.ensures in
-    let last = put ∙ added_last heads entries key entry c.self.invariant held new in
+    let last = put ∙ added_last heads texts entries key entry c.self.invariant held new in
     rw (last, calls_push entries key entry) (ap (λ (h : Holding). with_call c.args.held.call c.args.outcome h.tables) c.self.view_is)

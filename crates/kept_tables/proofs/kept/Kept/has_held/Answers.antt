@@ -14,9 +14,9 @@ pub returns : goal.returns
 returns c =
     let held = c.args.held.now in
     let entries = c.self.inside.calls.entries in
-    let is : IsHeld c.self.inside.heads held = subst (λ (h : Holding). IsHeld h.heads held) (sym c.self.view_is) c.requires in
+    let is : IsHeld c.self.inside.heads c.self.inside.contents.texts held = subst (λ (h : Holding). IsHeld h.heads h.texts held) (sym c.self.view_is) c.requires in
     c.contains_key.ensures
     ∙ ap (λ (k : CallKey). is_some (lookup (key_eq.eq k) entries)) c.of_held.ensures
     ∙ some_outcome (lookup (key_eq.eq (key_of held)) entries)
-    ∙ ap is_some (looked c.self.inside.heads entries (key_of held) held.call c.self.invariant is)
+    ∙ ap is_some (looked c.self.inside.heads c.self.inside.contents.texts entries (key_of held) held.call c.self.invariant is)
     ∙ ap (λ (h : Holding). is_some (kept_outcome h.tables.calls held.call)) c.self.view_is

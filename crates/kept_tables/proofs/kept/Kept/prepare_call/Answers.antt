@@ -1,14 +1,16 @@
 use Rattle.std.proofs.Common.{◌≡◌, [], ap, ◌∙◌}
 use Rattle.meaning_records.specs.Tables.{Tables}
 use Rattle.kept_contents.specs.Added.{texts_of, texts_of_parts, texts_of_outputs}
-use Rattle.kept_contents.proofs.Lemmas.{adds_append}
+use Rattle.kept_contents.proofs.Lemmas.{adds_append, grown_twice}
 use Rattle.kept_tables.proofs.BatchLemmas.{if_ok, call_prepared, call_stays}
+use Rattle.kept_tables.proofs.HeldLemmas.{held_grown}
 use Rattle.kept_tables.proofs.kept.Kept.prepare_call.Goals as goal
 
 pub prepare-requires-clause-call : goal.prepare-requires-clause-call
 prepare-requires-clause-call c =
+    let held = c.in_ok-held.held in
     let same : c.stored_outcome.new.self.tables ≡ c.args.self.now.tables = c.stored_outcome.ensures.same ∙ c.stored_call.ensures.same ∙ c.hold.ensures.same in (
-      rw (c.stored_outcome.ensures.heads, c.stored_call.ensures.heads) c.in_ok-held.ensures.held,
+      rw (c.stored_outcome.ensures.heads, c.stored_call.ensures.heads) (held_grown c.hold.new.self.heads c.hold.new.self.texts c.stored_outcome.new.self.texts held (grown_twice c.hold.new.self.texts c.stored_call.new.self.texts c.stored_outcome.new.self.texts c.stored_call.ensures.texts c.stored_outcome.ensures.texts) c.in_ok-held.ensures.held),
       rw (same, c.in_ok-held.ensures.call, c.in_ok-copy.ensures) c.requires,
     )
 
