@@ -2,3 +2,5 @@ mod EndLemmas
 mod NearLemmas
 mod RouteLemmas
 mod DirectLemmas
+mod SourceLemmas
+mod TableLemmas

@@ -1,9 +1,9 @@
 -- The types of makers by their numbers.
-use Rattle.std.specs.Prelude.{◌≡◌, ◌<◌, ℕ, List, Option, Some, None, cond, length, map, option_and_then}
+use Rattle.std.specs.Prelude.{◌≡◌, ◌<◌, ℕ, zero, suc, List, [], ◌∷◌, ◌++◌, Option, Some, None, cond, length, map, option_map, option_and_then}
 use Rattle.object_values.specs.declared.graph.MakerDecl.{MakerDecl}
 use Rattle.meaning_graph.specs.Graphs.{Graph, types, makers, type_named}
 use Rattle.meaning_graph.specs.Types.{is_a}
-use Rattle.meaning_graph.specs.Paths.{Chosen, HasNoPath}
+use Rattle.meaning_graph.specs.Paths.{Chosen, HasNoPath, chosen_path}
 use Rattle.path_planner.specs.declared.route.Ends.{Ends}
 
 -- the ends of a maker that takes the one type and makes the other
@@ -21,9 +21,30 @@ ends_in g = map (ends_of g) (makers g)
 abbrev pub made_by : Graph → ℕ → Ends → Option ℕ
 made_by g a e = option_and_then (λ taken. cond (is_a g a taken) e.to None) e.from
 
+-- how many makers the chosen path has, where there is one
+abbrev pub distance : Graph → ℕ → ℕ → Option ℕ
+distance g from to = option_map length (chosen_path g from to)
+
+-- the distances to a type of so many types, from one on
+abbrev pub near_from : Graph → ℕ → ℕ → ℕ → List (Option ℕ)
+near_from g to from zero = []
+near_from g to from (suc count) = distance g from to ∷ near_from g to (suc from) count
+
+-- the distances of all types to each of so many types
+abbrev pub nears_to : Graph → ℕ → List (List (Option ℕ))
+nears_to g zero = []
+nears_to g (suc count) = nears_to g count ++ near_from g count 0 (length (types g)) ∷ []
+
+abbrev pub nears_of : Graph → List (List (Option ℕ))
+nears_of g = nears_to g (length (types g))
+
+-- the ends of makers, and the distances to types
+abbrev pub Planned : Type 0
+Planned = List Ends × List (List (Option ℕ))
+
 -- what plans that are made of the graph hold
-abbrev pub plans_of : Graph → List Ends
-plans_of g = ends_in g
+abbrev pub plans_of : Graph → Planned
+plans_of g = (ends_in g, nears_of g)
 
 -- the chosen path from the one type to the other, or that there is none
 abbrev pub IsChosen : Graph → ℕ → ℕ → Option (List ℕ) → Type 0

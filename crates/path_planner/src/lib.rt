@@ -5,5 +5,6 @@ mod direct;
 mod distances;
 mod plans;
 mod route;
+mod sources;
 
 pub use plans::Plans;

@@ -21,7 +21,7 @@ pub(crate) fn route(
     alloc: Global,
     graph: &Graph,
     makers: &[Ends],
-    near: &[Option<usize>],
+    near: &[Option<u32>],
     from: u32,
 ) -> Result<Option<Seq<u32>>, Memory>
     requires made { makers.now ≡ ends_in graph.now }
@@ -51,9 +51,9 @@ pub(crate) fn route(
 fn nearer(
     graph: &Graph,
     makers: &[Ends],
-    near: &[Option<usize>],
+    near: &[Option<u32>],
     at: u32,
-    distance: usize,
+    distance: u32,
 ) -> Option<(u32, u32)>
     requires made { makers.now ≡ ends_in graph.now }
     requires sized { length near.now ≡ length (types graph.now) }
@@ -69,7 +69,7 @@ fn nearer(
 }
 
 // What the maker makes of the type, where that is at the distance.
-fn lead(graph: &Graph, maker: Ends, near: &[Option<usize>], at: u32, distance: usize) -> Option<u32>
+fn lead(graph: &Graph, maker: Ends, near: &[Option<u32>], at: u32, distance: u32) -> Option<u32>
     requires ends { AreTypes graph.now maker }
     requires sized { length near.now ≡ length (types graph.now) }
     requires at { at < length (types graph.now) }
