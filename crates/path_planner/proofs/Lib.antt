@@ -4,3 +4,4 @@ mod RouteLemmas
 mod DirectLemmas
 mod SourceLemmas
 mod TableLemmas
+mod TakerLemmas

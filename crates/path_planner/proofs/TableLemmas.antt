@@ -5,7 +5,7 @@ use Rattle.meaning_graph.specs.Graphs.{Graph, types}
 use Rattle.meaning_graph.specs.Paths.{Path, Chosen, HasNoPath, chosen_path}
 use Rattle.meaning_texts.proofs.Lemmas.{same_some}
 use Rattle.meaning_graph.proofs.Lemmas.{path_chosen}
-use Rattle.path_planner.specs.Ends.{distance, near_from, nears_to}
+use Rattle.path_planner.specs.Ends.{distance, near_from, nears_to, rows_of}
 use Rattle.path_planner.specs.Near.{near_at, IsAllNear}
 use Rattle.path_planner.proofs.NearLemmas.{near_within, below_or}
 use Rattle.path_planner.proofs.RouteLemmas.{none_is, far_away, chosen_length, not_longer}
@@ -75,32 +75,32 @@ module _ (g : Graph) (to : ℕ) where
     complete = λ a p below path. let d = some_distance a p path (chosen_path g a to) (path_chosen g a to) in (d.0, row_says a below ∙ d.1);
   }
 
--- ---- the table
+-- ---- tables
 
-pub length_table : (g : Graph) (count : ℕ) → length (nears_to g count) ≡ count
-length_table g zero = refl
-length_table g (suc count) = one_longer (nears_to g count) (near_from g count 0 (length (types g))) ∙ (let rest = length_table g count in omega (arith, rest))
+pub length_rows : {A : Type 0} (row : ℕ → A) (count : ℕ) → length (rows_of row count) ≡ count
+length_rows row zero = refl
+length_rows row (suc count) = one_longer (rows_of row count) (row count) ∙ (let rest = length_rows row count in omega (arith, rest))
 
-table_at : (g : Graph) (count to : ℕ) → to < count → slice_index_or (nears_to g count) to [] ≡ near_from g to 0 (length (types g))
-table_at g zero to lt = absurd (omega (arith, lt))
-table_at g (suc count) to lt = elim (below_or to count (omega (arith, lt))) [
-  | inl l ↦ before_last (nears_to g count) (near_from g count 0 (length (types g))) [] to (omega (arith, l, length_table g count)) ∙ table_at g count to l
+row_of : {A : Type 0} (row : ℕ → A) (count i : ℕ) (d : A) → i < count → slice_index_or (rows_of row count) i d ≡ row i
+row_of row zero i d lt = absurd (omega (arith, lt))
+row_of row (suc count) i d lt = elim (below_or i count (omega (arith, lt))) [
+  | inl l ↦ before_last (rows_of row count) (row count) d i (omega (arith, l, length_rows row count)) ∙ row_of row count i d l
   | inr e ↦
-      ap (λ n. slice_index_or (nears_to g (suc count)) n []) (e ∙ sym (length_table g count))
-      ∙ last_of (nears_to g count) (near_from g count 0 (length (types g))) [] ∙ ap (λ n. near_from g n 0 (length (types g))) (sym e)
+      ap (λ n. slice_index_or (rows_of row (suc count)) n d) (e ∙ sym (length_rows row count))
+      ∙ last_of (rows_of row count) (row count) d ∙ ap row (sym e)
 ]
 
-pub more_rows : (g : Graph) (count next : ℕ) (near : List (Option ℕ)) (rows : List (List (Option ℕ))) → suc count ≡ next → rows ≡ nears_to g count → IsAllNear g count near → rows ++ near ∷ [] ≡ nears_to g next
-more_rows g count next near rows is so_far w =
-    ap (λ (rs : List (List (Option ℕ))). rs ++ near ∷ []) so_far ∙ ap (λ n. nears_to g count ++ n ∷ []) (row_is g count near w) ∙ ap (nears_to g) is
+-- what is read of a table
+pub read_row : {A : Type 0} (row : ℕ → A) (count i : ℕ) (rows : List A) (x : A) → rows ≡ rows_of row count → i < count → x ≡ slice_index_or rows i x → x ≡ row i
+read_row {A} row count i rows x made lt is = is ∙ ap (λ (rs : List A). slice_index_or rs i x) made ∙ row_of row count i x lt
 
--- a row that is read from the table
+pub one_row : {A : Type 0} (row : ℕ → A) (count next : ℕ) (x : A) (rows : List A) → suc count ≡ next → rows ≡ rows_of row count → x ≡ row count → rows ++ x ∷ [] ≡ rows_of row next
+one_row {A} row count next x rows is so_far same =
+    ap (λ (rs : List A). rs ++ x ∷ []) so_far ∙ ap (λ y. rows_of row count ++ y ∷ []) same ∙ ap (rows_of row) is
+
+pub more_rows : (g : Graph) (count next : ℕ) (near : List (Option ℕ)) (rows : List (List (Option ℕ))) → suc count ≡ next → rows ≡ nears_to g count → IsAllNear g count near → rows ++ near ∷ [] ≡ nears_to g next
+more_rows g count next near rows is so_far w = one_row (λ to. near_from g to 0 (length (types g))) count next near rows is so_far (row_is g count near w)
+
+-- a row of distances that is read
 pub row_read : (g : Graph) (to : ℕ) (rows : List (List (Option ℕ))) (near : List (Option ℕ)) → rows ≡ nears_to g (length (types g)) → to < length (types g) → near ≡ slice_index_or rows to near → IsAllNear g to near
-row_read g to rows near made below is =
-    let lt : to < length rows = omega (arith, below, ap length made, length_table g (length (types g))) in
-    subst (IsAllNear g to) (sym (is ∙ any_default rows to near [] lt ∙ ap (λ (rs : List (List (Option ℕ))). slice_index_or rs to []) made ∙ table_at g (length (types g)) to below)) (row_is_near g to)
-  where
-    any_default : (rows : List (List (Option ℕ))) (to : ℕ) (d e : List (Option ℕ)) → to < length rows → slice_index_or rows to d ≡ slice_index_or rows to e
-    any_default [] to d e lt = absurd (omega (arith, lt))
-    any_default (x ∷ xs) zero d e lt = refl
-    any_default (x ∷ xs) (suc to) d e lt = any_default xs to d e (omega (arith, lt))
+row_read g to rows near made below is = subst (IsAllNear g to) (sym (read_row (λ n. near_from g n 0 (length (types g))) (length (types g)) to rows near made below is)) (row_is_near g to)

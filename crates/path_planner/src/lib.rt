@@ -6,5 +6,6 @@ mod distances;
 mod plans;
 mod route;
 mod sources;
+mod takers;
 
 pub use plans::Plans;

@@ -8,21 +8,28 @@ use crate::direct::direct;
 use crate::distances::distances;
 use crate::route::{Ends, route};
 use crate::sources::sources;
+use crate::takers::takers;
 use object_values::{Decl, Memory, Seq};
 use std::alloc::Global;
 use std::marker::Model;
 use type_graph::Graph;
 
-/// What the paths of a graph are found by: the types of its makers, and for each type the distances from all types to it.
+/// What the paths of a graph are found by: the types of its makers, and for each type the makers that take it, and the distances from all types.
 pub struct Plans {
     makers: Seq<Ends>,
+    takers: Seq<Seq<u32>>,
     nears: Seq<Seq<Option<u32>>>,
 }
 
 impl Drop for Plans {
     fn drop(self) {
-        let Plans { makers, nears } = self;
+        let Plans {
+            makers,
+            takers,
+            nears,
+        } = self;
         drop(makers);
+        drop(takers);
         drop(nears);
     }
 }
@@ -32,7 +39,7 @@ impl Model for Plans {
 
     ghost Value = { Planned };
 
-    ghost view = { λ p. (p.makers, p.nears) };
+    ghost view = { λ p. (p.makers, p.takers, p.nears) };
 }
 
 impl Plans {
@@ -40,8 +47,13 @@ impl Plans {
         ensures { IfOk result (λ plans. plans ≡ plans_of graph.now) }
     {
         let makers = ends_in(alloc, graph)?;
+        let takers = takers(alloc, graph, makers.as_slice())?;
         let nears = nears_in(alloc, graph, makers.as_slice())?;
-        Ok(Plans { makers, nears })
+        Ok(Plans {
+            makers,
+            takers,
+            nears,
+        })
     }
 
     /// The chosen path: of all paths that have the fewest makers, the one with the least numbers at
@@ -60,7 +72,8 @@ impl Plans {
         ensures chosen { IfOk result (IsChosen graph.now from to) }
     {
         let near = self.nears.as_slice()[to as usize].as_slice();
-        route(alloc, graph, self.makers.as_slice(), near, from)
+        let takers = self.takers.as_slice();
+        route(alloc, graph, self.makers.as_slice(), takers, near, from)
     }
 
     /// The maker that is the chosen path by itself, with the type that it makes. There is none where the one type is the other, where the
