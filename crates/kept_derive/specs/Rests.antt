@@ -5,13 +5,12 @@ use Rattle.odin_outside.specs.Spawned.{Spawned}
 use Rattle.meaning_graph.specs.Graphs.{Graph}
 use Rattle.meaning_graph_text.specs.Grammar.{IsSpellable}
 use Rattle.meaning_nodes.specs.Nodes.{Fits}
-use Rattle.path_planner.specs.declared.route.Ends.{Ends}
-use Rattle.path_planner.specs.Ends.{plans_of}
+use Rattle.path_planner.specs.Ends.{Planned, plans_of}
 use Rattle.kept_derive.specs.declared.fault.KeptFault.{KeptFault}
 use Rattle.kept_derive.specs.declared.fault.KeptFault.TheVariants.{Spawn}
 
 -- The node is one of the graph, which has these plans.
-pub record IsDerivable (g : Graph) (plans : List Ends) (n : Node) : Type 0 where
+pub record IsDerivable (g : Graph) (plans : Planned) (n : Node) : Type 0 where
   pub spellable : IsSpellable g
   pub made : plans ≡ plans_of g
   pub fits : Fits g n

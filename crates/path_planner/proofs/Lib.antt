@@ -2,3 +2,6 @@ mod EndLemmas
 mod NearLemmas
 mod RouteLemmas
 mod DirectLemmas
+mod SourceLemmas
+mod TableLemmas
+mod TakerLemmas

@@ -1,22 +1,16 @@
 -- Distances, level by level.
-use Rattle.std.proofs.Common.{◌≡◌, ℕ, zero, suc, ◌+◌, ◌<◌, ◌≤◌, ◌⊎◌, inl, inr, Bool, true, false, List, [], ◌∷◌, sym, ap, ◌∙◌, subst, refl, length, arith, slice_get, cond, replicate, set, length-set, take, drop, ◌++◌, nat_eq, true≢false}
-use Rattle.std.specs.Prelude.{Option, Some, None}
-use Rattle.std.specs.List.{list_any}
-use Rattle.std.specs.Option.{option_or, option_eq}
-use Rattle.std.proofs.lemmas.Bool.Decides.{Decides-eqb}
-use Rattle.std.proofs.lemmas.List.Folds.{list_any_at}
-use Rattle.sequences.specs.Exact.{option_exact}
-use Rattle.std.proofs.lemmas.List.{length-replicate, take_at, get_or-set_same, get_or-set_other}
+use Rattle.std.proofs.Common.{◌≡◌, ℕ, zero, suc, ◌+◌, ◌<◌, ◌≤◌, ◌⊎◌, inl, inr, true, false, List, [], ◌∷◌, sym, ap, ◌∙◌, subst, refl, length, arith, take, replicate, set, length-set, slice_index_or, ◌++◌}
+use Rattle.std.specs.Prelude.{Option, Some, None, is_some}
+use Rattle.std.proofs.lemmas.List.{length-replicate, get_or-set_same, get_or-set_other}
 use Rattle.meaning_texts.specs.Lists.{IsIn}
 use Rattle.meaning_graph.specs.Graphs.{Graph, types}
 use Rattle.meaning_graph.specs.Types.{IsA, itself, by_super, is_a}
 use Rattle.meaning_graph.specs.Paths.{Makes, Path, maker_edges}
-use Rattle.meaning_texts.proofs.Lemmas.{same_some, some_is_none}
+use Rattle.meaning_texts.proofs.Lemmas.{same_some, some_is_none, in_left, in_right, in_either}
 use Rattle.meaning_graph.proofs.Lemmas.{Route, short_route, numbers, in_below, length-below, super_numbered, is_a_so, so_is_a, named_below, edge_makes, makes_edge}
-use Rattle.path_planner.specs.declared.route.Ends.{Ends}
-use Rattle.path_planner.specs.Ends.{ends_in, from_to}
-use Rattle.path_planner.specs.Near.{near_at, IsNear, IsBetween, IsAllNear}
-use Rattle.path_planner.proofs.EndLemmas.{makes_of, of_makes}
+use Rattle.path_planner.specs.Near.{near_at, AddsBelow, IsNear, IsAt, IsBetween, IsAllNear, LeadTo, Reaches}
+use Rattle.path_planner.proofs.EndLemmas.{of_makes}
+use Rattle.path_planner.proofs.RouteLemmas.{three_ways}
 
 -- a type with a distance lies within the list
 pub near_within : (near : List (Option ℕ)) (a n : ℕ) → near_at near a ≡ Some n → a < length near
@@ -30,100 +24,178 @@ below_or zero (suc n) h = inl (omega arith)
 below_or (suc a) zero h = absurd (omega (arith, h))
 below_or (suc a) (suc n) h = elim (below_or a n (omega (arith, h))) [ inl k ↦ inl (omega (arith, k)) | inr e ↦ inr (ap suc e) ]
 
--- The types that are the one, and had no distance, have this one.
-abbrev pub IsMarked : Graph → ℕ → ℕ → List (Option ℕ) → List (Option ℕ) → Type 0
-IsMarked g of distance near marked = (a : ℕ) → a < length near → near_at marked a ≡ option_or (near_at near a) (cond (is_a g a of) (Some distance) None)
-
--- what a distance after a mark comes from
-pub record WasNew (g : Graph) (of distance : ℕ) (near : List (Option ℕ)) (a n : ℕ) : Type 0 where
-  pub absent : near_at near a ≡ None
-  pub fits : is_a g a of ≡ true
-  pub is : n ≡ distance
-  pub within : a < length near
-
-by_old : (o : Option ℕ) (b : Bool) (d n : ℕ) → option_or o (cond b (Some d) None) ≡ Some n → (o ≡ Some n) ⊎ ((o ≡ None) × (b ≡ true) × (n ≡ d))
-by_old (Some m) b d n h = inl h
-by_old None true d n h = inr (refl, refl, sym (same_some h))
-by_old None false d n h = cc
-
-module _ (g : Graph) (of distance : ℕ) (near marked : List (Option ℕ)) (same : length marked ≡ length near) (is : IsMarked g of distance near marked) where
-  pub old_or_new : (a n : ℕ) → near_at marked a ≡ Some n → (near_at near a ≡ Some n) ⊎ WasNew g of distance near a n
-  old_or_new a n h =
-      let below : a < length near = subst (λ l. a < l) same (near_within marked a n h) in
-      elim (by_old (near_at near a) (is_a g a of) distance n (sym (is a below) ∙ h)) [
-        | inl e ↦ inl e
-        | inr k ↦ inr (record { absent = k.0; fits = k.1; is = k.2; within = below })
-      ]
-
-  pub still_near : (a n : ℕ) → near_at near a ≡ Some n → near_at marked a ≡ Some n
-  still_near a n h = is a (near_within near a n h) ∙ ap (λ o. option_or o (cond (is_a g a of) (Some distance) None)) h
-
-  with_mark : (a : ℕ) (o : Option ℕ) → near_at near a ≡ o → a < length near → is_a g a of ≡ true → (n : ℕ) × (near_at marked a ≡ Some n)
-  with_mark a None e below fits = (distance, is a below ∙ ap (λ o. option_or o (cond (is_a g a of) (Some distance) None)) e ∙ ap (λ b. cond b (Some distance) None) fits)
-  with_mark a (Some n) e below fits = (n, still_near a n e)
-
-  pub now_near : (a : ℕ) → a < length near → is_a g a of ≡ true → (n : ℕ) × (near_at marked a ≡ Some n)
-  now_near a below fits = with_mark a (near_at near a) refl below fits
-
--- ---- the first level
+-- ---- types that are given a distance
 
 none_near : (n a m : ℕ) → near_at (replicate n None) a ≡ Some m → ⊥
 none_near zero a m h = cc
 none_near (suc n) zero m h = cc
 none_near (suc n) (suc a) m h = none_near n a m h
 
-pub first_level : (g : Graph) (to : ℕ) (near : List (Option ℕ)) → length near ≡ length (types g) → IsMarked g to 0 (replicate (length (types g)) None) near → IsNear g to 0 near
-first_level g to near sized is =
-    let same : length near ≡ length (replicate (length (types g)) None) = sized ∙ sym (length-replicate (length (types g)) None) in
-    let was = λ (a n : ℕ) (h : near_at near a ≡ Some n). old_or_new g to 0 (replicate (length (types g)) None) near same is a n h in
-    record {
-      sized = sized;
-      sound = λ a n h. elim (was a n h) [ inl e ↦ absurd (none_near (length (types g)) a n e) | inr w ↦ ([], is_a_so g a to w.fits, sym w.is) ];
-      least = λ a n p h r. elim (was a n h) [ inl e ↦ absurd (none_near (length (types g)) a n e) | inr w ↦ omega (arith, w.is) ];
-      bounded = λ a n h. elim (was a n h) [ inl e ↦ absurd (none_near (length (types g)) a n e) | inr w ↦ omega (arith, w.is) ];
-      complete = λ a p below r few. by_path a p below r few;
+pub none_by_all : (o : Option ℕ) → ((n : ℕ) → o ≡ Some n → ⊥) → o ≡ None
+none_by_all None h = refl
+none_by_all (Some n) h = absurd (h n refl)
+
+pub reaches_none : (distance : ℕ) (near : List (Option ℕ)) (front : List ℕ) → Reaches distance [] near front near front
+reaches_none distance near front = record {
+  sized = refl;
+  kept = λ a n h. h;
+  fresh = λ a n h. inl h;
+  all = λ a h. absurd h;
+  still = λ a h. h;
+  listed = λ a n none h. some_is_none (near_at near a) n h none;
+  only = λ a h. inl h;
+}
+
+module _ (distance : ℕ) (numbers : List ℕ) (old : List (Option ℕ)) (front : List ℕ) (near : List (Option ℕ)) (next : List ℕ) (so_far : Reaches distance numbers old front near next) (b : ℕ) where
+  -- one that has a distance
+  pub reach_known : (m : ℕ) → near_at near b ≡ Some m → Reaches distance (numbers ++ b ∷ []) old front near next
+  reach_known m known = record {
+    sized = so_far.sized;
+    kept = so_far.kept;
+    fresh = λ a n h. elim (so_far.fresh a n h) [ inl e ↦ inl e | inr f ↦ inr (f.0, in_left a numbers (b ∷ []) f.1, f.2) ];
+    all = λ a h. elim (in_either a numbers (b ∷ []) h) [
+      | inl i ↦ so_far.all a i
+      | inr i ↦ elim i [ inl e ↦ (m, ap (near_at near) e ∙ known) | inr bad ↦ absurd bad ]
+    ];
+    still = so_far.still;
+    listed = so_far.listed;
+    only = so_far.only;
+  }
+
+  -- one that has none yet
+  module _ (none : near_at near b ≡ None) (below : b < length near) where
+    abbrev given : List (Option ℕ)
+    given = set near b (Some distance)
+
+    here : near_at given b ≡ Some distance
+    here = get_or-set_same near b (Some distance) None below
+
+    either : (a : ℕ) → (a ≡ b) ⊎ (near_at given a ≡ near_at near a)
+    either a = elim (three_ways a b) [
+      | inl l ↦ inr (get_or-set_other near b a (Some distance) None (omega (arith, l)))
+      | inr r ↦ elim r [ inl e ↦ inl e | inr l ↦ inr (get_or-set_other near b a (Some distance) None (omega (arith, l))) ]
+    ]
+
+    was_none : (a : ℕ) → a ≡ b → near_at old a ≡ None
+    was_none a e = none_by_all (near_at old a) (λ m h. some_is_none (near_at near a) m (so_far.kept a m h) (ap (near_at near) e ∙ none))
+
+    pub reach_new : Reaches distance (numbers ++ b ∷ []) old front given (next ++ b ∷ [])
+    reach_new = record {
+      sized = length-set near b (Some distance) ∙ so_far.sized;
+      kept = λ a n h. elim (either a) [ inl e ↦ some_is_none (near_at near a) n (so_far.kept a n h) (ap (near_at near) e ∙ none) | inr o ↦ o ∙ so_far.kept a n h ];
+      fresh = λ a n h. elim (either a) [
+        | inl e ↦ inr (was_none a e, in_right a numbers (b ∷ []) (inl e), same_some (sym h ∙ ap (near_at given) e ∙ here))
+        | inr o ↦ elim (so_far.fresh a n (sym o ∙ h)) [ inl k ↦ inl k | inr f ↦ inr (f.0, in_left a numbers (b ∷ []) f.1, f.2) ]
+      ];
+      all = λ a h. elim (either a) [
+        | inl e ↦ (distance, ap (near_at given) e ∙ here)
+        | inr o ↦ elim (in_either a numbers (b ∷ []) h) [
+          | inl i ↦ let n = so_far.all a i in (n.0, o ∙ n.1)
+          | inr i ↦ elim i [ inl e ↦ (distance, ap (near_at given) e ∙ here) | inr bad ↦ absurd bad ]
+        ]
+      ];
+      still = λ a h. in_left a next (b ∷ []) (so_far.still a h);
+      listed = λ a n absent h. elim (either a) [
+        | inl e ↦ in_right a next (b ∷ []) (inl e)
+        | inr o ↦ in_left a next (b ∷ []) (so_far.listed a n absent (sym o ∙ h))
+      ];
+      only = λ a h. elim (either a) [
+        | inl e ↦ inr (ap (near_at given) e ∙ here)
+        | inr o ↦ elim (in_either a next (b ∷ []) h) [
+          | inl i ↦ elim (so_far.only a i) [ inl f ↦ inl f | inr k ↦ inr (o ∙ k) ]
+          | inr i ↦ elim i [ inl e ↦ inr (ap (near_at given) e ∙ here) | inr bad ↦ absurd bad ]
+        ]
+      ];
     }
-  where
-    by_path : (a : ℕ) (p : List ℕ) → a < length (types g) → Path g a to p → length p ≤ 0 → (n : ℕ) × (near_at near a ≡ Some n)
-    by_path a [] below r few = now_near g to 0 (replicate (length (types g)) None) near (sized ∙ sym (length-replicate (length (types g)) None)) is a (subst (λ n. a < n) (sym (length-replicate (length (types g)) None)) below) (so_is_a g a to r)
-    by_path a (k ∷ p) below r few = absurd (omega (arith, few))
+
+-- ---- items of lists
+
+pub in_at : {A : Type 0} (xs : List A) (i : ℕ) (d : A) → i < length xs → IsIn (slice_index_or xs i d) xs
+in_at [] i d lt = absurd (omega (arith, lt))
+in_at (x ∷ xs) zero d lt = inl refl
+in_at (x ∷ xs) (suc i) d lt = inr (in_at xs i d (omega (arith, lt)))
+
+pub in_none : (a : ℕ) (xs : List ℕ) → length xs ≡ 0 → IsIn a xs → ⊥
+in_none a [] none h = h
+in_none a (x ∷ xs) none h = absurd (omega (arith, none))
+
+pub take_all : (xs : List ℕ) (n : ℕ) → length xs ≤ n → take n xs ≡ xs
+take_all [] zero le = refl
+take_all [] (suc n) le = refl
+take_all (x ∷ xs) zero le = absurd (omega (arith, le))
+take_all (x ∷ xs) (suc n) le = ap (λ rest. x ∷ rest) (take_all xs n (omega (arith, le)))
+
+pub read_default : (near : List (Option ℕ)) (b : ℕ) (x : Option ℕ) → b < length near → x ≡ slice_index_or near b x → near_at near b ≡ x
+read_default [] b x lt is = absurd (omega (arith, lt))
+read_default (y ∷ ys) zero x lt is = sym is
+read_default (y ∷ ys) (suc b) x lt is = read_default ys b x (omega (arith, lt)) is
+
+pub none_of : (o : Option ℕ) → is_some o ≡ false → o ≡ None
+none_of None h = refl
+none_of (Some n) h = cc
+
+pub some_of : (o : Option ℕ) → is_some o ≡ true → (n : ℕ) × (o ≡ Some n)
+some_of None h = cc
+some_of (Some n) h = (n, refl)
+
+-- ---- the first level
+
+module _ (g : Graph) (to : ℕ) (first : List ℕ) (added : AddsBelow g to (length (types g)) [] first) (near : List (Option ℕ)) (front : List ℕ) (r : Reaches 0 first (replicate (length (types g)) None) [] near front) where
+  was_first : (a : ℕ) → IsIn a first → is_a g a to ≡ true
+  was_first a h = elim ((added a).0 h) [ inl bad ↦ absurd bad | inr k ↦ k.1 ]
+
+  zero_near : (a n : ℕ) → near_at near a ≡ Some n → (is_a g a to ≡ true) × (n ≡ 0)
+  zero_near a n h = elim (r.fresh a n h) [
+    | inl e ↦ absurd (none_near (length (types g)) a n e)
+    | inr f ↦ (was_first a f.1, f.2)
+  ]
+
+  by_path : (a : ℕ) (p : List ℕ) → a < length (types g) → Path g a to p → length p ≤ 0 → (n : ℕ) × (near_at near a ≡ Some n)
+  by_path a [] below path few = r.all a ((added a).1 (inr (below, so_is_a g a to path)))
+  by_path a (k ∷ p) below path few = absurd (omega (arith, few))
+
+  pub first_level : IsAt g to 0 near front
+  first_level = (
+    record {
+      sized = r.sized ∙ length-replicate (length (types g)) None;
+      sound = λ a n h. let z = zero_near a n h in ([], is_a_so g a to z.0, sym z.1);
+      least = λ a n p h path. let z = zero_near a n h in omega (arith, z.1);
+      bounded = λ a n h. let z = zero_near a n h in omega (arith, z.1);
+      complete = by_path;
+    },
+    record {
+      at = λ a h. elim (r.only a h) [ inl bad ↦ absurd bad | inr k ↦ k ];
+      has = λ a h. elim (r.fresh a 0 h) [ inl e ↦ absurd (none_near (length (types g)) a 0 e) | inr f ↦ r.listed a 0 f.0 h ];
+    },
+  )
+
+pub first_within : (g : Graph) (to : ℕ) (first : List ℕ) → AddsBelow g to (length (types g)) [] first → (a : ℕ) → IsIn a first → a < length (types g)
+first_within g to first added a h = elim ((added a).0 h) [ inl bad ↦ absurd bad | inr k ↦ k.0 ]
 
 -- ---- from one level to the next
 
-module _ (g : Graph) (to level : ℕ) where
-  pub begins : (near : List (Option ℕ)) → IsNear g to level near → IsBetween g to level 0 near
+pub front_within : (g : Graph) (to level : ℕ) (near : List (Option ℕ)) (front : List ℕ) → IsAt g to level near front → (b : ℕ) → IsIn b front → b < length (types g)
+front_within g to level near front w b h = let lt = near_within near b level (w.1.at b h) in omega (arith, lt, w.0.sized)
+
+module _ (g : Graph) (to level : ℕ) (front : List ℕ) where
+  pub begins : (near : List (Option ℕ)) → IsAt g to level near front → IsBetween g to level front [] near []
   begins near w = record {
-    sized = w.sized;
-    sound = w.sound;
-    least = w.least;
-    bounded = λ a n h. omega (arith, w.bounded a n h);
-    complete = w.complete;
-    spread = λ k from next a h e m b f. absurd (omega (arith, h));
+    sized = w.0.sized;
+    sound = w.0.sound;
+    least = w.0.least;
+    bounded = λ a n h. omega (arith, w.0.bounded a n h);
+    complete = w.0.complete;
+    spread = λ b a k h makes below. absurd h;
+    here = w.1;
+    after = record { at = λ a h. absurd h; has = λ a h. let less = w.0.bounded a (level + 1) h in absurd (omega (arith, less)) };
   }
 
-  -- a maker whose end is not at the level
-  pub passed_by : (i : ℕ) (near : List (Option ℕ)) → IsBetween g to level i near → ((from next : ℕ) → slice_get (ends_in g) i ≡ Some (from_to from next) → near_at near next ≡ Some level → ⊥) → IsBetween g to level (i + 1) near
-  passed_by i near w other = record {
-    sized = w.sized;
-    sound = w.sound;
-    least = w.least;
-    bounded = w.bounded;
-    complete = w.complete;
-    spread = λ k from next a h e m b f. elim (below_or k i (omega (arith, h))) [
-      | inl l ↦ w.spread k from next a l e m b f
-      | inr s ↦ absurd (other from next (ap (slice_get (ends_in g)) (sym s) ∙ e) m)
-    ];
-  }
-
-  -- a maker whose end is at the level
-  module _ (i : ℕ) (near : List (Option ℕ)) (w : IsBetween g to level i near) (from next : ℕ) (here : slice_get (ends_in g) i ≡ Some (from_to from next)) (at : near_at near next ≡ Some level)
-      (marked : List (Option ℕ)) (same : length marked ≡ length near) (is : IsMarked g from (level + 1) near marked) where
-    was : (a n : ℕ) → near_at marked a ≡ Some n → (near_at near a ≡ Some n) ⊎ WasNew g from (level + 1) near a n
-    was = old_or_new g from (level + 1) near marked same is
-
-    longer : (a : ℕ) (p : List ℕ) → near_at near a ≡ None → a < length near → Path g a to p → level + 1 ≤ length p
-    longer a p absent below r = elim (fits_or_longer (length p) level) [
-      | inl few ↦ let k = w.complete a p (subst (λ n. a < n) w.sized below) r few in some_is_none (near_at near a) k.0 k.1 absent
+  -- a type in front, with what leads to it
+  module _ (looked : List ℕ) (near : List (Option ℕ)) (next : List ℕ) (w : IsBetween g to level front looked near next) (b : ℕ) (in_front : IsIn b front) (sources : List ℕ) (lead : LeadTo g b sources)
+      (new : List (Option ℕ)) (then : List ℕ) (r : Reaches (level + 1) sources near next new then) where
+    longer : (a : ℕ) (p : List ℕ) → near_at near a ≡ None → a < length (types g) → Path g a to p → level + 1 ≤ length p
+    longer a p absent below path = elim (fits_or_longer (length p) level) [
+      | inl few ↦ let k = w.complete a p below path few in some_is_none (near_at near a) k.0 k.1 absent
       | inr many ↦ omega (arith, many)
     ]
       where
@@ -132,33 +204,35 @@ module _ (g : Graph) (to level : ℕ) where
         fits_or_longer (suc m) zero = inr (omega arith)
         fits_or_longer (suc m) (suc n) = elim (fits_or_longer m n) [ inl h ↦ inl (omega (arith, h)) | inr h ↦ inr (omega (arith, h)) ]
 
-    was_level : (a : ℕ) → near_at marked a ≡ Some level → near_at near a ≡ Some level
-    was_level a h = elim (was a level h) [ inl e ↦ e | inr n ↦ absurd (omega (arith, n.is)) ]
-
-    pub looked_at : IsBetween g to level (i + 1) marked
+    pub looked_at : IsBetween g to level front (looked ++ b ∷ []) new then
     looked_at = record {
-      sized = same ∙ w.sized;
-      sound = λ a n h. elim (was a n h) [
+      sized = r.sized ∙ w.sized;
+      sound = λ a n h. elim (r.fresh a n h) [
         | inl e ↦ w.sound a n e
-        | inr new ↦ let p = w.sound next level at in (i ∷ p.0, (next, makes_of g a i from next here new.fits, p.1), omega (arith, p.2, new.is))
+        | inr f ↦ let m = lead.sound a f.1 in let p = w.sound b level (w.here.at b in_front) in (m.1 ∷ p.0, (b, m.2, p.1), omega (arith, p.2, f.2))
       ];
-      least = λ a n p h r. elim (was a n h) [
-        | inl e ↦ w.least a n p e r
-        | inr new ↦ omega (arith, new.is, longer a p new.absent new.within r)
+      least = λ a n p h path. elim (r.fresh a n h) [
+        | inl e ↦ w.least a n p e path
+        | inr f ↦ let m = lead.sound a f.1 in omega (arith, f.2, longer a p f.0 m.0 path)
       ];
-      bounded = λ a n h. elim (was a n h) [ inl e ↦ w.bounded a n e | inr new ↦ omega (arith, new.is) ];
-      complete = λ a p below r few. let k = w.complete a p below r few in (k.0, still_near g from (level + 1) near marked same is a k.0 k.1);
-      spread = λ k begin end a h e m b f. elim (below_or k i (omega (arith, h))) [
-        | inl l ↦ let n = w.spread k begin end a l e (was_level end m) b f in (n.0, still_near g from (level + 1) near marked same is a n.0 n.1)
-        | inr s ↦
-            let one : from_to begin end ≡ from_to from next = same_some (sym e ∙ ap (slice_get (ends_in g)) s ∙ here) in
-            let begins_there : begin ≡ from = same_some (ap (λ (x : Ends). x.from) one) in
-            now_near g from (level + 1) near marked same is a (subst (λ n. a < n) (sym w.sized) b) (ap (is_a g a) (sym begins_there) ∙ f)
+      bounded = λ a n h. elim (r.fresh a n h) [ inl e ↦ w.bounded a n e | inr f ↦ omega (arith, f.2) ];
+      complete = λ a p below path few. let k = w.complete a p below path few in (k.0, r.kept a k.0 k.1);
+      spread = λ c a k h makes below. elim (in_either c looked (b ∷ []) h) [
+        | inl i ↦ let n = w.spread c a k i makes below in (n.0, r.kept a n.0 n.1)
+        | inr i ↦ elim i [ inl e ↦ r.all a (lead.all a k (of_makes g a k c makes).within below (subst (λ c. Makes g a k c) e makes)) | inr bad ↦ absurd bad ]
       ];
+      here = record {
+        at = λ a h. r.kept a level (w.here.at a h);
+        has = λ a h. elim (r.fresh a level h) [ inl e ↦ w.here.has a e | inr f ↦ absurd (omega (arith, f.2)) ];
+      };
+      after = record {
+        at = λ a h. elim (r.only a h) [ inl i ↦ r.kept a (level + 1) (w.after.at a i) | inr k ↦ k ];
+        has = λ a h. elim (r.fresh a (level + 1) h) [ inl e ↦ r.still a (w.after.has a e) | inr f ↦ r.listed a (level + 1) f.0 h ];
+      };
     }
 
-  -- all makers are looked at
-  module _ (near : List (Option ℕ)) (w : IsBetween g to level (length (ends_in g)) near) where
+  -- all types in front are looked at
+  module _ (near : List (Option ℕ)) (next : List ℕ) (w : IsBetween g to level front front near next) where
     one_more : (a k next n : ℕ) → Makes g a k next → near_at near next ≡ Some n → n < level → a < length (types g) → (d : ℕ) × (near_at near a ≡ Some d)
     one_more a k next n makes at less below = let p = w.sound next n at in w.complete a (k ∷ p.0) below (next, makes, p.1) (omega (arith, p.2, less))
 
@@ -169,11 +243,11 @@ module _ (g : Graph) (to level : ℕ) where
         let n = w.complete r.0 q lead.made r.2 (omega (arith, few)) in
         elim (below_or n.0 level (omega (arith, w.least r.0 n.0 q n.1 r.2, few))) [
           | inl less ↦ one_more a k r.0 n.0 r.1 n.1 less below
-          | inr e ↦ w.spread k lead.from r.0 a lead.within lead.ends_are (n.1 ∙ ap Some e) below lead.fits
+          | inr e ↦ w.spread r.0 a k (w.here.has r.0 (n.1 ∙ ap Some e)) r.1 below
         ]
 
-    pub ends_level : IsNear g to (level + 1) near
-    ends_level = record { sized = w.sized; sound = w.sound; least = w.least; bounded = w.bounded; complete = next_level }
+    pub ends_level : IsAt g to (level + 1) near next
+    ends_level = (record { sized = w.sized; sound = w.sound; least = w.least; bounded = w.bounded; complete = next_level }, w.after)
 
 -- ---- all levels
 
@@ -216,49 +290,7 @@ module _ (g : Graph) (to : ℕ) (near : List (Option ℕ)) where
           let s = short_route (maker_edges g) (λ c. is_a g c to) (numbers g) edge_numbered p a (path_route p a r) in
           w.complete a s.0 below (route_path s.0 a s.1) (omega (arith, s.2, length-below (length (types g)), all_levels))
 
--- ---- marks, type by type
-
--- The types before the place are marked, and the others as they were.
-pub record IsMarkedTo (g : Graph) (of distance : ℕ) (near : List (Option ℕ)) (i : ℕ) (marked : List (Option ℕ)) : Type 0 where
-  pub sized : length marked ≡ length near
-  pub before : (a : ℕ) → a < i → near_at marked a ≡ option_or (near_at near a) (cond (is_a g a of) (Some distance) None)
-  pub behind : (a : ℕ) → i ≤ a → near_at marked a ≡ near_at near a
-
-module _ (g : Graph) (of distance : ℕ) (near : List (Option ℕ)) where
-  pub none_marked : IsMarkedTo g of distance near 0 near
-  none_marked = record { sized = refl; before = λ a h. absurd (omega (arith, h)); behind = λ a h. refl }
-
-  pub one_marked : (i : ℕ) (marked : List (Option ℕ)) → IsMarkedTo g of distance near i marked → i < length marked
-      → IsMarkedTo g of distance near (i + 1) (set marked i (option_or (near_at marked i) (cond (is_a g i of) (Some distance) None)))
-  one_marked i marked w below = record {
-    sized = length-set marked i (option_or (near_at marked i) (cond (is_a g i of) (Some distance) None)) ∙ w.sized;
-    before = λ a h. elim (below_or a i (omega (arith, h))) [
-      | inl l ↦ get_or-set_other marked i a (option_or (near_at marked i) (cond (is_a g i of) (Some distance) None)) None (omega (arith, l)) ∙ w.before a l
-      | inr e ↦
-          ap (λ n. near_at (set marked i (option_or (near_at marked i) (cond (is_a g i of) (Some distance) None))) n) e ∙ get_or-set_same marked i (option_or (near_at marked i) (cond (is_a g i of) (Some distance) None)) None below
-          ∙ ap (λ o. option_or o (cond (is_a g i of) (Some distance) None)) (w.behind i (omega arith)) ∙ ap (λ n. option_or (near_at near n) (cond (is_a g n of) (Some distance) None)) (sym e)
-    ];
-    behind = λ a h. get_or-set_other marked i a (option_or (near_at marked i) (cond (is_a g i of) (Some distance) None)) None (omega (arith, h)) ∙ w.behind a (omega (arith, h));
-  }
-
--- a slice's end that is written back
-pub written_back : {A : Type 0} (new old : List A) (len : ℕ) → length new ≡ len → take len (new ++ drop (length new) old) ≡ new
-written_back new old len h = take_at new (drop (length new) old) len h
-
 pub not_below : (i j : ℕ) → (j < i → ⊥) → i ≤ j
 not_below zero j h = omega arith
 not_below (suc i) zero h = absurd (h (omega arith))
 not_below (suc i) (suc j) h = omega (arith, not_below i j (λ k. h (omega (arith, k))))
-
--- whether a type is at the level
-pub none_at : (near : List (Option ℕ)) (level : ℕ) → list_any (λ distance. option_eq nat_eq distance (Some level)) near ≡ false → (a : ℕ) → near_at near a ≡ Some level → ⊥
-none_at near level h a e =
-    let passes : option_eq nat_eq (near_at near a) (Some level) ≡ true = (option_exact Decides-eqb (near_at near a) (Some level)).1 e in
-    true≢false (sym (list_any_at (λ distance. option_eq nat_eq distance (Some level)) near a None (near_within near a level e) passes) ∙ h)
-
-pub same_level : (o : Option ℕ) (level : ℕ) → option_eq nat_eq o (Some level) ≡ true → o ≡ Some level
-same_level o level h = (option_exact Decides-eqb o (Some level)).0 h
-
-pub none_by_all : (o : Option ℕ) → ((n : ℕ) → o ≡ Some n → ⊥) → o ≡ None
-none_by_all None h = refl
-none_by_all (Some n) h = absurd (h n refl)

@@ -44,6 +44,11 @@ three_ways (suc m) (suc n) = elim (three_ways m n) [
 pub lesser_first : (k j : ℕ) (p q : List ℕ) → k < j → slice_cmp nat_cmp (k ∷ p) (j ∷ q) ≡ Less
 lesser_first k j p q h = ap (λ o. ordering_then o (slice_cmp nat_cmp p q)) (sym (nat_cmp_is k j Less h))
 
+pub not_longer : (p q : List ℕ) → AtMost p q → length p ≤ length q
+not_longer p q (inl e) = let same : length q ≡ length p = ap length e in omega (arith, same)
+not_longer p q (inr (inl h)) = omega (arith, h)
+not_longer p q (inr (inr h)) = omega (arith, h.0)
+
 module _ (g : Graph) (to : ℕ) (near : List (Option ℕ)) (w : IsAllNear g to near) where
   -- a type without a distance has no path
   pub far_away : (a : ℕ) → a < length (types g) → near_at near a ≡ None → HasNoPath g a to
@@ -62,12 +67,7 @@ module _ (g : Graph) (to : ℕ) (near : List (Option ℕ)) (w : IsAllNear g to n
   arrived a h = let p = w.sound a 0 h in empty_chosen a p.0 p.1 p.2
 
   -- a chosen path is as long as the distance
-  not_longer : (p q : List ℕ) → AtMost p q → length p ≤ length q
-  not_longer p q (inl e) = let same : length q ≡ length p = ap length e in omega (arith, same)
-  not_longer p q (inr (inl h)) = omega (arith, h)
-  not_longer p q (inr (inr h)) = omega (arith, h.0)
-
-  chosen_length : (a n : ℕ) (p : List ℕ) → near_at near a ≡ Some n → Chosen g a to p → length p ≡ n
+  pub chosen_length : (a n : ℕ) (p : List ℕ) → near_at near a ≡ Some n → Chosen g a to p → length p ≡ n
   chosen_length a n p h c = let q = w.sound a n h in omega (arith, w.least a n p h c.path, not_longer p q.0 (c.least q.0 q.1), q.2)
 
   module _ (at left k next : ℕ) (here : near_at near at ≡ Some (left + 1)) (below : at < length (types g)) (leads : Leads g near at left k next) (first : (j other : ℕ) → Leads g near at left j other → k ≤ j) where

@@ -5,5 +5,7 @@ mod direct;
 mod distances;
 mod plans;
 mod route;
+mod sources;
+mod takers;
 
 pub use plans::Plans;

@@ -2,35 +2,44 @@
 ghost use Rattle.std.specs.Prelude.{◌≡◌, ◌<◌, ◌∷◌, [], Some, IfOk, IfSome, length, slice_get, option_and_then};
 ghost use Rattle.meaning_graph.specs.Graphs.{types, makers};
 ghost use Rattle.meaning_graph.specs.Paths.{made_of, chosen_path};
-ghost use Rattle.path_planner.specs.Ends.{AreTypes, IsChosen, ends_in, made_by, plans_of};
+ghost use Rattle.path_planner.specs.Ends.{AreTypes, IsChosen, ends_in, made_by, nears_of, plans_of};
 
 use crate::direct::direct;
 use crate::distances::distances;
 use crate::route::{Ends, route};
+use crate::sources::sources;
+use crate::takers::takers;
 use object_values::{Decl, Memory, Seq};
 use std::alloc::Global;
 use std::marker::Model;
 use type_graph::Graph;
 
-/// What the paths of a graph are found by: the types of its makers. Contracts see them as a list.
+/// What the paths of a graph are found by: the types of its makers, and for each type the makers that take it, and the distances from all types.
 pub struct Plans {
     makers: Seq<Ends>,
+    takers: Seq<Seq<u32>>,
+    nears: Seq<Seq<Option<u32>>>,
 }
 
 impl Drop for Plans {
     fn drop(self) {
-        let Plans { makers } = self;
+        let Plans {
+            makers,
+            takers,
+            nears,
+        } = self;
         drop(makers);
+        drop(takers);
+        drop(nears);
     }
 }
 
 impl Model for Plans {
-    ghost use Rattle.std.specs.Prelude.{List};
-    ghost use Rattle.path_planner.specs.declared.route.Ends.{Ends};
+    ghost use Rattle.path_planner.specs.Ends.{Planned};
 
-    ghost Value = { List Ends };
+    ghost Value = { Planned };
 
-    ghost view = { λ p. p.makers };
+    ghost view = { λ p. (p.makers, p.takers, p.nears) };
 }
 
 impl Plans {
@@ -38,7 +47,13 @@ impl Plans {
         ensures { IfOk result (λ plans. plans ≡ plans_of graph.now) }
     {
         let makers = ends_in(alloc, graph)?;
-        Ok(Plans { makers })
+        let takers = takers(alloc, graph, makers.as_slice())?;
+        let nears = nears_in(alloc, graph, makers.as_slice())?;
+        Ok(Plans {
+            makers,
+            takers,
+            nears,
+        })
     }
 
     /// The chosen path: of all paths that have the fewest makers, the one with the least numbers at
@@ -56,8 +71,9 @@ impl Plans {
         ensures ok { IfOk result (λ path. path ≡ chosen_path graph.now from to) }
         ensures chosen { IfOk result (IsChosen graph.now from to) }
     {
-        let near = distances(alloc, graph, self.makers.as_slice(), to)?;
-        route(alloc, graph, self.makers.as_slice(), near.as_slice(), from)
+        let near = self.nears.as_slice()[to as usize].as_slice();
+        let takers = self.takers.as_slice();
+        route(alloc, graph, self.makers.as_slice(), takers, near, from)
     }
 
     /// The maker that is the chosen path by itself, with the type that it makes. There is none where the one type is the other, where the
@@ -117,4 +133,17 @@ fn ends_in(alloc: Global, graph: &Graph) -> Result<Seq<Ends>, Memory>
         }
     }
     Ok(made)
+}
+
+// The distances from all types to each type.
+fn nears_in(alloc: Global, graph: &Graph, makers: &[Ends]) -> Result<Seq<Seq<Option<u32>>>, Memory>
+    requires made { makers.now ≡ ends_in graph.now }
+    ensures { IfOk result (λ nears. nears ≡ nears_of graph.now) }
+{
+    let sources = sources(alloc, graph, makers)?;
+    let mut nears = Seq::new(alloc);
+    for to in 0..graph.type_count() {
+        nears.push(distances(alloc, graph, sources.as_slice(), to)?)?;
+    }
+    Ok(nears)
 }

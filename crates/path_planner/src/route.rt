@@ -2,7 +2,7 @@
 ghost use Rattle.std.specs.Prelude.{◌≡◌, ◌<◌, ℕ, IfOk, length};
 ghost use Rattle.meaning_graph.specs.Graphs.{types};
 ghost use Rattle.meaning_graph.specs.Paths.{chosen_path};
-ghost use Rattle.path_planner.specs.Ends.{ends_in, AreTypes};
+ghost use Rattle.path_planner.specs.Ends.{ends_in, takers_in, takers_of, AreTypes};
 ghost use Rattle.path_planner.specs.Near.{IsAllNear, IsLead, IsNearer};
 
 use object_values::{Memory, Seq};
@@ -21,10 +21,12 @@ pub(crate) fn route(
     alloc: Global,
     graph: &Graph,
     makers: &[Ends],
-    near: &[Option<usize>],
+    takers: &[Seq<u32>],
+    near: &[Option<u32>],
     from: u32,
 ) -> Result<Option<Seq<u32>>, Memory>
     requires made { makers.now ≡ ends_in graph.now }
+    requires takers { takers.now ≡ takers_in graph.now }
     requires sized { length near.now ≡ length (types graph.now) }
     requires from { from < length (types graph.now) }
     ensures { (to : ℕ) → IsAllNear graph.now to near.now
@@ -37,7 +39,8 @@ pub(crate) fn route(
     let mut path = Seq::new(alloc);
     while left > 0 {
         left -= 1;
-        let Some((number, next)) = nearer(graph, makers, near, at, left) else {
+        let takers = takers[at as usize].as_slice();
+        let Some((number, next)) = nearer(graph, makers, takers, near, at, left) else {
             // This is never so, since a type at a distance has a path.
             return Ok(None);
         };
@@ -51,25 +54,27 @@ pub(crate) fn route(
 fn nearer(
     graph: &Graph,
     makers: &[Ends],
-    near: &[Option<usize>],
+    takers: &[u32],
+    near: &[Option<u32>],
     at: u32,
-    distance: usize,
+    distance: u32,
 ) -> Option<(u32, u32)>
     requires made { makers.now ≡ ends_in graph.now }
+    requires takers { takers.now ≡ takers_of graph.now at }
     requires sized { length near.now ≡ length (types graph.now) }
     requires at { at < length (types graph.now) }
     ensures { IsNearer graph.now near.now at distance result }
 {
-    for number in 0..graph.maker_count() {
-        if let Some(next) = lead(graph, makers[number as usize], near, at, distance) {
-            return Some((number, next));
+    for number in takers {
+        if let Some(next) = lead(graph, makers[*number as usize], near, at, distance) {
+            return Some((*number, next));
         }
     }
     None
 }
 
 // What the maker makes of the type, where that is at the distance.
-fn lead(graph: &Graph, maker: Ends, near: &[Option<usize>], at: u32, distance: usize) -> Option<u32>
+fn lead(graph: &Graph, maker: Ends, near: &[Option<u32>], at: u32, distance: u32) -> Option<u32>
     requires ends { AreTypes graph.now maker }
     requires sized { length near.now ≡ length (types graph.now) }
     requires at { at < length (types graph.now) }

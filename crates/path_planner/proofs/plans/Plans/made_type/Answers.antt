@@ -2,7 +2,7 @@
 use Rattle.std.proofs.Common.{◌≡◌, ◌∙◌, ◌<◌, length, sym, ap, slice_get}
 use Rattle.std.specs.Prelude.{Some}
 use Rattle.std.proofs.lemmas.Bool.{ltb-true}
-use Rattle.path_planner.specs.Ends.{ends_in}
+use Rattle.path_planner.specs.Ends.{Planned, ends_in}
 use Rattle.path_planner.proofs.EndLemmas.{place_ends, ends_are_types, made_by_ends}
 use Rattle.path_planner.proofs.plans.Plans.made_type.Goals as goal
 
@@ -10,7 +10,7 @@ ends_at : (c : goal.After-made_by-arg-1) → slice_get (ends_in c.args.graph.now
 ends_at c =
     let lookup = c.in_ok-maker.ensures.lookup in
     let below : c.args.number < length c.as_slice.result.now = ltb-true c.args.number (length c.as_slice.result.now) (sym lookup.0) in
-    place_ends c.args.graph.now c.as_slice.result.now c.args.number c.in_ok-maker.maker.now (c.as_slice.ensures ∙ c.self.view_is ∙ c.requires.made) below ∙ ap Some (sym lookup.1)
+    place_ends c.args.graph.now c.as_slice.result.now c.args.number c.in_ok-maker.maker.now (c.as_slice.ensures ∙ ap (λ (v : Planned). v.0) (c.self.view_is ∙ c.requires.made)) below ∙ ap Some (sym lookup.1)
 
 pub made_by-requires-clause-ends : goal.made_by-requires-clause-ends
 made_by-requires-clause-ends c = ends_are_types c.args.graph.now c.args.number c.in_ok-maker.maker.now (ends_at c)
@@ -19,5 +19,5 @@ pub returns : goal.returns
 returns c =
     let lookup = c.in_ok-maker.ensures.lookup in
     let below : c.args.number < length c.as_slice.result.now = ltb-true c.args.number (length c.as_slice.result.now) (sym lookup.0) in
-    let at = place_ends c.args.graph.now c.as_slice.result.now c.args.number c.in_ok-maker.maker.now (c.as_slice.ensures ∙ c.self.view_is ∙ c.requires.made) below ∙ ap Some (sym lookup.1) in
+    let at = place_ends c.args.graph.now c.as_slice.result.now c.args.number c.in_ok-maker.maker.now (c.as_slice.ensures ∙ ap (λ (v : Planned). v.0) (c.self.view_is ∙ c.requires.made)) below ∙ ap Some (sym lookup.1) in
     c.made_by.ensures ∙ made_by_ends c.args.graph.now c.args.from c.args.number (Some c.in_ok-maker.maker.now) (sym at)
