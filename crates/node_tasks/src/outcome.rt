@@ -8,16 +8,16 @@ use object_values::{
 };
 use std::alloc::Global;
 
-/// What the tool gave: its messages under the label, and the value that its outputs make unless
-/// it gave up.
+/// What the tool gave: its messages under the label, which share the texts of its lines, and the
+/// value that its outputs make unless it gave up.
 pub(crate) fn outcome_own(
     alloc: Global,
-    label: &Bytes,
+    label: Bytes,
     makes_compound: bool,
     outcome: &Outcome,
 ) -> Result<Own, Memory>
     ensures { IfOk result (λ own. own ≡
-        outcome_own label.now makes_compound [] (Some outcome.now)) }
+        outcome_own label makes_compound [] (Some outcome.now)) }
 {
     let messages = labelled(alloc, label, outcome.lines.as_slice())?;
     if outcome.status == Status::Abort {
@@ -27,13 +27,17 @@ pub(crate) fn outcome_own(
     Ok(Own::valued(value, outcome.status, messages))
 }
 
-fn labelled(alloc: Global, label: &Bytes, lines: &[OwnLine]) -> Result<Seq<Message>, Memory>
-    ensures { IfOk result (λ messages. messages ≡ map (labelled label.now) lines.now) }
+fn labelled(alloc: Global, label: Bytes, lines: &[OwnLine]) -> Result<Seq<Message>, Memory>
+    ensures { IfOk result (λ messages. messages ≡ map (labelled label) lines.now) }
 {
     let mut messages = Seq::new(alloc);
+    if lines.is_empty() {
+        return Ok(messages);
+    }
+    let shared = Text::of(label)?;
     for line in lines {
         messages.push(Message {
-            label: label.copy(alloc)?,
+            label: shared.copy(alloc)?,
             level: line.level,
             text: line.text.copy(alloc)?,
         })?;

@@ -111,7 +111,7 @@ fn run_own(
         IfOk result (λ own. own ≡ outcome_own label makes [] (Some outcome.now)) }
 {
     let label = label_of(alloc, graph, node)?;
-    outcome_own(alloc, &label, makes_compound(graph, maker), outcome)
+    outcome_own(alloc, label, makes_compound(graph, maker), outcome)
 }
 
 // A tool that isn't run: where the base has a value, what lacks a path is told.

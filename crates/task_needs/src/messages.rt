@@ -2,7 +2,7 @@
 ghost use Rattle.std.specs.Prelude.{◌≡◌, ◌∷◌, [], IfOk};
 ghost use Rattle.meaning_nodes.specs.Labels.{abort_message as message_at_abort, label_of as label_of_node, too_many_references};
 
-use object_values::{Bytes, Memory, Message, Node, Seq, Status};
+use object_values::{Bytes, Memory, Message, Node, Seq, Status, Text};
 use odin_nodes::label_of;
 use std::alloc::Global;
 use type_graph::Graph;
@@ -17,7 +17,8 @@ pub fn abort_message(
     ensures { let label = label_of_node graph.now node.now in
         IfOk result (λ messages. messages ≡ message_at_abort label text ∷ []) }
 {
-    let label = label_of(alloc, graph, node)?;
+    let label = Text::of(label_of(alloc, graph, node)?)?;
+    let text = Text::of(text)?;
     let mut messages = Seq::new(alloc);
     messages.push(Message {
         label,

@@ -9,7 +9,7 @@ ghost use Rattle.task_needs.specs.TakingOver.{TakesOver};
 
 use crate::counted::Counted;
 use crate::results::{Results, elements_of};
-use object_values::{Memory, Message, Node, Seq, Status, View};
+use object_values::{Memory, Message, Node, SharedSeq, Status, View};
 use odin_nodes::{Inherited, worst};
 use std::alloc::Global;
 
@@ -59,7 +59,7 @@ impl Taken {
     }
 
     /// The messages that are taken over, and behind them the own ones.
-    pub fn into_messages(self, alloc: Global, own: &[Message]) -> Result<Seq<Message>, Memory>
+    pub fn into_messages(self, alloc: Global, own: &[Message]) -> Result<SharedSeq<Message>, Memory>
         ensures { IfOk result (λ all. all ≡ inherit self.messages own.now) }
     {
         let Taken {
@@ -159,7 +159,11 @@ fn messages_in(view: Option<&View>) -> &[Message]
 }
 
 // The messages of the needs, and behind them the own ones.
-fn with_own(alloc: Global, messages: Inherited, own: &[Message]) -> Result<Seq<Message>, Memory>
+fn with_own(
+    alloc: Global,
+    messages: Inherited,
+    own: &[Message],
+) -> Result<SharedSeq<Message>, Memory>
     ensures { IfOk result (λ all. all ≡ inherit messages own.now) }
 {
     let mut messages = messages;
