@@ -3,6 +3,7 @@ use Rattle.std.specs.Prelude.{◌≡◌, ⊤, ℕ, List, ◌++◌, Option, Some,
 use Rattle.std.specs.List.{flat_map, fold}
 use Rattle.std.specs.Hash as fed
 use Rattle.std.specs.Hash.{HashWrites}
+use Rattle.sequences.specs.Fed.{bytes_fed}
 use Rattle.object_values.specs.declared.calls.CallPart.{CallPart}
 use Rattle.content_store.specs.Bodies.{Bodies, place_of}
 use Rattle.content_store.specs.Digesting as digesting
@@ -25,7 +26,7 @@ AreHeldParts texts parts = All (IsHeldPart texts) parts
 
 -- what an input feeds a hasher: the number of its text stands for the text
 abbrev pub input_fed : CallPart → Option ℕ → HashWrites
-input_fed part text = fed.u32 part.slot ++ fed.slice fed.u8 part.label ++ fed.option fed.u64 text
+input_fed part text = fed.u32 part.slot ++ bytes_fed part.label ++ fed.option fed.u64 text
 
 abbrev pub part_fed : Bodies → CallPart → HashWrites
 part_fed texts part = input_fed part (id_of texts part.body)
