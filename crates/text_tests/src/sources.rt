@@ -104,9 +104,3 @@ fn a_name_keeps_its_newest_text(rt: HostRuntime) -> Result<(), Fail> {
     assert!(rt; is_taken(&mut sources, &copy));
     Ok(())
 }
-
-// The name of a number below 10,000, in four digits.
-fn numbered(number: usize) -> [u8; 4] {
-    let digit = |place: usize| b'0' + (number / place % 10) as u8;
-    [digit(1000), digit(100), digit(10), digit(1)]
-}
