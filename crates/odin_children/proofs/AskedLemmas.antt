@@ -1,5 +1,5 @@
 -- Child programs that were asked whether they have ended.
-use Rattle.std.proofs.Common.{◌≡◌, ◌∙◌, ◌<◌, ℕ, zero, suc, List, [], ◌∷◌, map, length, slice_index_or, slice_set, refl, sym, ap, ap₂, subst, arith}
+use Rattle.std.proofs.Common.{◌≡◌, ◌∙◌, ◌+◌, ◌<◌, ℕ, zero, suc, List, [], ◌∷◌, map, length, slice_index_or, slice_set, refl, sym, ap, ap₂, subst, arith}
 use Rattle.std.specs.Prelude.{Option, Some, None, IfSome, IfOk, Result, Ok, remove}
 use Rattle.odin_outside.specs.declared.events.Running.{Running}
 use Rattle.odin_children.specs.Told.{Seen, IsAsked, AreAsked, NoneEnded}
@@ -70,14 +70,20 @@ none_still f (x ∷ xs) zero tool before = tt
 none_still f (x ∷ xs) (suc k) tool before = (before.0, none_still f xs k tool before.1)
 
 -- and where it has told no end either, none up to it has
-pub none_more : {X : Type 0} (f : X → Seen) (xs : List X) (k : ℕ) (tool : X) → NoneEnded k (map f xs) → (f tool).status ≡ None → NoneEnded (suc k) (map f (slice_set xs k tool))
+none_more : {X : Type 0} (f : X → Seen) (xs : List X) (k : ℕ) (tool : X) → NoneEnded k (map f xs) → (f tool).status ≡ None → NoneEnded (suc k) (map f (slice_set xs k tool))
 none_more f [] k tool before runs = tt
 none_more f (x ∷ xs) zero tool before runs = (runs, tt)
 none_more f (x ∷ xs) (suc k) tool before runs = (before.0, none_more f xs k tool before.1 runs)
 
+pub none_next : {X : Type 0} (f : X → Seen) (xs : List X) (k : ℕ) (tool : X) → NoneEnded k (map f xs) → (f tool).status ≡ None → NoneEnded (k + 1) (map f (slice_set xs k tool))
+none_next f xs k tool before runs =
+    let next : suc k ≡ k + 1 = omega arith in
+    subst (λ n. NoneEnded n (map f (slice_set xs k tool))) next (none_more f xs k tool before runs)
+
 -- those before a place stay where the one at it is taken out
 pub none_left : {X : Type 0} (f : X → Seen) (xs : List X) (k : ℕ) → NoneEnded k (map f xs) → NoneEnded k (map f (remove xs k))
-none_left f [] k before = before
+none_left f [] zero before = tt
+none_left f [] (suc k) before = tt
 none_left f (x ∷ xs) zero before = tt
 none_left f (x ∷ xs) (suc k) before = (before.0, none_left f xs k before.1)
 

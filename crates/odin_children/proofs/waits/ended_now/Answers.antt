@@ -1,6 +1,6 @@
 use Rattle.std.proofs.Common.{rules}
 use Rattle.odin_children.specs.Seen.{seen_of}
-use Rattle.odin_children.proofs.AskedLemmas.{asked_there, all_same, none_more, none_still}
+use Rattle.odin_children.proofs.AskedLemmas.{asked_there, all_same, none_next, none_still}
 use Rattle.odin_children.proofs.waits.ended_now.Goals as goal
 
 pub loop-place-init : goal.loop-place-init
@@ -12,7 +12,7 @@ returns-then-has_ended-clause-asked g c = asked_there seen_of _ c.loop-place.sta
 pub loop-place-preserved : goal.loop-place-preserved
 loop-place-preserved g c = record {
   asked = asked_there seen_of _ c.loop-place.started.items c.loop-place.place c.index_mut.result.now c.has_ended.new.tool (search rules) c.loop-place.invariant.asked (search rules);
-  oldest = none_more seen_of c.loop-place.started.items c.loop-place.place c.has_ended.new.tool c.loop-place.invariant.oldest (c.has_ended.ensures.running (search rules));
+  oldest = none_next seen_of c.loop-place.started.items c.loop-place.place c.has_ended.new.tool c.loop-place.invariant.oldest (c.has_ended.ensures.running (search rules));
   long = search rules;
 }
 
