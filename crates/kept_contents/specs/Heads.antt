@@ -3,6 +3,7 @@ use Rattle.std.specs.Prelude.{◌≡◌, ℕ, List, ◌++◌, Option}
 use Rattle.std.specs.Bool.{Decides}
 use Rattle.std.specs.Hash as fed
 use Rattle.std.specs.Hash.{HashWrites}
+use Rattle.sequences.specs.Fed.{bytes_fed}
 use Rattle.std.specs.Cmp.Lexicographic.{bytes_decides, pointwise_decides}
 use Rattle.std.specs.List.{position}
 use Rattle.std.proofs.Common.{rules}
@@ -33,13 +34,13 @@ AreMore old new = (later : List CallHead) × (new ≡ old ++ later)
 -- ---- what a head feeds a hasher
 
 abbrev pair_fed : ParamValue → HashWrites
-pair_fed p = fed.slice fed.u8 p.param ++ fed.slice fed.u8 p.value
+pair_fed p = bytes_fed p.param ++ bytes_fed p.value
 
 abbrev pub fed_of : CallHead → HashWrites
 fed_of head =
-    fed.slice fed.u8 head.tool ++ fed.slice fed.u8 head.version
-    ++ fed.slice (fed.slice fed.u8) head.words ++ fed.slice pair_fed head.params
-    ++ fed.slice (fed.slice fed.u8) head.outs
+    bytes_fed head.tool ++ bytes_fed head.version
+    ++ fed.slice bytes_fed head.words ++ fed.slice pair_fed head.params
+    ++ fed.slice bytes_fed head.outs
 
 -- Its `==` answers whether two are equal.
 pub head_exact : (x y : CallHead) → Decides (head_eq.eq x y) (x ≡ y)

@@ -4,6 +4,7 @@ use Rattle.std.specs.HashMap.{get}
 use Rattle.std.specs.List.{flat_map, fold}
 use Rattle.std.specs.Hash as fed
 use Rattle.std.specs.Hash.{HashWrites}
+use Rattle.sequences.specs.Fed.{bytes_fed}
 use Rattle.std.specs.Hash.FoldHasher as folding
 use Rattle.object_values.specs.declared.views.Part.{Part}
 use Rattle.object_values.specs.declared.views.Value.{Value}
@@ -16,10 +17,10 @@ use Rattle.kept_contents.specs.Stocks.{IsOther}
 -- ---- the hash of a value
 
 abbrev pub part_fed : Part → HashWrites
-part_fed part = fed.slice fed.u8 part.name ++ fed.slice fed.u8 part.body
+part_fed part = bytes_fed part.name ++ bytes_fed part.body
 
 abbrev pub value_fed : Value → HashWrites
-value_fed (Simple text) = fed.slice fed.u8 text
+value_fed (Simple text) = bytes_fed text
 value_fed (Listed nodes) = fed.slice node_hash.hash_input nodes
 value_fed (Compound parts) = flat_map part_fed parts
 
