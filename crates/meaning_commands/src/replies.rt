@@ -1,5 +1,5 @@
 // The replies to commands.
-use object_values::{Bytes, Message, Part, Seq, Status, Text};
+use object_values::{Bytes, Message, Part, Seq, SharedSeq, Status, Text};
 
 /// A reply: one variant a row of the table of replies in docs/SESSIONS.md. A list of texts holds the lines behind the first one, each without
 /// its LF; the number in the first line is their count.
@@ -30,7 +30,7 @@ pub enum Reply {
     Shown {
         status: Status,
         body: ShownBody,
-        messages: Seq<Message>,
+        messages: SharedSeq<Message>,
     },
 }
 

@@ -72,7 +72,7 @@ fn outcome_of(alloc: Global, body: &[u8]) -> Result<Outcome, Memory> {
     let mut lines = Seq::new(alloc);
     lines.push(OwnLine {
         level: Status::Warning,
-        text: Bytes::from_slice(alloc, b"careful")?,
+        text: text(alloc, b"careful")?,
     })?;
     let mut outputs = Seq::new(alloc);
     outputs.push(Part {

@@ -129,7 +129,8 @@ fn read_message(alloc: Global, line: &[u8]) -> Result<Option<Message>, Memory>
         return Ok(None);
     };
     holds_bytes(text.as_slice());
-    let label = Bytes::from_slice(alloc, label)?;
+    let label = Text::of(Bytes::from_slice(alloc, label)?)?;
+    let text = Text::of(text)?;
     Ok(Some(Message { label, level, text }))
 }
 

@@ -7,7 +7,7 @@ ghost use Rattle.reply_reader.specs.Reading.{Reads};
 use crate::items::{read_counted, status_of};
 use crate::sizes::{cut_body, cut_number};
 use meaning_commands::{Reply, ShownBody};
-use object_values::{Bytes, Memory, Message, Seq, Status, Text};
+use object_values::{Bytes, Memory, Message, SharedSeq, Status, Text};
 use odin_bytes::cut_at;
 use odin_bytes::laws::escapes_read_back;
 use std::alloc::Global;
@@ -62,14 +62,20 @@ fn read_body(alloc: Global, text: &[u8]) -> Result<Option<(ShownBody, &[u8])>, M
     Ok(None)
 }
 
-fn read_messages(alloc: Global, text: &[u8]) -> Result<Option<(Seq<Message>, &[u8])>, Memory>
+fn read_messages(
+    alloc: Global,
+    text: &[u8],
+) -> Result<Option<(SharedSeq<Message>, &[u8])>, Memory>
     ensures { IfOk result (Reads messages_text (AreFormed IsFormedMessage) text.now) }
 {
     let Some(rest) = text.strip_prefix(b"messages ") else {
         return Ok(None);
     };
     escapes_read_back();
-    read_counted(alloc, rest)
+    match read_counted(alloc, rest)? {
+        Some((messages, behind)) => Ok(Some((SharedSeq::of(messages)?, behind))),
+        None => Ok(None),
+    }
 }
 
 // Nothing is shown exactly at `Abort`.

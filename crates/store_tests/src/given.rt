@@ -68,7 +68,7 @@ fn parts_of(alloc: Global, parts: &[(u32, &[u8], Option<&[u8]>)]) -> Result<Seq<
 fn lines_of(alloc: Global, lines: &[(Status, &[u8])]) -> Result<Seq<OwnLine>, Memory> {
     let mut made = Seq::new(alloc);
     for (level, text) in lines {
-        let text = Bytes::from_slice(alloc, text)?;
+        let text = text_of(alloc, text)?;
         made.push(OwnLine {
             level: *level,
             text,

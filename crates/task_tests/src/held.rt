@@ -3,7 +3,9 @@ ghost use Rattle.std.specs.Prelude.{◌≡◌};
 ghost use Rattle.path_planner.specs.Ends.{plans_of};
 
 use super::graphs::Text;
-use object_values::{Bytes, Memory, Message, Node, Part, Seq, Status, Value, View};
+use object_values::{
+    Bytes, Memory, Message, Node, Part, Seq, SharedSeq, Status, Text as SharedText, Value, View,
+};
 use path_planner::Plans;
 use std::alloc::Global;
 use task_tables::{Fault, Table, body_of, node_in};
@@ -54,18 +56,18 @@ fn repeated(alloc: Global, text: &[u8], count: u32) -> Result<Bytes, Memory> {
 fn message_of(alloc: Global, said: Said) -> Result<Message, Memory> {
     let (level, label, text) = said;
     Ok(Message {
-        label: Bytes::from_slice(alloc, label)?,
+        label: SharedText::of(Bytes::from_slice(alloc, label)?)?,
         level,
-        text: Bytes::from_slice(alloc, text)?,
+        text: SharedText::of(Bytes::from_slice(alloc, text)?)?,
     })
 }
 
-fn messages_of(alloc: Global, all: &[Said]) -> Result<Seq<Message>, Memory> {
+fn messages_of(alloc: Global, all: &[Said]) -> Result<SharedSeq<Message>, Memory> {
     let mut messages = Seq::new(alloc);
     for said in all {
         messages.push(message_of(alloc, *said)?)?;
     }
-    Ok(messages)
+    SharedSeq::of(messages)
 }
 
 fn nodes_of(alloc: Global, graph: &Graph, plans: &Plans, texts: &[Text]) -> Result<Seq<Node>, Fault>

@@ -1,20 +1,20 @@
 // A reply by its text.
-use object_values::{Bytes, Memory, Message, Seq, Status, Text};
+use object_values::{Bytes, Memory, Message, Seq, SharedSeq, Status, Text};
 use odin_commands::{Reply, ShownBody, write_reply};
 use std::alloc::Global;
 use std::test::Fail;
 
 // A message with a tab in it.
-fn messages(alloc: Global) -> Result<Seq<Message>, Memory> {
-    let label = Bytes::from_slice(alloc, b"a.c:o")?;
-    let text = Bytes::from_slice(alloc, b"a\tb")?;
+fn messages(alloc: Global) -> Result<SharedSeq<Message>, Memory> {
+    let label = Text::of(Bytes::from_slice(alloc, b"a.c:o")?)?;
+    let text = Text::of(Bytes::from_slice(alloc, b"a\tb")?)?;
     let mut messages = Seq::new(alloc);
     messages.push(Message {
         label,
         level: Status::Warning,
         text,
     })?;
-    Ok(messages)
+    SharedSeq::of(messages)
 }
 
 // An empty object with messages.

@@ -7,7 +7,7 @@ use crate::file_names::WARNINGS;
 use crate::left::Left;
 use crate::outputs::{outputs_of, put_faults};
 use crate::warnings::own_lines;
-use object_values::{Bytes, Call, End, Memory, Outcome, OwnLine, Raw, Seq, Status};
+use object_values::{Bytes, Call, End, Memory, Outcome, OwnLine, Raw, Seq, Status, Text};
 use std::alloc::Global;
 
 // The messages of the tool, at this level.
@@ -60,7 +60,7 @@ fn ended_badly(alloc: Global, left: &Left, how: Bytes) -> Result<Outcome, Memory
     let mut lines = lines_of(alloc, Status::Abort, left)?;
     lines.push(OwnLine {
         level: Status::Abort,
-        text: how,
+        text: Text::of(how)?,
     })?;
     Ok(Outcome {
         status: Status::Abort,

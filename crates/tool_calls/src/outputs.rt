@@ -34,7 +34,7 @@ fn put_fault(
     }
     lines.push(OwnLine {
         level: Status::Abort,
-        text,
+        text: Text::of(text)?,
     })
 }
 

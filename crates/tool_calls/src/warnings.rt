@@ -3,7 +3,7 @@ ghost use Rattle.std.specs.Prelude.{◌≡◌, ◌++◌, take, map, filter, OnOk
 ghost use Rattle.meaning_texts.specs.Limits.{message_length};
 ghost use Rattle.meaning_calls.specs.Outcomes as meaning;
 
-use object_values::{Bytes, MESSAGE_LENGTH, MESSAGE_LIMIT, Memory, OwnLine, Seq, Status};
+use object_values::{Bytes, MESSAGE_LENGTH, MESSAGE_LIMIT, Memory, OwnLine, Seq, Status, Text};
 use odin_bytes::{drop_cr, first_line};
 use std::alloc::Global;
 
@@ -24,7 +24,7 @@ fn put_line(
     let length = MESSAGE_LENGTH.min(line.len());
     lines.push(OwnLine {
         level,
-        text: Bytes::from_slice(alloc, &line[..length])?,
+        text: Text::of(Bytes::from_slice(alloc, &line[..length])?)?,
     })
 }
 

@@ -1,6 +1,6 @@
 // Messages that are inherited, on small tables.
 use super::texts::Text;
-use object_values::{Bytes, Memory, Message, Seq, Status, View};
+use object_values::{Bytes, Memory, Message, Seq, SharedSeq, Status, Text as SharedText, View};
 use odin_nodes::{inherit, worst};
 use std::alloc::Global;
 use std::test::Fail;
@@ -11,9 +11,9 @@ type Rows = &'static [(Text, Status, Text)];
 // A message with this label, level and text.
 fn message(alloc: Global, label: &[u8], level: Status, text: &[u8]) -> Result<Message, Memory> {
     Ok(Message {
-        label: Bytes::from_slice(alloc, label)?,
+        label: SharedText::of(Bytes::from_slice(alloc, label)?)?,
         level,
-        text: Bytes::from_slice(alloc, text)?,
+        text: SharedText::of(Bytes::from_slice(alloc, text)?)?,
     })
 }
 
@@ -32,7 +32,7 @@ fn view(alloc: Global, rows: Rows) -> Result<View, Memory> {
     Ok(View {
         value: None,
         status: Status::Abort,
-        messages,
+        messages: SharedSeq::of(messages)?,
     })
 }
 
@@ -45,14 +45,14 @@ fn put_views(alloc: Global, views: &mut Seq<View>, needs: &[Rows]) -> Result<(),
 }
 
 // What an object with these own messages shows that needs the views.
-fn with_own(alloc: Global, views: &[View], own: Rows) -> Result<Seq<Message>, Memory> {
+fn with_own(alloc: Global, views: &[View], own: Rows) -> Result<SharedSeq<Message>, Memory> {
     let mut messages = Seq::new(alloc);
     put_messages(alloc, &mut messages, own)?;
     inherit(alloc, views, messages.as_slice())
 }
 
 // What an object with these own messages shows that needs objects with these messages.
-fn inherited(alloc: Global, needs: &[Rows], own: Rows) -> Result<Seq<Message>, Memory> {
+fn inherited(alloc: Global, needs: &[Rows], own: Rows) -> Result<SharedSeq<Message>, Memory> {
     let mut views = Seq::new(alloc);
     put_views(alloc, &mut views, needs)?;
     with_own(alloc, views.as_slice(), own)

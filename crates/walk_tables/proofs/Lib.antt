@@ -1,4 +1,5 @@
 mod Added
 mod CallLemmas
+mod ListLemmas
 mod SurveyLemmas
 pub mod Lemmas

@@ -1,7 +1,8 @@
 // The nodes that have results.
-ghost use Rattle.std.specs.Prelude.{◌≡◌, ◌++◌, ◌∷◌, [], None, option_map, OnOk, OnErr};
+ghost use Rattle.std.specs.Prelude.{◌≡◌, ◌++◌, ◌∷◌, [], None, option_map, IfOk, OnOk, OnErr};
 ghost use Rattle.walk_tables.specs.Tables.{done_in};
 
+use crate::lists::MessageLists;
 use indexmap::IndexMap;
 use object_values::{Memory, Node, View};
 use std::alloc::Global;
@@ -22,15 +23,18 @@ impl Drop for Done {
     }
 }
 
-/// The results of nodes, in the order in which they came. A node is looked up by its hash.
+/// The results of nodes, in the order in which they came. A node is looked up by its hash. Results
+/// with the same messages share them.
 pub struct Table {
     done: IndexMap<Node, Done>,
+    lists: MessageLists,
 }
 
 impl Drop for Table {
     fn drop(self) {
-        let Table { done } = self;
+        let Table { done, lists } = self;
         drop(done);
+        drop(lists);
     }
 }
 
@@ -48,6 +52,7 @@ impl Table {
     {
         Table {
             done: IndexMap::new(alloc),
+            lists: MessageLists::new(alloc),
         }
     }
 
@@ -64,7 +69,18 @@ impl Table {
         ensures err { OnErr result (self.new ≡ self.old) }
     {
         self.make_room()?;
+        let done = self.sharing(done)?;
         self.put(node, done)
+    }
+
+    // The same result, which shares its messages with the results before that have the same.
+    fn sharing(&mut self, done: Done) -> Result<Done, Memory>
+        ensures done { IfOk result (λ shared. shared ≡ done) }
+        ensures same { self.new ≡ self.old }
+    {
+        let mut done = done;
+        done.view.messages = self.lists.share(&done.view.messages)?;
+        Ok(done)
     }
 
     fn put(&mut self, node: Node, done: Done) -> Result<(), Memory>

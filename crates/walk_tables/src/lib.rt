@@ -7,6 +7,7 @@ mod done;
 mod found;
 mod given;
 mod heights;
+mod lists;
 mod looking;
 mod survey;
 mod wanted;

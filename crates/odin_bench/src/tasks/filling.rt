@@ -3,7 +3,7 @@ ghost use Rattle.std.specs.Prelude.{◌≡◌};
 ghost use Rattle.path_planner.specs.Ends.{plans_of};
 
 use crate::fault::Fault;
-use object_values::{Bytes, Node, Seq, Status, Value, View};
+use object_values::{Bytes, Node, Seq, SharedSeq, Status, Value, View};
 use path_planner::Plans;
 use std::alloc::Global;
 use task_tables::{Table, body_of, node_in};
@@ -26,7 +26,7 @@ fn put_value(
     let view = View {
         value: Some(value),
         status: Status::Ok,
-        messages: Seq::new(alloc),
+        messages: SharedSeq::new(),
     };
     let node = node_in(alloc, graph, plans, text)?;
     table.put(node, view)?;
