@@ -56,7 +56,8 @@ impl HeldCall {
         digest: [u8; 32],
         call: Call,
     ) -> Result<Self, Memory>
-        ensures head { IfOk result (λ held. place_of_head (head_of call) heads.new ≡ Some held.head) }
+        ensures head { IfOk result
+            (λ held. place_of_head (head_of call) heads.new ≡ Some held.head) }
         ensures digest { IfOk result (λ held. held.digest ≡ digest) }
         ensures call { IfOk result (λ held. held.call ≡ call) }
         ensures more { AreMore heads.old heads.new }

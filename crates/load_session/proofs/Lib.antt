@@ -4,5 +4,6 @@ mod SessionLemmas
 mod RoomLemmas
 mod TextLemmas
 mod OpenLemmas
+mod PassLemmas
 mod PutLemmas
 mod LoadLemmas

@@ -12,6 +12,7 @@ use Rattle.load_session.specs.Session.{asks, headers, puts_header, puts_unit, pu
 use Rattle.load_session.specs.Loads.{IsOpeningFault, IsLoaded, IsLoadFault}
 use Rattle.load_session.specs.Moments.{moment, calls_in, IsNew, MayServe, HasAsked, StopsIn}
 use Rattle.load_session.proofs.ServeLemmas.{serves_calls}
+use Rattle.load_session.proofs.PassLemmas.{passes_with}
 use Rattle.load_session.proofs.SessionLemmas.{may_go, served_then, first_stops, then_stops}
 
 -- ---- edits that may come
@@ -47,7 +48,13 @@ load_unopened units (fault.Full at size) fails = absurd fails
 load_unopened units fault.Memory fails = tt
 
 pub load_stopped : (units : ℕ) (session : Session) (e : JournalFault) → IsNew session → StopsIn session (load_steps units) e → IsLoadFault units e
-load_stopped units session fault.Disk new stops = record { graph = session.engine.graph; start = moment session; opened = new.opened; stops = stops }
+load_stopped units session fault.Disk new stops = record {
+  graph = session.engine.graph;
+  start = moment session;
+  opened = new.opened;
+  stops = stops;
+  past = passes_with session.engine.graph (moment session) (load_steps units) new.opened stops;
+}
 load_stopped units session (fault.NotOurs at) new stops = absurd stops
 load_stopped units session (fault.Full at size) new stops = record { graph = session.engine.graph; start = moment session; opened = new.opened; stops = stops }
 load_stopped units session fault.Memory new stops = tt

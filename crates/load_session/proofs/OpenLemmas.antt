@@ -29,14 +29,14 @@ use Rattle.load_session.specs.Room.{LoadFile, empty_disk, told_of_disk, PassesRo
 use Rattle.load_session.specs.Loads.{IsOpeningFault}
 use Rattle.load_session.specs.Moments.{IsNew}
 
-quiet : IsQuiet (told_of_disk empty_disk)
+pub quiet : IsQuiet (told_of_disk empty_disk)
 quiet = record { follows = refl; only = λ c left. synced_only [] c left }
 
-empty_records : (records : List (List ℕ)) → Stored records [] → records ≡ []
+pub empty_records : (records : List (List ℕ)) → Stored records [] → records ≡ []
 empty_records records (inl new) = new.1
 empty_records records (inr store) = let some = store.1.written.some in absurd (omega arith)
 
-empty_state : (records : List (List ℕ)) (state : State) → records ≡ [] → ReadsAll nothing records state → state ≡ nothing
+pub empty_state : (records : List (List ℕ)) (state : State) → records ≡ [] → ReadsAll nothing records state → state ≡ nothing
 empty_state records state none read = subst (λ (l : List (List ℕ)). ReadsAll nothing l state) none read
 
 none_kept : (graph : Text) (new : Telling) (store : Store) → OpensQuiet graph (told_of_disk empty_disk) new store → store.kept.tables.calls ≡ []

@@ -1,5 +1,5 @@
 -- A whole load: what it tells, and why it ends before.
-use Rattle.std.specs.Prelude.{◌≡◌, ⊤, ℕ, [], ◌∷◌, ◌++◌, length}
+use Rattle.std.specs.Prelude.{◌≡◌, ◌⊎◌, ⊤, ℕ, ◌+◌, ◌*◌, ◌<◌, List, [], ◌∷◌, ◌++◌, length, Some}
 use Rattle.odin_fakes.specs.declared.answers.Answers.TheVariants.{Toys}
 use Rattle.odin_fakes.specs.Tools as tools
 use Rattle.dg_reader.specs.Files.{IsRead}
@@ -8,12 +8,17 @@ use Rattle.meaning_records.specs.Tables.{Calls}
 use Rattle.meaning_commands.specs.declared.replies.Reply.{Reply}
 use Rattle.odin_journal.specs.declared.fault.JournalFault.{JournalFault}
 use Rattle.odin_journal.specs.declared.fault.JournalFault.TheVariants as fault
-use Rattle.odin_store.specs.Opening.{OpensQuiet}
+use Rattle.meaning_records.specs.States.{State}
+use Rattle.odin_store.specs.Held.{Change}
+use Rattle.odin_store.specs.OnDisk.{state_in}
+use Rattle.odin_store.specs.Opening.{graph_record, OpensQuiet}
+use Rattle.odin_store.specs.Written.{written_in}
+use Rattle.odin_store.specs.Going.{AreBatches, IsBegun}
 use Rattle.load_session.specs.declared.loaded.Loaded.{Loaded}
 use Rattle.load_session.specs.Graph.{graph_text}
-use Rattle.load_session.specs.Room.{empty_disk, told_of_disk}
+use Rattle.load_session.specs.Room.{most_bytes, most_calls, empty_disk, told_of_disk}
 use Rattle.load_session.specs.Session.{load_steps}
-use Rattle.load_session.specs.Served.{Moment, Serves, StopsAt, shown_length}
+use Rattle.load_session.specs.Served.{Moment, Serves, StopsAt, changes_of, failed_changes, shown_length}
 
 -- The graph is that of the text, and its store was opened over the empty disk and tools that did nothing yet.
 pub record IsOpened (g : Graph) (now : Moment) : Type 0 where
@@ -48,9 +53,31 @@ pub record LoadFails (units : ℕ) (fault : JournalFault) : Type 0 where
   pub opened : IsOpened graph start
   pub stops : StopsAt graph start (load_steps units) fault
 
+-- After what an opening writes, the batch of the graph, those of some first ones of these changes and one that was begun pass the room
+-- of the disk: a record takes its payload, 6 bytes and four calls.
+pub record PassesWith (opened : State) (changes : List Change) : Type 0 where
+  pub made : List Change
+  pub rest : List Change
+  pub whole : changes ≡ made ++ rest
+  pub payloads : List (List ℕ)
+  pub last : State
+  pub are : AreBatches opened made payloads last
+  pub begun : List (List ℕ)
+  pub next : IsBegun last.tables.contents rest begun
+  pub over : (most_bytes < 66 + written_in (graph_record graph_text ∷ payloads ++ begun)) ⊎ (most_calls < 16 + 4 * length (graph_record graph_text ∷ payloads ++ begun))
+
+-- The store was opened, and a step failed at a batch for which the disk has no more room.
+pub record LoadPasses (units : ℕ) : Type 0 where
+  pub graph : Graph
+  pub start : Moment
+  pub opened : IsOpened graph start
+  pub stops : StopsAt graph start (load_steps units) fault.Disk
+  pub past : PassesWith (state_in start.store (Some graph_text))
+      (changes_of graph start stops.served stops.answers stops.mid stops.serves ++ failed_changes graph stops.step stops.mid stops.new stops.fails)
+
 -- Want of memory says nothing, and the file is always the store's own.
 abbrev pub IsLoadFault : ℕ → JournalFault → Type 0
-IsLoadFault units fault.Disk = LoadFails units fault.Disk
+IsLoadFault units fault.Disk = LoadPasses units
 IsLoadFault units (fault.NotOurs at) = ⊥
 IsLoadFault units (fault.Full at size) = LoadFails units (fault.Full at size)
 IsLoadFault units fault.Memory = ⊤

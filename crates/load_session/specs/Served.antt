@@ -1,5 +1,5 @@
 -- What steps of a load do to a store, its disk and its tools, and where they stop.
-use Rattle.std.specs.Prelude.{◌≡◌, ⊤, ℕ, Bool, List, [], ◌∷◌, ◌++◌, length}
+use Rattle.std.specs.Prelude.{◌≡◌, ⊤, ℕ, Bool, List, [], ◌∷◌, ◌++◌, length, cond}
 use Rattle.meaning_graph.specs.Graphs.{Text, Graph}
 use Rattle.meaning_records.specs.Tables.{Calls}
 use Rattle.meaning_commands.specs.declared.replies.Reply.{Reply}
@@ -41,6 +41,17 @@ pub data Serves (g : Graph) (old : Moment) : List LoadStep → List (Calls × Re
 abbrev pub StepFails : Graph → LoadStep → Moment → Moment → JournalFault → Type 0
 StepFails g (puts name text) old new = HasFailed told_of_disk (held.puts name text) old.store new.store old.disk new.disk
 StepFails g asks old new = HasStopped told_of_disk g 1 asked_text old new
+
+-- the changes that were made for steps, one after another
+abbrev pub changes_of : (g : Graph) (old : Moment) (steps : List LoadStep) (answers : List (Calls × Reply)) (new : Moment) → Serves g old steps answers new → List held.Change
+changes_of g old steps answers new none = []
+changes_of g old steps answers new (put before others mid _ name text changed serves has same) = changes_of g old before others mid serves ++ cond changed (held.puts name text ∷ []) []
+changes_of g old steps answers new (ask before others mid _ given reply serves has) = changes_of g old before others mid serves ++ keeps_of given
+
+-- those of a step at which the disk failed: the last one was begun
+abbrev pub failed_changes : (g : Graph) (step : LoadStep) (old new : Moment) → StepFails g step old new fault.Disk → List held.Change
+failed_changes g (puts name text) old new fails = held.puts name text ∷ []
+failed_changes g asks old new fails = keeps_of fails.given ++ held.keeps fails.call fails.outcome ∷ []
 
 -- A disk fails only past its room.
 abbrev pub PassesFor : JournalFault → LoadFile → Type 0

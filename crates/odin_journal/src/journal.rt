@@ -1,5 +1,5 @@
 // The journal: an open gate, a length and a payload for each record, and a closed gate behind the last.
-ghost use Rattle.std.specs.Prelude.{◌≡◌, ◌<◌, ◌≤◌, ◌+◌, ◌^◌, ◌++◌, [], ◌∷◌, length, IfOk, IfErr, OnOk};
+ghost use Rattle.std.specs.Prelude.{◌≡◌, ◌<◌, ◌≤◌, ◌+◌, ◌*◌, ◌^◌, ◌++◌, [], ◌∷◌, length, IfOk, IfErr, OnOk};
 ghost use Rattle.odin_bytes.specs.Fields.{bytes_field};
 ghost use Rattle.odin_outside.specs.Causes.{HasCause};
 ghost use Rattle.odin_journal.specs.Faults.{IsCause, IsFull, IsOpenFault, IsRefused};
@@ -32,6 +32,8 @@ impl Journal {
         ensures refused { IfErr result (IsOpenFault (D.told disk.old) (D.told disk.new)) }
         ensures ready { IfOk result (λ opened. IsReady opened.0 (D.size_of disk.new)) }
         ensures works { D.size_of disk.old ≡ 0 → Works 66 16 (D.told disk.old) (D.told disk.new) }
+        ensures reads { IfOk result (λ opened.
+            Works 66 (16 + 2 * length opened.1) (D.told disk.old) (D.told disk.new)) }
         ensures cause { IsCause (D.faults disk.old) (D.faults disk.new) result }
     {
         let looked = look(disk)?;

@@ -1,10 +1,10 @@
 // The reading of an existing store file.
-ghost use Rattle.std.specs.Prelude.{◌≡◌, ◌+◌, ◌<◌, ◌≤◌, length, OnOk, IfOk, IfErr, IfSome, IfNone};
+ghost use Rattle.std.specs.Prelude.{◌≡◌, ◌+◌, ◌*◌, ◌<◌, ◌≤◌, length, OnOk, IfOk, IfErr, IfSome, IfNone};
 ghost use Rattle.meaning_store.specs.Front.{front_size, start_of};
 ghost use Rattle.meaning_store.specs.Images.{behind};
 ghost use Rattle.odin_journal.specs.Faults.{IsCause, IsReadFault, nowhere};
 ghost use Rattle.odin_journal.specs.Marks.{HasMarks};
-ghost use Rattle.odin_journal.specs.Moments.{IsPlace, IsRangeOf, StaysQuiet};
+ghost use Rattle.odin_journal.specs.Moments.{IsPlace, IsRangeOf, StaysQuiet, Works};
 ghost use Rattle.odin_journal.specs.Reads.{BreaksFrom, BreaksHere, BreaksStore, HasNoFront, HasRecord, HasRecords, HasStart, HasStore, IsShut};
 
 use crate::fault::JournalFault;
@@ -28,6 +28,7 @@ pub fn read_bytes<D: Disk>(
     ensures untouched { StaysQuiet (D.told disk.old) (D.told disk.new) }
     ensures size { OnOk result (D.size_of disk.new ≡ D.size_of disk.old) }
     ensures err { IfErr result (IsReadFault nowhere) }
+    ensures works { Works 0 1 (D.told disk.old) (D.told disk.new) }
     ensures cause { IsCause (D.faults disk.old) (D.faults disk.new) result }
 {
     let mut bytes = vec![in alloc; 0; count as usize]?;
@@ -49,6 +50,7 @@ pub fn read_record<D: Disk>(
     ensures untouched { StaysQuiet (D.told disk.old) (D.told disk.new) }
     ensures size { OnOk result (D.size_of disk.new ≡ D.size_of disk.old) }
     ensures err { IfErr result (IsReadFault (BreaksHere (D.told disk.old) size gate)) }
+    ensures works { Works 0 2 (D.told disk.old) (D.told disk.new) }
     ensures cause { IsCause (D.faults disk.old) (D.faults disk.new) result }
 {
     let head = read_bytes(alloc, disk, gate, (size - gate).min(5))?;
@@ -80,6 +82,8 @@ pub fn read_records<D: Disk>(
     ensures untouched { StaysQuiet (D.told disk.old) (D.told disk.new) }
     ensures size { OnOk result (D.size_of disk.new ≡ D.size_of disk.old) }
     ensures err { IfErr result (IsReadFault (BreaksFrom (D.told disk.old) size start)) }
+    ensures works { IfOk result (λ read.
+        Works 0 (2 * length read.1 + 2) (D.told disk.old) (D.told disk.new)) }
     ensures cause { IsCause (D.faults disk.old) (D.faults disk.new) result }
 {
     let mut records = Seq::new(alloc);
@@ -104,6 +108,7 @@ pub fn read_start<D: Disk>(
     ensures untouched { StaysQuiet (D.told disk.old) (D.told disk.new) }
     ensures size { OnOk result (D.size_of disk.new ≡ D.size_of disk.old) }
     ensures err { IfErr result (IsReadFault nowhere) }
+    ensures works { Works 0 1 (D.told disk.old) (D.told disk.new) }
     ensures cause { IsCause (D.faults disk.old) (D.faults disk.new) result }
 {
     if size <= FRONT_SIZE {
@@ -150,6 +155,8 @@ pub fn read_store<D: Disk>(
     ensures untouched { StaysQuiet (D.told disk.old) (D.told disk.new) }
     ensures size { OnOk result (D.size_of disk.new ≡ D.size_of disk.old) }
     ensures err { IfErr result (IsReadFault (BreaksStore (D.told disk.old) size)) }
+    ensures works { IfOk result (λ read.
+        Works 0 (2 * length read.1 + 3) (D.told disk.old) (D.told disk.new)) }
     ensures cause { IsCause (D.faults disk.old) (D.faults disk.new) result }
 {
     let Some(start) = read_start(alloc, disk, size)? else {

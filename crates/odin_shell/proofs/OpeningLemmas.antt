@@ -1,18 +1,21 @@
 -- The store is opened, and the session over it begins, or the run ends before it.
-use Rattle.std.proofs.Common.{◌≡◌, ℕ, List, [], ◌∷◌, ◌++◌, Some, None, inl, inr, ap, sym, refl, ◌∙◌, subst}
+use Rattle.std.proofs.Common.{◌≡◌, ℕ, ◌+◌, ◌*◌, List, [], ◌++◌, length, Some, None, ap, sym, refl, ◌∙◌, subst}
 use Rattle.odin_outside.specs.Disk.{Telling}
 use Rattle.odin_outside.specs.Spawned.{Spawned}
 use Rattle.meaning_graph.specs.Graphs.{Text, Graph}
+use Rattle.odin_journal.specs.Moments.{Works}
+use Rattle.meaning_records.specs.Stands.{gate_behind}
 use Rattle.odin_store.specs.Held.{StandsFor}
 use Rattle.odin_store.specs.Keeping.{KeepsChanges}
 use Rattle.odin_store.specs.OnDisk.{held_in, state_in, IsOn}
-use Rattle.odin_store.specs.Opening.{graph_record, Opens, OpensQuiet, LeavesHeld}
+use Rattle.odin_store.specs.Opening.{Opens, OpensQuiet, LeavesHeld}
+use Rattle.odin_store.specs.Written.{written_in, with_records}
 use Rattle.odin_store.specs.Going.{AreBatches}
 use Rattle.odin_store.proofs.Lemmas.{nothing_behind}
 use Rattle.odin_engine.specs.Engaged.{Engaged, IsLimit}
 use Rattle.odin_engine.specs.Opened.{IsNew}
 use Rattle.odin_shell.specs.declared.ending.Ending.{Ending}
-use Rattle.odin_shell.specs.Filed.{DiskMeaning, IsOpening, HasWritten}
+use Rattle.odin_shell.specs.Filed.{DiskMeaning, HasWritten}
 use Rattle.odin_shell.specs.Machine.{Told}
 use Rattle.odin_shell.specs.Begun.{BeginsWith, SessionServes}
 use Rattle.odin_shell.specs.Objects.{SourceTold}
@@ -21,32 +24,31 @@ use Rattle.odin_shell.proofs.StateLemmas.{same_tools, same_tree, idle_few}
 
 -- ---- what the file has behind the opening
 
--- the records with that of the graph, where it was written
 module _ (text : Text) (old new : Telling) (engine : Engaged) (opens : Opens text old new engine.store) where
-  abbrev HasOpening : List (List ℕ) → Type 0
-  HasOpening opening = IsOpening text opens.state.graph opening × IsOn new engine.store (opens.records ++ opening) (Some text)
-
-  opening_of : (opening : List (List ℕ)) × HasOpening opening
-  opening_of = elim opens.on [
-    | inl same ↦ ([], (inl (same.0, refl), subst (λ r. IsOn new engine.store r (Some text)) (sym (nothing_behind opens.records)) same.1))
-    | inr added ↦ (graph_record text ∷ [], (inr (added.0, refl), added.1))
-  ]
-
   pub written_first : HasWritten text [] old engine.store new
   written_first =
-      let o = opening_of in
+      let all : opens.opening ≡ opens.opening ++ [] = sym (nothing_behind opens.opening) in
       record {
-        records = opens.records;
-        stored = opens.stored;
-        first = opens.state;
-        read = opens.read;
-        opening = o.0;
-        opens = o.1.0;
-        opened = state_in engine.store (Some text);
-        reads = o.1.1.read;
+        over = record {
+          records = opens.records;
+          stored = opens.stored;
+          first = opens.state;
+          read = opens.read;
+          opening = opens.opening;
+          opens = opens.opens;
+          opened = state_in engine.store (Some text);
+          reads = opens.on.read;
+        };
         payloads = [];
         are = AreBatches.no_batches;
-        on = subst (λ r. IsOn new engine.store r (Some text)) (sym (nothing_behind (opens.records ++ o.0))) o.1.1;
+        on = subst (λ r. IsOn new engine.store r (Some text)) (sym (nothing_behind (opens.records ++ opens.opening))) opens.on;
+        made = opens.made;
+        is_made = opens.is_made;
+        gate = opens.gate;
+        whole = opens.whole;
+        end = subst (λ l. engine.store.journal.end ≡ gate_behind opens.gate l) all opens.end;
+        bytes = subst (λ l. new.seen ≡ with_records opens.gate l opens.made) all opens.bytes;
+        works = subst (λ (l : List (List ℕ)). Works (66 + written_in l) (16 + 2 * length opens.records + 4 * length l) old new) all opens.works;
       }
 
   pub stood_for : StandsFor (held_in engine.store) old.seen

@@ -1,5 +1,5 @@
 -- States of a session, one after another, and what the store makes of them.
-use Rattle.std.proofs.Common.{◌≡◌, ◌≢◌, ◌⊎◌, ℕ, ◌≤◌, List, [], ◌∷◌, ◌++◌, length, Some, None, inl, inr, ap, sym, refl, ◌∙◌, subst, append_assoc, arith}
+use Rattle.std.proofs.Common.{◌≡◌, ◌≢◌, ◌⊎◌, ℕ, ◌+◌, ◌*◌, ◌≤◌, List, [], ◌∷◌, ◌++◌, length, Some, None, inl, inr, ap, sym, refl, ◌∙◌, subst, append_assoc, arith}
 use Rattle.std.proofs.Math.Nat.{le_refl}
 use Rattle.odin_outside.specs.Causes.{Rose}
 use Rattle.odin_outside.specs.Disk.{Telling, IsQuiet}
@@ -7,16 +7,19 @@ use Rattle.odin_outside.specs.Spawned.{Spawned}
 use Rattle.disk_trails.specs.Trails.{after, Leaves}
 use Rattle.meaning_graph.specs.Graphs.{Text, Graph}
 use Rattle.meaning_records.specs.declared.items.Item.{Item}
+use Rattle.meaning_records.specs.Stands.{gate_behind}
+use Rattle.odin_journal.specs.Moments.{Works}
 use Rattle.odin_journal.specs.Rest.{IsReady}
 use Rattle.odin_store.specs.declared.store.Store.{Store}
 use Rattle.odin_store.specs.Held.{Change}
 use Rattle.odin_store.specs.OnDisk.{state_in, IsOn, IsOver, IsSame}
 use Rattle.odin_store.specs.Keeping.{store_keeping}
-use Rattle.odin_store.specs.Going.{IsBatchOf, HasBatches, Goes, Stops}
-use Rattle.odin_store.proofs.Lemmas.{nothing_behind, batches_on, goes_none, stops_left, stops_more}
+use Rattle.odin_store.specs.Going.{IsBatchOf, HasBatches, Goes, HasBegun, Stops}
+use Rattle.odin_store.specs.Written.{written_in, WorksFor, with_records}
+use Rattle.odin_store.proofs.Lemmas.{nothing_behind, batches_on, goes_none, stops_left, stops_more, gate-append, records-append, works_after}
 use Rattle.odin_engine.specs.Engaged.{Engaged, Stays}
 use Rattle.source_edits.specs.Edits.{TreeTold, TreeStays}
-use Rattle.odin_shell.specs.Filed.{DiskMeaning, HasWritten, HoldsAll, LacksLast, IsFull, IsSafe}
+use Rattle.odin_shell.specs.Filed.{DiskMeaning, OpensFile, WorksOver, HasWritten, StopsWriting, HoldsAll, LacksLast, IsFull, IsSafe}
 use Rattle.odin_shell.specs.Machine.{State, Told, Makes, Belongs, StoreFailed, IsLeft, ToolsStay}
 
 -- where none runs no more do than may
@@ -39,24 +42,57 @@ same_tree old new same = let count : new.faults ≡ old.faults = ap (λ (t : Tre
 
 -- ---- what the file has
 
--- the batches of more changes behind those that it has
+-- more work after that of the opening and of these batches
+works_more : (text : Text) (start : Telling) (over : OpensFile text start) (payloads more : List (List ℕ)) (mid now : Telling) → WorksOver text start over payloads mid → WorksFor more mid now → WorksOver text start over (payloads ++ more) now
+works_more text start over payloads more mid now first second =
+    subst (λ (l : List (List ℕ)). Works (66 + written_in l) (16 + 2 * length over.records + 4 * length l) start now) (append_assoc over.opening payloads more)
+    (works_after 66 (16 + 2 * length over.records) (over.opening ++ payloads) more start mid now first second)
+
+-- the batches of more changes after those that it has
 pub written_on : {D : Type 0} (told : D → Telling) (text : Text) (changes more : List Change) (start : Telling) (store next : Store) (disk after : D)
     → HasWritten text changes start store (told disk) → Goes told more store next disk after → HasWritten text (changes ++ more) start next (told after)
 written_on told text changes more start store next disk after w goes =
-    let records = (w.records ++ w.opening) ++ w.payloads in
-    let more_batches : HasBatches more store next (told after) records (Some text) = goes.batches records (Some text) w.on in
+    let over = w.over in
+    let records = (over.records ++ over.opening) ++ w.payloads in
+    let others : HasBatches more store next (told disk) (told after) records (Some text) = goes.batches records (Some text) w.on in
+    let all = over.opening ++ w.payloads in
+    let list : all ++ others.payloads ≡ over.opening ++ (w.payloads ++ others.payloads) = append_assoc over.opening w.payloads others.payloads in
     record {
-      records = w.records;
-      stored = w.stored;
-      first = w.first;
-      read = w.read;
-      opening = w.opening;
-      opens = w.opens;
-      opened = w.opened;
-      reads = w.reads;
-      payloads = w.payloads ++ more_batches.payloads;
-      are = batches_on w.opened (state_in store (Some text)) changes w.payloads w.are more more_batches.payloads (state_in next (Some text)) more_batches.are;
-      on = subst (λ r. IsOn (told after) next r (Some text)) (append_assoc (w.records ++ w.opening) w.payloads more_batches.payloads) more_batches.on;
+      over = over;
+      payloads = w.payloads ++ others.payloads;
+      are = batches_on over.opened (state_in store (Some text)) changes w.payloads w.are more others.payloads (state_in next (Some text)) others.are;
+      on = subst (λ r. IsOn (told after) next r (Some text)) (append_assoc (over.records ++ over.opening) w.payloads others.payloads) others.on;
+      made = w.made;
+      is_made = w.is_made;
+      gate = w.gate;
+      whole = w.whole;
+      end = subst (λ l. next.journal.end ≡ gate_behind w.gate l) list (others.end ∙ ap (λ gate. gate_behind gate others.payloads) w.end ∙ sym (gate-append w.gate all others.payloads));
+      bytes =
+          subst (λ l. (told after).seen ≡ with_records w.gate l w.made) list
+          (others.bytes ∙ ap (λ gate. with_records gate others.payloads (told disk).seen) w.end
+          ∙ ap (with_records (gate_behind w.gate all) others.payloads) w.bytes ∙ sym (records-append w.gate all others.payloads w.made));
+      works = works_more text start over w.payloads others.payloads (told disk) (told after) w.works others.works;
+    }
+
+-- and where they stop
+pub writing_stops : {D : Type 0} (told : D → Telling) (text : Text) (changes more : List Change) (start : Telling) (store : Store) (disk after : D)
+    → HasWritten text changes start store (told disk) → Stops told more store disk after → StopsWriting text (changes ++ more) start (told after)
+writing_stops told text changes more start store disk after w stops =
+    let over = w.over in
+    let records = (over.records ++ over.opening) ++ w.payloads in
+    let has : HasBegun more store (told disk) (told after) (Some text) = stops.begun records (Some text) w.on in
+    record {
+      over = over;
+      made = changes ++ has.made;
+      rest = has.rest;
+      whole = ap (λ l. changes ++ l) has.whole ∙ sym (append_assoc changes has.made has.rest);
+      payloads = w.payloads ++ has.payloads;
+      last = has.last;
+      are = batches_on over.opened (state_in store (Some text)) changes w.payloads w.are has.made has.payloads has.last has.are;
+      begun = has.begun;
+      next = has.next;
+      works = subst (λ (l : List (List ℕ)). WorksOver text start over l (told after)) (sym (append_assoc w.payloads has.payloads has.begun))
+          (works_more text start over w.payloads (has.payloads ++ has.begun) (told disk) (told after) w.works has.works);
     }
 
 -- ---- the next state
@@ -128,7 +164,7 @@ module _ {D : Type 0} (disk : DiskMeaning D) (g : Graph) (text : Text) (limit : 
   safe_made changes store now goes faults =
       let same = faults ∙ fits.faults in
       record {
-        crash = λ quiet. stops_left disk.told changes code.store store told.disk now goes first.held start.disk state.changes (fits.trail quiet);
+        crash = λ quiet. (stops_left disk.told changes code.store store told.disk now goes).within first.held start.disk state.changes (fits.trail quiet);
         written = λ quiet. inl (record {
           store = store;
           some = changes;
@@ -149,7 +185,7 @@ module _ {D : Type 0} (disk : DiskMeaning D) (g : Graph) (text : Text) (limit : 
         store = store;
         written = written_on disk.told text state.changes changes (disk.told start.disk) code.store store told.disk now (fits.written quiet) goes;
         crash = subst (λ l. Leaves store_keeping first.held (disk.told start.disk) all l (disk.told now)) (nothing_behind all)
-            (stops_left disk.told [] store store now now (goes_none disk.told store store now now same) first.held start.disk all (goes.grows first.held start.disk state.changes (fits.trail quiet)));
+            ((stops_left disk.told [] store store now now (goes_none disk.told store store now now same)).within first.held start.disk all (goes.grows first.held start.disk state.changes (fits.trail quiet)));
       }
 
   -- the next change stopped behind them: every image has all of them, and may have that
@@ -163,7 +199,7 @@ module _ {D : Type 0} (disk : DiskMeaning D) (g : Graph) (text : Text) (limit : 
         change = change;
         whole = list;
         crash = subst (λ l. Leaves store_keeping first.held (disk.told start.disk) front l (disk.told now)) (sym list)
-            (stops first.held start.disk front (goes.grows first.held start.disk state.changes (fits.trail quiet)));
+            (stops.within first.held start.disk front (goes.grows first.held start.disk state.changes (fits.trail quiet)));
       }
 
   -- so it is where the disk failed at it
@@ -187,8 +223,8 @@ module _ {D : Type 0} (disk : DiskMeaning D) (g : Graph) (text : Text) (limit : 
   safe_failed changes now stops later rose =
       let same = fits.faults in
       record {
-        crash = λ quiet. stops first.held start.disk state.changes (fits.trail quiet);
-        written = λ quiet. inr (subst (λ n. Rose n (disk.faults now)) same rose);
+        crash = λ quiet. stops.within first.held start.disk state.changes (fits.trail quiet);
+        written = λ quiet. inr (subst (λ n. Rose n (disk.faults now)) same rose, writing_stops disk.told text state.changes changes (disk.told start.disk) code.store told.disk now (fits.written quiet) stops);
         later = omega (arith, same, later);
       }
 
@@ -198,7 +234,7 @@ module _ {D : Type 0} (disk : DiskMeaning D) (g : Graph) (text : Text) (limit : 
   safe_full changes change store now goes faults =
       let same = faults ∙ fits.faults in
       record {
-        crash = λ quiet. stops_more disk.told changes (change ∷ []) code.store told.disk now (stops_left disk.told changes code.store store told.disk now goes) first.held start.disk state.changes (fits.trail quiet);
+        crash = λ quiet. (stops_more disk.told changes (change ∷ []) code.store told.disk now (stops_left disk.told changes code.store store told.disk now goes)).within first.held start.disk state.changes (fits.trail quiet);
         written = λ quiet. inl (record {
           store = store;
           some = changes;

@@ -1,18 +1,21 @@
 -- What a run has written to its file.
-use Rattle.std.specs.Prelude.{◌≡◌, ◌≢◌, ◌⊎◌, ℕ, ◌≤◌, List, [], ◌∷◌, ◌++◌, Option, Some}
+use Rattle.std.specs.Prelude.{◌≡◌, ◌⊎◌, ℕ, ◌+◌, ◌*◌, ◌≤◌, List, [], ◌∷◌, ◌++◌, length, Some}
 use Rattle.odin_outside.specs.Causes.{Rose}
 use Rattle.odin_outside.specs.Disk.{Telling, IsQuiet}
 use Rattle.disk_trails.specs.Trails.{Leaves}
 use Rattle.meaning_graph.specs.Graphs.{Text}
-use Rattle.meaning_store.specs.Images.{Stored}
+use Rattle.meaning_store.specs.Images.{Stored, IsStore}
+use Rattle.odin_journal.specs.Moments.{Works}
 use Rattle.meaning_records.specs.declared.items.Item.{Item}
+use Rattle.meaning_records.specs.Stands.{gate_behind}
 use Rattle.meaning_records.specs.States.{State as Read, nothing, ReadsAll}
 use Rattle.odin_store.specs.declared.store.Store.{Store}
 use Rattle.odin_store.specs.Held.{Held, Change, StandsFor}
 use Rattle.odin_store.specs.OnDisk.{state_in, IsOn, IsOver}
-use Rattle.odin_store.specs.Opening.{graph_record}
+use Rattle.odin_store.specs.Opening.{IsOpening}
+use Rattle.odin_store.specs.Written.{written_in, with_records, IsMade}
 use Rattle.odin_store.specs.Keeping.{store_keeping}
-use Rattle.odin_store.specs.Going.{IsBatchOf, AreBatches}
+use Rattle.odin_store.specs.Going.{IsBatchOf, AreBatches, IsBegun}
 
 -- what a disk tells: of its bytes and of crashes, its size, and how often it failed
 pub record DiskMeaning (Disk : Type 0) : Type 1 where
@@ -25,13 +28,8 @@ disk_meaning told size faults = record { told = told; size = size; faults = faul
 
 -- ---- what is written
 
--- The batch of the opening: that of the graph, where the last graph of the file was another or there was none.
-abbrev pub IsOpening : Text → Option Text → List (List ℕ) → Type 0
-IsOpening text last batches = ((last ≡ Some text) × (batches ≡ [])) ⊎ ((last ≢ Some text) × (batches ≡ graph_record text ∷ []))
-
--- The file has the records that it had at the start, behind them that of the opening and the batches of these changes, and no others; and
--- the store rests on it.
-pub record HasWritten (text : Text) (changes : List Change) (start : Telling) (store : Store) (now : Telling) : Type 0 where
+-- What the file had at the start, the batch of the opening after it, and what they read as.
+pub record OpensFile (text : Text) (start : Telling) : Type 0 where
   pub records : List (List ℕ)
   pub stored : Stored records start.seen
   pub first : Read
@@ -40,9 +38,38 @@ pub record HasWritten (text : Text) (changes : List Change) (start : Telling) (s
   pub opens : IsOpening text first.graph opening
   pub opened : Read
   pub reads : ReadsAll nothing (records ++ opening) opened
+
+-- The work since the start is at most that of the reading of those records, of the front of a new file, and of these batches.
+abbrev pub WorksOver : (text : Text) (start : Telling) → OpensFile text start → List (List ℕ) → Telling → Type 0
+WorksOver text start over payloads now = Works (66 + written_in (over.opening ++ payloads)) (16 + 2 * length over.records + 4 * length (over.opening ++ payloads)) start now
+
+-- The file has the records that it had at the start, after them that of the opening and the batches of these changes, and no others; and
+-- the store rests on it. Nothing else was written to it, but the front of a new one, and no more work done than for that.
+pub record HasWritten (text : Text) (changes : List Change) (start : Telling) (store : Store) (now : Telling) : Type 0 where
+  pub over : OpensFile text start
   pub payloads : List (List ℕ)
-  pub are : AreBatches opened changes payloads (state_in store (Some text))
-  pub on : IsOn now store ((records ++ opening) ++ payloads) (Some text)
+  pub are : AreBatches over.opened changes payloads (state_in store (Some text))
+  pub on : IsOn now store ((over.records ++ over.opening) ++ payloads) (Some text)
+  pub made : List ℕ
+  pub is_made : IsMade start.seen made
+  pub gate : ℕ
+  pub whole : IsStore made over.records gate
+  pub end : store.journal.end ≡ gate_behind gate (over.opening ++ payloads)
+  pub bytes : now.seen ≡ with_records gate (over.opening ++ payloads) made
+  pub works : WorksOver text start over payloads now
+
+-- The disk failed at one of these changes: no more work was done than for the batches of some first ones, and for the one that was begun.
+pub record StopsWriting (text : Text) (changes : List Change) (start now : Telling) : Type 0 where
+  pub over : OpensFile text start
+  pub made : List Change
+  pub rest : List Change
+  pub whole : changes ≡ made ++ rest
+  pub payloads : List (List ℕ)
+  pub last : Read
+  pub are : AreBatches over.opened made payloads last
+  pub begun : List (List ℕ)
+  pub next : IsBegun last.tables.contents rest begun
+  pub works : WorksOver text start over (payloads ++ begun) now
 
 -- The file has the batches of the changes that are acknowledged and of some more, but of none that isn't one of these.
 pub record LiesBetween (text : Text) (acknowledged furthest : List Change) (start now : Telling) : Type 0 where
@@ -86,8 +113,9 @@ abbrev pub StartsFrom : Telling → Held → Type 0
 StartsFrom start held = IsQuiet start → StandsFor held start.seen
 
 -- At an exit every image that a crash since the start may leave stands for what was held at the start with some first ones of these
--- changes, and every image that one may leave now has all that are acknowledged. What the file has is that, too, unless the disk failed.
+-- changes, and every image that one may leave now has all that are acknowledged. What the file has is that, too, unless the disk failed;
+-- and then no more work was done than for that.
 pub record IsSafe (text : Text) (held : Held) (acknowledged furthest : List Change) (start now : Telling) (before after : ℕ) : Type 0 where
   pub crash : IsQuiet start → Leaves store_keeping held start acknowledged furthest now
-  pub written : IsQuiet start → LiesBetween text acknowledged furthest start now ⊎ Rose before after
+  pub written : IsQuiet start → LiesBetween text acknowledged furthest start now ⊎ (Rose before after × StopsWriting text furthest start now)
   pub later : before ≤ after

@@ -2,11 +2,12 @@
 --
 -- A run works in four parts, one after another: its words, the graph in the file that they name, the store, and the session over them. Each
 -- way to end is a constructor of `EndsAs`, or a case of `SessionLeaves`, which `EndsAs` has in it.
-use Rattle.std.specs.Prelude.{◌≡◌, ⊤, ℕ, ◌<◌, ◌≤◌, ◌⊎◌, List, [], length, take, Option, Some, None, IfSome}
+use Rattle.std.specs.Prelude.{◌≡◌, ⊤, ℕ, ◌+◌, ◌<◌, ◌≤◌, ◌⊎◌, List, [], length, take, Option, Some, None, IfSome}
 use Rattle.odin_outside.specs.Causes.{IsCounted}
 use Rattle.odin_outside.specs.Disk.{Telling}
 use Rattle.odin_outside.specs.Files.{IsGiven}
 use Rattle.odin_journal.specs.Faults.{IsCauseOf}
+use Rattle.odin_journal.specs.Moments.{Works}
 use Rattle.odin_journal.specs.declared.fault.JournalFault.{JournalFault}
 use Rattle.odin_journal.specs.declared.fault.JournalFault.TheVariants as fault
 use Rattle.meaning_graph.specs.Graphs.{Text, Graph}
@@ -143,12 +144,14 @@ module _ {I O T S D : Type 0} (m : Meaning I O T S D) where
   abbrev pub told : Outside I O T S D → Told D
   told o = record { sink = sink o; tools = m.spawned o.tools; tree = tree o; disk = o.disk; over = None }
 
-  -- The store was not opened for this fault: a crash leaves what the file stood for.
+  -- The store was not opened for this fault: a crash leaves what the file stood for. Over an empty file the work is that of a new store and
+  -- of the batch of the graph at most.
   pub record IsUnopened (text : Text) (before after : Outside I O T S D) (fault : JournalFault) : Type 0 where
     pub refused : store.IsOpenFault text (disk before) (disk after) fault
     pub crash : store.LeavesHeld (disk before) (disk after)
     pub later : m.disk.faults before.disk ≤ m.disk.faults after.disk
     pub cause : IsCauseOf (m.disk.faults before.disk) (m.disk.faults after.disk) fault
+    pub works : m.disk.size before.disk ≡ 0 → Works (72 + length (store.graph_record text)) 20 (disk before) (disk after)
 
   -- Each way to end over the text of a graph, with at most so many tools at once.
   pub data StoreEnds (text : Text) (g : Graph) (limit : ℕ) (before after : Outside I O T S D) (ending : Ending) : Type 0 where

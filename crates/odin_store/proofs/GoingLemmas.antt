@@ -1,20 +1,27 @@
 -- What calls of a store do, as changes one after another.
-use Rattle.std.proofs.Common.{◌≡◌, ◌≢◌, ℕ, Bool, true, false, List, [], ◌∷◌, ◌++◌, refl, sym, ap, subst, ◌∙◌, append_assoc, arith}
+use Rattle.std.proofs.Common.{◌≡◌, ◌≢◌, inl, inr, ℕ, Option, Bool, true, false, List, [], ◌∷◌, ◌++◌, refl, sym, ap, subst, ◌∙◌, append_assoc, arith}
 use Rattle.odin_outside.specs.Disk.{Telling}
+use Rattle.object_values.specs.declared.views.Value.{Value}
+use Rattle.disk_trails.specs.WorkLemmas.{no_work}
 use Rattle.disk_trails.specs.Trails as trails
 use Rattle.disk_trails.specs.TrailLemmas.{after-append, keeps_grows, stops_within, untouched_grows, grows_on, grows_stops, grows_left, stops_longer}
 use Rattle.odin_journal.specs.declared.fault.JournalFault.{JournalFault}
 use Rattle.odin_journal.specs.declared.fault.JournalFault.TheVariants as fault
 use Rattle.meaning_records.specs.declared.items.Item.{Item}
 use Rattle.meaning_records.specs.Laws.{ReadsInOneWay}
+use Rattle.meaning_records.specs.Stands.{gate_behind}
+use Rattle.odin_journal.specs.declared.journal.Journal.{Journal}
 use Rattle.meaning_records.specs.States.{State, nothing, Reads, ReadsAll, spell_batch}
 use Rattle.odin_store.specs.declared.store.Store.{Store}
+use Rattle.object_sources.specs.Texts.{Text}
 use Rattle.odin_store.specs.Held.{Change, apply}
-use Rattle.odin_store.specs.OnDisk.{held_in, state_in, IsOn, LeavesChange, AddsBatch, IsChangeFault, IsSame}
+use Rattle.odin_store.specs.OnDisk.{held_in, state_in, IsOn, LeavesChange, AddsBatch, IsChangeFault, IsSame, WorksOnce}
 use Rattle.odin_store.specs.Changes.{EditsWhere}
 use Rattle.odin_store.specs.Keeping.{store_keeping}
-use Rattle.odin_store.specs.Going.{IsBatchOf, AreBatches, HasBatches, Goes, Stops}
+use Rattle.odin_store.specs.Going.{IsBatchOf, AreBatches, HasBatches, Goes, IsBegun, HasBegun, Stops}
+use Rattle.odin_store.specs.Written.{WorksFor, with_records}
 use Rattle.odin_store.specs.Edited.{HasEdited, HasFailed}
+use Rattle.odin_store.proofs.WrittenLemmas.{gate-append, records-append, works_for_one, works_on}
 use Rattle.odin_store.proofs.KeepingLemmas.{kept_on, stops_in, same_on, same_held, same_state, same_rests, left_durably}
 
 -- ---- the batches
@@ -58,6 +65,9 @@ module _ {Disk : Type 0} (told : Disk → Telling) where
       on =
           subst (λ r. IsOn (told after) next r graph) (sym (nothing_behind records))
           (subst (λ d. IsOn (told d) next records graph) (sym same.disk_is) (same_on (told disk) store next records graph same.store_is on));
+      end = ap (λ (j : Journal). j.end) same.store_is.journal;
+      bytes = ap (λ d. (told d).seen) same.disk_is;
+      works = subst (λ d. WorksFor [] (told disk) (told d)) (sym same.disk_is) (no_work (told disk).work);
     };
   }
 
@@ -73,6 +83,9 @@ module _ {Disk : Type 0} (told : Disk → Telling) where
           payloads = spell_batch items ∷ [];
           are = alone change items (state_in store graph) (state_in next graph) batch (last_read law records (spell_batch items) nothing (state_in store graph) (state_in next graph) on.read now.read);
           on = now;
+          end = appends.end;
+          bytes = appends.bytes on.rests.quiet;
+          works = works_for_one (spell_batch items) (told disk) (told after) appends.works;
         };
   }
 
@@ -81,28 +94,113 @@ module _ {Disk : Type 0} (told : Disk → Telling) where
     holds = second.holds ∙ ap (trails.after store_keeping more) first.holds ∙ sym (after-append store_keeping some more (held_in store));
     grows = grows_on store_keeping told some more disk between after store mid next first.grows second.grows;
     batches = λ records graph on.
-        let one : HasBatches some store mid (told between) records graph = first.batches records graph on in
-        let two : HasBatches more mid next (told after) (records ++ one.payloads) graph = second.batches (records ++ one.payloads) graph one.on in
+        let one : HasBatches some store mid (told disk) (told between) records graph = first.batches records graph on in
+        let two : HasBatches more mid next (told between) (told after) (records ++ one.payloads) graph = second.batches (records ++ one.payloads) graph one.on in
         record {
           payloads = one.payloads ++ two.payloads;
           are = batches_on (state_in store graph) (state_in mid graph) some one.payloads one.are more two.payloads (state_in next graph) two.are;
           on = subst (λ r. IsOn (told after) next r graph) (append_assoc records one.payloads two.payloads) two.on;
+          end = two.end ∙ ap (λ gate. gate_behind gate two.payloads) one.end ∙ sym (gate-append store.journal.end one.payloads two.payloads);
+          bytes = two.bytes ∙ ap (λ gate. with_records gate two.payloads (told between).seen) one.end
+              ∙ ap (with_records (gate_behind store.journal.end one.payloads) two.payloads) one.bytes ∙ sym (records-append store.journal.end one.payloads two.payloads (told disk).seen);
+          works = works_on one.payloads two.payloads (told disk) (told between) (told after) one.works two.works;
         };
   }
 
   -- ---- where they stop
 
-  pub stops_failed : (change : Change) (store : Store) (disk after : Disk) → LeavesChange change store (told disk) (told after) → Stops told (change ∷ []) store disk after
-  stops_failed change store disk after leaves = stops_within store_keeping told change disk after store (stops_in change store (told disk) (told after) leaves)
+  -- the work of a change that failed: none, or that of its batch
+  failed_begun : (change : Change) (store : Store) (disk after : Disk) (graph : Option Text) → WorksOnce (IsBatchOf store.kept.tables.contents change) (told disk) (told after) → HasBegun (change ∷ []) store (told disk) (told after) graph
+  failed_begun change store disk after graph (inl none) = record {
+    made = [];
+    rest = change ∷ [];
+    whole = refl;
+    payloads = [];
+    last = state_in store graph;
+    are = AreBatches.no_batches;
+    begun = [];
+    next = IsBegun.none_begun (change ∷ []);
+    works = none;
+  }
+  failed_begun change store disk after graph (inr (items, batch, works)) = record {
+    made = [];
+    rest = change ∷ [];
+    whole = refl;
+    payloads = [];
+    last = state_in store graph;
+    are = AreBatches.no_batches;
+    begun = spell_batch items ∷ [];
+    next = IsBegun.one_begun change [] items batch;
+    works = works_for_one (spell_batch items) (told disk) (told after) works;
+  }
+
+  pub stops_failed : (change : Change) (store : Store) (disk after : Disk) → LeavesChange change store (told disk) (told after)
+      → WorksOnce (IsBatchOf store.kept.tables.contents change) (told disk) (told after) → Stops told (change ∷ []) store disk after
+  stops_failed change store disk after leaves works = record {
+    within = stops_within store_keeping told change disk after store (stops_in change store (told disk) (told after) leaves);
+    begun = λ records graph on. failed_begun change store disk after graph works;
+  }
 
   pub stops_behind : (some more : List Change) (store mid : Store) (disk between after : Disk) → Goes told some store mid disk between → Stops told more mid between after → Stops told (some ++ more) store disk after
-  stops_behind some more store mid disk between after goes stops = grows_stops store_keeping told some more disk between after store mid goes.grows stops
+  stops_behind some more store mid disk between after goes stops = record {
+    within = grows_stops store_keeping told some more disk between after store mid goes.grows stops.within;
+    begun = λ records graph on.
+        let one : HasBatches some store mid (told disk) (told between) records graph = goes.batches records graph on in
+        let two : HasBegun more mid (told between) (told after) graph = stops.begun (records ++ one.payloads) graph one.on in
+        record {
+          made = some ++ two.made;
+          rest = two.rest;
+          whole = ap (λ l. some ++ l) two.whole ∙ sym (append_assoc some two.made two.rest);
+          payloads = one.payloads ++ two.payloads;
+          last = two.last;
+          are = batches_on (state_in store graph) (state_in mid graph) some one.payloads one.are two.made two.payloads two.last two.are;
+          begun = two.begun;
+          next = two.next;
+          works = subst (λ l. WorksFor l (told disk) (told after)) (sym (append_assoc one.payloads two.payloads two.begun))
+              (works_on one.payloads (two.payloads ++ two.begun) (told disk) (told between) (told after) one.works two.works);
+        };
+  }
 
   pub stops_left : (changes : List Change) (store next : Store) (disk after : Disk) → Goes told changes store next disk after → Stops told changes store disk after
-  stops_left changes store next disk after goes = grows_left store_keeping told changes disk after store next (λ held rests. left_durably (told after) next held rests) goes.grows
+  stops_left changes store next disk after goes = record {
+    within = grows_left store_keeping told changes disk after store next (λ held rests. left_durably (told after) next held rests) goes.grows;
+    begun = λ records graph on.
+        let all : HasBatches changes store next (told disk) (told after) records graph = goes.batches records graph on in
+        record {
+          made = changes;
+          rest = [];
+          whole = sym (nothing_behind changes);
+          payloads = all.payloads;
+          last = state_in next graph;
+          are = all.are;
+          begun = [];
+          next = IsBegun.none_begun [];
+          works = subst (λ l. WorksFor l (told disk) (told after)) (sym (nothing_behind all.payloads)) all.works;
+        };
+  }
+
+  -- what was begun of some changes was begun of more
+  begun_of_more : (contents : List Value) (rest more : List Change) (begun : List (List ℕ)) → IsBegun contents rest begun → IsBegun contents (rest ++ more) begun
+  begun_of_more contents rest more _ (IsBegun.none_begun _) = IsBegun.none_begun (rest ++ more)
+  begun_of_more contents _ more _ (IsBegun.one_begun change others items batch) = IsBegun.one_begun change (others ++ more) items batch
 
   pub stops_more : (changes more : List Change) (store : Store) (disk after : Disk) → Stops told changes store disk after → Stops told (changes ++ more) store disk after
-  stops_more changes more store disk after stops = stops_longer store_keeping told changes more disk after store stops
+  stops_more changes more store disk after stops = record {
+    within = stops_longer store_keeping told changes more disk after store stops.within;
+    begun = λ records graph on.
+        let has : HasBegun changes store (told disk) (told after) graph = stops.begun records graph on in
+        record {
+          made = has.made;
+          rest = has.rest ++ more;
+          whole = ap (λ l. l ++ more) has.whole ∙ append_assoc has.made has.rest more;
+          payloads = has.payloads;
+          last = has.last;
+          are = has.are;
+          begun = has.begun;
+          next = begun_of_more has.last.tables.contents has.rest more has.begun has.next;
+          works = has.works;
+        };
+  }
 
   -- ---- edits
 
@@ -119,8 +217,9 @@ module _ {Disk : Type 0} (told : Disk → Telling) where
       record { exact = where_.exact; goes = goes_none store next disk after same; same = where_.same; epoch = omega arith }
 
   pub has_failed : (change : Change) (store next : Store) (disk after : Disk) (e : JournalFault) → IsChangeFault (IsBatchOf store.kept.tables.contents change) change store e
-      → (e ≢ fault.Disk → IsSame store next disk after) → LeavesChange change store (told disk) (told after) → HasFailed told change store next disk after e
-  has_failed change store next disk after fault.Disk due same leaves = (due, stops_failed change store disk after leaves)
-  has_failed change store next disk after (fault.NotOurs at) never same leaves = never
-  has_failed change store next disk after (fault.Full at some) (due, over) same leaves = (due, (same (λ is. (let no : ⊥ = cc in no)), over))
-  has_failed change store next disk after fault.Memory told_ same leaves = same (λ is. (let no : ⊥ = cc in no))
+      → (e ≢ fault.Disk → IsSame store next disk after) → LeavesChange change store (told disk) (told after) → WorksOnce (IsBatchOf store.kept.tables.contents change) (told disk) (told after)
+      → HasFailed told change store next disk after e
+  has_failed change store next disk after fault.Disk due same leaves works = (due, stops_failed change store disk after leaves works)
+  has_failed change store next disk after (fault.NotOurs at) never same leaves works = never
+  has_failed change store next disk after (fault.Full at some) (due, over) same leaves works = (due, (same (λ is. (let no : ⊥ = cc in no)), over))
+  has_failed change store next disk after fault.Memory told_ same leaves works = same (λ is. (let no : ⊥ = cc in no))

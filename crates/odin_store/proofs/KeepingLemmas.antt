@@ -1,5 +1,5 @@
 -- A store keeps changes on a disk, one behind another.
-use Rattle.std.proofs.Common.{◌≡◌, ◌≢◌, ◌⊎◌, inl, inr, List, [], ◌∷◌, ◌++◌, ℕ, Option, Some, refl, sym, ap, subst, ◌∙◌}
+use Rattle.std.proofs.Common.{◌≡◌, ◌⊎◌, List, [], ◌∷◌, ◌++◌, ℕ, Option, Some, refl, sym, ap, subst, ◌∙◌}
 use Rattle.odin_outside.specs.Disk.{Telling, MayLeave, LeavesOnly, IsQuiet}
 use Rattle.disk_trails.specs.Trails as trails
 use Rattle.disk_trails.specs.TrailLemmas.{opened_trail}
@@ -12,7 +12,7 @@ use Rattle.meaning_records.specs.States.{nothing, ReadsAll, spell_batch}
 use Rattle.odin_store.specs.declared.store.Store.{Store}
 use Rattle.odin_store.specs.Held.{Held, Change, apply, StandsFor}
 use Rattle.odin_store.specs.OnDisk.{held_in, state_in, IsOn, LeavesChange, Appends, IsUnchanged, IsSame}
-use Rattle.odin_store.specs.Opening.{graph_record, Opens, LeavesHeld}
+use Rattle.odin_store.specs.Opening.{Opens, LeavesHeld}
 use Rattle.odin_store.specs.Keeping.{Rests, store_keeping}
 use Rattle.odin_store.proofs.StoreLemmas.{held_left}
 
@@ -61,11 +61,7 @@ left_durably disk store held rests image left = subst (λ h. StandsFor h image) 
 -- ---- an opened store
 
 opened_rests : (graph : Text) (store : Store) (old new : Telling) → Opens graph old new store → Rests new store (held_in store)
-opened_rests graph store old new opens = by_graph opens.on
-  where
-    by_graph : ((opens.state.graph ≡ Some graph) × IsOn new store opens.records (Some graph)) ⊎ ((opens.state.graph ≢ Some graph) × IsOn new store (opens.records ++ graph_record graph ∷ []) (Some graph)) → Rests new store (held_in store)
-    by_graph (inl known) = record { records = opens.records; graph = Some graph; on = known.1; holds = refl }
-    by_graph (inr added) = record { records = opens.records ++ graph_record graph ∷ []; graph = Some graph; on = added.1; holds = refl }
+opened_rests graph store old new opens = record { records = opens.records ++ opens.opening; graph = Some graph; on = opens.on; holds = refl }
 
 pub opened : (graph : Text) (store : Store) (old new : Telling) → IsQuiet old → Opens graph old new store → LeavesHeld old new → trails.Trail store_keeping (held_in store) old [] store new
 opened graph store old new quiet opens leaves =

@@ -3,3 +3,5 @@
 pub use Rattle.odin_store.proofs.GoingLemmas.{nothing_behind, batches_on, goes_none, goes_on, stops_left, stops_more, stops_behind}
 -- Sources with one more and one less.
 pub use Rattle.odin_store.proofs.SourceLemmas.{put_stays, drop_stays}
+-- What is written to add records.
+pub use Rattle.odin_store.proofs.WrittenLemmas.{written-append, gate-append, records-append, works_on, works_after}

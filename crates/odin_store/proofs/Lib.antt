@@ -7,4 +7,5 @@ mod ReadyLemmas
 mod RecordLemmas
 mod SourceLemmas
 mod StoreLemmas
+mod WrittenLemmas
 pub mod Lemmas

@@ -1,6 +1,6 @@
 -- The opening of a store over the opening of its journal.
 use Rattle.std.specs.Prelude.{⊤}
-use Rattle.std.proofs.Common.{◌≡◌, ◌≢◌, inl, inr, ℕ, ◌+◌, ◌-◌, ◌<◌, ◌≤◌, List, [], ◌∷◌, ◌++◌, length, length-append, Some, Err, refl, sym, ap, subst, ◌∙◌, arith}
+use Rattle.std.proofs.Common.{◌≡◌, ◌≢◌, inl, inr, ℕ, ◌+◌, ◌-◌, ◌*◌, ◌<◌, ◌≤◌, List, [], ◌∷◌, ◌++◌, length, length-append, Some, Err, refl, sym, ap, subst, ◌∙◌, arith}
 use Rattle.std.proofs.lemmas.List.Elements.{All-nil, All-push}
 use Rattle.odin_outside.specs.Disk.{Telling, IsQuiet}
 use Rattle.odin_outside.specs.Moments.{then, weaker}
@@ -9,7 +9,8 @@ use Rattle.meaning_store.specs.Front.{start_of, new_store}
 use Rattle.meaning_store.specs.Images.{behind, IsNew, AreRecords, IsStore, Stored}
 use Rattle.meaning_store.specs.ImageLemmas.{new_or_written, no_records, one_stored}
 use Rattle.odin_journal.specs.Faults as journal
-use Rattle.odin_journal.specs.Moments.{Untouched}
+use Rattle.disk_trails.specs.WorkLemmas.{more_work, add_work}
+use Rattle.odin_journal.specs.Moments.{Untouched, Works}
 use Rattle.odin_journal.specs.Rest.{AtRest, BeforeOrAfter, Opens, OnlyReads, KeepsRecords, Adds, KeepsOrAdds}
 use Rattle.odin_journal.specs.declared.fault.JournalFault.{JournalFault}
 use Rattle.odin_journal.specs.declared.fault.JournalFault.TheVariants as fault
@@ -20,12 +21,14 @@ use Rattle.meaning_records.specs.States.{State, nothing, Reads, ReadsAll}
 use Rattle.meaning_records.specs.Stands.{gate_behind, StandsNot}
 use Rattle.odin_store.specs.declared.store.Store.{Store}
 use Rattle.odin_store.specs.Held.{held_of, StandsFor}
-use Rattle.odin_store.specs.OnDisk.{state_in}
+use Rattle.odin_store.specs.OnDisk.{state_in, IsOn}
+use Rattle.odin_store.specs.Written.{written_in, IsMade}
 use Rattle.odin_store.specs.Loading.{records_size, BreaksAt, IsLoadFault}
 use Rattle.odin_store.specs.Opening as store
 use Rattle.odin_store.specs.Opening.{graph_record, LeavesHeld, IsFull, IsOpenFault}
 use Rattle.odin_store.proofs.LoadLemmas.{reads_on}
 use Rattle.odin_store.proofs.RecordLemmas.{size-append}
+use Rattle.odin_store.proofs.WrittenLemmas.{works_wider}
 
 -- ---- a graph
 
@@ -184,10 +187,18 @@ add_fault graph old mid new records end fault.Memory state read other short read
 
 -- ---- an opened store
 
+-- a new file was made a store, and any other was only read
+made_of : (old mid : Telling) (records : List (List ℕ)) (end : ℕ) → OnlyReads old mid → IsQuiet old → Opens old mid records end → IsMade old.seen mid.seen
+made_of old mid records end reads quiet opened = by opened.stored
+  where
+    by : Stored records old.seen → IsMade old.seen mid.seen
+    by (inl new) = inl (new.0, opened.made new.0)
+    by (inr store) = inr (store.1.written, (reads quiet (λ is_new. new_or_written old.seen is_new store.1.written)).same)
+
 -- the file's last graph is this one
-pub opens_known : (graph : Text) (old mid : Telling) (store_ : Store) (records : List (List ℕ)) (end : ℕ) (state : State) → (IsQuiet old → Opens old mid records end) → ReadsAll nothing records state
-    → store_.journal.end ≡ end → state_in store_ state.graph ≡ state → state.graph ≡ Some graph → store.OpensQuiet graph old mid store_
-opens_known graph old mid store_ records end state opens read place holds known quiet =
+pub opens_known : (graph : Text) (old mid : Telling) (store_ : Store) (records : List (List ℕ)) (end : ℕ) (state : State) → OnlyReads old mid → (IsQuiet old → Opens old mid records end) → ReadsAll nothing records state
+    → Works 66 (16 + 2 * length records) old mid → store_.journal.end ≡ end → state_in store_ state.graph ≡ state → state.graph ≡ Some graph → store.OpensQuiet graph old mid store_
+opens_known graph old mid store_ records end state reads opens read works place holds known quiet =
     let opened = opens quiet in
     record {
       records = records;
@@ -195,19 +206,30 @@ opens_known graph old mid store_ records end state opens read place holds known 
       stored = opened.stored;
       read = read;
       holds = ap held_of holds;
-      on = inl (
-        known,
-        record {
-          rests = subst (λ e. AtRest mid records e) (sym place) opened.rests;
-          read = subst (λ g. ReadsAll nothing records (state_in store_ g)) known (subst (λ s. ReadsAll nothing records s) (sym holds) read);
-        },
-      );
+      opening = [];
+      opens = inl (known, refl);
+      on = subst (λ r. IsOn mid store_ r (Some graph)) (sym (nothing_behind records)) (record {
+        rests = subst (λ e. AtRest mid records e) (sym place) opened.rests;
+        read = subst (λ g. ReadsAll nothing records (state_in store_ g)) known (subst (λ s. ReadsAll nothing records s) (sym holds) read);
+      });
+      made = mid.seen;
+      is_made = made_of old mid records end reads quiet opened;
+      gate = end;
+      whole = opened.rests.store;
+      end = place;
+      bytes = refl;
+      works = works_wider 66 (16 + 2 * length records) [] old mid works;
     }
+  where
+    nothing_behind : {A : Type 0} (xs : List A) → xs ++ [] ≡ xs
+    nothing_behind [] = refl
+    nothing_behind (x ∷ xs) = ap (λ l. x ∷ l) (nothing_behind xs)
 
 -- or it was added
-pub opens_added : (graph : Text) (old mid new : Telling) (store_ : Store) (records : List (List ℕ)) (end : ℕ) (state : State) → length graph ≤ 1048576 → (IsQuiet old → Opens old mid records end) → ReadsAll nothing records state
+pub opens_added : (graph : Text) (old mid new : Telling) (store_ : Store) (records : List (List ℕ)) (end : ℕ) (state : State) → length graph ≤ 1048576 → OnlyReads old mid → (IsQuiet old → Opens old mid records end) → ReadsAll nothing records state
+    → Works 66 (16 + 2 * length records) old mid → Works (length (graph_record graph) + 6) 4 mid new
     → Adds end store_.journal.end (graph_record graph) mid new → state_in store_ state.graph ≡ state → state.graph ≢ Some graph → store.OpensQuiet graph old new store_
-opens_added graph old mid new store_ records end state short opens read adds holds other quiet =
+opens_added graph old mid new store_ records end state short reads opens read works added adds holds other quiet =
     let opened = opens quiet in
     let after : State = record { tables = state.tables; sources = state.sources; graph = Some graph } in
     let same : after ≡ state_in store_ (Some graph) = ap (λ (s : State). record { tables = s.tables; sources = s.sources; graph = Some graph }) (sym holds) in
@@ -217,11 +239,19 @@ opens_added graph old mid new store_ records end state short opens read adds hol
       stored = opened.stored;
       read = read;
       holds = ap held_of holds;
-      on = inr (
-        other,
-        record {
-          rests = adds.rests records opened.rests;
-          read = subst (λ s. ReadsAll nothing (records ++ graph_record graph ∷ []) s) same (reads_on records (graph_record graph) nothing state after read (graph_reads graph state short));
-        },
-      );
+      opening = graph_record graph ∷ [];
+      opens = inr (other, refl);
+      on = record {
+        rests = adds.rests records opened.rests;
+        read = subst (λ s. ReadsAll nothing (records ++ graph_record graph ∷ []) s) same (reads_on records (graph_record graph) nothing state after read (graph_reads graph state short));
+      };
+      made = mid.seen;
+      is_made = made_of old mid records end reads quiet opened;
+      gate = end;
+      whole = opened.rests.store;
+      end = adds.next_is;
+      bytes = adds.bytes opened.rests.quiet;
+      works =
+          more_work (66 + (length (graph_record graph) + 6)) (16 + 2 * length records + 4) (66 + written_in (graph_record graph ∷ [])) (16 + 2 * length records + 4 * length (graph_record graph ∷ [])) old.work new.work (omega arith) (omega arith)
+          (add_work 66 (16 + 2 * length records) (length (graph_record graph) + 6) 4 old.work mid.work new.work works added);
     }

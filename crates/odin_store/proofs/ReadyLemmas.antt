@@ -77,15 +77,15 @@ module _ (IsBatch : List Item → Type 0) (change : Change) (store : Store) (pay
   ready_works old new works = inr (ready.items, ready.batch, subst (λ b. Works (length b + 6) 4 old new) spelled works)
 
   pub ready_adds : (journal : Journal) (after : Store) (old new : Telling) → journal ≡ store.journal → Adds journal.end after.journal.end bytes old new → journal.end + 6 + length bytes ≤ file_limit
-      → after.kept.tables ≡ next → after.sources.texts ≡ edited → AddsBatch IsBatch store after old new
-  ready_adds journal after old new same adds room tables sources = (
+      → Works (length bytes + 6) 4 old new → after.kept.tables ≡ next → after.sources.texts ≡ edited → AddsBatch IsBatch store after old new
+  ready_adds journal after old new same adds room works tables sources = (
     ready.items,
     ready.batch,
     appends change ready.items store after old new bytes spelled
         (subst (λ (t : Tables). Makes change store.kept.tables store.sources.texts (spell_batch ready.items) t after.sources.texts) (sym tables)
         (subst (λ (s : Texts). Makes change store.kept.tables store.sources.texts (spell_batch ready.items) next s) (sym sources) ready.makes))
         (subst (λ (j : Journal). Adds j.end after.journal.end bytes old new) same adds)
-        (subst (λ (j : Journal). j.end + 6 + length bytes ≤ 1073741824) same room),
+        (subst (λ (j : Journal). j.end + 6 + length bytes ≤ 1073741824) same room) works,
   )
 
   pub ready_holds : (tables : Tables) (sources : Texts) → tables ≡ next → sources ≡ edited → ◌≡◌ {A = Held} (record { sources = sources; calls = tables.calls }) (apply change (held_in store))

@@ -8,7 +8,7 @@ use Rattle.odin_journal.specs.declared.fault.JournalFault.TheVariants as fault
 use Rattle.meaning_records.specs.declared.items.Item.{Item}
 use Rattle.odin_store.specs.declared.store.Store.{Store}
 use Rattle.odin_store.specs.Held.{Change, puts, drops, IsDue}
-use Rattle.odin_store.specs.OnDisk.{held_in, IsChangeFault, IsOver, IsSame, LeavesChange}
+use Rattle.odin_store.specs.OnDisk.{held_in, IsChangeFault, IsOver, IsSame, LeavesChange, WorksOnce}
 use Rattle.odin_store.specs.Changes.{DropsSource, PutsText}
 use Rattle.odin_store.specs.Going.{IsBatchOf, Goes, Stops}
 
@@ -45,4 +45,5 @@ pub record EditsAreTold {Disk : Type 0} (told : Disk → Telling) : Type 0 where
       → HasDropped told name store next disk after changed
   pub failed : (change : Change) (store next : Store) (disk after : Disk) (e : JournalFault)
       → IsChangeFault (IsBatchOf store.kept.tables.contents change) change store e → (e ≢ fault.Disk → IsSame store next disk after)
-      → LeavesChange change store (told disk) (told after) → HasFailed told change store next disk after e
+      → LeavesChange change store (told disk) (told after) → WorksOnce (IsBatchOf store.kept.tables.contents change) (told disk) (told after)
+      → HasFailed told change store next disk after e

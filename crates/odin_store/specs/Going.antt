@@ -8,10 +8,12 @@ use Rattle.object_sources.specs.Texts.{Text}
 use Rattle.disk_trails.specs.Trails as trails
 use Rattle.meaning_records.specs.declared.items.Item.{Item}
 use Rattle.meaning_records.specs.Batches.{drop_batch, IsPutBatch, IsCallBatch}
+use Rattle.meaning_records.specs.Stands.{gate_behind}
 use Rattle.meaning_records.specs.States.{State, Reads, spell_batch}
 use Rattle.odin_store.specs.declared.store.Store.{Store}
+use Rattle.odin_store.specs.Written.{WorksFor, with_records}
 use Rattle.odin_store.specs.Held.{Change, puts, drops, keeps}
-use Rattle.odin_store.specs.OnDisk.{held_in, state_in, IsOn, IsSame, LeavesChange}
+use Rattle.odin_store.specs.OnDisk.{held_in, state_in, IsOn, IsSame, LeavesChange, WorksOnce}
 use Rattle.odin_store.specs.Changes.{PutBatch, DropBatch, Edits, KeepsCall}
 use Rattle.odin_store.specs.Keeping.{store_keeping}
 
@@ -28,21 +30,42 @@ pub data AreBatches (old : State) : List Change → List (List ℕ) → State �
       → AreBatches old changes payloads mid → IsBatchOf mid.tables.contents change items → Reads mid (spell_batch items) new
       → AreBatches old (changes ++ change ∷ []) (payloads ++ spell_batch items ∷ []) new
 
--- The disk has these records and behind them the batches of these changes, and no others.
-pub record HasBatches (changes : List Change) (store next : Store) (now : Telling) (records : List (List ℕ)) (graph : Option Text) : Type 0 where
+-- The disk has these records and after them the batches of these changes, and no others. Nothing else was written, and no more work done.
+pub record HasBatches (changes : List Change) (store next : Store) (old now : Telling) (records : List (List ℕ)) (graph : Option Text) : Type 0 where
   pub payloads : List (List ℕ)
   pub are : AreBatches (state_in store graph) changes payloads (state_in next graph)
   pub on : IsOn now next (records ++ payloads) graph
+  pub end : next.journal.end ≡ gate_behind store.journal.end payloads
+  pub bytes : now.seen ≡ with_records store.journal.end payloads old.seen
+  pub works : WorksFor payloads old now
 
 -- These changes were made, one after another, and nothing else.
 pub record Goes {Disk : Type 0} (told : Disk → Telling) (changes : List Change) (store next : Store) (disk after : Disk) : Type 0 where
   pub holds : held_in next ≡ trails.after store_keeping changes (held_in store)
   pub grows : trails.Grows store_keeping told changes disk store after next
-  pub batches : (records : List (List ℕ)) (graph : Option Text) → IsOn (told disk) store records graph → HasBatches changes store next (told after) records graph
+  pub batches : (records : List (List ℕ)) (graph : Option Text) → IsOn (told disk) store records graph → HasBatches changes store next (told disk) (told after) records graph
+
+-- The batch that was begun after these contents: that of the first of these changes, or none.
+pub data IsBegun (contents : List Value) : List Change → List (List ℕ) → Type 0 where
+  none_begun : (changes : List Change) → IsBegun contents changes []
+  one_begun : (change : Change) (more : List Change) (items : List Item) → IsBatchOf contents change items → IsBegun contents (change ∷ more) (spell_batch items ∷ [])
+
+-- The work is that of the batches of some first ones of these changes at most, and of one that was begun.
+pub record HasBegun (changes : List Change) (store : Store) (old now : Telling) (graph : Option Text) : Type 0 where
+  pub made : List Change
+  pub rest : List Change
+  pub whole : changes ≡ made ++ rest
+  pub payloads : List (List ℕ)
+  pub last : State
+  pub are : AreBatches (state_in store graph) made payloads last
+  pub begun : List (List ℕ)
+  pub next : IsBegun last.tables.contents rest begun
+  pub works : WorksFor (payloads ++ begun) old now
 
 -- Of these changes some first ones were made, and none that came before is lost.
-abbrev pub Stops : {Disk : Type 0} → (Disk → Telling) → List Change → Store → Disk → Disk → Type 0
-Stops told changes store disk after = trails.StopsWithin store_keeping told changes disk store after
+pub record Stops {Disk : Type 0} (told : Disk → Telling) (changes : List Change) (store : Store) (disk after : Disk) : Type 0 where
+  pub within : trails.StopsWithin store_keeping told changes disk store after
+  pub begun : (records : List (List ℕ)) (graph : Option Text) → IsOn (told disk) store records graph → HasBegun changes store (told disk) (told after) graph
 
 -- ---- what the calls do, as changes one after another
 
@@ -61,7 +84,8 @@ module _ {Disk : Type 0} (told : Disk → Telling) where
 
   -- Where changes stop: within one that failed, behind others, or at any moment; and more of them may have been meant.
   pub record ChangesStop : Type 0 where
-    pub failed : (change : Change) (store : Store) (disk after : Disk) → LeavesChange change store (told disk) (told after) → Stops told (change ∷ []) store disk after
+    pub failed : (change : Change) (store : Store) (disk after : Disk) → LeavesChange change store (told disk) (told after)
+        → WorksOnce (IsBatchOf store.kept.tables.contents change) (told disk) (told after) → Stops told (change ∷ []) store disk after
     pub behind : (some more : List Change) (store mid : Store) (disk between after : Disk)
         → Goes told some store mid disk between → Stops told more mid between after → Stops told (some ++ more) store disk after
     pub left : (changes : List Change) (store next : Store) (disk after : Disk) → Goes told changes store next disk after → Stops told changes store disk after

@@ -1,3 +1,4 @@
+pub mod Written
 pub mod Held
 pub mod OnDisk
 pub mod Changes

@@ -1,9 +1,9 @@
 -- A store on its disk.
 use Rattle.std.specs.Prelude.{◌≡◌, ◌⊎◌, ⊤, ℕ, ◌+◌, ◌^◌, ◌<◌, List, [], ◌∷◌, ◌++◌, length, Option, IsTrue, Result, OnOk, IsErrOf}
-use Rattle.odin_outside.specs.Disk.{Telling, LeavesOnly}
+use Rattle.odin_outside.specs.Disk.{Telling, IsQuiet, LeavesOnly}
 use Rattle.object_sources.specs.Texts.{Text}
 use Rattle.meaning_store.specs.Front.{file_limit}
-use Rattle.meaning_store.specs.Images.{behind}
+use Rattle.meaning_store.specs.Images.{behind, with_record}
 use Rattle.odin_journal.specs.Moments.{Works}
 use Rattle.odin_journal.specs.Rest.{AtRest, IsReady}
 use Rattle.odin_journal.specs.declared.fault.JournalFault.{JournalFault}
@@ -36,11 +36,13 @@ LeavesChange change store old new =
     (records : List (List ℕ)) (graph : Option Text) → IsOn old store records graph
     → LeavesOnly old new (λ image. StandsFor (held_in store) image ⊎ StandsFor (apply change (held_in store)) image)
 
--- A batch of these items was added to the records, where it fitted.
+-- A batch of these items was added to the records, where it fitted, and nothing else was written.
 pub record Appends (items : List Item) (store next : Store) (old new : Telling) : Type 0 where
   pub end : next.journal.end ≡ behind store.journal.end (spell_batch items)
   pub room : next.journal.end < file_limit
   pub on : (records : List (List ℕ)) (graph : Option Text) → IsOn old store records graph → IsOn new next (records ++ spell_batch items ∷ []) graph
+  pub bytes : IsQuiet old → new.seen ≡ with_record store.journal.end (spell_batch items) old.seen
+  pub works : Works (length (spell_batch items) + 6) 4 old new
 
 -- some such batch: that one, and no other
 abbrev pub AddsBatch : (List Item → Type 0) → Store → Store → Telling → Telling → Type 0

@@ -1,17 +1,18 @@
 -- The opening of a store.
-use Rattle.std.specs.Prelude.{◌≡◌, ◌≢◌, ◌⊎◌, ⊤, ℕ, ◌+◌, ◌<◌, List, [], ◌∷◌, ◌++◌, length, Some}
+use Rattle.std.specs.Prelude.{◌≡◌, ◌≢◌, ◌⊎◌, ⊤, ℕ, ◌+◌, ◌*◌, ◌<◌, List, [], ◌∷◌, ◌++◌, length, Option, Some}
 use Rattle.odin_outside.specs.Disk.{Telling, IsQuiet, LeavesOnly}
 use Rattle.object_sources.specs.Texts.{Text}
 use Rattle.meaning_store.specs.Front.{file_limit}
-use Rattle.meaning_store.specs.Images.{Stored}
-use Rattle.odin_journal.specs.Moments.{Untouched}
+use Rattle.meaning_store.specs.Images.{Stored, IsStore}
+use Rattle.odin_journal.specs.Moments.{Untouched, Works}
 use Rattle.odin_journal.specs.Rest.{AtRest}
 use Rattle.odin_journal.specs.declared.fault.JournalFault.{JournalFault}
 use Rattle.odin_journal.specs.declared.fault.JournalFault.TheVariants as fault
 use Rattle.meaning_records.specs.Batches.{graph_batch}
 use Rattle.meaning_records.specs.States.{State, nothing, ReadsAll, spell_batch}
-use Rattle.meaning_records.specs.Stands.{Stands, StandsNot}
+use Rattle.meaning_records.specs.Stands.{Stands, StandsNot, gate_behind}
 use Rattle.odin_store.specs.declared.store.Store.{Store}
+use Rattle.odin_store.specs.Written.{written_in, with_records, IsMade}
 use Rattle.odin_store.specs.Held.{held_of, StandsFor}
 use Rattle.odin_store.specs.OnDisk.{IsOn, held_in}
 
@@ -19,14 +20,28 @@ use Rattle.odin_store.specs.OnDisk.{IsOn, held_in}
 abbrev pub graph_record : Text → List ℕ
 graph_record text = spell_batch (graph_batch text)
 
--- The file stood for what the store holds. Its last graph is this one, or it was another or none and this one was added.
+-- The batch of an opening: that of the graph, where the last graph of the file was another or there was none.
+abbrev pub IsOpening : Text → Option Text → List (List ℕ) → Type 0
+IsOpening text last batches = ((last ≡ Some text) × (batches ≡ [])) ⊎ ((last ≢ Some text) × (batches ≡ graph_record text ∷ []))
+
+-- The file stood for what the store holds. After its records the batch of the opening was added, and nothing else was written but the front
+-- of a new file. The work is that of reading them, of making it, and of that batch at most.
 pub record Opens (graph : Text) (old new : Telling) (store : Store) : Type 0 where
   pub records : List (List ℕ)
   pub state : State
   pub stored : Stored records old.seen
   pub read : ReadsAll nothing records state
   pub holds : held_in store ≡ held_of state
-  pub on : ((state.graph ≡ Some graph) × IsOn new store records (Some graph)) ⊎ ((state.graph ≢ Some graph) × IsOn new store (records ++ graph_record graph ∷ []) (Some graph))
+  pub opening : List (List ℕ)
+  pub opens : IsOpening graph state.graph opening
+  pub on : IsOn new store (records ++ opening) (Some graph)
+  pub made : List ℕ
+  pub is_made : IsMade old.seen made
+  pub gate : ℕ
+  pub whole : IsStore made records gate
+  pub end : store.journal.end ≡ gate_behind gate opening
+  pub bytes : new.seen ≡ with_records gate opening made
+  pub works : Works (66 + written_in opening) (16 + 2 * length records + 4 * length opening) old new
 
 -- of a disk on which nothing is pending
 abbrev pub OpensQuiet : Text → Telling → Telling → Store → Type 0

@@ -1,4 +1,5 @@
-use Rattle.std.proofs.Common.{◌≡◌, ◌++◌, ◌∷◌, ◌+◌, [], length, ap, sym, subst, ◌∙◌, arith}
+use Rattle.std.proofs.Common.{◌≡◌, ◌++◌, ◌∷◌, ◌+◌, ◌*◌, [], length, length-append, ap, sym, subst, ◌∙◌, arith}
+use Rattle.disk_trails.specs.WorkLemmas.{more_work, add_work}
 use Rattle.meaning_store.specs.Images.{behind, IsRecord, AreRecords}
 use Rattle.odin_journal.proofs.MomentLemmas.{untouched_on}
 use Rattle.odin_journal.proofs.AppendLemmas.{one_more}
@@ -26,5 +27,9 @@ gates-preserved g c =
           let there = some (record { quiet = first.quiet; long = ap length first.same ∙ quiet.long }) in
           let here = subst (λ image. IsRecord image c.gates.gate payload) first.same there in
           rw records_are (subst (λ gate. AreRecords old.seen c.args.start (c.gates.records ++ payload ∷ []) gate) gate_is (one_more old.seen c.args.start c.gates.gate c.gates.records payload (c.gates.invariant.whole quiet) here));
+      works =
+          let more : length c.push.new.self ≡ length c.gates.records + 1 = ap length records_are ∙ length-append c.gates.records (payload ∷ []) in
+          more_work 0 (2 * length c.gates.records + 2) 0 (2 * length c.push.new.self) old.work (g.D.Disk.told c.read_record.new.disk).work (omega arith) (omega (arith, more))
+          (add_work 0 (2 * length c.gates.records) 0 2 old.work mid.work (g.D.Disk.told c.read_record.new.disk).work c.gates.invariant.works c.read_record.ensures.works);
       faults = c.in_ok-payload.ensures.cause.ok ∙ c.gates.invariant.faults;
     }

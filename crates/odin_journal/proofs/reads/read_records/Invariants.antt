@@ -1,7 +1,7 @@
-use Rattle.std.proofs.Common.{◌≡◌, ◌<◌, ◌-◌}
+use Rattle.std.proofs.Common.{◌≡◌, ◌<◌, ◌-◌, ◌*◌, length}
 use Rattle.odin_outside.specs.Disk.{IsQuiet}
 use Rattle.meaning_store.specs.Images.{AreRecords}
-use Rattle.odin_journal.specs.Moments.{IsQuietAt, Untouched}
+use Rattle.odin_journal.specs.Moments.{IsQuietAt, Untouched, Works}
 use Rattle.odin_journal.proofs.reads.read_records.Given as goal
 
 -- the records so far follow each other up to the gate, and the disk is as it was
@@ -12,6 +12,7 @@ invariant-gates g l = record {
   same : g.D.Disk.size_of l.disk ≡ g.D.Disk.size_of l.initial.disk;
   untouched : IsQuiet (g.D.Disk.told l.initial.disk) → Untouched (g.D.Disk.told l.initial.disk) (g.D.Disk.told l.disk);
   whole : IsQuietAt (g.D.Disk.told l.initial.disk) l.size → AreRecords (g.D.Disk.told l.initial.disk).seen l.initial.gate l.records l.gate;
+  works : Works 0 (2 * length l.records) (g.D.Disk.told l.initial.disk) (g.D.Disk.told l.disk);
   faults : g.D.Disk.faults l.disk ≡ g.D.Disk.faults l.initial.disk;
 }
 

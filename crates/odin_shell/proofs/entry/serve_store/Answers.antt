@@ -9,6 +9,7 @@ returns-in-Err g c = unopened c.in-Err.fault (record {
   crash = c.in-Err.ensures.any_moment;
   later = c.in-Err.ensures.cause.later;
   cause = c.in-Err.ensures.cause.err;
+  works = c.in-Err.ensures.works;
 }) c.end_unopened.ensures refl
 
 pub serve_input-due-requires : goal.serve_input-due-requires

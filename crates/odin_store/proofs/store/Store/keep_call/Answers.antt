@@ -45,5 +45,5 @@ returns-clause-keeps g c =
       epoch = refl;
       adds =
           ready_adds (CallBatch store call outcome) (keeps call outcome) store prepared.payload c.payload.result.now batch.2.next store.sources.texts ready c.payload.ensures store.journal _
-          (g.D.Disk.told c.args.disk.now) (g.D.Disk.told c.append.new.disk) refl c.in_ok-append.ensures.added c.in_ok-append.ensures.full.room tables refl;
+          (g.D.Disk.told c.args.disk.now) (g.D.Disk.told c.append.new.disk) refl c.in_ok-append.ensures.added c.in_ok-append.ensures.full.room c.in_ok-append.ensures.works tables refl;
     }

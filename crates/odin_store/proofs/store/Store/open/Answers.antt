@@ -42,7 +42,7 @@ returns-then-has_graph-clause-opened g c =
     let answered : IsTrue c.has_graph.result = search rules in
     let store = c.of-known.result in
     let holds : state_in store state.graph ≡ state = ap₂ (λ (k : Holding) (s : Stock). record { tables = k.tables; sources = s.texts; graph = state.graph }) c.of-known.ensures.kept c.of-known.ensures.sources in
-    opens_known c.args.graph.now old mid store c.in_ok-journal.records c.in_ok-journal.journal.end state c.in_ok-journal.ensures.opened c.in_ok-loading.ensures.read
+    opens_known c.args.graph.now old mid store c.in_ok-journal.records c.in_ok-journal.journal.end state c.open.ensures.untouched c.in_ok-journal.ensures.opened c.in_ok-loading.ensures.read c.in_ok-journal.ensures.reads
     (ap (λ (j : Journal). j.end) c.of-known.ensures.journal) holds (c.has_graph.ensures.yes answered)
 
 pub returns-in_err-payload-clause-any_moment : goal.returns-in_err-payload-clause-any_moment
@@ -93,7 +93,8 @@ returns-clause-opened g c =
     let adds : Adds end store.journal.end (graph_record graph) mid new =
     subst (λ (j : Journal). Adds end j.end (graph_record graph) mid new) (sym c.of-added.ensures.journal)
     (subst (λ b. Adds end c.append.new.self.end b mid new) (c.as_slice.ensures ∙ c.in_ok-payload.ensures) c.in_ok-append.ensures.added) in
-    opens_added graph old mid new store c.in_ok-journal.records end state c.requires c.in_ok-journal.ensures.opened c.in_ok-loading.ensures.read adds holds (c.has_graph.ensures.no answered)
+    let work : Works (length (graph_record graph) + 6) 4 mid new = subst (λ b. Works (length b + 6) 4 mid new) (c.as_slice.ensures ∙ c.in_ok-payload.ensures) c.in_ok-append.ensures.works in
+    opens_added graph old mid new store c.in_ok-journal.records end state c.requires c.open.ensures.untouched c.in_ok-journal.ensures.opened c.in_ok-loading.ensures.read c.in_ok-journal.ensures.reads work adds holds (c.has_graph.ensures.no answered)
 
 pub returns-in_err-journal-clause-refused : goal.returns-in_err-journal-clause-refused
 returns-in_err-journal-clause-refused g c =

@@ -66,7 +66,7 @@ returns-clause-puts g c =
         epoch = omega (arith, same.epoch);
         adds =
             ready_adds (PutBatch store name text) (puts name text) store prepared.payload c.payload.result.now batch.2.next edited ready c.payload.ensures mid.journal _
-            (g.D.Disk.told c.args.disk.now) (g.D.Disk.told c.append.new.disk) same.journal c.in_ok-append.ensures.added c.in_ok-append.ensures.full.room tables put;
+            (g.D.Disk.told c.args.disk.now) (g.D.Disk.told c.append.new.disk) same.journal c.in_ok-append.ensures.added c.in_ok-append.ensures.full.room c.in_ok-append.ensures.works tables put;
       };
       same = λ no. (let absurdity : ⊥ = cc in absurd absurdity);
     }
