@@ -17,7 +17,7 @@ use crate::setting::Setting;
 use node_tasks::{Needed, call_for, settle};
 use object_sources::Sources;
 use object_values::{
-    Bytes, Call, Copied, Memory, Message, Node, Outcome, Seq, Status, Value, View,
+    Bytes, Call, Copied, Memory, Message, Node, Outcome, Seq, SharedSeq, Status, Text, Value, View,
 };
 use odin_nodes::label_of;
 use odin_outside::Steps;
@@ -143,20 +143,20 @@ pub(crate) fn source_view(
         return Ok(View {
             value: Some(Value::Simple(text.copy(alloc)?)),
             status: Status::Ok,
-            messages: Seq::new(alloc),
+            messages: SharedSeq::new(),
         });
     }
     let mut text = Bytes::from_slice(alloc, b"no source ")?;
     text.extend_from_slice(node.source.as_slice())?;
     let mut messages = Seq::new(alloc);
     messages.push(Message {
-        label: label_of(alloc, graph, node)?,
+        label: Text::of(label_of(alloc, graph, node)?)?,
         level: Status::Abort,
-        text,
+        text: Text::of(text)?,
     })?;
     Ok(View {
         value: None,
         status: Status::Abort,
-        messages,
+        messages: SharedSeq::of(messages)?,
     })
 }
