@@ -101,7 +101,7 @@ fn is_call(call: &StoredCall) -> bool {
 
 fn is_outcome(outcome: &StoredOutcome) -> bool {
     let lines = match outcome.lines.as_slice() {
-        [OwnLine { level, text }] => *level == Status::Error && text.as_slice() == b"m",
+        [OwnLine { level, text }] => *level == Status::Error && text.as_slice() == b"m".as_slice(),
         _ => false,
     };
     let outputs = match outcome.outputs.as_slice() {

@@ -62,10 +62,7 @@ fn read_body(alloc: Global, text: &[u8]) -> Result<Option<(ShownBody, &[u8])>, M
     Ok(None)
 }
 
-fn read_messages(
-    alloc: Global,
-    text: &[u8],
-) -> Result<Option<(SharedSeq<Message>, &[u8])>, Memory>
+fn read_messages(alloc: Global, text: &[u8]) -> Result<Option<(SharedSeq<Message>, &[u8])>, Memory>
     ensures { IfOk result (Reads messages_text (AreFormed IsFormedMessage) text.now) }
 {
     let Some(rest) = text.strip_prefix(b"messages ") else {
