@@ -130,8 +130,12 @@ fn read_message(alloc: Global, line: &[u8]) -> Result<Option<Message>, Memory>
     };
     holds_bytes(text.as_slice());
     let label = Text::of(Bytes::from_slice(alloc, label)?)?;
-    let text = Text::of(text)?;
-    Ok(Some(Message { label, level, text }))
+    let body = Text::of(text)?;
+    Ok(Some(Message {
+        label,
+        level,
+        text: body,
+    }))
 }
 
 // What no clause of a `Seq` says.

@@ -1,5 +1,6 @@
-use Rattle.std.proofs.Common.{subst}
+use Rattle.std.proofs.Common.{◌∙◌, subst, sym, Some}
 use Rattle.odin_bytes.specs.Spellings.{AreBytes}
+use Rattle.reply_reader.specs.Reading.{SpellsMessage}
 use Rattle.reply_reader.proofs.ObjectLemmas.{no_level, no_label, no_spelling, message_read}
 use Rattle.reply_reader.proofs.items.read_message.Goals as goal
 
@@ -24,7 +25,9 @@ pub returns : goal.returns
 returns c =
     let cut = c.in-Some.ensures.some in
     let again = c.in-Some-cut_at.ensures.some in
-    message_read c.args.line.now c.in-Some.word.now c.in-Some.rest.now c.in-Some-cut_at.label.now c.in-Some-cut_at.spelling.now
+    let label = c.in_ok-label.ensures ∙ c.in_ok-from_slice.ensures in
+    subst (λ text. SpellsMessage c.args.line.now (Some (record { label = c.in_ok-label.label; level = c.in-Some-status_of.level; text = text }))) (sym c.in_ok-body.ensures)
+    (message_read c.args.line.now c.in-Some.word.now c.in-Some.rest.now c.in-Some-cut_at.label.now c.in-Some-cut_at.spelling.now
     (record { label = c.in_ok-label.label; level = c.in-Some-status_of.level; text = c.in-Some-2.text })
-    cut.0 c.in-Some-status_of.ensures.some c.requires again.0 again.1 c.in_ok-label.ensures
-    (rw c.in-Some-2.is at c.in_ok-text.ensures.some) (subst AreBytes c.as_slice.ensures c.holds_bytes.ensures)
+    cut.0 c.in-Some-status_of.ensures.some c.requires again.0 again.1 label
+    (rw c.in-Some-2.is at c.in_ok-text.ensures.some) (subst AreBytes c.as_slice.ensures c.holds_bytes.ensures))
