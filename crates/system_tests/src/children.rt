@@ -170,14 +170,14 @@ fn scripts_leave_their_files(rt: HostRuntime) -> Result<(), Fail> {
 #[test]
 fn an_end_waits_for_no_program_that_was_left_behind(rt: HostRuntime) -> Result<(), Fail> {
     let mut tools = tools_of(&rt);
-    let text = b"d=$(cd ../.. && pwd); (sleep 2; : > \"$d/late\") & echo now > out.a";
+    let text = b"d=$(cd ../../.. && pwd); (sleep 2; : > \"$d/late\") & echo now > out.a";
     let left = left_by(rt.alloc(), &mut tools, text)?;
     let Some(raw) = left else {
         assert!(rt; false, "no end");
         return Ok(());
     };
     assert!(rt; is_left(&raw, End::Exit(0), &[(b"out.a", b"now\n")]));
-    assert!(rt; !fs::exists(&rt, "odin.work/late")?);
+    assert!(rt; !fs::exists(&rt, "late")?);
     assert!(rt; is_clear(&rt)?);
     tools.wait_rest(rt.alloc());
     Ok(())
