@@ -1,5 +1,6 @@
 -- Pairs in blocks: all of them in a row, and the block to which a name belongs.
-use Rattle.std.specs.Prelude.{◌≡◌, ℕ, zero, suc, ◌-◌, ◌<◌, ◌≤◌, ◌^◌, T, List, [], ◌∷◌, ◌++◌, Option, IfSome, length, min}
+use Rattle.std.specs.Prelude.{◌≡◌, ℕ, zero, suc, ◌-◌, ◌<◌, ◌≤◌, ◌^◌, T, List, [], ◌∷◌, ◌++◌, Option, IfSome, length, min, slice_index_or, slice_set}
+use Rattle.std.specs.List.{remove}
 use Rattle.std.specs.Ordering.{nat_cmp}
 use Rattle.std.specs.Option.{option_to_list}
 use Rattle.std.specs.Cmp.Lexicographic.{slice_cmp}
@@ -18,6 +19,16 @@ joined (block ∷ blocks) = block ++ joined blocks
 abbrev pub AreFilled : List Pairs → Type 0
 AreFilled [] = Unit {0}
 AreFilled (block ∷ blocks) = (1 ≤ length block) × AreFilled blocks
+
+-- the text at a place of a block
+abbrev pub text_at : List Pairs → ℕ → ℕ → Text
+text_at blocks at place =
+    let pair = slice_index_or (slice_index_or blocks at []) place ([], []) in pair.1
+
+-- the pairs of all blocks, where the one at a place of a block is taken out
+abbrev pub joined_without : List Pairs → ℕ → ℕ → Pairs
+joined_without blocks at place =
+    joined (slice_set blocks at (remove (slice_index_or blocks at []) place))
 
 abbrev pub AreSorted : List Pairs → Type 0
 AreSorted blocks = T (map.is_sorted (slice_cmp nat_cmp) (joined blocks))

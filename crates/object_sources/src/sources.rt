@@ -1,8 +1,8 @@
 // Sources: texts by name, in the order of the names' bytes.
 ghost use Rattle.std.specs.Prelude.{◌≡◌, ◌≤◌, ◌<◌, ◌∷◌, [], ◌⊎◌, Some, IfOk, IsSome, length, option_map, slice_get, slice_index_or, slice_set, vec_len, vec_capacity, OnOk};
-ghost use Rattle.std.specs.List.{insert, remove};
+ghost use Rattle.std.specs.List.{insert};
 ghost use Rattle.std.specs.FinMap as map;
-ghost use Rattle.object_sources.specs.Blocks.{AreFilled, IsSpare, joined};
+ghost use Rattle.object_sources.specs.Blocks.{AreFilled, IsSpare, joined, joined_without, text_at};
 ghost use Rattle.object_sources.specs.Texts.{no_texts, entry_at};
 
 use crate::block::{Block, insert_within};
@@ -219,10 +219,8 @@ fn add(
 fn take_out(blocks: &mut Vec<Block>, at: usize, place: usize) -> Text
     requires at { at < length blocks.old.items }
     requires place { place < length (slice_index_or blocks.old.items at []) }
-    ensures before { let pair = slice_index_or (slice_index_or blocks.old.items at []) place ([], []) in
-        result ≡ pair.1 }
-    ensures removed { let block = remove (slice_index_or blocks.old.items at []) place in
-        joined blocks.new.items ≡ joined (slice_set blocks.old.items at block) }
+    ensures before { result ≡ text_at blocks.old.items at place }
+    ensures removed { joined blocks.new.items ≡ joined_without blocks.old.items at place }
     ensures filled { AreFilled blocks.old.items → AreFilled blocks.new.items }
 {
     let block = &mut blocks[at];

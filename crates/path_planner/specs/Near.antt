@@ -42,6 +42,10 @@ pub record Reaches (distance : ℕ) (numbers : List ℕ) (old : List (Option ℕ
 abbrev pub AddsBelow : Graph → ℕ → ℕ → List ℕ → List ℕ → Type 0
 AddsBelow g of count old new = (a : ℕ) → IsIn a new ↔ (IsIn a old ⊎ ((a < count) × (is_a g a of ≡ true)))
 
+-- All types that are the one are added, and no others.
+abbrev pub AddsAllBelow : Graph → ℕ → List ℕ → List ℕ → Type 0
+AddsAllBelow g of old new = AddsBelow g of (length (types g)) old new
+
 -- The first makers, so many of them, lead to the type from just these.
 pub record LeadBy (g : Graph) (to count : ℕ) (sources : List ℕ) : Type 0 where
   pub sound : (a : ℕ) → IsIn a sources → (a < length (types g)) × (k : ℕ) × Makes g a k to

@@ -2,7 +2,7 @@
 ghost use Rattle.std.specs.Prelude.{◌≡◌, ◌<◌, ℕ, IfOk, IfNone, IfSome, OnOk, length};
 ghost use Rattle.meaning_graph.specs.Graphs.{types};
 ghost use Rattle.path_planner.specs.Ends.{ends_in, from_to, AreTypes};
-ghost use Rattle.path_planner.specs.Near.{AddsBelow, AreSources, LeadTo};
+ghost use Rattle.path_planner.specs.Near.{AddsAllBelow, AreSources, LeadTo};
 
 use crate::route::Ends;
 use object_values::{Memory, Seq};
@@ -51,7 +51,7 @@ fn taken_for(maker: Ends, to: u32) -> Option<u32>
 /// Adds the types that are this one.
 pub(crate) fn add_below(sources: &mut Seq<u32>, graph: &Graph, of: u32) -> Result<(), Memory>
     requires of { of < length (types graph.now) }
-    ensures { OnOk result (AddsBelow graph.now of (length (types graph.now)) sources.old sources.new) }
+    ensures { OnOk result (AddsAllBelow graph.now of sources.old sources.new) }
 {
     for a in 0..graph.type_count() {
         if graph.is_a(a, of) {

@@ -1,5 +1,5 @@
 // Lists of messages, each held once.
-ghost use Rattle.std.specs.Prelude.{◌≡◌, IfOk};
+ghost use Rattle.std.specs.Prelude.{◌≡◌, [], IfOk};
 
 use indexmap::IndexSet;
 use object_values::{Memory, Message, SharedSeq};
@@ -20,7 +20,9 @@ impl Drop for MessageLists {
 }
 
 impl MessageLists {
-    pub(crate) fn new(alloc: Global) -> Self {
+    pub(crate) fn new(alloc: Global) -> Self
+        ensures { result.lists.keys ≡ [] }
+    {
         MessageLists {
             lists: IndexSet::new(alloc),
         }
