@@ -81,6 +81,38 @@ fn texts_come_in_the_order_of_their_names(rt: HostRuntime) -> Result<(), Fail> {
     Ok(())
 }
 
+// As many names as fill several blocks, and more.
+const MANY: u16 = 1000;
+
+// Puts many names, the last one first, and says whether each was new.
+fn put_falling(alloc: Global, sources: &mut Sources) -> Result<bool, Memory> {
+    for number in 0..MANY {
+        let name = (MANY - 1 - number).to_be_bytes();
+        if !is_new(alloc, sources, &name)? {
+            return Ok(false);
+        }
+    }
+    Ok(true)
+}
+
+// Whether all of them come in their order, with none behind them.
+fn are_many(sources: &Sources) -> bool {
+    for number in 0..MANY {
+        if !is_pair(sources.at(number as usize), &number.to_be_bytes()) {
+            return false;
+        }
+    }
+    sources.len() == MANY as usize
+}
+
+#[test]
+fn names_in_falling_order_come_in_rising_order(rt: HostRuntime) -> Result<(), Fail> {
+    let mut sources = Sources::new(rt.alloc());
+    assert!(rt; put_falling(rt.alloc(), &mut sources)?);
+    assert!(rt; are_many(&sources));
+    Ok(())
+}
+
 // Whether an old text is given back where a newer one is put in its place.
 fn is_replaced(alloc: Global, sources: &mut Sources) -> Result<bool, Memory> {
     let before = put(alloc, sources, b"a.c", b"old")?;
