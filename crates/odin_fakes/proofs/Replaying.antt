@@ -13,7 +13,7 @@ use Rattle.odin_fakes.specs.DiskLaws.{image_is_left}
 use Rattle.odin_fakes.specs.Entries.{count_of, call_of, calls_after, calls_of, bytes_left, bytes_of, IsPlain, IsPending, IsUnfinished}
 
 -- calls behind others
-after_both : (front back : List Entry) (bytes : List ℕ) (done : List Call) → calls_after (front ++ back) bytes done ≡ calls_after back (bytes_left front bytes) (calls_after front bytes done)
+pub after_both : (front back : List Entry) (bytes : List ℕ) (done : List Call) → calls_after (front ++ back) bytes done ≡ calls_after back (bytes_left front bytes) (calls_after front bytes done)
 after_both [] back bytes done = refl
 after_both (kept ∷ front) back bytes done = after_both front back (drop (count_of kept) bytes) (call_of kept (take (count_of kept) bytes) ∷ done)
 
@@ -209,7 +209,7 @@ plain_keeps entry.Sync image plain = record { count = refl; same = refl; fits = 
 plain_keeps entry.Look image plain = record { count = refl; same = refl; fits = tt }
 
 -- the calls but for a sync at their end
-last_call : (entries before : List Entry) (written : List ℕ) → entries ≡ before ++ entry.Sync ∷ [] → calls_of entries written ≡ Synced ∷ calls_of before written
+pub last_call : (entries before : List Entry) (written : List ℕ) → entries ≡ before ++ entry.Sync ∷ [] → calls_of entries written ≡ Synced ∷ calls_of before written
 last_call entries before written is = ap (λ (es : List Entry). calls_of es written) is ∙ after_both before (entry.Sync ∷ []) written []
 
 pub last_within : (first : List ℕ) (entries before : List Entry) (written : List ℕ) → IsUnfinished entries before → AreWithin first (calls_of entries written) → AreWithin first (calls_of before written)

@@ -1,5 +1,5 @@
 -- The calls of a file in memory, and what they make of it.
-use Rattle.std.specs.Prelude.{◌≡◌, ◌⊎◌, ℕ, ◌+◌, ◌-◌, ◌≤◌, ⊤, min, Vec, List, [], ◌∷◌, ◌++◌, length, take, drop}
+use Rattle.std.specs.Prelude.{◌≡◌, ◌⊎◌, ℕ, ◌+◌, ◌-◌, ◌^◌, ◌≤◌, ⊤, min, Vec, List, [], ◌∷◌, ◌++◌, length, take, drop}
 use Rattle.std.specs.declared.alloc.Global.{Global}
 use Rattle.odin_outside.specs.Disk.{Pending, IsCrashImage, Torn, Cut, synced_at, wrote, cut_to}
 
@@ -29,6 +29,10 @@ changed Looked image = image
 abbrev pub image_after : List ℕ → List Call → List ℕ
 image_after first [] = first
 image_after first (call ∷ before) = changed call (image_after first before)
+
+-- what a read gave before the newest of them
+abbrev pub image_before : List ℕ → List Call → List ℕ
+image_before first calls = image_after first (drop 1 calls)
 
 -- What is pending after them. A write begins no later than at the end of the file, and a cut leaves no more than there is.
 abbrev pub pending_after : List ℕ → List Call → Pending
@@ -62,6 +66,23 @@ FitsIn Looked image = ⊤
 abbrev pub AreWithin : List ℕ → List Call → Type 0
 AreWithin first [] = ⊤
 AreWithin first (call ∷ before) = FitsIn call (image_after first before) × AreWithin first before
+
+-- how many writes and cuts there were since the last sync
+abbrev pub torn_count : List Call → ℕ
+torn_count [] = 0
+torn_count (Wrote at bytes ∷ before) = torn_count before + 1
+torn_count (WasCut size ∷ before) = torn_count before + 1
+torn_count (Synced ∷ before) = 0
+torn_count (Looked ∷ before) = torn_count before
+
+-- The newest call is a write or a cut, and the number in base 8 has the digit 1 for it, and 0 for each write and cut before it since
+-- the last sync.
+abbrev pub UndoesNewest : ℕ → List Call → Type 0
+UndoesNewest number [] = ⊥
+UndoesNewest number (Wrote at bytes ∷ before) = number ≡ 8 ^ torn_count before
+UndoesNewest number (WasCut size ∷ before) = number ≡ 8 ^ torn_count before
+UndoesNewest number (Synced ∷ before) = ⊥
+UndoesNewest number (Looked ∷ before) = ⊥
 
 -- what a call that is cut short may make of an image
 abbrev pub TornBy : Call → List ℕ → List ℕ → Type 0

@@ -1,11 +1,13 @@
 -- The calls of a file as they are kept: a write by its offset and the number of its bytes, which stand in one list with those of the
 -- other writes.
-use Rattle.std.specs.Prelude.{◌≡◌, ◌⊎◌, ℕ, ◌+◌, List, [], ◌∷◌, ◌++◌, ⊤, Vec, take, drop}
+use Rattle.std.specs.Prelude.{◌≡◌, ◌⊎◌, ℕ, ◌+◌, List, [], ◌∷◌, ◌++◌, ⊤, Vec, take, drop, IsFalse}
 use Rattle.std.specs.declared.alloc.Global.{Global}
+use Rattle.odin_fakes.specs.declared.choice.Choice.{Choice}
 use Rattle.odin_fakes.specs.declared.disk.Entry.{Entry}
 use Rattle.odin_fakes.specs.declared.disk.Entry.TheVariants as entry
 use Rattle.odin_outside.specs.Disk.{IsCrashImage}
-use Rattle.odin_fakes.specs.Calls.{Call, Wrote, WasCut, Synced, Looked, changed, image_after, pending_after, calls_until, FitsIn, LeftWithin}
+use Rattle.odin_fakes.specs.Choices.{Tells, past_digit}
+use Rattle.odin_fakes.specs.Calls.{Call, Wrote, WasCut, Synced, Looked, changed, image_after, image_before, pending_after, UndoesNewest, calls_until, FitsIn, LeftWithin}
 
 -- how many bytes a kept call has in the list
 abbrev pub count_of : Entry → ℕ
@@ -57,6 +59,36 @@ IsPending entry.Look = ⊤
 abbrev pub IsUnfinished : List Entry → List Entry → Type 0
 IsUnfinished entries before = (before ≡ entries) ⊎ (entries ≡ before ++ entry.Sync ∷ [])
 
+-- no call is there, or a sync is the last
+abbrev pub EndsSynced : List Entry → Type 0
+EndsSynced entries = (entries ≡ []) ⊎ ((front : List Entry) × entries ≡ front ++ entry.Sync ∷ [])
+
+-- by a choice this call is done whole, or is a write or a cut of which nothing is done
+abbrev pub DoesWhole : Choice → Entry → Type 0
+DoesWhole choice (entry.Write at n) = Tells 0 choice
+DoesWhole choice (entry.Cut size) = Tells 0 choice
+DoesWhole choice entry.Sync = ⊤
+DoesWhole choice entry.Look = ⊤
+
+abbrev pub DoesNone : Choice → Entry → Type 0
+DoesNone choice (entry.Write at n) = Tells 1 choice
+DoesNone choice (entry.Cut size) = Tells 1 choice
+DoesNone choice entry.Sync = ⊥
+DoesNone choice entry.Look = ⊥
+
+-- the choice for the calls behind it, where it is done whole
+abbrev pub choice_past : Entry → Choice → Choice
+choice_past (entry.Write at n) choice = past_digit choice
+choice_past (entry.Cut size) choice = past_digit choice
+choice_past entry.Sync choice = choice
+choice_past entry.Look choice = choice
+
+-- the last of these calls is undone by a choice, and each before it is done
+abbrev pub UndoesLast : List Entry → Choice → Type 0
+UndoesLast [] choice = ⊥
+UndoesLast (kept ∷ []) choice = DoesNone choice kept
+UndoesLast (kept ∷ next ∷ more) choice = DoesWhole choice kept × UndoesLast (next ∷ more) (choice_past kept choice)
+
 -- A list in memory is what a read gives after these calls, what a crash after them may leave, or what a stop within the last of them may
 -- leave.
 abbrev pub IsImageOf : List ℕ → List Entry → List ℕ → Vec ℕ Global → Type 0
@@ -75,6 +107,21 @@ SeenAt moment first entries written image = image.items ≡ image_after first (c
 abbrev pub StopAt : ℕ → List ℕ → List Entry → List ℕ → Vec ℕ Global → Type 0
 StopAt moment first entries written image = LeftWithin first (calls_until moment (calls_of entries written)) image.items
 
--- what the whole call makes of an image that it fits into
-abbrev pub IsDone : Entry → List ℕ → Vec ℕ Global → Vec ℕ Global → Type 0
-IsDone kept bytes old new = FitsIn (call_of kept bytes) old.items → new.items ≡ changed (call_of kept bytes) old.items
+-- by a choice the newest of the calls is undone, with all before it done
+pub record Undoes (choice : Choice) (calls : List Call) : Type 0 where
+  pub rest : UndoesNewest choice.rest calls
+  pub chance : IsFalse choice.chance
+
+-- Where the choice undoes it, or the last of the calls that are pending, a list in memory is what a read gave before it.
+abbrev pub LeavesOut : Choice → List ℕ → List Entry → List ℕ → Vec ℕ Global → Type 0
+LeavesOut choice first entries written image = Undoes choice (calls_of entries written) → image.items ≡ image_before first (calls_of entries written)
+
+abbrev pub LeavesOutAt : ℕ → Choice → List ℕ → List Entry → List ℕ → Vec ℕ Global → Type 0
+LeavesOutAt moment choice first entries written image = Undoes choice (calls_until moment (calls_of entries written)) → image.items ≡ image_before first (calls_until moment (calls_of entries written))
+
+abbrev pub LeavesOutLast : ℕ → Choice → List ℕ → List Entry → List ℕ → Vec ℕ Global → Type 0
+LeavesOutLast pending choice first entries written image = UndoesLast (drop pending entries) choice → image.items ≡ image_before first (calls_of entries written)
+
+-- what the whole call makes of an image that it fits into, where it is done whole by the choice
+abbrev pub IsDoneBy : Choice → Entry → List ℕ → Vec ℕ Global → Vec ℕ Global → Type 0
+IsDoneBy choice kept bytes old new = DoesWhole choice kept → FitsIn (call_of kept bytes) old.items → new.items ≡ changed (call_of kept bytes) old.items

@@ -4,7 +4,7 @@ use Rattle.odin_outside.specs.Causes.{once_more}
 use Rattle.odin_outside.specs.Disk.{Telling}
 use Rattle.odin_fakes.specs.declared.plan.Failing.{Failing}
 use Rattle.odin_fakes.specs.Plan.{FailsNext, called, failed}
-use Rattle.odin_fakes.specs.Calls.{Call, Wrote, image_after, pending_after, calls_until, LeftSince, LeftWithin, bytes_written}
+use Rattle.odin_fakes.specs.Calls.{Call, Wrote, image_after, image_before, pending_after, calls_until, UndoesNewest, LeftSince, LeftWithin, bytes_written}
 
 -- the image that it was at first, its calls since, the newest first, for how many written bytes and for how many calls there is still
 -- room, and how many calls have failed
@@ -53,6 +53,14 @@ IsLeftAt moment file image = LeftWithin file.first (calls_until moment file.call
 
 abbrev pub IsSeenAt : ℕ → File → List ℕ → Type 0
 IsSeenAt moment file image = image ≡ image_after file.first (calls_until moment file.calls)
+
+-- By this number the newest call at that stop is a write or a cut that is undone, with all before it done; the image is what a read gave
+-- before it.
+abbrev pub UndoesAt : ℕ → ℕ → File → Type 0
+UndoesAt choice moment file = UndoesNewest choice (calls_until moment file.calls)
+
+abbrev pub IsUndoneAt : ℕ → File → List ℕ → Type 0
+IsUndoneAt moment file image = image ≡ image_before file.first (calls_until moment file.calls)
 
 -- what it tells
 abbrev pub told_of : File → Telling

@@ -84,7 +84,7 @@ pub fn overwrite(image: &mut Vec<u8>, start: usize, bytes: &[u8]) -> Result<(), 
 }
 
 impl MemDisk {
-    ghost use Rattle.odin_fakes.specs.File.{new_file, image_of, after_call, refused, IsLeftAt, IsSeenAt};
+    ghost use Rattle.odin_fakes.specs.File.{new_file, image_of, after_call, refused, IsLeftAt, IsSeenAt, IsUndoneAt, UndoesAt};
     ghost use Rattle.odin_fakes.specs.Entries.{IsPlain, call_of};
 
     /// A file with these bytes, and room for so many bytes to be written in all and for so many calls.
@@ -123,12 +123,14 @@ impl MemDisk {
     }
 
     /// What a stop within a call may leave, by its number; 0 is the time before the first. The digits of the choice in base 8, from
-    /// the last one on, say of one write or cut after the other how it is torn, from the oldest since the last sync on: 0 not at all, 7
-    /// and all after it by chance. So 0 picks what a read gives after the call.
+    /// the last one on, say of one write or cut after the other how it is torn, from the oldest since the last sync on: 0 not at all, 1
+    /// nothing of it is done, 7 and all after it by chance. So 0 picks what a read gives after the call, and where the call is a write or
+    /// a cut, the digit 1 behind as many 0 as there were such calls since the sync before it picks what a read gave before the call.
     pub fn crash(&self, alloc: Global, moment: u32, choice: u64) -> Result<Bytes, Memory>
         requires { moment ≤ length self.now.calls }
         ensures left { IfOk result (IsLeftAt moment self.now) }
         ensures whole { choice ≡ 0 → IfOk result (IsSeenAt moment self.now) }
+        ensures none { UndoesAt choice moment self.now → IfOk result (IsUndoneAt moment self.now) }
     {
         let image = stopped(
             alloc,

@@ -2,7 +2,7 @@
 ghost use Rattle.std.specs.Prelude.{◌≡◌, ◌≤◌, All, length, take, drop, IfOk, OnOk};
 ghost use Rattle.odin_fakes.specs.Calls.{AreWithin, TornBy};
 ghost use Rattle.odin_fakes.specs.Choices.{IsWhole};
-ghost use Rattle.odin_fakes.specs.Entries.{IsCrashOf, IsDone, IsImageOf, IsPending, IsStopOf, IsUnfinished, SeenAt, StopAt, call_of, count_of, calls_of};
+ghost use Rattle.odin_fakes.specs.Entries.{DoesNone, DoesWhole, EndsSynced, IsCrashOf, IsDoneBy, IsImageOf, IsPending, IsStopOf, IsUnfinished, LeavesOut, LeavesOutAt, LeavesOutLast, SeenAt, StopAt, call_of, choice_past, count_of, calls_of};
 
 use crate::choice::Choice;
 use crate::disk::Entry;
@@ -38,8 +38,9 @@ fn tear(
     choice: &mut Choice,
 ) -> Result<(), Memory>
     ensures torn { OnOk result (TornBy (call_of entry bytes.now) image.old.items image.new.items) }
-    ensures whole { IsWhole choice.old → OnOk result (IsDone entry bytes.now image.old image.new) }
-    ensures stays { IsWhole choice.old → IsWhole choice.new }
+    ensures whole { OnOk result (IsDoneBy choice.old entry bytes.now image.old image.new) }
+    ensures none { DoesNone choice.old entry → OnOk result (image.new.items ≡ image.old.items) }
+    ensures past { DoesWhole choice.old entry → choice.new ≡ choice_past entry choice.old }
 {
     match entry {
         Entry::Write(start, _) => tear_write(alloc, image, start as usize, bytes, earlier, choice),
@@ -61,6 +62,7 @@ fn torn(
     requires unsynced { All IsPending (drop pending entries.now) }
     ensures left { IfOk result (IsCrashOf first.now entries.now written.now) }
     ensures whole { IsWhole choice → IfOk result (IsImageOf first.now entries.now written.now) }
+    ensures none { IfOk result (LeavesOutLast pending choice first.now entries.now written.now) }
 {
     let mut choice = choice;
     let mut whole = Choice::new(0);
@@ -81,7 +83,8 @@ fn torn(
 
 // The place behind the last sync.
 fn pending_from(entries: &[Entry]) -> usize
-    ensures { All IsPending (drop result entries.now) }
+    ensures unsynced { All IsPending (drop result entries.now) }
+    ensures synced { EndsSynced (take result entries.now) }
 {
     let mut place = entries.len();
     while place > 0 {
@@ -114,6 +117,7 @@ fn within_last(
     requires { AreWithin first.now (calls_of entries.now written.now) }
     ensures left { IfOk result (IsStopOf first.now entries.now written.now) }
     ensures whole { IsWhole choice → IfOk result (IsImageOf first.now entries.now written.now) }
+    ensures none { IfOk result (LeavesOut choice first.now entries.now written.now) }
 {
     let before = unfinished(entries);
     torn(alloc, first, before, written, pending_from(before), choice)
@@ -132,6 +136,7 @@ pub fn stopped(
     requires moment { moment ≤ length entries.now }
     ensures left { IfOk result (StopAt moment first.now entries.now written.now) }
     ensures whole { IsWhole choice → IfOk result (SeenAt moment first.now entries.now written.now) }
+    ensures none { IfOk result (LeavesOutAt moment choice first.now entries.now written.now) }
 {
     within_last(alloc, first, &entries[..moment], written, choice)
 }

@@ -1,6 +1,7 @@
 use Rattle.std.proofs.Common.{List, IfOk, sym, subst}
-use Rattle.odin_fakes.specs.Calls.{Call, image_after, LeftWithin}
+use Rattle.odin_fakes.specs.Calls.{Call, image_after, image_before, LeftWithin}
 use Rattle.std.proofs.Common.{◌≡◌}
+use Rattle.odin_fakes.specs.Entries.{Undoes}
 use Rattle.odin_fakes.proofs.Replaying.{until_front, within_front}
 use Rattle.odin_fakes.proofs.replay.stopped.Goals as goal
 
@@ -16,3 +17,8 @@ pub returns-clause-whole : goal.returns-clause-whole
 returns-clause-whole c =
     let whole : List Call → Type 0 = λ calls. IfOk c.within_last.result (λ image. image.items ≡ image_after c.args.first.now calls) in
     λ is. subst whole (sym (until_front c.args.entries.now c.args.written.now c.args.moment c.requires.moment)) (c.within_last.ensures.whole is)
+
+pub returns-clause-none : goal.returns-clause-none
+returns-clause-none c =
+    let none : List Call → Type 0 = λ calls. IfOk c.within_last.result (λ image. Undoes c.args.choice calls → image.items ≡ image_before c.args.first.now calls) in
+    subst none (sym (until_front c.args.entries.now c.args.written.now c.args.moment c.requires.moment)) c.within_last.ensures.none

@@ -1,8 +1,9 @@
-use Rattle.std.proofs.Common.{◌≡◌, ◌≤◌, ◌⊎◌, take}
+use Rattle.std.proofs.Common.{◌≡◌, ◌≤◌, ◌⊎◌, take, drop}
 use Rattle.odin_outside.specs.Disk.{IsCrashImage}
 use Rattle.odin_fakes.specs.Calls.{image_after, pending_after}
 use Rattle.odin_fakes.specs.Choices.{IsWhole}
-use Rattle.odin_fakes.specs.Entries.{calls_of, bytes_left}
+use Rattle.odin_fakes.specs.Entries.{calls_of, bytes_left, UndoesLast}
+use Rattle.odin_fakes.proofs.Undoing.{UndoesSoFar}
 use Rattle.odin_fakes.proofs.replay.torn.Given as goal
 
 abbrev pub invariant-loop-place : goal.invariant-loop-place
@@ -12,3 +13,5 @@ invariant-loop-place l =
     × (IsWhole l.fn.choice → IsWhole l.choice)
     × IsCrashImage (pending_after l.first (calls_of (take l.place l.entries) l.written)) l.image.items
     × ((l.place ≤ l.pending) ⊎ IsWhole l.fn.choice → l.image.items ≡ image_after l.first (calls_of (take l.place l.entries) l.written))
+    × (l.place ≤ l.pending → l.choice ≡ l.fn.choice)
+    × (UndoesLast (drop l.pending l.entries) l.fn.choice → UndoesSoFar l.first l.entries l.written l.pending l.place l.choice l.image.items)

@@ -1,6 +1,7 @@
 use Rattle.std.proofs.Common.{◌∙◌}
 use Rattle.std.proofs.lemmas.Result.{IfOk-weaker}
 use Rattle.odin_fakes.proofs.Replaying.{last_within, last_left, last_image}
+use Rattle.odin_fakes.proofs.Undoing.{last_out}
 use Rattle.odin_fakes.proofs.replay.within_last.Goals as goal
 
 pub torn-requires-clause-within : goal.torn-requires-clause-within
@@ -11,3 +12,6 @@ returns-clause-left c = IfOk-weaker c.torn.result _ _ (λ image left. last_left 
 
 pub returns-clause-whole : goal.returns-clause-whole
 returns-clause-whole c = λ whole. IfOk-weaker c.torn.result _ _ (λ image is. is ∙ last_image c.args.first.now c.args.entries.now c.unfinished-before.result.now c.args.written.now c.unfinished-before.ensures) (c.torn.ensures.whole whole)
+
+pub returns-clause-none : goal.returns-clause-none
+returns-clause-none c = IfOk-weaker c.torn.result _ _ (λ image last undoes. last_out c.args.first.now c.args.entries.now c.unfinished-before.result.now c.args.written.now c.pending_from.result c.args.choice image c.unfinished-before.ensures c.pending_from.ensures.synced c.pending_from.ensures.unsynced last undoes) c.torn.ensures.none
