@@ -1,5 +1,5 @@
 -- What calls on a disk leave of it.
-use Rattle.std.specs.Prelude.{◌≡◌, ℕ, max, ◌+◌, ◌<◌, ◌≤◌, IsTrue, IsFalse, List, length, slice_range}
+use Rattle.std.specs.Prelude.{◌≡◌, ℕ, max, ◌+◌, ◌<◌, ◌≤◌, IsTrue, IsFalse, List, length, slice_range, Result, OnOk}
 use Rattle.odin_outside.specs.Disk.{Telling, LeavesOnly, IsQuiet, Written, Torn}
 use Rattle.odin_outside.specs.Worked.{WorkedWithin}
 use Rattle.meaning_store.specs.Front.{file_limit}
@@ -55,6 +55,11 @@ IsTooLong image at = (file_limit < length image) × (at ≡ 0)
 -- a disk on which nothing is pending is left untouched
 abbrev pub StaysQuiet : Telling → Telling → Type 0
 StaysQuiet old new = IsQuiet old → Untouched old new
+
+-- What a reading leaves: a disk on which nothing is pending untouched, and, where it succeeded, the size as it was.
+pub record IsOnlyRead {T E : Type 0} (old new : Telling) (before now : ℕ) (result : Result T E) : Type 0 where
+  pub untouched : StaysQuiet old new
+  pub size : OnOk result (now ≡ before)
 
 -- so many bytes of what a read gives, where nothing is pending
 abbrev pub IsRangeOf : Telling → ℕ → ℕ → List ℕ → Type 0

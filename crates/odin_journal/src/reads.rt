@@ -1,10 +1,10 @@
 // The reading of an existing store file.
-ghost use Rattle.std.specs.Prelude.{◌≡◌, ◌+◌, ◌*◌, ◌<◌, ◌≤◌, length, OnOk, IfOk, IfErr, IfSome, IfNone};
+ghost use Rattle.std.specs.Prelude.{◌≡◌, ◌+◌, ◌*◌, ◌<◌, ◌≤◌, length, IfOk, IfErr, IfSome, IfNone};
 ghost use Rattle.meaning_store.specs.Front.{front_size, start_of};
 ghost use Rattle.meaning_store.specs.Images.{behind};
 ghost use Rattle.odin_journal.specs.Faults.{IsCause, IsReadFault, nowhere};
 ghost use Rattle.odin_journal.specs.Marks.{HasMarks};
-ghost use Rattle.odin_journal.specs.Moments.{IsPlace, IsRangeOf, StaysQuiet, Works};
+ghost use Rattle.odin_journal.specs.Moments.{IsOnlyRead, IsPlace, IsRangeOf, Works};
 ghost use Rattle.odin_journal.specs.Reads.{BreaksFrom, BreaksHere, BreaksStore, HasNoFront, HasRecord, HasRecords, HasStart, HasStore, IsShut};
 
 use crate::fault::JournalFault;
@@ -25,8 +25,8 @@ pub fn read_bytes<D: Disk>(
     requires { at + count ≤ D.size_of disk.old }
     ensures bytes { IfOk result (IsRangeOf (D.told disk.old) at count) }
     ensures length { IfOk result (λ bytes. length bytes ≡ count) }
-    ensures untouched { StaysQuiet (D.told disk.old) (D.told disk.new) }
-    ensures size { OnOk result (D.size_of disk.new ≡ D.size_of disk.old) }
+    ensures left { IsOnlyRead (D.told disk.old) (D.told disk.new)
+        (D.size_of disk.old) (D.size_of disk.new) result }
     ensures err { IfErr result (IsReadFault nowhere) }
     ensures works { Works 0 1 (D.told disk.old) (D.told disk.new) }
     ensures cause { IsCause (D.faults disk.old) (D.faults disk.new) result }
@@ -47,8 +47,8 @@ pub fn read_record<D: Disk>(
     ensures some { IfOk result (λ read. IfSome read (HasRecord (D.told disk.old) size gate)) }
     ensures room { IfOk result (λ read. IfSome read (λ payload. behind gate payload < size)) }
     ensures none { IfOk result (λ read. IfNone read (IsShut (D.told disk.old) size gate)) }
-    ensures untouched { StaysQuiet (D.told disk.old) (D.told disk.new) }
-    ensures size { OnOk result (D.size_of disk.new ≡ D.size_of disk.old) }
+    ensures left { IsOnlyRead (D.told disk.old) (D.told disk.new)
+        (D.size_of disk.old) (D.size_of disk.new) result }
     ensures err { IfErr result (IsReadFault (BreaksHere (D.told disk.old) size gate)) }
     ensures works { Works 0 2 (D.told disk.old) (D.told disk.new) }
     ensures cause { IsCause (D.faults disk.old) (D.faults disk.new) result }
@@ -79,8 +79,8 @@ pub fn read_records<D: Disk>(
     ensures whole { IfOk result (HasRecords (D.told disk.old) size start) }
     ensures closed { IfOk result (λ read. IsShut (D.told disk.old) size read.0) }
     ensures inside { IfOk result (λ read. read.0 < size) }
-    ensures untouched { StaysQuiet (D.told disk.old) (D.told disk.new) }
-    ensures size { OnOk result (D.size_of disk.new ≡ D.size_of disk.old) }
+    ensures left { IsOnlyRead (D.told disk.old) (D.told disk.new)
+        (D.size_of disk.old) (D.size_of disk.new) result }
     ensures err { IfErr result (IsReadFault (BreaksFrom (D.told disk.old) size start)) }
     ensures works { IfOk result (λ read.
         Works 0 (2 * length read.1 + 2) (D.told disk.old) (D.told disk.new)) }
@@ -105,8 +105,8 @@ pub fn read_start<D: Disk>(
     ensures some { IfOk result (λ read. IfSome read (HasStart (D.told disk.old) size)) }
     ensures inside { IfOk result (λ read. IfSome read (λ start. start < size)) }
     ensures none { IfOk result (λ read. IfNone read (HasNoFront (D.told disk.old) size)) }
-    ensures untouched { StaysQuiet (D.told disk.old) (D.told disk.new) }
-    ensures size { OnOk result (D.size_of disk.new ≡ D.size_of disk.old) }
+    ensures left { IsOnlyRead (D.told disk.old) (D.told disk.new)
+        (D.size_of disk.old) (D.size_of disk.new) result }
     ensures err { IfErr result (IsReadFault nowhere) }
     ensures works { Works 0 1 (D.told disk.old) (D.told disk.new) }
     ensures cause { IsCause (D.faults disk.old) (D.faults disk.new) result }
@@ -152,8 +152,8 @@ pub fn read_store<D: Disk>(
     requires { size ≡ D.size_of disk.old }
     ensures store { IfOk result (HasStore (D.told disk.old) size) }
     ensures inside { IfOk result (λ read. read.0 < size) }
-    ensures untouched { StaysQuiet (D.told disk.old) (D.told disk.new) }
-    ensures size { OnOk result (D.size_of disk.new ≡ D.size_of disk.old) }
+    ensures left { IsOnlyRead (D.told disk.old) (D.told disk.new)
+        (D.size_of disk.old) (D.size_of disk.new) result }
     ensures err { IfErr result (IsReadFault (BreaksStore (D.told disk.old) size)) }
     ensures works { IfOk result (λ read.
         Works 0 (2 * length read.1 + 3) (D.told disk.old) (D.told disk.new)) }

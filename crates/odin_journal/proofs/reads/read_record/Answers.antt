@@ -19,7 +19,7 @@ returns-then-size-gate-clause-err g c = (
 pub returns-clause-some : goal.returns-clause-some
 returns-clause-some g c quiet =
     let image = (g.D.Disk.told c.args.disk.now).seen in
-    let untouched = c.read_bytes.ensures.untouched quiet.quiet in
+    let untouched = c.read_bytes.ensures.left.untouched quiet.quiet in
     let head : Head image c.as_slice-bytes.result.now c.args.gate c.min.result = record { read = c.as_slice-bytes.ensures ∙ c.in_ok-head.ensures.bytes quiet.quiet; within = omega (arith, quiet.long, c.min.ensures); one = omega arith } in
     let field = subst (λ end. IsFieldAt c.as_slice-bytes.result.now 1 end (u32_field c.in-Some.length)) c.in-Some.ensures.end c.in-Some.ensures.some in
     record_read image _ c.in_ok-read_bytes.field-0 c.args.gate c.min.result c.in-Some.length head field c.in-Some.ensures.fits (omega (arith, quiet.long))

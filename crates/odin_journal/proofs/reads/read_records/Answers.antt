@@ -14,14 +14,14 @@ gates-preserved g c =
     let some = rw c.in-Some.is at c.in_ok-payload.ensures.some in
     let gate_is : behind c.gates.gate payload ≡ c.gates.gate + (5 + c.len.result) = omega (arith, c.len.ensures) in
     let records_are : c.push.new.self ≡ c.gates.records ++ payload ∷ [] = c.in_ok-push.ensures.ok in
-    let size_is = c.in_ok-payload.ensures.size in
+    let size_is = c.in_ok-payload.ensures.left.size in
     record {
       inside = omega (arith, room);
       size = c.gates.invariant.size ∙ sym size_is;
       same = size_is ∙ c.gates.invariant.same;
       untouched = λ quiet.
           let first = c.gates.invariant.untouched quiet in
-          untouched_on old mid (g.D.Disk.told c.read_record.new.disk) first (c.read_record.ensures.untouched first.quiet);
+          untouched_on old mid (g.D.Disk.told c.read_record.new.disk) first (c.read_record.ensures.left.untouched first.quiet);
       whole = λ quiet.
           let first = c.gates.invariant.untouched quiet.quiet in
           let there = some (record { quiet = first.quiet; long = ap length first.same ∙ quiet.long }) in

@@ -17,7 +17,7 @@ returns-clause-store g c =
     (λ read. IsQuietAt mid size → IsClosed mid.seen read.0)
     (λ read. IsQuietAt old size → IsWritten old.seen → IsStore old.seen read.1 read.0)
     (λ read whole closed quiet written.
-    let untouched = c.read_start.ensures.untouched quiet.quiet in
+    let untouched = c.read_start.ensures.left.untouched quiet.quiet in
     let there = quiet_on old mid size untouched quiet in
     store_from old.seen start read.0 read.1 written (front quiet).0 (front quiet).1 (subst (λ image. AreRecords image start read.1 read.0) untouched.same (whole there)) (subst (λ image. IsClosed image read.0) untouched.same (closed there)))
     c.read_records.ensures.whole c.read_records.ensures.closed
@@ -31,6 +31,6 @@ returns-clause-err g c =
     let front = rw c.in-Some.is at c.in_ok-start.ensures.some in
     faults_from (λ at. IsQuietAt mid size → BreaksBehind mid.seen start at) (λ at. IsQuietAt old size → IsWritten old.seen → NotOurs old.seen at) c.read_records.result
     (λ at breaks quiet written.
-    let untouched = c.read_start.ensures.untouched quiet.quiet in
+    let untouched = c.read_start.ensures.left.untouched quiet.quiet in
     breaks_from old.seen start at written (front quiet).0 (front quiet).1 (subst (λ image. BreaksBehind image start at) untouched.same (breaks (quiet_on old mid size untouched quiet))))
     c.read_records.ensures.err

@@ -34,7 +34,7 @@ returns-in_err-end-clause-refused g c =
     (λ at told quiet.
     let again = look_again old mid looked c.look.ensures.untouched c.in_ok-looked.ensures.look c.if-looked.false quiet in
     subst (λ image. NotOurs image at) (c.look.ensures.untouched quiet).same (told again.0 again.1))
-    (λ quiet. untouched_on old mid new (c.look.ensures.untouched quiet) (c.read_store.ensures.untouched (c.look.ensures.untouched quiet).quiet))
+    (λ quiet. untouched_on old mid new (c.look.ensures.untouched quiet) (c.read_store.ensures.left.untouched (c.look.ensures.untouched quiet).quiet))
     c.in_err-end.ensures.err)
 
 pub returns-clause-any_moment : goal.returns-clause-any_moment
@@ -42,4 +42,4 @@ returns-clause-any_moment g c =
     let old = g.D.Disk.told c.args.disk.now in
     let mid = g.D.Disk.told c.look.new.disk in
     let new = g.D.Disk.told c.read_store.new.disk in
-    keeps_untouched old new (λ quiet. untouched_on old mid new (c.look.ensures.untouched quiet) (c.read_store.ensures.untouched (c.look.ensures.untouched quiet).quiet))
+    keeps_untouched old new (λ quiet. untouched_on old mid new (c.look.ensures.untouched quiet) (c.read_store.ensures.left.untouched (c.look.ensures.untouched quiet).quiet))
