@@ -11,6 +11,7 @@ mod CloseCases
 mod SeenCases
 mod HeightLemmas
 mod FallLemmas
+mod AheadLemmas
 mod VisitLemmas
 mod RoundLemmas
 mod DownLemmas

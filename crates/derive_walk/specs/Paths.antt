@@ -6,7 +6,9 @@ use Rattle.meaning_texts.specs.Lists.{IsIn}
 use Rattle.meaning_nodes.specs.Nodes.{Fits}
 use Rattle.meaning_tasks.specs.Needs.{Needs}
 use Rattle.meaning_derive.specs.Chains.{Chain, AreDifferent}
+use Rattle.node_tasks.specs.declared.ahead.Ahead.{Ahead}
 use Rattle.node_tasks.specs.declared.needed.Needed.{Needed}
+use Rattle.node_tasks.specs.Ahead.{IsAhead}
 use Rattle.node_tasks.specs.Needed.{IsNeeded}
 use Rattle.walk_tables.specs.Tables.{results_of, are_done, top_of}
 use Rattle.walk_tables.specs.declared.found.Found.{Found}
@@ -78,6 +80,19 @@ pub record IsClosing (w : World) (walk : Walk) (n : Node) (needed : Needed)
   pub done : are_done walk.done needs ≡ true
   pub above : height ≡ top_of (heights_in walk) needs + 1
   pub high : height ≤ height_limit
+
+-- ---- following lines
+
+-- What the node was told ahead are lines by the results so far.
+abbrev pub IsAheadIn : World → Walk → Node → Ahead → Type 0
+IsAheadIn w walk n ahead = IsAhead w.graph n (results_of walk.done) ahead
+
+-- A need of the node that was not visited.
+pub record IsUnvisited (w : World) (walk : Walk) (n m : Node) : Type 0 where
+  pub need : IsNeedIn w n m
+  pub unseen : heights_in walk m ≡ None
+
+-- ---- the root
 
 -- after a walk from the root there is a result, or the root waits
 abbrev pub AfterRoot : World → Walk → Option Found → Type 0

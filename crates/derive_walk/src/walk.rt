@@ -1,6 +1,7 @@
 // A walk from the root along needs to the node that is visited.
+use node_tasks::Visited;
 use object_values::{Node, Seq};
-use walk_tables::{Heights, Table, Wanted};
+use walk_tables::{Heights, Table, Wanted, height_of};
 
 /// The nodes with results and the wanted calls stay from one advance to the next; what waits and
 /// the path are of one advance.
@@ -26,5 +27,16 @@ impl Drop for Walk {
         drop(wanted);
         drop(waiting);
         drop(path);
+    }
+}
+
+impl Visited for Walk {
+    ghost use Rattle.std.specs.Prelude.{is_some};
+    ghost use Rattle.derive_walk.specs.States.{heights_in};
+
+    ghost visited = { λ walk n. is_some (heights_in walk n) };
+
+    fn has(&self, node: &Node) -> bool {
+        height_of(&self.done, &self.waiting, node).is_some()
     }
 }

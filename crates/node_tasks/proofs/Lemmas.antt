@@ -8,6 +8,8 @@ use Rattle.task_needs.specs.Counting.{nodes_in}
 use Rattle.node_tasks.specs.declared.needed.Needed.{Needed}
 use Rattle.node_tasks.specs.Needed.{IsNeeded}
 use Rattle.node_tasks.proofs.NeedLemmas.{needs_are}
+-- What was told ahead, as results are added.
+pub use Rattle.node_tasks.proofs.AheadLemmas.{ahead_stays}
 
 -- the needs one by one, for whom they were found
 abbrev pub needs_in : Results → Needed → List Node

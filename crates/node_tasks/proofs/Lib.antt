@@ -5,5 +5,6 @@ mod TaskLemmas
 mod NeedLemmas
 mod NameLemmas
 mod ListedLemmas
+mod AheadLemmas
 mod SettleLemmas
 pub mod Lemmas

@@ -3,3 +3,4 @@ pub mod Reading
 pub mod Settling
 pub mod Calling
 pub mod Needed
+pub mod Ahead

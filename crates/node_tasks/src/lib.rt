@@ -1,6 +1,7 @@
 //! What a node needs, which tool it runs, and what it settles to: for every graph.
 #![tactic(auto)]
 
+mod ahead;
 mod base;
 mod calling;
 mod each;
@@ -20,6 +21,7 @@ mod stepping;
 mod task;
 mod tool;
 
+pub use ahead::{Ahead, Visited};
 pub use calling::call_for;
 pub use needed::{Needed, needs};
 pub use settling::{Settled, settle, settle_whole};

@@ -5,4 +5,4 @@ mod lines;
 mod scans;
 
 pub use lines::told_lines;
-pub use scans::{put_reached_scan, put_scan};
+pub use scans::{put_reached_scan, put_scan, scan_node};

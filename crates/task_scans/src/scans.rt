@@ -58,9 +58,9 @@ pub fn put_scan(
     Ok(())
 }
 
-// The scan node of a name for a tool of the node. `None` where the tool has no scan type, or where
-// no path leads from the name to it.
-pub(crate) fn scan_node(
+/// The scan node of a name for a tool of the node. `None` where the tool has no scan type, or where
+/// no path leads from the name to it.
+pub fn scan_node(
     alloc: Global,
     graph: &Graph,
     plans: &Plans,

@@ -2,6 +2,7 @@ use Rattle.std.proofs.Common.{◌≡◌, ◌-◌, length, drop}
 use Rattle.derive_walk.specs.Looks.{AreFew, met_in}
 use Rattle.derive_walk.specs.Settings.{world_in}
 use Rattle.derive_walk.specs.States.{heights_in}
+use Rattle.derive_walk.specs.Paths.{IsAheadIn}
 use Rattle.derive_walk.proofs.HeightLemmas.{unseen_count}
 use Rattle.derive_walk.proofs.FallLemmas.{needs_in}
 use Rattle.derive_walk.proofs.VisitLemmas.{SoFar}
@@ -14,6 +15,7 @@ decreases-visit g l = 64 - length l.walk.now.path
 abbrev pub invariant-rounds : goal.invariant-rounds
 invariant-rounds g l = record {
   so : SoFar (world_in g.K.Known.kept l.setting) l.fn.walk l.walk l.node;
+  ahead : IsAheadIn (world_in g.K.Known.kept l.setting) l.walk l.node l.ahead;
   length : l.length ≡ length l.fn.walk.path;
   counted : AreFew (met_in l.fn.walk) (met_in l.walk) l.fn.steps l.steps 0;
 }
@@ -24,5 +26,6 @@ decreases-rounds g l = unseen_count (heights_in l.walk) (needs_in (world_in g.K.
 abbrev pub invariant-loop-need : goal.invariant-loop-need
 invariant-loop-need g l = record {
   round : InRound (world_in g.K.Known.kept l.setting) l.fn.walk l.initial.walk l.walk l.node l.unvisited (drop l.need-index l.unvisited);
+  ahead : IsAheadIn (world_in g.K.Known.kept l.setting) l.walk l.node l.ahead;
   counted : AreFew (met_in l.fn.walk) (met_in l.walk) l.fn.steps l.steps 0;
 }
