@@ -76,7 +76,7 @@ passes_with g start steps opened stops =
     let all : Stops told_of_disk (made ++ last) start.store start.disk stops.new.disk =
     stops_behind told_of_disk made last start.store stops.mid.store start.disk stops.mid.disk stops.new.disk
     (serves_goes g start stops.served stops.answers stops.mid stops.serves) (step_begins g stops.step stops.mid stops.new stops.fails) in
-    let begun : HasBegun (made ++ last) start.store (told_of_disk start.disk) (told_of_disk stops.new.disk) (Some graph_text) = all.begun (opens.records ++ opens.opening) (Some graph_text) opens.on in
+    let begun : HasBegun told_of_disk (made ++ last) start.store start.disk stops.new.disk (Some graph_text) = all.begun (opens.records ++ opens.opening) (Some graph_text) opens.on in
     let more = begun.payloads ++ begun.begun in
     record {
       made = begun.made;

@@ -1,5 +1,5 @@
 -- Sessions of a load: what one step and many steps make of them.
-use Rattle.std.proofs.Common.{◌≡◌, ◌≢◌, ℕ, ◌+◌, ◌-◌, ◌≤◌, ◌<◌, ◌^◌, Bool, List, [], ◌∷◌, ◌++◌, length, sym, ap, ◌∙◌, subst, refl, arith, inl, inr}
+use Rattle.std.proofs.Common.{◌≡◌, ◌≢◌, ℕ, ◌+◌, ◌-◌, ◌≤◌, ◌<◌, ◌^◌, Bool, true, false, cond, List, [], ◌∷◌, ◌++◌, length, sym, ap, ◌∙◌, subst, refl, arith, inl, inr}
 use Rattle.std.proofs.Math.Path.{subst₂}
 use Rattle.std.specs.Prelude.{Result, IfErr}
 use Rattle.std.specs.Result.{IsErrAnd}
@@ -42,6 +42,11 @@ at_stop r s Q is q =
 calls_behind : (old new : Session) (given : Calls) (reply : Reply) → HasAnswered old.engine.graph (moment old) given reply (moment new) → calls_in new ≡ calls_in old ++ given
 calls_behind old new given reply has = ap (λ (h : held.Held). h.calls) has.goes.holds ∙ keeps_calls given (held_in old.engine.store)
 
+-- an edit raises the epoch by one at most
+one_edit : (changed : Bool) (before now : ℕ) → now ≡ before + cond changed 1 0 → now ≤ before + 1
+one_edit true before now is = omega (arith, is)
+one_edit false before now is = omega (arith, is)
+
 pub put_served : (old new : Session) (name text name' text' : Text) (changed : Bool) → name' ≡ name → text' ≡ text
     → HasPut told_of_disk name' text' old.engine.store new.engine.store old.disk new.disk changed → Stays old.engine new.engine → new.tools ≡ old.tools
     → IsReady new.engine.store.journal (length (image_of new.disk.file)) → IsAtRest old → HasServed old (puts name text ∷ []) [] new
@@ -56,7 +61,7 @@ put_served old new name text name' text' changed name_is text_is has stays same 
         idle = record { ready = ready; none = ap (λ (t : tools.Tools). t.running) same ∙ rests.idle.none };
         counted = ap (λ (t : tools.Tools). t.starts) same ∙ rests.counted ∙ ap length (sym (put_calls name text old.engine.store new.engine.store old.disk new.disk changed put_is));
       };
-      epoch = has.epoch;
+      epoch = one_edit changed old.engine.store.epoch new.engine.store.epoch has.epoch;
     }
 
 -- The answer for what was replied: none of such tools is refused a start.

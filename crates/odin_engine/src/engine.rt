@@ -4,8 +4,8 @@ ghost use Rattle.path_planner.specs.Ends.{plans_of};
 ghost use Rattle.odin_journal.specs.Faults.{IsCause};
 ghost use Rattle.odin_journal.specs.Moments.{Works};
 ghost use Rattle.odin_store.specs.Held.{puts, drops};
-ghost use Rattle.odin_store.specs.OnDisk.{IsLeft, IsOpen, WorksOnce};
-ghost use Rattle.odin_store.specs.Opening.{graph_record, IsOpenFault, LeavesHeld, OpensQuiet};
+ghost use Rattle.odin_store.specs.OnDisk.{BeginsOnce, IsLeft, IsOpen};
+ghost use Rattle.odin_store.specs.Opening.{graph_record, IsOpenFault, LeavesOpening, OpensQuiet};
 ghost use Rattle.odin_store.specs.Changes.{DropBatch, MayPut, PutBatch};
 ghost use Rattle.odin_store.specs.Edited.{HasFailed, HasPut, HasDropped};
 ghost use Rattle.odin_engine.specs.Asked.{IsNodeOf, IsRefusedFor};
@@ -78,7 +78,7 @@ impl Engine {
         ensures opened { IfOk result (λ engine.
             OpensQuiet text.now (D.told disk.old) (D.told disk.new) engine.store) }
         ensures new { IfOk result (IsNew graph jobs (D.size_of disk.new)) }
-        ensures any_moment { LeavesHeld (D.told disk.old) (D.told disk.new) }
+        ensures any_moment { LeavesOpening text.now (D.told disk.old) (D.told disk.new) }
         ensures refused { IfErr result
             (IsOpenFault text.now (D.told disk.old) (D.told disk.new)) }
         ensures works { D.size_of disk.old ≡ 0
@@ -110,7 +110,7 @@ impl Engine {
             self.old.store self.new.store disk.old disk.new) }
         ensures stays { Stays self.old self.new }
         ensures left { IsLeft self.new.store (D.size_of disk.new) result }
-        ensures works { WorksOnce (PutBatch self.old.store name.now text.now)
+        ensures begins { BeginsOnce (PutBatch self.old.store name.now text.now) self.old.store
             (D.told disk.old) (D.told disk.new) }
         ensures cause { IsCause (D.faults disk.old) (D.faults disk.new) result }
     {
@@ -132,7 +132,8 @@ impl Engine {
             self.old.store self.new.store disk.old disk.new) }
         ensures stays { Stays self.old self.new }
         ensures left { IsLeft self.new.store (D.size_of disk.new) result }
-        ensures works { WorksOnce (DropBatch name.now) (D.told disk.old) (D.told disk.new) }
+        ensures begins { BeginsOnce (DropBatch name.now) self.old.store
+            (D.told disk.old) (D.told disk.new) }
         ensures cause { IsCause (D.faults disk.old) (D.faults disk.new) result }
     {
         edits_are_told::<D>();

@@ -1,5 +1,7 @@
 -- One command, by what the call for it answers.
-use Rattle.std.proofs.Common.{◌≡◌, List, ℕ, Result, Ok, Err, IfOk, OnOk, IfErr, sym, refl, subst}
+use Rattle.std.proofs.Common.{◌≡◌, ◌≤◌, List, [], ◌∷◌, ℕ, Bool, true, false, cond, length, Option, Some, None, Result, Ok, Err, IfOk, OnOk, IfErr, sym, refl, subst, arith}
+use Rattle.std.specs.Str.{bytes_eq}
+use Rattle.std.specs.FinMap.{get}
 use Rattle.object_sources.specs.Texts.{Text}
 use Rattle.odin_outside.specs.Spawned.{Spawned}
 use Rattle.meaning_graph.specs.Graphs.{Graph}
@@ -10,17 +12,37 @@ use Rattle.odin_journal.specs.Faults.{IsCause}
 use Rattle.odin_journal.specs.declared.fault.JournalFault.{JournalFault}
 use Rattle.odin_journal.specs.declared.fault.JournalFault.TheVariants as fault
 use Rattle.odin_journal.specs.Rest.{IsReady}
-use Rattle.odin_store.specs.Held.{drops}
+use Rattle.odin_store.specs.Held.{puts, drops}
 use Rattle.odin_store.specs.OnDisk.{IsLeft}
 use Rattle.odin_store.specs.Edited.{HasFailed}
 use Rattle.odin_engine.specs.Engaged.{Engaged, Stays}
 use Rattle.source_edits.specs.Edits.{Says, TreeTold, IsAsked, Puts, Takes, Removes}
-use Rattle.source_edits.specs.Changes.{EditsSource, IsPut, MayBeTaken, HasFailedToPut}
+use Rattle.source_edits.specs.Changes.{source_changes, EditsSource, IsPut, MayBeTaken, HasFailedToPut}
 use Rattle.odin_shell.specs.Filed.{DiskMeaning}
 use Rattle.odin_shell.specs.Machine.{State, Told, MayLeave}
-use Rattle.odin_shell.specs.Served.{telling, Answers, Halts, AnswersAsk, HaltsAsk}
+use Rattle.odin_shell.specs.Served.{telling, IsOnward, Answers, Halts, AnswersAsk, HaltsAsk}
 use Rattle.odin_shell.proofs.AnswerLemmas.{same_halts}
 use Rattle.odin_shell.proofs.EditLemmas.{IsMadeOf, put_answers, remove_answers, take_answers, put_halts, remove_halts, take_halts}
+
+-- an edit is one change at most
+few_changes : (name : Text) (old new : Option Text) → length (source_changes name old new) ≤ 1
+few_changes name None None = omega arith
+few_changes name (Some old) None = omega arith
+few_changes name None (Some text) = omega arith
+few_changes name (Some old) (Some text) = by (bytes_eq old text)
+  where
+    by : (same : Bool) → length (cond same [] (puts name text ∷ [])) ≤ 1
+    by true = omega arith
+    by false = omega arith
+
+-- so the epoch rises by one at most
+pub edit_onward : {D : Type 0} (disk : DiskMeaning D) (code code' : Engaged) (now now' : D) (name : Text) (r : Result (List ℕ) JournalFault) → OnOk r (EditsSource disk.told name code.store code'.store now now')
+    → IsLeft code'.store (disk.size now') r → IsCause (disk.faults now) (disk.faults now') r → OnOk r (IsOnward disk 1 code code' now now')
+edit_onward disk code code' now now' name (Ok bytes) edited left cause =
+    let few = few_changes name (get code.store.sources.texts name) (get code'.store.sources.texts name) in
+    let epoch = edited.epoch in
+    record { epoch = omega (arith, few, epoch); ready = left.ready; faults = cause.ok }
+edit_onward disk code code' now now' name (Err e) edited left cause = tt
 
 module _ {D : Type 0} (disk : DiskMeaning D) (code code' : Engaged) (given : Command) (kept : List ℕ) (tools : Spawned) (tree : TreeTold) (now now' : D) where
   abbrev before : SinkTold → Told D

@@ -2,14 +2,15 @@
 use Rattle.std.proofs.Common.{◌≡◌, ℕ, ◌+◌, ◌*◌, List, [], ◌++◌, length, Some, None, ap, sym, refl, ◌∙◌, subst}
 use Rattle.odin_outside.specs.Disk.{Telling}
 use Rattle.odin_outside.specs.Spawned.{Spawned}
+use Rattle.disk_trails.specs.Trails.{Trail}
 use Rattle.meaning_graph.specs.Graphs.{Text, Graph}
 use Rattle.odin_journal.specs.Moments.{Works}
 use Rattle.meaning_records.specs.Stands.{gate_behind}
 use Rattle.odin_store.specs.Held.{StandsFor}
 use Rattle.odin_store.specs.Keeping.{KeepsChanges}
 use Rattle.odin_store.specs.OnDisk.{held_in, state_in, IsOn}
-use Rattle.odin_store.specs.Opening.{Opens, OpensQuiet, LeavesHeld}
-use Rattle.odin_store.specs.Written.{written_in, with_records}
+use Rattle.odin_store.specs.Opening.{Opens, OpensQuiet, LeavesOpening}
+use Rattle.odin_store.specs.Written.{written_in, with_records, record_keeping}
 use Rattle.odin_store.specs.Going.{AreBatches}
 use Rattle.odin_store.proofs.Lemmas.{nothing_behind}
 use Rattle.odin_engine.specs.Engaged.{Engaged, IsLimit}
@@ -25,8 +26,8 @@ use Rattle.odin_shell.proofs.StateLemmas.{same_tools, same_tree, idle_few}
 -- ---- what the file has behind the opening
 
 module _ (text : Text) (old new : Telling) (engine : Engaged) (opens : Opens text old new engine.store) where
-  pub written_first : HasWritten text [] old engine.store new
-  written_first =
+  pub written_first : Trail record_keeping opens.records old opens.opening engine.store new → HasWritten text [] old engine.store new
+  written_first trail =
       let all : opens.opening ≡ opens.opening ++ [] = sym (nothing_behind opens.opening) in
       record {
         over = record {
@@ -48,6 +49,7 @@ module _ (text : Text) (old new : Telling) (engine : Engaged) (opens : Opens tex
         whole = opens.whole;
         end = subst (λ l. engine.store.journal.end ≡ gate_behind opens.gate l) all opens.end;
         bytes = subst (λ l. new.seen ≡ with_records opens.gate l opens.made) all opens.bytes;
+        trail = subst (λ l. Trail record_keeping opens.records old l engine.store new) all trail;
         works = subst (λ (l : List (List ℕ)). Works (66 + written_in l) (16 + 2 * length opens.records + 4 * length l) old new) all opens.works;
       }
 
@@ -58,7 +60,7 @@ module _ (text : Text) (old new : Telling) (engine : Engaged) (opens : Opens tex
 
 module _ {D : Type 0} (disk : DiskMeaning D) (keeping : KeepsChanges disk.told) (g : Graph) (text : Text) (limit : ℕ) (engine : Engaged) (start before : Told D) where
   pub begins : IsLimit limit → start.tools.running ≡ [] → before.sink ≡ start.sink → before.tools ≡ start.tools → before.tree ≡ start.tree → before.over ≡ None → OpensQuiet text (disk.told start.disk) (disk.told before.disk) engine.store
-      → LeavesHeld (disk.told start.disk) (disk.told before.disk) → IsNew g limit (disk.size before.disk) engine → disk.faults before.disk ≡ disk.faults start.disk
+      → LeavesOpening text (disk.told start.disk) (disk.told before.disk) → IsNew g limit (disk.size before.disk) engine → disk.faults before.disk ≡ disk.faults start.disk
       → BeginsWith disk g text limit (held_in engine.store) start engine before
   begins most idle sink tools tree within opens leaves new faults = record {
     sink = sink;
@@ -75,7 +77,7 @@ module _ {D : Type 0} (disk : DiskMeaning D) (keeping : KeepsChanges disk.told) 
       ready = new.ready;
       faults = faults;
       trail = λ quiet. keeping.opens text engine.store start.disk before.disk quiet (opens quiet) leaves;
-      written = λ quiet. written_first text (disk.told start.disk) (disk.told before.disk) engine (opens quiet);
+      written = λ quiet. written_first text (disk.told start.disk) (disk.told before.disk) engine (opens quiet) (keeping.records text engine.store start.disk before.disk quiet (opens quiet) leaves);
       within = within;
     };
   }

@@ -4,7 +4,7 @@ use Rattle.std.proofs.Math.Nat.{le_refl}
 use Rattle.odin_outside.specs.Causes.{Rose}
 use Rattle.odin_outside.specs.Disk.{Telling, IsQuiet}
 use Rattle.odin_outside.specs.Spawned.{Spawned}
-use Rattle.disk_trails.specs.Trails.{after, Leaves}
+use Rattle.disk_trails.specs.Trails.{after, Trail, Leaves}
 use Rattle.meaning_graph.specs.Graphs.{Text, Graph}
 use Rattle.meaning_records.specs.declared.items.Item.{Item}
 use Rattle.meaning_records.specs.Stands.{gate_behind}
@@ -15,7 +15,7 @@ use Rattle.odin_store.specs.Held.{Change}
 use Rattle.odin_store.specs.OnDisk.{state_in, IsOn, IsOver, IsSame}
 use Rattle.odin_store.specs.Keeping.{store_keeping}
 use Rattle.odin_store.specs.Going.{IsBatchOf, HasBatches, Goes, HasBegun, Stops}
-use Rattle.odin_store.specs.Written.{written_in, WorksFor, with_records}
+use Rattle.odin_store.specs.Written.{written_in, WorksFor, with_records, record_keeping}
 use Rattle.odin_store.proofs.Lemmas.{nothing_behind, batches_on, goes_none, stops_left, stops_more, gate-append, records-append, works_after}
 use Rattle.odin_engine.specs.Engaged.{Engaged, Stays}
 use Rattle.source_edits.specs.Edits.{TreeTold, TreeStays}
@@ -49,12 +49,12 @@ works_more text start over payloads more mid now first second =
     (works_after 66 (16 + 2 * length over.records) (over.opening ++ payloads) more start mid now first second)
 
 -- the batches of more changes after those that it has
-pub written_on : {D : Type 0} (told : D → Telling) (text : Text) (changes more : List Change) (start : Telling) (store next : Store) (disk after : D)
-    → HasWritten text changes start store (told disk) → Goes told more store next disk after → HasWritten text (changes ++ more) start next (told after)
+pub written_on : {D : Type 0} (told : D → Telling) (text : Text) (changes more : List Change) (start : D) (store next : Store) (disk after : D)
+    → HasWritten text changes (told start) store (told disk) → Goes told more store next disk after → HasWritten text (changes ++ more) (told start) next (told after)
 written_on told text changes more start store next disk after w goes =
     let over = w.over in
     let records = (over.records ++ over.opening) ++ w.payloads in
-    let others : HasBatches more store next (told disk) (told after) records (Some text) = goes.batches records (Some text) w.on in
+    let others : HasBatches told more store next disk after records (Some text) = goes.batches records (Some text) w.on in
     let all = over.opening ++ w.payloads in
     let list : all ++ others.payloads ≡ over.opening ++ (w.payloads ++ others.payloads) = append_assoc over.opening w.payloads others.payloads in
     record {
@@ -71,16 +71,18 @@ written_on told text changes more start store next disk after w goes =
           subst (λ l. (told after).seen ≡ with_records w.gate l w.made) list
           (others.bytes ∙ ap (λ gate. with_records gate others.payloads (told disk).seen) w.end
           ∙ ap (with_records (gate_behind w.gate all) others.payloads) w.bytes ∙ sym (records-append w.gate all others.payloads w.made));
-      works = works_more text start over w.payloads others.payloads (told disk) (told after) w.works others.works;
+      trail = subst (λ l. Trail record_keeping over.records (told start) l next (told after)) list (others.grows over.records start all w.trail);
+      works = works_more text (told start) over w.payloads others.payloads (told disk) (told after) w.works others.works;
     }
 
 -- and where they stop
-pub writing_stops : {D : Type 0} (told : D → Telling) (text : Text) (changes more : List Change) (start : Telling) (store : Store) (disk after : D)
-    → HasWritten text changes start store (told disk) → Stops told more store disk after → StopsWriting text (changes ++ more) start (told after)
+pub writing_stops : {D : Type 0} (told : D → Telling) (text : Text) (changes more : List Change) (start : D) (store : Store) (disk after : D)
+    → HasWritten text changes (told start) store (told disk) → Stops told more store disk after → StopsWriting text (changes ++ more) (told start) (told after)
 writing_stops told text changes more start store disk after w stops =
     let over = w.over in
     let records = (over.records ++ over.opening) ++ w.payloads in
-    let has : HasBegun more store (told disk) (told after) (Some text) = stops.begun records (Some text) w.on in
+    let has : HasBegun told more store disk after (Some text) = stops.begun records (Some text) w.on in
+    let all = over.opening ++ w.payloads in
     record {
       over = over;
       made = changes ++ has.made;
@@ -91,8 +93,12 @@ writing_stops told text changes more start store disk after w stops =
       are = batches_on over.opened (state_in store (Some text)) changes w.payloads w.are has.made has.payloads has.last has.are;
       begun = has.begun;
       next = has.next;
-      works = subst (λ (l : List (List ℕ)). WorksOver text start over l (told after)) (sym (append_assoc w.payloads has.payloads has.begun))
-          (works_more text start over w.payloads (has.payloads ++ has.begun) (told disk) (told after) w.works has.works);
+      leaves =
+          subst (λ l. Leaves record_keeping over.records (told start) (over.opening ++ (w.payloads ++ has.payloads)) l (told after))
+          (append_assoc over.opening w.payloads (has.payloads ++ has.begun) ∙ ap (λ l. over.opening ++ l) (sym (append_assoc w.payloads has.payloads has.begun)))
+          (subst (λ l. Leaves record_keeping over.records (told start) l (all ++ (has.payloads ++ has.begun)) (told after)) (append_assoc over.opening w.payloads has.payloads) (has.leaves over.records start all w.trail));
+      works = subst (λ (l : List (List ℕ)). WorksOver text (told start) over l (told after)) (sym (append_assoc w.payloads has.payloads has.begun))
+          (works_more text (told start) over w.payloads (has.payloads ++ has.begun) (told disk) (told after) w.works has.works);
     }
 
 -- ---- the next state
@@ -123,7 +129,7 @@ module _ {D : Type 0} (disk : DiskMeaning D) (g : Graph) (text : Text) (limit : 
     ready = ready;
     faults = faults ∙ fits.faults;
     trail = λ quiet. goes.grows first.held start.disk state.changes (fits.trail quiet);
-    written = λ quiet. written_on disk.told text state.changes changes (disk.told start.disk) code.store code'.store told.disk told'.disk (fits.written quiet) goes;
+    written = λ quiet. written_on disk.told text state.changes changes start.disk code.store code'.store told.disk told'.disk (fits.written quiet) goes;
     within = within;
   }
 
@@ -170,7 +176,7 @@ module _ {D : Type 0} (disk : DiskMeaning D) (g : Graph) (text : Text) (limit : 
           some = changes;
           rest = [];
           whole = sym (nothing_behind (state.changes ++ changes));
-          written = written_on disk.told text state.changes changes (disk.told start.disk) code.store store told.disk now (fits.written quiet) goes;
+          written = written_on disk.told text state.changes changes start.disk code.store store told.disk now (fits.written quiet) goes;
         });
         later = omega (arith, same);
       }
@@ -183,7 +189,7 @@ module _ {D : Type 0} (disk : DiskMeaning D) (g : Graph) (text : Text) (limit : 
       let same : IsSame store store now now = record { disk_is = refl; store_is = record { journal = refl; tables = refl; sources = refl; epoch = refl } } in
       record {
         store = store;
-        written = written_on disk.told text state.changes changes (disk.told start.disk) code.store store told.disk now (fits.written quiet) goes;
+        written = written_on disk.told text state.changes changes start.disk code.store store told.disk now (fits.written quiet) goes;
         crash = subst (λ l. Leaves store_keeping first.held (disk.told start.disk) all l (disk.told now)) (nothing_behind all)
             ((stops_left disk.told [] store store now now (goes_none disk.told store store now now same)).within first.held start.disk all (goes.grows first.held start.disk state.changes (fits.trail quiet)));
       }
@@ -224,7 +230,7 @@ module _ {D : Type 0} (disk : DiskMeaning D) (g : Graph) (text : Text) (limit : 
       let same = fits.faults in
       record {
         crash = λ quiet. stops.within first.held start.disk state.changes (fits.trail quiet);
-        written = λ quiet. inr (subst (λ n. Rose n (disk.faults now)) same rose, writing_stops disk.told text state.changes changes (disk.told start.disk) code.store told.disk now (fits.written quiet) stops);
+        written = λ quiet. inr (subst (λ n. Rose n (disk.faults now)) same rose, writing_stops disk.told text state.changes changes start.disk code.store told.disk now (fits.written quiet) stops);
         later = omega (arith, same, later);
       }
 
@@ -240,7 +246,7 @@ module _ {D : Type 0} (disk : DiskMeaning D) (g : Graph) (text : Text) (limit : 
           some = changes;
           rest = change ∷ [];
           whole = sym (append_assoc state.changes changes (change ∷ []));
-          written = written_on disk.told text state.changes changes (disk.told start.disk) code.store store told.disk now (fits.written quiet) goes;
+          written = written_on disk.told text state.changes changes start.disk code.store store told.disk now (fits.written quiet) goes;
         });
         later = omega (arith, same);
       }
@@ -253,7 +259,7 @@ module _ {D : Type 0} (disk : DiskMeaning D) (g : Graph) (text : Text) (limit : 
     whole = sym (append_assoc state.changes changes (change ∷ []));
     over = λ quiet. record {
       store = store;
-      written = written_on disk.told text state.changes changes (disk.told start.disk) code.store store told.disk now (fits.written quiet) goes;
+      written = written_on disk.told text state.changes changes start.disk code.store store told.disk now (fits.written quiet) goes;
       items = items;
       batch = batch;
       over = over;

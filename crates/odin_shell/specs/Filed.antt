@@ -2,7 +2,7 @@
 use Rattle.std.specs.Prelude.{◌≡◌, ◌⊎◌, ℕ, ◌+◌, ◌*◌, ◌≤◌, List, [], ◌∷◌, ◌++◌, length, Some}
 use Rattle.odin_outside.specs.Causes.{Rose}
 use Rattle.odin_outside.specs.Disk.{Telling, IsQuiet}
-use Rattle.disk_trails.specs.Trails.{Leaves}
+use Rattle.disk_trails.specs.Trails.{Trail, Leaves}
 use Rattle.meaning_graph.specs.Graphs.{Text}
 use Rattle.meaning_store.specs.Images.{Stored, IsStore}
 use Rattle.odin_journal.specs.Moments.{Works}
@@ -13,7 +13,7 @@ use Rattle.odin_store.specs.declared.store.Store.{Store}
 use Rattle.odin_store.specs.Held.{Held, Change, StandsFor}
 use Rattle.odin_store.specs.OnDisk.{state_in, IsOn, IsOver}
 use Rattle.odin_store.specs.Opening.{IsOpening}
-use Rattle.odin_store.specs.Written.{written_in, with_records, IsMade}
+use Rattle.odin_store.specs.Written.{written_in, with_records, IsMade, record_keeping}
 use Rattle.odin_store.specs.Keeping.{store_keeping}
 use Rattle.odin_store.specs.Going.{IsBatchOf, AreBatches, IsBegun}
 
@@ -44,7 +44,8 @@ abbrev pub WorksOver : (text : Text) (start : Telling) → OpensFile text start 
 WorksOver text start over payloads now = Works (66 + written_in (over.opening ++ payloads)) (16 + 2 * length over.records + 4 * length (over.opening ++ payloads)) start now
 
 -- The file has the records that it had at the start, after them that of the opening and the batches of these changes, and no others; and
--- the store rests on it. Nothing else was written to it, but the front of a new one, and no more work done than for that.
+-- the store rests on it. A crash on the way leaves some first ones of these. Nothing else was written to it, but the front of a new one, and
+-- no more work done than for that.
 pub record HasWritten (text : Text) (changes : List Change) (start : Telling) (store : Store) (now : Telling) : Type 0 where
   pub over : OpensFile text start
   pub payloads : List (List ℕ)
@@ -56,9 +57,11 @@ pub record HasWritten (text : Text) (changes : List Change) (start : Telling) (s
   pub whole : IsStore made over.records gate
   pub end : store.journal.end ≡ gate_behind gate (over.opening ++ payloads)
   pub bytes : now.seen ≡ with_records gate (over.opening ++ payloads) made
+  pub trail : Trail record_keeping over.records start (over.opening ++ payloads) store now
   pub works : WorksOver text start over payloads now
 
--- The disk failed at one of these changes: no more work was done than for the batches of some first ones, and for the one that was begun.
+-- The disk failed at one of these changes. After the records of the start a crash leaves some first ones of the batch of the opening, those
+-- of some first changes, and the one that was begun; one that comes now leaves all but that one. No more work was done than for them.
 pub record StopsWriting (text : Text) (changes : List Change) (start now : Telling) : Type 0 where
   pub over : OpensFile text start
   pub made : List Change
@@ -69,6 +72,7 @@ pub record StopsWriting (text : Text) (changes : List Change) (start now : Telli
   pub are : AreBatches over.opened made payloads last
   pub begun : List (List ℕ)
   pub next : IsBegun last.tables.contents rest begun
+  pub leaves : Leaves record_keeping over.records start (over.opening ++ payloads) (over.opening ++ (payloads ++ begun)) now
   pub works : WorksOver text start over (payloads ++ begun) now
 
 -- The file has the batches of the changes that are acknowledged and of some more, but of none that isn't one of these.
@@ -113,8 +117,8 @@ abbrev pub StartsFrom : Telling → Held → Type 0
 StartsFrom start held = IsQuiet start → StandsFor held start.seen
 
 -- At an exit every image that a crash since the start may leave stands for what was held at the start with some first ones of these
--- changes, and every image that one may leave now has all that are acknowledged. What the file has is that, too, unless the disk failed;
--- and then no more work was done than for that.
+-- changes, and every image that one may leave now has all that are acknowledged. What the file has is that, too, by its records, unless
+-- the disk failed; and then every image has the records of the start with some first ones of those that belong to it.
 pub record IsSafe (text : Text) (held : Held) (acknowledged furthest : List Change) (start now : Telling) (before after : ℕ) : Type 0 where
   pub crash : IsQuiet start → Leaves store_keeping held start acknowledged furthest now
   pub written : IsQuiet start → LiesBetween text acknowledged furthest start now ⊎ (Rose before after × StopsWriting text furthest start now)

@@ -144,11 +144,11 @@ module _ {I O T S D : Type 0} (m : Meaning I O T S D) where
   abbrev pub told : Outside I O T S D → Told D
   told o = record { sink = sink o; tools = m.spawned o.tools; tree = tree o; disk = o.disk; over = None }
 
-  -- The store was not opened for this fault: a crash leaves what the file stood for. Over an empty file the work is that of a new store and
-  -- of the batch of the graph at most.
+  -- The store was not opened for this fault: a crash leaves the records that the file had, or, where it was due, the batch of the graph after
+  -- them, and so what the file stood for. Over an empty file the work is that of a new store and of that batch at most.
   pub record IsUnopened (text : Text) (before after : Outside I O T S D) (fault : JournalFault) : Type 0 where
     pub refused : store.IsOpenFault text (disk before) (disk after) fault
-    pub crash : store.LeavesHeld (disk before) (disk after)
+    pub crash : store.LeavesOpening text (disk before) (disk after)
     pub later : m.disk.faults before.disk ≤ m.disk.faults after.disk
     pub cause : IsCauseOf (m.disk.faults before.disk) (m.disk.faults after.disk) fault
     pub works : m.disk.size before.disk ≡ 0 → Works (72 + length (store.graph_record text)) 20 (disk before) (disk after)

@@ -4,7 +4,7 @@ use Rattle.odin_outside.specs.Disk.{Telling}
 use Rattle.object_values.specs.declared.views.Value.{Value}
 use Rattle.disk_trails.specs.WorkLemmas.{no_work}
 use Rattle.disk_trails.specs.Trails as trails
-use Rattle.disk_trails.specs.TrailLemmas.{after-append, keeps_grows, stops_within, untouched_grows, grows_on, grows_stops, grows_left, stops_longer}
+use Rattle.disk_trails.specs.TrailLemmas.{after-append, keeps_grows, stops_within, untouched_grows, grows_on, grows_stops, grows_left, stops_longer, trail_leaves}
 use Rattle.odin_journal.specs.declared.fault.JournalFault.{JournalFault}
 use Rattle.odin_journal.specs.declared.fault.JournalFault.TheVariants as fault
 use Rattle.meaning_records.specs.declared.items.Item.{Item}
@@ -15,13 +15,16 @@ use Rattle.meaning_records.specs.States.{State, nothing, Reads, ReadsAll, spell_
 use Rattle.odin_store.specs.declared.store.Store.{Store}
 use Rattle.object_sources.specs.Texts.{Text}
 use Rattle.odin_store.specs.Held.{Change, apply}
-use Rattle.odin_store.specs.OnDisk.{held_in, state_in, IsOn, LeavesChange, AddsBatch, IsChangeFault, IsSame, WorksOnce}
+use Rattle.odin_store.specs.OnDisk.{held_in, state_in, IsOn, LeavesChange, AddsBatch, IsChangeFault, IsSame, BeginsOnce, IsOneOf}
 use Rattle.odin_store.specs.Changes.{EditsWhere}
 use Rattle.odin_store.specs.Keeping.{store_keeping}
-use Rattle.odin_store.specs.Going.{IsBatchOf, AreBatches, HasBatches, Goes, IsBegun, HasBegun, Stops}
-use Rattle.odin_store.specs.Written.{WorksFor, with_records}
+use Rattle.odin_store.specs.Going.{IsBatchOf, AreBatches, HasBatches, Goes, IsBegun, HasBegun, LeavesBegun, Stops}
+use Rattle.odin_store.specs.Written.{WorksFor, with_records, record_keeping, LeavesFirst, RecordsRest}
+use Rattle.odin_store.proofs.RecordTrails.{stops_record, first_leaves, rests_leave}
 use Rattle.odin_store.specs.Edited.{HasEdited, HasFailed}
 use Rattle.odin_store.proofs.WrittenLemmas.{gate-append, records-append, works_for_one, works_on}
+use Rattle.meaning_store.specs.ImageLemmas.{one_end}
+use Rattle.odin_journal.specs.Rest.{AtRest}
 use Rattle.odin_store.proofs.KeepingLemmas.{kept_on, stops_in, same_on, same_held, same_state, same_rests, left_durably}
 
 -- ---- the batches
@@ -67,6 +70,7 @@ module _ {Disk : Type 0} (told : Disk → Telling) where
           (subst (λ d. IsOn (told d) next records graph) (sym same.disk_is) (same_on (told disk) store next records graph same.store_is on));
       end = ap (λ (j : Journal). j.end) same.store_is.journal;
       bytes = ap (λ d. (told d).seen) same.disk_is;
+      grows = untouched_grows record_keeping told disk after store next same.disk_is (λ kept rests. subst (λ (j : Journal). AtRest (told disk) kept j.end) (sym same.store_is.journal) rests);
       works = subst (λ d. WorksFor [] (told disk) (told d)) (sym same.disk_is) (no_work (told disk).work);
     };
   }
@@ -74,28 +78,36 @@ module _ {Disk : Type 0} (told : Disk → Telling) where
   pub goes_one : ReadsInOneWay → (change : Change) (store next : Store) (disk after : Disk) → held_in next ≡ apply change (held_in store)
       → AddsBatch (IsBatchOf store.kept.tables.contents change) store next (told disk) (told after)
       → LeavesChange change store (told disk) (told after) → Goes told (change ∷ []) store next disk after
-  goes_one law change store next disk after holds (items, batch, appends) leaves = record {
-    holds = holds;
-    grows = keeps_grows store_keeping told change disk after store next (kept_on items change store next (told disk) (told after) holds appends leaves);
-    batches = λ records graph on.
-        let now : IsOn (told after) next (records ++ spell_batch items ∷ []) graph = appends.on records graph on in
-        record {
-          payloads = spell_batch items ∷ [];
-          are = alone change items (state_in store graph) (state_in next graph) batch (last_read law records (spell_batch items) nothing (state_in store graph) (state_in next graph) on.read now.read);
-          on = now;
-          end = appends.end;
-          bytes = appends.bytes on.rests.quiet;
-          works = works_for_one (spell_batch items) (told disk) (told after) appends.works;
-        };
-  }
+  goes_one law change store next disk after holds (items, batch, appends) leaves =
+      -- the records on which the store rests are those that it rested on
+      let one_rest : (records kept : List (List ℕ)) → RecordsRest (told disk) store records → RecordsRest (told disk) store kept → records ≡ kept =
+      λ records kept rests others. (one_end (told disk).seen kept records store.journal.end store.journal.end others.store rests.store).0 in
+      record {
+        holds = holds;
+        grows = keeps_grows store_keeping told change disk after store next (kept_on items change store next (told disk) (told after) holds appends leaves);
+        batches = λ records graph on.
+            let now : IsOn (told after) next (records ++ spell_batch items ∷ []) graph = appends.on records graph on in
+            record {
+              payloads = spell_batch items ∷ [];
+              are = alone change items (state_in store graph) (state_in next graph) batch (last_read law records (spell_batch items) nothing (state_in store graph) (state_in next graph) on.read now.read);
+              on = now;
+              end = appends.end;
+              bytes = appends.bytes on.rests.quiet;
+              grows = keeps_grows record_keeping told (spell_batch items) disk after store next (record {
+                rests = λ kept rests. subst (λ r. RecordsRest (told after) next (r ++ spell_batch items ∷ [])) (one_rest records kept on.rests rests) now.rests;
+                crash = stops_record store (spell_batch items) (told disk) (told after) appends.leaves;
+              });
+              works = works_for_one (spell_batch items) (told disk) (told after) appends.works;
+            };
+      }
 
   pub goes_on : (some more : List Change) (store mid next : Store) (disk between after : Disk) → Goes told some store mid disk between → Goes told more mid next between after → Goes told (some ++ more) store next disk after
   goes_on some more store mid next disk between after first second = record {
     holds = second.holds ∙ ap (trails.after store_keeping more) first.holds ∙ sym (after-append store_keeping some more (held_in store));
     grows = grows_on store_keeping told some more disk between after store mid next first.grows second.grows;
     batches = λ records graph on.
-        let one : HasBatches some store mid (told disk) (told between) records graph = first.batches records graph on in
-        let two : HasBatches more mid next (told between) (told after) (records ++ one.payloads) graph = second.batches (records ++ one.payloads) graph one.on in
+        let one : HasBatches told some store mid disk between records graph = first.batches records graph on in
+        let two : HasBatches told more mid next between after (records ++ one.payloads) graph = second.batches (records ++ one.payloads) graph one.on in
         record {
           payloads = one.payloads ++ two.payloads;
           are = batches_on (state_in store graph) (state_in mid graph) some one.payloads one.are more two.payloads (state_in next graph) two.are;
@@ -103,50 +115,59 @@ module _ {Disk : Type 0} (told : Disk → Telling) where
           end = two.end ∙ ap (λ gate. gate_behind gate two.payloads) one.end ∙ sym (gate-append store.journal.end one.payloads two.payloads);
           bytes = two.bytes ∙ ap (λ gate. with_records gate two.payloads (told between).seen) one.end
               ∙ ap (with_records (gate_behind store.journal.end one.payloads) two.payloads) one.bytes ∙ sym (records-append store.journal.end one.payloads two.payloads (told disk).seen);
+          grows = grows_on record_keeping told one.payloads two.payloads disk between after store mid next one.grows two.grows;
           works = works_on one.payloads two.payloads (told disk) (told between) (told after) one.works two.works;
         };
   }
 
   -- ---- where they stop
 
-  -- the work of a change that failed: none, or that of its batch
-  failed_begun : (change : Change) (store : Store) (disk after : Disk) (graph : Option Text) → WorksOnce (IsBatchOf store.kept.tables.contents change) (told disk) (told after) → HasBegun (change ∷ []) store (told disk) (told after) graph
-  failed_begun change store disk after graph (inl none) = record {
+  -- what was begun, after none of these
+  begun_first : (store : Store) (disk after : Disk) (begun : List (List ℕ)) → LeavesFirst store begun (told disk) (told after) → LeavesBegun told [] begun store disk after
+  begun_first store disk after begun leaves first start before trail =
+      subst (λ l. trails.Leaves record_keeping first (told start) l (before ++ begun) (told after)) (sym (nothing_behind before))
+      (first_leaves first before begun store (told start) (told disk) (told after) leaves trail)
+
+  -- a change that failed: its batch was begun, or none
+  failed_begun : (change : Change) (store : Store) (disk after : Disk) (graph : Option Text) → BeginsOnce (IsBatchOf store.kept.tables.contents change) store (told disk) (told after) → HasBegun told (change ∷ []) store disk after graph
+  failed_begun change store disk after graph begins = record {
     made = [];
     rest = change ∷ [];
     whole = refl;
     payloads = [];
     last = state_in store graph;
     are = AreBatches.no_batches;
-    begun = [];
-    next = IsBegun.none_begun (change ∷ []);
-    works = none;
+    begun = begins.begun;
+    next = by begins.begun begins.one;
+    leaves = begun_first store disk after begins.begun begins.leaves;
+    works = begins.works;
   }
-  failed_begun change store disk after graph (inr (items, batch, works)) = record {
-    made = [];
-    rest = change ∷ [];
-    whole = refl;
-    payloads = [];
-    last = state_in store graph;
-    are = AreBatches.no_batches;
-    begun = spell_batch items ∷ [];
-    next = IsBegun.one_begun change [] items batch;
-    works = works_for_one (spell_batch items) (told disk) (told after) works;
-  }
+    where
+      by : (begun : List (List ℕ)) → IsOneOf (IsBatchOf store.kept.tables.contents change) begun → IsBegun store.kept.tables.contents (change ∷ []) begun
+      by begun (inl none) = subst (IsBegun store.kept.tables.contents (change ∷ [])) (sym none) (IsBegun.none_begun (change ∷ []))
+      by begun (inr (items, batch, is)) = subst (IsBegun store.kept.tables.contents (change ∷ [])) (sym is) (IsBegun.one_begun change [] items batch)
 
   pub stops_failed : (change : Change) (store : Store) (disk after : Disk) → LeavesChange change store (told disk) (told after)
-      → WorksOnce (IsBatchOf store.kept.tables.contents change) (told disk) (told after) → Stops told (change ∷ []) store disk after
-  stops_failed change store disk after leaves works = record {
+      → BeginsOnce (IsBatchOf store.kept.tables.contents change) store (told disk) (told after) → Stops told (change ∷ []) store disk after
+  stops_failed change store disk after leaves begins = record {
     within = stops_within store_keeping told change disk after store (stops_in change store (told disk) (told after) leaves);
-    begun = λ records graph on. failed_begun change store disk after graph works;
+    begun = λ records graph on. failed_begun change store disk after graph begins;
   }
+
+  -- what was begun after payloads after others
+  begun_behind : (some more begun : List (List ℕ)) (store mid : Store) (disk between after : Disk) → trails.Grows record_keeping told some disk store between mid → LeavesBegun told more begun mid between after
+      → LeavesBegun told (some ++ more) begun store disk after
+  begun_behind some more begun store mid disk between after grows leaves first start before trail =
+      subst (λ l. trails.Leaves record_keeping first (told start) (before ++ (some ++ more)) l (told after))
+      (append_assoc before some (more ++ begun) ∙ ap (λ l. before ++ l) (sym (append_assoc some more begun)))
+      (subst (λ l. trails.Leaves record_keeping first (told start) l ((before ++ some) ++ (more ++ begun)) (told after)) (append_assoc before some more) (leaves first start (before ++ some) (grows first start before trail)))
 
   pub stops_behind : (some more : List Change) (store mid : Store) (disk between after : Disk) → Goes told some store mid disk between → Stops told more mid between after → Stops told (some ++ more) store disk after
   stops_behind some more store mid disk between after goes stops = record {
     within = grows_stops store_keeping told some more disk between after store mid goes.grows stops.within;
     begun = λ records graph on.
-        let one : HasBatches some store mid (told disk) (told between) records graph = goes.batches records graph on in
-        let two : HasBegun more mid (told between) (told after) graph = stops.begun (records ++ one.payloads) graph one.on in
+        let one : HasBatches told some store mid disk between records graph = goes.batches records graph on in
+        let two : HasBegun told more mid between after graph = stops.begun (records ++ one.payloads) graph one.on in
         record {
           made = some ++ two.made;
           rest = two.rest;
@@ -156,16 +177,23 @@ module _ {Disk : Type 0} (told : Disk → Telling) where
           are = batches_on (state_in store graph) (state_in mid graph) some one.payloads one.are two.made two.payloads two.last two.are;
           begun = two.begun;
           next = two.next;
+          leaves = begun_behind one.payloads two.payloads two.begun store mid disk between after one.grows two.leaves;
           works = subst (λ l. WorksFor l (told disk) (told after)) (sym (append_assoc one.payloads two.payloads two.begun))
               (works_on one.payloads (two.payloads ++ two.begun) (told disk) (told between) (told after) one.works two.works);
         };
   }
 
+  -- nothing was begun after these
+  none_after : (payloads : List (List ℕ)) (store next : Store) (disk after : Disk) → trails.Grows record_keeping told payloads disk store after next → LeavesBegun told payloads [] store disk after
+  none_after payloads store next disk after grows first start before trail =
+      subst (λ l. trails.Leaves record_keeping first (told start) (before ++ payloads) (before ++ l) (told after)) (sym (nothing_behind payloads))
+      (trail_leaves record_keeping first (told start) (told after) (before ++ payloads) next (λ kept rests image left. rests_leave (told after) next kept rests image left) (grows first start before trail))
+
   pub stops_left : (changes : List Change) (store next : Store) (disk after : Disk) → Goes told changes store next disk after → Stops told changes store disk after
   stops_left changes store next disk after goes = record {
     within = grows_left store_keeping told changes disk after store next (λ held rests. left_durably (told after) next held rests) goes.grows;
     begun = λ records graph on.
-        let all : HasBatches changes store next (told disk) (told after) records graph = goes.batches records graph on in
+        let all : HasBatches told changes store next disk after records graph = goes.batches records graph on in
         record {
           made = changes;
           rest = [];
@@ -175,6 +203,7 @@ module _ {Disk : Type 0} (told : Disk → Telling) where
           are = all.are;
           begun = [];
           next = IsBegun.none_begun [];
+          leaves = none_after all.payloads store next disk after all.grows;
           works = subst (λ l. WorksFor l (told disk) (told after)) (sym (nothing_behind all.payloads)) all.works;
         };
   }
@@ -188,7 +217,7 @@ module _ {Disk : Type 0} (told : Disk → Telling) where
   stops_more changes more store disk after stops = record {
     within = stops_longer store_keeping told changes more disk after store stops.within;
     begun = λ records graph on.
-        let has : HasBegun changes store (told disk) (told after) graph = stops.begun records graph on in
+        let has : HasBegun told changes store disk after graph = stops.begun records graph on in
         record {
           made = has.made;
           rest = has.rest ++ more;
@@ -198,6 +227,7 @@ module _ {Disk : Type 0} (told : Disk → Telling) where
           are = has.are;
           begun = has.begun;
           next = begun_of_more has.last.tables.contents has.rest more has.begun has.next;
+          leaves = has.leaves;
           works = has.works;
         };
   }
@@ -209,17 +239,16 @@ module _ {Disk : Type 0} (told : Disk → Telling) where
       → LeavesChange change store (told disk) (told after) → HasEdited told Changes change store next disk after changed
   edited law Changes change store next disk after true where_ leaves =
       let edits = where_.edits refl in
-      let epoch = edits.epoch in
-      record { exact = where_.exact; goes = goes_one law change store next disk after edits.holds edits.adds leaves; same = where_.same; epoch = omega arith }
+      record { exact = where_.exact; goes = goes_one law change store next disk after edits.holds edits.adds leaves; same = where_.same; epoch = edits.epoch }
   edited law Changes change store next disk after false where_ leaves =
       let same = where_.same refl in
       let epoch = same.store_is.epoch in
       record { exact = where_.exact; goes = goes_none store next disk after same; same = where_.same; epoch = omega arith }
 
   pub has_failed : (change : Change) (store next : Store) (disk after : Disk) (e : JournalFault) → IsChangeFault (IsBatchOf store.kept.tables.contents change) change store e
-      → (e ≢ fault.Disk → IsSame store next disk after) → LeavesChange change store (told disk) (told after) → WorksOnce (IsBatchOf store.kept.tables.contents change) (told disk) (told after)
+      → (e ≢ fault.Disk → IsSame store next disk after) → LeavesChange change store (told disk) (told after) → BeginsOnce (IsBatchOf store.kept.tables.contents change) store (told disk) (told after)
       → HasFailed told change store next disk after e
-  has_failed change store next disk after fault.Disk due same leaves works = (due, stops_failed change store disk after leaves works)
+  has_failed change store next disk after fault.Disk due same leaves begins = (due, stops_failed change store disk after leaves begins)
   has_failed change store next disk after (fault.NotOurs at) never same leaves works = never
   has_failed change store next disk after (fault.Full at some) (due, over) same leaves works = (due, (same (λ is. (let no : ⊥ = cc in no)), over))
   has_failed change store next disk after fault.Memory told_ same leaves works = same (λ is. (let no : ⊥ = cc in no))

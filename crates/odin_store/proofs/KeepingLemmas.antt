@@ -1,6 +1,7 @@
 -- A store keeps changes on a disk, one behind another.
-use Rattle.std.proofs.Common.{◌≡◌, ◌⊎◌, List, [], ◌∷◌, ◌++◌, ℕ, Option, Some, refl, sym, ap, subst, ◌∙◌}
+use Rattle.std.proofs.Common.{◌≡◌, ◌⊎◌, inl, inr, List, [], ◌∷◌, ◌++◌, ℕ, Option, Some, refl, sym, ap, subst, ◌∙◌, arith}
 use Rattle.odin_outside.specs.Disk.{Telling, MayLeave, LeavesOnly, IsQuiet}
+use Rattle.odin_outside.specs.Moments.{weaker}
 use Rattle.disk_trails.specs.Trails as trails
 use Rattle.disk_trails.specs.TrailLemmas.{opened_trail}
 use Rattle.object_sources.specs.Texts.{Text, Texts}
@@ -8,13 +9,16 @@ use Rattle.odin_journal.specs.declared.journal.Journal.{Journal}
 use Rattle.odin_journal.specs.Rest.{AtRest}
 use Rattle.meaning_records.specs.declared.items.Item.{Item}
 use Rattle.meaning_records.specs.Tables.{Tables}
-use Rattle.meaning_records.specs.States.{nothing, ReadsAll, spell_batch}
+use Rattle.meaning_records.specs.Laws.{ReadsInOneWay}
+use Rattle.meaning_records.specs.States.{State, nothing, ReadsAll, spell_batch}
 use Rattle.odin_store.specs.declared.store.Store.{Store}
 use Rattle.odin_store.specs.Held.{Held, Change, apply, StandsFor}
 use Rattle.odin_store.specs.OnDisk.{held_in, state_in, IsOn, LeavesChange, Appends, IsUnchanged, IsSame}
-use Rattle.odin_store.specs.Opening.{Opens, LeavesHeld}
+use Rattle.odin_store.specs.Opening.{graph_record, IsOpening, Opens, HaveOther, HasOpening, LeavesOpening}
+use Rattle.odin_store.specs.Written.{record_keeping}
 use Rattle.odin_store.specs.Keeping.{Rests, store_keeping}
 use Rattle.odin_store.proofs.StoreLemmas.{held_left}
+use Rattle.odin_store.proofs.RecordTrails.{after_records}
 
 pub stops_in : (change : Change) (store : Store) (old new : Telling) → LeavesChange change store old new → trails.StopsIn store_keeping change old store new
 stops_in change store old new leaves held rests =
@@ -63,7 +67,40 @@ left_durably disk store held rests image left = subst (λ h. StandsFor h image) 
 opened_rests : (graph : Text) (store : Store) (old new : Telling) → Opens graph old new store → Rests new store (held_in store)
 opened_rests graph store old new opens = record { records = opens.records ++ opens.opening; graph = Some graph; on = opens.on; holds = refl }
 
-pub opened : (graph : Text) (store : Store) (old new : Telling) → IsQuiet old → Opens graph old new store → LeavesHeld old new → trails.Trail store_keeping (held_in store) old [] store new
-opened graph store old new quiet opens leaves =
-    opened_trail store_keeping (held_in store) old new store (opened_rests graph store old new opens)
-    (subst (λ held. LeavesOnly old new (StandsFor held)) (sym opens.holds) (leaves opens.state quiet (record { records = opens.records; stored = opens.stored; read = opens.read })))
+-- records read in one way
+all_read : ReadsInOneWay → (records : List (List ℕ)) (first one other : State) → ReadsAll first records one → ReadsAll first records other → other ≡ one
+all_read law [] first one other reads also = also ∙ sym reads
+all_read law (payload ∷ records) first one other reads also =
+    let same : also.0 ≡ reads.0 = law first payload reads.0 also.0 reads.1 also.1 in
+    all_read law records reads.0 one other reads.2 (subst (λ s. ReadsAll s records other) same also.2)
+
+-- what the last graph is has no other batch due
+none_due : ReadsInOneWay → (graph : Text) (records : List (List ℕ)) (state : State) → ReadsAll nothing records state → state.graph ≡ Some graph → HaveOther graph records → ⊥
+none_due law graph records state read known (found, reads, other) = other (ap (λ (s : State). s.graph) (all_read law records nothing state found read reads) ∙ known)
+
+module _ (law : ReadsInOneWay) (graph : Text) (store : Store) (old new : Telling) (quiet : IsQuiet old) (opens : Opens graph old new store) (leaves : LeavesOpening graph old new) where
+  -- an image that a crash within the opening may leave stands for what the store holds
+  opening_holds : (opening : List (List ℕ)) → IsOpening graph opens.state.graph opening → ReadsAll nothing (opens.records ++ opening) (state_in store (Some graph)) → (image : List ℕ) → HasOpening graph opens.records image
+      → StandsFor (held_in store) image
+  opening_holds opening opened read image (inl there) = (opens.state, record { records = opens.records; stored = there; read = opens.read }, sym opens.holds)
+  opening_holds opening (inl known) read image (inr added) = absurd (none_due law graph opens.records opens.state opens.read known.0 added.0)
+  opening_holds opening (inr due) read image (inr added) =
+      (state_in store (Some graph), record { records = opens.records ++ graph_record graph ∷ []; stored = added.1; read = subst (λ l. ReadsAll nothing (opens.records ++ l) (state_in store (Some graph))) due.1 read }, refl)
+
+  pub opened : trails.Trail store_keeping (held_in store) old [] store new
+  opened =
+      opened_trail store_keeping (held_in store) old new store (opened_rests graph store old new opens)
+      (weaker old new (HasOpening graph opens.records) (StandsFor (held_in store)) (leaves opens.records quiet opens.stored) (opening_holds opens.opening opens.opens opens.on.read))
+
+  -- it has the records, and the batch of the opening after them or not
+  opening_first : (opening : List (List ℕ)) → IsOpening graph opens.state.graph opening → (image : List ℕ) → HasOpening graph opens.records image → trails.IsPrefix record_keeping opens.records 0 opening image
+  opening_first opening opened image (inl there) = record { k = 0; at_least = omega arith; at_most = omega arith; stands = there }
+  opening_first opening (inl known) image (inr added) = absurd (none_due law graph opens.records opens.state opens.read known.0 added.0)
+  opening_first opening (inr due) image (inr added) =
+      subst (λ l. trails.IsPrefix record_keeping opens.records 0 l image) (sym due.1) (record { k = 1; at_least = omega arith; at_most = omega arith; stands = added.1 })
+
+  pub opened_records : trails.Trail record_keeping opens.records old opens.opening store new
+  opened_records = record {
+    rests = subst (λ r. AtRest new r store.journal.end) (sym (after_records opens.opening opens.records)) opens.on.rests;
+    crash = weaker old new (HasOpening graph opens.records) (trails.IsPrefix record_keeping opens.records 0 opens.opening) (leaves opens.records quiet opens.stored) (opening_first opens.opening opens.opens);
+  }

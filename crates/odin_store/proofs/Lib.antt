@@ -5,6 +5,7 @@ mod LoadLemmas
 mod OpenLemmas
 mod ReadyLemmas
 mod RecordLemmas
+mod RecordTrails
 mod SourceLemmas
 mod StoreLemmas
 mod WrittenLemmas

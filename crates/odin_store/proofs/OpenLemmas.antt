@@ -1,6 +1,6 @@
 -- The opening of a store over the opening of its journal.
 use Rattle.std.specs.Prelude.{⊤}
-use Rattle.std.proofs.Common.{◌≡◌, ◌≢◌, inl, inr, ℕ, ◌+◌, ◌-◌, ◌*◌, ◌<◌, ◌≤◌, List, [], ◌∷◌, ◌++◌, length, length-append, Some, Err, refl, sym, ap, subst, ◌∙◌, arith}
+use Rattle.std.proofs.Common.{◌≡◌, ◌≢◌, ◌⊎◌, inl, inr, ℕ, ◌+◌, ◌-◌, ◌*◌, ◌<◌, ◌≤◌, List, [], ◌∷◌, ◌++◌, length, length-append, Some, Err, refl, sym, ap, subst, ◌∙◌, arith}
 use Rattle.std.proofs.lemmas.List.Elements.{All-nil, All-push}
 use Rattle.odin_outside.specs.Disk.{Telling, IsQuiet}
 use Rattle.odin_outside.specs.Moments.{then, weaker}
@@ -25,7 +25,7 @@ use Rattle.odin_store.specs.OnDisk.{state_in, IsOn}
 use Rattle.odin_store.specs.Written.{written_in, IsMade}
 use Rattle.odin_store.specs.Loading.{records_size, BreaksAt, IsLoadFault}
 use Rattle.odin_store.specs.Opening as store
-use Rattle.odin_store.specs.Opening.{graph_record, LeavesHeld, IsFull, IsOpenFault}
+use Rattle.odin_store.specs.Opening.{graph_record, HaveOther, HasOpening, LeavesOpening, LeavesHeld, IsMadeNew, IsFull, IsOpenFault}
 use Rattle.odin_store.proofs.LoadLemmas.{reads_on}
 use Rattle.odin_store.proofs.RecordLemmas.{size-append}
 use Rattle.odin_store.proofs.WrittenLemmas.{works_wider}
@@ -55,27 +55,45 @@ gate_size gate (payload ∷ records) = omega (arith, gate_size (behind gate payl
 
 -- ---- what a crash leaves
 
--- the opening of the journal leaves what the file stood for
-pub held_stays : (old new : Telling) → KeepsRecords old new → LeavesHeld old new
-held_stays old new keeps state quiet stands =
-    weaker old new (Stored stands.records) (StandsFor (held_of state)) (keeps stands.records quiet stands.stored)
-    (λ image stored. (state, record { records = stands.records; stored = stored; read = stands.read }, refl))
+-- the opening of the journal leaves the records
+pub records_stay : (graph : Text) (old new : Telling) → KeepsRecords old new → LeavesOpening graph old new
+records_stay graph old new keeps records quiet stored = weaker old new (Stored records) (HasOpening graph records) (keeps records quiet stored) (λ image there. inl there)
 
--- and so does the adding of a graph behind it
-pub held_added : (graph : Text) (old mid new : Telling) (records : List (List ℕ)) (end : ℕ) → length graph ≤ 1048576 → KeepsRecords old mid → (IsQuiet old → Opens old mid records end)
-    → KeepsOrAdds end (graph_record graph) mid new → LeavesHeld old new
-held_added graph old mid new records end short keeps opens adds state quiet stands =
+-- and the adding of a graph after it leaves them with it or without
+pub graph_added : (graph : Text) (old mid new : Telling) (records : List (List ℕ)) (end : ℕ) (state : State) → ReadsAll nothing records state → state.graph ≢ Some graph → KeepsRecords old mid → (IsQuiet old → Opens old mid records end)
+    → KeepsOrAdds end (graph_record graph) mid new → LeavesOpening graph old new
+graph_added graph old mid new records end state read other keeps opens adds found quiet stored =
     let opened = opens quiet in
-    let same : records ≡ stands.records = one_stored old.seen stands.records records stands.stored opened.stored in
-    let rests : AtRest mid stands.records end = subst (λ r. AtRest mid r end) same opened.rests in
-    then old mid new (Stored stands.records) (BeforeOrAfter stands.records (graph_record graph)) (StandsFor (held_of state)) (keeps stands.records quiet stands.stored) (adds stands.records rests)
-    (λ image stored. (state, record { records = stands.records; stored = stored; read = stands.read }, refl)) each
+    let same : records ≡ found = one_stored old.seen found records stored opened.stored in
+    let rests : AtRest mid found end = subst (λ r. AtRest mid r end) same opened.rests in
+    let due : HaveOther graph found = (state, subst (λ r. ReadsAll nothing r state) same read, other) in
+    then old mid new (Stored found) (BeforeOrAfter found (graph_record graph)) (HasOpening graph found) (keeps found quiet stored) (adds found rests) (λ image there. inl there) (each found due)
   where
-    each : (image : List ℕ) → BeforeOrAfter stands.records (graph_record graph) image → StandsFor (held_of state) image
-    each image (inl stored) = (state, record { records = stands.records; stored = stored; read = stands.read }, refl)
-    each image (inr stored) =
+    each : (found : List (List ℕ)) → HaveOther graph found → (image : List ℕ) → BeforeOrAfter found (graph_record graph) image → HasOpening graph found image
+    each found due image (inl there) = inl there
+    each found due image (inr there) = inr (due, there)
+
+-- what the file stood for stays
+pub opening_keeps_held : (graph : Text) (old new : Telling) → length graph ≤ 1048576 → LeavesOpening graph old new → LeavesHeld old new
+opening_keeps_held graph old new short leaves state quiet stands =
+    weaker old new (HasOpening graph stands.records) (StandsFor (held_of state)) (leaves stands.records quiet stands.stored) each
+  where
+    each : (image : List ℕ) → HasOpening graph stands.records image → StandsFor (held_of state) image
+    each image (inl there) = (state, record { records = stands.records; stored = there; read = stands.read }, refl)
+    each image (inr added) =
         let after : State = record { tables = state.tables; sources = state.sources; graph = Some graph } in
-        (after, record { records = stands.records ++ graph_record graph ∷ []; stored = stored; read = reads_on stands.records (graph_record graph) nothing state after stands.read (graph_reads graph state short) }, refl)
+        (after, record { records = stands.records ++ graph_record graph ∷ []; stored = added.1; read = reads_on stands.records (graph_record graph) nothing state after stands.read (graph_reads graph state short) }, refl)
+
+-- an opening of the journal wrote the front of a new file at most
+made_at_most : (old mid : Telling) (records : List (List ℕ)) (end : ℕ) → OnlyReads old mid → (IsQuiet old → Opens old mid records end) → IsQuiet old → Untouched old mid ⊎ IsMadeNew old mid
+made_at_most old mid records end reads opens quiet = let opened = opens quiet in by opened opened.stored
+  where
+    by : Opens old mid records end → Stored records old.seen → Untouched old mid ⊎ IsMadeNew old mid
+    by opened (inl new) = inr (record { is_new = new.0; quiet = opened.rests.quiet; bytes = opened.made new.0 })
+    by opened (inr store) = inl (reads quiet (λ is_new. new_or_written old.seen is_new store.1.written))
+
+pub memory_fault : (graph : Text) (old mid : Telling) (records : List (List ℕ)) (end : ℕ) → OnlyReads old mid → (IsQuiet old → Opens old mid records end) → IsOpenFault graph old mid fault.Memory
+memory_fault graph old mid records end reads opens = made_at_most old mid records end reads opens
 
 -- ---- faults
 
@@ -84,7 +102,7 @@ journal_fault graph old new fault.Disk reads told = tt
 journal_fault graph old new (fault.NotOurs at) reads told =
     λ quiet. (reads quiet (λ is_new. no_records old.seen at [] (told quiet) (inl (is_new, refl))), inl (told quiet))
 journal_fault graph old new (fault.Full end count) reads told = absurd told
-journal_fault graph old new fault.Memory reads told = tt
+journal_fault graph old new fault.Memory reads told = λ quiet. inl (told quiet)
 
 -- a file that holds records isn't new
 written : (old mid : Telling) (records : List (List ℕ)) (end : ℕ) → Opens old mid records end → (IsNew old.seen → ⊥) → OnlyReads old mid → IsQuiet old → IsStore old.seen records end
@@ -130,7 +148,7 @@ pub load_fault : (graph : Text) (old mid : Telling) (records : List (List ℕ)) 
 load_fault graph old mid records end fault.Disk reads opens told = tt
 load_fault graph old mid records end (fault.NotOurs at) reads opens told = bad_record old mid records end at reads opens told
 load_fault graph old mid records end (fault.Full place count) reads opens told = absurd told
-load_fault graph old mid records end fault.Memory reads opens told = tt
+load_fault graph old mid records end fault.Memory reads opens told = memory_fault graph old mid records end reads opens
 
 new_start : (image : List ℕ) → start_of (new_store image) ≡ 64
 new_start image = refl
@@ -183,7 +201,7 @@ add_fault graph old mid new records end fault.Disk state read other short reads 
 add_fault graph old mid new records end (fault.NotOurs at) state read other short reads opens same told = absurd told
 add_fault graph old mid new records end (fault.Full at count) state read other short reads opens same told =
     same tt (λ quiet. full_graph graph old mid records end at count state read other short reads (opens quiet) quiet told (opens quiet).stored)
-add_fault graph old mid new records end fault.Memory state read other short reads opens same told = tt
+add_fault graph old mid new records end fault.Memory state read other short reads opens same told = same tt (memory_fault graph old mid records end reads opens)
 
 -- ---- an opened store
 

@@ -1,7 +1,8 @@
 -- A batch that is ready to be added to a store, and what its adding does.
-use Rattle.std.proofs.Common.{◌≡◌, inr, ℕ, ◌+◌, ◌≤◌, List, length, IsSome, refl, sym, ap, subst, ◌∙◌}
+use Rattle.std.proofs.Common.{◌≡◌, inl, inr, ℕ, ◌+◌, ◌≤◌, List, [], ◌∷◌, length, IsTrue, IsSome, refl, sym, ap, subst, ◌∙◌}
 use Rattle.std.specs.FinMap as map
-use Rattle.odin_outside.specs.Disk.{Telling}
+use Rattle.odin_outside.specs.Disk.{Telling, MayLeave}
+use Rattle.disk_trails.specs.WorkLemmas.{no_work}
 use Rattle.object_values.specs.declared.calls.Call.{Call}
 use Rattle.object_values.specs.declared.calls.Outcome.{Outcome}
 use Rattle.object_sources.specs.Texts.{Text, Texts}
@@ -20,10 +21,12 @@ use Rattle.meaning_records.specs.Laws.{ReadsInOneWay}
 use Rattle.kept_tables.specs.Holdings as kept
 use Rattle.odin_store.specs.declared.store.Store.{Store}
 use Rattle.odin_store.specs.Held.{Held, Change, puts, drops, keeps, apply, IsDue}
-use Rattle.odin_store.specs.OnDisk.{held_in, LeavesChange, AddsBatch, IsChangeFault, IsUnchanged, WorksOnce}
+use Rattle.odin_store.specs.OnDisk.{held_in, LeavesChange, AddsBatch, IsChangeFault, IsUnchanged, BeginsOnce}
 use Rattle.odin_store.specs.Changes.{PutBatch, DropBatch, CallBatch}
 use Rattle.odin_store.proofs.StoreLemmas.{Makes, leaves_change, appends, change_fault}
 use Rattle.odin_store.proofs.BatchLemmas.{put_makes, drop_makes, call_makes}
+use Rattle.odin_store.proofs.RecordTrails.{adds_first, nothing_first}
+use Rattle.odin_store.proofs.WrittenLemmas.{works_for_one}
 
 -- these bytes are such a batch, which makes a change of what the store holds
 pub record Ready (IsBatch : List Item → Type 0) (change : Change) (store : Store) (payload : List ℕ) (next : Tables) (edited : Texts) : Type 0 where
@@ -59,6 +62,10 @@ call_ready law call outcome store mid prepared same may some = record {
   makes = call_makes law call outcome store.kept.tables some.2.next store.sources.texts some.0 may some.1 some.2.fit (subst (λ (t : Tables). LoadsAll t some.0 some.2.next) same some.2.loads);
 }
 
+-- nothing is done, and no batch is begun
+pub begins_none : (IsBatch : List Item → Type 0) (store : Store) (disk : Telling) → ((image : List ℕ) → IsTrue disk.follows → disk.left_since disk.moment image → MayLeave disk image) → BeginsOnce IsBatch store disk disk
+begins_none IsBatch store disk only_now = record { begun = []; one = inl refl; works = no_work disk.work; leaves = nothing_first store disk only_now }
+
 -- ---- its adding, over a journal that is as it was
 
 module _ (IsBatch : List Item → Type 0) (change : Change) (store : Store) (payload bytes : List ℕ) (next : Tables) (edited : Texts) (ready : Ready IsBatch change store payload next edited) (is : bytes ≡ payload) where
@@ -73,19 +80,27 @@ module _ (IsBatch : List Item → Type 0) (change : Change) (store : Store) (pay
   pub ready_fault : (journal : Journal) → journal ≡ store.journal → IsDue change (held_in store) → (e : JournalFault) → IsAddFault journal.end (length bytes) e → IsChangeFault IsBatch change store e
   ready_fault journal same due e told = change_fault IsBatch ready.items change store bytes spelled ready.batch due e (subst (λ (j : Journal). IsAddFault j.end (length bytes) e) same told)
 
-  pub ready_works : (old new : Telling) → Works (length bytes + 6) 4 old new → WorksOnce IsBatch old new
-  ready_works old new works = inr (ready.items, ready.batch, subst (λ b. Works (length b + 6) 4 old new) spelled works)
+  pub ready_begins : (journal : Journal) (old new : Telling) → journal ≡ store.journal → KeepsOrAdds journal.end bytes old new → Works (length bytes + 6) 4 old new → BeginsOnce IsBatch store old new
+  ready_begins journal old new same leaves works = record {
+    begun = spell_batch ready.items ∷ [];
+    one = inr (ready.items, ready.batch, refl);
+    works = works_for_one (spell_batch ready.items) old new (subst (λ b. Works (length b + 6) 4 old new) spelled works);
+    leaves =
+        adds_first store (spell_batch ready.items) old new
+        (subst (λ (j : Journal). KeepsOrAdds j.end (spell_batch ready.items) old new) same (subst (λ b. KeepsOrAdds journal.end b old new) spelled leaves));
+  }
 
   pub ready_adds : (journal : Journal) (after : Store) (old new : Telling) → journal ≡ store.journal → Adds journal.end after.journal.end bytes old new → journal.end + 6 + length bytes ≤ file_limit
-      → Works (length bytes + 6) 4 old new → after.kept.tables ≡ next → after.sources.texts ≡ edited → AddsBatch IsBatch store after old new
-  ready_adds journal after old new same adds room works tables sources = (
+      → KeepsOrAdds journal.end bytes old new → Works (length bytes + 6) 4 old new → after.kept.tables ≡ next → after.sources.texts ≡ edited → AddsBatch IsBatch store after old new
+  ready_adds journal after old new same adds room leaves works tables sources = (
     ready.items,
     ready.batch,
     appends change ready.items store after old new bytes spelled
         (subst (λ (t : Tables). Makes change store.kept.tables store.sources.texts (spell_batch ready.items) t after.sources.texts) (sym tables)
         (subst (λ (s : Texts). Makes change store.kept.tables store.sources.texts (spell_batch ready.items) next s) (sym sources) ready.makes))
         (subst (λ (j : Journal). Adds j.end after.journal.end bytes old new) same adds)
-        (subst (λ (j : Journal). j.end + 6 + length bytes ≤ 1073741824) same room) works,
+        (subst (λ (j : Journal). j.end + 6 + length bytes ≤ 1073741824) same room)
+        (subst (λ (j : Journal). KeepsOrAdds j.end bytes old new) same leaves) works,
   )
 
   pub ready_holds : (tables : Tables) (sources : Texts) → tables ≡ next → sources ≡ edited → ◌≡◌ {A = Held} (record { sources = sources; calls = tables.calls }) (apply change (held_in store))

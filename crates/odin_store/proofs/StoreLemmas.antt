@@ -17,6 +17,7 @@ use Rattle.odin_store.specs.declared.store.Store.{Store}
 use Rattle.odin_store.specs.Held.{Held, Change, apply, IsDue, StandsFor}
 use Rattle.odin_store.specs.OnDisk.{held_in, state_in, IsOn, LeavesChange, Appends, IsChangeFault}
 use Rattle.odin_store.proofs.LoadLemmas.{reads_on}
+use Rattle.odin_store.proofs.RecordTrails.{adds_first}
 
 -- ---- answers
 
@@ -59,8 +60,8 @@ leaves_same change store disk only_now records graph on =
 pub appends : (change : Change) (items : List Item) (store next : Store) (old new : Telling) (payload : List ℕ)
     → payload ≡ spell_batch items
     → Makes change store.kept.tables store.sources.texts (spell_batch items) next.kept.tables next.sources.texts
-    → Adds store.journal.end next.journal.end payload old new → store.journal.end + 6 + length payload ≤ file_limit → Works (length payload + 6) 4 old new → Appends items store next old new
-appends change items store next old new payload is makes adds room works =
+    → Adds store.journal.end next.journal.end payload old new → store.journal.end + 6 + length payload ≤ file_limit → KeepsOrAdds store.journal.end payload old new → Works (length payload + 6) 4 old new → Appends items store next old new
+appends change items store next old new payload is makes adds room leaves works =
     let bytes = spell_batch items in
     let added : Adds store.journal.end next.journal.end bytes old new = subst (λ p. Adds store.journal.end next.journal.end p old new) is adds in
     let fits : store.journal.end + 6 + length bytes ≤ 1073741824 = subst (λ p. store.journal.end + 6 + length p ≤ 1073741824) is room in
@@ -73,6 +74,7 @@ appends change items store next old new payload is makes adds room works =
         read = reads_on records bytes nothing (state_in store graph) (state_in next graph) on.read (makes.reads graph);
       };
       bytes = added.bytes;
+      leaves = adds_first store bytes old new (subst (λ p. KeepsOrAdds store.journal.end p old new) is leaves);
       works = subst (λ p. Works (length p + 6) 4 old new) is works;
     }
 

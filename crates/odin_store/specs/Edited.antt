@@ -1,5 +1,5 @@
 -- What an edit of the sources does to a store, for callers that don't look into it.
-use Rattle.std.specs.Prelude.{◌≢◌, ◌↔◌, ◌+◌, ◌≤◌, List, [], ◌∷◌, Bool, cond, IsTrue, IsFalse, Some, IsSome}
+use Rattle.std.specs.Prelude.{◌≡◌, ◌≢◌, ◌↔◌, ◌+◌, List, [], ◌∷◌, Bool, cond, IsTrue, IsFalse, Some, IsSome}
 use Rattle.std.specs.FinMap as map
 use Rattle.odin_outside.specs.Disk.{Telling}
 use Rattle.object_sources.specs.Texts.{Text}
@@ -8,16 +8,16 @@ use Rattle.odin_journal.specs.declared.fault.JournalFault.TheVariants as fault
 use Rattle.meaning_records.specs.declared.items.Item.{Item}
 use Rattle.odin_store.specs.declared.store.Store.{Store}
 use Rattle.odin_store.specs.Held.{Change, puts, drops, IsDue}
-use Rattle.odin_store.specs.OnDisk.{held_in, IsChangeFault, IsOver, IsSame, LeavesChange, WorksOnce}
+use Rattle.odin_store.specs.OnDisk.{held_in, IsChangeFault, IsOver, IsSame, LeavesChange, BeginsOnce}
 use Rattle.odin_store.specs.Changes.{DropsSource, PutsText}
 use Rattle.odin_store.specs.Going.{IsBatchOf, Goes, Stops}
 
--- The sources change exactly where this is so, by the one change; else nothing is written, and all is as it was.
+-- The sources change exactly where this is so, by the one change, and the epoch rises by one; else nothing is written, and all is as it was.
 pub record HasEdited {Disk : Type 0} (told : Disk → Telling) (Changes : Type 0) (change : Change) (store next : Store) (disk after : Disk) (changed : Bool) : Type 0 where
   pub exact : IsTrue changed ↔ Changes
   pub goes : Goes told (cond changed (change ∷ []) []) store next disk after
   pub same : IsFalse changed → IsSame store next disk after
-  pub epoch : next.epoch ≤ store.epoch + 1
+  pub epoch : next.epoch ≡ store.epoch + cond changed 1 0
 
 -- a put changes the sources where the source has another text, or isn't there
 abbrev pub HasPut : {Disk : Type 0} → (Disk → Telling) → Text → Text → Store → Store → Disk → Disk → Bool → Type 0
@@ -45,5 +45,5 @@ pub record EditsAreTold {Disk : Type 0} (told : Disk → Telling) : Type 0 where
       → HasDropped told name store next disk after changed
   pub failed : (change : Change) (store next : Store) (disk after : Disk) (e : JournalFault)
       → IsChangeFault (IsBatchOf store.kept.tables.contents change) change store e → (e ≢ fault.Disk → IsSame store next disk after)
-      → LeavesChange change store (told disk) (told after) → WorksOnce (IsBatchOf store.kept.tables.contents change) (told disk) (told after)
+      → LeavesChange change store (told disk) (told after) → BeginsOnce (IsBatchOf store.kept.tables.contents change) store (told disk) (told after)
       → HasFailed told change store next disk after e

@@ -11,9 +11,9 @@ use Rattle.meaning_records.specs.Batches.{drop_batch, IsPutBatch, IsCallBatch}
 use Rattle.meaning_records.specs.Stands.{gate_behind}
 use Rattle.meaning_records.specs.States.{State, Reads, spell_batch}
 use Rattle.odin_store.specs.declared.store.Store.{Store}
-use Rattle.odin_store.specs.Written.{WorksFor, with_records}
+use Rattle.odin_store.specs.Written.{WorksFor, with_records, record_keeping}
 use Rattle.odin_store.specs.Held.{Change, puts, drops, keeps}
-use Rattle.odin_store.specs.OnDisk.{held_in, state_in, IsOn, IsSame, LeavesChange, WorksOnce}
+use Rattle.odin_store.specs.OnDisk.{held_in, state_in, IsOn, IsSame, LeavesChange, BeginsOnce}
 use Rattle.odin_store.specs.Changes.{PutBatch, DropBatch, Edits, KeepsCall}
 use Rattle.odin_store.specs.Keeping.{store_keeping}
 
@@ -30,28 +30,38 @@ pub data AreBatches (old : State) : List Change → List (List ℕ) → State �
       → AreBatches old changes payloads mid → IsBatchOf mid.tables.contents change items → Reads mid (spell_batch items) new
       → AreBatches old (changes ++ change ∷ []) (payloads ++ spell_batch items ∷ []) new
 
--- The disk has these records and after them the batches of these changes, and no others. Nothing else was written, and no more work done.
-pub record HasBatches (changes : List Change) (store next : Store) (old now : Telling) (records : List (List ℕ)) (graph : Option Text) : Type 0 where
+-- The disk has these records and after them the batches of these changes, and no others; a crash on the way leaves some first ones of them.
+-- Nothing else was written, and no more work done.
+pub record HasBatches {Disk : Type 0} (told : Disk → Telling) (changes : List Change) (store next : Store) (disk after : Disk) (records : List (List ℕ)) (graph : Option Text) : Type 0 where
   pub payloads : List (List ℕ)
   pub are : AreBatches (state_in store graph) changes payloads (state_in next graph)
-  pub on : IsOn now next (records ++ payloads) graph
+  pub on : IsOn (told after) next (records ++ payloads) graph
   pub end : next.journal.end ≡ gate_behind store.journal.end payloads
-  pub bytes : now.seen ≡ with_records store.journal.end payloads old.seen
-  pub works : WorksFor payloads old now
+  pub bytes : (told after).seen ≡ with_records store.journal.end payloads (told disk).seen
+  pub grows : trails.Grows record_keeping told payloads disk store after next
+  pub works : WorksFor payloads (told disk) (told after)
 
 -- These changes were made, one after another, and nothing else.
 pub record Goes {Disk : Type 0} (told : Disk → Telling) (changes : List Change) (store next : Store) (disk after : Disk) : Type 0 where
   pub holds : held_in next ≡ trails.after store_keeping changes (held_in store)
   pub grows : trails.Grows store_keeping told changes disk store after next
-  pub batches : (records : List (List ℕ)) (graph : Option Text) → IsOn (told disk) store records graph → HasBatches changes store next (told disk) (told after) records graph
+  pub batches : (records : List (List ℕ)) (graph : Option Text) → IsOn (told disk) store records graph → HasBatches told changes store next disk after records graph
 
 -- The batch that was begun after these contents: that of the first of these changes, or none.
 pub data IsBegun (contents : List Value) : List Change → List (List ℕ) → Type 0 where
   none_begun : (changes : List Change) → IsBegun contents changes []
   one_begun : (change : Change) (more : List Change) (items : List Item) → IsBatchOf contents change items → IsBegun contents (change ∷ more) (spell_batch items ∷ [])
 
--- The work is that of the batches of some first ones of these changes at most, and of one that was begun.
-pub record HasBegun (changes : List Change) (store : Store) (old now : Telling) (graph : Option Text) : Type 0 where
+-- After whatever came before, a crash leaves that and some first ones of these payloads and of what was begun after them; and one that comes
+-- now leaves all but what was begun.
+abbrev pub LeavesBegun : {Disk : Type 0} → (Disk → Telling) → List (List ℕ) → List (List ℕ) → Store → Disk → Disk → Type 0
+LeavesBegun {Disk} told payloads begun store disk after =
+    (first : List (List ℕ)) (start : Disk) (before : List (List ℕ)) → trails.Trail record_keeping first (told start) before store (told disk)
+    → trails.Leaves record_keeping first (told start) (before ++ payloads) (before ++ (payloads ++ begun)) (told after)
+
+-- Some first ones of these changes have their batches, and one more was begun at most. The work is no more than for them, and a crash
+-- leaves no others.
+pub record HasBegun {Disk : Type 0} (told : Disk → Telling) (changes : List Change) (store : Store) (disk after : Disk) (graph : Option Text) : Type 0 where
   pub made : List Change
   pub rest : List Change
   pub whole : changes ≡ made ++ rest
@@ -60,12 +70,13 @@ pub record HasBegun (changes : List Change) (store : Store) (old now : Telling) 
   pub are : AreBatches (state_in store graph) made payloads last
   pub begun : List (List ℕ)
   pub next : IsBegun last.tables.contents rest begun
-  pub works : WorksFor (payloads ++ begun) old now
+  pub leaves : LeavesBegun told payloads begun store disk after
+  pub works : WorksFor (payloads ++ begun) (told disk) (told after)
 
 -- Of these changes some first ones were made, and none that came before is lost.
 pub record Stops {Disk : Type 0} (told : Disk → Telling) (changes : List Change) (store : Store) (disk after : Disk) : Type 0 where
   pub within : trails.StopsWithin store_keeping told changes disk store after
-  pub begun : (records : List (List ℕ)) (graph : Option Text) → IsOn (told disk) store records graph → HasBegun changes store (told disk) (told after) graph
+  pub begun : (records : List (List ℕ)) (graph : Option Text) → IsOn (told disk) store records graph → HasBegun told changes store disk after graph
 
 -- ---- what the calls do, as changes one after another
 
@@ -85,7 +96,7 @@ module _ {Disk : Type 0} (told : Disk → Telling) where
   -- Where changes stop: within one that failed, behind others, or at any moment; and more of them may have been meant.
   pub record ChangesStop : Type 0 where
     pub failed : (change : Change) (store : Store) (disk after : Disk) → LeavesChange change store (told disk) (told after)
-        → WorksOnce (IsBatchOf store.kept.tables.contents change) (told disk) (told after) → Stops told (change ∷ []) store disk after
+        → BeginsOnce (IsBatchOf store.kept.tables.contents change) store (told disk) (told after) → Stops told (change ∷ []) store disk after
     pub behind : (some more : List Change) (store mid : Store) (disk between after : Disk)
         → Goes told some store mid disk between → Stops told more mid between after → Stops told (some ++ more) store disk after
     pub left : (changes : List Change) (store next : Store) (disk after : Disk) → Goes told changes store next disk after → Stops told changes store disk after

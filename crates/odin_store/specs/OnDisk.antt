@@ -12,6 +12,7 @@ use Rattle.meaning_records.specs.declared.items.Item.{Item}
 use Rattle.meaning_records.specs.States.{State, nothing, ReadsAll, spell_batch}
 use Rattle.odin_store.specs.declared.store.Store.{Store}
 use Rattle.odin_store.specs.Held.{Held, Change, apply, IsDue, StandsFor}
+use Rattle.odin_store.specs.Written.{WorksFor, LeavesFirst}
 
 -- what a store holds
 abbrev pub held_in : Store → Held
@@ -42,6 +43,7 @@ pub record Appends (items : List Item) (store next : Store) (old new : Telling) 
   pub room : next.journal.end < file_limit
   pub on : (records : List (List ℕ)) (graph : Option Text) → IsOn old store records graph → IsOn new next (records ++ spell_batch items ∷ []) graph
   pub bytes : IsQuiet old → new.seen ≡ with_record store.journal.end (spell_batch items) old.seen
+  pub leaves : LeavesFirst store (spell_batch items ∷ []) old new
   pub works : Works (length (spell_batch items) + 6) 4 old new
 
 -- some such batch: that one, and no other
@@ -79,6 +81,13 @@ pub record IsSame {D : Type 0} (store next : Store) (disk after : D) : Type 0 wh
   pub disk_is : after ≡ disk
   pub store_is : IsUnchanged store next
 
--- the work is that of adding one such batch at most
-abbrev pub WorksOnce : (List Item → Type 0) → Telling → Telling → Type 0
-WorksOnce IsBatch old new = Works 0 0 old new ⊎ ((items : List Item) × IsBatch items × Works (length (spell_batch items) + 6) 4 old new)
+-- no batch, or one such
+abbrev pub IsOneOf : (List Item → Type 0) → List (List ℕ) → Type 0
+IsOneOf IsBatch begun = (begun ≡ []) ⊎ ((items : List Item) × IsBatch items × (begun ≡ spell_batch items ∷ []))
+
+-- One such batch was begun at most: no more work was done than for it, and a crash leaves the records with it or without.
+pub record BeginsOnce (IsBatch : List Item → Type 0) (store : Store) (old new : Telling) : Type 0 where
+  pub begun : List (List ℕ)
+  pub one : IsOneOf IsBatch begun
+  pub works : WorksFor begun old new
+  pub leaves : LeavesFirst store begun old new

@@ -1,9 +1,10 @@
 -- The opening of a store.
-use Rattle.std.specs.Prelude.{◌≡◌, ◌≢◌, ◌⊎◌, ⊤, ℕ, ◌+◌, ◌*◌, ◌<◌, List, [], ◌∷◌, ◌++◌, length, Option, Some}
+use Rattle.std.specs.Prelude.{◌≡◌, ◌≢◌, ◌⊎◌, ⊤, ℕ, ◌+◌, ◌*◌, ◌≤◌, ◌<◌, List, [], ◌∷◌, ◌++◌, length, Option, Some}
 use Rattle.odin_outside.specs.Disk.{Telling, IsQuiet, LeavesOnly}
 use Rattle.object_sources.specs.Texts.{Text}
-use Rattle.meaning_store.specs.Front.{file_limit}
-use Rattle.meaning_store.specs.Images.{Stored, IsStore}
+use Rattle.meaning_texts.specs.Limits.{graph_limit}
+use Rattle.meaning_store.specs.Front.{file_limit, new_store}
+use Rattle.meaning_store.specs.Images.{IsNew, Stored, IsStore}
 use Rattle.odin_journal.specs.Moments.{Untouched, Works}
 use Rattle.odin_journal.specs.Rest.{AtRest}
 use Rattle.odin_journal.specs.declared.fault.JournalFault.{JournalFault}
@@ -51,9 +52,26 @@ OpensQuiet graph old new store = IsQuiet old → Opens graph old new store
 abbrev pub IsAtFirst : Store → Type 0
 IsAtFirst store = store.epoch ≡ 0
 
+-- the records read, and their last graph is another, if they have one
+abbrev pub HaveOther : Text → List (List ℕ) → Type 0
+HaveOther graph records = (state : State) × ReadsAll nothing records state × (state.graph ≢ Some graph)
+
+-- The image has the records that the file had, or, where the batch of the opening was due, these and that.
+abbrev pub HasOpening : Text → List (List ℕ) → List ℕ → Type 0
+HasOpening graph records image = Stored records image ⊎ (HaveOther graph records × Stored (records ++ graph_record graph ∷ []) image)
+
+-- a crash at any moment leaves such an image
+abbrev pub LeavesOpening : Text → Telling → Telling → Type 0
+LeavesOpening graph old new = (records : List (List ℕ)) → IsQuiet old → Stored records old.seen → LeavesOnly old new (HasOpening graph records)
+
 -- a crash at any moment leaves what the file stood for
 abbrev pub LeavesHeld : Telling → Telling → Type 0
 LeavesHeld old new = (state : State) → IsQuiet old → Stands old.seen state → LeavesOnly old new (StandsFor (held_of state))
+
+-- so it does where it leaves no other records
+abbrev pub OpeningsKeepHeld : {Disk : Type 0} → (Disk → Telling) → Type 0
+OpeningsKeepHeld {Disk} told =
+    (graph : Text) (old new : Disk) → length graph ≤ graph_limit → LeavesOpening graph (told old) (told new) → LeavesHeld (told old) (told new)
 
 -- The file is a store whose last graph is another, if it has one, and whose next batch, that of this graph, doesn't fit behind its end.
 pub record IsFull (graph : Text) (image : Telling) (end count : ℕ) : Type 0 where
@@ -65,8 +83,16 @@ pub record IsFull (graph : Text) (image : Telling) (end count : ℕ) : Type 0 wh
   pub count_is : count ≡ length (graph_record graph)
   pub over : file_limit < end + 6 + count
 
--- A fault of an opening. `NotOurs` is exact: what stands for something has no such offset, and no file has two.
+-- a file that counted as new was made a store, and no record was added
+pub record IsMadeNew (old new : Telling) : Type 0 where
+  pub is_new : IsNew old.seen
+  pub quiet : IsQuiet new
+  pub bytes : new.seen ≡ new_store old.seen
+
+-- A fault of an opening. `NotOurs` is exact: what stands for something has no such offset, and no file has two. Where memory was wanting
+-- no batch was begun; where the disk failed that of the opening may have been, and what a crash leaves then is said for any answer.
 abbrev pub IsOpenFault : Text → Telling → Telling → JournalFault → Type 0
 IsOpenFault graph old new (fault.NotOurs at) = IsQuiet old → Untouched old new × StandsNot old.seen at
 IsOpenFault graph old new (fault.Full end count) = IsQuiet old → Untouched old new × IsFull graph old end count
-IsOpenFault graph old new other = ⊤
+IsOpenFault graph old new fault.Memory = IsQuiet old → Untouched old new ⊎ IsMadeNew old new
+IsOpenFault graph old new fault.Disk = ⊤

@@ -2,6 +2,7 @@
 ghost use Rattle.odin_store.specs.Keeping.{KeepsChanges};
 ghost use Rattle.odin_store.specs.Going.{ChangesFollow, ChangesStop};
 ghost use Rattle.odin_store.specs.Edited.{EditsAreTold};
+ghost use Rattle.odin_store.specs.Opening.{OpeningsKeepHeld};
 
 use meaning_records::laws::reads_in_one_way;
 use odin_outside::Disk;
@@ -9,6 +10,13 @@ use odin_outside::Disk;
 /// A store keeps its changes on a disk one behind another.
 pub fn keeps_changes<D: Disk>()
     ensures { KeepsChanges D.told }
+{
+    reads_in_one_way();
+}
+
+/// A crash within an opening leaves what the file stood for.
+pub fn openings_keep_held<D: Disk>()
+    ensures { OpeningsKeepHeld D.told }
 {}
 
 /// What calls of a store do follows each other as one list of changes.

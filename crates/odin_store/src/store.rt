@@ -47,15 +47,15 @@ impl Drop for Store {
 }
 
 impl Store {
-    ghost use Rattle.odin_store.specs.OnDisk.{IsChangeFault, IsLeft, IsOpen, IsSame, IsUnchanged, LeavesChange, WorksOnce};
-    ghost use Rattle.odin_store.specs.Opening.{graph_record, IsAtFirst, IsOpenFault, LeavesHeld, OpensQuiet};
+    ghost use Rattle.odin_store.specs.OnDisk.{BeginsOnce, IsChangeFault, IsLeft, IsOpen, IsSame, IsUnchanged, LeavesChange};
+    ghost use Rattle.odin_store.specs.Opening.{graph_record, IsAtFirst, IsOpenFault, LeavesOpening, OpensQuiet};
     ghost use Rattle.odin_store.specs.Changes.{CallBatch, DropBatch, DropsSource, KeepsCall, MayKeep, MayPut, PutBatch, PutsText};
 
     /// Opens the store in a file for a graph of this text. Where the last graph text in the file is another, this one is added.
     pub fn open<D: Disk>(alloc: Global, disk: &mut D, graph: &[u8]) -> Result<Store, JournalFault>
         requires { length graph.now ≤ graph_limit }
         ensures opened { IfOk result (OpensQuiet graph.now (D.told disk.old) (D.told disk.new)) }
-        ensures any_moment { LeavesHeld (D.told disk.old) (D.told disk.new) }
+        ensures any_moment { LeavesOpening graph.now (D.told disk.old) (D.told disk.new) }
         ensures refused { IfErr result
             (IsOpenFault graph.now (D.told disk.old) (D.told disk.new)) }
         ensures first { IfOk result IsAtFirst }
@@ -110,7 +110,7 @@ impl Store {
             (puts name.now text.now) self.old) }
         ensures same { IsRefused result → IsSame self.old self.new disk.old disk.new }
         ensures left { IsLeft self.new (D.size_of disk.new) result }
-        ensures works { WorksOnce (PutBatch self.old name.now text.now)
+        ensures begins { BeginsOnce (PutBatch self.old name.now text.now) self.old
             (D.told disk.old) (D.told disk.new) }
         ensures cause { IsCause (D.faults disk.old) (D.faults disk.new) result }
     {
@@ -142,7 +142,8 @@ impl Store {
             (IsChangeFault (DropBatch name.now) (drops name.now) self.old) }
         ensures same { IsRefused result → IsSame self.old self.new disk.old disk.new }
         ensures left { IsLeft self.new (D.size_of disk.new) result }
-        ensures works { WorksOnce (DropBatch name.now) (D.told disk.old) (D.told disk.new) }
+        ensures begins { BeginsOnce (DropBatch name.now) self.old
+            (D.told disk.old) (D.told disk.new) }
         ensures cause { IsCause (D.faults disk.old) (D.faults disk.new) result }
     {
         self.before_drop(disk, name);
@@ -173,7 +174,7 @@ impl Store {
             (keeps call.now outcome.now) self.old) }
         ensures same { IsRefused result → IsSame self.old self.new disk.old disk.new }
         ensures left { IsLeft self.new (D.size_of disk.new) result }
-        ensures works { WorksOnce (CallBatch self.old call.now outcome.now)
+        ensures begins { BeginsOnce (CallBatch self.old call.now outcome.now) self.old
             (D.told disk.old) (D.told disk.new) }
         ensures cause { IsCause (D.faults disk.old) (D.faults disk.new) result }
     {
@@ -216,15 +217,20 @@ impl Store {
         self.journal.spent()
     }
 
-    // Before a put writes, a crash leaves what is held.
+    // Before a put writes, a crash leaves what is held, and no batch is begun.
     fn before_put<D: Disk>(&self, disk: &D, name: &Name, text: &Text)
-        ensures { LeavesChange (puts name.now text.now) self.now
+        ensures leaves { LeavesChange (puts name.now text.now) self.now
+            (D.told disk.now) (D.told disk.now) }
+        ensures begins { BeginsOnce (PutBatch self.now name.now text.now) self.now
             (D.told disk.now) (D.told disk.now) }
     {}
 
-    // Before a drop writes, a crash leaves what is held.
+    // Before a drop writes, a crash leaves what is held, and no batch is begun.
     fn before_drop<D: Disk>(&self, disk: &D, name: &Name)
-        ensures { LeavesChange (drops name.now) self.now (D.told disk.now) (D.told disk.now) }
+        ensures leaves { LeavesChange (drops name.now) self.now
+            (D.told disk.now) (D.told disk.now) }
+        ensures begins { BeginsOnce (DropBatch name.now) self.now
+            (D.told disk.now) (D.told disk.now) }
     {}
 
     // Whether the source has this text.

@@ -1,5 +1,5 @@
 -- The changes of a source, and what the store's edits make of them.
-use Rattle.std.proofs.Common.{◌≡◌, ◌≢◌, ◌+◌, ◌≤◌, Bool, true, false, cond, List, [], ◌∷◌, Option, Some, None, IsSome, Result, Ok, Err, OnOk, refl, sym, ap, subst, ◌∙◌, inl, arith}
+use Rattle.std.proofs.Common.{◌≡◌, ◌≢◌, ◌+◌, Bool, true, false, cond, List, [], ◌∷◌, length, Option, Some, None, IsSome, Result, Ok, Err, OnOk, refl, sym, ap, subst, ◌∙◌, inl, arith}
 use Rattle.std.specs.Str.{bytes_eq}
 use Rattle.std.proofs.lemmas.Slice.Eq.{bytes_eq-Decides}
 use Rattle.std.specs.Cmp.Lexicographic.{nat_list_cmp_total}
@@ -65,9 +65,9 @@ same_store : {Disk : Type 0} (store : Store) (disk : Disk) → IsSame store stor
 same_store store disk = record { disk_is = refl; store_is = record { journal = refl; tables = refl; sources = refl; epoch = refl } }
 
 module _ {Disk : Type 0} (told : Disk → Telling) where
-  goes_as : (name : Text) (store next : Store) (disk after : Disk) (changes : List Change) → edit_changes name store.sources.texts next.sources.texts ≡ changes → next.epoch ≤ store.epoch + 1
+  goes_as : (name : Text) (store next : Store) (disk after : Disk) (changes : List Change) → edit_changes name store.sources.texts next.sources.texts ≡ changes → next.epoch ≡ store.epoch + length changes
       → Goes told changes store next disk after → EditsSource told name store next disk after
-  goes_as name store next disk after changes are epoch goes = record { goes = subst (λ c. Goes told c store next disk after) (sym are) goes; epoch = epoch }
+  goes_as name store next disk after changes are epoch goes = record { goes = subst (λ c. Goes told c store next disk after) (sym are) goes; epoch = subst (λ c. next.epoch ≡ store.epoch + length c) (sym are) epoch }
 
   none_edited : ChangesFollow told → (name : Text) (store : Store) (disk : Disk) → EditsSource told name store store disk disk
   none_edited law name store disk =

@@ -27,10 +27,10 @@ source_changes name (Some old) (Some text) = cond (bytes_eq old text) [] (puts n
 abbrev pub edit_changes : Text → Texts → Texts → List Change
 edit_changes name old new = source_changes name (get old name) (get new name)
 
--- The store went by the change of this source, where it changed at all.
+-- The store went by the change of this source, where it changed at all, and its epoch rose by as much.
 pub record EditsSource {Disk : Type 0} (told : Disk → Telling) (name : Text) (store next : Store) (disk after : Disk) : Type 0 where
   pub goes : Goes told (edit_changes name store.sources.texts next.sources.texts) store next disk after
-  pub epoch : next.epoch ≤ store.epoch + 1
+  pub epoch : next.epoch ≡ store.epoch + length (edit_changes name store.sources.texts next.sources.texts)
 
 -- And the source has this text now.
 pub record PutsSource {Disk : Type 0} (told : Disk → Telling) (name text : Text) (store next : Store) (disk after : Disk) : Type 0 where

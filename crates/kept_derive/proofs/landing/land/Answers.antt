@@ -22,7 +22,7 @@ give-requires-clause-wanted g c =
 pub returns-in_err-keep_call-clause-fails : goal.returns-in_err-keep_call-clause-fails
 returns-in_err-keep_call-clause-fails g c =
     let given = err_from_is_err_and _ c.from_residual.ensures.1 in
-    let failed = c.edits_are_told.ensures.failed (keeps c.in-Ok.ended.0 c.in-Ok.ended.1) _ _ _ _ _ c.in_err-keep_call.ensures.fault (λ apart. c.in_err-keep_call.ensures.same (refused_but (Unit {0}) _ apart)) c.keep_call.ensures.any_moment c.keep_call.ensures.works in
+    let failed = c.edits_are_told.ensures.failed (keeps c.in-Ok.ended.0 c.in-Ok.ended.1) _ _ _ _ _ c.in_err-keep_call.ensures.fault (λ apart. c.in_err-keep_call.ensures.same (refused_but (Unit {0}) _ apart)) c.keep_call.ensures.any_moment c.keep_call.ensures.begins in
     fails_at _ _ _ _ _ _ _ _ _ (given.1 ∙ ap (λ f. Err f) given.2) (unkept g.D.Disk.told _ _ _ _ _ _ c.in-Ok.ended.0 c.in-Ok.ended.1 _ c.in-Ok.ensures.ok failed)
 
 pub returns-in_err-give-clause-fails : goal.returns-in_err-give-clause-fails

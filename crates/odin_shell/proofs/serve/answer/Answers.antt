@@ -6,7 +6,7 @@ use Rattle.meaning_answers.specs.Answers as answers
 use Rattle.odin_journal.specs.declared.fault.JournalFault.TheVariants as fault
 use Rattle.source_edits.specs.Edits.{Says}
 use Rattle.odin_shell.proofs.AnswerLemmas.{at_stop, same_answers}
-use Rattle.odin_shell.proofs.CommandLemmas.{put_said, put_unsaid, remove_said, remove_unsaid, take_said, take_unsaid, ask_said, ask_unsaid, shown, unshown}
+use Rattle.odin_shell.proofs.CommandLemmas.{edit_onward, put_said, put_unsaid, remove_said, remove_unsaid, take_said, take_unsaid, ask_said, ask_unsaid, shown, unshown}
 use Rattle.odin_shell.proofs.ShowLemmas.{plan_answers, sources_answers, kept_answers}
 use Rattle.odin_shell.proofs.serve.answer.Goals as goal
 
@@ -37,6 +37,15 @@ returns-in-Remove-clause-ok g c =
 
 pub returns-in-Remove-clause-err : goal.returns-in-Remove-clause-err
 returns-in-Remove-clause-err g c = remove_unsaid _ _ c.remove.new.engine _ _ _ _ _ _ c.in-Remove.name (sym c.into_parts-command.ensures.command ∙ c.in-Remove.is) c.remove.result c.remove.ensures.err c.remove.ensures.cause
+
+pub returns-in-Put-clause-onward : goal.returns-in-Put-clause-onward
+returns-in-Put-clause-onward g c = edit_onward _ _ _ _ _ c.in-Put.name c.put.result c.put.ensures.ok c.put.ensures.left c.put.ensures.cause
+
+pub returns-in-Take-clause-onward : goal.returns-in-Take-clause-onward
+returns-in-Take-clause-onward g c = edit_onward _ _ _ _ _ c.in-Take.name c.take.result c.take.ensures.ok c.take.ensures.left c.take.ensures.cause
+
+pub returns-in-Remove-clause-onward : goal.returns-in-Remove-clause-onward
+returns-in-Remove-clause-onward g c = edit_onward _ _ _ _ _ c.in-Remove.name c.remove.result c.remove.ensures.ok c.remove.ensures.left c.remove.ensures.cause
 
 -- ---- asks
 

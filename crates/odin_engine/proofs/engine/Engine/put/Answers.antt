@@ -27,4 +27,4 @@ returns-clause-err g c =
     subst (λ (e : Engaged). IfErr c.put_source.result (HasFailed g.D.Disk.told change e.store next disk after)) c.self.view_is
     (fault_told c.put_source.result (IsChangeFault (PutBatch store c.args.name.now c.args.text.now) change store) (HasFailed g.D.Disk.told change store next disk after) (IsSame store next disk after)
     c.put_source.ensures.fault c.put_source.ensures.same
-    (λ e told same. c.edits_are_told.ensures.failed change store next disk after e told same c.put_source.ensures.any_moment c.put_source.ensures.works))
+    (λ e told same. c.edits_are_told.ensures.failed change store next disk after e told same c.put_source.ensures.any_moment c.put_source.ensures.begins))

@@ -27,4 +27,4 @@ returns-clause-err g c =
     subst (λ (e : Engaged). IfErr c.drop_source.result (HasFailed g.D.Disk.told change e.store next disk after)) c.self.view_is
     (fault_told c.drop_source.result (IsChangeFault (DropBatch c.args.name.now) change store) (HasFailed g.D.Disk.told change store next disk after) (IsSame store next disk after)
     c.drop_source.ensures.fault c.drop_source.ensures.same
-    (λ e told same. c.edits_are_told.ensures.failed change store next disk after e told same c.drop_source.ensures.any_moment c.drop_source.ensures.works))
+    (λ e told same. c.edits_are_told.ensures.failed change store next disk after e told same c.drop_source.ensures.any_moment c.drop_source.ensures.begins))

@@ -6,7 +6,7 @@ use Rattle.odin_store.specs.Changes.{DropBatch}
 use Rattle.odin_store.proofs.SourceLemmas.{drop_stays}
 use Rattle.odin_store.specs.OnDisk.{IsChangeFault}
 use Rattle.odin_store.proofs.StoreLemmas.{handed}
-use Rattle.odin_store.proofs.ReadyLemmas.{drop_ready, ready_leaves, ready_fault, ready_adds, ready_holds}
+use Rattle.odin_store.proofs.ReadyLemmas.{drop_ready, ready_leaves, ready_begins, ready_fault, ready_adds, ready_holds}
 use Rattle.odin_store.proofs.store.Store.drop_source.Goals as goal
 
 pub returns-in_err-append-clause-any_moment : goal.returns-in_err-append-clause-any_moment
@@ -58,7 +58,7 @@ returns-clause-drops g c =
         epoch = omega arith;
         adds =
             ready_adds (DropBatch name) (drops name) store payload c.as_slice.result.now store.kept.tables edited ready c.as_slice.ensures store.journal _
-            (g.D.Disk.told c.args.disk.now) (g.D.Disk.told c.append.new.disk) refl c.in_ok-append.ensures.added c.in_ok-append.ensures.full.room c.in_ok-append.ensures.works refl removed;
+            (g.D.Disk.told c.args.disk.now) (g.D.Disk.told c.append.new.disk) refl c.in_ok-append.ensures.added c.in_ok-append.ensures.full.room c.append.ensures.any_moment c.in_ok-append.ensures.works refl removed;
       };
       same = λ no. (let absurdity : ⊥ = cc in absurd absurdity);
     }
@@ -68,3 +68,23 @@ invariant_of-self-2 g c =
     let texts = c.args.self.now.sources.texts in
     let removed : c.remove.new.self.texts ≡ map.remove texts c.args.name.now = c.remove.ensures.removed ∙ ap (map.remove texts) c.as_slice-2.ensures.bytes in
     record { are = subst AreSources (sym removed) (drop_stays texts c.args.name.now c.args.self.now.are) }
+
+pub returns-in_err-append-clause-begins : goal.returns-in_err-append-clause-begins
+returns-in_err-append-clause-begins g c =
+    let store = c.args.self.now in
+    let name = c.args.name.now in
+    let payload = c.in_ok-payload.payload in
+    let answered : IsTrue c.has_source.result = search rules in
+    let ready = drop_ready name store payload c.drop_payload.ensures.named (c.has_source.ensures.yes answered) c.in_ok-payload.ensures.bytes in
+    ready_begins (DropBatch name) (drops name) store payload c.as_slice.result.now store.kept.tables (map.remove store.sources.texts name) ready c.as_slice.ensures
+    store.journal (g.D.Disk.told c.args.disk.now) (g.D.Disk.told c.append.new.disk) refl c.append.ensures.any_moment c.append.ensures.works
+
+pub returns-clause-begins : goal.returns-clause-begins
+returns-clause-begins g c =
+    let store = c.args.self.now in
+    let name = c.args.name.now in
+    let payload = c.in_ok-payload.payload in
+    let answered : IsTrue c.has_source.result = search rules in
+    let ready = drop_ready name store payload c.drop_payload.ensures.named (c.has_source.ensures.yes answered) c.in_ok-payload.ensures.bytes in
+    ready_begins (DropBatch name) (drops name) store payload c.as_slice.result.now store.kept.tables (map.remove store.sources.texts name) ready c.as_slice.ensures
+    store.journal (g.D.Disk.told c.args.disk.now) (g.D.Disk.told c.append.new.disk) refl c.append.ensures.any_moment c.append.ensures.works

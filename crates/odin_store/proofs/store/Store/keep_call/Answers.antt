@@ -2,7 +2,7 @@ use Rattle.std.proofs.Common.{◌≡◌, refl}
 use Rattle.odin_store.specs.Held.{keeps}
 use Rattle.odin_store.specs.Changes.{CallBatch}
 use Rattle.odin_store.proofs.StoreLemmas.{leaves_same}
-use Rattle.odin_store.proofs.ReadyLemmas.{call_ready, ready_leaves, ready_adds, ready_holds}
+use Rattle.odin_store.proofs.ReadyLemmas.{begins_none, call_ready, ready_leaves, ready_begins, ready_adds, ready_holds}
 use Rattle.odin_store.proofs.store.Store.keep_call.Goals as goal
 
 pub returns-in_err-prepared-clause-any_moment : goal.returns-in_err-prepared-clause-any_moment
@@ -45,5 +45,31 @@ returns-clause-keeps g c =
       epoch = refl;
       adds =
           ready_adds (CallBatch store call outcome) (keeps call outcome) store prepared.payload c.payload.result.now batch.2.next store.sources.texts ready c.payload.ensures store.journal _
-          (g.D.Disk.told c.args.disk.now) (g.D.Disk.told c.append.new.disk) refl c.in_ok-append.ensures.added c.in_ok-append.ensures.full.room c.in_ok-append.ensures.works tables refl;
+          (g.D.Disk.told c.args.disk.now) (g.D.Disk.told c.append.new.disk) refl c.in_ok-append.ensures.added c.in_ok-append.ensures.full.room c.append.ensures.any_moment c.in_ok-append.ensures.works tables refl;
     }
+
+pub returns-in_err-append-clause-begins : goal.returns-in_err-append-clause-begins
+returns-in_err-append-clause-begins g c =
+    let store = c.args.self.now in
+    let call = c.args.call.now in
+    let outcome = c.args.outcome.now in
+    let prepared = c.in_ok-prepared.prepared in
+    let batch = c.in_ok-prepared.ensures.ok in
+    let ready = call_ready c.reads_in_one_way.ensures call outcome store c.prepare_call.new.self prepared c.prepare_call.ensures.same c.requires.new batch in
+    ready_begins (CallBatch store call outcome) (keeps call outcome) store prepared.payload c.payload.result.now batch.2.next store.sources.texts ready c.payload.ensures
+    store.journal (g.D.Disk.told c.args.disk.now) (g.D.Disk.told c.append.new.disk) refl c.append.ensures.any_moment c.append.ensures.works
+
+pub returns-clause-begins : goal.returns-clause-begins
+returns-clause-begins g c =
+    let store = c.args.self.now in
+    let call = c.args.call.now in
+    let outcome = c.args.outcome.now in
+    let prepared = c.in_ok-prepared.prepared in
+    let batch = c.in_ok-prepared.ensures.ok in
+    let ready = call_ready c.reads_in_one_way.ensures call outcome store c.prepare_call.new.self prepared c.prepare_call.ensures.same c.requires.new batch in
+    ready_begins (CallBatch store call outcome) (keeps call outcome) store prepared.payload c.payload.result.now batch.2.next store.sources.texts ready c.payload.ensures
+    store.journal (g.D.Disk.told c.args.disk.now) (g.D.Disk.told c.append.new.disk) refl c.append.ensures.any_moment c.append.ensures.works
+
+pub returns-in_err-prepared-clause-begins : goal.returns-in_err-prepared-clause-begins
+returns-in_err-prepared-clause-begins g c =
+    begins_none (CallBatch c.args.self.now c.args.call.now c.args.outcome.now) c.args.self.now (g.D.Disk.told c.args.disk.now) (λ image follows left. g.met.D.Disk.only_now c.args.disk.now image follows left)

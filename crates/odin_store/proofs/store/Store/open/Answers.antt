@@ -5,6 +5,7 @@ use Rattle.odin_journal.specs.Faults.{IsAddFault}
 use Rattle.odin_journal.specs.Moments.{Works}
 use Rattle.odin_journal.specs.Rest.{Adds, KeepsOrAdds}
 use Rattle.odin_journal.specs.declared.journal.Journal.{Journal}
+use Rattle.odin_journal.specs.declared.fault.JournalFault.TheVariants as fault
 use Rattle.meaning_records.specs.States.{State}
 use Rattle.kept_tables.specs.Holdings.{Holding}
 use Rattle.odin_store.specs.Loading.{state_of, IsLoadFault}
@@ -12,14 +13,14 @@ use Rattle.odin_store.specs.OnDisk.{state_in}
 use Rattle.odin_store.specs.Opening.{graph_record, IsOpenFault}
 use Rattle.odin_store.proofs.StoreLemmas.{handed}
 use Rattle.odin_store.proofs.SourceLemmas.{sources_read}
-use Rattle.odin_store.proofs.OpenLemmas.{held_stays, held_added, journal_fault, load_fault, add_fault, refused_of, opens_known, opens_added}
+use Rattle.odin_store.proofs.OpenLemmas.{records_stay, graph_added, journal_fault, load_fault, memory_fault, add_fault, refused_of, opens_known, opens_added}
 use Rattle.odin_store.proofs.store.Store.open.Goals as goal
 
 pub returns-in_err-journal-clause-any_moment : goal.returns-in_err-journal-clause-any_moment
-returns-in_err-journal-clause-any_moment g c = held_stays (g.D.Disk.told c.args.disk.now) (g.D.Disk.told c.open.new.disk) c.open.ensures.any_moment
+returns-in_err-journal-clause-any_moment g c = records_stay c.args.graph.now (g.D.Disk.told c.args.disk.now) (g.D.Disk.told c.open.new.disk) c.open.ensures.any_moment
 
 pub returns-in_err-loading-clause-any_moment : goal.returns-in_err-loading-clause-any_moment
-returns-in_err-loading-clause-any_moment g c = held_stays (g.D.Disk.told c.args.disk.now) (g.D.Disk.told c.open.new.disk) c.open.ensures.any_moment
+returns-in_err-loading-clause-any_moment g c = records_stay c.args.graph.now (g.D.Disk.told c.args.disk.now) (g.D.Disk.told c.open.new.disk) c.open.ensures.any_moment
 
 pub returns-in_err-loading-clause-refused : goal.returns-in_err-loading-clause-refused
 returns-in_err-loading-clause-refused g c =
@@ -32,7 +33,7 @@ returns-in_err-loading-clause-refused g c =
     (load_fault c.args.graph.now old mid records end e c.open.ensures.untouched c.in_ok-journal.ensures.opened (subst (λ n. IsLoadFault records n e) c.end.ensures c.in_err-loading.ensures.fault))
 
 pub returns-then-has_graph-clause-any_moment : goal.returns-then-has_graph-clause-any_moment
-returns-then-has_graph-clause-any_moment g c = held_stays (g.D.Disk.told c.args.disk.now) (g.D.Disk.told c.open.new.disk) c.open.ensures.any_moment
+returns-then-has_graph-clause-any_moment g c = records_stay c.args.graph.now (g.D.Disk.told c.args.disk.now) (g.D.Disk.told c.open.new.disk) c.open.ensures.any_moment
 
 pub returns-then-has_graph-clause-opened : goal.returns-then-has_graph-clause-opened
 returns-then-has_graph-clause-opened g c =
@@ -46,14 +47,21 @@ returns-then-has_graph-clause-opened g c =
     (ap (λ (j : Journal). j.end) c.of-known.ensures.journal) holds (c.has_graph.ensures.yes answered)
 
 pub returns-in_err-payload-clause-any_moment : goal.returns-in_err-payload-clause-any_moment
-returns-in_err-payload-clause-any_moment g c = held_stays (g.D.Disk.told c.args.disk.now) (g.D.Disk.told c.open.new.disk) c.open.ensures.any_moment
+returns-in_err-payload-clause-any_moment g c = records_stay c.args.graph.now (g.D.Disk.told c.args.disk.now) (g.D.Disk.told c.open.new.disk) c.open.ensures.any_moment
+
+pub returns-in_err-payload-clause-refused : goal.returns-in_err-payload-clause-refused
+returns-in_err-payload-clause-refused g c =
+    handed (IsOpenFault c.args.graph.now (g.D.Disk.told c.args.disk.now) (g.D.Disk.told c.open.new.disk)) c.from_residual-in_err-payload.result fault.Memory c.from_residual-in_err-payload.ensures.1
+    (memory_fault c.args.graph.now (g.D.Disk.told c.args.disk.now) (g.D.Disk.told c.open.new.disk) c.in_ok-journal.records c.in_ok-journal.journal.end c.open.ensures.untouched c.in_ok-journal.ensures.opened)
 
 pub returns-in_err-append-clause-any_moment : goal.returns-in_err-append-clause-any_moment
 returns-in_err-append-clause-any_moment g c =
     let mid = g.D.Disk.told c.open.new.disk in
     let new = g.D.Disk.told c.append.new.disk in
     let end = c.in_ok-journal.journal.end in
-    held_added c.args.graph.now (g.D.Disk.told c.args.disk.now) mid new c.in_ok-journal.records end c.requires c.open.ensures.any_moment c.in_ok-journal.ensures.opened
+    let answered : IsFalse c.has_graph.result = search rules in
+    graph_added c.args.graph.now (g.D.Disk.told c.args.disk.now) mid new c.in_ok-journal.records end (state_of c.in_ok-loading.loading) c.in_ok-loading.ensures.read (c.has_graph.ensures.no answered) c.open.ensures.any_moment
+    c.in_ok-journal.ensures.opened
     (subst (λ b. KeepsOrAdds end b mid new) (c.as_slice.ensures ∙ c.in_ok-payload.ensures) c.append.ensures.any_moment)
 
 pub returns-clause-any_moment : goal.returns-clause-any_moment
@@ -61,7 +69,9 @@ returns-clause-any_moment g c =
     let mid = g.D.Disk.told c.open.new.disk in
     let new = g.D.Disk.told c.append.new.disk in
     let end = c.in_ok-journal.journal.end in
-    held_added c.args.graph.now (g.D.Disk.told c.args.disk.now) mid new c.in_ok-journal.records end c.requires c.open.ensures.any_moment c.in_ok-journal.ensures.opened
+    let answered : IsFalse c.has_graph.result = search rules in
+    graph_added c.args.graph.now (g.D.Disk.told c.args.disk.now) mid new c.in_ok-journal.records end (state_of c.in_ok-loading.loading) c.in_ok-loading.ensures.read (c.has_graph.ensures.no answered) c.open.ensures.any_moment
+    c.in_ok-journal.ensures.opened
     (subst (λ b. KeepsOrAdds end b mid new) (c.as_slice.ensures ∙ c.in_ok-payload.ensures) c.append.ensures.any_moment)
 
 pub returns-in_err-append-clause-refused : goal.returns-in_err-append-clause-refused

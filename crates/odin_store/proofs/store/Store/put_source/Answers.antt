@@ -6,7 +6,7 @@ use Rattle.odin_store.specs.OnDisk.{IsChangeFault}
 use Rattle.odin_store.specs.Changes.{PutBatch}
 use Rattle.odin_store.proofs.SourceLemmas.{put_stays}
 use Rattle.odin_store.proofs.StoreLemmas.{handed}
-use Rattle.odin_store.proofs.ReadyLemmas.{put_ready, ready_leaves, ready_fault, ready_adds, ready_holds}
+use Rattle.odin_store.proofs.ReadyLemmas.{put_ready, ready_leaves, ready_begins, ready_fault, ready_adds, ready_holds}
 use Rattle.odin_store.proofs.store.Store.put_source.Goals as goal
 
 pub returns-in_err-append-clause-any_moment : goal.returns-in_err-append-clause-any_moment
@@ -66,7 +66,7 @@ returns-clause-puts g c =
         epoch = omega (arith, same.epoch);
         adds =
             ready_adds (PutBatch store name text) (puts name text) store prepared.payload c.payload.result.now batch.2.next edited ready c.payload.ensures mid.journal _
-            (g.D.Disk.told c.args.disk.now) (g.D.Disk.told c.append.new.disk) same.journal c.in_ok-append.ensures.added c.in_ok-append.ensures.full.room c.in_ok-append.ensures.works tables put;
+            (g.D.Disk.told c.args.disk.now) (g.D.Disk.told c.append.new.disk) same.journal c.in_ok-append.ensures.added c.in_ok-append.ensures.full.room c.append.ensures.any_moment c.in_ok-append.ensures.works tables put;
       };
       same = λ no. (let absurdity : ⊥ = cc in absurd absurdity);
     }
@@ -80,3 +80,23 @@ invariant_of-self-2 g c =
     c.put.ensures.put ∙ ap (λ m. map.insert m c.in_ok-source.source c.in_ok-source.shared) c.prepare_put.ensures.same.sources
     ∙ ap₂ (λ n t. map.insert store.sources.texts n t) c.in_ok-source.ensures.name c.in_ok-source.ensures.text in
     record { are = subst AreSources (sym put) (put_stays store.sources.texts name text store.are c.in_ok-source.ensures.named c.requires.short) }
+
+pub returns-in_err-append-clause-begins : goal.returns-in_err-append-clause-begins
+returns-in_err-append-clause-begins g c =
+    let store = c.args.self.now in
+    let mid = c.prepare_put.new.self in
+    let same = c.prepare_put.ensures.same in
+    let prepared = c.in_ok-source.prepared in
+    let ready = put_ready c.args.name.now c.args.text.now store mid prepared same c.in_ok-source.ensures.batch in
+    ready_begins (PutBatch store c.args.name.now c.args.text.now) (puts c.args.name.now c.args.text.now) store prepared.payload c.payload.result.now c.in_ok-source.ensures.batch.2.next
+    (map.insert store.sources.texts c.args.name.now c.args.text.now) ready c.payload.ensures mid.journal (g.D.Disk.told c.args.disk.now) (g.D.Disk.told c.append.new.disk) same.journal c.append.ensures.any_moment c.append.ensures.works
+
+pub returns-clause-begins : goal.returns-clause-begins
+returns-clause-begins g c =
+    let store = c.args.self.now in
+    let mid = c.prepare_put.new.self in
+    let same = c.prepare_put.ensures.same in
+    let prepared = c.in_ok-source.prepared in
+    let ready = put_ready c.args.name.now c.args.text.now store mid prepared same c.in_ok-source.ensures.batch in
+    ready_begins (PutBatch store c.args.name.now c.args.text.now) (puts c.args.name.now c.args.text.now) store prepared.payload c.payload.result.now c.in_ok-source.ensures.batch.2.next
+    (map.insert store.sources.texts c.args.name.now c.args.text.now) ready c.payload.ensures mid.journal (g.D.Disk.told c.args.disk.now) (g.D.Disk.told c.append.new.disk) same.journal c.append.ensures.any_moment c.append.ensures.works
