@@ -248,7 +248,7 @@ def main():
     words.add_argument("program")
     words.add_argument("--small", action="store_true")
     words.add_argument("kinds", nargs="*")
-    told = words.parse_args()
+    told = words.parse_intermixed_args()
     figures = Figures()
     for kind in told.kinds or KINDS:
         measured, sizes, small = KINDS[kind]
