@@ -4,7 +4,8 @@ use object_values::{Node, Seq};
 use walk_tables::{Heights, Table, Wanted, height_of};
 
 /// The nodes with results and the wanted calls stay from one advance to the next; what waits and
-/// the path are of one advance.
+/// the path are of one advance: a node that waited may go on by outcomes that came since, so each
+/// advance visits it anew, and only a result is never found twice.
 pub(crate) struct Walk {
     pub(crate) root: Node,
     pub(crate) done: Table,

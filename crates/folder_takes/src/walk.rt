@@ -140,6 +140,7 @@ pub fn take_below(rt: &HostRuntime, folder: Bytes, found: &mut Found) -> Result<
     }
     let mut folders = Vec::new(rt.alloc());
     folders.push(folder).map_err(|_| Fault::Memory)?;
+    // Bounded, since the system doesn't say that a folder has an end: others may add to it meanwhile.
     for _ in 0..u64::MAX {
         let Some(next) = folders.pop() else {
             break;

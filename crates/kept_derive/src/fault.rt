@@ -32,6 +32,7 @@ impl From<StoreFault> for KeptFault {
     fn from(fault: StoreFault) -> Self {
         match fault {
             StoreFault::Disk => KeptFault::Disk,
+            // Never comes: only an opening finds a file that isn't ours, and no clause of a change has it.
             StoreFault::NotOurs(_) => KeptFault::Memory,
             StoreFault::Full(end, count) => KeptFault::Full(end, count),
             StoreFault::Memory => KeptFault::Memory,

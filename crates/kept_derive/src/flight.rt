@@ -64,6 +64,7 @@ pub(crate) fn fly<D: Disk, S: Spawner, L: Ledger>(
     store.kept().fit();
     changes_follow::<D>();
     let mut fresh = false;
+    // Bounded, since tools may go on giving outcomes that want more calls: no proof of an end is owed, and no run comes to so many turns.
     for _ in 0..u64::MAX {
         if let Some(call) = next_call(core.wanted(), jobs) {
             match jobs.start(alloc, call, tools) {

@@ -146,6 +146,7 @@ impl Kept {
         }
         self.contents.reserve(added.len())?;
         self.calls.reserve(1)?;
+        // Taken from the end, the last one first, each content is moved into the tables in its order, and none is copied.
         let mut added = added.into_vec();
         added.reverse();
         Ok(Prepared {

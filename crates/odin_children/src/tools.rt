@@ -192,6 +192,7 @@ impl<S: System + Drop> Spawner for ChildTools<S> {
         let Some(slot) = least_free(self.started.as_slice()) else {
             return self.refuse();
         };
+        // The job is copied before the start, since what runs is told by its jobs until it ends, and after a start nothing may fail.
         let kept = job.copy(alloc)?;
         self.make_room()?;
         match self.begin(alloc, slot, job) {

@@ -51,6 +51,7 @@ pub fn wait_any<S: System>(system: &S, started: &mut Vec<Started<S>>) -> usize
         return 0;
     }
     let mut pause = FIRST_PAUSE;
+    // Bounded, since no clause can say that a child ever ends. After so many pauses the oldest child is waited for.
     for _ in 0..u64::MAX {
         if let Some(place) = ended_now(started) {
             return place;

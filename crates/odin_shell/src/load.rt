@@ -68,6 +68,7 @@ fn end_failed<O: Sink>(alloc: Global, output: &mut O, fault: StoreFault) -> Endi
     match fault {
         StoreFault::Disk => Ending::Room,
         StoreFault::Full(at, size) => close(alloc, output, Ending::Full(at, size)),
+        // The first never comes here: the disk of a load is empty at its opening.
         StoreFault::NotOurs(_) | StoreFault::Memory => Ending::Memory,
     }
 }

@@ -61,6 +61,7 @@ impl From<StoreFault> for Stop {
     fn from(fault: StoreFault) -> Self {
         match fault {
             StoreFault::Disk => Stop::Disk,
+            // The first never comes here: only an opening finds a file that isn't ours.
             StoreFault::NotOurs(_) | StoreFault::Memory => Stop::Memory,
             StoreFault::Full(at, size) => Stop::Full(at, size),
         }

@@ -123,6 +123,7 @@ pub fn load_records(alloc: Global, records: Seq<Bytes>, end: u64) -> Result<Load
     ensures fault { IfErr result (IsLoadFault records end) }
 {
     let mut loading = Loading::new(alloc);
+    // Taken from the end, each record is let go once it is loaded, so that no two forms of the whole file are held.
     let mut left = records.into_vec();
     left.reverse();
     'records: while let Some(payload) = left.pop() {

@@ -65,6 +65,7 @@ fn derive_counted<S: Spawner, L: Ledger>(
 {
     let mut steps: Steps<L> = Steps::new(blank);
     let mut walker = Walker::new(alloc, node.copy(alloc)?);
+    // Bounded, so that no proof of an end is owed: no derivation comes to so many turns, and one that did would say that memory is wanted.
     for _ in 0..u64::MAX {
         walker.advance(alloc, graph, plans, sources, &NothingKept, &mut steps)?;
         if walker.result().is_some() {

@@ -79,6 +79,7 @@ pub fn put<D: Disk>(
     if count > TEXT_LIMIT {
         return say(alloc, Reply::RefusedSize);
     }
+    // The reply is made before the change: after it nothing may want memory, or a change would stand that no reply tells of.
     let said = Bytes::from_slice(alloc, name.as_slice())?;
     let reply = say(alloc, Reply::Put(said, count))?;
     set_text(alloc, engine, disk, &name, text)?;
@@ -120,6 +121,7 @@ fn take_file<D: Disk>(
     if count > TEXT_LIMIT {
         return say(alloc, Reply::RefusedSize);
     }
+    // Made before the change, as that of a put.
     let said = Bytes::from_slice(alloc, name.as_slice())?;
     let reply = say(alloc, Reply::Took(said, count))?;
     set_text(alloc, engine, disk, &name, text)?;
