@@ -1,22 +1,24 @@
--- Needs that come into sight while lines are followed.
-use Rattle.std.proofs.Common.{List, inl, inr, sym, ap, ◌∙◌, subst, is_some}
-use Rattle.std.specs.Prelude.{Option, Some, None, IfSome, option_map}
+-- What is visited next, and what stays as the walk goes on.
+use Rattle.std.proofs.Common.{◌≡◌, List, [], inl, inr, sym, ap, ◌∙◌, subst, is_some}
+use Rattle.std.specs.Prelude.{None, option_map}
 use Rattle.object_values.specs.declared.nodes.Node.{Node}
 use Rattle.meaning_texts.specs.Lists.{IsIn}
-use Rattle.meaning_texts.proofs.Lemmas.{some_or_none, some_is_none}
+use Rattle.meaning_texts.proofs.Lemmas.{some_or_none, some_is_none, in_all}
 use Rattle.meaning_tasks.specs.Tasks.{task_of}
 use Rattle.meaning_tasks.specs.Needs.{Grows, values_of, Needs}
 use Rattle.meaning_tasks.proofs.Lemmas.{finite_has_needs}
 use Rattle.node_tasks.specs.declared.ahead.Ahead.{Ahead}
-use Rattle.node_tasks.specs.Ahead.{ComesNext, IsNext}
+use Rattle.node_tasks.specs.Ahead.{IsInSight, IsLevel}
 use Rattle.node_tasks.proofs.Lemmas.{ahead_stays}
 use Rattle.walk_tables.specs.declared.done.Done.{Done}
+use Rattle.walk_tables.specs.declared.survey.Survey.{Survey}
+use Rattle.walk_tables.proofs.Lemmas.{is_unvisited}
 use Rattle.walk_tables.specs.Tables.{done_in, results_of, nodes_of}
 use Rattle.walk_tables.specs.Finite.{only_nodes}
 use Rattle.derive_walk.specs.declared.walk.Walk.{Walk}
 use Rattle.derive_walk.specs.Worlds.{World}
 use Rattle.derive_walk.specs.States.{heights_in, HoldsIn, GoesOnFrom}
-use Rattle.derive_walk.specs.Paths.{IsAheadIn, IsUnvisited}
+use Rattle.derive_walk.specs.Paths.{IsSurveyed, IsAheadIn, IsUnvisited, AreToVisit}
 use Rattle.derive_walk.proofs.Tables.{height_if_done}
 use Rattle.derive_walk.proofs.HeightLemmas.{not_some}
 use Rattle.derive_walk.proofs.NeedLemmas.{table_grows, same_result}
@@ -35,17 +37,29 @@ module _ (w : World) (walk new : Walk) (before : HoldsIn w walk) (holds : HoldsI
   pub still_ahead : (n : Node) (ahead : Ahead) → IsAheadIn w walk n ahead → IsAheadIn w new n ahead
   still_ahead n ahead told = ahead_stays w.graph n (results_of walk.done) (results_of new.done) results_grow ahead told
 
--- ---- what comes next
+-- ---- what is visited next
 
 module _ (w : World) (walk : Walk) (holds : HoldsIn w walk) (n : Node) where
-  unvisited : (m : Node) → ComesNext (task_of w.graph n) (values_of (results_of walk.done)) (λ k. is_some (heights_in walk k)) m → IsUnvisited w walk n m
-  unvisited m next =
+  in_sight : (m : Node) → IsInSight (task_of w.graph n) (values_of (results_of walk.done)) (λ k. is_some (heights_in walk k)) m → IsUnvisited w walk n m
+  in_sight m sight =
       let some : (needs : List Node) × Needs w.graph n (results_of walk.done) needs = finite_has_needs w.graph n (results_of walk.done) (nodes_of walk.done) (only_nodes walk.done) in
       record {
-        need = need_of w walk holds n m some.0 some.1 (subst (λ l. IsIn m l) (sym some.1.listed) (next.need some.1.names some.1.reached));
-        unseen = not_some (heights_in walk m) next.unseen;
+        need = need_of w walk holds n m some.0 some.1 (subst (λ l. IsIn m l) (sym some.1.listed) (sight.need some.1.names some.1.reached));
+        unseen = not_some (heights_in walk m) sight.unseen;
       }
 
-  pub next_unvisited : (found : Option Node) → IsNext w.graph n (results_of walk.done) (λ k. is_some (heights_in walk k)) found → IfSome found (IsUnvisited w walk n)
-  next_unvisited None next = next
-  next_unvisited (Some m) next = unvisited m next
+  -- a level
+  pub level_next : (needs : List Node) → IsLevel w.graph n (results_of walk.done) (λ k. is_some (heights_in walk k)) needs → (needs ≡ [] → ⊥) → AreToVisit w walk n needs
+  level_next needs level some = record {
+    some = some;
+    each = λ m i. in_sight m (in_all (IsInSight (task_of w.graph n) (values_of (results_of walk.done)) (λ k. is_some (heights_in walk k))) needs level m i);
+  }
+
+  -- what was not visited of all needs
+  pub survey_next : (survey : Survey) → IsSurveyed w walk n survey → (survey.unvisited ≡ [] → ⊥) → AreToVisit w walk n survey.unvisited
+  survey_next survey surveyed some = record {
+    some = some;
+    each = λ m i.
+        let found : IsIn m surveyed.needs × (heights_in walk m ≡ None) = is_unvisited (heights_in walk) surveyed.needs m (subst (λ l. IsIn m l) (ap (λ (s : Survey). s.unvisited) surveyed.is) i) in
+        record { need = need_of w walk holds n m surveyed.needs surveyed.listed found.0; unseen = found.1 };
+  }

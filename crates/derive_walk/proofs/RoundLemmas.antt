@@ -3,15 +3,13 @@ use Rattle.std.proofs.Common.{◌≡◌, ℕ, zero, suc, ◌+◌, ◌<◌, false
 use Rattle.std.specs.Prelude.{None, IsSome}
 use Rattle.object_values.specs.declared.nodes.Node.{Node}
 use Rattle.meaning_texts.specs.Lists.{IsIn}
-use Rattle.walk_tables.specs.declared.survey.Survey.{Survey}
-use Rattle.walk_tables.proofs.Lemmas.{is_unvisited}
 use Rattle.derive_walk.specs.declared.walk.Walk.{Walk}
 use Rattle.derive_walk.specs.Worlds.{World, IsWorld, IsNeedIn}
 use Rattle.derive_walk.specs.States.{heights_in, HoldsIn, GoesOnFrom, Visited}
-use Rattle.derive_walk.specs.Paths.{IsSurveyed}
+use Rattle.derive_walk.specs.Paths.{IsUnvisited, AreToVisit}
 use Rattle.walk_tables.specs.Tables.{node_in}
 use Rattle.derive_walk.proofs.HeightLemmas.{unseen_count}
-use Rattle.derive_walk.proofs.FallLemmas.{needs_in, need_of}
+use Rattle.derive_walk.proofs.FallLemmas.{needs_in}
 use Rattle.derive_walk.proofs.VisitLemmas.{SoFar, go_on, smaller}
 
 -- A round visits these needs, none of which was visited at its start. While all of them are left
@@ -31,14 +29,13 @@ got_in (m ∷ nodes) zero n h is = inl is
 got_in (m ∷ nodes) (suc i) n h is = inr (got_in nodes i n (omega (arith, h)) is)
 
 module _ (w : World) (old begun : Walk) (n : Node) where
-  pub begin_round : SoFar w old begun n → (survey : Survey) → IsSurveyed w begun n survey → (unvisited : List Node) → unvisited ≡ survey.unvisited → InRound w old begun begun n unvisited unvisited
-  begin_round so survey surveyed unvisited same =
-      let found : (m : Node) → IsIn m unvisited → IsIn m surveyed.needs × (heights_in begun m ≡ None) =
-      λ m i. is_unvisited (heights_in begun) surveyed.needs m (subst (λ l. IsIn m l) (same ∙ ap (λ (s : Survey). s.unvisited) surveyed.is) i) in
+  pub begin_round : SoFar w old begun n → (needs : List Node) → AreToVisit w begun n needs → (unvisited : List Node) → unvisited ≡ needs → InRound w old begun begun n unvisited unvisited
+  begin_round so needs next unvisited same =
+      let each : (m : Node) → IsIn m unvisited → IsUnvisited w begun n m = λ m i. next.each m (subst (λ l. IsIn m l) same i) in
       record {
         so = so;
-        needed = λ m i. need_of w begun so.holds n m surveyed.needs surveyed.listed (found m i).0;
-        unseen = λ m i. (found m i).1;
+        needed = λ m i. (each m i).need;
+        unseen = λ m i. (each m i).unseen;
         fewer = inl (refl, refl);
       }
 

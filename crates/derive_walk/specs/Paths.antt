@@ -1,5 +1,5 @@
 -- The path of a walk, and the chains that it ends in.
-use Rattle.std.specs.Prelude.{◌≡◌, ◌⊎◌, ℕ, ◌+◌, ◌<◌, ◌≤◌, List, [], ◌∷◌, ◌++◌, length, true, Option, Some, None, IsSome}
+use Rattle.std.specs.Prelude.{◌≡◌, ◌≢◌, ◌⊎◌, ℕ, ◌+◌, ◌<◌, ◌≤◌, List, [], ◌∷◌, ◌++◌, length, true, Option, Some, None, IsSome}
 use Rattle.object_values.specs.declared.nodes.Node.{Node}
 use Rattle.meaning_texts.specs.Limits.{height_limit}
 use Rattle.meaning_texts.specs.Lists.{IsIn}
@@ -14,6 +14,8 @@ use Rattle.walk_tables.specs.Tables.{results_of, are_done, top_of}
 use Rattle.walk_tables.specs.declared.found.Found.{Found}
 use Rattle.walk_tables.specs.declared.survey.Survey.{Survey}
 use Rattle.walk_tables.specs.Surveys.{survey_of}
+use Rattle.derive_walk.specs.declared.rounds.Round.{Round}
+use Rattle.derive_walk.specs.declared.rounds.Round.TheVariants.{Visits, Closes}
 use Rattle.derive_walk.specs.declared.walk.Walk.{Walk}
 use Rattle.derive_walk.specs.States.{heights_in}
 use Rattle.derive_walk.specs.Walks.{EndsWith}
@@ -91,6 +93,16 @@ IsAheadIn w walk n ahead = IsAhead w.graph n (results_of walk.done) ahead
 pub record IsUnvisited (w : World) (walk : Walk) (n m : Node) : Type 0 where
   pub need : IsNeedIn w n m
   pub unseen : heights_in walk m ≡ None
+
+-- These needs are visited next: there are some, and none of them was visited.
+pub record AreToVisit (w : World) (walk : Walk) (n : Node) (needs : List Node) : Type 0 where
+  pub some : needs ≢ []
+  pub each : (m : Node) → IsIn m needs → IsUnvisited w walk n m
+
+-- A round visits needs, or closes the node once all needs were visited.
+abbrev pub IsRound : World → Walk → Node → Round → Type 0
+IsRound w walk n (Visits needs) = AreToVisit w walk n needs
+IsRound w walk n (Closes needed survey) = IsWhole w walk n needed survey
 
 -- ---- the root
 

@@ -6,6 +6,7 @@ mod closing;
 mod deep;
 mod known;
 pub mod laws;
+mod rounds;
 mod setting;
 mod settling;
 mod visiting;

@@ -1,5 +1,5 @@
 // A walk from the root along needs to the node that is visited.
-use node_tasks::Visited;
+use node_tasks::VisitedNodes;
 use object_values::{Node, Seq};
 use walk_tables::{Heights, Table, Wanted, height_of};
 
@@ -31,7 +31,7 @@ impl Drop for Walk {
     }
 }
 
-impl Visited for Walk {
+impl VisitedNodes for Walk {
     ghost use Rattle.std.specs.Prelude.{is_some};
     ghost use Rattle.derive_walk.specs.States.{heights_in};
 

@@ -1,11 +1,12 @@
 -- What stays, and what falls, while one name after another is told.
-use Rattle.std.proofs.Common.{◌≡◌, ◌<◌, ◌≤◌, Bool, true, false, not, List, [], ◌∷◌, ◌++◌, Option, Some, None, inl, inr, sym, ap, ◌∙◌, subst, refl, cond, length, filter, arith}
+use Rattle.std.proofs.Common.{◌≡◌, ◌<◌, ◌≤◌, Bool, true, false, not, List, [], ◌∷◌, ◌++◌, Option, Some, None, inl, inr, sym, ap, ◌∙◌, subst, refl, cond, length, filter, arith, ◌+◌, length-append}
 use Rattle.meaning_texts.specs.Lists.{IsIn}
-use Rattle.meaning_texts.proofs.Lemmas.{never_both}
+use Rattle.meaning_texts.proofs.Lemmas.{never_both, in_left, in_right}
 use Rattle.meaning_graph.specs.Graphs.{Text}
 use Rattle.meaning_tasks.specs.Reached.{has_name}
 use Rattle.meaning_tasks.proofs.Lemmas.{has_in, in_has}
-use Rattle.dynamic_inputs.specs.Closures.{ToldLines, Telling, told_names, IsWanted, wanted_name, with_told, with_lines}
+use Rattle.dynamic_inputs.specs.Closures.{ToldLines, Telling, told_names, IsWanted, wanted_name, with_told, with_lines, with_name, with_names}
+use Rattle.dynamic_inputs.proofs.Found.{by_there}
 
 -- the root stays
 pub root_stays : (c : Telling) (lines : List Text) → (with_lines c lines).root ≡ c.root
@@ -78,3 +79,33 @@ untold_falls names c x lines wanted w listed = subst (λ d. length (untold_of na
     untold : (b : Bool) → (b ≡ true → ⊥) → not b ≡ true
     untold true n = absurd (n refl)
     untold false n = refl
+
+-- ---- as many names are left as are found more
+
+-- those of the names that weren't found
+abbrev pub unfound_of : List Text → List Text → List Text
+unfound_of names found = filter (λ x. not (has_name x found)) names
+
+unfound_before : (x y : Text) (found : List Text) → not (has_name y (found ++ x ∷ [])) ≡ true → not (has_name y found) ≡ true
+unfound_before x y found e = (elim (has_name y found) as (λ b. has_name y found ≡ b → not b ≡ true) [
+  | true ↦ λ q. let later = in_has y (found ++ x ∷ []) (in_left y found (x ∷ []) (has_in y found q)) in never_both (not (has_name y (found ++ x ∷ []))) e (ap not later)
+  | false ↦ λ q. refl
+]) refl
+
+one_found : (names found : List Text) (x : Text) → IsIn x names → length (unfound_of names (with_name found x)) + length (with_name found x) ≤ length (unfound_of names found) + length found
+one_found names found x listed = by_there (λ ns. length (unfound_of names ns) + length ns ≤ length (unfound_of names found) + length found) found x
+    (λ e. omega arith)
+    (λ e.
+    let less : length (unfound_of names (found ++ x ∷ [])) < length (unfound_of names found) =
+    one_fewer (λ y. not (has_name y found)) (λ y. not (has_name y (found ++ x ∷ []))) x names (λ y. unfound_before x y found) listed
+    (ap not e) (ap not (in_has x (found ++ x ∷ []) (in_right x found (x ∷ []) (inl refl)))) in
+    let longer : length (found ++ x ∷ []) ≡ length found + 1 = length-append found (x ∷ []) in
+    omega (arith, less, longer))
+
+-- Where names of them are found more, as many fewer are left, or even fewer.
+pub all_found : (names found more : List Text) → ((x : Text) → IsIn x more → IsIn x names) → length (unfound_of names (with_names found more)) + length (with_names found more) ≤ length (unfound_of names found) + length found
+all_found names found [] all = omega arith
+all_found names found (x ∷ more) all =
+    let one = one_found names found x (all x (inl refl)) in
+    let others = all_found names (with_name found x) more (λ y h. all y (inr h)) in
+    omega (arith, one, others)

@@ -1,9 +1,11 @@
 -- Names that are added where they are new.
-use Rattle.std.proofs.Common.{◌≡◌, ℕ, zero, suc, ◌<◌, true, false, List, [], ◌∷◌, ◌++◌, ◌⊎◌, inl, inr, sym, ap, ◌∙◌, subst, refl, cond, length, take, get_or, slice_get, Some, position, arith, append_assoc, append-nil}
+use Rattle.std.proofs.Common.{◌≡◌, ℕ, zero, suc, ◌<◌, true, false, List, [], ◌∷◌, ◌++◌, ◌⊎◌, inl, inr, sym, ap, ◌∙◌, subst, refl, cond, length, take, get_or, slice_get, Some, None, Option, position, arith, append_assoc, append-nil}
 use Rattle.std.proofs.lemmas.List.{take_at}
-use Rattle.std.specs.Prelude.{bytes_eq}
+use denote.Ref.{Bor}
+use Rattle.std.specs.Prelude.{bytes_eq, IfSome}
+use Rattle.std.specs.Option.{option_copied}
 use Rattle.std.proofs.lemmas.List.Quantifiers.{position-Some}
-use Rattle.std.proofs.lemmas.Option.{slice_get-get_or}
+use Rattle.std.proofs.lemmas.Option.{slice_get-get_or, slice_get_within, get_or_from_slice_get}
 use Rattle.std.specs.List.{IsDistinct, AllByRecursion}
 use Rattle.std.specs.Cmp.Lexicographic.{bytes_decides, nat_list_eq_equiv}
 use Rattle.std.proofs.lemmas.Map.Keys.{IsDistinct-push, IsDistinct-head, IsDistinct-tail}
@@ -16,7 +18,7 @@ use Rattle.dynamic_inputs.specs.Closures.{with_name, with_names}
 
 -- ---- one name
 
-by_there : (P : List Text → Type 0) (names : List Text) (x : Text) → (has_name x names ≡ true → P names) → (has_name x names ≡ false → P (names ++ x ∷ [])) → P (with_name names x)
+pub by_there : (P : List Text → Type 0) (names : List Text) (x : Text) → (has_name x names ≡ true → P names) → (has_name x names ≡ false → P (names ++ x ∷ [])) → P (with_name names x)
 by_there P names x f g = (elim (has_name x names) as (λ b. has_name x names ≡ b → P (cond b names (names ++ x ∷ []))) [ true ↦ f | false ↦ g ]) refl
 
 stays_one : (z x : Text) (names : List Text) → IsIn z names → IsIn z (with_name names x)
@@ -98,6 +100,10 @@ pub in_at : (names : List Text) (k : ℕ) (d : Text) → k < length names → Is
 in_at [] k d lt = absurd (omega (arith, lt))
 in_at (x ∷ names) zero d lt = inl refl
 in_at (x ∷ names) (suc k) d lt = inr (in_at names k d (omega (arith, lt)))
+
+pub got_in : (names : List Text) (k : ℕ) (r : Option (Bor Text)) → option_copied r ≡ slice_get names k → IfSome r (λ x. IsIn x.now names)
+got_in names k None e = tt
+got_in names k (Some b) e = subst (λ y. IsIn y names) (get_or_from_slice_get names k b.now b.now (sym e)) (in_at names k b.now (slice_get_within names k b.now (sym e)))
 
 differs : (x y : Text) (names : List Text) → AllByRecursion (λ z. bytes_eq x z ≡ false) names → IsIn y names → y ≡ x → ⊥
 differs x y [] a h q = h

@@ -8,4 +8,5 @@ mod scan;
 mod sorting;
 
 pub use closure::Closure;
+pub use names::Names;
 pub use scan::read_scan;

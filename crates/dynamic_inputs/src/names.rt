@@ -1,6 +1,8 @@
 // Names, each once, with a quick look-up of their places.
-ghost use Rattle.std.specs.Prelude.{◌≡◌, [], length, take, slice_get, Some, IfOk, OnOk, OnErr};
-ghost use Rattle.dynamic_inputs.specs.Closures.{with_name};
+ghost use Rattle.std.specs.Prelude.{◌≡◌, [], length, take, slice_get, Some, IfSome, IfOk, OnOk, OnErr};
+ghost use Rattle.std.specs.Option.{option_copied};
+ghost use Rattle.meaning_texts.specs.Lists.{IsIn};
+ghost use Rattle.dynamic_inputs.specs.Closures.{with_name, with_names};
 
 use indexmap::IndexSet;
 use object_values::{Copied, Memory};
@@ -9,7 +11,7 @@ use std::alloc::Global;
 use std::marker::Model;
 
 /// Names in the order of their coming, each once.
-pub(crate) struct Names {
+pub struct Names {
     names: IndexSet<Name>,
 }
 
@@ -30,7 +32,7 @@ impl Model for Names {
 }
 
 impl Names {
-    pub(crate) fn new(alloc: Global) -> Self
+    pub fn new(alloc: Global) -> Self
         ensures { result ≡ [] }
     {
         Names {
@@ -38,16 +40,24 @@ impl Names {
         }
     }
 
-    pub(crate) fn len(&self) -> usize
+    pub fn len(&self) -> usize
         ensures { result ≡ length self.now }
     {
         self.names.len()
     }
 
-    pub(crate) fn as_slice(&self) -> &[Name]
+    pub fn as_slice(&self) -> &[Name]
         ensures { result.now ≡ self.now }
     {
         self.names.as_slice()
+    }
+
+    /// The name at a place, where there is one.
+    pub fn get(&self, place: usize) -> Option<&Name>
+        ensures is { option_copied result ≡ slice_get self.now place }
+        ensures one { IfSome result (λ name. IsIn name.now self.now) }
+    {
+        self.names.as_slice().get(place)
     }
 
     /// Adds the name behind the others, where it is new, and gives its place.
@@ -61,6 +71,22 @@ impl Names {
         }
         let (place, _) = self.names.insert_full(name.copy(alloc)?)?;
         Ok(place)
+    }
+
+    /// Adds the names behind the others, as far as they are new. After want of memory all is as
+    /// before.
+    pub fn add_all(&mut self, alloc: Global, names: &[Name]) -> Result<(), Memory>
+        ensures ok { OnOk result (self.new ≡ with_names self.old names.now) }
+        ensures err { OnErr result (self.new ≡ self.old) }
+    {
+        let known = self.len();
+        for name in names {
+            if let Err(Memory) = self.add(alloc, name) {
+                self.truncate(known);
+                return Err(Memory);
+            }
+        }
+        Ok(())
     }
 
     /// Makes room for so many names more. That is a hint: no clause tells of the room.

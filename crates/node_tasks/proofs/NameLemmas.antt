@@ -8,7 +8,6 @@ use Rattle.meaning_nodes.specs.Nodes.{source_node}
 use Rattle.meaning_tasks.specs.Reached.{AreReached}
 use Rattle.meaning_tasks.specs.Tasks.{ToolTask, tooled}
 use Rattle.meaning_tasks.specs.Needs.{Known, has_value, where_valued, lines_by, own_lines, other_lines}
-use Rattle.node_tasks.specs.Ahead.{TellsSome}
 use Rattle.node_tasks.proofs.NeedLemmas.{where_some}
 use Rattle.dynamic_inputs.specs.Closures.{Telling, lines_of, AllTold, wanted_name, with_lines}
 use Rattle.dynamic_inputs.specs.Laws.{with_own, IsToldBy}
@@ -42,13 +41,6 @@ module _ (root : Text) (own : List Text) (lines : Text → List Text) where
         rooted = root_stays c (with_own c.root own lines x) ∙ w.rooted;
         told = told_next own lines c x w.told (sym is);
       })
-
-  -- all lines are some of them
-  pub tells_some : (c : Telling) → Tells root own lines c → TellsSome root own lines c
-  tells_some c w = record {
-    rooted = w.rooted;
-    told = λ x some i y h. subst (λ l. IsIn y l) (w.told x some i ∙ ap (λ r. with_own r own lines x) w.rooted) h;
-  }
 
 -- ---- of a tool
 

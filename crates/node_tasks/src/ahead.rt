@@ -1,26 +1,28 @@
-// The needs that come into sight as the lines of one name after another are followed.
-ghost use Rattle.std.specs.Prelude.{◌≡◌, Bool, IfOk, IfSome, true};
+// The needs that come into sight as lines are followed, a level at a time.
+ghost use Rattle.std.specs.Prelude.{◌≡◌, Bool, [], IfOk, IfSome, OnOk, true};
+ghost use Rattle.std.specs.List.Sorted.{IsPermutation};
 ghost use Rattle.object_values.specs.declared.graph.MakerDecl.{MakerDecl as MakerValue};
 ghost use Rattle.object_values.specs.declared.nodes.Node.{Node as NodeValue};
+ghost use Rattle.meaning_graph.specs.Graphs.{Graph as GraphValue};
 ghost use Rattle.meaning_nodes.specs.Nodes.{Fits, base_of};
-ghost use Rattle.meaning_tasks.specs.Tasks.{scan_node, tool_task, tooled};
-ghost use Rattle.meaning_tasks.specs.Needs.{Results as ResultMap, values_of, has_value};
+ghost use Rattle.meaning_tasks.specs.Tasks.{Task as TaskValue, scan_node, tool_task, tooled};
+ghost use Rattle.meaning_tasks.specs.Needs.{Results as ResultMap, Known as KnownValues, values_of, has_value};
 ghost use Rattle.path_planner.specs.Ends.{plans_of};
-ghost use Rattle.node_tasks.specs.Ahead.{IsAhead, IsNext, TellsOf, IsUnseen, IsBrought, ComesNext};
+ghost use Rattle.node_tasks.specs.Ahead.{AreInSight, AreLed, IsAhead, IsInSight, IsLedOn, IsLevel, IsOfLevel, IsReachedScan, IsUnseen};
 
 use crate::base::base_of;
 use crate::task::tool_at;
-use dynamic_inputs::Closure;
-use object_values::{Memory, Node, ToolDecl};
-use odin_bytes::read_name;
+use dynamic_inputs::Names;
+use object_values::{Memory, Node, Seq, ToolDecl};
 use path_planner::Plans;
 use std::alloc::Global;
-use task_needs::{Results, source_node, value_of};
+use std::mem;
+use task_needs::{Results, is_present, source_node, value_of};
 use task_scans::{scan_node, told_lines};
 use type_graph::Graph;
 
 /// The nodes that were visited.
-pub trait Visited {
+pub trait VisitedNodes {
     /// Whether the node was visited.
     ghost visited: { Self → NodeValue → Bool };
 
@@ -31,43 +33,50 @@ pub trait Visited {
 /// What a node was told so far of the names to which lines lead. It stays while results are added,
 /// so that a chain of names is followed once, and not from its start for each of them.
 ///
-/// A name is told the lines that it has then. So what comes into sight are needs, but perhaps not
-/// all: `Needed::find` finds these.
+/// A name is told the lines that it has once its source and its scan node were visited. So what
+/// comes into sight are needs, but perhaps not all, where these get results only later:
+/// `Needed::find` finds all.
 pub struct Ahead {
-    // None where no tool with a scan type is run.
-    closure: Option<Closure>,
+    // Whether the own lines were told.
+    own: bool,
+    // The names in the lines that were told.
+    names: Names,
+    // So many of the first names were looked at.
+    looked: usize,
+    // The places of those of them that weren't told their lines.
+    untold: Seq<usize>,
 }
 
 impl Drop for Ahead {
     fn drop(self) {
-        let Ahead { closure } = self;
-        drop(closure);
+        let Ahead {
+            own: _,
+            names,
+            looked: _,
+            untold,
+        } = self;
+        drop(names);
+        drop(untold);
     }
 }
 
 impl Ahead {
     /// Nothing is told yet.
-    pub fn new(alloc: Global, graph: &Graph, node: &Node) -> Result<Self, Memory>
-        requires { Fits graph.now node.now }
-        ensures { (seen : ResultMap) → IfOk result (IsAhead graph.now node.now seen) }
+    pub fn new(alloc: Global) -> Self
+        ensures { (g : GraphValue) (n : NodeValue) (seen : ResultMap) → IsAhead g n seen result }
     {
-        let Some((_, tool)) = tool_at(graph, node) else {
-            return Ok(Ahead { closure: None });
-        };
-        if tool.closure.is_none() {
-            return Ok(Ahead { closure: None });
+        Ahead {
+            own: false,
+            names: Names::new(alloc),
+            looked: 0,
+            untold: Seq::new(alloc),
         }
-        let Some(root) = read_name(alloc, node.source.as_slice())? else {
-            unreachable!();
-        };
-        Ok(Ahead {
-            closure: Some(Closure::new(alloc, root)),
-        })
     }
 
-    /// The next need that comes into sight by these results and was not visited. Each name before
-    /// it is told its lines.
-    pub fn next<R: Results, V: Visited>(
+    /// The needs that come into sight by these results and were not visited, in the order in which
+    /// they stand among all needs: those of each name to which lines lead without any of them.
+    /// After want of memory the names are looked at again.
+    pub fn level<R: Results, V: VisitedNodes>(
         &mut self,
         alloc: Global,
         graph: &Graph,
@@ -75,30 +84,87 @@ impl Ahead {
         node: &Node,
         seen: &R,
         visited: &V,
-    ) -> Result<Option<Node>, Memory>
+    ) -> Result<Seq<Node>, Memory>
         requires made { plans.now ≡ plans_of graph.now }
         requires fits { Fits graph.now node.now }
         requires ahead { IsAhead graph.now node.now (R.results seen.now) self.old }
         ensures ahead { IsAhead graph.now node.now (R.results seen.now) self.new }
-        ensures next { let before = V.visited visited.now in
-            IfOk result (IsNext graph.now node.now (R.results seen.now) before) }
+        ensures level { let before = V.visited visited.now in
+            IfOk result (IsLevel graph.now node.now (R.results seen.now) before) }
     {
-        let Some(closure) = &mut self.closure else {
-            return Ok(None);
-        };
         let Some((_, tool)) = tool_at(graph, node) else {
-            return Ok(None);
+            return Ok(Seq::new(alloc));
         };
         let base = base_of(alloc, node)?;
         let Some(_) = value_of(seen, &base) else {
-            return Ok(None);
+            return Ok(Seq::new(alloc));
         };
-        follow(alloc, graph, plans, node, tool, seen, visited, closure)
+        let level = follow(alloc, graph, plans, node, tool, seen, visited, self)?;
+        level.in_order()
     }
 }
 
-// The same of a tool whose base has a value, whatever its maker.
-fn follow<R: Results, V: Visited>(
+// The needs of one level: nodes of sources, and scan nodes, which stand before them among all needs.
+struct Level {
+    // The places of the names that bring them.
+    untold: Seq<usize>,
+    scans: Seq<Node>,
+    sources: Seq<Node>,
+}
+
+impl Drop for Level {
+    fn drop(self) {
+        let Level {
+            untold,
+            scans,
+            sources,
+        } = self;
+        drop(untold);
+        drop(scans);
+        drop(sources);
+    }
+}
+
+impl Level {
+    fn new(alloc: Global) -> Self
+        ensures { result ≡ record { untold = []; scans = []; sources = [] } }
+    {
+        Level {
+            untold: Seq::new(alloc),
+            scans: Seq::new(alloc),
+            sources: Seq::new(alloc),
+        }
+    }
+
+    // The needs in one list. Of the scan nodes and of the sources each the order is that of the names.
+    fn in_order(self) -> Result<Seq<Node>, Memory>
+        ensures { (t : TaskValue) (known : KnownValues) (visited : NodeValue → Bool) →
+            IsOfLevel t known visited self → IfOk result (AreInSight t known visited) }
+    {
+        let Level {
+            untold,
+            scans,
+            sources,
+        } = self;
+        drop(untold);
+        let mut needs = by_names(scans).into_vec();
+        needs.append(&mut by_names(sources).into_vec())?;
+        Ok(Seq::from_vec(needs))
+    }
+}
+
+// The same nodes in the order of their names.
+fn by_names(nodes: Seq<Node>) -> Seq<Node>
+    ensures { IsPermutation nodes result }
+{
+    let mut nodes = nodes.into_vec();
+    nodes.sort_unstable_by(|one, other| one.source.cmp(&other.source));
+    Seq::from_vec(nodes)
+}
+
+// The same of a tool whose base has a value, whatever its maker: the scan node of the own source
+// alone, where that was not visited, since no name is told before it.
+fn follow<R: Results, V: VisitedNodes>(
     alloc: Global,
     graph: &Graph,
     plans: &Plans,
@@ -106,32 +172,121 @@ fn follow<R: Results, V: Visited>(
     tool: &ToolDecl,
     seen: &R,
     visited: &V,
-    closure: &mut Closure,
-) -> Result<Option<Node>, Memory>
+    ahead: &mut Ahead,
+) -> Result<Level, Memory>
     requires made { plans.now ≡ plans_of graph.now }
     requires valued { has_value (values_of (R.results seen.now) (base_of node.now)) ≡ true }
-    requires ahead { (m : MakerValue) → let t = tooled (tool_task graph.now node.now m tool.now) in
-        TellsOf node.now.source t (values_of (R.results seen.now)) closure.old }
-    ensures ahead { (m : MakerValue) → let t = tooled (tool_task graph.now node.now m tool.now) in
-        TellsOf node.now.source t (values_of (R.results seen.now)) closure.new }
-    ensures next { (m : MakerValue) → let t = tooled (tool_task graph.now node.now m tool.now) in
+    requires led { (m : MakerValue) → let t = tooled (tool_task graph.now node.now m tool.now) in
+        AreLed t (values_of (R.results seen.now)) ahead.old.names }
+    ensures led { (m : MakerValue) → let t = tooled (tool_task graph.now node.now m tool.now) in
+        AreLed t (values_of (R.results seen.now)) ahead.new.names }
+    ensures level { (m : MakerValue) → let t = tooled (tool_task graph.now node.now m tool.now) in
         let known = values_of (R.results seen.now) in
-        IfOk result (λ found. IfSome found (ComesNext t known (V.visited visited.now))) }
+        IfOk result (IsOfLevel t known (V.visited visited.now)) }
 {
-    'told: while let Some(name) = closure.wanted() {
-        let name = name.as_slice();
-        let need = brought(alloc, graph, plans, node, tool, name, seen, visited)?;
-        if need.is_some() {
-            return Ok(need);
+    if !ahead.own {
+        let root = node.source.as_slice();
+        if let Some(scan) = unvisited_scan(alloc, graph, plans, node, tool, root, visited)? {
+            let mut level = Level::new(alloc);
+            level.scans.push(scan)?;
+            return Ok(level);
         }
-        let lines = told_lines(alloc, graph, plans, node, tool, name, seen)?;
-        closure.add(alloc, lines.as_slice())?;
+        let lines = told_lines(alloc, graph, plans, node, tool, root, seen)?;
+        ahead.names.add_all(alloc, lines.as_slice())?;
+        ahead.own = true;
     }
-    Ok(None)
+    let untold = ahead.untold.as_slice();
+    let names = &mut ahead.names;
+    let looked = ahead.looked;
+    let mut level = look_at_all(
+        alloc, graph, plans, node, tool, seen, visited, untold, looked, names,
+    )?;
+    ahead.looked = ahead.names.len();
+    ahead.untold = mem::replace(&mut level.untold, Seq::new(alloc));
+    Ok(level)
 }
 
-// The first need that a name brings to which lines lead, of those that were not visited.
-fn brought<R: Results, V: Visited>(
+// Looks at the names at these places, and at all from one place on, also at those that are found
+// meanwhile.
+fn look_at_all<R: Results, V: VisitedNodes>(
+    alloc: Global,
+    graph: &Graph,
+    plans: &Plans,
+    node: &Node,
+    tool: &ToolDecl,
+    seen: &R,
+    visited: &V,
+    untold: &[usize],
+    from: usize,
+    names: &mut Names,
+) -> Result<Level, Memory>
+    requires made { plans.now ≡ plans_of graph.now }
+    requires valued { has_value (values_of (R.results seen.now) (base_of node.now)) ≡ true }
+    requires led { (m : MakerValue) → let t = tooled (tool_task graph.now node.now m tool.now) in
+        AreLed t (values_of (R.results seen.now)) names.old }
+    ensures led { (m : MakerValue) → let t = tooled (tool_task graph.now node.now m tool.now) in
+        AreLed t (values_of (R.results seen.now)) names.new }
+    ensures level { (m : MakerValue) → let t = tooled (tool_task graph.now node.now m tool.now) in
+        let known = values_of (R.results seen.now) in
+        IfOk result (IsOfLevel t known (V.visited visited.now)) }
+{
+    let mut level = Level::new(alloc);
+    for place in untold {
+        look(alloc, graph, plans, node, tool, seen, visited, *place, names, &mut level)?;
+    }
+    let mut place = from;
+    'names: while place < names.len() {
+        look(alloc, graph, plans, node, tool, seen, visited, place, names, &mut level)?;
+        place += 1;
+    }
+    Ok(level)
+}
+
+// Looks at the name at a place: the first need that it brings and that was not visited is put, or
+// else it is told its lines.
+fn look<R: Results, V: VisitedNodes>(
+    alloc: Global,
+    graph: &Graph,
+    plans: &Plans,
+    node: &Node,
+    tool: &ToolDecl,
+    seen: &R,
+    visited: &V,
+    place: usize,
+    names: &mut Names,
+    level: &mut Level,
+) -> Result<(), Memory>
+    requires made { plans.now ≡ plans_of graph.now }
+    requires valued { has_value (values_of (R.results seen.now) (base_of node.now)) ≡ true }
+    requires led { (m : MakerValue) → let t = tooled (tool_task graph.now node.now m tool.now) in
+        AreLed t (values_of (R.results seen.now)) names.old }
+    ensures on { (m : MakerValue) → let t = tooled (tool_task graph.now node.now m tool.now) in
+        IsLedOn t (values_of (R.results seen.now)) names.old names.new }
+    ensures level { (m : MakerValue) → let t = tooled (tool_task graph.now node.now m tool.now) in
+        let known = values_of (R.results seen.now) in
+        let before = V.visited visited.now in
+        OnOk result (IsOfLevel t known before level.old → IsOfLevel t known before level.new) }
+{
+    let Some(name) = names.get(place) else {
+        return Ok(());
+    };
+    let name = name.as_slice();
+    let source = source_node(alloc, name)?;
+    if !visited.has(&source) {
+        level.untold.push(place)?;
+        return level.sources.push(source);
+    }
+    if let Some(scan) = reached_scan(alloc, graph, plans, node, tool, name, seen, visited)? {
+        level.untold.push(place)?;
+        return level.scans.push(scan);
+    }
+    let lines = told_lines(alloc, graph, plans, node, tool, name, seen)?;
+    names.add_all(alloc, lines.as_slice())
+}
+
+// The scan node of a reached name that is present, where it was not visited. That of the own source
+// isn't repeated.
+fn reached_scan<R: Results, V: VisitedNodes>(
     alloc: Global,
     graph: &Graph,
     plans: &Plans,
@@ -144,23 +299,20 @@ fn brought<R: Results, V: Visited>(
     requires made { plans.now ≡ plans_of graph.now }
     ensures { (m : MakerValue) → let t = tool_task graph.now node.now m tool.now in
         let known = values_of (R.results seen.now) in
-        IfOk result (λ found. IfSome found (IsBrought t known name.now (V.visited visited.now))) }
+        let before = V.visited visited.now in
+        IfOk result (λ found. IfSome found (IsReachedScan t known name.now before)) }
 {
     if name == node.source.as_slice() {
-        return unvisited_scan(alloc, graph, plans, node, tool, name, visited);
+        return Ok(None);
     }
-    let source = source_node(alloc, name)?;
-    if !visited.has(&source) {
-        return Ok(Some(source));
-    }
-    if value_of(seen, &source).is_none() {
+    if !is_present(alloc, name, seen)? {
         return Ok(None);
     }
     unvisited_scan(alloc, graph, plans, node, tool, name, visited)
 }
 
 // The scan node of a name, where it has one that was not visited.
-fn unvisited_scan<V: Visited>(
+fn unvisited_scan<V: VisitedNodes>(
     alloc: Global,
     graph: &Graph,
     plans: &Plans,

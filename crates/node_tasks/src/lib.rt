@@ -21,7 +21,7 @@ mod stepping;
 mod task;
 mod tool;
 
-pub use ahead::{Ahead, Visited};
+pub use ahead::{Ahead, VisitedNodes};
 pub use calling::call_for;
 pub use needed::{Needed, needs};
 pub use settling::{Settled, settle, settle_whole};

@@ -1,21 +1,18 @@
 use Rattle.std.proofs.Common.{◌∙◌, ap, List}
 use Rattle.meaning_graph.specs.Graphs.{Text}
-use Rattle.meaning_tasks.specs.Tasks.{Task, ToolTask, tool_task, tooled}
+use Rattle.meaning_tasks.specs.Tasks.{ToolTask, tool_task, tooled}
 use Rattle.meaning_tasks.specs.Needs.{Results, Known, values_of, own_lines, other_lines}
 use Rattle.dynamic_inputs.specs.Closures.{with_lines}
 use Rattle.dynamic_inputs.specs.Laws.{with_own}
-use Rattle.node_tasks.specs.Ahead.{TellsOf}
-use Rattle.node_tasks.proofs.NameLemmas.{ok_on, next_tells, tells_some, tool_names}
+use Rattle.node_tasks.proofs.NameLemmas.{ok_on, next_tells, tool_names}
 use Rattle.node_tasks.proofs.ListedLemmas.{any_maker, tool_falls}
 use Rattle.node_tasks.proofs.names.names_of_tool.Goals as goal
 
 pub told-smaller : goal.told-smaller
 told-smaller g c =
     let seen : Results = g.R.Results.results c.args.seen.now in
-    let t : Task = tooled (tool_task c.args.graph.now c.args.node.now any_maker c.args.tool.now) in
-    let some : TellsOf c.args.node.now.source t (values_of seen) c.told.closure = tells_some c.args.node.now.source (own_lines t (values_of seen)) (other_lines t (values_of seen)) c.told.closure (c.told.invariant any_maker) in
     tool_falls c.args.graph.now c.args.node.now c.args.tool.now seen (g.R.Results.nodes c.args.seen.now) (g.R.Results.finite c.args.seen.now) c.told.closure c.add.new.self c.in-Some-wanted.name.now c.in_ok-lines.lines
-    some c.in-Some-wanted.ensures.first c.in-Some-wanted.ensures.some (c.in_ok-add.ensures.ok ∙ ap (with_lines c.told.closure) c.as_slice-in-Some-wanted-2.ensures)
+    (c.told.invariant any_maker) c.in-Some-wanted.ensures.first c.in-Some-wanted.ensures.some (c.in_ok-add.ensures.ok ∙ ap (with_lines c.told.closure) c.as_slice-in-Some-wanted-2.ensures)
 
 pub told-preserved : goal.told-preserved
 told-preserved g c m =

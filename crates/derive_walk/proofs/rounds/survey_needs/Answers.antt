@@ -2,7 +2,7 @@ use Rattle.std.proofs.Common.{ap, ◌∙◌}
 use Rattle.node_tasks.proofs.Lemmas.{needs_in, needs_listed}
 use Rattle.walk_tables.specs.Tables.{results_of}
 use Rattle.walk_tables.specs.Surveys.{survey_of}
-use Rattle.derive_walk.proofs.visiting.survey_needs.Goals as goal
+use Rattle.derive_walk.proofs.rounds.survey_needs.Goals as goal
 
 pub returns : goal.returns
 returns c w n found =
