@@ -1,14 +1,16 @@
 // What the tests of declarations look up: names, and the types by their numbers.
-ghost use Rattle.std.specs.Prelude.{◌≡◌, [], IfOk, OnOk, length, filter_map, take};
+ghost use Rattle.std.specs.Prelude.{◌≡◌, ◌≤◌, [], IfOk, OnOk, length, filter_map, take};
+ghost use Rattle.meaning_texts.specs.Limits.{declaration_limit};
 ghost use Rattle.meaning_graph.specs.Graphs.{types, type_named, has_param};
 ghost use Rattle.meaning_graph_text.specs.Checks.{is_known};
 ghost use Rattle.type_graph.specs.Places.{place_of, stands_in};
 ghost use Rattle.type_graph.specs.Shapes.{shape_of, shapes_of, supers_of, shape_named, IsRowAbove, AreKindsBy};
 ghost use Rattle.type_graph.specs.Spaces.{names_in};
-ghost use Rattle.type_graph.specs.Tables.{AreNamed};
+ghost use Rattle.type_graph.specs.Tables.{AreNamed, AreRows};
 ghost use Rattle.type_graph.specs.Walks.{AreBelow};
 
 use crate::names::Names;
+use crate::rows::Rows;
 use crate::spaces::{Space, Spaces};
 use crate::walk::reached;
 use object_values::{Bytes, Decl, Kind, Memory, Seq, when_done};
@@ -140,6 +142,14 @@ impl<'a> Context<'a> {
         ensures { IfOk result (IsRowAbove self.now starts.now) }
     {
         reached(alloc, self.kinds.supers.as_slice(), starts)
+    }
+
+    /// Which types each type is.
+    pub(crate) fn rows(&self, alloc: Global) -> Result<Rows, Memory>
+        requires { length self.now ≤ declaration_limit }
+        ensures { IfOk result (AreRows self.now) }
+    {
+        Rows::closed(alloc, self.kinds.supers.as_slice())
     }
 
     /// The names of each space.
