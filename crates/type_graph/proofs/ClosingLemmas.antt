@@ -1,8 +1,7 @@
 -- Rows that are closed, round by round.
-use Rattle.std.proofs.Common.{◌≡◌, ℕ, suc, ◌+◌, ◌<◌, ◌≤◌, true, List, inl, inr, sym, ◌∙◌, subst, length, arith, nat_eq}
+use Rattle.std.proofs.Common.{◌≡◌, ℕ, suc, ◌+◌, ◌<◌, ◌≤◌, ◌||◌, Bool, true, List, [], ◌∷◌, inl, inr, refl, sym, ap, ◌∙◌, subst, length, arith, nat_eq}
 use Rattle.std.specs.List.{list_any}
 use Rattle.std.proofs.lemmas.Bool.{or_cases, eqb-true, eq-eqb}
-use Rattle.meaning_texts.specs.Limits.{declaration_limit}
 use Rattle.meaning_texts.specs.Lists.{IsIn}
 use Rattle.meaning_texts.proofs.Lemmas.{one_passes}
 use Rattle.meaning_graph.specs.Graphs.{Graph, as_type}
@@ -83,6 +82,11 @@ ordered_rows g supers are rows c =
     let long = each_type g supers are in
     record { counted = c.counted ∙ long; fits = c.fits; right = λ a b h k. c.right g are a b (omega (arith, h, long)) (omega (arith, k, long)) }
 
--- few declarations have few types
-pub few_supers : (g : Graph) (supers : List (List ℕ)) → AreOfGraph g supers → length g ≤ declaration_limit → length supers ≤ declaration_limit + 1
-few_supers g supers are few = omega (arith, each_type g supers are, few, few_found as_type g)
+-- there are no more types than declarations and one
+pub few_supers : (g : Graph) (supers : List (List ℕ)) → AreOfGraph g supers → length supers ≤ length g + 1
+few_supers g supers are = omega (arith, each_type g supers are, few_found as_type g)
+
+-- a test of any element by another one that answers alike
+pub any_alike : (p q : ℕ → Bool) (xs : List ℕ) → ((x : ℕ) → IsIn x xs → p x ≡ q x) → list_any p xs ≡ list_any q xs
+any_alike p q [] h = refl
+any_alike p q (x ∷ xs) h = ap (λ b. b || list_any p xs) (h x (inl refl)) ∙ ap (λ b. q x || b) (any_alike p q xs (λ y i. h y (inr i)))

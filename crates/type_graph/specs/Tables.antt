@@ -7,12 +7,15 @@ use Rattle.meaning_texts.specs.Limits.{declaration_limit}
 use Rattle.meaning_graph.specs.Graphs.{Text, Graph, types, suffixes, params, makers, type_named, as_maker}
 use Rattle.meaning_graph.specs.Types.{is_a}
 use Rattle.meaning_graph_text.specs.Checks.{Checked}
+use Rattle.type_graph.specs.declared.context.Kinds.{Kinds}
 use Rattle.type_graph.specs.declared.spaces.Spaces.{Spaces}
 use Rattle.type_graph.specs.declared.tables.Numbers.{Numbers}
 use Rattle.type_graph.specs.declared.tables.Tables.{Tables}
 use Rattle.type_graph.specs.declared.rows.Rows.{Rows}
 use Rattle.type_graph.specs.Places.{AreOf}
 use Rattle.type_graph.specs.Rows.{AreFor, answer}
+use Rattle.type_graph.specs.Shapes.{AreKinds}
+use Rattle.type_graph.specs.Spaces.{AreSpaces}
 
 abbrev pub type_names : Graph → List Text
 type_names g = map (λ (t : TypeDecl). t.name) (types g)
@@ -63,3 +66,9 @@ pub record AreTables (g : Graph) (tables : Tables) : Type 0 where
   pub named : AreNamed g tables.spaces
   pub numbered : AreNumbers g tables.numbers
   pub ordered : AreRows g tables.rows
+
+-- What belongs to the declarations before they are checked. Rows are kept of no more than are accepted.
+pub record IsContext (g : Graph) (spaces : Spaces) (kinds : Kinds) (rows : Rows) : Type 0 where
+  pub spaces_are : AreSpaces g spaces
+  pub kinds_are : AreKinds g kinds
+  pub rows_are : length g ≤ declaration_limit → AreRows g rows

@@ -1,7 +1,8 @@
 // What types each type is, as rows of bits: a row is closed by those of its supertypes, a word at a time.
 ghost use Rattle.std.specs.Prelude.{◌≡◌, ℕ, ◌+◌, ◌*◌, ◌<◌, ◌≤◌, false, length, IfOk, slice_index_or};
+ghost use Rattle.std.specs.List.{list_any};
 ghost use Rattle.meaning_texts.specs.Limits.{declaration_limit};
-ghost use Rattle.type_graph.specs.Walks.{AreAllBelow};
+ghost use Rattle.type_graph.specs.Walks.{AreAllBelow, AreBelow};
 ghost use Rattle.type_graph.specs.Rows.{AreFor, IsClosed, IsCloser, IsOwn, HasAbove, HasAllAbove, Grows, Ored, AreApart, answer};
 
 use object_values::{Memory, Seq};
@@ -60,6 +61,21 @@ impl Rows {
     {
         let word = self.words[a * self.width + b / 64];
         (word >> (b % 64)) & 1 == 1
+    }
+
+    /// Whether one of the first types is the other one.
+    pub(crate) fn any_has(&self, starts: &[usize], number: usize) -> bool
+        requires fits { AreFor self.now.count self.now.width self.now.words.items }
+        requires starts { AreBelow self.now.count starts.now }
+        requires number { number < self.now.count }
+        ensures { result ≡ list_any (λ start. answer self.now start number) starts.now }
+    {
+        for start in starts {
+            if self.has(*start, number) {
+                return true;
+            }
+        }
+        false
     }
 }
 

@@ -58,9 +58,9 @@ impl Tables {
         let context = Context::new(alloc, decls)?;
         check(alloc, &context, decls)?;
         let numbers = Numbers::new(alloc, &context, decls)?;
-        let rows = context.rows(alloc)?;
+        let (spaces, rows) = context.into_parts();
         Ok(Tables {
-            spaces: context.into_spaces(),
+            spaces,
             numbers,
             rows,
         })
