@@ -8,8 +8,8 @@ use Rattle.std.proofs.lemmas.List.{get_or-set_same, get_or-set_other}
 use Rattle.std.proofs.lemmas.Nat.Bits.{bit_at_or, bit_at-zero, bit_at_set_same, bit_at_set_other}
 use Rattle.meaning_texts.specs.Lists.{IsIn}
 use Rattle.meaning_texts.proofs.Lemmas.{in_either}
-use Rattle.type_graph.specs.Rows.{bit, Has, AreFor, IsOwn, AreApart, Ored, AreLed, Grows, HasAbove}
-use Rattle.type_graph.specs.Walks.{Leads, over, AreAllBelow}
+use Rattle.type_graph.specs.Rows.{bit, Has, AreFor, IsOwn, AreApart, Ored, AreLed, Grows, HasAbove, Passes, PassesBelow}
+use Rattle.type_graph.specs.Walks.{Leads, here, over, AreAllBelow}
 use Rattle.type_graph.proofs.WalkLemmas.{in_one}
 
 -- ---- places of words
@@ -99,12 +99,11 @@ stays supers width words = record { sized = refl; kept = λ a b h k x. x; led = 
 pub grows_on : (supers : List (List ℕ)) (width : ℕ) (old words new : List ℕ) → Grows supers width old words → Grows supers width words new → Grows supers width old new
 grows_on supers width old words new f s = record { sized = s.sized ∙ f.sized; kept = λ a b h k x. s.kept a b h k (f.kept a b h k x); led = λ l. s.led (f.led l) }
 
-module _ (supers : List (List ℕ)) (width : ℕ) (old new : List ℕ) (fits : AreFor (length supers) width old) (a s : ℕ) (lower : a < length supers) (upper : s < length supers)
-    (leads : IsIn s (get_or supers a [])) (o : Ored width (a * width) (s * width) old new) where
-  at_row : (b : ℕ) → b < length supers → bit width new a b ≡ max (bit width old a b) (bit width old s b)
+module _ (count width : ℕ) (old new : List ℕ) (fits : AreFor count width old) (a s : ℕ) (o : Ored width (a * width) (s * width) old new) where
+  pub at_row : (b : ℕ) → b < count → bit width new a b ≡ max (bit width old a b) (bit width old s b)
   at_row b h = ap (λ x. bit_at x (b % 64)) (o.ored (b / 64) (omega (arith, fits.wide, h))) ∙ bit_at_or (get_or old (a * width + b / 64) 0) (get_or old (s * width + b / 64) 0) (b % 64)
 
-  elsewhere : (c b : ℕ) → b < length supers → (c ≡ a → ⊥) → bit width new c b ≡ bit width old c b
+  pub elsewhere : (c b : ℕ) → b < count → (c ≡ a → ⊥) → bit width new c b ≡ bit width old c b
   elsewhere c b h d =
       let k : b / 64 < width = omega (arith, fits.wide, h) in
       ap (λ x. bit_at x (b % 64)) (elim (cases_lt c a) [
@@ -112,28 +111,30 @@ module _ (supers : List (List ℕ)) (width : ℕ) (old new : List ℕ) (fits : A
         | inr m ↦ elim (cases_lt a c) [ inl l ↦ o.after (c * width + b / 64) (omega (arith, row_below a c width l)) | inr n ↦ absurd (d (omega (arith, m, n))) ]
       ])
 
-  pub adds : (b : ℕ) → b < length supers → Has width old s b → Has width new a b
+  pub adds : (b : ℕ) → b < count → Has width old s b → Has width new a b
   adds b h x = omega (arith, at_row b h, x)
 
-  keeps : (c b : ℕ) → b < length supers → Has width old c b → Has width new c b
+  pub keeps : (c b : ℕ) → b < count → Has width old c b → Has width new c b
   keeps c b h x = elim (same_or_other c a) [
     | inl e ↦ let y = subst (λ n. Has width old n b) e x in subst (λ n. Has width new n b) (sym e) (omega (arith, at_row b h, y))
     | inr d ↦ elsewhere c b h d ∙ x
   ]
 
+module _ (supers : List (List ℕ)) (width : ℕ) (old new : List ℕ) (fits : AreFor (length supers) width old) (a s : ℕ) (lower : a < length supers) (upper : s < length supers)
+    (leads : IsIn s (get_or supers a [])) (o : Ored width (a * width) (s * width) old new) where
   leads_there : AreLed supers width old → (b : ℕ) → b < length supers → Has width new a b → Leads supers a b
   leads_there led b h x = elim (cases_eq (bit width old a b) 1) [
     | inl e ↦ led a b lower h e
-    | inr d ↦ over a s b leads (led s b upper h (omega (arith, at_row b h, x, d)))
+    | inr d ↦ over a s b leads (led s b upper h (omega (arith, at_row (length supers) width old new fits a s o b h, x, d)))
   ]
 
   pub row_grows : Grows supers width old new
   row_grows = record {
     sized = o.sized;
-    kept = λ c b h k x. keeps c b k x;
+    kept = λ c b h k x. keeps (length supers) width old new fits a s o c b k x;
     led = λ led c b h k x. elim (same_or_other c a) [
       | inl e ↦ subst (λ n. Leads supers n b) (sym e) (leads_there led b k (subst (λ n. Has width new n b) e x))
-      | inr d ↦ led c b h k (sym (elsewhere c b k d) ∙ x)
+      | inr d ↦ led c b h k (sym (elsewhere (length supers) width old new fits a s o c b k d) ∙ x)
     ];
   }
 
@@ -162,11 +163,11 @@ module _ (count width n : ℕ) (words : List ℕ) (so_far : AreOwnTo count width
   abbrev new : List ℕ
   new = set words place word
 
-  here : get_or new place 0 ≡ word
-  here = get_or-set_same words place word 0 (omega (arith, so_far.fits.sized, word_within count width n (n / 64) below (omega (arith, so_far.fits.wide, below))))
+  at_place : get_or new place 0 ≡ word
+  at_place = get_or-set_same words place word 0 (omega (arith, so_far.fits.sized, word_within count width n (n / 64) below (omega (arith, so_far.fits.wide, below))))
 
   itself_now : Has width new n n
-  itself_now = ap (λ x. bit_at x (n % 64)) here ∙ bit_at_set_same w64 (get_or words place 0) (n % 64) (omega arith)
+  itself_now = ap (λ x. bit_at x (n % 64)) at_place ∙ bit_at_set_same w64 (get_or words place 0) (n % 64) (omega arith)
 
   other_row : (a b : ℕ) → b < count → (a ≡ n → ⊥) → bit width new a b ≡ bit width words a b
   other_row a b k d = ap (λ x. bit_at x (b % 64)) (get_or-set_other words place (a * width + b / 64) word 0 (λ e. d (same_row a n width (b / 64) (n / 64) (omega (arith, so_far.fits.wide, k)) (omega (arith, so_far.fits.wide, below)) e)))
@@ -175,7 +176,7 @@ module _ (count width n : ℕ) (words : List ℕ) (so_far : AreOwnTo count width
   other_bit : (b : ℕ) → b < count → (b ≡ n → ⊥) → bit width new n b ≡ bit width words n b
   other_bit b k d = elim (same_or_other (n * width + b / 64) place) [
     | inl e ↦
-        ap (λ p. bit_at (get_or new p 0) (b % 64)) e ∙ ap (λ x. bit_at x (b % 64)) here ∙ bit_at_set_other w64 (get_or words place 0) (n % 64) (omega arith) (b % 64) (λ f. d (omega (arith, e, f)))
+        ap (λ p. bit_at (get_or new p 0) (b % 64)) e ∙ ap (λ x. bit_at x (b % 64)) at_place ∙ bit_at_set_other w64 (get_or words place 0) (n % 64) (omega arith) (b % 64) (λ f. d (omega (arith, e, f)))
         ∙ ap (λ p. bit_at (get_or words p 0) (b % 64)) (sym e)
     | inr f ↦ ap (λ x. bit_at x (b % 64)) (get_or-set_other words place (n * width + b / 64) word 0 f)
   ]
@@ -218,8 +219,8 @@ module _ (supers : List (List ℕ)) (width a : ℕ) (these : List ℕ) (s : ℕ)
 
   pub one_more_has : HasThese supers width a (these ++ s ∷ []) old new
   one_more_has t b i h x = elim (in_either t these (s ∷ []) i) [
-    | inl j ↦ keeps supers width words new fits_now a s lower upper leads o a b h (has t b j h x)
-    | inr j ↦ adds supers width words new fits_now a s lower upper leads o b h (subst (λ n. Has width words n b) (in_one t s j) (so_far.kept t b (subst (λ n. n < length supers) (sym (in_one t s j)) upper) h x))
+    | inl j ↦ keeps (length supers) width words new fits_now a s o a b h (has t b j h x)
+    | inr j ↦ adds (length supers) width words new fits_now a s o b h (subst (λ n. Has width words n b) (in_one t s j) (so_far.kept t b (subst (λ n. n < length supers) (sym (in_one t s j)) upper) h x))
   ]
 
 module _ (supers : List (List ℕ)) (width : ℕ) (old words new : List ℕ) (so_far : Grows supers width old words) (grows : Grows supers width words new) where
@@ -234,4 +235,82 @@ module _ (supers : List (List ℕ)) (width : ℕ) (old words new : List ℕ) (so
     | inr e ↦ λ s b i k x.
         let j = subst (λ m. IsIn s (get_or supers m [])) e i in
         subst (λ m. Has width new m b) (sym e) (adds s b j k (so_far.kept s b (within n s j) k x))
+  ]
+
+-- ---- the rows of types that have a type
+
+pub none_pass : (count width t : ℕ) (words : List ℕ) → Passes count width t 0 words words
+none_pass count width t words = record { sized = refl; kept = λ a b h k x. x; only = λ a b h k x. inl x; added = λ a b h. absurd (omega (arith, h)) }
+
+module _ (count width t n : ℕ) (old words : List ℕ) (fits : AreFor count width old) (within : t < count) (below : n < count) (so_far : Passes count width t n old words) where
+  fits_here : AreFor count width words
+  fits_here = fits_on count width old words fits so_far.sized
+
+  row_old : (b : ℕ) → b < count → Has width words t b → Has width old t b
+  row_old b k x = elim (so_far.only t b within k x) [ inl y ↦ y | inr y ↦ y.1 ]
+
+  has_old : Has width words n t → Has width old n t
+  has_old x = elim (so_far.only n t below within x) [ inl y ↦ y | inr y ↦ y.0 ]
+
+  -- a row that has the type, and one that has it not
+  module _ (new : List ℕ) (has : Has width words n t) (o : Ored width (n * width) (t * width) words new) where
+    new_only : (b : ℕ) → b < count → Has width new n b → Has width old n b ⊎ (Has width old n t × Has width old t b)
+    new_only b k x = elim (cases_eq (bit width words n b) 1) [
+      | inl e ↦ so_far.only n b below k e
+      | inr d ↦ inr (has_old has, row_old b k (omega (arith, at_row count width words new fits_here n t o b k, x, d)))
+    ]
+
+    pub pass_new : Passes count width t (n + 1) old new
+    pass_new = record {
+      sized = o.sized ∙ so_far.sized;
+      kept = λ a b h k x. keeps count width words new fits_here n t o a b k (so_far.kept a b h k x);
+      only = λ a b h k x. elim (same_or_other a n) [
+        | inl e ↦ subst (λ m. Has width old m b ⊎ (Has width old m t × Has width old t b)) (sym e) (new_only b k (subst (λ m. Has width new m b) e x))
+        | inr d ↦ so_far.only a b h k (sym (elsewhere count width words new fits_here n t o a b k d) ∙ x)
+      ];
+      added = λ a b h k x y. elim (below_or_at a n h) [
+        | inl l ↦ keeps count width words new fits_here n t o a b k (so_far.added a b l k x y)
+        | inr e ↦ subst (λ m. Has width new m b) (sym e) (adds count width words new fits_here n t o b k (so_far.kept t b within k y))
+      ];
+    }
+
+  pub pass_old : (Has width words n t → ⊥) → Passes count width t (n + 1) old words
+  pass_old lacks = record {
+    sized = so_far.sized;
+    kept = so_far.kept;
+    only = so_far.only;
+    added = λ a b h k x y. elim (below_or_at a n h) [
+      | inl l ↦ so_far.added a b l k x y
+      | inr e ↦ absurd (lacks (so_far.kept n t below within (subst (λ m. Has width old m t) e x)))
+    ];
+  }
+
+pub leads_both : (supers : List (List ℕ)) (a b c : ℕ) → Leads supers a b → Leads supers b c → Leads supers a c
+leads_both supers a b c (here d) r = r
+leads_both supers a b c (over d e f i l) r = over d e c i (leads_both supers e f c l r)
+
+module _ (supers : List (List ℕ)) (width t : ℕ) (old words new : List ℕ) (within : t < length supers) (so_far : Grows supers width old words)
+    (passes : PassesBelow t (length supers) width words) (p : Passes (length supers) width t (length supers) words new) where
+  pub through_grows : Grows supers width old new
+  through_grows = grows_on supers width old words new so_far (record {
+    sized = p.sized;
+    kept = p.kept;
+    led = λ led a b h k x. elim (p.only a b h k x) [ inl y ↦ led a b h k y | inr y ↦ leads_both supers a t b (led a t h within y.0) (led t b within k y.1) ];
+  })
+
+  old_at : (a b : ℕ) → a < length supers → b < length supers → Has width new a b → (a ≡ t) ⊎ (b ≡ t) → Has width words a b
+  old_at a b h k x e = elim (p.only a b h k x) [
+    | inl y ↦ y
+    | inr y ↦ elim e [ inl f ↦ subst (λ m. Has width words m b) (sym f) y.1 | inr f ↦ subst (Has width words a) (sym f) y.0 ]
+  ]
+
+  pub through_more : PassesBelow (t + 1) (length supers) width new
+  through_more a c b h i k x y = elim (below_or_at c t h) [
+    | inr e ↦ p.added a b i k (subst (Has width words a) e (old_at a c i (omega (arith, e, within)) x (inr e))) (subst (λ m. Has width words m b) e (old_at c b (omega (arith, e, within)) k y (inl e)))
+    | inl l ↦
+        let m : c < length supers = omega (arith, l, within) in
+        elim (p.only a c i m x) [
+          | inl q ↦ elim (p.only c b m k y) [ inl r ↦ p.kept a b i k (passes a c b l i k q r) | inr r ↦ p.added a b i k (passes a c t l i within q r.0) r.1 ]
+          | inr q ↦ elim (p.only c b m k y) [ inl r ↦ p.added a b i k q.0 (passes t c b l within k q.1 r) | inr r ↦ p.added a b i k q.0 r.1 ]
+        ]
   ]

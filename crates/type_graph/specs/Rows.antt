@@ -1,5 +1,5 @@
 -- Rows of bits: one for each type, with a bit for each type.
-use Rattle.std.specs.Prelude.{◌≡◌, ◌⊎◌, ℕ, ◌+◌, ◌*◌, ◌/◌, ◌%◌, ◌<◌, ◌≤◌, Bool, true, List, [], length, slice_index_or, bit_or, nat_eq}
+use Rattle.std.specs.Prelude.{◌≡◌, ◌⊎◌, ℕ, ◌+◌, ◌*◌, ◌/◌, ◌%◌, ◌<◌, ◌≤◌, Bool, List, [], length, slice_index_or, bit_or, nat_eq}
 use Rattle.std.specs.Int.{bit_at}
 use Rattle.meaning_texts.specs.Lists.{IsIn}
 use Rattle.meaning_graph.specs.Graphs.{Graph, types, type_named}
@@ -64,11 +64,25 @@ HasAllAbove supers width old new = (a : ℕ) → a < length supers → HasAbove 
 abbrev pub AreOfGraph : Graph → List (List ℕ) → Type 0
 AreOfGraph g supers = supers ≡ supers_of (type_named g) (types g)
 
--- The rows have just what their types lead to, at the supertypes of any graph.
+-- The row of a type is added to those up to a number that have the type.
+pub record Passes (count width through number : ℕ) (old new : List ℕ) : Type 0 where
+  pub sized : length new ≡ length old
+  pub kept : (a b : ℕ) → a < count → b < count → Has width old a b → Has width new a b
+  pub only : (a b : ℕ) → a < count → b < count → Has width new a b → Has width old a b ⊎ (Has width old a through × Has width old through b)
+  pub added : (a b : ℕ) → a < number → b < count → Has width old a through → Has width old through b → Has width new a b
+
+-- what rows have passes on through the types below a limit
+abbrev pub PassesBelow : ℕ → ℕ → ℕ → List ℕ → Type 0
+PassesBelow limit count width words = (a c b : ℕ) → c < limit → a < count → b < count → Has width words a c → Has width words c b → Has width words a b
+
+abbrev pub IsTransitive : ℕ → ℕ → List ℕ → Type 0
+IsTransitive count width words = PassesBelow count count width words
+
+-- The rows have just what their types lead to.
 pub record IsCloser (supers : List (List ℕ)) (width : ℕ) (words : List ℕ) : Type 0 where
   pub fits : AreFor (length supers) width words
   pub led : AreLed supers width words
-  pub all : (g : Graph) → AreOfGraph g supers → (a b : ℕ) → a < length supers → b < length supers → is_a g a b ≡ true → Has width words a b
+  pub all : (a b : ℕ) → a < length supers → b < length supers → Leads supers a b → Has width words a b
 
 -- The rows answer as the order of types does, at the supertypes of any graph.
 pub record IsClosed (supers : List (List ℕ)) (rows : Rows) : Type 0 where

@@ -67,7 +67,6 @@ impl Drop for Context<'_> {
 impl<'a> Model for Context<'a> {
     ghost use Rattle.std.specs.Prelude.{List};
     ghost use Rattle.object_values.specs.declared.graph.Decl.{Decl};
-    ghost use Rattle.type_graph.specs.Rows.{IsClosed};
     ghost use Rattle.type_graph.specs.Tables.{IsContext};
 
     ghost Value = { List Decl };

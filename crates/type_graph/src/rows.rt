@@ -1,12 +1,15 @@
 // What types each type is, as rows of bits: a row is closed by those of its supertypes, a word at a time.
-ghost use Rattle.std.specs.Prelude.{◌≡◌, ℕ, ◌+◌, ◌*◌, ◌<◌, ◌≤◌, false, length, IfOk, slice_index_or};
+ghost use Rattle.std.specs.Prelude.{◌≡◌, ℕ, ◌+◌, ◌*◌, ◌<◌, ◌≤◌, false, length, nat_eq, IfOk, slice_index_or};
 ghost use Rattle.std.specs.List.{list_any};
 ghost use Rattle.meaning_texts.specs.Limits.{declaration_limit};
 ghost use Rattle.type_graph.specs.Walks.{AreAllBelow, AreBelow};
-ghost use Rattle.type_graph.specs.Rows.{AreFor, IsClosed, IsCloser, IsOwn, HasAbove, HasAllAbove, Grows, Ored, AreApart, answer};
+ghost use Rattle.type_graph.specs.Rows.{AreFor, IsClosed, IsCloser, IsOwn, HasAbove, HasAllAbove, Grows, Ored, AreApart, IsTransitive, Passes, answer, bit};
 
 use object_values::{Memory, Seq};
 use std::alloc::Global;
+
+/// After so many rounds over the rows they are closed in another way, which takes the same time in whatever order types are declared.
+const ROUNDS: u32 = 4;
 
 /// A row for each type, with a bit for each type. A word has 64 bits, and each row has as many words.
 pub(crate) struct Rows {
@@ -59,8 +62,7 @@ impl Rows {
         requires upper { b < self.now.count }
         ensures { result ≡ answer self.now a b }
     {
-        let word = self.words[a * self.width + b / 64];
-        (word >> (b % 64)) & 1 == 1
+        has_bit(self.words.as_slice(), self.width, self.count, a, b)
     }
 
     /// Whether one of the first types is the other one.
@@ -79,6 +81,16 @@ impl Rows {
     }
 }
 
+// Whether the row of the one type has the other.
+fn has_bit(words: &[u64], width: usize, count: usize, a: usize, b: usize) -> bool
+    requires fits { AreFor count width words.now }
+    requires lower { a < count }
+    requires upper { b < count }
+    ensures { result ≡ nat_eq (bit width words.now a b) 1 }
+{
+    (words[a * width + b / 64] >> (b % 64)) & 1 == 1
+}
+
 // Each type is itself.
 fn mark_own(words: &mut [u64], width: usize, count: usize)
     requires fits { AreFor count width words.old }
@@ -90,17 +102,42 @@ fn mark_own(words: &mut [u64], width: usize, count: usize)
     }
 }
 
-// Goes over the rows until none grows. Where there are no loops, few rounds are enough, if supertypes mostly stand before or mostly after
-// their types. There are never more rounds than types.
+// Goes over the rows until none grows. Where there are no loops, few rounds are enough if supertypes mostly stand before or mostly after
+// their types. Where they are not, the rows are closed through each type.
 fn close(words: &mut [u64], width: usize, supers: &[Seq<usize>])
     requires supers { AreAllBelow supers.now }
     requires fits { AreFor (length supers.now) width words.old }
     requires own { IsOwn (length supers.now) width words.old }
     ensures { IsCloser supers.now width words.new }
 {
-    for _round in 0..supers.len() {
+    for _round in 0..ROUNDS {
         if !go_round(words, width, supers) {
             return;
+        }
+    }
+    add_through_all(words, width, supers);
+}
+
+// Adds the row of each type to those that have the type.
+fn add_through_all(words: &mut [u64], width: usize, supers: &[Seq<usize>])
+    requires fits { AreFor (length supers.now) width words.old }
+    ensures grows { Grows supers.now width words.old words.new }
+    ensures passes { IsTransitive (length supers.now) width words.new }
+{
+    for through in 0..supers.len() {
+        add_through(words, width, supers.len(), through);
+    }
+}
+
+// Adds the row of one type to those that have the type.
+fn add_through(words: &mut [u64], width: usize, count: usize, through: usize)
+    requires fits { AreFor count width words.old }
+    requires through { through < count }
+    ensures { Passes count width through count words.old words.new }
+{
+    for number in 0..count {
+        if has_bit(words, width, count, number, through) {
+            add_row(words, width, number * width, through * width);
         }
     }
 }
