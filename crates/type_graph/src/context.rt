@@ -161,7 +161,7 @@ impl<'a> Context<'a> {
     ) -> Result<bool, Memory>
         requires starts { AreBelow (length (types self.now)) starts.now }
         requires number { number < length (types self.now) }
-        ensures { IfOk result (λ is. is ≡ list_any (λ start. is_a self.now start number) starts.now) }
+        ensures { IfOk result (λ is. is ≡ list_any (λ a. is_a self.now a number) starts.now) }
     {
         if self.decls.len() > DECLARATION_LIMIT as usize {
             // So many are refused, and have no rows.
