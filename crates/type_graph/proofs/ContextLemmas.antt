@@ -105,15 +105,15 @@ module _ (g : Graph) (supers : List (List ℕ)) (are : supers ≡ supers_of (typ
   pub supers_within : (number other : ℕ) → IsIn other (get_or supers number []) → other < length supers
   supers_within number other h = subst (λ n. other < n) (sym each_type) (in_types (slice_get (types g) number) other (subst (IsIn other) (above_of number) h))
 
-  leads_up : (a b : ℕ) → Leads supers a b → IsA g a b
+  pub leads_up : (a b : ℕ) → Leads supers a b → IsA g a b
   leads_up a b (here c) = itself c
   leads_up a b (over c d e i r) = by_super c d e (subst (IsIn d) (above_of c) i) (leads_up d e r)
 
-  up_leads : (a b : ℕ) → IsA g a b → Leads supers a b
+  pub up_leads : (a b : ℕ) → IsA g a b → Leads supers a b
   up_leads a b (itself c) = here c
   up_leads a b (by_super c d e i r) = over c d e (subst (IsIn d) (sym (above_of c)) i) (up_leads d e r)
 
-  alike : (a b : Bool) → (a ≡ true → b ≡ true) → (b ≡ true → a ≡ true) → a ≡ b
+  pub alike : (a b : Bool) → (a ≡ true → b ≡ true) → (b ≡ true → a ≡ true) → a ≡ b
   alike true b f h = sym (f refl)
   alike false true f h = h refl
   alike false false f h = refl

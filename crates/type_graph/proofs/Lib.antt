@@ -1,10 +1,11 @@
+mod BitLemmas
+mod ClosingLemmas
 mod ContextLemmas
 mod DoubleLemmas
 mod FaultLemmas
 mod KindLemmas
 mod LoopLemmas
 mod PlaceLemmas
-mod RowLemmas
 mod SpaceLemmas
 mod SuffixLemmas
 mod TableLemmas

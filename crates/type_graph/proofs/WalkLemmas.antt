@@ -17,7 +17,7 @@ marked_within [] n h = absurd (true≢false (sym h))
 marked_within (m ∷ ms) zero h = omega arith
 marked_within (m ∷ ms) (suc n) h = omega (arith, marked_within ms n h)
 
-in_one : (n m : ℕ) → IsIn n (m ∷ []) → n ≡ m
+pub in_one : (n m : ℕ) → IsIn n (m ∷ []) → n ≡ m
 in_one n m (inl e) = e
 in_one n m (inr h) = absurd h
 

@@ -14,8 +14,6 @@ use Rattle.meaning_graph_text.specs.Checks.{is_known, also_type, super_fits, kee
 use Rattle.type_graph.specs.declared.context.Shape.{Shape}
 use Rattle.type_graph.specs.declared.context.Shape.TheVariants as shape
 use Rattle.type_graph.specs.declared.context.Kinds.{Kinds}
-use Rattle.type_graph.specs.declared.spaces.Spaces.{Spaces}
-use Rattle.type_graph.specs.Spaces.{AreSpaces}
 
 -- what a kind is, with the number of the type of a list's elements, where it has one
 abbrev pub shape_of : (Text → Option ℕ) → Kind → Shape
@@ -53,11 +51,6 @@ shape_named g name = option_map (shape_of (type_named g)) (kind_named g name)
 pub record IsRowAbove (g : Graph) (starts : List ℕ) (row : List Bool) : Type 0 where
   pub sized : length row ≡ length (types g)
   pub right : (number : ℕ) → slice_index_or row number false ≡ list_any (λ start. is_a g start number) starts
-
--- The tables belong to the declarations.
-pub record IsContext (g : Graph) (spaces : Spaces) (kinds : Kinds) : Type 0 where
-  pub spaces_are : AreSpaces g spaces
-  pub kinds_are : AreKinds g kinds
 
 -- ---- the rules of kinds, rule by rule
 

@@ -1,5 +1,5 @@
 -- The tables that belong to the declarations of a graph.
-use Rattle.std.specs.Prelude.{◌≡◌, ℕ, ◌<◌, ◌≤◌, Bool, false, List, [], Option, Some, map, length, slice_get, slice_index_or, unwrap_or, option_and_then}
+use Rattle.std.specs.Prelude.{◌≡◌, ℕ, ◌<◌, ◌≤◌, List, Option, Some, map, length, slice_get, unwrap_or, option_and_then}
 use Rattle.object_values.specs.declared.graph.TypeDecl.{TypeDecl}
 use Rattle.object_values.specs.declared.graph.SuffixDecl.{SuffixDecl}
 use Rattle.object_values.specs.declared.graph.MakerDecl.{MakerDecl}
@@ -7,10 +7,15 @@ use Rattle.meaning_texts.specs.Limits.{declaration_limit}
 use Rattle.meaning_graph.specs.Graphs.{Text, Graph, types, suffixes, params, makers, type_named, as_maker}
 use Rattle.meaning_graph.specs.Types.{is_a}
 use Rattle.meaning_graph_text.specs.Checks.{Checked}
+use Rattle.type_graph.specs.declared.context.Kinds.{Kinds}
 use Rattle.type_graph.specs.declared.spaces.Spaces.{Spaces}
 use Rattle.type_graph.specs.declared.tables.Numbers.{Numbers}
 use Rattle.type_graph.specs.declared.tables.Tables.{Tables}
+use Rattle.type_graph.specs.declared.rows.Rows.{Rows}
 use Rattle.type_graph.specs.Places.{AreOf}
+use Rattle.type_graph.specs.Rows.{AreFor, answer}
+use Rattle.type_graph.specs.Shapes.{AreKinds}
+use Rattle.type_graph.specs.Spaces.{AreSpaces}
 
 abbrev pub type_names : Graph → List Text
 type_names g = map (λ (t : TypeDecl). t.name) (types g)
@@ -33,21 +38,16 @@ maker_at g place = option_and_then as_maker (slice_get g place)
 abbrev pub ArePlaces : Graph → List ℕ → Type 0
 ArePlaces g places = map (maker_at g) places ≡ map Some (makers g)
 
--- the answer that a table of rows holds for two types
-abbrev pub answer : List (List Bool) → ℕ → ℕ → Bool
-answer rows a b = slice_index_or (slice_index_or rows a []) b false
-
--- A row for each type, which says what types it is.
-pub record AreRows (g : Graph) (rows : List (List Bool)) : Type 0 where
-  pub each_type : length rows ≡ length (types g)
-  pub each_other : (a : ℕ) → a < length (types g) → length (slice_index_or rows a []) ≡ length (types g)
+-- The rows answer as the order of types does.
+pub record AreRows (g : Graph) (rows : Rows) : Type 0 where
+  pub counted : rows.count ≡ length (types g)
+  pub fits : AreFor rows.count rows.width rows.words.items
   pub right : (a b : ℕ) → a < length (types g) → b < length (types g) → answer rows a b ≡ is_a g a b
 
 -- The tables by number.
 pub record AreNumbers (g : Graph) (numbers : Numbers) : Type 0 where
   pub ends_are : numbers.suffix_types ≡ suffix_types g
   pub makers_are : ArePlaces g numbers.maker_places
-  pub rows_are : AreRows g numbers.rows
 
 -- The names that a graph is asked for have their numbers.
 pub record AreNamed (g : Graph) (spaces : Spaces) : Type 0 where
@@ -65,3 +65,10 @@ pub record AreTables (g : Graph) (tables : Tables) : Type 0 where
   pub sound : AreChecked g
   pub named : AreNamed g tables.spaces
   pub numbered : AreNumbers g tables.numbers
+  pub ordered : AreRows g tables.rows
+
+-- What belongs to the declarations before they are checked. Rows are kept of no more than are accepted.
+pub record IsContext (g : Graph) (spaces : Spaces) (kinds : Kinds) (rows : Rows) : Type 0 where
+  pub spaces_are : AreSpaces g spaces
+  pub kinds_are : AreKinds g kinds
+  pub rows_are : length g ≤ declaration_limit → AreRows g rows

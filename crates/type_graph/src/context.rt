@@ -1,17 +1,22 @@
 // What the tests of declarations look up: names, and the types by their numbers.
-ghost use Rattle.std.specs.Prelude.{◌≡◌, [], IfOk, OnOk, length, filter_map, take};
+ghost use Rattle.std.specs.Prelude.{◌≡◌, ◌<◌, ◌≤◌, ◌+◌, [], false, IfOk, OnOk, length, filter_map, slice_index_or, take};
+ghost use Rattle.std.specs.List.{list_any};
+ghost use Rattle.meaning_texts.specs.Limits.{declaration_limit};
 ghost use Rattle.meaning_graph.specs.Graphs.{types, type_named, has_param};
+ghost use Rattle.meaning_graph.specs.Types.{is_a};
 ghost use Rattle.meaning_graph_text.specs.Checks.{is_known};
 ghost use Rattle.type_graph.specs.Places.{place_of, stands_in};
+ghost use Rattle.type_graph.specs.Rows.{IsClosed};
 ghost use Rattle.type_graph.specs.Shapes.{shape_of, shapes_of, supers_of, shape_named, IsRowAbove, AreKindsBy};
 ghost use Rattle.type_graph.specs.Spaces.{names_in};
-ghost use Rattle.type_graph.specs.Tables.{AreNamed};
-ghost use Rattle.type_graph.specs.Walks.{AreBelow};
+ghost use Rattle.type_graph.specs.Tables.{AreNamed, AreRows};
+ghost use Rattle.type_graph.specs.Walks.{AreAllBelow, AreBelow};
 
 use crate::names::Names;
+use crate::rows::Rows;
 use crate::spaces::{Space, Spaces};
 use crate::walk::reached;
-use object_values::{Bytes, Decl, Kind, Memory, Seq, when_done};
+use object_values::{Bytes, DECLARATION_LIMIT, Decl, Kind, Memory, Seq, when_done};
 use std::alloc::Global;
 use std::marker::Model;
 
@@ -42,6 +47,7 @@ pub(crate) struct Context<'a> {
     decls: &'a [Decl],
     spaces: Spaces,
     kinds: Kinds,
+    rows: Rows,
 }
 
 impl Drop for Context<'_> {
@@ -50,22 +56,24 @@ impl Drop for Context<'_> {
             decls: _,
             spaces,
             kinds,
+            rows,
         } = self;
         drop(spaces);
         drop(kinds);
+        drop(rows);
     }
 }
 
 impl<'a> Model for Context<'a> {
     ghost use Rattle.std.specs.Prelude.{List};
     ghost use Rattle.object_values.specs.declared.graph.Decl.{Decl};
-    ghost use Rattle.type_graph.specs.Shapes.{IsContext};
+    ghost use Rattle.type_graph.specs.Tables.{IsContext};
 
     ghost Value = { List Decl };
 
     ghost view = { λ c. c.decls.now };
 
-    ghost invariant = { λ c. IsContext c.decls.now c.spaces c.kinds };
+    ghost invariant = { λ c. IsContext c.decls.now c.spaces c.kinds c.rows };
 }
 
 impl<'a> Context<'a> {
@@ -74,10 +82,12 @@ impl<'a> Context<'a> {
     {
         let spaces = Spaces::new(alloc, decls)?;
         let kinds = Kinds::new(alloc, &spaces.types, decls)?;
+        let rows = rows_if_few(alloc, kinds.supers.as_slice(), decls.len())?;
         Ok(Context {
             decls,
             spaces,
             kinds,
+            rows,
         })
     }
 
@@ -142,17 +152,59 @@ impl<'a> Context<'a> {
         reached(alloc, self.kinds.supers.as_slice(), starts)
     }
 
-    /// The names of each space.
-    pub(crate) fn into_spaces(self) -> Spaces
-        ensures { AreNamed self.entry result }
+    /// Whether one of the first types is the other one.
+    pub(crate) fn any_is(
+        &self,
+        alloc: Global,
+        starts: &[usize],
+        number: usize,
+    ) -> Result<bool, Memory>
+        requires starts { AreBelow (length (types self.now)) starts.now }
+        requires number { number < length (types self.now) }
+        ensures { IfOk result (λ is. is ≡ list_any (λ a. is_a self.now a number) starts.now) }
+    {
+        if self.decls.len() > DECLARATION_LIMIT as usize {
+            // So many are refused, and have no rows.
+            let above = self.above(alloc, starts)?;
+            return Ok(is_marked(above.as_slice(), number));
+        }
+        Ok(self.rows.any_has(starts, number))
+    }
+
+    /// The names of each space, and what types each type is, where the declarations are not too many.
+    pub(crate) fn into_parts(self) -> (Spaces, Rows)
+        ensures named { AreNamed self.entry result.0 }
+        ensures ordered { length self.entry ≤ declaration_limit → AreRows self.entry result.1 }
     {
         let Context {
             decls: _,
             spaces,
             kinds: _,
+            rows,
         } = self;
-        spaces
+        (spaces, rows)
     }
+}
+
+fn is_marked(row: &[bool], number: usize) -> bool
+    ensures { result ≡ slice_index_or row.now number false }
+{
+    match row.get(number) {
+        Some(marked) => *marked,
+        None => false,
+    }
+}
+
+// The rows of types, where so many declarations are not too many.
+fn rows_if_few(alloc: Global, supers: &[Seq<usize>], count: usize) -> Result<Rows, Memory>
+    requires supers { AreAllBelow supers.now }
+    requires sized { length supers.now ≤ count + 1 }
+    ensures { count ≤ declaration_limit → IfOk result (IsClosed supers.now) }
+{
+    if count > DECLARATION_LIMIT as usize {
+        return Rows::closed(alloc, &[]);
+    }
+    Rows::closed(alloc, supers)
 }
 
 // The numbers of names that have one.

@@ -91,7 +91,7 @@ impl Graph {
         requires upper { b < length (types self.now) }
         ensures { result ≡ is_a self.now a b }
     {
-        self.tables.numbers.rows.as_slice()[a as usize].as_slice()[b as usize]
+        self.tables.rows.has(a as usize, b as usize)
     }
 
     /// The type of a source: that of the longest declared suffix of its name, or `text`.
@@ -113,7 +113,7 @@ impl Graph {
     pub fn type_count(&self) -> u32
         ensures { result ≡ length (types self.now) }
     {
-        self.tables.numbers.rows.len() as u32
+        self.tables.rows.count() as u32
     }
 
     pub fn maker_count(&self) -> u32

@@ -10,6 +10,7 @@ mod kinds;
 mod known;
 mod loops;
 mod names;
+mod rows;
 mod spaces;
 mod tables;
 mod walk;

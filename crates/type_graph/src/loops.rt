@@ -1,5 +1,5 @@
 // The test for supertype loops.
-ghost use Rattle.std.specs.Prelude.{◌≡◌, IfOk, slice_index_or, false};
+ghost use Rattle.std.specs.Prelude.{◌≡◌, IfOk};
 ghost use Rattle.object_values.specs.declared.graph.Decl.TheVariants.{ObjectType};
 ghost use Rattle.meaning_graph_text.specs.Checks.{is_in_loop};
 
@@ -25,19 +25,9 @@ impl<'a> Context<'a> {
             return Ok(false);
         }
         let starts = self.numbers(alloc, declared.supers.as_slice())?;
-        let above = self.above(alloc, starts.as_slice())?;
         match self.number(&declared.name) {
-            Some(number) => Ok(is_marked(above.as_slice(), number)),
+            Some(number) => self.any_is(alloc, starts.as_slice(), number),
             None => Ok(false),
         }
-    }
-}
-
-fn is_marked(row: &[bool], number: usize) -> bool
-    ensures { result ≡ slice_index_or row.now number false }
-{
-    match row.get(number) {
-        Some(marked) => *marked,
-        None => false,
     }
 }

@@ -2,11 +2,12 @@
 ghost use Rattle.std.specs.Prelude.{◌≡◌, ◌≤◌, [], IfOk, IfErr, OnOk, length};
 ghost use Rattle.meaning_texts.specs.Limits.{declaration_limit};
 ghost use Rattle.type_graph.specs.Faults.{IsCause};
-ghost use Rattle.type_graph.specs.Tables.{suffix_types, ArePlaces, AreRows, AreNumbers, AreTables};
+ghost use Rattle.type_graph.specs.Tables.{suffix_types, ArePlaces, AreNumbers, AreTables};
 
 use crate::context::Context;
 use crate::fault::CheckFault;
 use crate::faults::check;
+use crate::rows::Rows;
 use crate::spaces::Spaces;
 use object_values::{Decl, Memory, Seq, when_done};
 use std::alloc::Global;
@@ -15,21 +16,26 @@ use std::alloc::Global;
 pub(crate) struct Tables {
     pub(crate) spaces: Spaces,
     pub(crate) numbers: Numbers,
+    pub(crate) rows: Rows,
 }
 
 impl Drop for Tables {
     fn drop(self) {
-        let Tables { spaces, numbers } = self;
+        let Tables {
+            spaces,
+            numbers,
+            rows,
+        } = self;
         drop(spaces);
         drop(numbers);
+        drop(rows);
     }
 }
 
-/// The tables by number: the type of each suffix, the place of each maker, and what types each type is.
+/// The tables by number: the type of each suffix, and the place of each maker.
 pub(crate) struct Numbers {
     pub(crate) suffix_types: Seq<u32>,
     pub(crate) maker_places: Seq<u32>,
-    pub(crate) rows: Seq<Seq<bool>>,
 }
 
 impl Drop for Numbers {
@@ -37,11 +43,9 @@ impl Drop for Numbers {
         let Numbers {
             suffix_types,
             maker_places,
-            rows,
         } = self;
         drop(suffix_types);
         drop(maker_places);
-        drop(rows);
     }
 }
 
@@ -54,9 +58,11 @@ impl Tables {
         let context = Context::new(alloc, decls)?;
         check(alloc, &context, decls)?;
         let numbers = Numbers::new(alloc, &context, decls)?;
+        let (spaces, rows) = context.into_parts();
         Ok(Tables {
-            spaces: context.into_spaces(),
+            spaces,
             numbers,
+            rows,
         })
     }
 }
@@ -70,22 +76,20 @@ impl Numbers {
         let mut numbers = Numbers {
             suffix_types: Seq::new(alloc),
             maker_places: Seq::new(alloc),
-            rows: Seq::new(alloc),
         };
-        let done = numbers.fill(alloc, context, decls);
+        let done = numbers.fill(context, decls);
         when_done(done, numbers)
     }
 
     // Makes the tables, which are empty before.
-    fn fill(&mut self, alloc: Global, context: &Context, decls: &[Decl]) -> Result<(), Memory>
+    fn fill(&mut self, context: &Context, decls: &[Decl]) -> Result<(), Memory>
         requires same { context.now ≡ decls.now }
         requires few { length decls.now ≤ declaration_limit }
-        requires empty { self.old ≡ record { suffix_types = []; maker_places = []; rows = [] } }
+        requires empty { self.old ≡ record { suffix_types = []; maker_places = [] } }
         ensures { OnOk result (AreNumbers decls.now self.new) }
     {
         fill_suffix_types(&mut self.suffix_types, context, decls)?;
-        fill_maker_places(&mut self.maker_places, decls)?;
-        fill_rows(alloc, &mut self.rows, context)
+        fill_maker_places(&mut self.maker_places, decls)
     }
 }
 
@@ -114,17 +118,6 @@ fn fill_maker_places(places: &mut Seq<u32>, decls: &[Decl]) -> Result<(), Memory
         if let Decl::Maker(_) = decl {
             places.push(place as u32)?;
         }
-    }
-    Ok(())
-}
-
-// What types each type is.
-fn fill_rows(alloc: Global, made: &mut Seq<Seq<bool>>, context: &Context) -> Result<(), Memory>
-    requires { made.old ≡ [] }
-    ensures { OnOk result (AreRows context.now made.new) }
-{
-    for number in 0..context.type_count() {
-        made.push(context.above(alloc, &[number])?)?;
     }
     Ok(())
 }
