@@ -5,7 +5,7 @@ use Rattle.std.specs.Cmp.Lexicographic.{pointwise, bytes_decides}
 use Rattle.std.proofs.lemmas.Option.{none-some, same_Some}
 use Rattle.std.proofs.lemmas.Bool.Decides.{Decides-eqb}
 use Rattle.std.proofs.lemmas.List.Elements.{All-contains, All-push, Contains-append_left, Contains-push}
-use Rattle.content_store.specs.Bodies.{Bodies, place_of}
+use Rattle.content_store.specs.Bodies.{Bodies, place_of_body}
 use Rattle.content_store.specs.Index.{IsIndex, IsLed, hash_of}
 use Rattle.content_store.proofs.BodyLemmas.{stands_place, nowhere_none, last_stands, once_more}
 
@@ -49,7 +49,7 @@ module _ (key_of : List ℕ → List ℕ) (bodies : Bodies) (first : ℕ → Opt
   -- ---- what is found
 
   -- a body whose hash leads nowhere
-  pub no_hash : first (hash_of body) ≡ None → place_of body bodies ≡ None
+  pub no_hash : first (hash_of body) ≡ None → place_of_body body bodies ≡ None
   no_hash none = nowhere_none body bodies (λ i here. let led = index.found i body here in none-some led.0 (sym none ∙ led.1))
 
   -- whose hash leads to another
@@ -61,11 +61,11 @@ module _ (key_of : List ℕ → List ℕ) (bodies : Bodies) (first : ℕ → Opt
     ]
 
     -- and whose key leads nowhere
-    pub no_key : keyed (key_of body) ≡ None → place_of body bodies ≡ None
+    pub no_key : keyed (key_of body) ≡ None → place_of_body body bodies ≡ None
     no_key none = nowhere_none body bodies (λ i here. let led = elsewhere i here in none-some led.0 (sym none ∙ led.1))
 
     -- what is found from the number of its key
-    pub answered : (k : ℕ) → keyed (key_of body) ≡ Some k → (r : Option ℕ) → IfSome r (λ i. slice_get bodies i ≡ Some body) → IfNone r (slice_get bodies k ≢ Some body) → IfNone r (All (λ i. slice_get bodies i ≢ Some body) clashing) → r ≡ place_of body bodies
+    pub answered : (k : ℕ) → keyed (key_of body) ≡ Some k → (r : Option ℕ) → IfSome r (λ i. slice_get bodies i ≡ Some body) → IfNone r (slice_get bodies k ≢ Some body) → IfNone r (All (λ i. slice_get bodies i ≢ Some body) clashing) → r ≡ place_of_body body bodies
     answered k led_to (Some i) here not_first not_others = sym (stands_place body bodies i index.once here)
     answered k led_to None here not_first not_others = sym (nowhere_none body bodies (λ i is. let led = elsewhere i is in elim led.2 [
       | inl same ↦ not_first (subst (λ n. slice_get bodies n ≡ Some body) (same ∙ same_Some led.0 k (sym led.1 ∙ led_to)) is)
@@ -83,7 +83,7 @@ module _ (key_of : List ℕ → List ℕ) (bodies : Bodies) (first : ℕ → Opt
   all_grown : All (λ i. i < length (bodies ++ body ∷ [])) clashing
   all_grown k d h = grown _ (index.clashing_within k d h)
 
-  module _ (fresh : place_of body bodies ≡ None) where
+  module _ (fresh : place_of_body body bodies ≡ None) where
     -- what is found of each body, where each before is found still and the last one is found
     all_found : (next : ℕ → Option ℕ) (others : List ℕ → Option ℕ) (rest : List ℕ)
         → ((i : ℕ) (b : List ℕ) → IsLed first (hash_of b) i (IsLed keyed (key_of b) i (Contains clashing i)) → IsLed next (hash_of b) i (IsLed others (key_of b) i (Contains rest i)))

@@ -1,7 +1,7 @@
 -- How bodies are found: a quick hash leads to the first body that has it, a key to the first of the others that has it, and the rest clash.
 use Rattle.std.specs.Prelude.{◌≡◌, ◌<◌, ◌⊎◌, ℕ, List, Option, Some, All, Contains, length, slice_get}
 use Rattle.std.specs.Hash.FoldHasher as folding
-use Rattle.content_store.specs.Bodies.{Bodies, AreOnce}
+use Rattle.content_store.specs.Bodies.{Bodies, EachBodyOnce}
 
 unfoldable pub hash_of : List ℕ → ℕ
 hash_of body = folding.finish (folding.write folding.initial body)
@@ -11,7 +11,7 @@ abbrev pub IsLed : {Key : Type 0} → (Key → Option ℕ) → Key → ℕ → T
 IsLed leads key i Elsewhere = (j : ℕ) × (leads key ≡ Some j) × ((i ≡ j) ⊎ Elsewhere)
 
 pub record IsIndex (key_of : List ℕ → List ℕ) (bodies : Bodies) (first : ℕ → Option ℕ) (keyed : List ℕ → Option ℕ) (clashing : List ℕ) : Type 0 where
-  pub once : AreOnce bodies
+  pub once : EachBodyOnce bodies
   -- each body is found by its hash, or by its key, or it clashes
   pub found : (i : ℕ) (body : List ℕ) → slice_get bodies i ≡ Some body → IsLed first (hash_of body) i (IsLed keyed (key_of body) i (Contains clashing i))
   -- numbers are of bodies

@@ -1,6 +1,6 @@
 // Bodies by number.
 ghost use Rattle.std.specs.Prelude.{◌≡◌, ◌≢◌, ◌↔◌, ◌<◌, ◌∷◌, ◌++◌, [], All, IfOk, IfNone, IfSome, IsTrue, None, OnErr, OnOk, Some, length, slice_get};
-ghost use Rattle.content_store.specs.Bodies.{AreOnce, place_of, with_body};
+ghost use Rattle.content_store.specs.Bodies.{EachBodyOnce, place_of_body, with_body};
 ghost use Rattle.content_store.specs.Index.{hash_of};
 
 use crate::keying::Keying;
@@ -92,14 +92,14 @@ impl<K: Keying> Contents<K> {
 
     /// The number of the body.
     pub fn find(&self, body: &[u8]) -> Option<u64>
-        ensures { result ≡ place_of body.now self.now }
+        ensures { result ≡ place_of_body body.now self.now }
     {
         self.find_hashed(text_hash(body), body)
     }
 
     /// The number of the body, which is shared where it is new and then has the next number.
     pub fn intern(&mut self, alloc: Global, body: &Text) -> Result<u64, Memory>
-        ensures number { IfOk result (λ id. place_of body.now self.new ≡ Some id) }
+        ensures number { IfOk result (λ id. place_of_body body.now self.new ≡ Some id) }
         ensures bodies { OnOk result (self.new ≡ with_body body.now self.old) }
         ensures err { OnErr result (self.new ≡ self.old) }
     {
@@ -113,7 +113,7 @@ impl<K: Keying> Contents<K> {
 
     /// The same for bytes, which are copied where they are new.
     pub fn intern_slice(&mut self, alloc: Global, body: &[u8]) -> Result<u64, Memory>
-        ensures number { IfOk result (λ id. place_of body.now self.new ≡ Some id) }
+        ensures number { IfOk result (λ id. place_of_body body.now self.new ≡ Some id) }
         ensures bodies { OnOk result (self.new ≡ with_body body.now self.old) }
         ensures err { OnErr result (self.new ≡ self.old) }
     {
@@ -127,7 +127,7 @@ impl<K: Keying> Contents<K> {
 
     /// Each body stands there once.
     pub fn once(&self)
-        ensures { AreOnce self.now }
+        ensures { EachBodyOnce self.now }
     {
         let _ = &self.bodies;
     }
@@ -135,7 +135,7 @@ impl<K: Keying> Contents<K> {
     // The number of the body, which has this quick hash.
     fn find_hashed(&self, hash: u64, body: &[u8]) -> Option<u64>
         requires { hash ≡ hash_of body.now }
-        ensures { result ≡ place_of body.now self.now }
+        ensures { result ≡ place_of_body body.now self.now }
     {
         let first = *self.first.get(&hash)?;
         if is_body(&self.bodies, first, body) {
@@ -149,8 +149,8 @@ impl<K: Keying> Contents<K> {
     #[tactic(auto, using(crate::proofs::BodyLemmas::place_new))]
     fn add(&mut self, hash: u64, body: Text) -> Result<u64, Memory>
         requires hash { hash ≡ hash_of body }
-        requires fresh { place_of body self.old ≡ None }
-        ensures number { IfOk result (λ id. place_of body self.new ≡ Some id) }
+        requires fresh { place_of_body body self.old ≡ None }
+        ensures number { IfOk result (λ id. place_of_body body self.new ≡ Some id) }
         ensures bodies { OnOk result (self.new ≡ self.old ++ body ∷ []) }
         ensures err { OnErr result (self.new ≡ self.old) }
     {

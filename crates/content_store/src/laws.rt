@@ -1,17 +1,17 @@
 //! Laws of contents and their numbers, each the contract of a function with an empty body.
 ghost use Rattle.std.specs.Prelude.{◌≡◌, ◌↔◌, ◌++◌, List, Some, slice_get, ℕ};
-ghost use Rattle.content_store.specs.Bodies.{Bodies, place_of, with_body};
+ghost use Rattle.content_store.specs.Bodies.{Bodies, place_of_body, with_body};
 
 /// The number of a body is that of a body with its bytes.
 pub fn numbers_lead_back()
-    ensures { (body : List ℕ) (bodies : Bodies) (id : ℕ) → place_of body bodies ≡ Some id
+    ensures { (body : List ℕ) (bodies : Bodies) (id : ℕ) → place_of_body body bodies ≡ Some id
         → slice_get bodies id ≡ Some body }
 {}
 
 /// Of two numbers, given at any two times, the bytes are equal exactly where the numbers are.
 pub fn numbers_are_exact()
-    ensures { (bodies later : Bodies) (a b : List ℕ) (m n : ℕ) → place_of a bodies ≡ Some m
-        → place_of b (bodies ++ later) ≡ Some n → (m ≡ n) ↔ (a ≡ b) }
+    ensures { (bodies later : Bodies) (a b : List ℕ) (m n : ℕ) → place_of_body a bodies ≡ Some m
+        → place_of_body b (bodies ++ later) ≡ Some n → (m ≡ n) ↔ (a ≡ b) }
 {}
 
 /// Bodies come behind the others.

@@ -8,9 +8,9 @@ ghost use Rattle.meaning_nodes.specs.Nodes.{Fits};
 ghost use Rattle.meaning_derive.specs.Derive.{Sources as SourceTexts, Outcomes};
 ghost use Rattle.meaning_derive.specs.Given.{AreSources, OutcomesFit};
 ghost use Rattle.path_planner.specs.Ends.{plans_of};
-ghost use Rattle.derive_walk.specs.Looks.{AreFew, lost, met_by};
+ghost use Rattle.derive_walk.specs.Looks.{LooksAreFew, lost, met_by};
 ghost use Rattle.derive_walk.specs.Outcomes.{after};
-ghost use Rattle.derive_walk.specs.Walks.{IsRight, IsAdvanced, GoesOn, IsGiven, new_walk};
+ghost use Rattle.derive_walk.specs.Walks.{IsRight, IsAdvanced, ExtendsWalk, OutcomeIsGiven, new_walk};
 ghost use Rattle.derive_walk.specs.Worlds.{World, world};
 ghost use Rattle.derive_core.specs.Kept.{kept_world};
 
@@ -75,13 +75,13 @@ impl Core {
         requires sources { AreSources sources.now.texts }
         requires right { let calls = looks.now.kept.now.tables.calls in
             IsRight (kept_world graph.now sources.now.texts calls self.old.given) self.old }
-        ensures on { GoesOn self.old self.new }
+        ensures on { ExtendsWalk self.old self.new }
         ensures right { let calls = looks.now.kept.now.tables.calls in
             IsRight (kept_world graph.now sources.now.texts calls self.new.given) self.new }
         ensures advanced { let calls = looks.now.kept.now.tables.calls in
             OnOk result (IsAdvanced
             (kept_world graph.now sources.now.texts calls self.new.given) self.new) }
-        ensures counted { AreFew (met_by self.old) (met_by self.new)
+        ensures counted { LooksAreFew (met_by self.old) (met_by self.new)
             steps.old steps.new (lost result) }
     {
         let known = KeptCalls { looks };
@@ -93,7 +93,7 @@ impl Core {
     pub fn give(&mut self, call: &Call, outcome: Outcome) -> Result<(), Memory>
         requires wanted { IsIn call.now self.old.wanted }
         requires fits { OutcomeFits call.now outcome }
-        ensures ok { OnOk result (IsGiven call.now outcome self.old self.new) }
+        ensures ok { OnOk result (OutcomeIsGiven call.now outcome self.old self.new) }
         ensures err { OnErr result (self.new ≡ self.old) }
         ensures right { (g : GraphValue) (s : SourceTexts) (kept : Outcomes) →
             IsRight (world g s (after kept self.old.given)) self.old →

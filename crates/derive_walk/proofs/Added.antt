@@ -7,13 +7,13 @@ use Rattle.meaning_texts.specs.Lists.{IsIn}
 use Rattle.meaning_texts.proofs.Lemmas.{value_of_some}
 use Rattle.meaning_derive.specs.Chains.{AreDifferent, IsMet}
 use Rattle.walk_tables.specs.declared.done.Done.{Done}
-use Rattle.walk_tables.specs.Tables.{Entries, Waits, done_in, nodes_of}
+use Rattle.walk_tables.specs.Tables.{Entries, Waits, done_in, done_nodes}
 use Rattle.walk_tables.specs.Calls.{AreOnce, put_in}
 use Rattle.walk_tables.proofs.Lemmas.{put_keeps, from_put}
 use Rattle.derive_walk.specs.declared.walk.Walk.{Walk}
 use Rattle.derive_walk.specs.States.{heights_in, IsWaiting, HoldsIn}
 use Rattle.derive_walk.specs.Walks.{IsDone, AreDone, AreMet}
-use Rattle.derive_walk.specs.Worlds.{World, seen_in, IsNeedIn, StopsAt}
+use Rattle.derive_walk.specs.Worlds.{World, seen_in, IsNeedIn, StopsAtCall}
 use Rattle.derive_walk.proofs.Tables.{push_keeps, push_from, different_push, in_push, nodes_push, not_among, not_done, done_keeps, waiting_keeps}
 
 -- the second has each height of the first
@@ -55,11 +55,11 @@ module _ (w : World) (walk : Walk) (holds : HoldsIn w walk) where
         | inl q ↦ holds.done.needs m x q k one
         | inr q ↦ needs k (subst (λ z. IsNeedIn w z k) q.0 one)
       ]);
-      different = subst AreDifferent (sym (nodes_push walk.done n d)) (different_push (nodes_of walk.done) n holds.done.different (not_among walk.done n (not_done walk.done walk.waiting n new)));
+      different = subst AreDifferent (sym (nodes_push walk.done n d)) (different_push (done_nodes walk.done) n holds.done.different (not_among walk.done n (not_done walk.done walk.waiting n new)));
     }
 
     are_met : AreMet w walk.root (walk.done ++ (n, d) ∷ [])
-    are_met m i = elim (in_push m n (nodes_of walk.done) (subst (λ l. IsIn m l) (nodes_push walk.done n d) i)) [
+    are_met m i = elim (in_push m n (done_nodes walk.done) (subst (λ l. IsIn m l) (nodes_push walk.done n d) i)) [
       | inl j ↦ holds.met m j
       | inr e ↦ subst (λ z. IsMet w.graph (seen_in w) walk.root z) (sym e) met
     ]
@@ -92,7 +92,7 @@ module _ (w : World) (walk : Walk) (holds : HoldsIn w walk) where
 
   -- ---- a call that is wanted
 
-  pub holds_with_wanted : (call : Call) → StopsAt w walk.root call → (wanted : List Call) → wanted ≡ put_in call walk.wanted → AreOnce wanted → HoldsIn w (record walk { wanted = wanted })
+  pub holds_with_wanted : (call : Call) → StopsAtCall w walk.root call → (wanted : List Call) → wanted ≡ put_in call walk.wanted → AreOnce wanted → HoldsIn w (record walk { wanted = wanted })
   holds_with_wanted call stops wanted same once = record {
     done = holds.done;
     met = holds.met;
@@ -100,7 +100,7 @@ module _ (w : World) (walk : Walk) (holds : HoldsIn w walk) where
     one = λ m h e. let c = holds.one m h e in (c.0, keep c.0 c.1);
     only = λ c i. elim (from_put call c walk.wanted (subst (λ l. IsIn c l) same i)) [
       | inl q ↦ holds.only c q
-      | inr q ↦ subst (λ z. StopsAt w walk.root z) (sym q) stops
+      | inr q ↦ subst (λ z. StopsAtCall w walk.root z) (sym q) stops
     ];
     once = once;
   }

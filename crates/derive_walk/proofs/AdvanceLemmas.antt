@@ -3,21 +3,21 @@ use Rattle.std.proofs.Common.{◌≡◌, false, sym, subst, is_some, ◌∙◌, 
 use Rattle.std.specs.Prelude.{Option, IfSome}
 use Rattle.meaning_nodes.specs.Nodes.{Fits}
 use Rattle.walk_tables.specs.declared.found.Found.{Found}
-use Rattle.walk_tables.specs.Calls.{Outcomes}
+use Rattle.walk_tables.specs.Calls.{GivenOutcomes}
 use Rattle.derive_walk.specs.declared.walk.Walk.{Walk}
 use Rattle.derive_walk.specs.Founds.{IsFound}
 use Rattle.derive_walk.specs.States.{HoldsIn, GoesOnFrom}
-use Rattle.derive_walk.specs.Walks.{Walked, IsRight, GoesOn}
+use Rattle.derive_walk.specs.Walks.{Walked, IsRight, ExtendsWalk}
 use Rattle.derive_walk.specs.Worlds.{World}
 use Rattle.derive_walk.proofs.RootLemmas.{right_at_end}
 
 -- the walk as its callers see it
-abbrev pub seen_so : Walk → Outcomes → Option Found → Walked
+abbrev pub seen_so : Walk → GivenOutcomes → Option Found → Walked
 seen_so walk given result = record { root = walk.root; done = walk.done; given = given; wanted = walk.wanted; result = result }
 
-module _ (start new : Walk) (on : GoesOnFrom start new) (given : Outcomes) (old : Option Found) where
-  pub goes_on : is_some old ≡ false → (result : Option Found) → (now : Walked) → seen_so start given old ≡ now → GoesOn now (seen_so new given result)
-  goes_on none result now same = subst (λ s. GoesOn s (seen_so new given result)) same (record {
+module _ (start new : Walk) (on : GoesOnFrom start new) (given : GivenOutcomes) (old : Option Found) where
+  pub goes_on : is_some old ≡ false → (result : Option Found) → (now : Walked) → seen_so start given old ≡ now → ExtendsWalk now (seen_so new given result)
+  goes_on none result now same = subst (λ s. ExtendsWalk s (seen_so new given result)) same (record {
     root = on.root;
     given = λ i. given;
     wanted = on.wanted;

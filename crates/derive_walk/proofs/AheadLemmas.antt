@@ -13,7 +13,7 @@ use Rattle.node_tasks.proofs.Lemmas.{ahead_stays}
 use Rattle.walk_tables.specs.declared.done.Done.{Done}
 use Rattle.walk_tables.specs.declared.survey.Survey.{Survey}
 use Rattle.walk_tables.proofs.Lemmas.{is_unvisited}
-use Rattle.walk_tables.specs.Tables.{done_in, results_of, nodes_of}
+use Rattle.walk_tables.specs.Tables.{done_in, results_of, done_nodes}
 use Rattle.walk_tables.specs.Finite.{only_nodes}
 use Rattle.derive_walk.specs.declared.walk.Walk.{Walk}
 use Rattle.derive_walk.specs.Worlds.{World}
@@ -42,7 +42,7 @@ module _ (w : World) (walk new : Walk) (before : HoldsIn w walk) (holds : HoldsI
 module _ (w : World) (walk : Walk) (holds : HoldsIn w walk) (n : Node) where
   in_sight : (m : Node) → IsInSight (task_of w.graph n) (values_of (results_of walk.done)) (λ k. is_some (heights_in walk k)) m → IsUnvisited w walk n m
   in_sight m sight =
-      let some : (needs : List Node) × Needs w.graph n (results_of walk.done) needs = finite_has_needs w.graph n (results_of walk.done) (nodes_of walk.done) (only_nodes walk.done) in
+      let some : (needs : List Node) × Needs w.graph n (results_of walk.done) needs = finite_has_needs w.graph n (results_of walk.done) (done_nodes walk.done) (only_nodes walk.done) in
       record {
         need = need_of w walk holds n m some.0 some.1 (subst (λ l. IsIn m l) (sym some.1.listed) (sight.need some.1.names some.1.reached));
         unseen = not_some (heights_in walk m) sight.unseen;

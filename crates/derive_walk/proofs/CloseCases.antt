@@ -11,7 +11,7 @@ use Rattle.walk_tables.specs.declared.survey.Survey.{Survey}
 use Rattle.walk_tables.proofs.Lemmas.{none_unvisited}
 use Rattle.walk_tables.specs.Tables.{Waits, done_in, height_in, results_of, are_done, top_of}
 use Rattle.derive_walk.specs.declared.walk.Walk.{Walk}
-use Rattle.derive_walk.specs.Paths.{IsLast, IsClosing, IsTall, IsWhole, AreVisited}
+use Rattle.derive_walk.specs.Paths.{IsLast, IsClosing, IsTall, IsWholeRound, AreVisited}
 use Rattle.derive_walk.specs.States.{heights_in, IsWaiting, HoldsIn}
 use Rattle.derive_walk.specs.Worlds.{World}
 use Rattle.derive_walk.proofs.Added.{holds_with_waiting}
@@ -20,7 +20,7 @@ use Rattle.derive_walk.proofs.NeedLemmas.{at_most_limit, waits_at, none_there, n
 use Rattle.derive_walk.proofs.Tables.{done_or_waiting}
 use Rattle.derive_walk.proofs.TopLemmas.{one_at_top, one_not_done}
 
-module _ (w : World) (walk : Walk) (n : Node) (needed : Needed) (survey : Survey) (whole : IsWhole w walk n needed survey) where
+module _ (w : World) (walk : Walk) (n : Node) (needed : Needed) (survey : Survey) (whole : IsWholeRound w walk n needed survey) where
   pub whole_visited : AreVisited w walk n whole.surveyed.needs
   whole_visited = record {
     listed = whole.surveyed.listed;

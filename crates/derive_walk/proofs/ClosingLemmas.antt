@@ -18,10 +18,10 @@ use Rattle.walk_tables.specs.declared.done.Done.{Done}
 use Rattle.walk_tables.specs.Tables.{done_in, results_of, top_of}
 use Rattle.derive_walk.specs.declared.walk.Walk.{Walk}
 use Rattle.derive_walk.specs.Paths.{IsLast, IsClosing, AreVisited}
-use Rattle.derive_walk.specs.Settled.{HasSettled, HasStopped}
+use Rattle.derive_walk.specs.Settled.{HasSettled, NodeHasStopped}
 use Rattle.derive_walk.specs.States.{heights_in, IsWaiting, HoldsIn}
 use Rattle.derive_walk.specs.Walks.{IsDone}
-use Rattle.derive_walk.specs.Worlds.{World, seen_in, IsNeedIn, StopsAt}
+use Rattle.derive_walk.specs.Worlds.{World, seen_in, IsNeedIn, StopsAtCall}
 use Rattle.derive_walk.proofs.Tables.{height_if_done}
 use Rattle.derive_walk.proofs.TopLemmas.{each_done, below_top, one_at_top}
 use Rattle.derive_walk.proofs.NeedLemmas.{carried, is_need, from_need, waits_at}
@@ -49,7 +49,7 @@ module _ (w : World) (walk : Walk) (n : Node) (last : IsLast w walk n) where
       }
 
   -- a call that it runs, and that has no outcome, is one at which the derivation of the root stops
-  pub stops_here : (call : Call) → Runs w.graph (seen_in w) n call → w.outcomes call ≡ None → StopsAt w walk.root call
+  pub stops_here : (call : Call) → Runs w.graph (seen_in w) n call → w.outcomes call ≡ None → StopsAtCall w walk.root call
   stops_here call runs outside = record { from = record { node = n; met = met_here; runs = runs }; outside = outside }
 
 -- ---- needs that are done
@@ -98,7 +98,7 @@ module _ (w : World) (walk : Walk) (holds : HoldsIn w walk) (n : Node) {needed :
       }
 
   -- stopped: its call runs
-  pub stopped_runs : (call : Call) → HasStopped w n (results_of walk.done) call → Runs w.graph (seen_in w) n call
+  pub stopped_runs : (call : Call) → NodeHasStopped w n (results_of walk.done) call → Runs w.graph (seen_in w) n call
   stopped_runs call so =
       let c = carried w walk holds n closing.needs all_visited in
       record {
@@ -109,7 +109,7 @@ module _ (w : World) (walk : Walk) (holds : HoldsIn w walk) (n : Node) {needed :
       }
 
   -- and it waits
-  pub stopped_waits : Fits w.graph n → (call : Call) → HasStopped w n (results_of walk.done) call → (wanted : List Call) → IsIn call wanted → IsWaiting w (heights_in walk) wanted n height
+  pub stopped_waits : Fits w.graph n → (call : Call) → NodeHasStopped w n (results_of walk.done) call → (wanted : List Call) → IsIn call wanted → IsWaiting w (heights_in walk) wanted n height
   stopped_waits fits call so wanted there =
       let runs = stopped_runs call so in
       let low : top_of (heights_in walk) closing.needs < height_limit = omega (arith, closing.above, closing.high) in

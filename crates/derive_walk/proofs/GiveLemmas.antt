@@ -13,11 +13,11 @@ use Rattle.meaning_calls.specs.Outcomes.{OutcomeFits}
 use Rattle.meaning_derive.specs.Derive.{Sources, Outcomes}
 use Rattle.meaning_derive.specs.Given.{OutcomesFit}
 use Rattle.meaning_derive.specs.Laws.{HasMore}
-use Rattle.walk_tables.specs.Calls.{outcome_in, Outcomes as Listed}
+use Rattle.walk_tables.specs.Calls.{outcome_in, GivenOutcomes as Listed}
 use Rattle.derive_walk.specs.Outcomes.{given_or, after}
 use Rattle.derive_walk.specs.Founds.{IsFound}
-use Rattle.derive_walk.specs.Walks.{Walked, AreDone, AreMet, IsRight, AreApart, IsGiven}
-use Rattle.derive_walk.specs.Worlds.{world, StopsAt}
+use Rattle.derive_walk.specs.Walks.{Walked, AreDone, AreMet, IsRight, AreApart, OutcomeIsGiven}
+use Rattle.derive_walk.specs.Worlds.{world, StopsAtCall}
 use Rattle.derive_walk.proofs.Stays.{right_stays}
 
 -- ---- one outcome more
@@ -52,7 +52,7 @@ module _ (call : Call) (o : Outcome) (given : Listed) (wanted others : List Call
   apart_after apart c i = let q = (fewer c).0 i in other_call given call c o q.1 ∙ apart c q.0
 
 module _ (g : Graph) (s : Sources) (kept : Outcomes) (call : Call) (o : Outcome) (fits : OutcomeFits call o) where
-  module _ (old new : Walked) (right : IsRight (world g s (after kept old.given)) old) (wanted : IsIn call old.wanted) (is : IsGiven call o old new) where
+  module _ (old new : Walked) (right : IsRight (world g s (after kept old.given)) old) (wanted : IsIn call old.wanted) (is : OutcomeIsGiven call o old new) where
     -- nothing is known of it before
     outside : after kept old.given call ≡ None
     outside = (right.wanted call wanted).outside
@@ -90,7 +90,7 @@ module _ (g : Graph) (s : Sources) (kept : Outcomes) (call : Call) (o : Outcome)
       root = subst (λ z. Fits g z) (sym is.root) right.root;
       done = subst (λ z. AreDone (world g s (after kept old.given)) z) (sym is.done) right.done;
       met = subst (λ z. AreMet (world g s (after kept old.given)) z new.done) (sym is.root) (subst (λ z. AreMet (world g s (after kept old.given)) old.root z) (sym is.done) right.met);
-      wanted = λ c i. subst (λ z. StopsAt (world g s (after kept old.given)) z c) (sym is.root) (right.wanted c ((is.wanted c).0 i).0);
+      wanted = λ c i. subst (λ z. StopsAtCall (world g s (after kept old.given)) z c) (sym is.root) (right.wanted c ((is.wanted c).0 i).0);
       once = is.once;
       found = subst (λ z. IfSome z (IsFound g s (after kept old.given) new.root)) (sym is.result) (subst (λ z. IfSome old.result (IsFound g s (after kept old.given) z)) (sym is.root) right.found);
     }

@@ -9,9 +9,9 @@ use Rattle.meaning_texts.proofs.Lemmas.{in_either, some_is_none, value_of_some}
 use Rattle.meaning_derive.specs.Chains.{AreDifferent, IsMet}
 use Rattle.meaning_derive.specs.Calls.{Runs}
 use Rattle.meaning_derive.proofs.Lemmas.{none_by_call, one_run}
-use Rattle.walk_tables.specs.Tables.{nodes_of}
+use Rattle.walk_tables.specs.Tables.{done_nodes}
 use Rattle.walk_tables.specs.Calls.{AreOnce}
-use Rattle.derive_walk.specs.Looks.{HasMet, one_if, stepped}
+use Rattle.derive_walk.specs.Looks.{HasMet, one_if, count_with_steps}
 use Rattle.derive_walk.specs.Walks.{Walked, IsRight}
 use Rattle.derive_walk.specs.Worlds.{World, seen_in}
 use Rattle.derive_walk.proofs.Tables.{has_entry}
@@ -30,7 +30,7 @@ record HaveSteps (all : List Node) : Type 0 where
   nodes : List Node
   different : AreDifferent nodes
   each : (n : Node) → IsIn n nodes → IsIn n all × (n.steps ≢ [])
-  many : length nodes ≡ stepped all
+  many : length nodes ≡ count_with_steps all
 
 have_steps : (all : List Node) → AreDifferent all → HaveSteps all
 have_steps [] different = record { nodes = []; different = tt; each = λ n i. absurd i; many = refl }
@@ -90,7 +90,7 @@ module _ (w : World) (walked : Walked) (right : IsRight w walked) where
       }
 
   -- a node that stops at a call has no result
-  apart : (calls : List Call) (n : Node) → IsIn n (nodes_of walked.done) → StopsAtOne calls n → ⊥
+  apart : (calls : List Call) (n : Node) → IsIn n (done_nodes walked.done) → StopsAtOne calls n → ⊥
   apart calls n i stops =
       let view = value_of_some (seen_in w n) (done_founded w walked.done right.done n (has_entry walked.done n i)) in
       some_is_none (seen_in w n) view.0 view.1 (none_by_call w.graph w.sources w.outcomes n stops.call stops.runs stops.outside)
@@ -101,7 +101,7 @@ module _ (w : World) (walked : Walked) (right : IsRight w walked) where
 
   pub has_met : HasMet w walked
   has_met =
-      let settled = have_steps (nodes_of walked.done) right.done.different in
+      let settled = have_steps (done_nodes walked.done) right.done.different in
       let stopped = have_stopped walked.wanted right.once (λ call i. i) in
       record {
         nodes = settled.nodes ++ stopped.nodes;

@@ -14,11 +14,11 @@ use Rattle.walk_tables.specs.declared.done.Done.{Done}
 use Rattle.walk_tables.specs.declared.found.Found.{Found}
 use Rattle.walk_tables.specs.declared.found.Found.TheVariants.{Answer}
 use Rattle.walk_tables.specs.Tables.{done_in, height_in}
-use Rattle.walk_tables.specs.Calls.{Outcomes, AreOnce}
+use Rattle.walk_tables.specs.Calls.{GivenOutcomes, AreOnce}
 use Rattle.derive_walk.specs.declared.walk.Walk.{Walk}
-use Rattle.derive_walk.specs.Worlds.{World, seen_in, StopsAt}
+use Rattle.derive_walk.specs.Worlds.{World, seen_in, StopsAtCall}
 use Rattle.derive_walk.specs.Founds.{IsFound}
-use Rattle.derive_walk.specs.Walks.{Walked, AreDone, AreMet, IsRight, AreFrontier, EndsWith}
+use Rattle.derive_walk.specs.Walks.{Walked, AreDone, AreMet, IsRight, AreFrontier, FindsOrWants}
 use Rattle.derive_walk.specs.States.{heights_in, HoldsIn}
 use Rattle.derive_walk.proofs.Tables.{done_or_waiting}
 use Rattle.derive_walk.proofs.NeedLemmas.{done_is_derived, at_most_limit}
@@ -35,7 +35,7 @@ module _ (w : World) (walk : Walk) (holds : HoldsIn w walk) where
   seen_along n m k e (f ∷ front) c = leads_to f m k (subst (λ z. heights_in walk z ≡ Some k) c.0 e) front c.1
 
   -- each call at which the derivation stops is wanted
-  all_wanted : (k : ℕ) → heights_in walk walk.root ≡ Some k → (call : Call) → StopsAt w walk.root call → IsIn call walk.wanted
+  all_wanted : (k : ℕ) → heights_in walk walk.root ≡ Some k → (call : Call) → StopsAtCall w walk.root call → IsIn call walk.wanted
   all_wanted k e call stops =
       let m = stops.from.node in
       let j = seen_along walk.root m k e stops.from.met.front stops.from.met.leads in
@@ -75,12 +75,12 @@ holds_at_start w walked right walk root done wanted waiting = record {
   met = subst (λ r. AreMet w r walk.done) (sym root) (subst (λ d. AreMet w walked.root d) (sym done) right.met);
   waiting = λ n h e. absurd (nothing_waits n h (subst (λ l. height_in l n ≡ Some h) waiting e));
   one = λ n h e. absurd (nothing_waits n h (subst (λ l. height_in l n ≡ Some h) waiting e));
-  only = λ call i. subst (λ r. StopsAt w r call) (sym root) (right.wanted call (subst (λ l. IsIn call l) wanted i));
+  only = λ call i. subst (λ r. StopsAtCall w r call) (sym root) (right.wanted call (subst (λ l. IsIn call l) wanted i));
   once = subst (λ l. AreOnce l) (sym wanted) right.once;
 }
 
 -- what holds is right
-pub right_at_end : (w : World) (walk : Walk) → HoldsIn w walk → OutcomesFit w.outcomes → Fits w.graph walk.root → (given : Outcomes) (result : Option Found) → IfSome result (IsFound w.graph w.sources w.outcomes walk.root) → IsRight w (record { root = walk.root; done = walk.done; given = given; wanted = walk.wanted; result = result })
+pub right_at_end : (w : World) (walk : Walk) → HoldsIn w walk → OutcomesFit w.outcomes → Fits w.graph walk.root → (given : GivenOutcomes) (result : Option Found) → IfSome result (IsFound w.graph w.sources w.outcomes walk.root) → IsRight w (record { root = walk.root; done = walk.done; given = given; wanted = walk.wanted; result = result })
 right_at_end w walk holds fit root given result found = record {
   fit = fit;
   root = root;
@@ -91,6 +91,6 @@ right_at_end w walk holds fit root given result found = record {
   found = found;
 }
 
-pub found_of : (w : World) (n : Node) (wanted : List Call) (result : Option Found) → EndsWith w n wanted result → IfSome result (IsFound w.graph w.sources w.outcomes n)
+pub found_of : (w : World) (n : Node) (wanted : List Call) (result : Option Found) → FindsOrWants w n wanted result → IfSome result (IsFound w.graph w.sources w.outcomes n)
 found_of w n wanted None e = tt
 found_of w n wanted (Some found) e = e

@@ -11,7 +11,7 @@ use Rattle.walk_tables.specs.Calls.{put_in, AreOnce}
 use Rattle.walk_tables.proofs.Lemmas.{put_keeps, put_there, put_once}
 use Rattle.derive_walk.specs.declared.walk.Walk.{Walk}
 use Rattle.derive_walk.specs.Paths.{IsLast, IsClosing}
-use Rattle.derive_walk.specs.Settled.{HasSettled, HasStopped}
+use Rattle.derive_walk.specs.Settled.{HasSettled, NodeHasStopped}
 use Rattle.derive_walk.specs.States.{HoldsIn, GoesOnFrom}
 use Rattle.derive_walk.specs.Worlds.{World}
 use Rattle.derive_walk.proofs.Added.{KeepCalls, holds_with_done, holds_with_waiting, holds_with_wanted}
@@ -29,7 +29,7 @@ module _ (w : World) (walk : Walk) (holds : HoldsIn w walk) (n : Node) {needed :
       let d : Done = record { view = view; height = height } in
       holds_with_done w walk holds n (last_is_new w walk n last) d (settled_is_done w walk holds n height closing (last_fits w walk n last) view so) (needs_stay w walk holds n height closing) (met_here w walk n last) done same
 
-  module _ (call : Call) (so : HasStopped w n (results_of walk.done) call) (wanted : List Call) (more : wanted ≡ put_in call walk.wanted) where
+  module _ (call : Call) (so : NodeHasStopped w n (results_of walk.done) call) (wanted : List Call) (more : wanted ≡ put_in call walk.wanted) where
     pub wanted_holds : HoldsIn w (record walk { wanted = wanted })
     wanted_holds = holds_with_wanted w walk holds call (stops_here w walk n last call (stopped_runs w walk holds n height closing call so) so.outside) wanted more (subst AreOnce (sym more) (put_once call walk.wanted holds.once))
 

@@ -9,7 +9,7 @@ use Rattle.meaning_texts.specs.Lists.{IsIn}
 use Rattle.meaning_texts.proofs.Lemmas.{some_or_none, same_some, in_right, in_either}
 use Rattle.meaning_derive.specs.Chains.{AreDifferent}
 use Rattle.walk_tables.specs.declared.done.Done.{Done}
-use Rattle.walk_tables.specs.Tables.{Entries, Waits, done_in, nodes_of, height_in, height_or, heights_of}
+use Rattle.walk_tables.specs.Tables.{Entries, Waits, done_in, done_nodes, height_in, height_or, heights_of}
 
 -- ---- an entry behind the others
 
@@ -61,16 +61,16 @@ at_end n front = in_right n front (n ∷ []) (inl refl)
 
 -- ---- the nodes of a table
 
-pub nodes_push : (es : Entries) (n : Node) (d : Done) → nodes_of (es ++ (n, d) ∷ []) ≡ nodes_of es ++ n ∷ []
+pub nodes_push : (es : Entries) (n : Node) (d : Done) → done_nodes (es ++ (n, d) ∷ []) ≡ done_nodes es ++ n ∷ []
 nodes_push [] n d = refl
 nodes_push (e ∷ es) n d = ap (λ l. e.0 ∷ l) (nodes_push es n d)
 
 -- a node without an entry is none of them
-pub not_among : (es : Entries) (n : Node) → done_in es n ≡ None → IsIn n (nodes_of es) → ⊥
+pub not_among : (es : Entries) (n : Node) → done_in es n ≡ None → IsIn n (done_nodes es) → ⊥
 not_among [] n none i = i
 not_among (e ∷ es) n none i = by_test (node_eq.eq n e.0) refl none (not_among es n)
   where
-    by_test : (b : Bool) → node_eq.eq n e.0 ≡ b → cond b (Some e.1) (done_in es n) ≡ None → (done_in es n ≡ None → IsIn n (nodes_of es) → ⊥) → ⊥
+    by_test : (b : Bool) → node_eq.eq n e.0 ≡ b → cond b (Some e.1) (done_in es n) ≡ None → (done_in es n ≡ None → IsIn n (done_nodes es) → ⊥) → ⊥
     by_test true same none below = cc
     by_test false same none below = elim i [
       | inl q ↦ let yes : node_eq.eq n e.0 ≡ true = (node_exact n e.0).1 q in cc
@@ -78,7 +78,7 @@ not_among (e ∷ es) n none i = by_test (node_eq.eq n e.0) refl none (not_among 
     ]
 
 -- each of them has one
-pub has_entry : (es : Entries) (n : Node) → IsIn n (nodes_of es) → IsSome (done_in es n)
+pub has_entry : (es : Entries) (n : Node) → IsIn n (done_nodes es) → IsSome (done_in es n)
 has_entry es n i = elim (some_or_none (done_in es n)) [
   | inl d ↦ ap is_some d.1
   | inr none ↦ absurd (not_among es n none i)

@@ -5,7 +5,7 @@ use Rattle.object_values.specs.declared.nodes.Node.{Node}
 use Rattle.meaning_texts.specs.Lists.{IsIn}
 use Rattle.meaning_texts.proofs.Lemmas.{some_or_none}
 use Rattle.walk_tables.specs.declared.done.Done.{Done}
-use Rattle.walk_tables.specs.Tables.{Entries, done_in, are_done, number_of, top_of}
+use Rattle.walk_tables.specs.Tables.{Entries, done_in, are_done, height_or_zero, top_of}
 
 -- ---- needs that are done
 
@@ -31,7 +31,7 @@ one_not_done done (n ∷ ns) h = elim (some_or_none (done_in done n)) [
 
 pub below_top : (heights : Node → Option ℕ) (ns : List Node) (m : Node) (k : ℕ) → IsIn m ns → heights m ≡ Some k → k ≤ top_of heights ns
 below_top heights [] m k i e = absurd i
-below_top heights (n ∷ ns) m k (inl q) e = let z : number_of (heights n) ≡ k = ap (λ x. number_of (heights x)) (sym q) ∙ ap number_of e in omega (arith, z)
+below_top heights (n ∷ ns) m k (inl q) e = let z : height_or_zero (heights n) ≡ k = ap (λ x. height_or_zero (heights x)) (sym q) ∙ ap height_or_zero e in omega (arith, z)
 below_top heights (n ∷ ns) m k (inr i) e = let z = below_top heights ns m k i e in omega (arith, z)
 
 nat_or : (a b : ℕ) → (a ≤ b) ⊎ (b < a)
@@ -45,11 +45,11 @@ one_at_top heights [] = inl refl
 one_at_top heights (n ∷ ns) = by (heights n) refl (one_at_top heights ns)
   where
     by : (o : Option ℕ) → heights n ≡ o → (top_of heights ns ≡ 0) ⊎ ((m : Node) × IsIn m ns × (heights m ≡ Some (top_of heights ns))) → (top_of heights (n ∷ ns) ≡ 0) ⊎ ((m : Node) × IsIn m (n ∷ ns) × (heights m ≡ Some (top_of heights (n ∷ ns))))
-    by None e (inl z) = let t : max 0 (top_of heights ns) ≡ top_of heights ns = omega arith in inl (ap (λ o. max (number_of o) (top_of heights ns)) e ∙ t ∙ z)
-    by None e (inr m) = let t : max 0 (top_of heights ns) ≡ top_of heights ns = omega arith in inr (m.0, inr m.1, m.2 ∙ ap (λ z. Some z) (sym (ap (λ o. max (number_of o) (top_of heights ns)) e ∙ t)))
-    by (Some k) e (inl z) = inr (n, inl refl, e ∙ ap (λ z. Some z) (sym (ap (λ o. max (number_of o) (top_of heights ns)) e ∙ (let q : max k (top_of heights ns) ≡ k = omega (arith, z) in q))))
+    by None e (inl z) = let t : max 0 (top_of heights ns) ≡ top_of heights ns = omega arith in inl (ap (λ o. max (height_or_zero o) (top_of heights ns)) e ∙ t ∙ z)
+    by None e (inr m) = let t : max 0 (top_of heights ns) ≡ top_of heights ns = omega arith in inr (m.0, inr m.1, m.2 ∙ ap (λ z. Some z) (sym (ap (λ o. max (height_or_zero o) (top_of heights ns)) e ∙ t)))
+    by (Some k) e (inl z) = inr (n, inl refl, e ∙ ap (λ z. Some z) (sym (ap (λ o. max (height_or_zero o) (top_of heights ns)) e ∙ (let q : max k (top_of heights ns) ≡ k = omega (arith, z) in q))))
     by (Some k) e (inr m) = choose k e m (nat_or k (top_of heights ns))
       where
         choose : (k : ℕ) → heights n ≡ Some k → ((m : Node) × IsIn m ns × (heights m ≡ Some (top_of heights ns))) → (k ≤ top_of heights ns) ⊎ (top_of heights ns < k) → (top_of heights (n ∷ ns) ≡ 0) ⊎ ((m : Node) × IsIn m (n ∷ ns) × (heights m ≡ Some (top_of heights (n ∷ ns))))
-        choose k e m (inl q) = inr (m.0, inr m.1, m.2 ∙ ap (λ z. Some z) (let t : top_of heights ns ≡ max k (top_of heights ns) = omega (arith, q) in t ∙ sym (ap (λ o. max (number_of o) (top_of heights ns)) e)))
-        choose k e m (inr q) = inr (n, inl refl, e ∙ ap (λ z. Some z) (let t : k ≡ max k (top_of heights ns) = omega (arith, q) in t ∙ sym (ap (λ o. max (number_of o) (top_of heights ns)) e)))
+        choose k e m (inl q) = inr (m.0, inr m.1, m.2 ∙ ap (λ z. Some z) (let t : top_of heights ns ≡ max k (top_of heights ns) = omega (arith, q) in t ∙ sym (ap (λ o. max (height_or_zero o) (top_of heights ns)) e)))
+        choose k e m (inr q) = inr (n, inl refl, e ∙ ap (λ z. Some z) (let t : k ≡ max k (top_of heights ns) = omega (arith, q) in t ∙ sym (ap (λ o. max (height_or_zero o) (top_of heights ns)) e)))

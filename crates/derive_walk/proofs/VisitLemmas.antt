@@ -20,7 +20,7 @@ use Rattle.derive_walk.specs.declared.walk.Walk.{Walk}
 use Rattle.derive_walk.specs.Worlds.{World, IsWorld, seen_in, IsNeedIn}
 use Rattle.derive_walk.specs.Founds.{IsFound}
 use Rattle.derive_walk.specs.States.{heights_in, HoldsIn, GoesOnFrom, Visited, AfterVisit}
-use Rattle.derive_walk.specs.Paths.{LeadsTo, IsPath, IsNext, IsLast}
+use Rattle.derive_walk.specs.Paths.{IsChainFromRoot, IsPath, IsNext, IsLast}
 use Rattle.derive_walk.proofs.Tables.{different_push, in_push, at_end}
 use Rattle.derive_walk.proofs.HeightLemmas.{unseen_count, fewer_unseen}
 use Rattle.derive_walk.proofs.GoingLemmas.{stays}
@@ -70,7 +70,7 @@ pub record SoFar (w : World) (old walk : Walk) (n : Node) : Type 0 where
   pub ends : walk.path ≡ old.path ++ n ∷ []
   pub holds : HoldsIn w walk
   pub path : IsPath w walk walk.path
-  pub leads : LeadsTo w walk walk.path
+  pub leads : IsChainFromRoot w walk walk.path
 
 module _ (w : World) (old : Walk) (n : Node) where
   pub start : HoldsIn w old → IsNext w old n → (path : List Node) → path ≡ old.path ++ n ∷ [] → SoFar w old (record old { path = path }) n
@@ -113,7 +113,7 @@ module _ (w : World) (old : Walk) (n : Node) where
   -- ---- a need that was not visited
 
   module _ (is : IsWorld w) (walk : Walk) (so : SoFar w old walk n) (k : Node) (need : IsNeedIn w n k) where
-    chain_further : LeadsTo w walk (walk.path ++ k ∷ [])
+    chain_further : IsChainFromRoot w walk (walk.path ++ k ∷ [])
     chain_further = subst (λ l. Chain w.graph (seen_in w) walk.root (l ++ k ∷ [])) (sym so.ends) (chain_on w.graph (seen_in w) old.path walk.root n k (subst (λ l. Chain w.graph (seen_in w) walk.root l) so.ends so.leads) need)
 
     -- a chain that ends there

@@ -5,7 +5,7 @@ use Rattle.object_values.specs.declared.nodes.Node.{Node}
 use Rattle.object_values.specs.declared.calls.Call.{Call}
 use Rattle.meaning_texts.specs.Lists.{IsIn}
 use Rattle.meaning_derive.specs.Chains.{AreDifferent, IsMet}
-use Rattle.walk_tables.specs.Tables.{nodes_of}
+use Rattle.walk_tables.specs.Tables.{done_nodes}
 use Rattle.walk_tables.specs.Calls.{put_in}
 use Rattle.derive_walk.specs.declared.settling.Closed.{Closed}
 use Rattle.derive_walk.specs.declared.settling.Closed.TheVariants.{Settled, Stops}
@@ -19,16 +19,16 @@ one_if [] = 0
 one_if (step ∷ steps) = 1
 
 -- how many of the nodes have steps
-abbrev pub stepped : List Node → ℕ
-stepped [] = 0
-stepped (n ∷ nodes) = one_if n.steps + stepped nodes
+abbrev pub count_with_steps : List Node → ℕ
+count_with_steps [] = 0
+count_with_steps (n ∷ nodes) = one_if n.steps + count_with_steps nodes
 
 -- the nodes with steps that have results, and the calls that are wanted
 abbrev pub met_in : Walk → ℕ
-met_in walk = stepped (nodes_of walk.done) + length walk.wanted
+met_in walk = count_with_steps (done_nodes walk.done) + length walk.wanted
 
 abbrev pub met_by : Walked → ℕ
-met_by walked = stepped (nodes_of walked.done) + length walked.wanted
+met_by walked = count_with_steps (done_nodes walked.done) + length walked.wanted
 
 -- one look is lost where memory was wanting
 abbrev pub lost : {T E : Type 0} → Result T E → ℕ
@@ -37,7 +37,7 @@ lost (Err fault) = 1
 
 -- Each look but so many was for a node with steps that got its result, or for a call that is wanted
 -- from then on: some were met before, and more now.
-pub record AreFew (some more before now spare : ℕ) : Type 0 where
+pub record LooksAreFew (some more before now spare : ℕ) : Type 0 where
   pub later : before ≤ now
   pub each : now + some ≤ before + more + spare
 

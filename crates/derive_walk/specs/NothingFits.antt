@@ -5,9 +5,9 @@ use Rattle.object_values.specs.declared.calls.Outcome.{Outcome}
 use Rattle.meaning_derive.specs.Given.{OutcomesFit}
 use Rattle.derive_walk.specs.Outcomes.{nothing_known}
 
-abbrev IsNothing : Option Outcome → Type 0
-IsNothing None = ⊤
-IsNothing (Some outcome) = ⊥
+abbrev HasNoOutcome : Option Outcome → Type 0
+HasNoOutcome None = ⊤
+HasNoOutcome (Some outcome) = ⊥
 
 pub nothing_fits : OutcomesFit nothing_known
-nothing_fits call outcome is = absurd (subst IsNothing is tt)
+nothing_fits call outcome is = absurd (subst HasNoOutcome is tt)

@@ -18,12 +18,12 @@ use Rattle.derive_walk.specs.declared.rounds.Round.{Round}
 use Rattle.derive_walk.specs.declared.rounds.Round.TheVariants.{Visits, Closes}
 use Rattle.derive_walk.specs.declared.walk.Walk.{Walk}
 use Rattle.derive_walk.specs.States.{heights_in}
-use Rattle.derive_walk.specs.Walks.{EndsWith}
+use Rattle.derive_walk.specs.Walks.{FindsOrWants}
 use Rattle.derive_walk.specs.Worlds.{World, seen_in, IsNeedIn}
 
 -- a chain from the root
-abbrev pub LeadsTo : World → Walk → List Node → Type 0
-LeadsTo w walk chain = Chain w.graph (seen_in w) walk.root chain
+abbrev pub IsChainFromRoot : World → Walk → List Node → Type 0
+IsChainFromRoot w walk chain = Chain w.graph (seen_in w) walk.root chain
 
 -- ---- the path
 
@@ -37,17 +37,17 @@ pub record IsPath (w : World) (walk : Walk) (path : List Node) : Type 0 where
 -- The node may be visited next: the path with it is one.
 pub record IsNext (w : World) (walk : Walk) (n : Node) : Type 0 where
   pub path : IsPath w walk (walk.path ++ n ∷ [])
-  pub leads : LeadsTo w walk (walk.path ++ n ∷ [])
+  pub leads : IsChainFromRoot w walk (walk.path ++ n ∷ [])
 
 -- The node is the last of the path, which leads to it.
 pub record IsLast (w : World) (walk : Walk) (n : Node) : Type 0 where
   pub front : List Node
   pub is : walk.path ≡ front ++ n ∷ []
   pub path : IsPath w walk walk.path
-  pub leads : LeadsTo w walk walk.path
+  pub leads : IsChainFromRoot w walk walk.path
 
 -- nothing is on the way, and nothing waits
-pub record HasNoPath (walk : Walk) : Type 0 where
+pub record HasEmptyPath (walk : Walk) : Type 0 where
   pub path : walk.path ≡ []
   pub waiting : walk.waiting ≡ []
 
@@ -66,7 +66,7 @@ pub record IsSurveyed (w : World) (walk : Walk) (n : Node) (survey : Survey) : T
 
 -- A whole round of the node: this is what it needs by the results so far, this was found of its
 -- needs, and each was visited.
-pub record IsWhole (w : World) (walk : Walk) (n : Node) (needed : Needed)
+pub record IsWholeRound (w : World) (walk : Walk) (n : Node) (needed : Needed)
     (survey : Survey) : Type 0 where
   pub found : IsNeeded w.graph n (results_of walk.done) needed
   pub surveyed : IsSurveyed w walk n survey
@@ -102,13 +102,13 @@ pub record AreToVisit (w : World) (walk : Walk) (n : Node) (needs : List Node) :
 -- A round visits needs, or closes the node once all needs were visited.
 abbrev pub IsRound : World → Walk → Node → Round → Type 0
 IsRound w walk n (Visits needs) = AreToVisit w walk n needs
-IsRound w walk n (Closes needed survey) = IsWhole w walk n needed survey
+IsRound w walk n (Closes needed survey) = IsWholeRound w walk n needed survey
 
 -- ---- the root
 
 -- after a walk from the root there is a result, or the root waits
 abbrev pub AfterRoot : World → Walk → Option Found → Type 0
-AfterRoot w walk found = EndsWith w walk.root walk.wanted found
+AfterRoot w walk found = FindsOrWants w walk.root walk.wanted found
 
 -- ---- chains
 
@@ -129,7 +129,7 @@ pub record LeadsDown (w : World) (walk : Walk) (chain : List Node) (height : ℕ
   pub last : Node
   pub is : chain ≡ front ++ last ∷ []
   pub fits : Fits w.graph last
-  pub leads : LeadsTo w walk chain
+  pub leads : IsChainFromRoot w walk chain
   pub different : AreDifferent chain
   pub above : (n : Node) (k : ℕ) → IsIn n chain → heights_in walk n ≡ Some k → height < k
   pub visited : (m : Node) → IsNeedIn w last m → IsSome (heights_in walk m)

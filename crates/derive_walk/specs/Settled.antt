@@ -30,10 +30,10 @@ pub record HasSettled (w : World) (n : Node) (seen : Results) (view : View) : Ty
   pub settles : SettlesIn w n seen outcome view
 
 -- The node stops at its call, which has no outcome.
-pub record HasStopped (w : World) (n : Node) (seen : Results) (call : Call) : Type 0 where
+pub record NodeHasStopped (w : World) (n : Node) (seen : Results) (call : Call) : Type 0 where
   pub called : CallOf w.graph n seen (Some call)
   pub outside : w.outcomes call ≡ None
 
-abbrev pub IsClosed : World → Node → Results → Closed → Type 0
-IsClosed w n seen (Settled view) = HasSettled w n seen view
-IsClosed w n seen (Stops call) = HasStopped w n seen call
+abbrev pub NodeIsClosed : World → Node → Results → Closed → Type 0
+NodeIsClosed w n seen (Settled view) = HasSettled w n seen view
+NodeIsClosed w n seen (Stops call) = NodeHasStopped w n seen call

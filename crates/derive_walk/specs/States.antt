@@ -12,7 +12,7 @@ use Rattle.walk_tables.specs.declared.found.Found.{Found}
 use Rattle.derive_walk.specs.declared.walk.Walk.{Walk}
 use Rattle.derive_walk.specs.Founds.{IsFound}
 use Rattle.derive_walk.specs.Walks.{AreDone, AreMet}
-use Rattle.derive_walk.specs.Worlds.{World, seen_in, IsNeedIn, StopsAt}
+use Rattle.derive_walk.specs.Worlds.{World, seen_in, IsNeedIn, StopsAtCall}
 
 -- the heights of the nodes that were visited
 abbrev pub heights_in : Walk → Node → Option ℕ
@@ -56,7 +56,7 @@ pub record HoldsIn (w : World) (walk : Walk) : Type 0 where
       → IsWaiting w (heights_in walk) walk.wanted n h
   pub one : (n : Node) (h : ℕ) → height_in walk.waiting n ≡ Some h
       → (call : Call) × IsIn call walk.wanted
-  pub only : (call : Call) → IsIn call walk.wanted → StopsAt w walk.root call
+  pub only : (call : Call) → IsIn call walk.wanted → StopsAtCall w walk.root call
   pub once : AreOnce walk.wanted
 
 -- What was visited and what is wanted stays.

@@ -10,18 +10,18 @@ use Rattle.meaning_derive.specs.Derive.{derive, HasHeight}
 use Rattle.meaning_derive.specs.Chains.{AreDifferent, IsMet, IsRefusal}
 use Rattle.meaning_derive.specs.Given.{OutcomesFit}
 use Rattle.walk_tables.specs.declared.done.Done.{Done}
-use Rattle.walk_tables.specs.Tables.{Entries, done_in, nodes_of}
-use Rattle.walk_tables.specs.Calls.{Outcomes, outcome_in, AreOnce}
+use Rattle.walk_tables.specs.Tables.{Entries, done_in, done_nodes}
+use Rattle.walk_tables.specs.Calls.{GivenOutcomes, outcome_in, AreOnce}
 use Rattle.walk_tables.specs.declared.found.Found.{Found}
 use Rattle.derive_walk.specs.Founds.{IsFound}
-use Rattle.derive_walk.specs.Worlds.{World, seen_in, IsNeedIn, StopsAt}
+use Rattle.derive_walk.specs.Worlds.{World, seen_in, IsNeedIn, StopsAtCall}
 
 -- The root, the nodes with results, the outcomes that were given, the calls that are wanted, and
 -- what is found of the root.
 pub record Walked : Type 0 where
   pub root : Node
   pub done : Entries
-  pub given : Outcomes
+  pub given : GivenOutcomes
   pub wanted : List Call
   pub result : Option Found
 
@@ -29,7 +29,7 @@ abbrev pub new_walk : Node → Walked
 new_walk root = record { root = root; done = []; given = []; wanted = []; result = None }
 
 -- no wanted call was given an outcome
-abbrev pub AreApart : Outcomes → List Call → Type 0
+abbrev pub AreApart : GivenOutcomes → List Call → Type 0
 AreApart given wanted = (call : Call) → IsIn call wanted → outcome_in given call ≡ None
 
 -- ---- a walk that is right
@@ -46,12 +46,12 @@ pub record AreDone (w : World) (done : Entries) : Type 0 where
   pub each : (n : Node) (d : Done) → done_in done n ≡ Some d → IsDone w n d
   pub needs : (n : Node) (d : Done) → done_in done n ≡ Some d
       → (m : Node) → IsNeedIn w n m → IsSome (done_in done m)
-  pub different : AreDifferent (nodes_of done)
+  pub different : AreDifferent (done_nodes done)
 
 -- each node of the table is met from the root
 abbrev pub AreMet : World → Node → Entries → Type 0
 AreMet w root done =
-    (n : Node) → IsIn n (nodes_of done) → IsMet w.graph (seen_in w) root n
+    (n : Node) → IsIn n (done_nodes done) → IsMet w.graph (seen_in w) root n
 
 -- It is right by what is known of calls: what is wanted are calls at which the derivation stops.
 pub record IsRight (w : World) (walked : Walked) : Type 0 where
@@ -59,14 +59,14 @@ pub record IsRight (w : World) (walked : Walked) : Type 0 where
   pub root : Fits w.graph walked.root
   pub done : AreDone w walked.done
   pub met : AreMet w walked.root walked.done
-  pub wanted : (call : Call) → IsIn call walked.wanted → StopsAt w walked.root call
+  pub wanted : (call : Call) → IsIn call walked.wanted → StopsAtCall w walked.root call
   pub once : AreOnce walked.wanted
   pub found : IfSome walked.result (IsFound w.graph w.sources w.outcomes walked.root)
 
 -- ---- an advance
 
 -- The root and what was given stay, and so does what is wanted; with a result all does.
-pub record GoesOn (old new : Walked) : Type 0 where
+pub record ExtendsWalk (old new : Walked) : Type 0 where
   pub root : new.root ≡ old.root
   pub given : new.given ≡ old.given
   pub wanted : (call : Call) → IsIn call old.wanted → IsIn call new.wanted
@@ -75,24 +75,24 @@ pub record GoesOn (old new : Walked) : Type 0 where
 -- What is wanted is just what the derivation stops at, each call once, and there is some. No chain
 -- is there for which the node is refused.
 pub record AreFrontier (w : World) (n : Node) (wanted : List Call) : Type 0 where
-  pub only : (call : Call) → IsIn call wanted → StopsAt w n call
-  pub each : (call : Call) → StopsAt w n call → IsIn call wanted
+  pub only : (call : Call) → IsIn call wanted → StopsAtCall w n call
+  pub each : (call : Call) → StopsAtCall w n call → IsIn call wanted
   pub once : AreOnce wanted
   pub one : (call : Call) × IsIn call wanted
   pub calm : (chain : List Node) → IsRefusal w.graph (seen_in w) n chain → ⊥
 
 -- there is a result, or else calls are wanted
-abbrev pub EndsWith : World → Node → List Call → Option Found → Type 0
-EndsWith w n wanted None = AreFrontier w n wanted
-EndsWith w n wanted (Some found) = IsFound w.graph w.sources w.outcomes n found
+abbrev pub FindsOrWants : World → Node → List Call → Option Found → Type 0
+FindsOrWants w n wanted None = AreFrontier w n wanted
+FindsOrWants w n wanted (Some found) = IsFound w.graph w.sources w.outcomes n found
 
 abbrev pub IsAdvanced : World → Walked → Type 0
-IsAdvanced w walked = EndsWith w walked.root walked.wanted walked.result
+IsAdvanced w walked = FindsOrWants w walked.root walked.wanted walked.result
 
 -- ---- an outcome
 
 -- The call was given the outcome, and is wanted no more; nothing else changes.
-pub record IsGiven (call : Call) (outcome : Outcome) (old new : Walked) : Type 0 where
+pub record OutcomeIsGiven (call : Call) (outcome : Outcome) (old new : Walked) : Type 0 where
   pub root : new.root ≡ old.root
   pub done : new.done ≡ old.done
   pub given : new.given ≡ old.given ++ (call, outcome) ∷ []

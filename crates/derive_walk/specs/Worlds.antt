@@ -35,5 +35,5 @@ abbrev pub IsNeedIn : World → Node → Node → Type 0
 IsNeedIn w n m = IsNeed w.graph (seen_in w) n m
 
 -- a call at which the derivation of the node stops
-abbrev pub StopsAt : World → Node → Call → Type 0
-StopsAt w n call = IsFrontier w.graph w.sources w.outcomes n call
+abbrev pub StopsAtCall : World → Node → Call → Type 0
+StopsAtCall w n call = IsFrontier w.graph w.sources w.outcomes n call

@@ -1,7 +1,7 @@
 // The closing of a node whose needs were all visited.
 ghost use Rattle.std.specs.Prelude.{◌+◌, OnOk, IfOk};
-ghost use Rattle.derive_walk.specs.Looks.{AreFew, lost, met_in};
-ghost use Rattle.derive_walk.specs.Paths.{IsClosing, IsLast, IsWhole};
+ghost use Rattle.derive_walk.specs.Looks.{LooksAreFew, lost, met_in};
+ghost use Rattle.derive_walk.specs.Paths.{IsClosing, IsLast, IsWholeRound};
 ghost use Rattle.derive_walk.specs.Settings.{IsSetting, world_in};
 ghost use Rattle.derive_walk.specs.States.{HoldsIn, GoesOnFrom, Visited, AfterVisit};
 
@@ -31,12 +31,14 @@ pub(crate) fn close<K: Known, L: Ledger>(
     requires set { IsSetting K.kept setting.now }
     requires holds { HoldsIn (world_in K.kept setting.now) walk.old }
     requires last { IsLast (world_in K.kept setting.now) walk.old node }
-    requires whole { IsWhole (world_in K.kept setting.now) walk.old node needed.now survey.now }
+    requires whole { IsWholeRound (world_in K.kept setting.now) walk.old node
+        needed.now survey.now }
     ensures on { GoesOnFrom walk.old walk.new }
     ensures holds { HoldsIn (world_in K.kept setting.now) walk.new }
     ensures after { let w = world_in K.kept setting.now in
         IfOk result (AfterVisit w walk.old walk.new node) }
-    ensures counted { AreFew (met_in walk.old) (met_in walk.new) steps.old steps.new (lost result) }
+    ensures counted { LooksAreFew (met_in walk.old) (met_in walk.new) steps.old
+        steps.new (lost result) }
 {
     if survey.top >= HEIGHT_LIMIT as u32 {
         let chain = descend(alloc, setting, walk)?;
@@ -70,7 +72,8 @@ fn close_seen<K: Known, L: Ledger>(
     ensures holds { HoldsIn (world_in K.kept setting.now) walk.new }
     ensures visited { let w = world_in K.kept setting.now in
         OnOk result (Visited w walk.old walk.new node) }
-    ensures counted { AreFew (met_in walk.old) (met_in walk.new) steps.old steps.new (lost result) }
+    ensures counted { LooksAreFew (met_in walk.old) (met_in walk.new) steps.old
+        steps.new (lost result) }
 {
     match settle_node(
         alloc,

@@ -10,7 +10,7 @@ ghost use Rattle.node_tasks.specs.Needed.{IsNeeded};
 ghost use Rattle.walk_tables.specs.Tables.{results_of};
 ghost use Rattle.derive_walk.specs.Looks.{LooksOnce};
 ghost use Rattle.derive_walk.specs.Settings.{IsSetting, world_in};
-ghost use Rattle.derive_walk.specs.Settled.{AreOutside, IsClosed, SettlesIn};
+ghost use Rattle.derive_walk.specs.Settled.{AreOutside, NodeIsClosed, SettlesIn};
 
 use crate::known::Known;
 use crate::setting::Setting;
@@ -48,7 +48,7 @@ pub(crate) fn settle_node<K: Known, L: Ledger>(
     requires needed { IsNeeded setting.now.graph.now node.now (results_of done.now) needed.now }
     requires outside { AreOutside (world_in K.kept setting.now) wanted.now }
     ensures closed { let w = world_in K.kept setting.now in
-        IfOk result (IsClosed w node.now (results_of done.now)) }
+        IfOk result (NodeIsClosed w node.now (results_of done.now)) }
     ensures counted { LooksOnce wanted.now node.now steps.old steps.new result }
 {
     if node.steps.is_empty() {
@@ -80,7 +80,7 @@ fn settle_call<K: Known, L: Ledger>(
     requires called { CallOf setting.now.graph.now node.now (results_of done.now) (Some call) }
     requires stepped { node.now.steps ≢ [] }
     ensures closed { let w = world_in K.kept setting.now in
-        IfOk result (IsClosed w node.now (results_of done.now)) }
+        IfOk result (NodeIsClosed w node.now (results_of done.now)) }
     ensures counted { LooksOnce wanted.now node.now steps.old steps.new result }
 {
     if let Some(outcome) = setting.given.outcome(&call) {

@@ -1,6 +1,6 @@
 // The visit of a node, and of what it needs.
 ghost use Rattle.std.specs.Prelude.{IfOk};
-ghost use Rattle.derive_walk.specs.Looks.{AreFew, lost, met_in};
+ghost use Rattle.derive_walk.specs.Looks.{LooksAreFew, lost, met_in};
 ghost use Rattle.derive_walk.specs.Paths.{IsNext};
 ghost use Rattle.derive_walk.specs.Settings.{IsSetting, world_in};
 ghost use Rattle.derive_walk.specs.States.{HoldsIn, GoesOnFrom, AfterVisit};
@@ -32,7 +32,8 @@ pub(crate) fn visit<K: Known, L: Ledger>(
     ensures holds { HoldsIn (world_in K.kept setting.now) walk.new }
     ensures after { let w = world_in K.kept setting.now in
         IfOk result (AfterVisit w walk.old walk.new node) }
-    ensures counted { AreFew (met_in walk.old) (met_in walk.new) steps.old steps.new (lost result) }
+    ensures counted { LooksAreFew (met_in walk.old) (met_in walk.new) steps.old
+        steps.new (lost result) }
 {
     let length = walk.path.len();
     let mut ahead = Ahead::new(alloc);

@@ -9,11 +9,11 @@ ghost use Rattle.meaning_derive.specs.Derive.{Sources as SourceTexts, Outcomes};
 ghost use Rattle.meaning_derive.specs.Given.{AreSources, OutcomesFit};
 ghost use Rattle.path_planner.specs.Ends.{plans_of};
 ghost use Rattle.derive_walk.specs.Outcomes.{after};
-ghost use Rattle.derive_walk.specs.Looks.{AreFew, lost, met_by, met_in};
-ghost use Rattle.derive_walk.specs.Paths.{HasNoPath, AfterRoot};
+ghost use Rattle.derive_walk.specs.Looks.{LooksAreFew, lost, met_by, met_in};
+ghost use Rattle.derive_walk.specs.Paths.{HasEmptyPath, AfterRoot};
 ghost use Rattle.derive_walk.specs.Settings.{IsSetting, world_in};
 ghost use Rattle.derive_walk.specs.States.{HoldsIn, GoesOnFrom, heights_in};
-ghost use Rattle.derive_walk.specs.Walks.{IsRight, IsAdvanced, GoesOn, IsGiven, new_walk};
+ghost use Rattle.derive_walk.specs.Walks.{IsRight, IsAdvanced, ExtendsWalk, OutcomeIsGiven, new_walk};
 ghost use Rattle.derive_walk.specs.Worlds.{World, world};
 
 use crate::known::Known;
@@ -104,12 +104,12 @@ impl Walker {
         requires sources { AreSources sources.now.texts }
         requires right { let by = after (K.kept known.now) self.old.given in
             IsRight (world graph.now sources.now.texts by) self.old }
-        ensures on { GoesOn self.old self.new }
+        ensures on { ExtendsWalk self.old self.new }
         ensures right { let by = after (K.kept known.now) self.new.given in
             IsRight (world graph.now sources.now.texts by) self.new }
         ensures advanced { let by = after (K.kept known.now) self.new.given in
             OnOk result (IsAdvanced (world graph.now sources.now.texts by) self.new) }
-        ensures counted { AreFew (met_by self.old) (met_by self.new)
+        ensures counted { LooksAreFew (met_by self.old) (met_by self.new)
             steps.old steps.new (lost result) }
     {
         if self.result.is_some() {
@@ -134,7 +134,7 @@ impl Walker {
     pub fn give(&mut self, call: &Call, outcome: Outcome) -> Result<(), Memory>
         requires wanted { IsIn call.now self.old.wanted }
         requires fits { OutcomeFits call.now outcome }
-        ensures ok { OnOk result (IsGiven call.now outcome self.old self.new) }
+        ensures ok { OnOk result (OutcomeIsGiven call.now outcome self.old self.new) }
         ensures err { OnErr result (self.new ≡ self.old) }
         ensures right { (g : GraphValue) (s : SourceTexts) (kept : Outcomes) →
             IsRight (world g s (after kept self.old.given)) self.old →
@@ -184,11 +184,12 @@ fn walk_from_root<K: Known, L: Ledger>(
     requires set { IsSetting K.kept setting.now }
     requires holds { HoldsIn (world_in K.kept setting.now) walk.old }
     requires fits { Fits setting.now.graph.now walk.old.root }
-    requires start { HasNoPath walk.old }
+    requires start { HasEmptyPath walk.old }
     ensures on { GoesOnFrom walk.old walk.new }
     ensures holds { HoldsIn (world_in K.kept setting.now) walk.new }
     ensures after { IfOk result (AfterRoot (world_in K.kept setting.now) walk.new) }
-    ensures counted { AreFew (met_in walk.old) (met_in walk.new) steps.old steps.new (lost result) }
+    ensures counted { LooksAreFew (met_in walk.old) (met_in walk.new) steps.old
+        steps.new (lost result) }
 {
     if walk.root.steps.is_empty() {
         let view = source_view(alloc, setting.graph, setting.sources, &walk.root)?;

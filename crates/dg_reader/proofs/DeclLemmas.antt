@@ -17,7 +17,7 @@ use Rattle.meaning_graph_text.specs.Tokens.{Token, word, semicolon, opening, clo
 use Rattle.meaning_graph_text.specs.Grammar.{optional_tokens, part_tokens, kind_tokens, string_tokens, extra_tokens, closure_tokens, decl_tokens, IsSpellableDecl, IsInGrammar}
 use Rattle.meaning_graph_text.specs.Going.{Class, keyword, identifier, any_word, any_string, open_mark, Stage, between, kind, supers, parts, ending, strings, extras, Expected, expect, start, step_at, way, tool_front}
 use Rattle.dg_reader.specs.declared.cursor.Wanted.TheVariants.{Id, Word}
-use Rattle.dg_reader.specs.Walks.{Takes, HasNone, Finds, Leads}
+use Rattle.dg_reader.specs.Walks.{TakesToken, HasNone, Finds, CarriesStops}
 use Rattle.dg_reader.specs.Reads.{ReadsParts, ReadsStrings, ReadsExtras, HasNoExtra, ReadsSupers, ReadsUses, ReadsClosure, ReadsWay, way_classes, ReadsKind, ReadsTool, ReadsHead, HeadBehind, KindBehind, plain_keyword, ReadsDecl}
 use Rattle.meaning_graph_text.proofs.Lemmas.{tokens_append, tokens_short}
 use Rattle.dg_reader.proofs.TokenLemmas.{takes_cons, takes_one, tokens_snoc, takes_shorter, takes_past}
@@ -25,7 +25,7 @@ use Rattle.dg_reader.proofs.WalkLemmas.{leads_step, leads_class, leads_found, le
 use Rattle.dg_reader.proofs.ListLemmas.{id_found, word_found}
 
 -- the keyword of a declaration, or of a kind, leads on
-pub first_leads : (w : List ℕ) (l : Stage) (f : Expected) (text mid : List ℕ) → step_at l (word w) ≡ Some f → Takes text (word w) mid → Leads (expect [] l) text f mid
+pub first_leads : (w : List ℕ) (l : Stage) (f : Expected) (text mid : List ℕ) → step_at l (word w) ≡ Some f → TakesToken text (word w) mid → CarriesStops (expect [] l) text f mid
 first_leads w l f text mid s k = leads_step (expect [] l) f text (word w) mid k s
 
 -- ---- kinds
@@ -39,10 +39,10 @@ simple_read ids text rest r = λ whole k. record {
   leads = λ place h. first_leads (codes "simple") kind (expect [] supers) whole text refl k place (r.leads place h);
 }
 
-pub of_leads : (of text mid last : List ℕ) → Takes text (word (codes "of")) mid → Finds Id of mid last → Leads (expect (keyword (codes "of") ∷ identifier ∷ []) supers) text (expect [] supers) last
+pub of_leads : (of text mid last : List ℕ) → TakesToken text (word (codes "of")) mid → Finds Id of mid last → CarriesStops (expect (keyword (codes "of") ∷ identifier ∷ []) supers) text (expect [] supers) last
 of_leads of text mid last k f = λ place h. leads_keyword (codes "of") text mid k (identifier ∷ []) supers place (leads_found Id of mid last f [] supers place h)
 
-pub list_read : (of : List ℕ) (ids : List (List ℕ)) (text mid last rest : List ℕ) → Takes text (word (codes "of")) mid → Finds Id of mid last → ReadsSupers ids last rest → KindBehind (codes "list") (ListOf of) ids text rest
+pub list_read : (of : List ℕ) (ids : List (List ℕ)) (text mid last rest : List ℕ) → TakesToken text (word (codes "of")) mid → Finds Id of mid last → ReadsSupers ids last rest → KindBehind (codes "list") (ListOf of) ids text rest
 list_read of ids text mid last rest k f r = λ whole first. record {
   spelled = id_found of mid last f;
   each = r.each;
@@ -51,13 +51,13 @@ list_read of ids text mid last rest k f r = λ whole first. record {
   leads = λ place h. first_leads (codes "list") kind (expect (keyword (codes "of") ∷ identifier ∷ []) supers) whole text refl first place (of_leads of text mid last k f place (r.leads place h));
 }
 
-pub open_leads : (text mid : List ℕ) → Takes text opening mid → Leads (expect (open_mark ∷ identifier ∷ identifier ∷ []) parts) text (expect (identifier ∷ identifier ∷ []) parts) mid
+pub open_leads : (text mid : List ℕ) → TakesToken text opening mid → CarriesStops (expect (open_mark ∷ identifier ∷ identifier ∷ []) parts) text (expect (identifier ∷ identifier ∷ []) parts) mid
 open_leads text mid k = leads_class open_mark text opening mid k refl (identifier ∷ identifier ∷ []) parts
 
-pub parts_lead : (ps : List PartDecl) (text mid last : List ℕ) → Takes text opening mid → ReadsParts ps mid last → Leads (expect (open_mark ∷ identifier ∷ identifier ∷ []) parts) text (expect [] parts) last
+pub parts_lead : (ps : List PartDecl) (text mid last : List ℕ) → TakesToken text opening mid → ReadsParts ps mid last → CarriesStops (expect (open_mark ∷ identifier ∷ identifier ∷ []) parts) text (expect [] parts) last
 parts_lead ps text mid last k r = λ place h. open_leads text mid k place (r.leads place h)
 
-pub compound_read : (ps : List PartDecl) (text mid last rest : List ℕ) → Takes text opening mid → ReadsParts ps mid last → Takes last closing rest → KindBehind (codes "compound") (Compound ps) [] text rest
+pub compound_read : (ps : List PartDecl) (text mid last rest : List ℕ) → TakesToken text opening mid → ReadsParts ps mid last → TakesToken last closing rest → KindBehind (codes "compound") (Compound ps) [] text rest
 compound_read ps text mid last rest k r c = λ whole first. record {
   spelled = record { some = r.some; each = r.each };
   each = All-nil IsId;
@@ -94,16 +94,16 @@ param_read id text rest f = λ whole first. record {
 
 -- ---- ways
 
-pub from_leads : (text mid : List ℕ) → Takes text (word (codes "from")) mid → (more : List Class) (stage : Stage) → Leads (expect (way_classes more) stage) text (expect (identifier ∷ keyword (codes "to") ∷ identifier ∷ more) stage) mid
+pub from_leads : (text mid : List ℕ) → TakesToken text (word (codes "from")) mid → (more : List Class) (stage : Stage) → CarriesStops (expect (way_classes more) stage) text (expect (identifier ∷ keyword (codes "to") ∷ identifier ∷ more) stage) mid
 from_leads text mid k more stage = leads_keyword (codes "from") text mid k (identifier ∷ keyword (codes "to") ∷ identifier ∷ more) stage
 
-pub base_leads : (from text mid last : List ℕ) → Takes text (word (codes "from")) mid → Finds Id from mid last → (more : List Class) (stage : Stage) → Leads (expect (way_classes more) stage) text (expect (keyword (codes "to") ∷ identifier ∷ more) stage) last
+pub base_leads : (from text mid last : List ℕ) → TakesToken text (word (codes "from")) mid → Finds Id from mid last → (more : List Class) (stage : Stage) → CarriesStops (expect (way_classes more) stage) text (expect (keyword (codes "to") ∷ identifier ∷ more) stage) last
 base_leads from text mid last k f more stage = λ place h. from_leads text mid k more stage place (leads_found Id from mid last f (keyword (codes "to") ∷ identifier ∷ more) stage place h)
 
-pub to_leads : (from text mid last next : List ℕ) → Takes text (word (codes "from")) mid → Finds Id from mid last → Takes last (word (codes "to")) next → (more : List Class) (stage : Stage) → Leads (expect (way_classes more) stage) text (expect (identifier ∷ more) stage) next
+pub to_leads : (from text mid last next : List ℕ) → TakesToken text (word (codes "from")) mid → Finds Id from mid last → TakesToken last (word (codes "to")) next → (more : List Class) (stage : Stage) → CarriesStops (expect (way_classes more) stage) text (expect (identifier ∷ more) stage) next
 to_leads from text mid last next k f l more stage = λ place h. base_leads from text mid last k f more stage place (leads_keyword (codes "to") last next l (identifier ∷ more) stage place h)
 
-pub way_read : (from to text mid last next rest : List ℕ) → Takes text (word (codes "from")) mid → Finds Id from mid last → Takes last (word (codes "to")) next → Finds Id to next rest → ReadsWay from to text rest
+pub way_read : (from to text mid last next rest : List ℕ) → TakesToken text (word (codes "from")) mid → Finds Id from mid last → TakesToken last (word (codes "to")) next → Finds Id to next rest → ReadsWay from to text rest
 way_read from to text mid last next rest k f l g = record {
   from_id = id_found from mid last f;
   to_id = id_found to next rest g;
@@ -113,10 +113,10 @@ way_read from to text mid last next rest k f l g = record {
 
 -- ---- makers with a way alone
 
-pub plain_leads : (name from to text mid rest : List ℕ) → Finds Id name text mid → ReadsWay from to mid rest → Leads (expect way ending) text (expect [] ending) rest
+pub plain_leads : (name from to text mid rest : List ℕ) → Finds Id name text mid → ReadsWay from to mid rest → CarriesStops (expect way ending) text (expect [] ending) rest
 plain_leads name from to text mid rest f r = λ place h. leads_found Id name text mid f (way_classes []) ending place (r.leads [] ending place h)
 
-plain_tokens : (first name from to whole text mid rest : List ℕ) → Takes whole (word first) text → Finds Id name text mid → ReadsWay from to mid rest → Tokens whole (word first ∷ word name ∷ word (codes "from") ∷ word from ∷ word (codes "to") ∷ word to ∷ []) rest
+plain_tokens : (first name from to whole text mid rest : List ℕ) → TakesToken whole (word first) text → Finds Id name text mid → ReadsWay from to mid rest → Tokens whole (word first ∷ word name ∷ word (codes "from") ∷ word from ∷ word (codes "to") ∷ word to ∷ []) rest
 plain_tokens first name from to whole text mid rest k f r = takes_cons whole (word first) text (word name ∷ word (codes "from") ∷ word from ∷ word (codes "to") ∷ word to ∷ []) rest k (takes_cons text (word name) mid (word (codes "from") ∷ word from ∷ word (codes "to") ∷ word to ∷ []) rest f.taken r.tokens)
 
 inside : (x y : List ℕ) → ◌≡◌ {A = Option (List ℕ)} (Some x) (Some y) → x ≡ y
@@ -149,10 +149,10 @@ extras_count [] = omega arith
 extras_count (Also id ∷ es) = let h = extras_count es in omega arith
 extras_count (With name ∷ es) = let h = extras_count es in omega arith
 
-pub uses_lead : (words uses : List (List ℕ)) (text mid last : List ℕ) → ReadsStrings words text mid → HasNone any_string mid → ReadsUses uses mid last → Leads (expect (any_string ∷ []) strings) text (expect [] extras) last
+pub uses_lead : (words uses : List (List ℕ)) (text mid last : List ℕ) → ReadsStrings words text mid → HasNone any_string mid → ReadsUses uses mid last → CarriesStops (expect (any_string ∷ []) strings) text (expect [] extras) last
 uses_lead words uses text mid last w none u = λ place h. w.leads place (u.leads none place h)
 
-pub extras_lead : (words uses : List (List ℕ)) (es : List Extra) (text mid last next : List ℕ) → ReadsStrings words text mid → HasNone any_string mid → ReadsUses uses mid last → ReadsExtras es last next → Leads (expect (any_string ∷ []) strings) text (expect [] extras) next
+pub extras_lead : (words uses : List (List ℕ)) (es : List Extra) (text mid last next : List ℕ) → ReadsStrings words text mid → HasNone any_string mid → ReadsUses uses mid last → ReadsExtras es last next → CarriesStops (expect (any_string ∷ []) strings) text (expect [] extras) next
 extras_lead words uses es text mid last next w none u x = λ place h. uses_lead words uses text mid last w none u place (x.leads place h)
 
 pub tool_options : (tool : ToolDecl) (text mid last next rest : List ℕ) → ReadsStrings tool.words text mid → HasNone any_string mid → ReadsUses tool.uses mid last → ReadsExtras tool.extras last next → HasNoExtra next → ReadsClosure tool.closure next rest → ReadsTool tool text rest
@@ -168,28 +168,28 @@ tool_options tool text mid last next rest w none u x done c =
     }
 
 -- up to the version, up to the way, and up to `run`
-pub name_leads : (name text mid : List ℕ) → Finds Id name text mid → Leads (expect tool_front strings) text (expect (any_word ∷ way_classes (keyword (codes "run") ∷ any_string ∷ [])) strings) mid
+pub name_leads : (name text mid : List ℕ) → Finds Id name text mid → CarriesStops (expect tool_front strings) text (expect (any_word ∷ way_classes (keyword (codes "run") ∷ any_string ∷ [])) strings) mid
 name_leads name text mid f = leads_found Id name text mid f (any_word ∷ way_classes (keyword (codes "run") ∷ any_string ∷ [])) strings
 
-pub version_leads : (name version text mid last : List ℕ) → Finds Id name text mid → Finds Word version mid last → Leads (expect tool_front strings) text (expect (way_classes (keyword (codes "run") ∷ any_string ∷ [])) strings) last
+pub version_leads : (name version text mid last : List ℕ) → Finds Id name text mid → Finds Word version mid last → CarriesStops (expect tool_front strings) text (expect (way_classes (keyword (codes "run") ∷ any_string ∷ [])) strings) last
 version_leads name version text mid last f g = λ place h. name_leads name text mid f place (leads_found Word version mid last g (way_classes (keyword (codes "run") ∷ any_string ∷ [])) strings place h)
 
-pub way_leads : (name version from to text mid last next : List ℕ) → Finds Id name text mid → Finds Word version mid last → ReadsWay from to last next → Leads (expect tool_front strings) text (expect (keyword (codes "run") ∷ any_string ∷ []) strings) next
+pub way_leads : (name version from to text mid last next : List ℕ) → Finds Id name text mid → Finds Word version mid last → ReadsWay from to last next → CarriesStops (expect tool_front strings) text (expect (keyword (codes "run") ∷ any_string ∷ []) strings) next
 way_leads name version from to text mid last next f g r = λ place h. version_leads name version text mid last f g place (r.leads (keyword (codes "run") ∷ any_string ∷ []) strings place h)
 
-pub run_leads : (name version from to text mid last next then : List ℕ) → Finds Id name text mid → Finds Word version mid last → ReadsWay from to last next → Takes next (word (codes "run")) then → Leads (expect tool_front strings) text (expect (any_string ∷ []) strings) then
+pub run_leads : (name version from to text mid last next then : List ℕ) → Finds Id name text mid → Finds Word version mid last → ReadsWay from to last next → TakesToken next (word (codes "run")) then → CarriesStops (expect tool_front strings) text (expect (any_string ∷ []) strings) then
 run_leads name version from to text mid last next then f g r k = λ place h. way_leads name version from to text mid last next f g r place (leads_keyword (codes "run") next then k (any_string ∷ []) strings place h)
 
-tool_by : (name version from to : List ℕ) (tool : ToolDecl) (text mid last next then rest : List ℕ) → tool.version ≡ version → Finds Id name text mid → Finds Word version mid last → ReadsWay from to last next → Takes next (word (codes "run")) then → ReadsTool tool then rest
+tool_by : (name version from to : List ℕ) (tool : ToolDecl) (text mid last next then rest : List ℕ) → tool.version ≡ version → Finds Id name text mid → Finds Word version mid last → ReadsWay from to last next → TakesToken next (word (codes "run")) then → ReadsTool tool then rest
     → Tokens text (word name ∷ word tool.version ∷ ((word (codes "from") ∷ word from ∷ word (codes "to") ∷ word to ∷ []) ++ word (codes "run") ∷ (string_tokens tool.words ++ (optional_tokens (codes "uses") tool.uses ++ (extra_tokens tool.extras ++ closure_tokens tool.closure))))) rest
 tool_by name version from to tool text mid last next then rest same f g r k t =
     let options : List Token = string_tokens tool.words ++ (optional_tokens (codes "uses") tool.uses ++ (extra_tokens tool.extras ++ closure_tokens tool.closure)) in
     let ways : List Token = word (codes "from") ∷ word from ∷ word (codes "to") ∷ word to ∷ [] in
     let behind : Tokens last (ways ++ word (codes "run") ∷ options) rest = tokens_append last ways next (word (codes "run") ∷ options) rest r.tokens (takes_cons next (word (codes "run")) then options rest k t.tokens) in
-    let taken : Takes mid (word tool.version) last = subst (λ v. Takes mid (word v) last) (sym same) g.taken in
+    let taken : TakesToken mid (word tool.version) last = subst (λ v. TakesToken mid (word v) last) (sym same) g.taken in
     takes_cons text (word name) mid (word tool.version ∷ (ways ++ word (codes "run") ∷ options)) rest f.taken (takes_cons mid (word tool.version) last (ways ++ word (codes "run") ∷ options) rest taken behind)
 
-pub tool_read : (name version from to : List ℕ) (tool : ToolDecl) (text mid last next then rest : List ℕ) → tool.version ≡ version → Finds Id name text mid → Finds Word version mid last → ReadsWay from to last next → Takes next (word (codes "run")) then → ReadsTool tool then rest
+pub tool_read : (name version from to : List ℕ) (tool : ToolDecl) (text mid last next then rest : List ℕ) → tool.version ≡ version → Finds Id name text mid → Finds Word version mid last → ReadsWay from to last next → TakesToken next (word (codes "run")) then → ReadsTool tool then rest
     → HeadBehind (codes "tool") (Maker (record { name = name; make = Tool tool; from = from; to = to })) text rest
 tool_read name version from to tool text mid last next then rest same f g r k t = λ whole first.
     let a : length text < length whole = takes_shorter whole (word (codes "tool")) text first in
@@ -206,5 +206,5 @@ tool_read name version from to tool text mid last next then rest same f g r k t 
 
 -- ---- the end of a declaration
 
-pub decl_read : (d : Decl) (text mid rest : List ℕ) → ReadsHead d text mid → Takes mid semicolon rest → ReadsDecl d text rest
+pub decl_read : (d : Decl) (text mid rest : List ℕ) → ReadsHead d text mid → TakesToken mid semicolon rest → ReadsDecl d text rest
 decl_read d text mid rest r k = record { spelled = r.spelled; grammar = r.grammar; tokens = tokens_snoc text (decl_tokens d) mid semicolon rest r.tokens k; past = takes_past mid semicolon rest k }

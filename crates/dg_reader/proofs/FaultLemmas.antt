@@ -8,7 +8,7 @@ use Rattle.meaning_graph_text.specs.Tokens.{Token, BeginsWith, a_word, a_string,
 use Rattle.meaning_graph_text.specs.Lexing.{Taken, token_at}
 use Rattle.meaning_graph_text.specs.Grammar.{graph_tokens, HasSpelling, GraphText}
 use Rattle.meaning_graph_text.specs.Places.{line_behind, column_behind, IsFrontOfGraph, IsSyntaxFault}
-use Rattle.meaning_graph_text.specs.Going.{Expected, start, step, run, can_go_on}
+use Rattle.meaning_graph_text.specs.Going.{Expected, start, expected_after, run, can_go_on}
 use Rattle.meaning_graph_text.proofs.Lemmas.{begins_from, graph_run, run_append, front_from_going, going_from_front, no_graph_at, no_graph_without, tokens_append, tokens_short, past_is_past}
 use Rattle.dg_reader.specs.Walks.{StopsAt, here, behind}
 use Rattle.dg_reader.proofs.TokenLemmas.{takes_cons}
@@ -53,7 +53,7 @@ record Stopped (e : Expected) (text place : List ℕ) : Type 0 where
   read : Tokens text ts place
   past : is_past_gap place ≡ true
   runs : run e ts ≡ Some f
-  none : (t : Token) (left : List ℕ) → BeginsWith place t left → step f.must f.stage t ≡ None
+  none : (t : Token) (left : List ℕ) → BeginsWith place t left → expected_after f.must f.stage t ≡ None
   ends : place ≡ [] → f ≡ start → ⊥
 
 stopped : (e : Expected) (text place : List ℕ) → StopsAt e text place → is_past_gap text ≡ true → Stopped e text place
@@ -71,10 +71,10 @@ record Faulty (text : List ℕ) (ts : List Token) (place : List ℕ) (f : Expect
   read : Tokens text ts place
   past : is_past_gap place ≡ true
   runs : run start ts ≡ Some f
-  none : (t : Token) (left : List ℕ) → BeginsWith place t left → step f.must f.stage t ≡ None
+  none : (t : Token) (left : List ℕ) → BeginsWith place t left → expected_after f.must f.stage t ≡ None
   ends : place ≡ [] → f ≡ start → ⊥
 
-not_expected : (ts : List Token) (f : Expected) (t : Token) → run start ts ≡ Some f → step f.must f.stage t ≡ None → IsFrontOfGraph (ts ++ t ∷ []) → ⊥
+not_expected : (ts : List Token) (f : Expected) (t : Token) → run start ts ≡ Some f → expected_after f.must f.stage t ≡ None → IsFrontOfGraph (ts ++ t ∷ []) → ⊥
 unfolding can_go_on
 not_expected ts f t h s g =
     let one_more : run start (ts ++ t ∷ []) ≡ None = run_append start ts (t ∷ []) ∙ (rw (h, s) refl) in

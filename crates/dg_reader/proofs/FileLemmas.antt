@@ -17,12 +17,12 @@ use Rattle.meaning_graph_text.specs.Places.{line_behind}
 use Rattle.meaning_graph_text.specs.Checks.{FirstFault}
 use Rattle.meaning_graph_text.proofs.Lemmas.{gap_read, tokens_append, tokens_short, past_is_past}
 use Rattle.dg_reader.specs.Reads.{ReadsDecl}
-use Rattle.dg_reader.specs.Files.{BeginsAt, AreRead, IsCheckFault}
+use Rattle.dg_reader.specs.Files.{BeginsAt, ReadsDecls, IsCheckFault}
 use Rattle.dg_reader.proofs.FaultLemmas.{rest_at}
 
 -- ---- one by one
 
-pub none_read : (text : List ℕ) → AreRead [] [] text (past_gap false text)
+pub none_read : (text : List ℕ) → ReadsDecls [] [] text (past_gap false text)
 none_read text = record {
   spelled = record { spellable = All-nil IsSpellableDecl; grammar = All-nil IsInGrammar };
   tokens = gap_read false text [] (past_gap false text) (no_more (past_gap false text));
@@ -55,7 +55,7 @@ place_new decls d text mid t p =
       begins = subst (λ x. is_past_gap x ≡ true) (sym at) p;
     }
 
-places_more : (decls : List Decl) (starts : List ℕ) (d : Decl) (text mid : List ℕ) → AreRead decls starts text mid → (count : ℕ) → count < length (decls ++ d ∷ []) → BeginsAt text (decls ++ d ∷ []) count (get_or (starts ++ (length text - length mid) ∷ []) count 0)
+places_more : (decls : List Decl) (starts : List ℕ) (d : Decl) (text mid : List ℕ) → ReadsDecls decls starts text mid → (count : ℕ) → count < length (decls ++ d ∷ []) → BeginsAt text (decls ++ d ∷ []) count (get_or (starts ++ (length text - length mid) ∷ []) count 0)
 places_more decls starts d text mid r count less =
     let l = length-append decls (d ∷ []) in
     let same : length starts ≡ length decls = r.counted in
@@ -76,7 +76,7 @@ places_more decls starts d text mid r count less =
       | inr h ↦ elim h [ inl lt ↦ inl lt | inr gt ↦ inr (omega arith) ]
     ]
 
-pub more_read : (decls : List Decl) (starts : List ℕ) (d : Decl) (text mid rest : List ℕ) → length text ≤ graph_limit → AreRead decls starts text mid → ReadsDecl d mid rest → AreRead (decls ++ d ∷ []) (starts ++ (length text - length mid) ∷ []) text rest
+pub more_read : (decls : List Decl) (starts : List ℕ) (d : Decl) (text mid rest : List ℕ) → length text ≤ graph_limit → ReadsDecls decls starts text mid → ReadsDecl d mid rest → ReadsDecls (decls ++ d ∷ []) (starts ++ (length text - length mid) ∷ []) text rest
 more_read decls starts d text mid rest low r n =
     let short = tokens_short text (graph_tokens decls) mid r.tokens in
     let same : length starts ≡ length decls = r.counted in
@@ -97,19 +97,19 @@ decl_shorter d mid rest n =
     let a = length-append (decl_tokens d) (semicolon ∷ []) in
     omega arith
 
-pub left_within : (decls : List Decl) (starts text mid : List ℕ) → AreRead decls starts text mid → length mid ≤ length text
+pub left_within : (decls : List Decl) (starts text mid : List ℕ) → ReadsDecls decls starts text mid → length mid ≤ length text
 left_within decls starts text mid r = let short = tokens_short text (graph_tokens decls) mid r.tokens in omega arith
 
 -- ---- whole files
 
-pub whole_read : (decls : List Decl) (starts text : List ℕ) → AreRead decls starts text [] → GraphText text decls
+pub whole_read : (decls : List Decl) (starts text : List ℕ) → ReadsDecls decls starts text [] → GraphText text decls
 whole_read decls starts text r = record { spelled = r.spelled; tokens = r.tokens }
 
 -- the declaration with the first fault is one of them
 pub fault_within : (decls : List Decl) (number : ℕ) (fault : GraphFault) → FirstFault decls number fault → (0 < number) × (number - 1 < length decls)
 fault_within decls number fault f = (f.there.counted, slice_get_within decls (number - 1) f.there.declaration f.there.there)
 
-pub check_refused : (decls : List Decl) (starts text : List ℕ) (number : ℕ) (fault : GraphFault) → AreRead decls starts text [] → FirstFault decls number fault
+pub check_refused : (decls : List Decl) (starts text : List ℕ) (number : ℕ) (fault : GraphFault) → ReadsDecls decls starts text [] → FirstFault decls number fault
     → (get_or starts (number - 1) 0 ≤ length text) × IsCheckFault text (line_behind (take (get_or starts (number - 1) 0) text)) fault
 check_refused decls starts text number fault r f =
     let w = fault_within decls number fault f in

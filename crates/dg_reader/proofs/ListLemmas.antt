@@ -11,7 +11,7 @@ use Rattle.meaning_graph_text.specs.Tokens.{word, string, comma, Tokens, no_more
 use Rattle.meaning_graph_text.specs.Grammar.{id_tokens, optional_tokens, part_tokens, string_tokens, extra_tokens, IsSpellablePart, IsSpellableExtra}
 use Rattle.meaning_graph_text.specs.Going.{identifier, name_string, Stage, supers, super_ids, parts, ending, strings, used_ids, extras, expect, step_at}
 use Rattle.dg_reader.specs.declared.cursor.Wanted.TheVariants.{Id, Word, String, NameString}
-use Rattle.dg_reader.specs.Walks.{Takes, IsNotAt, Finds, Leads}
+use Rattle.dg_reader.specs.Walks.{TakesToken, IsNotAt, Finds, CarriesStops}
 use Rattle.dg_reader.specs.Reads.{ReadsIds, ReadsParts, ReadsStrings, ReadsExtras, ReadsSupers, ReadsUses, ReadsClosure}
 use Rattle.meaning_graph_text.proofs.Lemmas.{tokens_append}
 use Rattle.dg_reader.proofs.TokenLemmas.{takes_cons, takes_one, tokens_snoc}
@@ -47,10 +47,10 @@ ids_one id text rest f = record {
 }
 
 -- a comma leads to a further identifier
-pub ids_comma : (ids : List (List ℕ)) (text mid next : List ℕ) → ReadsIds ids text mid → Takes mid comma next → (stage : Stage) → step_at stage comma ≡ Some (expect (identifier ∷ []) stage) → Leads (expect (identifier ∷ []) stage) text (expect (identifier ∷ []) stage) next
+pub ids_comma : (ids : List (List ℕ)) (text mid next : List ℕ) → ReadsIds ids text mid → TakesToken mid comma next → (stage : Stage) → step_at stage comma ≡ Some (expect (identifier ∷ []) stage) → CarriesStops (expect (identifier ∷ []) stage) text (expect (identifier ∷ []) stage) next
 ids_comma ids text mid next r k stage s = λ place h. r.leads stage s place (leads_step (expect [] stage) (expect (identifier ∷ []) stage) mid comma next k s place h)
 
-pub ids_more : (ids : List (List ℕ)) (id text mid next rest : List ℕ) → ReadsIds ids text mid → Takes mid comma next → Finds Id id next rest → ReadsIds (ids ++ id ∷ []) text rest
+pub ids_more : (ids : List (List ℕ)) (id text mid next rest : List ℕ) → ReadsIds ids text mid → TakesToken mid comma next → Finds Id id next rest → ReadsIds (ids ++ id ∷ []) text rest
 ids_more [] id text mid next rest r k f = let some : 0 < 0 = r.some in absurd (omega arith)
 ids_more (x ∷ xs) id text mid next rest r k f = record {
   some = omega arith;
@@ -73,10 +73,10 @@ parts_one p text mid rest f g = record {
   leads = λ place h. leads_found Id p.name text mid f (identifier ∷ []) parts place (leads_found Id p.of mid rest g [] parts place h);
 }
 
-pub parts_comma : (ps : List PartDecl) (text mid next : List ℕ) → ReadsParts ps text mid → Takes mid comma next → Leads (expect (identifier ∷ identifier ∷ []) parts) text (expect (identifier ∷ identifier ∷ []) parts) next
+pub parts_comma : (ps : List PartDecl) (text mid next : List ℕ) → ReadsParts ps text mid → TakesToken mid comma next → CarriesStops (expect (identifier ∷ identifier ∷ []) parts) text (expect (identifier ∷ identifier ∷ []) parts) next
 parts_comma ps text mid next r k = λ place h. r.leads place (leads_step (expect [] parts) (expect (identifier ∷ identifier ∷ []) parts) mid comma next k refl place h)
 
-pub parts_more : (ps : List PartDecl) (q : PartDecl) (text mid next rest : List ℕ) → ReadsParts ps text mid → Takes mid comma next → ReadsParts (q ∷ []) next rest → ReadsParts (ps ++ q ∷ []) text rest
+pub parts_more : (ps : List PartDecl) (q : PartDecl) (text mid next rest : List ℕ) → ReadsParts ps text mid → TakesToken mid comma next → ReadsParts (q ∷ []) next rest → ReadsParts (ps ++ q ∷ []) text rest
 parts_more [] q text mid next rest r k f = let some : 0 < 0 = r.some in absurd (omega arith)
 parts_more (p ∷ ps) q text mid next rest r k f = record {
   some = omega arith;
@@ -117,20 +117,20 @@ extra_tokens_more (With x ∷ es) e = ap (λ ts. word (codes "with") ∷ string 
 pub extras_none : (text : List ℕ) → ReadsExtras [] text text
 extras_none text = record { each = All-nil IsSpellableExtra; tokens = no_more text; leads = λ place h. h }
 
-pub also_leads : (text mid : List ℕ) → Takes text (word (codes "also")) mid → Leads (expect [] extras) text (expect (identifier ∷ []) extras) mid
+pub also_leads : (text mid : List ℕ) → TakesToken text (word (codes "also")) mid → CarriesStops (expect [] extras) text (expect (identifier ∷ []) extras) mid
 also_leads text mid k = leads_step (expect [] extras) (expect (identifier ∷ []) extras) text (word (codes "also")) mid k refl
 
-pub with_leads : (text mid : List ℕ) → Takes text (word (codes "with")) mid → Leads (expect [] extras) text (expect (name_string ∷ []) extras) mid
+pub with_leads : (text mid : List ℕ) → TakesToken text (word (codes "with")) mid → CarriesStops (expect [] extras) text (expect (name_string ∷ []) extras) mid
 with_leads text mid k = leads_step (expect [] extras) (expect (name_string ∷ []) extras) text (word (codes "with")) mid k refl
 
-pub extras_also : (id text mid rest : List ℕ) → Takes text (word (codes "also")) mid → Finds Id id mid rest → ReadsExtras (Also id ∷ []) text rest
+pub extras_also : (id text mid rest : List ℕ) → TakesToken text (word (codes "also")) mid → Finds Id id mid rest → ReadsExtras (Also id ∷ []) text rest
 extras_also id text mid rest k f = record {
   each = All-cons IsSpellableExtra (Also id) [] (id_found id mid rest f) (All-nil IsSpellableExtra);
   tokens = takes_cons text (word (codes "also")) mid (word id ∷ []) rest k (takes_one mid (word id) rest f.taken);
   leads = λ place h. also_leads text mid k place (leads_found Id id mid rest f [] extras place h);
 }
 
-pub extras_with : (name text mid rest : List ℕ) → Takes text (word (codes "with")) mid → Finds NameString name mid rest → ReadsExtras (With name ∷ []) text rest
+pub extras_with : (name text mid rest : List ℕ) → TakesToken text (word (codes "with")) mid → Finds NameString name mid rest → ReadsExtras (With name ∷ []) text rest
 extras_with name text mid rest k f = record {
   each = All-cons IsSpellableExtra (With name) [] (name_found name mid rest f) (All-nil IsSpellableExtra);
   tokens = takes_cons text (word (codes "with")) mid (string name ∷ []) rest k (takes_one mid (string name) rest f.taken);
@@ -150,13 +150,13 @@ optional_is : (first : List ℕ) (ids : List (List ℕ)) → 0 < length ids → 
 optional_is first [] some = absurd (omega arith)
 optional_is first (x ∷ xs) some = refl
 
-optional_read : (first : List ℕ) (ids : List (List ℕ)) (text mid rest : List ℕ) → Takes text (word first) mid → ReadsIds ids mid rest → Tokens text (optional_tokens first ids) rest
+optional_read : (first : List ℕ) (ids : List (List ℕ)) (text mid rest : List ℕ) → TakesToken text (word first) mid → ReadsIds ids mid rest → Tokens text (optional_tokens first ids) rest
 optional_read first ids text mid rest k r = subst (λ ts. Tokens text ts rest) (sym (optional_is first ids r.some)) (takes_cons text (word first) mid (id_tokens ids) rest k r.tokens)
 
-pub is_leads : (text mid : List ℕ) → Takes text (word (codes "is")) mid → Leads (expect [] supers) text (expect (identifier ∷ []) super_ids) mid
+pub is_leads : (text mid : List ℕ) → TakesToken text (word (codes "is")) mid → CarriesStops (expect [] supers) text (expect (identifier ∷ []) super_ids) mid
 is_leads text mid k = leads_step (expect [] supers) (expect (identifier ∷ []) super_ids) text (word (codes "is")) mid k refl
 
-pub supers_read : (ids : List (List ℕ)) (text mid rest : List ℕ) → Takes text (word (codes "is")) mid → ReadsIds ids mid rest → IsNotAt comma rest → ReadsSupers ids text rest
+pub supers_read : (ids : List (List ℕ)) (text mid rest : List ℕ) → TakesToken text (word (codes "is")) mid → ReadsIds ids mid rest → IsNotAt comma rest → ReadsSupers ids text rest
 supers_read ids text mid rest k r none = record {
   each = r.each;
   tokens = optional_read (codes "is") ids text mid rest k r;
@@ -166,10 +166,10 @@ supers_read ids text mid rest k r none = record {
 pub no_supers : (text : List ℕ) → IsNotAt (word (codes "is")) text → ReadsSupers [] text text
 no_supers text none = record { each = All-nil IsId; tokens = no_more text; leads = supers_ending text none }
 
-pub uses_leads : (text mid : List ℕ) → Takes text (word (codes "uses")) mid → Leads (expect [] strings) text (expect (identifier ∷ []) used_ids) mid
+pub uses_leads : (text mid : List ℕ) → TakesToken text (word (codes "uses")) mid → CarriesStops (expect [] strings) text (expect (identifier ∷ []) used_ids) mid
 uses_leads text mid k = leads_step (expect [] strings) (expect (identifier ∷ []) used_ids) text (word (codes "uses")) mid k refl
 
-pub uses_read : (ids : List (List ℕ)) (text mid rest : List ℕ) → Takes text (word (codes "uses")) mid → ReadsIds ids mid rest → IsNotAt comma rest → ReadsUses ids text rest
+pub uses_read : (ids : List (List ℕ)) (text mid rest : List ℕ) → TakesToken text (word (codes "uses")) mid → ReadsIds ids mid rest → IsNotAt comma rest → ReadsUses ids text rest
 uses_read ids text mid rest k r none = record {
   each = r.each;
   tokens = optional_read (codes "uses") ids text mid rest k r;
@@ -179,10 +179,10 @@ uses_read ids text mid rest k r none = record {
 pub no_uses : (text : List ℕ) → IsNotAt (word (codes "uses")) text → ReadsUses [] text text
 no_uses text none = record { each = All-nil IsId; tokens = no_more text; leads = λ no_string. strings_extras text no_string none }
 
-pub closure_leads : (text mid : List ℕ) → Takes text (word (codes "closure")) mid → Leads (expect [] extras) text (expect (identifier ∷ []) ending) mid
+pub closure_leads : (text mid : List ℕ) → TakesToken text (word (codes "closure")) mid → CarriesStops (expect [] extras) text (expect (identifier ∷ []) ending) mid
 closure_leads text mid k = leads_step (expect [] extras) (expect (identifier ∷ []) ending) text (word (codes "closure")) mid k refl
 
-pub closure_read : (id text mid rest : List ℕ) → Takes text (word (codes "closure")) mid → Finds Id id mid rest → ReadsClosure (Some id) text rest
+pub closure_read : (id text mid rest : List ℕ) → TakesToken text (word (codes "closure")) mid → Finds Id id mid rest → ReadsClosure (Some id) text rest
 closure_read id text mid rest k f = record {
   each = id_found id mid rest f;
   tokens = takes_cons text (word (codes "closure")) mid (word id ∷ []) rest k (takes_one mid (word id) rest f.taken);

@@ -3,8 +3,8 @@ use Rattle.std.proofs.Common.{◌≡◌, ℕ, false, List, [], None, refl, sym, 
 use Rattle.std.specs.Prelude.{codes}
 use Rattle.meaning_texts.specs.Tests.{is_string_text}
 use Rattle.meaning_graph_text.specs.Tokens.{Token, word, string, semicolon, comma, opening, closing, BeginsWith}
-use Rattle.meaning_graph_text.specs.Going.{any_string, Stage, between, kind, supers, super_ids, parts, ending, strings, used_ids, extras, Expected, expect, start, step, step_at}
-use Rattle.dg_reader.specs.Walks.{IsNotAt, HasNone, StopsAt, here, behind, Leads}
+use Rattle.meaning_graph_text.specs.Going.{any_string, Stage, between, kind, supers, super_ids, parts, ending, strings, used_ids, extras, Expected, expect, start, expected_after, step_at}
+use Rattle.dg_reader.specs.Walks.{IsNotAt, HasNone, StopsAt, here, behind, CarriesStops}
 use Rattle.dg_reader.specs.Reads.{HasNoExtra}
 use Rattle.dg_reader.proofs.WalkLemmas.{other_word}
 
@@ -15,8 +15,8 @@ pub same_stops : (l m : Stage) (text place : List ℕ) → ((t : Token) (left : 
 same_stops l m text place same n s = go (expect [] m) text place s refl same
   where
     go : (e : Expected) (text place : List ℕ) → StopsAt e text place → e ≡ expect [] m → ((t : Token) (left : List ℕ) → BeginsWith text t left → step_at l t ≡ step_at m t) → StopsAt (expect [] l) text place
-    go e text place (here e2 text2 none ends) is same = here (expect [] l) text2 (λ t left b. same t left b ∙ sym (ap (λ (x : Expected). step x.must x.stage t) is) ∙ none t left b) (λ _ h. n h)
-    go e text place (behind e2 f text2 t rest place2 k s more) is same = behind (expect [] l) f text2 t rest place2 k (same t k.left k.begins ∙ sym (ap (λ (x : Expected). step x.must x.stage t) is) ∙ s) more
+    go e text place (here e2 text2 none ends) is same = here (expect [] l) text2 (λ t left b. same t left b ∙ sym (ap (λ (x : Expected). expected_after x.must x.stage t) is) ∙ none t left b) (λ _ h. n h)
+    go e text place (behind e2 f text2 t rest place2 k s more) is same = behind (expect [] l) f text2 t rest place2 k (same t k.left k.begins ∙ sym (ap (λ (x : Expected). expected_after x.must x.stage t) is) ∙ s) more
 
 not_start : (l : Stage) → (l ≡ between → ⊥) → expect [] l ≡ start → ⊥
 not_start l n e = n (ap (λ (x : Expected). x.stage) e)
@@ -24,7 +24,7 @@ not_start l n e = n (ap (λ (x : Expected). x.stage) e)
 -- ---- behind a kind
 
 -- without `is`, only the end of the declaration is expected behind a kind
-pub supers_ending : (text : List ℕ) → IsNotAt (word (codes "is")) text → Leads (expect [] supers) text (expect [] ending) text
+pub supers_ending : (text : List ℕ) → IsNotAt (word (codes "is")) text → CarriesStops (expect [] supers) text (expect [] ending) text
 supers_ending text none place s = same_stops supers ending text place same (not_start supers (λ e. cc)) s
   where
     same : (t : Token) (left : List ℕ) → BeginsWith text t left → step_at supers t ≡ step_at ending t
@@ -37,7 +37,7 @@ supers_ending text none place s = same_stops supers ending text place same (not_
 
 -- where no comma follows, a stage whose other tokens have the meaning of another leads there
 behind_ids : (l m : Stage) (text : List ℕ) → (l ≡ between → ⊥) → ((w : List ℕ) → step_at l (word w) ≡ step_at m (word w)) → ((s : List ℕ) → step_at l (string s) ≡ step_at m (string s))
-    → step_at l semicolon ≡ step_at m semicolon → step_at l opening ≡ step_at m opening → step_at l closing ≡ step_at m closing → IsNotAt comma text → Leads (expect [] l) text (expect [] m) text
+    → step_at l semicolon ≡ step_at m semicolon → step_at l opening ≡ step_at m opening → step_at l closing ≡ step_at m closing → IsNotAt comma text → CarriesStops (expect [] l) text (expect [] m) text
 behind_ids l m text n words texts ends opens closes none place s = same_stops l m text place same (not_start l n) s
   where
     same : (t : Token) (left : List ℕ) → BeginsWith text t left → step_at l t ≡ step_at m t
@@ -49,12 +49,12 @@ behind_ids l m text n words texts ends opens closes none place s = same_stops l 
     same closing left b = closes
 
 -- and behind supertypes
-pub super_ids_ending : (text : List ℕ) → IsNotAt comma text → Leads (expect [] super_ids) text (expect [] ending) text
+pub super_ids_ending : (text : List ℕ) → IsNotAt comma text → CarriesStops (expect [] super_ids) text (expect [] ending) text
 super_ids_ending text none = behind_ids super_ids ending text (λ e. cc) (λ w. refl) (λ s. refl) refl refl refl none
 
 -- ---- the options of a tool
 
-pub strings_extras : (text : List ℕ) → HasNone any_string text → IsNotAt (word (codes "uses")) text → Leads (expect [] strings) text (expect [] extras) text
+pub strings_extras : (text : List ℕ) → HasNone any_string text → IsNotAt (word (codes "uses")) text → CarriesStops (expect [] strings) text (expect [] extras) text
 strings_extras text none no_uses place s = same_stops strings extras text place same (not_start strings (λ e. cc)) s
   where
     same : (t : Token) (left : List ℕ) → BeginsWith text t left → step_at strings t ≡ step_at extras t
@@ -65,10 +65,10 @@ strings_extras text none no_uses place s = same_stops strings extras text place 
     same opening left b = refl
     same closing left b = refl
 
-pub used_ids_extras : (text : List ℕ) → IsNotAt comma text → Leads (expect [] used_ids) text (expect [] extras) text
+pub used_ids_extras : (text : List ℕ) → IsNotAt comma text → CarriesStops (expect [] used_ids) text (expect [] extras) text
 used_ids_extras text none = behind_ids used_ids extras text (λ e. cc) (λ w. refl) (λ s. refl) refl refl refl none
 
-pub extras_ending : (text : List ℕ) → HasNoExtra text → IsNotAt (word (codes "closure")) text → Leads (expect [] extras) text (expect [] ending) text
+pub extras_ending : (text : List ℕ) → HasNoExtra text → IsNotAt (word (codes "closure")) text → CarriesStops (expect [] extras) text (expect [] ending) text
 extras_ending text none no_closure place s = same_stops extras ending text place same (not_start extras (λ e. cc)) s
   where
     same : (t : Token) (left : List ℕ) → BeginsWith text t left → step_at extras t ≡ step_at ending t

@@ -5,14 +5,14 @@ use Rattle.meaning_graph_text.specs.Lexing.{past_gap, Taken, taken, token_at}
 use Rattle.meaning_graph_text.specs.Going.{Class, accepts}
 use Rattle.meaning_graph_text.proofs.Lemmas.{begins_told, begins_from, gap_read, tokens_append, past_is_past, gap_shorter, begins_shorter}
 use Rattle.dg_reader.specs.declared.cursor.Wanted.{Wanted}
-use Rattle.dg_reader.specs.Walks.{Takes, IsNotAt, HasNone, class_of, token_of, Finds}
+use Rattle.dg_reader.specs.Walks.{TakesToken, IsNotAt, HasNone, class_of, token_of, Finds}
 
 -- ---- the computed token
 
 same_taken : (t u : Token) (left other : List ℕ) → ◌≡◌ {A = Option Taken} (Some (taken t left)) (Some (taken u other)) → t ≡ u
 same_taken t u left other e = let f : taken t left ≡ taken u other = cc in ap (λ (k : Taken). k.token) f
 
-pub takes_from : (text behind : List ℕ) (t u : Token) → token_at text ≡ Some (taken t behind) → t ≡ u → Takes text u (past_gap false behind)
+pub takes_from : (text behind : List ℕ) (t u : Token) → token_at text ≡ Some (taken t behind) → t ≡ u → TakesToken text u (past_gap false behind)
 takes_from text behind t u e same = record { left = behind; begins = subst (λ x. BeginsWith text x behind) same (begins_from text (taken t behind) e); is = refl }
 
 pub not_at_none : (text : List ℕ) (t : Token) → token_at text ≡ None → IsNotAt t text
@@ -30,22 +30,22 @@ has_none_other text behind class u e none = λ t left b. subst (λ x. accepts cl
 -- ---- readings
 
 -- a token, and then these
-pub takes_cons : (text : List ℕ) (t : Token) (mid : List ℕ) (ts : List Token) (rest : List ℕ) → Takes text t mid → Tokens mid ts rest → Tokens text (t ∷ ts) rest
+pub takes_cons : (text : List ℕ) (t : Token) (mid : List ℕ) (ts : List Token) (rest : List ℕ) → TakesToken text t mid → Tokens mid ts rest → Tokens text (t ∷ ts) rest
 takes_cons text t mid ts rest k d = one text t k.left ts rest k.begins (gap_read false k.left ts rest (subst (λ x. Tokens x ts rest) k.is d))
 
-pub takes_one : (text : List ℕ) (t : Token) (rest : List ℕ) → Takes text t rest → Tokens text (t ∷ []) rest
+pub takes_one : (text : List ℕ) (t : Token) (rest : List ℕ) → TakesToken text t rest → Tokens text (t ∷ []) rest
 takes_one text t rest k = takes_cons text t rest [] rest k (no_more rest)
 
 -- these, and then a token
-pub tokens_snoc : (text : List ℕ) (ts : List Token) (mid : List ℕ) (t : Token) (rest : List ℕ) → Tokens text ts mid → Takes mid t rest → Tokens text (ts ++ t ∷ []) rest
+pub tokens_snoc : (text : List ℕ) (ts : List Token) (mid : List ℕ) (t : Token) (rest : List ℕ) → Tokens text ts mid → TakesToken mid t rest → Tokens text (ts ++ t ∷ []) rest
 tokens_snoc text ts mid t rest d k = tokens_append text ts mid (t ∷ []) rest d (takes_one mid t rest k)
 
 -- ---- gaps and lengths
 
-pub takes_past : (text : List ℕ) (t : Token) (rest : List ℕ) → Takes text t rest → is_past_gap rest ≡ true
+pub takes_past : (text : List ℕ) (t : Token) (rest : List ℕ) → TakesToken text t rest → is_past_gap rest ≡ true
 takes_past text t rest k = subst (λ x. is_past_gap x ≡ true) (sym k.is) (past_is_past false k.left)
 
-pub takes_shorter : (text : List ℕ) (t : Token) (rest : List ℕ) → Takes text t rest → length rest < length text
+pub takes_shorter : (text : List ℕ) (t : Token) (rest : List ℕ) → TakesToken text t rest → length rest < length text
 takes_shorter text t rest k =
     let a : length k.left < length text = begins_shorter text t k.left k.begins in
     let b : length (past_gap false k.left) ≤ length k.left = gap_shorter false k.left in

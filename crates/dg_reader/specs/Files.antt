@@ -18,7 +18,7 @@ pub record BeginsAt (text : List ℕ) (decls : List Decl) (count place : ℕ) : 
   pub begins : IsTrue (is_past_gap (drop place text))
 
 -- These declarations, which begin at these places, stand before the rest.
-pub record AreRead (decls : List Decl) (starts : List ℕ) (text rest : List ℕ) : Type 0 where
+pub record ReadsDecls (decls : List Decl) (starts : List ℕ) (text rest : List ℕ) : Type 0 where
   pub spelled : HasSpelling decls
   pub tokens : Tokens text (graph_tokens decls) rest
   pub past : IsTrue (is_past_gap rest)
@@ -28,7 +28,7 @@ pub record AreRead (decls : List Decl) (starts : List ℕ) (text rest : List ℕ
 -- The text is not too long and one of the graph, and these are the places where its declarations begin.
 pub record IsFile (text : List ℕ) (file : GraphFile) : Type 0 where
   pub short : length text ≤ graph_limit
-  pub read : AreRead file.graph file.starts text []
+  pub read : ReadsDecls file.graph file.starts text []
   pub spelled : GraphText text file.graph
 
 -- The text is not too long and one of these declarations, which are checked.

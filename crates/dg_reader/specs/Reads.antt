@@ -13,7 +13,7 @@ use Rattle.meaning_texts.specs.Limits.{graph_limit}
 use Rattle.meaning_graph_text.specs.Tokens.{word, semicolon, comma, Tokens, is_past_gap}
 use Rattle.meaning_graph_text.specs.Grammar.{id_tokens, optional_tokens, part_tokens, kind_tokens, string_tokens, extra_tokens, closure_tokens, decl_tokens, IsSpellablePart, IsSpellableKind, IsSpellableExtra, IsSpellableTool, IsSpellableDecl, HasNoSupers, IsInGrammar}
 use Rattle.meaning_graph_text.specs.Going.{Class, keyword, any_word, identifier, open_mark, any_string, Stage, kind, supers, parts, ending, strings, extras, expect, start, step_at}
-use Rattle.dg_reader.specs.Walks.{Takes, IsNotAt, HasNone, Leads, Halts}
+use Rattle.dg_reader.specs.Walks.{TakesToken, IsNotAt, HasNone, CarriesStops, TokensHalt}
 use Rattle.dg_reader.specs.declared.cursor.Stop.{Stop}
 
 -- ---- lists
@@ -23,27 +23,27 @@ pub record ReadsIds (ids : List (List ℕ)) (text rest : List ℕ) : Type 0 wher
   pub some : 0 < length ids
   pub each : All IsId ids
   pub tokens : Tokens text (id_tokens ids) rest
-  pub leads : (stage : Stage) → step_at stage comma ≡ Some (expect (identifier ∷ []) stage) → Leads (expect (identifier ∷ []) stage) text (expect [] stage) rest
+  pub leads : (stage : Stage) → step_at stage comma ≡ Some (expect (identifier ∷ []) stage) → CarriesStops (expect (identifier ∷ []) stage) text (expect [] stage) rest
 
 -- `ID ID { "," ID ID }`
 pub record ReadsParts (ps : List PartDecl) (text rest : List ℕ) : Type 0 where
   pub some : 0 < length ps
   pub each : All IsSpellablePart ps
   pub tokens : Tokens text (part_tokens ps) rest
-  pub leads : Leads (expect (identifier ∷ identifier ∷ []) parts) text (expect [] parts) rest
+  pub leads : CarriesStops (expect (identifier ∷ identifier ∷ []) parts) text (expect [] parts) rest
 
 -- `STRING { STRING }`
 pub record ReadsStrings (words : List (List ℕ)) (text rest : List ℕ) : Type 0 where
   pub some : 0 < length words
   pub each : All IsStringText words
   pub tokens : Tokens text (string_tokens words) rest
-  pub leads : Leads (expect (any_string ∷ []) strings) text (expect [] strings) rest
+  pub leads : CarriesStops (expect (any_string ∷ []) strings) text (expect [] strings) rest
 
 -- `{ "also" ID | "with" STRING }`
 pub record ReadsExtras (es : List Extra) (text rest : List ℕ) : Type 0 where
   pub each : All IsSpellableExtra es
   pub tokens : Tokens text (extra_tokens es) rest
-  pub leads : Leads (expect [] extras) text (expect [] extras) rest
+  pub leads : CarriesStops (expect [] extras) text (expect [] extras) rest
 
 -- No further extra comes next.
 pub record HasNoExtra (text : List ℕ) : Type 0 where
@@ -61,19 +61,19 @@ MayReadExtra (Some extra) text rest = ReadsExtras (extra ∷ []) text rest × (l
 pub record ReadsSupers (ids : List (List ℕ)) (text rest : List ℕ) : Type 0 where
   pub each : All IsId ids
   pub tokens : Tokens text (optional_tokens (codes "is") ids) rest
-  pub leads : Leads (expect [] supers) text (expect [] ending) rest
+  pub leads : CarriesStops (expect [] supers) text (expect [] ending) rest
 
 -- `[ "uses" ID { "," ID } ]`, behind the last string
 pub record ReadsUses (ids : List (List ℕ)) (text rest : List ℕ) : Type 0 where
   pub each : All IsId ids
   pub tokens : Tokens text (optional_tokens (codes "uses") ids) rest
-  pub leads : HasNone any_string text → Leads (expect [] strings) text (expect [] extras) rest
+  pub leads : HasNone any_string text → CarriesStops (expect [] strings) text (expect [] extras) rest
 
 -- `[ "closure" ID ]`, behind the last extra
 pub record ReadsClosure (id : Option (List ℕ)) (text rest : List ℕ) : Type 0 where
   pub each : IfSome id IsId
   pub tokens : Tokens text (closure_tokens id) rest
-  pub leads : HasNoExtra text → Leads (expect [] extras) text (expect [] ending) rest
+  pub leads : HasNoExtra text → CarriesStops (expect [] extras) text (expect [] ending) rest
 
 -- ---- declarations
 
@@ -85,34 +85,34 @@ pub record ReadsWay (from to text rest : List ℕ) : Type 0 where
   pub from_id : IsId from
   pub to_id : IsId to
   pub tokens : Tokens text (word (codes "from") ∷ word from ∷ word (codes "to") ∷ word to ∷ []) rest
-  pub leads : (more : List Class) (stage : Stage) → Leads (expect (way_classes more) stage) text (expect more stage) rest
+  pub leads : (more : List Class) (stage : Stage) → CarriesStops (expect (way_classes more) stage) text (expect more stage) rest
 
 pub record ReadsKind (k : Kind) (ids : List (List ℕ)) (text rest : List ℕ) : Type 0 where
   pub spelled : IsSpellableKind k
   pub each : All IsId ids
   pub grammar : HasNoSupers k ids
   pub tokens : Tokens text (kind_tokens k ids) rest
-  pub leads : Leads (expect [] kind) text (expect [] ending) rest
+  pub leads : CarriesStops (expect [] kind) text (expect [] ending) rest
 
 -- what stands behind `"run"`
 pub record ReadsTool (tool : ToolDecl) (text rest : List ℕ) : Type 0 where
   pub spelled : IsWord tool.version → length text ≤ graph_limit → IsSpellableTool tool
   pub tokens : Tokens text (string_tokens tool.words ++ (optional_tokens (codes "uses") tool.uses ++ (extra_tokens tool.extras ++ closure_tokens tool.closure))) rest
-  pub leads : Leads (expect (any_string ∷ []) strings) text (expect [] ending) rest
+  pub leads : CarriesStops (expect (any_string ∷ []) strings) text (expect [] ending) rest
 
 -- the declaration up to its `;`
 pub record ReadsHead (d : Decl) (text rest : List ℕ) : Type 0 where
   pub spelled : length text ≤ graph_limit → IsSpellableDecl d
   pub grammar : IsInGrammar d
   pub tokens : Tokens text (decl_tokens d) rest
-  pub leads : Leads start text (expect [] ending) rest
+  pub leads : CarriesStops start text (expect [] ending) rest
 
 -- the same, where the keyword stands before the text
 abbrev pub HeadBehind : List ℕ → Decl → List ℕ → List ℕ → Type 0
-HeadBehind first d text rest = (whole : List ℕ) → Takes whole (word first) text → ReadsHead d whole rest
+HeadBehind first d text rest = (whole : List ℕ) → TakesToken whole (word first) text → ReadsHead d whole rest
 
 abbrev pub KindBehind : List ℕ → Kind → List (List ℕ) → List ℕ → List ℕ → Type 0
-KindBehind first k ids text rest = (whole : List ℕ) → Takes whole (word first) text → ReadsKind k ids whole rest
+KindBehind first k ids text rest = (whole : List ℕ) → TakesToken whole (word first) text → ReadsKind k ids whole rest
 
 -- the keyword of what only has a way
 abbrev pub plain_keyword : Make → Option (List ℕ)
@@ -162,8 +162,8 @@ opened_part = open_mark ∷ a_part
 
 -- among identifiers, wherever these stand
 abbrev pub HaltsInIds : List ℕ → List ℕ → Stop → Type 0
-HaltsInIds text place stop = (stage : Stage) → step_at stage comma ≡ Some (expect (identifier ∷ []) stage) → Halts stop (expect (identifier ∷ []) stage) text place
+HaltsInIds text place stop = (stage : Stage) → step_at stage comma ≡ Some (expect (identifier ∷ []) stage) → TokensHalt stop (expect (identifier ∷ []) stage) text place
 
 -- on the way of a maker, whatever is behind it
 abbrev pub HaltsInWay : List ℕ → List ℕ → Stop → Type 0
-HaltsInWay text place stop = (more : List Class) (stage : Stage) → Halts stop (expect (way_classes more) stage) text place
+HaltsInWay text place stop = (more : List Class) (stage : Stage) → TokensHalt stop (expect (way_classes more) stage) text place

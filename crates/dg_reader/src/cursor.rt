@@ -2,8 +2,8 @@
 ghost use Rattle.std.specs.Prelude.{◌≡◌, ◌↔◌, [], List, length, true, false, IsTrue, IfOk, IfErr, IfSome, IfNone};
 ghost use Rattle.meaning_graph_text.specs.Lexing.{past_gap};
 ghost use Rattle.meaning_graph_text.specs.Going.{accepts};
-ghost use Rattle.dg_tokens.specs.Seen.{seen};
-ghost use Rattle.dg_reader.specs.Walks.{Takes, Skips, MayFind, Finds, class_of, HaltsBefore, IsOf};
+ghost use Rattle.dg_tokens.specs.Seen.{token_view};
+ghost use Rattle.dg_reader.specs.Walks.{TakesToken, SkipsToken, MayFind, Finds, class_of, TokensHaltBefore, IsTokenOf};
 
 use dg_tokens::{Token, past_gap, token_at};
 use object_values::{Bytes, Memory};
@@ -56,8 +56,8 @@ impl<'t> Model for Cursor<'t> {
 impl Wanted {
     // The bytes of a token of this class.
     fn bytes_in<'t>(self, token: Token<'t>) -> Option<&'t [u8]>
-        ensures some { IfSome result (λ bytes. IsOf self bytes.now (seen token.entry)) }
-        ensures none { IfNone result (accepts (class_of self) (seen token.entry) ≡ false) }
+        ensures some { IfSome result (λ bytes. IsTokenOf self bytes.now (token_view token.entry)) }
+        ensures none { IfNone result (accepts (class_of self) (token_view token.entry) ≡ false) }
     {
         match self {
             Wanted::Id => token.word().filter(|bytes| is_id(bytes)),
@@ -98,7 +98,7 @@ impl<'t> Cursor<'t> {
 
     /// Takes this token, where it comes next.
     pub(crate) fn skip(&mut self, token: Token<'_>) -> bool
-        ensures { Skips result (seen token.entry) self.old self.new }
+        ensures { SkipsToken result (token_view token.entry) self.old self.new }
     {
         let Some((next, behind)) = token_at(self.rest) else {
             return false;
@@ -112,8 +112,9 @@ impl<'t> Cursor<'t> {
 
     /// Takes this token, which has to come next.
     pub(crate) fn require(&mut self, token: Token<'_>) -> Result<(), Stop>
-        ensures ok { IfOk result (λ _. Takes self.old (seen token.entry) self.new) }
-        ensures err { IfErr result (λ _. Skips false (seen token.entry) self.old self.new) }
+        ensures ok { IfOk result (λ _. TakesToken self.old (token_view token.entry) self.new) }
+        ensures err { IfErr result
+            (λ _. SkipsToken false (token_view token.entry) self.old self.new) }
     {
         if self.skip(token) {
             Ok(())
@@ -140,7 +141,7 @@ impl<'t> Cursor<'t> {
     /// The bytes of the next token, which has to be of this class, and is taken.
     pub(crate) fn take(&mut self, wanted: Wanted) -> Result<Bytes, Stop>
         ensures ok { IfOk result (λ bytes. Finds wanted bytes self.old self.new) }
-        ensures err { IfErr result (HaltsBefore (class_of wanted) self.old self.new) }
+        ensures err { IfErr result (TokensHaltBefore (class_of wanted) self.old self.new) }
     {
         match self.take_if(wanted)? {
             Some(bytes) => Ok(bytes),

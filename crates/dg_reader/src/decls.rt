@@ -2,7 +2,7 @@
 ghost use Rattle.std.specs.Prelude.{◌≢◌, [], codes, IfOk, IfErr};
 ghost use Rattle.meaning_graph_text.specs.Going.{ending, start, expect};
 ghost use Rattle.meaning_graph_text.specs.Going.{kind as kind_stage};
-ghost use Rattle.dg_reader.specs.Walks.{HaltsAt};
+ghost use Rattle.dg_reader.specs.Walks.{TokensHaltAt};
 ghost use Rattle.dg_reader.specs.Reads.{HeadBehind, ReadsHead, ReadsDecl, an_id, word_and_id};
 
 use crate::cursor::{Cursor, Stop, Wanted};
@@ -14,7 +14,7 @@ impl<'t> Cursor<'t> {
     pub(crate) fn decl(&mut self) -> Result<Decl, Stop>
         requires { self.old ≢ [] }
         ensures ok { IfOk result (λ decl. ReadsDecl decl self.old self.new) }
-        ensures err { IfErr result (HaltsAt start self.old self.new) }
+        ensures err { IfErr result (TokensHaltAt start self.old self.new) }
     {
         let decl = self.head()?;
         self.require(Token::Semicolon)?;
@@ -25,7 +25,7 @@ impl<'t> Cursor<'t> {
     fn head(&mut self) -> Result<Decl, Stop>
         requires { self.old ≢ [] }
         ensures ok { IfOk result (λ decl. ReadsHead decl self.old self.new) }
-        ensures err { IfErr result (HaltsAt start self.old self.new) }
+        ensures err { IfErr result (TokensHaltAt start self.old self.new) }
     {
         if self.skip(Token::Word(b"type")) {
             return self.type_decl();
@@ -54,7 +54,7 @@ impl<'t> Cursor<'t> {
     // `ID kind`
     fn type_decl(&mut self) -> Result<Decl, Stop>
         ensures ok { IfOk result (λ decl. HeadBehind (codes "type") decl self.old self.new) }
-        ensures err { IfErr result (HaltsAt (expect an_id kind_stage) self.old self.new) }
+        ensures err { IfErr result (TokensHaltAt (expect an_id kind_stage) self.old self.new) }
     {
         let name = self.take(Wanted::Id)?;
         let (kind, supers) = self.kind()?;
@@ -64,7 +64,7 @@ impl<'t> Cursor<'t> {
     // `WORD ID`
     fn suffix(&mut self) -> Result<Decl, Stop>
         ensures ok { IfOk result (λ decl. HeadBehind (codes "suffix") decl self.old self.new) }
-        ensures err { IfErr result (HaltsAt (expect word_and_id ending) self.old self.new) }
+        ensures err { IfErr result (TokensHaltAt (expect word_and_id ending) self.old self.new) }
     {
         let suffix = self.take(Wanted::Word)?;
         let of = self.take(Wanted::Id)?;
@@ -74,7 +74,7 @@ impl<'t> Cursor<'t> {
     // `ID`
     fn param(&mut self) -> Result<Decl, Stop>
         ensures ok { IfOk result (λ decl. HeadBehind (codes "param") decl self.old self.new) }
-        ensures err { IfErr result (HaltsAt (expect an_id ending) self.old self.new) }
+        ensures err { IfErr result (TokensHaltAt (expect an_id ending) self.old self.new) }
     {
         let id = self.take(Wanted::Id)?;
         Ok(Decl::Param(id))

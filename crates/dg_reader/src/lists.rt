@@ -2,7 +2,7 @@
 ghost use Rattle.std.specs.Prelude.{◌∷◌, [], Some, IfOk, IfErr};
 ghost use Rattle.meaning_graph_text.specs.Tokens.{comma};
 ghost use Rattle.meaning_graph_text.specs.Going.{any_string, parts, supers, strings, extras, expect};
-ghost use Rattle.dg_reader.specs.Walks.{IsNotAt, HasNone, HaltsAt};
+ghost use Rattle.dg_reader.specs.Walks.{IsNotAt, HasNone, TokensHaltAt};
 ghost use Rattle.dg_reader.specs.Reads.{ReadsIds, ReadsParts, ReadsStrings, ReadsExtras, MayReadExtra, HasNoExtra, ReadsSupers, ReadsUses, ReadsClosure, HaltsInIds, a_part};
 
 use crate::cursor::{Cursor, Stop, Wanted};
@@ -30,7 +30,7 @@ impl<'t> Cursor<'t> {
     pub(crate) fn parts(&mut self) -> Result<Seq<PartDecl>, Stop>
         ensures ok { IfOk result (λ ps. ReadsParts ps self.old self.new) }
         ensures end { IfOk result (λ _. IsNotAt comma self.new) }
-        ensures err { IfErr result (HaltsAt (expect a_part parts) self.old self.new) }
+        ensures err { IfErr result (TokensHaltAt (expect a_part parts) self.old self.new) }
     {
         let mut parts = Seq::new(self.alloc());
         let first = self.part()?;
@@ -44,7 +44,7 @@ impl<'t> Cursor<'t> {
 
     fn part(&mut self) -> Result<PartDecl, Stop>
         ensures ok { IfOk result (λ part. ReadsParts (part ∷ []) self.old self.new) }
-        ensures err { IfErr result (HaltsAt (expect a_part parts) self.old self.new) }
+        ensures err { IfErr result (TokensHaltAt (expect a_part parts) self.old self.new) }
     {
         let name = self.take(Wanted::Id)?;
         let of = self.take(Wanted::Id)?;
@@ -55,7 +55,8 @@ impl<'t> Cursor<'t> {
     pub(crate) fn strings(&mut self) -> Result<Seq<Bytes>, Stop>
         ensures ok { IfOk result (λ words. ReadsStrings words self.old self.new) }
         ensures end { IfOk result (λ _. HasNone any_string self.new) }
-        ensures err { IfErr result (HaltsAt (expect (any_string ∷ []) strings) self.old self.new) }
+        ensures err { IfErr result
+            (TokensHaltAt (expect (any_string ∷ []) strings) self.old self.new) }
     {
         let mut strings = Seq::new(self.alloc());
         let first = self.take(Wanted::String)?;
@@ -70,7 +71,7 @@ impl<'t> Cursor<'t> {
     pub(crate) fn extras(&mut self) -> Result<Seq<Extra>, Stop>
         ensures ok { IfOk result (λ es. ReadsExtras es self.old self.new) }
         ensures end { IfOk result (λ _. HasNoExtra self.new) }
-        ensures err { IfErr result (HaltsAt (expect [] extras) self.old self.new) }
+        ensures err { IfErr result (TokensHaltAt (expect [] extras) self.old self.new) }
     {
         let mut extras = Seq::new(self.alloc());
         'extras: while let Some(extra) = self.extra()? {
@@ -82,7 +83,7 @@ impl<'t> Cursor<'t> {
     // The next extra, where one comes next.
     fn extra(&mut self) -> Result<Option<Extra>, Stop>
         ensures ok { IfOk result (λ found. MayReadExtra found self.old self.new) }
-        ensures err { IfErr result (HaltsAt (expect [] extras) self.old self.new) }
+        ensures err { IfErr result (TokensHaltAt (expect [] extras) self.old self.new) }
     {
         if self.skip(Token::Word(b"also")) {
             return Ok(Some(Extra::Also(self.take(Wanted::Id)?)));
@@ -96,7 +97,7 @@ impl<'t> Cursor<'t> {
     /// `[ "is" ID { "," ID } ]`
     pub(crate) fn supers(&mut self) -> Result<Seq<Bytes>, Stop>
         ensures ok { IfOk result (λ ids. ReadsSupers ids self.old self.new) }
-        ensures err { IfErr result (HaltsAt (expect [] supers) self.old self.new) }
+        ensures err { IfErr result (TokensHaltAt (expect [] supers) self.old self.new) }
     {
         if self.skip(Token::Word(b"is")) {
             self.ids()
@@ -108,7 +109,7 @@ impl<'t> Cursor<'t> {
     /// `[ "uses" ID { "," ID } ]`
     pub(crate) fn uses(&mut self) -> Result<Seq<Bytes>, Stop>
         ensures ok { IfOk result (λ ids. ReadsUses ids self.old self.new) }
-        ensures err { IfErr result (HaltsAt (expect [] strings) self.old self.new) }
+        ensures err { IfErr result (TokensHaltAt (expect [] strings) self.old self.new) }
     {
         if self.skip(Token::Word(b"uses")) {
             self.ids()
@@ -120,7 +121,7 @@ impl<'t> Cursor<'t> {
     /// `[ "closure" ID ]`
     pub(crate) fn closure(&mut self) -> Result<Option<Bytes>, Stop>
         ensures ok { IfOk result (λ id. ReadsClosure id self.old self.new) }
-        ensures err { IfErr result (HaltsAt (expect [] extras) self.old self.new) }
+        ensures err { IfErr result (TokensHaltAt (expect [] extras) self.old self.new) }
     {
         if self.skip(Token::Word(b"closure")) {
             Ok(Some(self.take(Wanted::Id)?))

@@ -2,7 +2,7 @@
 ghost use Rattle.std.specs.Prelude.{◌≡◌, ◌∷◌, [], codes, IfOk, IfErr};
 ghost use Rattle.meaning_graph_text.specs.Going.{any_string, ending, strings, tool_front, expect};
 ghost use Rattle.meaning_graph_text.specs.Going.{way as way_front};
-ghost use Rattle.dg_reader.specs.Walks.{HaltsAt};
+ghost use Rattle.dg_reader.specs.Walks.{TokensHaltAt};
 ghost use Rattle.dg_reader.specs.Reads.{ReadsWay, ReadsTool, HeadBehind, HaltsInWay, PlainBehind};
 
 use crate::cursor::{Cursor, Stop, Wanted};
@@ -13,7 +13,7 @@ impl<'t> Cursor<'t> {
     /// What stands behind `"tool"`.
     pub(crate) fn tool(&mut self) -> Result<Decl, Stop>
         ensures ok { IfOk result (λ decl. HeadBehind (codes "tool") decl self.old self.new) }
-        ensures err { IfErr result (HaltsAt (expect tool_front strings) self.old self.new) }
+        ensures err { IfErr result (TokensHaltAt (expect tool_front strings) self.old self.new) }
     {
         let name = self.take(Wanted::Id)?;
         let version = self.take(Wanted::Word)?;
@@ -32,7 +32,8 @@ impl<'t> Cursor<'t> {
     fn options(&mut self, version: Bytes) -> Result<ToolDecl, Stop>
         ensures version { IfOk result (λ tool. tool.version ≡ version) }
         ensures ok { IfOk result (λ tool. ReadsTool tool self.old self.new) }
-        ensures err { IfErr result (HaltsAt (expect (any_string ∷ []) strings) self.old self.new) }
+        ensures err { IfErr result
+            (TokensHaltAt (expect (any_string ∷ []) strings) self.old self.new) }
     {
         let words = self.strings()?;
         let uses = self.uses()?;
@@ -50,7 +51,7 @@ impl<'t> Cursor<'t> {
     /// What stands behind `"read"`, `"each"` or `"pack"`.
     pub(crate) fn plain(&mut self, make: Make) -> Result<Decl, Stop>
         ensures ok { IfOk result (λ decl. PlainBehind make decl self.old self.new) }
-        ensures err { IfErr result (HaltsAt (expect way_front ending) self.old self.new) }
+        ensures err { IfErr result (TokensHaltAt (expect way_front ending) self.old self.new) }
     {
         let name = self.take(Wanted::Id)?;
         let (from, to) = self.way()?;

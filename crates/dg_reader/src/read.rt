@@ -2,7 +2,7 @@
 ghost use Rattle.std.specs.Prelude.{◌≡◌, ◌≤◌, ◌<◌, ◌-◌, [], length, take, IfOk, IfErr};
 ghost use Rattle.meaning_texts.specs.Limits.{graph_limit};
 ghost use Rattle.meaning_graph_text.specs.Places.{line_behind, column_behind, BeginsOnLine};
-ghost use Rattle.dg_reader.specs.Files.{AreRead, IsFile, IsRead, Refuses, syntax_at};
+ghost use Rattle.dg_reader.specs.Files.{ReadsDecls, IsFile, IsRead, Refuses, syntax_at};
 
 use crate::cursor::{Cursor, Stop};
 use crate::fault::ReadFault;
@@ -87,7 +87,7 @@ struct Declared {
 // The declarations of a text that isn't too long.
 fn read_decls(alloc: Global, text: &[u8]) -> Result<Declared, ReadFault>
     requires { length text.now ≤ graph_limit }
-    ensures ok { IfOk result (λ read. AreRead read.decls read.starts text.now []) }
+    ensures ok { IfOk result (λ read. ReadsDecls read.decls read.starts text.now []) }
     ensures err { IfErr result (Refuses text.now) }
 {
     let mut cursor = Cursor::new(alloc, text);

@@ -3,7 +3,7 @@ ghost use Rattle.std.specs.Prelude.{◌≡◌, ◌++◌, ◌∷◌, [], OnOk};
 ghost use Rattle.meaning_graph_text.specs.Tokens.{word, string};
 ghost use Rattle.meaning_graph_text.specs.Grammar.{id_tokens, optional_tokens, part_tokens, string_tokens, extra_tokens};
 ghost use Rattle.meaning_graph_text.specs.Spelling.{token_spelling, follows_close};
-ghost use Rattle.dg_tokens.specs.Seen.{seen};
+ghost use Rattle.dg_tokens.specs.Seen.{token_view};
 ghost use Rattle.dg_reader.specs.Written.{Writes};
 
 use dg_tokens::Token;
@@ -19,7 +19,7 @@ pub(crate) struct Writer {
 
 impl Writer {
     pub(crate) fn token(&mut self, token: Token<'_>) -> Result<(), Memory>
-        ensures { OnOk result (Writes (seen token.entry ∷ []) self.old self.new) }
+        ensures { OnOk result (Writes (token_view token.entry ∷ []) self.old self.new) }
     {
         if !self.glued && !follows(token) {
             self.out.push(b' ')?;
@@ -119,7 +119,7 @@ impl Writer {
 
 // `;`, `,` and `)` follow without a space.
 fn follows(token: Token<'_>) -> bool
-    ensures { result ≡ follows_close (seen token.entry) }
+    ensures { result ≡ follows_close (token_view token.entry) }
 {
     match token {
         Token::Semicolon | Token::Comma | Token::Closing => true,
@@ -128,7 +128,7 @@ fn follows(token: Token<'_>) -> bool
 }
 
 fn put_token(token: Token<'_>, out: &mut Bytes) -> Result<(), Memory>
-    ensures { OnOk result (out.new ≡ out.old ++ token_spelling (seen token.entry)) }
+    ensures { OnOk result (out.new ≡ out.old ++ token_spelling (token_view token.entry)) }
 {
     match token {
         Token::Word(bytes) => out.extend_from_slice(bytes),

@@ -6,13 +6,13 @@ use Rattle.meaning_graph_text.specs.Lexing.{Taken, taken, token_at, name_front, 
 use Rattle.dg_tokens.specs.declared.lexer.Token.{Token as Borrowed}
 use Rattle.dg_tokens.specs.declared.lexer.Token.TheVariants.{Word, String, Semicolon, Comma, Opening, Closing}
 
-abbrev pub seen : Borrowed → Token
-seen (Word bytes) = word bytes.now
-seen (String bytes) = string bytes.now
-seen Semicolon = semicolon
-seen Comma = comma
-seen Opening = opening
-seen Closing = closing
+abbrev pub token_view : Borrowed → Token
+token_view (Word bytes) = word bytes.now
+token_view (String bytes) = string bytes.now
+token_view Semicolon = semicolon
+token_view Comma = comma
+token_view Opening = opening
+token_view Closing = closing
 
 -- the bytes of a word, and of a string
 abbrev pub word_in : Token → Option (List ℕ)
@@ -24,8 +24,8 @@ string_in (string s) = Some s
 string_in other = None
 
 -- the longest word with which a text begins, and what follows it
-abbrev pub word_of : List ℕ → Option Taken
-word_of text = if is_name (name_front text) then Some (taken (word (name_front text)) (past_names text)) else None
+abbrev pub word_at_front : List ℕ → Option Taken
+word_at_front text = if is_name (name_front text) then Some (taken (word (name_front text)) (past_names text)) else None
 
 -- the string whose first quote stands before the text
 abbrev pub string_of : List ℕ → Option Taken

@@ -2,7 +2,7 @@
 ghost use Rattle.std.specs.Prelude.{◌≡◌, ◌↔◌, ◌≤◌, length, take, drop, not, position, false, true, IsTrue, option_map};
 ghost use Rattle.meaning_texts.specs.Classes.{is_name_byte};
 ghost use Rattle.meaning_graph_text.specs.Lexing.{token_at, past_gap, name_front, past_names, taken};
-ghost use Rattle.dg_tokens.specs.Seen.{seen, word_in, string_in, word_of, string_of};
+ghost use Rattle.dg_tokens.specs.Seen.{token_view, word_in, string_in, word_at_front, string_of};
 
 use memchr::memchr;
 use odin_bytes::{is_name, is_name_byte, is_string_text};
@@ -22,7 +22,7 @@ pub enum Token<'t> {
 impl<'t> Token<'t> {
     /// The bytes of a word.
     pub fn word(self) -> Option<&'t [u8]>
-        ensures { option_map (λ bytes. bytes.now) result ≡ word_in (seen self.entry) }
+        ensures { option_map (λ bytes. bytes.now) result ≡ word_in (token_view self.entry) }
     {
         match self {
             Token::Word(bytes) => Some(bytes),
@@ -33,7 +33,7 @@ impl<'t> Token<'t> {
 
     /// The bytes of a string, without its quotes.
     pub fn string(self) -> Option<&'t [u8]>
-        ensures { option_map (λ bytes. bytes.now) result ≡ string_in (seen self.entry) }
+        ensures { option_map (λ bytes. bytes.now) result ≡ string_in (token_view self.entry) }
     {
         match self {
             Token::String(bytes) => Some(bytes),
@@ -44,7 +44,7 @@ impl<'t> Token<'t> {
 
     /// Whether both are the same token.
     pub fn is(self, other: Token<'_>) -> bool
-        ensures { IsTrue result ↔ (seen self.entry ≡ seen other.entry) }
+        ensures { IsTrue result ↔ (token_view self.entry ≡ token_view other.entry) }
     {
         match (self, other) {
             (Token::Word(bytes), Token::Word(others)) => bytes == others,
@@ -60,7 +60,7 @@ impl<'t> Token<'t> {
 
 /// The token with which the text begins, and what stands behind it. `None` is also given at the end of a text.
 pub fn token_at(text: &[u8]) -> Option<(Token<'_>, &[u8])>
-    ensures { option_map (λ read. taken (seen read.0) read.1.now) result ≡ token_at text.now }
+    ensures { option_map (λ read. taken (token_view read.0) read.1.now) result ≡ token_at text.now }
 {
     let (first, rest) = text.split_first()?;
     match *first {
@@ -90,7 +90,8 @@ pub fn past_gap(text: &[u8]) -> &[u8]
 
 // The string whose first quote stands before the text.
 fn string_at(text: &[u8]) -> Option<(Token<'_>, &[u8])>
-    ensures { option_map (λ read. taken (seen read.0) read.1.now) result ≡ string_of text.now }
+    ensures { option_map (λ read. taken (token_view read.0) read.1.now) result
+        ≡ string_of text.now }
 {
     let end = memchr(b'"', text)?;
     let inner = &text[..end];
@@ -102,7 +103,8 @@ fn string_at(text: &[u8]) -> Option<(Token<'_>, &[u8])>
 
 // The longest word.
 fn word_at(text: &[u8]) -> Option<(Token<'_>, &[u8])>
-    ensures { option_map (λ read. taken (seen read.0) read.1.now) result ≡ word_of text.now }
+    ensures { option_map (λ read. taken (token_view read.0) read.1.now) result ≡
+        word_at_front text.now }
 {
     let (word, rest) = text.split_at(name_length(text));
     if !is_name(word) {

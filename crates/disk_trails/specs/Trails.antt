@@ -9,31 +9,31 @@ pub record Keeping (Kept Change Store : Type 0) : Type 1 where
   pub Rests : Telling → Store → Kept → Type 0
 
 module _ {Kept Change Store : Type 0} (m : Keeping Kept Change Store) where
-  abbrev pub after : List Change → Kept → Kept
-  after [] kept = kept
-  after (change ∷ changes) kept = after changes (m.apply change kept)
+  abbrev pub after_changes : List Change → Kept → Kept
+  after_changes [] kept = kept
+  after_changes (change ∷ changes) kept = after_changes changes (m.apply change kept)
 
   -- the image stands for what is kept after the first k of these changes, and k is at least so many
   pub record IsPrefix (first : Kept) (least : ℕ) (changes : List Change) (image : List ℕ) : Type 0 where
     pub k : ℕ
     pub at_least : least ≤ k
     pub at_most : k ≤ length changes
-    pub stands : m.StandsFor (after (take k changes) first) image
+    pub stands : m.StandsFor (after_changes (take k changes) first) image
 
   -- Between two calls: the store rests on what is kept after these changes, and a crash since the start leaves some first ones.
   pub record Trail (first : Kept) (start : Telling) (changes : List Change) (store : Store) (now : Telling) : Type 0 where
-    pub rests : m.Rests now store (after changes first)
+    pub rests : m.Rests now store (after_changes changes first)
     pub crash : LeavesOnly start now (IsPrefix first 0 changes)
 
   -- Where it stops: a crash since the start leaves some first changes, and one that comes now all that were acknowledged.
-  pub record Leaves (first : Kept) (start : Telling) (acknowledged furthest : List Change) (now : Telling) : Type 0 where
+  pub record LeavesPrefix (first : Kept) (start : Telling) (acknowledged furthest : List Change) (now : Telling) : Type 0 where
     pub crash : LeavesOnly start now (IsPrefix first 0 furthest)
     pub durable : (image : List ℕ) → MayLeave now image → IsPrefix first (length acknowledged) furthest image
 
   -- ---- one call
 
   -- The call keeps a change, whatever was kept before.
-  pub record Keeps (change : Change) (old : Telling) (store : Store) (new : Telling) (next : Store) : Type 0 where
+  pub record KeepsChange (change : Change) (old : Telling) (store : Store) (new : Telling) (next : Store) : Type 0 where
     pub rests : (kept : Kept) → m.Rests old store kept → m.Rests new next (m.apply change kept)
     pub crash : (kept : Kept) → m.Rests old store kept → LeavesOnly old new (λ image. m.StandsFor kept image ⊎ m.StandsFor (m.apply change kept) image)
 
@@ -46,11 +46,11 @@ module _ {Kept Change Store : Type 0} (m : Keeping Kept Change Store) where
 
 module _ {Kept Change Store Disk : Type 0} (m : Keeping Kept Change Store) (told : Disk → Telling) where
   -- calls that keep these changes, whatever came before
-  abbrev pub Grows : List Change → Disk → Store → Disk → Store → Type 0
-  Grows changes old store new next =
+  abbrev pub ExtendsTrail : List Change → Disk → Store → Disk → Store → Type 0
+  ExtendsTrail changes old store new next =
       (first : Kept) (start : Disk) (before : List Change) → Trail m first (told start) before store (told old) → Trail m first (told start) (before ++ changes) next (told new)
 
   -- and that stop, with these or some first of them left
   abbrev pub StopsWithin : List Change → Disk → Store → Disk → Type 0
   StopsWithin changes old store new =
-      (first : Kept) (start : Disk) (before : List Change) → Trail m first (told start) before store (told old) → Leaves m first (told start) before (before ++ changes) (told new)
+      (first : Kept) (start : Disk) (before : List Change) → Trail m first (told start) before store (told old) → LeavesPrefix m first (told start) before (before ++ changes) (told new)

@@ -11,8 +11,8 @@ use Rattle.meaning_texts.specs.Lists.{IsIn}
 use Rattle.meaning_texts.proofs.Lemmas.{never_both}
 use Rattle.meaning_graph.specs.Graphs.{Text}
 use Rattle.meaning_tasks.proofs.Lemmas.{in_has}
-use Rattle.dynamic_inputs.specs.Closures.{Telling, IsReached, IsWanted, AllTold, with_name, with_names, wanted_name, with_lines}
-use Rattle.dynamic_inputs.specs.Places.{is_first, telling, ArePlaces, Tells, IsFollowed, IsKept}
+use Rattle.dynamic_inputs.specs.Closures.{ClosureView, IsReached, IsWanted, AllTold, with_name, with_names, wanted_name, with_lines}
+use Rattle.dynamic_inputs.specs.Places.{is_first, closure_view, ArePlaces, TellsLines, IsFollowed, IsEmptyOrFollowed}
 use Rattle.dynamic_inputs.proofs.Found.{begins_one}
 use Rattle.dynamic_inputs.proofs.Reaching.{reached_in_line, apart, root_in, wanted_at, is_wanted, all_told, all_are_reached, others_are_reached, others_apart, tells_next, followed_next}
 
@@ -25,16 +25,16 @@ there_already : (root : Text) (names : List Text) → IsIn root names → with_n
 there_already root names h = ap (λ b. cond b names (names ++ root ∷ [])) (in_has root names h)
 
 -- with the root in front the names are the found ones
-pub rooted : (root : Text) (names : List Text) (told : List (List ℕ)) → IsKept root names told → IsFollowed root (with_name names root) told
+pub rooted : (root : Text) (names : List Text) (told : List (List ℕ)) → IsEmptyOrFollowed root names told → IsFollowed root (with_name names root) told
 rooted root names told (inl e) = subst (λ l. IsFollowed root (with_name names root) l) (sym e.1) (subst (λ ns. IsFollowed root (with_name ns root) []) (sym e.0) (followed_first root))
 rooted root names told (inr f) = subst (λ ns. IsFollowed root ns told) (sym (there_already root names (root_in root names told f))) f
 
-pub same_telling : (root : Text) (names : List Text) (told : List (List ℕ)) → IsKept root names told → telling root (with_name names root) told ≡ telling root names told
-same_telling root names told (inl e) = subst (λ l. telling root (with_name names root) l ≡ telling root names l) (sym e.1) refl
-same_telling root names told (inr f) = ap (λ ns. telling root ns told) (there_already root names (root_in root names told f))
+pub same_telling : (root : Text) (names : List Text) (told : List (List ℕ)) → IsEmptyOrFollowed root names told → closure_view root (with_name names root) told ≡ closure_view root names told
+same_telling root names told (inl e) = subst (λ l. closure_view root (with_name names root) l ≡ closure_view root names l) (sym e.1) refl
+same_telling root names told (inr f) = ap (λ ns. closure_view root ns told) (there_already root names (root_in root names told f))
 
 -- once something is told, it is followed
-followed : (root : Text) (names : List Text) (told : List (List ℕ)) → IsKept root names told → (told ≡ [] → ⊥) → IsFollowed root names told
+followed : (root : Text) (names : List Text) (told : List (List ℕ)) → IsEmptyOrFollowed root names told → (told ≡ [] → ⊥) → IsFollowed root names told
 followed root names told (inl e) some = absurd (some e.1)
 followed root names told (inr f) some = f
 
@@ -52,19 +52,19 @@ looked_up names k (Some b) there is = elim (cases_lt k (length names)) [
 ]
 
 -- the root, where nothing is told
-pub first_wanted : (root : Text) (names : List Text) (told : List (List ℕ)) (c : Telling) → telling root names told ≡ c → told ≡ [] → Some root ≡ wanted_name c
-first_wanted root names told c is none = subst (λ t. Some root ≡ wanted_name t) is (subst (λ l. Some root ≡ wanted_name (telling root names l)) (sym none) refl)
+pub first_wanted : (root : Text) (names : List Text) (told : List (List ℕ)) (c : ClosureView) → closure_view root names told ≡ c → told ≡ [] → Some root ≡ wanted_name c
+first_wanted root names told c is none = subst (λ t. Some root ≡ wanted_name t) is (subst (λ l. Some root ≡ wanted_name (closure_view root names l)) (sym none) refl)
 
-pub root_wanted : (root : Text) (names : List Text) (told : List (List ℕ)) (c : Telling) → telling root names told ≡ c → told ≡ [] → IsWanted c root
+pub root_wanted : (root : Text) (names : List Text) (told : List (List ℕ)) (c : ClosureView) → closure_view root names told ≡ c → told ≡ [] → IsWanted c root
 root_wanted root names told c is none =
-    subst (λ t. IsWanted t root) is (subst (λ l. IsWanted (telling root names l) root) (sym none) (record { found = inl refl; untold = λ h. h }))
+    subst (λ t. IsWanted t root) is (subst (λ l. IsWanted (closure_view root names l) root) (sym none) (record { found = inl refl; untold = λ h. h }))
 
 none_past : (names : List Text) (k : ℕ) → slice_get names k ≡ None → length names ≤ k
 none_past [] k e = omega arith
 none_past (x ∷ names) zero e = cc
 none_past (x ∷ names) (suc k) e = let le = none_past names k e in omega arith
 
-module _ (root : Text) (names : List Text) (told : List (List ℕ)) (c : Telling) (kept : IsKept root names told) (is : telling root names told ≡ c) (some : told ≡ [] → ⊥) where
+module _ (root : Text) (names : List Text) (told : List (List ℕ)) (c : ClosureView) (kept : IsEmptyOrFollowed root names told) (is : closure_view root names told ≡ c) (some : told ≡ [] → ⊥) where
   f : IsFollowed root names told
   f = followed root names told kept some
 
@@ -81,14 +81,14 @@ module _ (root : Text) (names : List Text) (told : List (List ℕ)) (c : Telling
 
 -- ---- the next name is told
 
-wanted_within : (root : Text) (names : List Text) (told : List (List ℕ)) → IsFollowed root names told → IsSome (wanted_name (telling root names told)) → length told < length names
+wanted_within : (root : Text) (names : List Text) (told : List (List ℕ)) → IsFollowed root names told → IsSome (wanted_name (closure_view root names told)) → length told < length names
 wanted_within root names told f some = by_place (slice_get names (length told)) refl (subst IsSome (wanted_at root names told f) some)
   where
     by_place : (o : Option Text) → slice_get names (length told) ≡ o → IsSome o → length told < length names
     by_place None e h = cc
     by_place (Some x) e h = slice_get_within names (length told) x e
 
-module _ (root : Text) (names : List Text) (told : List (List ℕ)) (c : Telling) (lines more : List Text) (after : List (List ℕ)) (kept : IsKept root names told) (is : telling root names told ≡ c) (wanted : IsSome (wanted_name c)) (t : Tells (with_name names root) told lines more after) where
+module _ (root : Text) (names : List Text) (told : List (List ℕ)) (c : ClosureView) (lines more : List Text) (after : List (List ℕ)) (kept : IsEmptyOrFollowed root names told) (is : closure_view root names told ≡ c) (wanted : IsSome (wanted_name c)) (t : TellsLines (with_name names root) told lines more after) where
   abbrev rooted_names : List Text
   rooted_names = with_name names root
 
@@ -101,13 +101,13 @@ module _ (root : Text) (names : List Text) (told : List (List ℕ)) (c : Telling
   at : ArePlaces (with_names rooted_names lines) lines t.places
   at = subst (λ ns. ArePlaces ns lines t.places) t.added t.at
 
-  pub tells_as : telling root more after ≡ with_lines c lines
+  pub tells_as : closure_view root more after ≡ with_lines c lines
   tells_as =
-      (λ i. telling root (t.added i) (t.pushed i))
+      (λ i. closure_view root (t.added i) (t.pushed i))
       ∙ (tells_next root rooted_names told g within lines t.places at
       ∙ ap (λ s. with_lines s lines) (same_telling root names told kept ∙ is))
 
-  pub followed_as : IsKept root more after
+  pub followed_as : IsEmptyOrFollowed root more after
   followed_as =
       let now = followed_next root rooted_names told g within lines t.places at in
       inr (subst (λ ns. IsFollowed root ns after) (sym t.added) (subst (λ l. IsFollowed root (with_names rooted_names lines) l) (sym t.pushed) now))
@@ -125,7 +125,7 @@ front_kept root names rooted now (Err e) is kept = front_stays root names now (s
 
 -- ---- the reached names
 
-module _ (root : Text) (names : List Text) (told : List (List ℕ)) (c : Telling) (kept : IsKept root names told) (is : telling root names told ≡ c) (shown : List Text) (same_names : shown ≡ names) where
+module _ (root : Text) (names : List Text) (told : List (List ℕ)) (c : ClosureView) (kept : IsEmptyOrFollowed root names told) (is : closure_view root names told ≡ c) (shown : List Text) (same_names : shown ≡ names) where
   none_told : names ≡ [] → told ≡ []
   none_told e = (elim kept as (λ k. told ≡ []) [ inl both ↦ both.1 | inr f ↦ absurd (subst (λ ns. IsIn root ns) e (root_in root names told f)) ])
 
@@ -135,8 +135,8 @@ module _ (root : Text) (names : List Text) (told : List (List ℕ)) (c : Telling
       let nothing : told ≡ [] = none_told (sym same_names ∙ none) in (
         λ h. absurd (subst (λ ns. IsIn x ns) none h),
         λ r.
-            let k : IsReached (telling root names []) x = subst (λ l. IsReached (telling root names l) x) nothing (subst (λ t. IsReached t x) (sym is) r) in
-            absurd (reached_in_line (telling root names []) x k),
+            let k : IsReached (closure_view root names []) x = subst (λ l. IsReached (closure_view root names l) x) nothing (subst (λ t. IsReached t x) (sym is) r) in
+            absurd (reached_in_line (closure_view root names []) x k),
       )
 
   module _ (some : shown ≡ [] → ⊥) where

@@ -5,11 +5,11 @@ use Rattle.meaning_texts.proofs.Lemmas.{never_both, in_left, in_right}
 use Rattle.meaning_graph.specs.Graphs.{Text}
 use Rattle.meaning_tasks.specs.Reached.{has_name}
 use Rattle.meaning_tasks.proofs.Lemmas.{has_in, in_has}
-use Rattle.dynamic_inputs.specs.Closures.{ToldLines, Telling, told_names, IsWanted, wanted_name, with_told, with_lines, with_name, with_names}
+use Rattle.dynamic_inputs.specs.Closures.{ToldLines, ClosureView, told_names, IsWanted, wanted_name, with_told, with_lines, with_name, with_names}
 use Rattle.dynamic_inputs.proofs.Found.{by_there}
 
 -- the root stays
-pub root_stays : (c : Telling) (lines : List Text) → (with_lines c lines).root ≡ c.root
+pub root_stays : (c : ClosureView) (lines : List Text) → (with_lines c lines).root ≡ c.root
 root_stays c lines = by (wanted_name c)
   where
     by : (o : Option Text) → (with_told o c lines).root ≡ c.root
@@ -17,13 +17,13 @@ root_stays c lines = by (wanted_name c)
     by (Some x) = refl
 
 -- what is told where a name is wanted
-pub told_to : (c : Telling) (x : Text) (lines : List Text) → wanted_name c ≡ Some x → with_lines c lines ≡ record { root = c.root; told = c.told ++ (x, lines) ∷ [] }
+pub told_to : (c : ClosureView) (x : Text) (lines : List Text) → wanted_name c ≡ Some x → with_lines c lines ≡ record { root = c.root; told = c.told ++ (x, lines) ∷ [] }
 told_to c x lines wanted = ap (λ o. with_told o c lines) wanted
 
 -- ---- of finitely many names fewer and fewer are left
 
 -- those of the names that weren't told
-abbrev pub untold_of : List Text → Telling → List Text
+abbrev pub untold_of : List Text → ClosureView → List Text
 untold_of names c = filter (λ x. not (has_name x (told_names c.told))) names
 
 fewer_at : (p q : Text → Bool) (x : Text) (xs : List Text) (a b : Bool) → p x ≡ a → q x ≡ b → (b ≡ true → a ≡ true) → length (filter q xs) ≤ length (filter p xs) → length (cond b (x ∷ filter q xs) (filter q xs)) ≤ length (cond a (x ∷ filter p xs) (filter p xs))
@@ -70,7 +70,7 @@ told_now x lines [] = inl refl
 told_now x lines (entry ∷ told) = inr (told_now x lines told)
 
 -- a wanted name of them is one less, once it is told
-pub untold_falls : (names : List Text) (c : Telling) (x : Text) (lines : List Text) → wanted_name c ≡ Some x → IsWanted c x → IsIn x names → length (untold_of names (with_lines c lines)) < length (untold_of names c)
+pub untold_falls : (names : List Text) (c : ClosureView) (x : Text) (lines : List Text) → wanted_name c ≡ Some x → IsWanted c x → IsIn x names → length (untold_of names (with_lines c lines)) < length (untold_of names c)
 untold_falls names c x lines wanted w listed = subst (λ d. length (untold_of names d) < length (untold_of names c)) (sym (told_to c x lines wanted))
     (one_fewer (λ y. not (has_name y (told_names c.told))) (λ y. not (has_name y (told_names (c.told ++ (x, lines) ∷ [])))) x names (λ y. untold_before x y lines c.told) listed
     (untold (has_name x (told_names c.told)) (λ e. w.untold (has_in x (told_names c.told) e)))

@@ -7,7 +7,7 @@ use Rattle.meaning_texts.proofs.Lemmas.{in_either}
 use Rattle.meaning_graph.specs.Graphs.{Text}
 use Rattle.meaning_tasks.specs.Reached.{Reached, by_own, by_line, AreReached}
 use Rattle.meaning_tasks.proofs.Lemmas.{reached_moved}
-use Rattle.dynamic_inputs.specs.Closures.{Telling, lines_of, IsFound, AllTold, wanted_name, with_told, with_lines}
+use Rattle.dynamic_inputs.specs.Closures.{ClosureView, lines_of, NameIsFound, AllTold, wanted_name, with_told, with_lines}
 use Rattle.dynamic_inputs.specs.Laws.{with_own, IsToldBy}
 use Rattle.dynamic_inputs.proofs.Told.{lines_by}
 
@@ -46,9 +46,9 @@ root_again root own lines names some = again root own lines some names
 
 -- ---- all is told
 
-pub all_told_is_reached : (c : Telling) (own : List Text) (lines : Text → List Text) (names : List Text) → IsToldBy own lines c → AllTold c → ((x : Text) → IsIn x (lines c.root) → IsIn x own) → AreReached (lines_of c c.root) (lines_of c) names → AreReached own lines names
+pub all_told_is_reached : (c : ClosureView) (own : List Text) (lines : Text → List Text) (names : List Text) → IsToldBy own lines c → AllTold c → ((x : Text) → IsIn x (lines c.root) → IsIn x own) → AreReached (lines_of c c.root) (lines_of c) names → AreReached own lines names
 all_told_is_reached c own lines names by all some a =
-    let told : (x : Text) → IsFound c x → lines_of c x ≡ with_own c.root own lines x = λ x f. lines_by (with_own c.root own lines) x c.told by (all x f) in
+    let told : (x : Text) → NameIsFound c x → lines_of c x ≡ with_own c.root own lines x = λ x f. lines_by (with_own c.root own lines) x c.told by (all x f) in
     let same_own : lines_of c c.root ≡ own = told c.root (inl refl) ∙ own_at c.root own lines in
     (root_again c.root own lines names some).1 (reached_moved (lines_of c c.root) own (lines_of c) (with_own c.root own lines) same_own (λ x r. told x (inr r)) names a)
 
@@ -57,7 +57,7 @@ all_told_is_reached c own lines names by all some a =
 pub told_first : (own : List Text) (lines : Text → List Text) (root : Text) → IsToldBy own lines (record { root = root; told = [] })
 told_first own lines root x told h = absurd h
 
-pub told_next : (own : List Text) (lines : Text → List Text) (c : Telling) (x : Text) → IsToldBy own lines c → wanted_name c ≡ Some x → IsToldBy own lines (with_lines c (with_own c.root own lines x))
+pub told_next : (own : List Text) (lines : Text → List Text) (c : ClosureView) (x : Text) → IsToldBy own lines c → wanted_name c ≡ Some x → IsToldBy own lines (with_lines c (with_own c.root own lines x))
 told_next own lines c x by wanted =
     subst (λ o. IsToldBy own lines (with_told o c (with_own c.root own lines x))) (sym wanted) (λ y told h. elim (in_either (y, told) c.told ((x, with_own c.root own lines x) ∷ []) h) [
       | inl k ↦ by y told k

@@ -3,7 +3,7 @@ use Rattle.std.specs.Prelude.{◌≡◌, ◌⊎◌, ⊤, ℕ, ◌<◌, ◌≤◌
 use Rattle.std.specs.List.{AllByRecursion}
 use Rattle.meaning_texts.specs.Lists.{IsIn}
 use Rattle.meaning_graph.specs.Graphs.{Text}
-use Rattle.dynamic_inputs.specs.Closures.{ToldLines, Telling, all_lines, IsReached, found_names, with_names}
+use Rattle.dynamic_inputs.specs.Closures.{ToldLines, ClosureView, all_lines, IsReached, found_names, with_names}
 
 abbrev pub name_at : List Text → ℕ → Text
 name_at names place = get_or names place []
@@ -19,8 +19,8 @@ told_by all [] (places ∷ told) = []
 told_by all (x ∷ names) (places ∷ told) = (x, map (name_at all) places) ∷ told_by all names told
 
 -- what was told where so many first names have lines
-abbrev pub telling : Text → List Text → List (List ℕ) → Telling
-telling root names told = record { root = root; told = told_by names names told }
+abbrev pub closure_view : Text → List Text → List (List ℕ) → ClosureView
+closure_view root names told = record { root = root; told = told_by names names told }
 
 -- The lines stand at these places, one for one.
 abbrev pub ArePlaces : List Text → List Text → List ℕ → Type 0
@@ -31,7 +31,7 @@ ArePlaces names (line ∷ lines) (place ∷ places) =
     (slice_get names place ≡ Some line) × ArePlaces names lines places
 
 -- The next name is told the lines, whose names are added.
-pub record Tells (names : List Text) (told : List (List ℕ)) (lines more : List Text)
+pub record TellsLines (names : List Text) (told : List (List ℕ)) (lines more : List Text)
     (after : List (List ℕ)) : Type 0 where
   pub added : more ≡ with_names names lines
   pub places : List ℕ
@@ -42,10 +42,10 @@ pub record Tells (names : List Text) (told : List (List ℕ)) (lines more : List
 pub record IsFollowed (root : Text) (names : List Text) (told : List (List ℕ)) : Type 0 where
   pub few : length told ≤ length names
   pub within : AllByRecursion (AllByRecursion (λ place. place < length names)) told
-  pub all : names ≡ found_names (telling root names told)
+  pub all : names ≡ found_names (closure_view root names told)
   pub led : (x : Text) → IsIn x (all_lines (told_by names names told))
-      → IsReached (telling root names told) x
+      → IsReached (closure_view root names told) x
 
 -- Nothing is kept before something is told.
-abbrev pub IsKept : Text → List Text → List (List ℕ) → Type 0
-IsKept root names told = ((names ≡ []) × (told ≡ [])) ⊎ IsFollowed root names told
+abbrev pub IsEmptyOrFollowed : Text → List Text → List (List ℕ) → Type 0
+IsEmptyOrFollowed root names told = ((names ≡ []) × (told ≡ [])) ⊎ IsFollowed root names told

@@ -6,7 +6,7 @@ ghost use Rattle.meaning_texts.specs.Lists.{IsIn};
 ghost use Rattle.meaning_graph.specs.Graphs.{Text};
 ghost use Rattle.meaning_tasks.specs.Reached.{AreReached};
 ghost use Rattle.dynamic_inputs.specs.Closures.{lines_of, IsReached, IsWanted, AllTold, wanted_name, with_lines, with_name, with_names};
-ghost use Rattle.dynamic_inputs.specs.Places.{ArePlaces, Tells, is_first};
+ghost use Rattle.dynamic_inputs.specs.Places.{ArePlaces, TellsLines, is_first};
 
 use crate::names::Names;
 use crate::sorting::sorted;
@@ -36,15 +36,15 @@ impl Drop for Closure {
 }
 
 impl Model for Closure {
-    ghost use Rattle.dynamic_inputs.specs.Closures.{Telling};
+    ghost use Rattle.dynamic_inputs.specs.Closures.{ClosureView};
 
-    ghost Value = { Telling };
+    ghost Value = { ClosureView };
 
-    ghost use Rattle.dynamic_inputs.specs.Places.{telling, IsKept};
+    ghost use Rattle.dynamic_inputs.specs.Places.{closure_view, IsEmptyOrFollowed};
 
-    ghost view = { λ c. telling c.root c.names c.told };
+    ghost view = { λ c. closure_view c.root c.names c.told };
 
-    ghost invariant = { λ c. IsKept c.root c.names c.told };
+    ghost invariant = { λ c. IsEmptyOrFollowed c.root c.names c.told };
 }
 
 impl Closure {
@@ -120,7 +120,7 @@ fn tell(
     lines: &[Name],
 ) -> Result<(), Memory>
     ensures ok { let rooted = with_name names.old root.now in
-        OnOk result (Tells rooted told.old lines.now names.new told.new) }
+        OnOk result (TellsLines rooted told.old lines.now names.new told.new) }
     ensures kept { OnErr result (take (length names.old) names.new ≡ names.old) }
     ensures untold { OnErr result (told.new ≡ told.old) }
 {

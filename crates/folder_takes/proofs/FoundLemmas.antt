@@ -1,12 +1,12 @@
 -- What is found grows.
 use Rattle.std.proofs.Common.{[], ◌++◌, append-nil, append_assoc, ap, sym, ◌∙◌}
 use Rattle.folder_takes.specs.declared.walk.Found.{Found}
-use Rattle.folder_takes.specs.Found.{Grows}
+use Rattle.folder_takes.specs.Found.{FindsMore}
 
-pub grows_none : (found : Found) → Grows found found
+pub grows_none : (found : Found) → FindsMore found found
 grows_none found = record { more = []; names = sym (append-nil found.names.items); odd = λ e. e; missing = λ e. e }
 
-pub grows_then : (old mid new : Found) → Grows old mid → Grows mid new → Grows old new
+pub grows_then : (old mid new : Found) → FindsMore old mid → FindsMore mid new → FindsMore old new
 grows_then old mid new first second = record {
   more = first.more ++ second.more;
   names = second.names ∙ ap (λ names. names ++ second.more) first.names ∙ append_assoc old.names.items first.more second.more;

@@ -6,24 +6,24 @@ use Rattle.std.proofs.lemmas.Grind.{flat_map-append}
 use Rattle.std.proofs.lemmas.List.Elements.{All-nil, All-cons, All-head, All-append}
 use Rattle.std.proofs.lemmas.Slice.Eq.{bytes_eq-Decides}
 use Rattle.meaning_texts.specs.Lists.{HasNo, is_empty}
-use Rattle.folder_takes.specs.Paths.{IsStep, joined, path_of, IsTidy, put_byte, pieces, leads, begins_at_root, tidied, AddsStep, AddsPiece}
+use Rattle.folder_takes.specs.Paths.{IsStep, path_of_steps, path_of, IsTidy, with_byte_before, pieces, leads, begins_at_root, tidied, AddsStep, AddsPiece}
 
 -- ---- one more step
 
 abbrev slashed : List ℕ → List ℕ
 slashed step = 47 ∷ step
 
-more_steps : (first step : List ℕ) (others : List (List ℕ)) → joined (first ∷ (others ++ step ∷ [])) ≡ (joined (first ∷ others) ++ 47 ∷ []) ++ step
+more_steps : (first step : List ℕ) (others : List (List ℕ)) → path_of_steps (first ∷ (others ++ step ∷ [])) ≡ (path_of_steps (first ∷ others) ++ 47 ∷ []) ++ step
 more_steps first step others =
     ap (λ l. first ++ l) (flat_map-append slashed others (step ∷ []) ∙ ap (λ l. flat_map slashed others ++ l) (append-nil (47 ∷ step)))
     ∙ sym (append_assoc first (flat_map slashed others) (47 ∷ step))
     ∙ sym (append_assoc (first ++ flat_map slashed others) (47 ∷ []) step)
 
-no_byte : (first : List ℕ) (others : List (List ℕ)) → IsStep first → joined (first ∷ others) ≢ []
+no_byte : (first : List ℕ) (others : List (List ℕ)) → IsStep first → path_of_steps (first ∷ others) ≢ []
 no_byte [] others step is = step.some refl
 no_byte (b ∷ first) others step is = cc
 
-no_slash : (first : List ℕ) (others : List (List ℕ)) → IsStep first → joined (first ∷ others) ≢ 47 ∷ []
+no_slash : (first : List ℕ) (others : List (List ℕ)) → IsStep first → path_of_steps (first ∷ others) ≢ 47 ∷ []
 no_slash [] others step is = step.some refl
 no_slash (b ∷ first) others step is = let slash : b ≡ 47 = cc in step.slashless.0 slash
 
@@ -67,11 +67,11 @@ not_leading path piece says root steps are is = is ∙ ap (path_of root) (sym (a
 pub pieces_cut : (piece behind : List ℕ) → HasNo 47 piece → pieces (piece ++ 47 ∷ behind) ≡ piece ∷ pieces behind
 pieces_cut [] behind none = refl
 pieces_cut (b ∷ piece) behind none =
-    cond-false (b == 47) _ _ (ne_eqb b 47 none.0) ∙ ap (put_byte b) (pieces_cut piece behind none.1)
+    cond-false (b == 47) _ _ (ne_eqb b 47 none.0) ∙ ap (with_byte_before b) (pieces_cut piece behind none.1)
 
 pub pieces_last : (piece : List ℕ) → HasNo 47 piece → pieces piece ≡ piece ∷ []
 pieces_last [] none = refl
-pieces_last (b ∷ piece) none = cond-false (b == 47) _ _ (ne_eqb b 47 none.0) ∙ ap (put_byte b) (pieces_last piece none.1)
+pieces_last (b ∷ piece) none = cond-false (b == 47) _ _ (ne_eqb b 47 none.0) ∙ ap (with_byte_before b) (pieces_last piece none.1)
 
 filter_first : (piece : List ℕ) (others : List (List ℕ)) → filter leads (piece ∷ others) ≡ filter leads (piece ∷ []) ++ filter leads others
 filter_first piece others = by (leads piece) refl

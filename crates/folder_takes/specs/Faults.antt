@@ -3,7 +3,7 @@ use Rattle.std.specs.Prelude.{ℕ}
 use Rattle.folder_takes.specs.declared.run.Fault.{Fault}
 use Rattle.folder_takes.specs.declared.run.Fault.TheVariants.{System, Memory, Words}
 
-abbrev pub status_of : Fault → ℕ
-status_of System = 3
-status_of Memory = 4
-status_of Words = 9
+abbrev pub takes_fault_status : Fault → ℕ
+takes_fault_status System = 3
+takes_fault_status Memory = 4
+takes_fault_status Words = 9

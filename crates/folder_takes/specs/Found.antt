@@ -3,7 +3,7 @@ use Rattle.std.specs.Prelude.{◌≡◌, ℕ, true, List, ◌++◌}
 use Rattle.folder_takes.specs.declared.walk.Found.{Found}
 
 -- The names that were found stay, and more come behind them. What was odd or missing stays so.
-pub record Grows (old new : Found) : Type 0 where
+pub record FindsMore (old new : Found) : Type 0 where
   pub more : List (List ℕ)
   pub names : new.names.items ≡ old.names.items ++ more
   pub odd : old.odd ≡ true → new.odd ≡ true

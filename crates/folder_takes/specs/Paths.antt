@@ -10,13 +10,13 @@ pub record IsStep (step : List ℕ) : Type 0 where
   pub other : step ≢ codes "."
 
 -- the steps with one slash between them
-abbrev pub joined : List (List ℕ) → List ℕ
-joined [] = []
-joined (first ∷ others) = first ++ flat_map (λ step. 47 ∷ step) others
+abbrev pub path_of_steps : List (List ℕ) → List ℕ
+path_of_steps [] = []
+path_of_steps (first ∷ others) = first ++ flat_map (λ step. 47 ∷ step) others
 
 -- and with one in front where the path begins at the root
 abbrev pub path_of : Bool → List (List ℕ) → List ℕ
-path_of root steps = if root then 47 ∷ joined steps else joined steps
+path_of root steps = if root then 47 ∷ path_of_steps steps else path_of_steps steps
 
 -- The path is steps with one slash between them, so it has no `./` in front and no doubled slash. The current folder has no step.
 pub record IsTidy (path : List ℕ) : Type 0 where
@@ -28,14 +28,14 @@ pub record IsTidy (path : List ℕ) : Type 0 where
 -- ---- the path of any text
 
 -- with this byte in front of the first piece
-abbrev pub put_byte : ℕ → List (List ℕ) → List (List ℕ)
-put_byte b [] = (b ∷ []) ∷ []
-put_byte b (piece ∷ pieces) = (b ∷ piece) ∷ pieces
+abbrev pub with_byte_before : ℕ → List (List ℕ) → List (List ℕ)
+with_byte_before b [] = (b ∷ []) ∷ []
+with_byte_before b (piece ∷ pieces) = (b ∷ piece) ∷ pieces
 
 -- what stands between its slashes
 abbrev pub pieces : List ℕ → List (List ℕ)
 pieces [] = [] ∷ []
-pieces (b ∷ rest) = if b == 47 then [] ∷ pieces rest else put_byte b (pieces rest)
+pieces (b ∷ rest) = if b == 47 then [] ∷ pieces rest else with_byte_before b (pieces rest)
 
 -- a piece that leads on
 abbrev pub leads : List ℕ → Bool

@@ -40,7 +40,7 @@ impl From<io::Error> for Fault {
 
 impl Fault {
     pub fn status(&self) -> u8
-        ensures { result ≡ meaning.status_of self.now }
+        ensures { result ≡ meaning.takes_fault_status self.now }
     {
         match self {
             Fault::System => 3,

@@ -1,6 +1,6 @@
 // The files below a folder, as the system tells them.
 ghost use Rattle.std.specs.Prelude.{◌≡◌};
-ghost use Rattle.folder_takes.specs.Found.{Grows};
+ghost use Rattle.folder_takes.specs.Found.{FindsMore};
 
 use crate::paths::{add_step, leads};
 use crate::run::Fault;
@@ -61,7 +61,7 @@ fn leads_to_file(rt: &HostRuntime, path: &str) -> bool {
 }
 
 fn take_file(rt: &HostRuntime, path: &[u8], found: &mut Found) -> Result<(), Fault>
-    ensures { Grows found.old found.new }
+    ensures { FindsMore found.old found.new }
 {
     match read_name(rt.alloc(), path)? {
         Some(name) => found.names.push(name).map_err(|_| Fault::Memory),
@@ -82,7 +82,7 @@ fn take_entry(
     folders: &mut Vec<Bytes>,
     found: &mut Found,
 ) -> Result<(), Fault>
-    ensures { Grows found.old found.new }
+    ensures { FindsMore found.old found.new }
 {
     if kind.is_dir() {
         return folders.push(path).map_err(|_| Fault::Memory);
@@ -103,7 +103,7 @@ fn take_folder(
     folders: &mut Vec<Bytes>,
     found: &mut Found,
 ) -> Result<(), Fault>
-    ensures { Grows found.old found.new }
+    ensures { FindsMore found.old found.new }
 {
     for entry in fs::read_dir(rt, text_of(folder.as_slice())?)? {
         let entry = match entry {
@@ -130,7 +130,7 @@ fn take_folder(
 /// Takes the files below a folder. Which they are is no clause, since the system doesn't tell what stands in a folder.
 #[tactic(auto, using(crate::proofs::FoundLemmas::grows_none, crate::proofs::FoundLemmas::grows_then))]
 pub fn take_below(rt: &HostRuntime, folder: Bytes, found: &mut Found) -> Result<(), Fault>
-    ensures { Grows found.old found.new }
+    ensures { FindsMore found.old found.new }
 {
     if !is_folder(rt, text_of(folder.as_slice())?) {
         found.missing = true;

@@ -8,7 +8,7 @@ use Rattle.object_values.specs.declared.jobs.Raw.{Raw}
 use Rattle.odin_outside.specs.declared.events.Running.{Running}
 use Rattle.odin_outside.specs.declared.events.ToolEvent.{ToolEvent}
 use Rattle.odin_outside.specs.declared.events.ToolEvent.TheVariants.{Ended, Lost}
-use Rattle.odin_outside.specs.Spawned.{Spawned, IsRunning, IsLeastFree, noted, Stops, Ends, Loses, Leaves}
+use Rattle.odin_outside.specs.Spawned.{Spawned, IsRunning, IsLeastFree, noted, StopsJob, Ends, Loses, IsAnswerToJob}
 use Rattle.meaning_calls.specs.Jobs.{job_of}
 use Rattle.meaning_calls.specs.Outcomes.{outcome_of, OutcomeFits}
 use Rattle.meaning_texts.specs.Lists.{IsIn}
@@ -57,7 +57,7 @@ aligned (x ∷ front) back f (y ∷ b) a t e same before apart =
 
 module _ (old : InFlight) (before : Spawned) (told : AreTold old.running before) (apart : AreDistinct (slots_in old.running)) where
   -- the call whose tool has stopped, and what is told then
-  pub stopped : (slot faults : ℕ) (job : Job) (event : ToolEvent) (f : Flying) (new : InFlight) (now : Spawned) → Stops before slot job event faults now → IsFirst slot old new f
+  pub stopped : (slot faults : ℕ) (job : Job) (event : ToolEvent) (f : Flying) (new : InFlight) (now : Spawned) → StopsJob before slot job event faults now → IsFirst slot old new f
       → (now ≡ landed before new.running event faults) × (job ≡ job_of f.call)
   stopped slot faults job event f new now stops first =
       let is : map tool_of (first.out.front ++ f ∷ first.out.back) ≡ stops.before ++ (record { slot = slot; job = job }) ∷ stops.after =
@@ -77,7 +77,7 @@ module _ (old : InFlight) (before : Spawned) (told : AreTold old.running before)
         told = at.0;
         came = record {
           fits = fits;
-          told = λ table answer. ap Some (sym (is ∙ ap (outcome_of f.call) (subst (λ o. Leaves o ends.job raw) answer ends.leaves ∙ ap table at.1)));
+          told = λ table answer. ap Some (sym (is ∙ ap (outcome_of f.call) (subst (λ o. IsAnswerToJob o ends.job raw) answer ends.leaves ∙ ap table at.1)));
         };
       }
 
@@ -91,7 +91,7 @@ module _ (old : InFlight) (before : Spawned) (told : AreTold old.running before)
   }
 
   -- some call runs in a slot that is told to have stopped
-  pub slot_there : (slot faults : ℕ) (job : Job) (event : ToolEvent) (now : Spawned) → Stops before slot job event faults now → IsIn slot (slots_in old.running)
+  pub slot_there : (slot faults : ℕ) (job : Job) (event : ToolEvent) (now : Spawned) → StopsJob before slot job event faults now → IsIn slot (slots_in old.running)
   slot_there slot faults job event now stops = told_there old.running stops.before stops.after (record { slot = slot; job = job }) (sym told ∙ stops.ran)
 
 -- ---- the place of a slot

@@ -10,7 +10,7 @@ use Rattle.odin_outside.specs.Spawned.{Spawned, begun, noted}
 use Rattle.meaning_texts.specs.Lists.{IsIn}
 use Rattle.meaning_calls.specs.Jobs.{job_of}
 use Rattle.job_runner.specs.declared.jobs.Flying.{Flying}
-use Rattle.job_runner.specs.Made.{IsOutcomeOf}
+use Rattle.job_runner.specs.Made.{IsOutcomeOfCall}
 
 -- ---- what runs
 
@@ -78,7 +78,7 @@ pub record HasEnded (call : Call) (outcome : Outcome) (old : InFlight) (before :
   pub slot : ℕ
   pub out : IsOut slot call old new
   pub told : now ≡ landed before new.running (Ended slot) before.faults
-  pub came : IsOutcomeOf before.answer call outcome
+  pub came : IsOutcomeOfCall before.answer call outcome
 
 -- The end of a call was lost: a fault, which was counted. Nothing else happened.
 pub record HasLost (old : InFlight) (before : Spawned) (new : InFlight) (now : Spawned) : Type 0 where
@@ -89,13 +89,13 @@ pub record HasLost (old : InFlight) (before : Spawned) (new : InFlight) (now : S
   pub told : now ≡ landed before new.running (Lost slot) now.faults
 
 -- Memory was wanting: nothing happened, or a call came to an outcome, which is given up.
-pub record HasGivenUp (old : InFlight) (before : Spawned) (new : InFlight) (now : Spawned) : Type 0 where
+pub record HasGivenUpOutcome (old : InFlight) (before : Spawned) (new : InFlight) (now : Spawned) : Type 0 where
   pub call : Call
   pub outcome : Outcome
   pub ended : HasEnded call outcome old before new now
 
 abbrev pub MayHaveEnded : InFlight → Spawned → InFlight → Spawned → Type 0
-MayHaveEnded old before new now = ((new ≡ old) × (now ≡ before)) ⊎ HasGivenUp old before new now
+MayHaveEnded old before new now = ((new ≡ old) × (now ≡ before)) ⊎ HasGivenUpOutcome old before new now
 
 -- The first that runs in the slot was taken out, where one does.
 pub record IsFirst (slot : ℕ) (old new : InFlight) (f : Flying) : Type 0 where

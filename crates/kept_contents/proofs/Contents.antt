@@ -7,13 +7,13 @@ use Rattle.std.proofs.lemmas.Option.{none-some, same_Some}
 use Rattle.object_values.specs.declared.views.Value.{Value}
 use Rattle.object_values.specs.declared.views.Value.TheVariants.{Simple}
 use Rattle.meaning_texts.proofs.Lemmas.{in_all}
-use Rattle.content_store.specs.Bodies.{Bodies, place_of, with_body}
+use Rattle.content_store.specs.Bodies.{Bodies, place_of_body, with_body}
 use Rattle.content_store.proofs.Lemmas.{place_kept, goes_behind}
 use Rattle.meaning_records.specs.Tables.{IsText}
 use Rattle.kept_contents.specs.declared.shared.Shared.{Shared}
 use Rattle.kept_contents.specs.declared.shared.Content.{Content}
 use Rattle.kept_contents.specs.declared.shared.Content.TheVariants.{Text, Other}
-use Rattle.kept_contents.specs.Stocks.{IsGrownFrom, IsHeldIn, IsOther, value_of, values_of}
+use Rattle.kept_contents.specs.Stocks.{IsGrownFrom, IsHeldIn, IsOther, value_of, values_of_contents}
 use Rattle.kept_contents.proofs.Items.{in_list, mapped}
 
 pub at_place : {A : Type 0} (P : A → Type 0) (xs : List A) (x : A) (i : ℕ) → All P xs → slice_get xs i ≡ Some x → P x
@@ -24,27 +24,27 @@ unmapped f [] i h = refl
 unmapped f (x ∷ xs) zero h = absurd (none-some x (sym h))
 unmapped f (x ∷ xs) (suc i) h = unmapped f xs i h
 
-pub values_push : (items : List Content) (c : Content) → values_of (items ++ c ∷ []) ≡ values_of items ++ value_of c ∷ []
+pub values_push : (items : List Content) (c : Content) → values_of_contents (items ++ c ∷ []) ≡ values_of_contents items ++ value_of c ∷ []
 values_push items c = map-append value_of items (c ∷ [])
 
-pub values_long : (items : List Content) → length (values_of items) ≡ length items
+pub values_long : (items : List Content) → length (values_of_contents items) ≡ length items
 values_long [] = refl
 values_long (c ∷ items) = ap suc (values_long items)
 
 -- ---- what stands at a number
 
-pub shared_text : (items : List Content) (number : ℕ) (s : Shared) → slice_get items number ≡ Some (Text s) → IsText (values_of items) number s.text
+pub shared_text : (items : List Content) (number : ℕ) (s : Shared) → slice_get items number ≡ Some (Text s) → IsText (values_of_contents items) number s.text
 shared_text items number s h = mapped value_of items (Text s) number h
 
-pub shared_held : (texts : Bodies) (items : List Content) (number : ℕ) (s : Shared) → All (IsHeldIn texts) items → slice_get items number ≡ Some (Text s) → place_of s.text texts ≡ Some s.id
+pub shared_held : (texts : Bodies) (items : List Content) (number : ℕ) (s : Shared) → All (IsHeldIn texts) items → slice_get items number ≡ Some (Text s) → place_of_body s.text texts ≡ Some s.id
 shared_held texts items number s held h = at_place (IsHeldIn texts) items (Text s) number held h
 
-pub other_no_text : (texts : Bodies) (items : List Content) (number : ℕ) (v : Value) → All (IsHeldIn texts) items → slice_get items number ≡ Some (Other v) → (text : List ℕ) → IsText (values_of items) number text → ⊥
+pub other_no_text : (texts : Bodies) (items : List Content) (number : ℕ) (v : Value) → All (IsHeldIn texts) items → slice_get items number ≡ Some (Other v) → (text : List ℕ) → IsText (values_of_contents items) number text → ⊥
 other_no_text texts items number v held h text is =
     let same : v ≡ Simple text = same_Some v (Simple text) (sym (mapped value_of items (Other v) number h) ∙ is) in
     subst IsOther same (at_place (IsHeldIn texts) items (Other v) number held h)
 
-pub behind_no_text : (items : List Content) (number : ℕ) → slice_get items number ≡ None → (text : List ℕ) → IsText (values_of items) number text → ⊥
+pub behind_no_text : (items : List Content) (number : ℕ) → slice_get items number ≡ None → (text : List ℕ) → IsText (values_of_contents items) number text → ⊥
 behind_no_text items number h text is = none-some (Simple text) (sym (unmapped value_of items number h) ∙ is)
 
 -- ---- texts more

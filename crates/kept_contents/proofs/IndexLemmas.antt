@@ -17,7 +17,7 @@ use Rattle.kept_contents.specs.declared.shared.Shared.{Shared}
 use Rattle.kept_contents.specs.declared.shared.Content.{Content}
 use Rattle.kept_contents.specs.declared.shared.Content.TheVariants.{Text, Other}
 use Rattle.kept_contents.specs.Index.{IsIndexOf, IsNumber, digest_of}
-use Rattle.kept_contents.specs.Stocks.{IsOther, value_of, values_of}
+use Rattle.kept_contents.specs.Stocks.{IsOther, value_of, values_of_contents}
 use Rattle.kept_contents.proofs.Items.{mapped}
 use Rattle.kept_contents.proofs.Contents.{unmapped}
 
@@ -48,27 +48,27 @@ empty_index first nowhere = record {
 }
 
 -- whether what stands at a number is the value
-module _ (items : List Content) (number : ℕ) (value : Value) (other : IsOther value) (is : IsNumber (values_of items) number) where
+module _ (items : List Content) (number : ℕ) (value : Value) (other : IsOther value) (is : IsNumber (values_of_contents items) number) where
   abbrev Answers : Bool → Type 0
-  Answers b = IsTrue b ↔ (number_of value (values_of items) ≡ Some number)
+  Answers b = IsTrue b ↔ (number_of value (values_of_contents items) ≡ Some number)
 
   pub other_there : (v : Value) (b : Bool) → slice_get items number ≡ Some (Other v) → b ≡ value_eq.eq v value → Answers b
   other_there v b at test =
-      let here : slice_get (values_of items) number ≡ Some v = mapped value_of items (Other v) number at in (
-        λ yes. number_there (values_of items) number value is (here ∙ ap Some ((value_exact v value).0 (sym test ∙ yes))),
-        λ n. test ∙ (value_exact v value).1 (same_Some v value (sym here ∙ leads_back value (values_of items) number n)),
+      let here : slice_get (values_of_contents items) number ≡ Some v = mapped value_of items (Other v) number at in (
+        λ yes. number_there (values_of_contents items) number value is (here ∙ ap Some ((value_exact v value).0 (sym test ∙ yes))),
+        λ n. test ∙ (value_exact v value).1 (same_Some v value (sym here ∙ leads_back value (values_of_contents items) number n)),
       )
 
   pub text_there : (s : Shared) → slice_get items number ≡ Some (Text s) → Answers false
   text_there s at = (
     λ no. absurd (true≢false (sym no)),
-    λ n. absurd (subst IsOther (same_Some value (Simple s.text) (sym (leads_back value (values_of items) number n) ∙ mapped value_of items (Text s) number at)) other),
+    λ n. absurd (subst IsOther (same_Some value (Simple s.text) (sym (leads_back value (values_of_contents items) number n) ∙ mapped value_of items (Text s) number at)) other),
   )
 
   pub none_stands : slice_get items number ≡ None → Answers false
   none_stands at = (
     λ no. absurd (true≢false (sym no)),
-    λ n. absurd (none-some value (sym (unmapped value_of items number at) ∙ leads_back value (values_of items) number n)),
+    λ n. absurd (none-some value (sym (unmapped value_of items number at) ∙ leads_back value (values_of_contents items) number n)),
   )
 
 module _ (contents : List Value) (first : List ℕ → Option ℕ) (clashing : List ℕ) (is : IsIndexOf contents first clashing) where

@@ -6,7 +6,7 @@ use Rattle.std.proofs.lemmas.Bool.{cases_eq}
 use Rattle.std.proofs.lemmas.Option.{none-some, same_Some, slice_get-get_or}
 use Rattle.object_values.specs.declared.views.Value.{Value}
 use Rattle.object_values.specs.declared.views.Value.TheVariants.{Simple}
-use Rattle.content_store.specs.Bodies.{Bodies, place_of, with_body}
+use Rattle.content_store.specs.Bodies.{Bodies, place_of_body, with_body}
 use Rattle.content_store.proofs.Lemmas.{place_stands, place_kept}
 use Rattle.meaning_records.specs.Tables.{IsText, IsNoText}
 use Rattle.meaning_records.specs.Numbers.{number_of}
@@ -18,7 +18,7 @@ pub same_text : (a b : List ℕ) → Simple a ≡ Simple b → a ≡ b
 same_text a b e = cc
 
 -- one number in memory is of one text
-pub one_of : (texts : Bodies) (a b : List ℕ) (id : ℕ) → place_of a texts ≡ Some id → place_of b texts ≡ Some id → a ≡ b
+pub one_of : (texts : Bodies) (a b : List ℕ) (id : ℕ) → place_of_body a texts ≡ Some id → place_of_body b texts ≡ Some id → a ≡ b
 one_of texts a b id p q = same_Some a b (sym (place_stands a texts id p) ∙ place_stands b texts id q)
 
 -- the number of the next content
@@ -34,35 +34,35 @@ numbered_none = record {
 
 module _ (contents : List Value) (texts : Bodies) (numbers : List (Option ℕ)) (index : IsNumbered contents texts numbers) where
   -- what is found of a text
-  leads_number : (text : List ℕ) (id number : ℕ) → place_of text texts ≡ Some id → slice_get numbers id ≡ Some (Some number) → number_of (Simple text) contents ≡ Some number
+  leads_number : (text : List ℕ) (id number : ℕ) → place_of_body text texts ≡ Some id → slice_get numbers id ≡ Some (Some number) → number_of (Simple text) contents ≡ Some number
   leads_number text id number at h = let r = index.right id number h in subst (λ (t : List ℕ). number_of (Simple t) contents ≡ Some number) (one_of texts r.0 text id r.1 at) r.2
 
-  pub leads : (text : List ℕ) (id number : ℕ) → place_of text texts ≡ Some id → slice_get numbers id ≡ Some (Some number) → IsText contents number text
+  pub leads : (text : List ℕ) (id number : ℕ) → place_of_body text texts ≡ Some id → slice_get numbers id ≡ Some (Some number) → IsText contents number text
   leads text id number at h = leads_back (Simple text) contents number (leads_number text id number at h)
 
-  pub leads_nowhere : (text : List ℕ) (id : ℕ) → place_of text texts ≡ Some id → slice_get numbers id ≡ Some None → IsNoText contents text
+  pub leads_nowhere : (text : List ℕ) (id : ℕ) → place_of_body text texts ≡ Some id → slice_get numbers id ≡ Some None → IsNoText contents text
   leads_nowhere text id at h number is =
       let w = index.whole number text is in
       let same : id ≡ w.0 = same_Some id w.0 (sym at ∙ w.2) in
       none-some w.1 (same_Some None (Some w.1) (sym h ∙ ap (slice_get numbers) same ∙ w.3))
 
   -- what is found of a text that is held
-  pub led : (text : List ℕ) (id : ℕ) (found : Option ℕ) → place_of text texts ≡ Some id → slice_get numbers id ≡ Some found → IfSome found (λ n. IsText contents n text) × IfNone found (IsNoText contents text)
+  pub led : (text : List ℕ) (id : ℕ) (found : Option ℕ) → place_of_body text texts ≡ Some id → slice_get numbers id ≡ Some found → IfSome found (λ n. IsText contents n text) × IfNone found (IsNoText contents text)
   led text id (Some n) at h = (leads text id n at h, tt)
   led text id None at h = (tt, leads_nowhere text id at h)
 
   -- the number of a text that is held
-  pub number_found : (text : List ℕ) (id : ℕ) (found : Option ℕ) → place_of text texts ≡ Some id → slice_get numbers id ≡ Some found → found ≡ number_of (Simple text) contents
+  pub number_found : (text : List ℕ) (id : ℕ) (found : Option ℕ) → place_of_body text texts ≡ Some id → slice_get numbers id ≡ Some found → found ≡ number_of (Simple text) contents
   number_found text id (Some n) at h = sym (leads_number text id n at h)
   number_found text id None at h = sym (nowhere_none (Simple text) contents (leads_nowhere text id at h))
 
-  pub not_held : (text : List ℕ) → place_of text texts ≡ None → IsNoText contents text
+  pub not_held : (text : List ℕ) → place_of_body text texts ≡ None → IsNoText contents text
   not_held text none number is = let w = index.whole number text is in none-some w.0 (sym none ∙ w.2)
 
-  pub number_missed : (text : List ℕ) → place_of text texts ≡ None → number_of (Simple text) contents ≡ None
+  pub number_missed : (text : List ℕ) → place_of_body text texts ≡ None → number_of (Simple text) contents ≡ None
   number_missed text none = nowhere_none (Simple text) contents (not_held text none)
 
-  pub id_within : (text : List ℕ) (id : ℕ) → place_of text texts ≡ Some id → id < length numbers
+  pub id_within : (text : List ℕ) (id : ℕ) → place_of_body text texts ≡ Some id → id < length numbers
   id_within text id at = subst (λ n. id < n) (sym index.long) (has_place texts text id (place_stands text texts id at))
 
   -- a text that is held from now on
@@ -77,29 +77,29 @@ module _ (contents : List Value) (texts : Bodies) (numbers : List (Option ℕ)) 
   }
 
   pub held_new : (text : List ℕ) → length numbers < length (with_body text texts) → IsNumbered contents (with_body text texts) (numbers ++ None ∷ [])
-  held_new text longer = (elim (is_some (place_of text texts)) as (λ t. length numbers < length (cond t texts (texts ++ text ∷ [])) → IsNumbered contents (cond t texts (texts ++ text ∷ [])) (numbers ++ None ∷ [])) [
+  held_new text longer = (elim (is_some (place_of_body text texts)) as (λ t. length numbers < length (cond t texts (texts ++ text ∷ [])) → IsNumbered contents (cond t texts (texts ++ text ∷ [])) (numbers ++ None ∷ [])) [
     | true ↦ λ h. absurd (omega (arith, h, index.long))
     | false ↦ λ h. held_more text
   ]) longer
 
   pub held_known : (text : List ℕ) → (length numbers < length (with_body text texts) → ⊥) → IsNumbered contents (with_body text texts) numbers
-  held_known text no_longer = (elim (is_some (place_of text texts)) as (λ t. (length numbers < length (cond t texts (texts ++ text ∷ [])) → ⊥) → IsNumbered contents (cond t texts (texts ++ text ∷ [])) numbers) [
+  held_known text no_longer = (elim (is_some (place_of_body text texts)) as (λ t. (length numbers < length (cond t texts (texts ++ text ∷ [])) → ⊥) → IsNumbered contents (cond t texts (texts ++ text ∷ [])) numbers) [
     | true ↦ λ h. index
     | false ↦ λ h. absurd (h (omega (arith, length-append texts (text ∷ []), index.long)))
   ]) no_longer
 
   -- a text that is the next content
-  pushed_known : (text : List ℕ) (id n : ℕ) → place_of text texts ≡ Some id → slice_get numbers id ≡ Some (Some n) → IsNumbered (contents ++ Simple text ∷ []) texts numbers
+  pushed_known : (text : List ℕ) (id n : ℕ) → place_of_body text texts ≡ Some id → slice_get numbers id ≡ Some (Some n) → IsNumbered (contents ++ Simple text ∷ []) texts numbers
   pushed_known text id n at known = record {
     long = index.long;
     right = λ other number h. let r = index.right other number h in (r.0, r.1, number_stays (Simple r.0) contents (Simple text ∷ []) number r.2);
     whole = λ number t is. elim (last_or_before contents (Simple text) (Simple t) number is) [
       | inl before ↦ index.whole number t before
-      | inr last ↦ (id, n, ap (λ b. place_of b texts) (same_text t text last.1) ∙ at, known)
+      | inr last ↦ (id, n, ap (λ b. place_of_body b texts) (same_text t text last.1) ∙ at, known)
     ];
   }
 
-  pushed_fresh : (text : List ℕ) (id : ℕ) → place_of text texts ≡ Some id → slice_get numbers id ≡ Some None → IsNumbered (contents ++ Simple text ∷ []) texts (set numbers id (Some (length contents)))
+  pushed_fresh : (text : List ℕ) (id : ℕ) → place_of_body text texts ≡ Some id → slice_get numbers id ≡ Some None → IsNumbered (contents ++ Simple text ∷ []) texts (set numbers id (Some (length contents)))
   pushed_fresh text id at fresh = record {
     long = omega (arith, length-set {A = Option ℕ} numbers id (Some (length contents)), index.long);
     right = λ other number h. elim (cases_eq id other) [
@@ -116,11 +116,11 @@ module _ (contents : List Value) (texts : Bodies) (numbers : List (Option ℕ)) 
         | inl same ↦ (id, length contents, w.2 ∙ ap Some (sym same), set_there numbers id (Some (length contents)) (id_within text id at))
         | inr apart ↦ (w.0, w.1, w.2, set_elsewhere numbers id w.0 (Some (length contents)) apart ∙ w.3)
       ]
-      | inr last ↦ (id, length contents, ap (λ b. place_of b texts) (same_text t text last.1) ∙ at, set_there numbers id (Some (length contents)) (id_within text id at))
+      | inr last ↦ (id, length contents, ap (λ b. place_of_body b texts) (same_text t text last.1) ∙ at, set_there numbers id (Some (length contents)) (id_within text id at))
     ];
   }
 
-  pub pushed : (text : List ℕ) (id : ℕ) (next : List (Option ℕ)) → place_of text texts ≡ Some id → ((n : ℕ) → slice_get numbers id ≡ Some (Some n) → next ≡ numbers) → (slice_get numbers id ≡ Some None → next ≡ set numbers id (Some (length contents))) → IsNumbered (contents ++ Simple text ∷ []) texts next
+  pub pushed : (text : List ℕ) (id : ℕ) (next : List (Option ℕ)) → place_of_body text texts ≡ Some id → ((n : ℕ) → slice_get numbers id ≡ Some (Some n) → next ≡ numbers) → (slice_get numbers id ≡ Some None → next ≡ set numbers id (Some (length contents))) → IsNumbered (contents ++ Simple text ∷ []) texts next
   pushed text id next at known fresh = by_entry (get_or numbers id None) (slice_get-get_or numbers id None (id_within text id at))
     where
       by_entry : (found : Option ℕ) → slice_get numbers id ≡ Some found → IsNumbered (contents ++ Simple text ∷ []) texts next

@@ -5,7 +5,7 @@ use Rattle.object_values.specs.declared.calls.CallPart.{CallPart}
 use Rattle.object_values.specs.declared.views.Part.{Part}
 use Rattle.object_values.specs.declared.views.Value.{Value}
 use Rattle.meaning_texts.specs.Lists.{IsIn}
-use Rattle.content_store.specs.Bodies.{Bodies, place_of}
+use Rattle.content_store.specs.Bodies.{Bodies, place_of_body}
 use Rattle.meaning_records.specs.Tables.{IsNoText}
 use Rattle.meaning_records.specs.Batches.{body_of, contents_of}
 use Rattle.kept_contents.specs.declared.shared.Shared.{Shared}
@@ -26,13 +26,13 @@ contents_with contents added = contents ++ contents_of (texts_of added)
 
 -- each is held in memory under its number
 abbrev pub AreHeld : Bodies → List Shared → Type 0
-AreHeld texts added = All (λ (s : Shared). place_of s.text texts ≡ Some s.id) added
+AreHeld texts added = All (λ (s : Shared). place_of_body s.text texts ≡ Some s.id) added
 
 -- A text is added where neither the file nor the batch has it.
 abbrev pub AddsOne : List Value → List ℕ → List (List ℕ) → List (List ℕ) → Type 0
 AddsOne contents text old new = (new ≡ old) ⊎ ((new ≡ old ++ text ∷ []) × (¬ IsIn text old) × IsNoText contents text)
 
 -- one text after another
-abbrev pub Adds : List Value → List (List ℕ) → List (List ℕ) → List (List ℕ) → Type 0
-Adds contents [] old new = new ≡ old
-Adds contents (text ∷ texts) old new = (next : List (List ℕ)) × AddsOne contents text old next × Adds contents texts next new
+abbrev pub AddsTexts : List Value → List (List ℕ) → List (List ℕ) → List (List ℕ) → Type 0
+AddsTexts contents [] old new = new ≡ old
+AddsTexts contents (text ∷ texts) old new = (next : List (List ℕ)) × AddsOne contents text old next × AddsTexts contents texts next new

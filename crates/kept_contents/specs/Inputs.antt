@@ -5,18 +5,18 @@ use Rattle.std.specs.Hash as fed
 use Rattle.std.specs.Hash.{HashWrites}
 use Rattle.sequences.specs.Fed.{bytes_fed}
 use Rattle.object_values.specs.declared.calls.CallPart.{CallPart}
-use Rattle.content_store.specs.Bodies.{Bodies, place_of}
+use Rattle.content_store.specs.Bodies.{Bodies, place_of_body}
 use Rattle.content_store.specs.Digesting as digesting
 
 -- the number in memory of a text, where there is one
 abbrev pub id_of : Bodies → Option (List ℕ) → Option ℕ
 id_of texts None = None
-id_of texts (Some text) = place_of text texts
+id_of texts (Some text) = place_of_body text texts
 
 -- it has one, where there is a text
 abbrev pub IsHeldText : Bodies → Option (List ℕ) → Type 0
 IsHeldText texts None = ⊤
-IsHeldText texts (Some text) = (id : ℕ) × (place_of text texts ≡ Some id)
+IsHeldText texts (Some text) = (id : ℕ) × (place_of_body text texts ≡ Some id)
 
 abbrev pub IsHeldPart : Bodies → CallPart → Type 0
 IsHeldPart texts part = IsHeldText texts part.body

@@ -3,7 +3,7 @@ ghost use Rattle.std.specs.Prelude.{◌≡◌, ◌≢◌, ◌↔◌, ◌∷◌, 
 ghost use Rattle.std.specs.List.{flat_map, fold};
 ghost use Rattle.meaning_records.specs.Numbers.{number_of};
 ghost use Rattle.kept_contents.specs.Index.{IsIndexed, IsNumber, digest_of, nodes_fed, part_fed, parts_fed, value_fed};
-ghost use Rattle.kept_contents.specs.Stocks.{IsOther, values_of};
+ghost use Rattle.kept_contents.specs.Stocks.{IsOther, values_of_contents};
 
 use crate::shared::Content;
 use content_store::ShaHasher;
@@ -40,19 +40,20 @@ impl OtherIndex {
 
     /// The number of a list or a compound among the contents.
     pub fn find(&self, contents: &[Content], value: &Value) -> Option<u64>
-        requires index { IsIndexed (values_of contents.now) self.now }
+        requires index { IsIndexed (values_of_contents contents.now) self.now }
         requires other { IsOther value.now }
-        ensures { result ≡ number_of value.now (values_of contents.now) }
+        ensures { result ≡ number_of value.now (values_of_contents contents.now) }
     {
         self.find_digested(&digest_of(value), contents, value)
     }
 
     /// Takes in the list or the compound that is the next content.
     pub fn add(&mut self, contents: &[Content], value: &Value) -> Result<(), Memory>
-        requires index { IsIndexed (values_of contents.now) self.old }
+        requires index { IsIndexed (values_of_contents contents.now) self.old }
         requires other { IsOther value.now }
-        ensures ok { OnOk result (IsIndexed (values_of contents.now ++ value.now ∷ []) self.new) }
-        ensures err { OnErr result (IsIndexed (values_of contents.now) self.new) }
+        ensures ok { OnOk result
+            (IsIndexed (values_of_contents contents.now ++ value.now ∷ []) self.new) }
+        ensures err { OnErr result (IsIndexed (values_of_contents contents.now) self.new) }
     {
         let digest = digest_of(value);
         if self.find_digested(&digest, contents, value).is_some() {
@@ -69,10 +70,10 @@ impl OtherIndex {
 
     // The number of the value that has this digest.
     fn find_digested(&self, digest: &[u8; 32], contents: &[Content], value: &Value) -> Option<u64>
-        requires index { IsIndexed (values_of contents.now) self.now }
+        requires index { IsIndexed (values_of_contents contents.now) self.now }
         requires other { IsOther value.now }
         requires digest { digest.now ≡ digest_of value.now }
-        ensures { result ≡ number_of value.now (values_of contents.now) }
+        ensures { result ≡ number_of value.now (values_of_contents contents.now) }
     {
         match self.first.get(digest) {
             Some(first) => find_from(contents, *first, self.clashing.as_slice(), value),
@@ -126,9 +127,10 @@ fn feed_parts<H: Hasher>(parts: &[Part], state: &mut H)
 
 // Whether the number is that of the value.
 fn is_number(contents: &[Content], number: u64, value: &Value) -> bool
-    requires number { IsNumber (values_of contents.now) number }
+    requires number { IsNumber (values_of_contents contents.now) number }
     requires other { IsOther value.now }
-    ensures { IsTrue result ↔ (number_of value.now (values_of contents.now) ≡ Some number) }
+    ensures { IsTrue result ↔
+        (number_of value.now (values_of_contents contents.now) ≡ Some number) }
 {
     match contents.get(number as usize) {
         Some(Content::Other(other)) => other == value,
@@ -139,14 +141,15 @@ fn is_number(contents: &[Content], number: u64, value: &Value) -> bool
 
 // Which of the first number and the others is that of the value.
 fn find_from(contents: &[Content], first: u64, others: &[u64], value: &Value) -> Option<u64>
-    requires first { IsNumber (values_of contents.now) first }
-    requires others { All (IsNumber (values_of contents.now)) others.now }
+    requires first { IsNumber (values_of_contents contents.now) first }
+    requires others { All (IsNumber (values_of_contents contents.now)) others.now }
     requires other { IsOther value.now }
-    ensures some { IfSome result (λ n. number_of value.now (values_of contents.now) ≡ Some n) }
+    ensures some { IfSome result
+        (λ n. number_of value.now (values_of_contents contents.now) ≡ Some n) }
     ensures not_first { IfNone result
-        (number_of value.now (values_of contents.now) ≢ Some first) }
+        (number_of value.now (values_of_contents contents.now) ≢ Some first) }
     ensures not_others { IfNone result
-        (All (λ n. number_of value.now (values_of contents.now) ≢ Some n) others.now) }
+        (All (λ n. number_of value.now (values_of_contents contents.now) ≢ Some n) others.now) }
 {
     if is_number(contents, first, value) {
         return Some(first);
@@ -156,11 +159,12 @@ fn find_from(contents: &[Content], first: u64, others: &[u64], value: &Value) ->
 
 // The first of the numbers that is that of the value.
 fn find_among(contents: &[Content], numbers: &[u64], value: &Value) -> Option<u64>
-    requires numbers { All (IsNumber (values_of contents.now)) numbers.now }
+    requires numbers { All (IsNumber (values_of_contents contents.now)) numbers.now }
     requires other { IsOther value.now }
-    ensures some { IfSome result (λ n. number_of value.now (values_of contents.now) ≡ Some n) }
+    ensures some { IfSome result
+        (λ n. number_of value.now (values_of_contents contents.now) ≡ Some n) }
     ensures none { IfNone result
-        (All (λ n. number_of value.now (values_of contents.now) ≢ Some n) numbers.now) }
+        (All (λ n. number_of value.now (values_of_contents contents.now) ≢ Some n) numbers.now) }
 {
     for number in numbers {
         if is_number(contents, *number, value) {

@@ -2,9 +2,9 @@
 ghost use Rattle.std.specs.Prelude.{◌≡◌, ◌+◌, IfOk, OnOk, Some};
 ghost use Rattle.meaning_records.specs.Tables.{IsText, IsPartOf, ArePartsOf, IsCallOf, IsOutputOf, AreOutputsOf, IsOutcomeOf};
 ghost use Rattle.meaning_records.specs.Batches.{body_of};
-ghost use Rattle.content_store.specs.Bodies.{place_of};
+ghost use Rattle.content_store.specs.Bodies.{place_of_body};
 ghost use Rattle.kept_contents.specs.Stocks.{IsGrownFrom};
-ghost use Rattle.kept_contents.specs.Added.{AddsOne, Adds, AreHeld, contents_with, texts_of, texts_of_parts, texts_of_outputs};
+ghost use Rattle.kept_contents.specs.Added.{AddsOne, AddsTexts, AreHeld, contents_with, texts_of, texts_of_parts, texts_of_outputs};
 
 use crate::added::AddedTexts;
 use crate::shared::Shared;
@@ -39,7 +39,7 @@ fn number_shared(
     added: &mut AddedTexts,
     shared: Shared,
 ) -> Result<u32, Memory>
-    requires text { place_of shared.text table.now.texts ≡ Some shared.id }
+    requires text { place_of_body shared.text table.now.texts ≡ Some shared.id }
     requires added { AreHeld table.now.texts added.old }
     ensures number { IfOk result (λ n.
         IsText (contents_with table.now.contents added.new) n shared.text) }
@@ -78,7 +78,7 @@ pub fn stored_call(
     requires { AreHeld table.old.texts added.old }
     ensures call { IfOk result (λ stored.
         IsCallOf (contents_with table.new.contents added.new) stored call.now) }
-    ensures adds { OnOk result (Adds table.old.contents (texts_of_parts call.now.parts)
+    ensures adds { OnOk result (AddsTexts table.old.contents (texts_of_parts call.now.parts)
         (texts_of added.old) (texts_of added.new)) }
     ensures held { OnOk result (AreHeld table.new.texts added.new) }
     ensures contents { table.new.contents ≡ table.old.contents }
@@ -114,7 +114,7 @@ pub fn stored_outcome(
     requires { AreHeld table.old.texts added.old }
     ensures outcome { IfOk result (λ stored.
         IsOutcomeOf (contents_with table.new.contents added.new) stored outcome.now) }
-    ensures adds { OnOk result (Adds table.old.contents (texts_of_outputs outcome.now.outputs)
+    ensures adds { OnOk result (AddsTexts table.old.contents (texts_of_outputs outcome.now.outputs)
         (texts_of added.old) (texts_of added.new)) }
     ensures held { OnOk result (AreHeld table.new.texts added.new) }
     ensures contents { table.new.contents ≡ table.old.contents }
@@ -139,7 +139,7 @@ fn number_parts(
     requires { AreHeld table.old.texts added.old }
     ensures parts { IfOk result (λ stored.
         ArePartsOf (contents_with table.new.contents added.new) stored parts.now) }
-    ensures adds { OnOk result (Adds table.old.contents (texts_of_parts parts.now)
+    ensures adds { OnOk result (AddsTexts table.old.contents (texts_of_parts parts.now)
         (texts_of added.old) (texts_of added.new)) }
     ensures held { OnOk result (AreHeld table.new.texts added.new) }
     ensures contents { table.new.contents ≡ table.old.contents }
@@ -161,7 +161,7 @@ fn number_part(
     requires { AreHeld table.old.texts added.old }
     ensures part { IfOk result (λ stored.
         IsPartOf (contents_with table.new.contents added.new) stored part.now) }
-    ensures adds { OnOk result (Adds table.old.contents (body_of part.now.body)
+    ensures adds { OnOk result (AddsTexts table.old.contents (body_of part.now.body)
         (texts_of added.old) (texts_of added.new)) }
     ensures held { OnOk result (AreHeld table.new.texts added.new) }
     ensures contents { table.new.contents ≡ table.old.contents }
@@ -188,7 +188,7 @@ fn number_outputs(
     requires { AreHeld table.old.texts added.old }
     ensures outputs { IfOk result (λ stored.
         AreOutputsOf (contents_with table.new.contents added.new) stored outputs.now) }
-    ensures adds { OnOk result (Adds table.old.contents (texts_of_outputs outputs.now)
+    ensures adds { OnOk result (AddsTexts table.old.contents (texts_of_outputs outputs.now)
         (texts_of added.old) (texts_of added.new)) }
     ensures held { OnOk result (AreHeld table.new.texts added.new) }
     ensures contents { table.new.contents ≡ table.old.contents }

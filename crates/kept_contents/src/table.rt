@@ -5,7 +5,7 @@ ghost use Rattle.meaning_records.specs.Tables.{IsText, IsNoText};
 ghost use Rattle.meaning_records.specs.Numbers.{number_of};
 ghost use Rattle.kept_contents.specs.Stocks.{IsGrownFrom, IsOther};
 ghost use Rattle.kept_contents.specs.Added.{AreHeld, contents_with};
-ghost use Rattle.content_store.specs.Bodies.{place_of};
+ghost use Rattle.content_store.specs.Bodies.{place_of_body};
 
 use crate::index::OtherIndex;
 use crate::shared::{Content, Shared};
@@ -43,19 +43,19 @@ impl Drop for ContentTable {
 impl Model for ContentTable {
     ghost use Rattle.std.specs.Prelude.{◌-◌, All, vec_len, vec_capacity};
     ghost use Rattle.kept_contents.specs.Index.{IsIndexed};
-    ghost use Rattle.kept_contents.specs.Stocks.{Stock, IsNumbered, IsHeldIn, values_of};
+    ghost use Rattle.kept_contents.specs.Stocks.{ContentStock, IsNumbered, IsHeldIn, values_of_contents};
 
-    ghost Value = { Stock };
+    ghost Value = { ContentStock };
 
     ghost view = { λ t. record {
-      contents = values_of t.contents.items;
+      contents = values_of_contents t.contents.items;
       texts = t.texts;
       room = vec_capacity t.contents - vec_len t.contents;
     } };
 
-    ghost invariant = { λ t. IsNumbered (values_of t.contents.items) t.texts t.numbers.items
+    ghost invariant = { λ t. IsNumbered (values_of_contents t.contents.items) t.texts t.numbers.items
         × All (IsHeldIn t.texts) t.contents.items
-        × IsIndexed (values_of t.contents.items) t.others };
+        × IsIndexed (values_of_contents t.contents.items) t.others };
 }
 
 impl ContentTable {
@@ -80,7 +80,8 @@ impl ContentTable {
     /// The text that is the content of a number, with its own number in memory.
     pub fn shared(&self, number: u32) -> Option<&Shared>
         ensures some { IfSome result (λ s. IsText self.now.contents number s.now.text) }
-        ensures held { IfSome result (λ s. place_of s.now.text self.now.texts ≡ Some s.now.id) }
+        ensures held { IfSome result
+            (λ s. place_of_body s.now.text self.now.texts ≡ Some s.now.id) }
         ensures none { IfNone result ((text : List ℕ) → ¬ IsText self.now.contents number text) }
     {
         match self.contents.get(number as usize) {
@@ -103,7 +104,7 @@ impl ContentTable {
 
     /// The number of a content that is this text, which has this number in memory.
     pub fn number(&self, shared: &Shared) -> Option<u32>
-        requires { place_of shared.now.text self.now.texts ≡ Some shared.now.id }
+        requires { place_of_body shared.now.text self.now.texts ≡ Some shared.now.id }
         ensures some { IfSome result (λ n. IsText self.now.contents n shared.now.text) }
         ensures none { IfNone result (IsNoText self.now.contents shared.now.text) }
     {
@@ -143,7 +144,7 @@ impl ContentTable {
 
     /// Holds a text in memory, once. The contents stay.
     pub fn share(&mut self, alloc: Global, text: &Text) -> Result<Shared, Memory>
-        ensures id { IfOk result (λ s. place_of text.now self.new.texts ≡ Some s.id) }
+        ensures id { IfOk result (λ s. place_of_body text.now self.new.texts ≡ Some s.id) }
         ensures text { IfOk result (λ s. s.text ≡ text.now) }
         ensures contents { self.new.contents ≡ self.old.contents }
         ensures texts { IsGrownFrom self.old.texts self.new.texts }
@@ -155,14 +156,14 @@ impl ContentTable {
 
     // The number in memory of a text that is held.
     pub(crate) fn id_of(&self, text: &Text) -> Option<u64>
-        ensures { result ≡ place_of text.now self.now.texts }
+        ensures { result ≡ place_of_body text.now self.now.texts }
     {
         self.texts.find(text.as_slice())
     }
 
     // The number in memory of a text, which is held from now on.
     pub(crate) fn hold(&mut self, alloc: Global, text: &Text) -> Result<u64, Memory>
-        ensures id { IfOk result (λ id. place_of text.now self.new.texts ≡ Some id) }
+        ensures id { IfOk result (λ id. place_of_body text.now self.new.texts ≡ Some id) }
         ensures contents { self.new.contents ≡ self.old.contents }
         ensures texts { IsGrownFrom self.old.texts self.new.texts }
     {
@@ -194,7 +195,7 @@ impl ContentTable {
 
     /// Adds a text that is held as the next content. It takes no memory.
     pub fn push(&mut self, shared: Shared)
-        requires held { place_of shared.text self.old.texts ≡ Some shared.id }
+        requires held { place_of_body shared.text self.old.texts ≡ Some shared.id }
         requires room { 0 < self.old.room }
         requires few { length self.old.contents < 2 ^ 32 }
         ensures contents { self.new.contents ≡ self.old.contents ++ Simple shared.text ∷ [] }

@@ -11,11 +11,11 @@ use Rattle.meaning_texts.specs.Lists.{IsIn}
 use Rattle.meaning_records.specs.Tables.{Calls, Tables, kept_outcome}
 use Rattle.odin_journal.specs.declared.fault.JournalFault.{JournalFault}
 use Rattle.odin_journal.specs.declared.fault.JournalFault.TheVariants as store
-use Rattle.odin_journal.specs.Faults.{IsRefused, IsCause as IsStoreCause}
+use Rattle.odin_journal.specs.Faults.{IsRefused, JournalFaultIsCounted as IsStoreCause}
 use Rattle.odin_journal.specs.Rest.{IsReady}
 use Rattle.odin_store.specs.declared.store.Store.{Store}
 use Rattle.odin_store.specs.Held.{keeps}
-use Rattle.odin_store.specs.OnDisk.{IsSame, IsLeft as IsStoreLeft}
+use Rattle.odin_store.specs.OnDisk.{IsSame, StoreAfter as IsStoreLeft}
 use Rattle.odin_store.specs.Edited.{HasFailed}
 use Rattle.walk_tables.specs.Calls.{AreOnce}
 use Rattle.derive_walk.specs.Walks.{Walked}
@@ -26,7 +26,7 @@ use Rattle.kept_derive.specs.declared.fault.KeptFault.{KeptFault}
 use Rattle.kept_derive.specs.declared.landing.Landed.{Landed}
 use Rattle.kept_derive.specs.declared.landing.Landed.TheVariants.{Kept, Lost}
 use Rattle.kept_derive.specs.Calls.{IsKeepable, MayDrain, HasLanded, HasCrashed, Lands, FailsToLand}
-use Rattle.kept_derive.specs.Faults.{of_store, IsLeftBy, IsLeft, IsCauseOf, IsCause}
+use Rattle.kept_derive.specs.Faults.{of_store, StoreAfterKeptFault, StoreAfterDerive, CountAfterKeptFault, KeptFaultIsCounted}
 use Rattle.kept_derive.specs.Runs.{At}
 use Rattle.kept_derive.proofs.HeldLemmas.{calls_after}
 
@@ -182,7 +182,7 @@ pub still_ready : {D : Type 0} (size_of : D → ℕ) (store next : Store) (disk 
 still_ready size_of store next disk after ready same = subst (λ j. IsReady j (size_of after)) (sym same.store_is.journal) (subst (λ d. IsReady store.journal (size_of d)) (sym same.disk_is) ready)
 
 pub unkept_left : {D T : Type 0} (size_of : D → ℕ) (fault : JournalFault) (store next : Store) (disk after : D) → IsReady store.journal (size_of disk) → (IsRefused {T = T} (Err fault) → IsSame store next disk after)
-    → IsStoreLeft {T = T} next (size_of after) (Err fault) → IsLeftBy next (size_of after) (of_store fault)
+    → IsStoreLeft {T = T} next (size_of after) (Err fault) → StoreAfterKeptFault next (size_of after) (of_store fault)
 unkept_left size_of store.Disk store next disk after ready same left = left.spent refl
 unkept_left size_of (store.NotOurs place) store next disk after ready same left = still_ready size_of store next disk after ready (same tt)
 unkept_left size_of (store.Full end count) store next disk after ready same left = still_ready size_of store next disk after ready (same tt)
@@ -190,19 +190,19 @@ unkept_left size_of store.Memory store next disk after ready same left = still_r
 
 -- ---- the count of the disk's faults
 
-cause_of : {T : Type 0} (fault : JournalFault) (before now : ℕ) → IsStoreCause {T = T} before now (Err fault) → IsCauseOf before now (of_store fault)
+cause_of : {T : Type 0} (fault : JournalFault) (before now : ℕ) → IsStoreCause {T = T} before now (Err fault) → CountAfterKeptFault before now (of_store fault)
 cause_of store.Disk before now cause = cause.err
 cause_of (store.NotOurs place) before now cause = cause.err
 cause_of (store.Full end count) before now cause = cause.err
 cause_of store.Memory before now cause = cause.err
 
-pub store_cause : {T V : Type 0} (result : Result T KeptFault) (fault : JournalFault) (before now : ℕ) → result ≡ Err (of_store fault) → IsStoreCause {T = V} before now (Err fault) → IsCause before now result
-store_cause result fault before now is cause = subst (IsCause before now) (sym is) (record { later = cause.later; ok = tt; err = cause_of fault before now cause })
+pub store_cause : {T V : Type 0} (result : Result T KeptFault) (fault : JournalFault) (before now : ℕ) → result ≡ Err (of_store fault) → IsStoreCause {T = V} before now (Err fault) → KeptFaultIsCounted before now result
+store_cause result fault before now is cause = subst (KeptFaultIsCounted before now) (sym is) (record { later = cause.later; ok = tt; err = cause_of fault before now cause })
 
 -- ---- as the answers say it
 
-pub left_by : {T : Type 0} (result : Result T KeptFault) (fault : KeptFault) (store : Store) (size : ℕ) → result ≡ Err fault → IsLeftBy store size fault → IsLeft store size result
-left_by result fault store size is left = subst (IsLeft store size) (sym is) (record { ready = tt; left = left })
+pub left_by : {T : Type 0} (result : Result T KeptFault) (fault : KeptFault) (store : Store) (size : ℕ) → result ≡ Err fault → StoreAfterKeptFault store size fault → StoreAfterDerive store size result
+left_by result fault store size is left = subst (StoreAfterDerive store size) (sym is) (record { ready = tt; left = left })
 
 pub fails_at : {T D : Type 0} (result : Result T KeptFault) (told : D → Telling) (walked : Walked) (jobs : InFlight) (old : At D) (walked' : Walked) (jobs' : InFlight) (new : At D) (fault : KeptFault)
     → result ≡ Err fault → FailsToLand told walked jobs old walked' jobs' new fault → IfErr result (FailsToLand told walked jobs old walked' jobs' new)

@@ -25,7 +25,7 @@ use Rattle.plain_derive.specs.Flights.{Course, on_course, off_course, Why, for_c
 use Rattle.plain_derive.proofs.Lemmas.{founded_rests}
 use Rattle.kept_derive.specs.declared.fault.KeptFault.TheVariants.{Spawn}
 use Rattle.kept_derive.specs.Looked.{sought_by}
-use Rattle.kept_derive.specs.Runs.{At, at, known_in, world_in, course_of, HasRun, HasFound}
+use Rattle.kept_derive.specs.Runs.{At, at, known_in, store_world, course_of, HasRun, HasFound}
 use Rattle.kept_derive.specs.Stops.{IsStopped}
 use Rattle.kept_derive.specs.declared.flight.Flown.{Flown}
 use Rattle.kept_derive.specs.declared.flight.Flown.TheVariants as flight
@@ -62,7 +62,7 @@ module _ {D : Type 0} (told : D → Telling) (g : Graph) (n : Node) (first : At 
     -- Something is found, and none runs any more.
     pub has_found : IsSpellable g → Checked g → AreSources now.store.sources.texts → Fits g n → jobs.running ≡ [] → (found : Found) → walked.result ≡ Some found → course ≡ course_of found → HasFound told g n jobs.limit first now found
     has_found spellable checked sources fits none found is same =
-        let w : World = world_in g first.store walked.given in
+        let w : World = store_world g first.store walked.given in
         let texts : now.store.sources.texts ≡ first.store.sources.texts = sources_after told walked.given first.store now.store first.disk now.disk way.goes in
         let world_is : IsWorld w = record { spellable = spellable; checked = checked; sources = subst (λ (s : Sources). AreSources s) texts sources; fit = way.right.fit } in
         record {

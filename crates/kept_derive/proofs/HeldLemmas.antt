@@ -17,7 +17,7 @@ use Rattle.odin_store.specs.declared.store.Store.{Store}
 use Rattle.odin_store.specs.Held.{Held, keeps, apply}
 use Rattle.odin_store.specs.OnDisk.{held_in}
 use Rattle.odin_store.specs.Keeping.{store_keeping}
-use Rattle.odin_store.specs.Going.{Goes}
+use Rattle.odin_store.specs.Going.{Performs}
 use Rattle.walk_tables.specs.Calls.{outcome_in}
 use Rattle.derive_walk.specs.Outcomes.{given_or, after}
 use Rattle.plain_derive.specs.Given.{calls_of}
@@ -37,11 +37,11 @@ keeps_one_more (x ∷ given) call outcome = ap (λ l. keeps x.0 x.1 ∷ l) (keep
 
 -- ---- what is held
 
-held_after : (given : Calls) (held : Held) → trails.after store_keeping (keeps_of given) held ≡ record { sources = held.sources; calls = held.calls ++ given }
+held_after : (given : Calls) (held : Held) → trails.after_changes store_keeping (keeps_of given) held ≡ record { sources = held.sources; calls = held.calls ++ given }
 held_after [] held = ap (λ (l : Calls). record { sources = held.sources; calls = l }) (sym (nothing_behind held.calls))
 held_after (x ∷ given) held = held_after given (apply (keeps x.0 x.1) held) ∙ ap (λ (l : Calls). record { sources = held.sources; calls = l }) (append_assoc held.calls (x ∷ []) given)
 
-module _ {Disk : Type 0} (told : Disk → Telling) (given : Calls) (store next : Store) (disk after : Disk) (goes : Goes told (keeps_of given) store next disk after) where
+module _ {Disk : Type 0} (told : Disk → Telling) (given : Calls) (store next : Store) (disk after : Disk) (goes : Performs told (keeps_of given) store next disk after) where
   pub calls_after : next.kept.tables.calls ≡ store.kept.tables.calls ++ given
   calls_after = ap (λ (h : Held). h.calls) (goes.holds ∙ held_after given (held_in store))
 

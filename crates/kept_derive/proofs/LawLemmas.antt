@@ -13,7 +13,7 @@ use Rattle.meaning_derive.specs.Given.{table_outcomes}
 use Rattle.meaning_derive.specs.Laws.{HasMore}
 use Rattle.meaning_derive.proofs.Lemmas.{known, no_frontier, no_chain}
 use Rattle.meaning_records.specs.Tables.{Calls, kept_outcome}
-use Rattle.odin_store.specs.Going.{Goes}
+use Rattle.odin_store.specs.Going.{Performs}
 use Rattle.walk_tables.specs.declared.found.Found.{Found}
 use Rattle.walk_tables.specs.declared.found.Found.TheVariants.{Answer, Circular, Deep}
 use Rattle.derive_walk.specs.Founds.{IsFound}
@@ -29,7 +29,7 @@ use Rattle.kept_derive.proofs.HeldLemmas.{calls_after, sources_after, known_afte
 
 -- what is known once calls that were given outcomes are kept
 pub known_by : {D : Type 0} (told : D → Telling) (g : Graph) (n : Node) (old new : At D) (given : Calls) → AreGiven g old.store.sources.texts (known_in old.store) n given
-    → Goes told (keeps_of given) old.store new.store old.disk new.disk → ◌≡◌ {A = Outcomes} (known_in new.store) (after (known_in old.store) given)
+    → Performs told (keeps_of given) old.store new.store old.disk new.disk → ◌≡◌ {A = Outcomes} (known_in new.store) (after (known_in old.store) given)
 known_by told g n old new given are goes =
     ap kept_outcome (calls_after told given old.store new.store old.disk new.disk goes)
     ∙ known_after old.store.kept.tables.calls given (given_are_new g old.store.sources.texts (known_in old.store) n given are)

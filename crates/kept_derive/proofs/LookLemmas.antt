@@ -15,12 +15,12 @@ use Rattle.meaning_derive.specs.Laws.{HasMore}
 use Rattle.meaning_records.specs.Tables.{Calls, Tables, kept_outcome}
 use Rattle.odin_store.specs.declared.store.Store.{Store}
 use Rattle.odin_store.specs.OnDisk.{IsUnchanged}
-use Rattle.odin_store.specs.Going.{Goes, ChangesFollow}
+use Rattle.odin_store.specs.Going.{Performs, ChangesFollow}
 use Rattle.walk_tables.specs.Calls.{AreOnce, outcome_in}
-use Rattle.walk_tables.specs.Tables.{Entries, nodes_of}
-use Rattle.derive_walk.specs.Looks.{AreFew, met_by, stepped}
+use Rattle.walk_tables.specs.Tables.{Entries, done_nodes}
+use Rattle.derive_walk.specs.Looks.{LooksAreFew, met_by, count_with_steps}
 use Rattle.derive_walk.specs.Outcomes.{given_or, after}
-use Rattle.derive_walk.specs.Walks.{Walked, IsRight, IsGiven, GoesOn as WalkGoesOn}
+use Rattle.derive_walk.specs.Walks.{Walked, IsRight, OutcomeIsGiven, ExtendsWalk as WalkGoesOn}
 use Rattle.derive_walk.proofs.Lemmas.{has_met, met_stays}
 use Rattle.job_runner.specs.Flights.{InFlight}
 use Rattle.job_runner.proofs.Lemmas.{no_more}
@@ -29,7 +29,7 @@ use Rattle.plain_derive.specs.Flights.{Course}
 use Rattle.plain_derive.proofs.Lemmas.{flown_given}
 use Rattle.kept_derive.specs.declared.fault.KeptFault.{KeptFault}
 use Rattle.kept_derive.specs.declared.fault.KeptFault.TheVariants.{Spawn, Disk, Full, Memory}
-use Rattle.kept_derive.specs.Runs.{At, known_in, world_in, keeps_of}
+use Rattle.kept_derive.specs.Runs.{At, known_in, store_world, keeps_of}
 use Rattle.kept_derive.specs.declared.landing.Landed.{Landed}
 use Rattle.kept_derive.specs.declared.landing.Landed.TheVariants.{Kept, Lost}
 use Rattle.kept_derive.specs.Calls.{MayDrain, Lands, FailsToLand}
@@ -48,7 +48,7 @@ pub none_counted : (walked : Walked) (first : ℕ) → AreCounted first first 0 
 none_counted walked first = record { later = omega arith; each = omega arith }
 
 -- an advance
-pub advance_counted : (first mid last spare : ℕ) (old new : Walked) → AreCounted first mid 0 old → new.given ≡ old.given → AreFew (met_by old) (met_by new) mid last spare → AreCounted first last spare new
+pub advance_counted : (first mid last spare : ℕ) (old new : Walked) → AreCounted first mid 0 old → new.given ≡ old.given → LooksAreFew (met_by old) (met_by new) mid last spare → AreCounted first last spare new
 advance_counted first mid last spare old new counted same few = record {
   later = omega (arith, counted.later, few.later);
   each = omega (arith, counted.each, few.each, ap length same);
@@ -69,10 +69,10 @@ one_less call old new there once_old once_new fewer =
     by_test c i true same = inl ((call_exact c call).0 same)
     by_test c i false same = inr ((fewer c).1 (i, λ e. let yes : call_eq.eq c call ≡ true = (call_exact c call).1 e in cc))
 
-one_given : (call : Call) (outcome : Outcome) (old new : Walked) → IsIn call old.wanted → AreOnce old.wanted → IsGiven call outcome old new → sought_by new ≡ sought_by old
+one_given : (call : Call) (outcome : Outcome) (old new : Walked) → IsIn call old.wanted → AreOnce old.wanted → OutcomeIsGiven call outcome old new → sought_by new ≡ sought_by old
 one_given call outcome old new there once is =
     let less : length old.wanted ≡ length new.wanted + 1 = one_less call old.wanted new.wanted there once is.once is.wanted in
-    let same : stepped (nodes_of new.done) ≡ stepped (nodes_of old.done) = ap (λ (es : Entries). stepped (nodes_of es)) is.done in
+    let same : count_with_steps (done_nodes new.done) ≡ count_with_steps (done_nodes old.done) = ap (λ (es : Entries). count_with_steps (done_nodes es)) is.done in
     let longer : length new.given ≡ length old.given + 1 = ap length is.given ∙ length-append old.given ((call, outcome) ∷ []) in
     omega (arith, less, same, longer)
 
@@ -114,10 +114,10 @@ module _ (g : Graph) (n : Node) where
   }
 
 module _ {D : Type 0} (told : D → Telling) (g : Graph) (n : Node) (first : At D) where
-  has_looked : (walked : Walked) (now : At D) → walked.root ≡ n → AreGiven g first.store.sources.texts (known_in first.store) n walked.given → Goes told (keeps_of walked.given) first.store now.store first.disk now.disk
-      → IsRight (world_in g first.store walked.given) walked → (before last spare : ℕ) → AreCounted before last spare walked → HasLooked g n first.store now.store before last spare
+  has_looked : (walked : Walked) (now : At D) → walked.root ≡ n → AreGiven g first.store.sources.texts (known_in first.store) n walked.given → Performs told (keeps_of walked.given) first.store now.store first.disk now.disk
+      → IsRight (store_world g first.store walked.given) walked → (before last spare : ℕ) → AreCounted before last spare walked → HasLooked g n first.store now.store before last spare
   has_looked walked now root are goes right before last spare counted =
-      let met = has_met (world_in g first.store walked.given) walked right in
+      let met = has_met (store_world g first.store walked.given) walked right in
       let known : ◌≡◌ {A = Outcomes} (known_in now.store) (after (known_in first.store) walked.given) = known_now told g n first walked.given now are goes in
       let calls = calls_after told walked.given first.store now.store first.disk now.disk goes in
       record {
@@ -141,9 +141,9 @@ module _ {D : Type 0} (told : D → Telling) (g : Graph) (n : Node) (first : At 
     gives_up_looked before last counted = looked_wider g n first.store now.store before last 1 (way_looked before last 0 counted)
 
     -- as the walk went on, where memory may have been wanting
-    pub advance_looked : (walked' : Walked) → WalkGoesOn walked walked' → IsRight (world_in g now.store walked'.given) walked' → (before last spare : ℕ) → AreCounted before last spare walked' → HasLooked g n first.store now.store before last spare
+    pub advance_looked : (walked' : Walked) → WalkGoesOn walked walked' → IsRight (store_world g now.store walked'.given) walked' → (before last spare : ℕ) → AreCounted before last spare walked' → HasLooked g n first.store now.store before last spare
     advance_looked walked' on right before last spare counted =
-        let goes : Goes told (keeps_of walked'.given) first.store now.store first.disk now.disk = subst (λ (l : Calls). Goes told (keeps_of l) first.store now.store first.disk now.disk) (sym on.given) way.goes in
+        let goes : Performs told (keeps_of walked'.given) first.store now.store first.disk now.disk = subst (λ (l : Calls). Performs told (keeps_of l) first.store now.store first.disk now.disk) (sym on.given) way.goes in
         has_looked walked' now (on.root ∙ way.root) (subst (AreGiven g first.store.sources.texts (known_in first.store) n) (sym on.given) given_so_far) goes (subst (λ w. IsRight w walked') (worlds_are told g n first walked'.given now goes) right) before last spare counted
 
     -- an end after which it stops

@@ -13,7 +13,7 @@ use Rattle.meaning_derive.specs.Laws.{HasMore}
 use Rattle.meaning_records.specs.Tables.{Calls, Tables, kept_outcome}
 use Rattle.odin_store.specs.declared.store.Store.{Store}
 use Rattle.odin_store.specs.OnDisk.{IsSame}
-use Rattle.odin_store.specs.Going.{Goes, ChangesFollow}
+use Rattle.odin_store.specs.Going.{Performs, ChangesFollow}
 use Rattle.walk_tables.specs.Calls.{outcome_in}
 use Rattle.derive_walk.specs.Outcomes.{given_or}
 use Rattle.plain_derive.specs.Given.{HaveCome}
@@ -50,11 +50,11 @@ flown_true table g s n limit calls given rest before now answer right flown =
 
 module _ {D : Type 0} (told : D → Telling) (g : Graph) (n : Node) (limit : ℕ) (old new : At D) where
   -- calls were kept, and then nothing changed
-  keeps_before : ChangesFollow told → (given : Calls) (mid : At D) → Goes told (keeps_of given) old.store mid.store old.disk mid.disk → mid.store.epoch ≡ old.store.epoch → IsSame mid.store new.store mid.disk new.disk
+  keeps_before : ChangesFollow told → (given : Calls) (mid : At D) → Performs told (keeps_of given) old.store mid.store old.disk mid.disk → mid.store.epoch ≡ old.store.epoch → IsSame mid.store new.store mid.disk new.disk
       → KeepsCalls told old new
   keeps_before follow given mid goes epoch same = record {
     given = given;
-    goes = subst (λ l. Goes told l old.store new.store old.disk new.disk) (nothing_behind (keeps_of given))
+    goes = subst (λ l. Performs told l old.store new.store old.disk new.disk) (nothing_behind (keeps_of given))
         (follow.behind (keeps_of given) [] old.store mid.store new.store old.disk mid.disk new.disk goes (follow.none mid.store new.store mid.disk new.disk same));
     epoch = same.store_is.epoch ∙ epoch;
   }

@@ -18,21 +18,21 @@ use Rattle.odin_journal.specs.Rest.{IsReady}
 use Rattle.odin_store.specs.declared.store.Store.{Store}
 use Rattle.odin_store.specs.Held.{Change, keeps}
 use Rattle.odin_store.specs.OnDisk.{IsSame}
-use Rattle.odin_store.specs.Going.{Goes, ChangesFollow}
+use Rattle.odin_store.specs.Going.{Performs, ChangesFollow}
 use Rattle.derive_walk.specs.Outcomes.{after}
-use Rattle.derive_walk.specs.Walks.{Walked, IsRight, IsAdvanced, GoesOn as WalkGoesOn}
+use Rattle.derive_walk.specs.Walks.{Walked, IsRight, IsAdvanced, ExtendsWalk as WalkGoesOn}
 use Rattle.derive_walk.specs.Worlds.{world}
 use Rattle.job_runner.specs.declared.jobs.Flying.{Flying}
 use Rattle.job_runner.specs.Flights.{InFlight, flying, calls_in, AreDistinct, landed, IsOut, HasBegun, HasEnded, HasLost}
-use Rattle.job_runner.specs.Made.{IsOutcomeOf}
+use Rattle.job_runner.specs.Made.{IsOutcomeOfCall}
 use Rattle.job_runner.proofs.Lemmas.{distinct_more, calls_one_more, call_or_last}
 use Rattle.plain_derive.specs.Given.{IsRefusedBy}
-use Rattle.plain_derive.specs.Flights.{Flight, ends, loses, Course, on_course, off_course, for_chain, for_spawn, Waits, IsCalled, MayBegin, Flies, AreFlown}
+use Rattle.plain_derive.specs.Flights.{Flight, ends, loses, Course, on_course, off_course, for_chain, for_spawn, WaitsForCall, IsCalled, MayBegin, Flies, AreFlown}
 use Rattle.plain_derive.proofs.Lemmas.{flown_answer}
 use Rattle.kept_derive.specs.declared.fault.KeptFault.{KeptFault}
 use Rattle.kept_derive.specs.declared.fault.KeptFault.TheVariants.{Spawn, Disk, Full, Memory}
 use Rattle.kept_derive.specs.Looked.{AreCounted}
-use Rattle.kept_derive.specs.Runs.{At, at, known_in, world_in, keeps_of}
+use Rattle.kept_derive.specs.Runs.{At, at, known_in, store_world, keeps_of}
 use Rattle.kept_derive.specs.Stops.{IsUnkept, IsStopped}
 use Rattle.kept_derive.specs.declared.landing.Landed.{Landed}
 use Rattle.kept_derive.specs.declared.landing.Landed.TheVariants.{Kept, Lost}
@@ -48,17 +48,17 @@ after_loss on_course = off_course for_spawn
 after_loss (off_course why) = off_course why
 
 -- changes, and then none
-still_goes : {D : Type 0} (told : D → Telling) → ChangesFollow told → (changes : List Change) (first mid last : At D) → Goes told changes first.store mid.store first.disk mid.disk → IsSame mid.store last.store mid.disk last.disk
-    → Goes told changes first.store last.store first.disk last.disk
+still_goes : {D : Type 0} (told : D → Telling) → ChangesFollow told → (changes : List Change) (first mid last : At D) → Performs told changes first.store mid.store first.disk mid.disk → IsSame mid.store last.store mid.disk last.disk
+    → Performs told changes first.store last.store first.disk last.disk
 still_goes told follow changes first mid last goes same =
-    subst (λ l. Goes told l first.store last.store first.disk last.disk) (nothing_behind changes)
+    subst (λ l. Performs told l first.store last.store first.disk last.disk) (nothing_behind changes)
     (follow.behind changes [] first.store mid.store last.store first.disk mid.disk last.disk goes (follow.none mid.store last.store mid.disk last.disk same))
 
 module _ {D : Type 0} (told : D → Telling) (g : Graph) (n : Node) (first : At D) where
   -- ---- an end, on its course or off it
 
   flies_ended : (course : Course) (f : Flight) (limit : ℕ) (front back : List Flying) (slot : ℕ) (call : Call) (outcome : Outcome) → Flies g first.store.sources.texts (known_in first.store) n limit first.tools course f
-      → MayEnd g first.store.sources.texts (known_in first.store) n limit course f → f.running ≡ front ++ flying slot call ∷ back → Waits g first.store.sources.texts (known_in first.store) n f.given call → IsOutcomeOf first.tools.answer call outcome
+      → MayEnd g first.store.sources.texts (known_in first.store) n limit course f → f.running ≡ front ++ flying slot call ∷ back → WaitsForCall g first.store.sources.texts (known_in first.store) n f.given call → IsOutcomeOfCall first.tools.answer call outcome
       → Flies g first.store.sources.texts (known_in first.store) n limit first.tools course (ends f (front ++ back) slot call outcome)
   flies_ended on_course f limit front back slot call outcome flown may was stops came = Flies.one_ended f front back slot call outcome flown was may.0 may.1 came
   flies_ended (off_course why) f limit front back slot call outcome flown may was stops came = Flies.one_drained why f front back slot call outcome flown was stops came
@@ -89,7 +89,7 @@ module _ {D : Type 0} (told : D → Telling) (g : Graph) (n : Node) (first : At 
         subst (λ (z : List Flying × Spawned). Flies g first.store.sources.texts (known_in first.store) n jobs.limit first.tools course (record { running = z.0; given = walked.given ++ (call, outcome) ∷ []; tools = z.1 })) (λ i. (sym rest i, sym tools i))
         (flies_ended course (flight_at walked jobs old.tools) jobs.limit ended.out.front ended.out.back ended.slot call outcome way.flown may ended.out.was
         (waits told g n first course walked jobs old way call (way.runs call (out_ran ended.slot call jobs jobs' ended.out)))
-        (subst (λ a. IsOutcomeOf a call outcome) (flown_answer g first.store.sources.texts (known_in first.store) n jobs.limit first.tools course (flight_at walked jobs old.tools) way.flown) ended.came))
+        (subst (λ a. IsOutcomeOfCall a call outcome) (flown_answer g first.store.sources.texts (known_in first.store) n jobs.limit first.tools course (flight_at walked jobs old.tools) way.flown) ended.came))
 
     flight_lost : (jobs' : InFlight) (new : At D) → HasLost jobs old.tools jobs' new.tools
         → Flies g first.store.sources.texts (known_in first.store) n jobs.limit first.tools (after_loss course) (record { running = jobs'.running; given = walked.given; tools = new.tools })
@@ -103,7 +103,7 @@ module _ {D : Type 0} (told : D → Telling) (g : Graph) (n : Node) (first : At 
     few_left slot call jobs' out = omega (arith, way.few, out_fewer slot call jobs jobs' out)
 
     -- one ended as it may, is kept, and is given to the walk
-    pub lands : ChangesFollow told → (walked' : Walked) (jobs' : InFlight) (new : At D) → HasLanded told walked jobs old walked' jobs' new → IsRight (world_in g first.store walked'.given) walked' → IsOnWay told g n course first walked' jobs' new
+    pub lands : ChangesFollow told → (walked' : Walked) (jobs' : InFlight) (new : At D) → HasLanded told walked jobs old walked' jobs' new → IsRight (store_world g first.store walked'.given) walked' → IsOnWay told g n course first walked' jobs' new
     lands follow walked' jobs' new has right =
         let limit : jobs'.limit ≡ jobs.limit = out_limit has.ended.slot has.call jobs jobs' has.ended.out in
         record {
@@ -112,7 +112,7 @@ module _ {D : Type 0} (told : D → Telling) (g : Graph) (n : Node) (first : At 
               (flight_ended has.call has.outcome jobs' new has.ended);
           apart = out_apart has.ended.slot has.call jobs jobs' has.ended.out way.apart;
           few = omega (arith, few_left has.ended.slot has.call jobs' has.ended.out, limit);
-          goes = subst (λ l. Goes told l first.store new.store first.disk new.disk) (sym (ap keeps_of has.given.given ∙ keeps_one_more walked.given has.call has.outcome))
+          goes = subst (λ l. Performs told l first.store new.store first.disk new.disk) (sym (ap keeps_of has.given.given ∙ keeps_one_more walked.given has.call has.outcome))
               (follow.behind (keeps_of walked.given) (keeps has.call has.outcome ∷ []) first.store old.store new.store first.disk old.disk new.disk way.goes has.goes);
           epoch = has.epoch ∙ way.epoch;
           right = right;
@@ -188,7 +188,7 @@ module _ {D : Type 0} (told : D → Telling) (g : Graph) (n : Node) (first : At 
       rest = [];
       few = omega arith;
       flown = subst (λ (l : Calls). AreFlown g first.store.sources.texts (known_in first.store) n jobs.limit l first.tools new.tools) (sym (nothing_behind (walked.given ++ (has.call, has.outcome) ∷ []))) (flown_over has.call has.outcome jobs' new has.ended);
-      goes = subst (λ l. Goes told l first.store new.store first.disk new.disk) (sym (keeps_one_more walked.given has.call has.outcome))
+      goes = subst (λ l. Performs told l first.store new.store first.disk new.disk) (sym (keeps_one_more walked.given has.call has.outcome))
           (follow.behind (keeps_of walked.given) (keeps has.call has.outcome ∷ []) first.store old.store new.store first.disk old.disk new.disk way.goes has.goes);
       epoch = has.epoch ∙ way.epoch;
     }
@@ -269,9 +269,9 @@ module _ {D : Type 0} (told : D → Telling) (g : Graph) (n : Node) (first : At 
         subst (λ (z : InFlight). IsOnWay told g n (off_course for_spawn) first walked z (at old.store old.disk tools)) (sym same) there
 
     -- The walk goes on as far as it can.
-    pub advances : (walked' : Walked) → WalkGoesOn walked walked' → IsRight (world_in g old.store walked'.given) walked' → IsAdvanced (world_in g old.store walked'.given) walked' → IsOnWay told g n on_course first walked' jobs old
+    pub advances : (walked' : Walked) → WalkGoesOn walked walked' → IsRight (store_world g old.store walked'.given) walked' → IsAdvanced (store_world g old.store walked'.given) walked' → IsOnWay told g n on_course first walked' jobs old
     advances walked' on right ended =
-        let goes : Goes told (keeps_of walked'.given) first.store old.store first.disk old.disk = subst (λ (l : Calls). Goes told (keeps_of l) first.store old.store first.disk old.disk) (sym on.given) way.goes in
+        let goes : Performs told (keeps_of walked'.given) first.store old.store first.disk old.disk = subst (λ (l : Calls). Performs told (keeps_of l) first.store old.store first.disk old.disk) (sym on.given) way.goes in
         let worlds = worlds_are told g n first walked'.given old goes in
         let root : walked'.root ≡ n = on.root ∙ way.root in
         record {
@@ -325,7 +325,7 @@ drain_stops_at result told walked jobs old new fault is stops = subst (λ r. IfE
 pub record IsFlying {D : Type 0} (told : D → Telling) (size_of faults : D → ℕ) (g : Graph) (n : Node) (most : ℕ) (first : At D) (begun : ℕ) (walked : Walked) (jobs : InFlight) (store : Store) (disk : D) (tools : Spawned) (steps : ℕ) (newest : Bool) : Type 0 where
   pub way : IsOnWay told g n on_course first walked jobs (at store disk tools)
   pub still : walked.result ≡ None
-  pub fresh : IsTrue newest → IsAdvanced (world_in g store walked.given) walked
+  pub fresh : IsTrue newest → IsAdvanced (store_world g store walked.given) walked
   pub ready : IsReady store.journal (size_of disk)
   pub limit : jobs.limit ≡ most
   pub cause : faults disk ≡ faults first.disk

@@ -12,9 +12,9 @@ use Rattle.odin_journal.specs.Rest.{IsReady}
 use Rattle.odin_store.specs.declared.store.Store.{Store}
 use Rattle.odin_store.specs.Held.{keeps}
 use Rattle.odin_store.specs.OnDisk.{IsSame}
-use Rattle.odin_store.specs.Going.{Goes}
+use Rattle.odin_store.specs.Going.{Performs}
 use Rattle.odin_store.specs.Edited.{HasFailed}
-use Rattle.derive_walk.specs.Walks.{Walked, IsGiven}
+use Rattle.derive_walk.specs.Walks.{Walked, OutcomeIsGiven}
 use Rattle.walk_tables.specs.Calls.{AreOnce}
 use Rattle.job_runner.specs.Flights.{InFlight, calls_in, AreTold, AreDistinct, HasEnded, HasLost, MayHaveEnded}
 use Rattle.kept_derive.specs.declared.landing.Landed.{Landed}
@@ -60,9 +60,9 @@ module _ {D : Type 0} (told : D → Telling) (walked : Walked) (jobs : InFlight)
     pub call : Call
     pub outcome : Outcome
     pub ended : HasEnded call outcome jobs old.tools jobs' new.tools
-    pub goes : Goes told (keeps call outcome ∷ []) old.store new.store old.disk new.disk
+    pub goes : Performs told (keeps call outcome ∷ []) old.store new.store old.disk new.disk
     pub epoch : new.store.epoch ≡ old.store.epoch
-    pub given : IsGiven call outcome walked walked'
+    pub given : OutcomeIsGiven call outcome walked walked'
 
   -- An end was lost, and nothing else happened.
   pub record HasCrashed : Type 0 where
@@ -87,7 +87,7 @@ module _ {D : Type 0} (told : D → Telling) (walked : Walked) (jobs : InFlight)
     pub call : Call
     pub outcome : Outcome
     pub ended : HasEnded call outcome jobs old.tools jobs' new.tools
-    pub goes : Goes told (keeps call outcome ∷ []) old.store new.store old.disk new.disk
+    pub goes : Performs told (keeps call outcome ∷ []) old.store new.store old.disk new.disk
     pub epoch : new.store.epoch ≡ old.store.epoch
 
   -- what came of an end

@@ -16,22 +16,22 @@ of_store (store.Full at some) = Full at some
 of_store store.Memory = Memory
 
 -- what a fault leaves of a store: it is spent where the disk failed, and else can be changed on
-abbrev pub IsLeftBy : Store → ℕ → KeptFault → Type 0
-IsLeftBy store size Disk = IsTrue store.journal.spent
-IsLeftBy store size other = IsReady store.journal size
+abbrev pub StoreAfterKeptFault : Store → ℕ → KeptFault → Type 0
+StoreAfterKeptFault store size Disk = IsTrue store.journal.spent
+StoreAfterKeptFault store size other = IsReady store.journal size
 
 -- what any answer leaves of it
-pub record IsLeft {T : Type 0} (store : Store) (size : ℕ) (result : Result T KeptFault) : Type 0 where
+pub record StoreAfterDerive {T : Type 0} (store : Store) (size : ℕ) (result : Result T KeptFault) : Type 0 where
   pub ready : OnOk result (IsReady store.journal size)
-  pub left : IfErr result (IsLeftBy store size)
+  pub left : IfErr result (StoreAfterKeptFault store size)
 
 -- the disk's count of faults rose where the disk failed, and else is as it was
-abbrev pub IsCauseOf : ℕ → ℕ → KeptFault → Type 0
-IsCauseOf before now Disk = Rose before now
-IsCauseOf before now other = now ≡ before
+abbrev pub CountAfterKeptFault : ℕ → ℕ → KeptFault → Type 0
+CountAfterKeptFault before now Disk = Rose before now
+CountAfterKeptFault before now other = now ≡ before
 
 -- and what any answer says of it
-pub record IsCause {T : Type 0} (before now : ℕ) (result : Result T KeptFault) : Type 0 where
+pub record KeptFaultIsCounted {T : Type 0} (before now : ℕ) (result : Result T KeptFault) : Type 0 where
   pub later : before ≤ now
   pub ok : OnOk result (now ≡ before)
-  pub err : IfErr result (IsCauseOf before now)
+  pub err : IfErr result (CountAfterKeptFault before now)

@@ -10,7 +10,7 @@ use Rattle.meaning_derive.specs.Derive.{derived}
 use Rattle.meaning_derive.specs.Chains.{AreDifferent, IsMet}
 use Rattle.meaning_records.specs.Tables.{Calls}
 use Rattle.odin_store.specs.declared.store.Store.{Store}
-use Rattle.odin_store.specs.Going.{Goes}
+use Rattle.odin_store.specs.Going.{Performs}
 use Rattle.walk_tables.specs.declared.found.Found.{Found}
 use Rattle.derive_walk.specs.Looks.{met_by}
 use Rattle.derive_walk.specs.Walks.{Walked}
@@ -37,7 +37,7 @@ pub record HasLookedBefore {Disk : Type 0} (told : Disk → Telling) (g : Graph)
   pub outcome : Outcome
   pub mid : At Disk
   pub flown : AreFlown g old.store.sources.texts (known_in old.store) n limit (given ++ (call, outcome) ∷ []) old.tools new.tools
-  pub goes : Goes told (keeps_of given) old.store mid.store old.disk mid.disk
+  pub goes : Performs told (keeps_of given) old.store mid.store old.disk mid.disk
   pub looked : HasLooked g n old.store mid.store first last 0
 
 -- The looks of a derivation, whatever it came to. One may be lost where memory is wanting. A store whose disk failed tells no more of its

@@ -10,7 +10,7 @@ use Rattle.meaning_derive.specs.Derive.{Outcomes}
 use Rattle.meaning_records.specs.Tables.{Calls, kept_outcome}
 use Rattle.odin_store.specs.declared.store.Store.{Store}
 use Rattle.odin_store.specs.Held.{Change, keeps}
-use Rattle.odin_store.specs.Going.{Goes}
+use Rattle.odin_store.specs.Going.{Performs}
 use Rattle.walk_tables.specs.declared.found.Found.{Found}
 use Rattle.walk_tables.specs.declared.found.Found.TheVariants.{Answer, Circular, Deep}
 use Rattle.derive_walk.specs.Founds.{IsFound}
@@ -34,8 +34,8 @@ abbrev pub known_in : Store → Outcomes
 known_in store = kept_outcome store.kept.tables.calls
 
 -- what a derivation goes by, after these outcomes were given
-abbrev pub world_in : Graph → Store → Calls → World
-world_in g store given = kept_world g store.sources.texts store.kept.tables.calls given
+abbrev pub store_world : Graph → Store → Calls → World
+store_world g store given = kept_world g store.sources.texts store.kept.tables.calls given
 
 abbrev pub keeps_of : Calls → List Change
 keeps_of given = map (λ (x : Call × Outcome). keeps x.0 x.1) given
@@ -43,7 +43,7 @@ keeps_of given = map (λ (x : Call × Outcome). keeps x.0 x.1) given
 -- The node's tools ran so, at most so many at once, and none runs any more; each call was kept as its tool ended, and nothing else happened.
 pub record HasRun {Disk : Type 0} (told : Disk → Telling) (g : Graph) (n : Node) (limit : ℕ) (course : Course) (old : At Disk) (given : Calls) (new : At Disk) : Type 0 where
   pub run : AreRun g old.store.sources.texts (known_in old.store) n limit course given old.tools new.tools
-  pub goes : Goes told (keeps_of given) old.store new.store old.disk new.disk
+  pub goes : Performs told (keeps_of given) old.store new.store old.disk new.disk
   pub epoch : new.store.epoch ≡ old.store.epoch
 
 -- a view is found on course; for a chain what runs is drained

@@ -10,7 +10,7 @@ use Rattle.meaning_derive.specs.Given.{table_outcomes}
 use Rattle.meaning_derive.specs.Laws.{HasMore}
 use Rattle.meaning_records.specs.Tables.{Calls}
 use Rattle.odin_store.specs.Held.{keeps}
-use Rattle.odin_store.specs.Going.{Goes, Stops}
+use Rattle.odin_store.specs.Going.{Performs, StopsPerforming}
 use Rattle.kept_derive.specs.declared.fault.KeptFault.{KeptFault}
 use Rattle.kept_derive.specs.declared.fault.KeptFault.TheVariants.{Disk as DiskFailed}
 use Rattle.kept_derive.specs.Runs.{At, known_in, keeps_of}
@@ -20,7 +20,7 @@ module _ {Disk : Type 0} (told : Disk → Telling) where
   -- Calls were kept, one after another, and nothing else changed.
   pub record KeepsCalls (old new : At Disk) : Type 0 where
     pub given : Calls
-    pub goes : Goes told (keeps_of given) old.store new.store old.disk new.disk
+    pub goes : Performs told (keeps_of given) old.store new.store old.disk new.disk
     pub epoch : new.store.epoch ≡ old.store.epoch
 
   -- A stop that is not the disk's leaves a store that keeps the calls before it.
@@ -35,8 +35,8 @@ module _ {Disk : Type 0} (told : Disk → Telling) where
     pub call : Call
     pub outcome : Outcome
     pub mid : At Disk
-    pub goes : Goes told (keeps_of given) old.store mid.store old.disk mid.disk
-    pub stops : Stops told (keeps call outcome ∷ []) mid.store mid.disk new.disk
+    pub goes : Performs told (keeps_of given) old.store mid.store old.disk mid.disk
+    pub stops : StopsPerforming told (keeps call outcome ∷ []) mid.store mid.disk new.disk
 
   abbrev pub DiskStops : Type 0
   DiskStops = (g : Graph) (n : Node) (limit : ℕ) (old new : At Disk) → IsStopped told g n limit old new DiskFailed → StopsInCalls old new

@@ -9,7 +9,7 @@ use Rattle.meaning_records.specs.Tables.{Calls}
 use Rattle.odin_journal.specs.declared.fault.JournalFault.{JournalFault}
 use Rattle.odin_journal.specs.declared.fault.JournalFault.TheVariants as store
 use Rattle.odin_store.specs.Held.{keeps}
-use Rattle.odin_store.specs.Going.{Goes}
+use Rattle.odin_store.specs.Going.{Performs}
 use Rattle.odin_store.specs.Edited.{HasFailed}
 use Rattle.plain_derive.specs.Flights.{off_course, for_spawn, AreFlown}
 use Rattle.kept_derive.specs.declared.fault.KeptFault.{KeptFault}
@@ -17,7 +17,7 @@ use Rattle.kept_derive.specs.declared.fault.KeptFault.TheVariants.{Spawn, Disk, 
 use Rattle.kept_derive.specs.Runs.{At, known_in, keeps_of, HasRun}
 
 -- A tool was not started, or its end was lost: nothing more was started, what ran was drained, and what came of it is kept.
-pub record IsDrained {Disk : Type 0} (told : Disk → Telling) (g : Graph) (n : Node) (limit : ℕ) (old new : At Disk) : Type 0 where
+pub record DeriveIsDrained {Disk : Type 0} (told : Disk → Telling) (g : Graph) (n : Node) (limit : ℕ) (old new : At Disk) : Type 0 where
   pub given : Calls
   pub run : HasRun told g n limit (off_course for_spawn) old given new
 
@@ -28,22 +28,22 @@ pub record IsUnkept {Disk : Type 0} (told : Disk → Telling) (g : Graph) (n : N
   pub outcome : Outcome
   pub mid : At Disk
   pub flown : AreFlown g old.store.sources.texts (known_in old.store) n limit (given ++ (call, outcome) ∷ []) old.tools new.tools
-  pub goes : Goes told (keeps_of given) old.store mid.store old.disk mid.disk
+  pub goes : Performs told (keeps_of given) old.store mid.store old.disk mid.disk
   pub epoch : mid.store.epoch ≡ old.store.epoch
   pub failed : HasFailed told (keeps call outcome) mid.store new.store mid.disk new.disk fault
 
 -- Memory was wanting: tools ran, and what came is kept, but for the last at most. What runs is left.
-pub record IsWanting {Disk : Type 0} (told : Disk → Telling) (g : Graph) (n : Node) (limit : ℕ) (old new : At Disk) : Type 0 where
+pub record DeriveIsOutOfMemory {Disk : Type 0} (told : Disk → Telling) (g : Graph) (n : Node) (limit : ℕ) (old new : At Disk) : Type 0 where
   pub given : Calls
   pub rest : Calls
   pub few : length rest ≤ 1
   pub flown : AreFlown g old.store.sources.texts (known_in old.store) n limit (given ++ rest) old.tools new.tools
-  pub goes : Goes told (keeps_of given) old.store new.store old.disk new.disk
+  pub goes : Performs told (keeps_of given) old.store new.store old.disk new.disk
   pub epoch : new.store.epoch ≡ old.store.epoch
 
 -- what a derivation did that ends in a fault
 abbrev pub IsStopped : {Disk : Type 0} → (Disk → Telling) → Graph → Node → ℕ → At Disk → At Disk → KeptFault → Type 0
-IsStopped told g n limit old new Spawn = IsDrained told g n limit old new
+IsStopped told g n limit old new Spawn = DeriveIsDrained told g n limit old new
 IsStopped told g n limit old new Disk = IsUnkept told g n limit store.Disk old new
 IsStopped told g n limit old new (Full at some) = IsUnkept told g n limit (store.Full at some) old new
-IsStopped told g n limit old new Memory = IsWanting told g n limit old new
+IsStopped told g n limit old new Memory = DeriveIsOutOfMemory told g n limit old new

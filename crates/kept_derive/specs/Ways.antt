@@ -5,7 +5,7 @@ use Rattle.object_values.specs.declared.calls.Call.{Call}
 use Rattle.odin_outside.specs.Disk.{Telling}
 use Rattle.meaning_texts.specs.Lists.{IsIn}
 use Rattle.meaning_graph.specs.Graphs.{Graph}
-use Rattle.odin_store.specs.Going.{Goes}
+use Rattle.odin_store.specs.Going.{Performs}
 use Rattle.derive_walk.specs.Walks.{Walked, new_walk, IsRight}
 use Rattle.job_runner.specs.Flights.{InFlight, none_in_flight, calls_in, AreDistinct}
 use Rattle.plain_derive.specs.Flights.{Why, Course, on_course, off_course, for_spawn, IsCalled, Flies}
@@ -13,7 +13,7 @@ use Rattle.kept_derive.specs.declared.fault.KeptFault.{KeptFault}
 use Rattle.kept_derive.specs.declared.flight.Flown.{Flown}
 use Rattle.kept_derive.specs.declared.flight.Flown.TheVariants.{Found, Cut}
 use Rattle.kept_derive.specs.Looked.{sought_by, AreCounted, AreLooks}
-use Rattle.kept_derive.specs.Runs.{At, known_in, world_in, keeps_of}
+use Rattle.kept_derive.specs.Runs.{At, known_in, store_world, keeps_of}
 use Rattle.kept_derive.specs.Stops.{IsStopped}
 
 -- Its tools in flight, what came of them kept, and the walk right by what was kept before and by what came. What runs is wanted; and while
@@ -23,9 +23,9 @@ pub record IsOnWay {Disk : Type 0} (told : Disk → Telling) (g : Graph) (n : No
   pub flown : Flies g first.store.sources.texts (known_in first.store) n jobs.limit first.tools course (record { running = jobs.running; given = walked.given; tools = now.tools })
   pub apart : AreDistinct (calls_in jobs.running)
   pub few : length jobs.running ≤ jobs.limit
-  pub goes : Goes told (keeps_of walked.given) first.store now.store first.disk now.disk
+  pub goes : Performs told (keeps_of walked.given) first.store now.store first.disk now.disk
   pub epoch : now.store.epoch ≡ first.store.epoch
-  pub right : IsRight (world_in g first.store walked.given) walked
+  pub right : IsRight (store_world g first.store walked.given) walked
   pub runs : (call : Call) → IsIn call (calls_in jobs.running) → IsIn call walked.wanted
   pub called : walked.result ≡ None → (call : Call) → IsIn call walked.wanted → IsCalled g first.store.sources.texts (known_in first.store) n walked.given call
 
@@ -43,9 +43,9 @@ pub record IsStartable (calls : List Call) (jobs : InFlight) (call : Call) : Typ
   pub new : IsIn call (calls_in jobs.running) → ⊥
   pub room : length jobs.running < jobs.limit
 
-abbrev pub IsNext : List Call → InFlight → Option Call → Type 0
-IsNext wanted jobs (Some call) = IsStartable wanted jobs call
-IsNext wanted jobs None = (length jobs.running ≡ jobs.limit) ⊎ ((call : Call) → IsIn call wanted → IsIn call (calls_in jobs.running))
+abbrev pub IsNextStart : List Call → InFlight → Option Call → Type 0
+IsNextStart wanted jobs (Some call) = IsStartable wanted jobs call
+IsNextStart wanted jobs None = (length jobs.running ≡ jobs.limit) ⊎ ((call : Call) → IsIn call wanted → IsIn call (calls_in jobs.running))
 
 -- ---- what a flight comes to
 

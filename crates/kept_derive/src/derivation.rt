@@ -1,7 +1,7 @@
 // Derivation of a node over what a store keeps.
 ghost use Rattle.std.specs.Prelude.{◌≡◌, IfOk, IfErr};
 ghost use Rattle.kept_derive.specs.Calls.{MayDerive};
-ghost use Rattle.kept_derive.specs.Faults.{IsCause, IsLeft};
+ghost use Rattle.kept_derive.specs.Faults.{KeptFaultIsCounted, StoreAfterDerive};
 ghost use Rattle.kept_derive.specs.Looked.{AreLooks};
 ghost use Rattle.kept_derive.specs.Rests.{ComesToRest, IsDerivable, LeavesTools};
 ghost use Rattle.kept_derive.specs.Runs.{at, HasFound};
@@ -40,8 +40,8 @@ pub fn derive_kept<D: Disk, S: Spawner, L: Ledger>(
         (HasFound D.told graph.now node.now limit old (at store.new disk.new (S.told tools.new))) }
     ensures stopped { let old = at store.old disk.old (S.told tools.old) in IfErr result
         (IsStopped D.told graph.now node.now limit old (at store.new disk.new (S.told tools.new))) }
-    ensures left { IsLeft store.new (D.size_of disk.new) result }
-    ensures cause { IsCause (D.faults disk.old) (D.faults disk.new) result }
+    ensures left { StoreAfterDerive store.new (D.size_of disk.new) result }
+    ensures cause { KeptFaultIsCounted (D.faults disk.old) (D.faults disk.new) result }
     ensures rest { ComesToRest LeavesTools limit (S.told tools.old) (S.told tools.new) result }
     ensures counted { let old = at store.old disk.old (S.told tools.old) in
         AreLooks D.told graph.now node.now limit old (at store.new disk.new (S.told tools.new))

@@ -2,15 +2,15 @@
 ghost use Rattle.std.specs.Prelude.{◌≡◌, ◌≤◌, length, OnOk, IfOk, IfErr, option_map};
 ghost use Rattle.meaning_graph_text.specs.Grammar.{IsSpellable};
 ghost use Rattle.path_planner.specs.Ends.{plans_of};
-ghost use Rattle.derive_walk.specs.Looks.{AreFew, lost, met_by};
-ghost use Rattle.derive_walk.specs.Walks.{IsRight, IsAdvanced, GoesOn};
+ghost use Rattle.derive_walk.specs.Looks.{LooksAreFew, lost, met_by};
+ghost use Rattle.derive_walk.specs.Walks.{IsRight, IsAdvanced, ExtendsWalk};
 ghost use Rattle.kept_derive.specs.Calls.{IsIdle, MayDrain};
-ghost use Rattle.kept_derive.specs.Faults.{IsCause, IsLeft};
+ghost use Rattle.kept_derive.specs.Faults.{KeptFaultIsCounted, StoreAfterDerive};
 ghost use Rattle.kept_derive.specs.Looked.{FlightLooks};
 ghost use Rattle.kept_derive.specs.Rests.{IsDerivable};
-ghost use Rattle.kept_derive.specs.Runs.{at, world_in};
+ghost use Rattle.kept_derive.specs.Runs.{at, store_world};
 ghost use Rattle.kept_derive.specs.Stops.{IsStopped};
-ghost use Rattle.kept_derive.specs.Ways.{IsUnbegun, IsNext, HasFlown, Drains, DrainStops};
+ghost use Rattle.kept_derive.specs.Ways.{IsUnbegun, IsNextStart, HasFlown, Drains, DrainStops};
 
 use crate::fault::KeptFault;
 use crate::landing::{Landed, land};
@@ -54,8 +54,8 @@ pub(crate) fn fly<D: Disk, S: Spawner, L: Ledger>(
     ensures stopped { let old = at store.old disk.old (S.told tools.old) in
         IfErr result (IsStopped D.told graph.now core.old.root jobs.old.limit
         old (at store.new disk.new (S.told tools.new))) }
-    ensures left { IsLeft store.new (D.size_of disk.new) result }
-    ensures cause { IsCause (D.faults disk.old) (D.faults disk.new) result }
+    ensures left { StoreAfterDerive store.new (D.size_of disk.new) result }
+    ensures cause { KeptFaultIsCounted (D.faults disk.old) (D.faults disk.new) result }
     ensures counted { let old = at store.old disk.old (S.told tools.old) in
         FlightLooks D.told graph.now core.old.root jobs.old.limit
         old (at store.new disk.new (S.told tools.new)) core.new steps.old steps.new result }
@@ -91,7 +91,7 @@ pub(crate) fn fly<D: Disk, S: Spawner, L: Ledger>(
 // The first wanted call that doesn't run; none where as many run as may.
 fn next_call<'a>(wanted: &'a [Call], jobs: &Jobs) -> Option<&'a Call>
     requires { length jobs.now.running ≤ jobs.now.limit }
-    ensures { IsNext wanted.now jobs.now (option_map (λ call. call.now) result) }
+    ensures { IsNextStart wanted.now jobs.now (option_map (λ call. call.now) result) }
 {
     if jobs.is_full() {
         return None;
@@ -120,8 +120,8 @@ pub(crate) fn drain<D: Disk, S: Spawner>(
     ensures stops { let old = at store.old disk.old (S.told tools.old) in
         IfErr result (DrainStops D.told core.old jobs.old old
         (at store.new disk.new (S.told tools.new))) }
-    ensures left { IsLeft store.new (D.size_of disk.new) result }
-    ensures cause { IsCause (D.faults disk.old) (D.faults disk.new) result }
+    ensures left { StoreAfterDerive store.new (D.size_of disk.new) result }
+    ensures cause { KeptFaultIsCounted (D.faults disk.old) (D.faults disk.new) result }
 {
     changes_follow::<D>();
     let count = jobs.running();
@@ -142,12 +142,12 @@ fn advance<L: Ledger>(
 ) -> Result<(), Memory>
     requires spellable { IsSpellable graph.now }
     requires made { plans.now ≡ plans_of graph.now }
-    requires right { IsRight (world_in graph.now store.now core.old.given) core.old }
-    ensures on { GoesOn core.old core.new }
-    ensures right { IsRight (world_in graph.now store.now core.new.given) core.new }
+    requires right { IsRight (store_world graph.now store.now core.old.given) core.old }
+    ensures on { ExtendsWalk core.old core.new }
+    ensures right { IsRight (store_world graph.now store.now core.new.given) core.new }
     ensures advanced { OnOk result
-        (IsAdvanced (world_in graph.now store.now core.new.given) core.new) }
-    ensures counted { AreFew (met_by core.old) (met_by core.new)
+        (IsAdvanced (store_world graph.now store.now core.new.given) core.new) }
+    ensures counted { LooksAreFew (met_by core.old) (met_by core.new)
         steps.old steps.new (lost result) }
 {
     let looks = store.kept().looks();

@@ -6,7 +6,7 @@ ghost use Rattle.derive_walk.specs.Outcomes.{after};
 ghost use Rattle.derive_walk.specs.Walks.{IsRight};
 ghost use Rattle.derive_walk.specs.Worlds.{world};
 ghost use Rattle.kept_derive.specs.Calls.{MayLand, Lands, FailsToLand};
-ghost use Rattle.kept_derive.specs.Faults.{IsCause, IsLeft};
+ghost use Rattle.kept_derive.specs.Faults.{KeptFaultIsCounted, StoreAfterDerive};
 ghost use Rattle.kept_derive.specs.Runs.{at};
 
 use crate::fault::KeptFault;
@@ -44,8 +44,8 @@ pub(crate) fn land<D: Disk, S: Spawner>(
         IsRight (world g s (after kept core.old.given)) core.old →
         IsRight (world g s (after kept core.new.given)) core.new }
     ensures limit { jobs.new.limit ≡ jobs.old.limit }
-    ensures left { IsLeft store.new (D.size_of disk.new) result }
-    ensures cause { IsCause (D.faults disk.old) (D.faults disk.new) result }
+    ensures left { StoreAfterDerive store.new (D.size_of disk.new) result }
+    ensures cause { KeptFaultIsCounted (D.faults disk.old) (D.faults disk.new) result }
 {
     changes_follow::<D>();
     edits_are_told::<D>();

@@ -21,9 +21,9 @@ use Rattle.meaning_records.specs.Tables.{Tables, IsText, IsNoText, IsCallOf, IsO
 use Rattle.meaning_records.specs.Batches.{contents_of, body_of, needed_texts, IsPutBatch, IsCallBatch}
 use Rattle.kept_contents.specs.declared.shared.Shared.{Shared}
 use Rattle.kept_contents.specs.declared.held.HeldCall.{HeldCall}
-use Rattle.kept_contents.specs.Added.{texts_of, texts_of_parts, texts_of_outputs, contents_with, AddsOne, Adds}
+use Rattle.kept_contents.specs.Added.{texts_of, texts_of_parts, texts_of_outputs, contents_with, AddsOne, AddsTexts}
 use Rattle.kept_contents.proofs.Lemmas.{added_once, added_from, added_new, next_number, parts_stay}
-use Rattle.kept_tables.specs.Holdings.{Holding, Batch, MayKeep, Makes, PreparesSome, items_with, with_batch, with_calls, calls_of}
+use Rattle.kept_tables.specs.Holdings.{Holding, Batch, MayKeep, MakesBatch, PreparesSome, items_with, with_batch, with_calls, held_calls_of}
 
 abbrev Texts : Type 0
 Texts = List (List ℕ)
@@ -62,7 +62,7 @@ needed_short call outcome formed fits t i = elim (in_either t (texts_of_parts ca
 ]
 
 module _ (old kept : Holding) (same : kept.tables ≡ old.tables) (added : List Shared) (batch : Batch) where
-  module _ (held : HeldCall) (call : Call) (held_is : held.call ≡ call) (outcome : Outcome) (may : MayKeep old.tables call outcome) (adds : Adds old.tables.contents (needed_texts call outcome) [] (texts_of added)) (stored : StoredCall) (given : StoredOutcome) (called : IsCallOf (contents_with old.tables.contents added) stored call) (came : IsOutcomeOf (contents_with old.tables.contents added) given outcome) where
+  module _ (held : HeldCall) (call : Call) (held_is : held.call ≡ call) (outcome : Outcome) (may : MayKeep old.tables call outcome) (adds : AddsTexts old.tables.contents (needed_texts call outcome) [] (texts_of added)) (stored : StoredCall) (given : StoredOutcome) (called : IsCallOf (contents_with old.tables.contents added) stored call) (came : IsOutcomeOf (contents_with old.tables.contents added) given outcome) where
     call_items : IsCallBatch old.tables.contents call outcome (items_with added (Kept stored given))
     call_items = record {
       added = texts_of added;
@@ -81,7 +81,7 @@ module _ (old kept : Holding) (same : kept.tables ≡ old.tables) (added : List 
         (λ t i. needed_short call outcome may.formed may.fits t (added_from old.tables.contents (needed_texts call outcome) (texts_of added) adds t i))
         (with_call call outcome (with_contents old.tables (contents_of (texts_of added))), (call, outcome, record { called = called; came = came; formed = may.formed; fits = may.fits; new = may.new }, refl), refl)
 
-    pub call_prepared : Makes added (Kept stored given) (Some (held, outcome)) kept batch → PreparesSome (IsCallBatch old.tables.contents call outcome) kept batch
+    pub call_prepared : MakesBatch added (Kept stored given) (Some (held, outcome)) kept batch → PreparesSome (IsCallBatch old.tables.contents call outcome) kept batch
     call_prepared makes = (
       items_with added (Kept stored given),
       call_items,
@@ -114,7 +114,7 @@ module _ (old kept : Holding) (same : kept.tables ≡ old.tables) (added : List 
           | inr none ↦ absurd none
         ]
 
-    pub put_prepared : Makes added (Put name number) None kept batch → PreparesSome (IsPutBatch old.tables.contents name text) kept batch
+    pub put_prepared : MakesBatch added (Put name number) None kept batch → PreparesSome (IsPutBatch old.tables.contents name text) kept batch
     put_prepared makes = (
       items_with added (Put name number),
       put_items,
@@ -133,7 +133,7 @@ pub if_ok : {T E : Type 0} {P Q : T → Type 0} (r : Result T E) → IfOk r P �
 if_ok (Ok x) p then = then x p
 if_ok (Err e) p then = tt
 
-pub call_stays : (contents : List Value) (xs : Texts) (old new : List Shared) (stored : StoredCall) (call : Call) → Adds contents xs (texts_of old) (texts_of new) → IsCallOf (contents_with contents old) stored call → IsCallOf (contents_with contents new) stored call
+pub call_stays : (contents : List Value) (xs : Texts) (old new : List Shared) (stored : StoredCall) (call : Call) → AddsTexts contents xs (texts_of old) (texts_of new) → IsCallOf (contents_with contents old) stored call → IsCallOf (contents_with contents new) stored call
 call_stays contents xs old new stored call adds is = record {
   tool = is.tool;
   version = is.version;
@@ -145,8 +145,8 @@ call_stays contents xs old new stored call adds is = record {
 
 -- ---- taking in
 
-pub committed : (old middle new : Tables) (batch : Batch) (added : List Shared) (call : Option (HeldCall × Outcome)) → added ≡ batch.added → call ≡ batch.call → middle.contents ≡ contents_with old.contents (reverse added) → middle.calls ≡ old.calls → new ≡ with_calls middle (calls_of call) → new ≡ with_batch old batch
+pub committed : (old middle new : Tables) (batch : Batch) (added : List Shared) (call : Option (HeldCall × Outcome)) → added ≡ batch.added → call ≡ batch.call → middle.contents ≡ contents_with old.contents (reverse added) → middle.calls ≡ old.calls → new ≡ with_calls middle (held_calls_of call) → new ≡ with_batch old batch
 committed old middle new batch added call added_is call_is contents calls new_is =
     let a : middle.contents ≡ contents_with old.contents (reverse batch.added) = contents ∙ ap (λ (l : List Shared). contents_with old.contents (reverse l)) added_is in
-    let b : middle.calls ++ calls_of call ≡ old.calls ++ calls_of batch.call = ap (λ (l : Calls). l ++ calls_of call) calls ∙ ap (λ (o : Option (HeldCall × Outcome)). old.calls ++ calls_of o) call_is in
+    let b : middle.calls ++ held_calls_of call ≡ old.calls ++ held_calls_of batch.call = ap (λ (l : Calls). l ++ held_calls_of call) calls ∙ ap (λ (o : Option (HeldCall × Outcome)). old.calls ++ held_calls_of o) call_is in
     new_is ∙ (λ i. record { contents = a i; calls = b i })

@@ -24,7 +24,7 @@ use Rattle.kept_contents.specs.Keys.{IsKeyOf, IsUnheld, key_exact}
 use Rattle.kept_contents.specs.Stocks.{IsGrownFrom}
 use Rattle.kept_contents.proofs.Lemmas.{heads_not, key_grown, one_call_of, one_key}
 use Rattle.kept_tables.specs.declared.kept.Entry.{Entry}
-use Rattle.kept_tables.specs.Holdings.{IsKept, IsKeptIn, call_in, calls_in}
+use Rattle.kept_tables.specs.Holdings.{IsKept, IsKeptIn, kept_call_of, kept_calls_of}
 use Rattle.kept_tables.proofs.Added.{goes_last, is_none}
 
 abbrev Entries : Type 0
@@ -49,7 +49,7 @@ same_tests false false p q to from = refl
 -- ---- heads more
 
 pub kept_grown : (old new : List CallHead) (before after : Bodies) (entries : Entries) → AreMore old new → IsGrownFrom before after → All (IsKeptIn old before) entries → All (IsKeptIn new after) entries
-kept_grown old new before after entries more grown kept = All-weaker (IsKeptIn old before) (IsKeptIn new after) (λ e k. (key_grown old new before after e.0 (call_in e).0 more grown k.0, k.1)) entries kept
+kept_grown old new before after entries more grown kept = All-weaker (IsKeptIn old before) (IsKeptIn new after) (λ e k. (key_grown old new before after e.0 (kept_call_of e).0 more grown k.0, k.1)) entries kept
 
 -- the heads as they are
 pub kept_texts : (heads : List CallHead) (before after : Bodies) (entries : Entries) → IsGrownFrom before after → All (IsKeptIn heads before) entries → All (IsKeptIn heads after) entries
@@ -58,8 +58,8 @@ kept_texts heads before after entries grown kept = kept_grown heads heads before
 pub held_grown : (heads : List CallHead) (before after : Bodies) (held : HeldCall) → IsGrownFrom before after → IsHeld heads before held → IsHeld heads after held
 held_grown heads before after held grown is = key_grown heads heads before after (key_of held) held.call (heads_not heads) grown is
 
-pub all_kept : (heads : List CallHead) (texts : Bodies) (entries : Entries) → All (IsKeptIn heads texts) entries → All IsKept (calls_in entries)
-all_kept heads texts entries kept = All-map IsKept call_in entries (All-weaker (IsKeptIn heads texts) (λ e. IsKept (call_in e)) (λ e k. k.1) entries kept)
+pub all_kept : (heads : List CallHead) (texts : Bodies) (entries : Entries) → All (IsKeptIn heads texts) entries → All IsKept (kept_calls_of entries)
+all_kept heads texts entries kept = All-map IsKept kept_call_of entries (All-weaker (IsKeptIn heads texts) (λ e. IsKept (kept_call_of e)) (λ e k. k.1) entries kept)
 
 module _ (heads : List CallHead) (texts : Bodies) where
   -- calls that are held are the same where their keys are
@@ -68,22 +68,22 @@ module _ (heads : List CallHead) (texts : Bodies) where
 
   -- ---- what is found
 
-  pub looked : (entries : Entries) (key : CallKey) (call : Call) → All (IsKeptIn heads texts) entries → IsKeyOf heads texts key call → outcome_in (lookup (key_eq.eq key) entries) ≡ kept_outcome (calls_in entries) call
+  pub looked : (entries : Entries) (key : CallKey) (call : Call) → All (IsKeptIn heads texts) entries → IsKeyOf heads texts key call → outcome_in (lookup (key_eq.eq key) entries) ≡ kept_outcome (kept_calls_of entries) call
   looked [] key call kept is = refl
-  looked (e ∷ es) key call kept is = by_test (key_eq.eq key e.0) (key_tells key e.0 call (call_in e).0 is (All-head (IsKeptIn heads texts) e es kept).0) (looked es key call (All-tail (IsKeptIn heads texts) e es kept) is)
+  looked (e ∷ es) key call kept is = by_test (key_eq.eq key e.0) (key_tells key e.0 call (kept_call_of e).0 is (All-head (IsKeptIn heads texts) e es kept).0) (looked es key call (All-tail (IsKeptIn heads texts) e es kept) is)
     where
-      by_test : (t : Bool) → t ≡ call_eq.eq call (call_in e).0 → outcome_in (lookup (key_eq.eq key) es) ≡ kept_outcome (calls_in es) call → outcome_in (cond t (Some e.1) (lookup (key_eq.eq key) es)) ≡ cond (call_eq.eq call (call_in e).0) (Some e.1.outcome) (kept_outcome (calls_in es) call)
-      by_test true same rest = ap (λ b. cond b (Some e.1.outcome) (kept_outcome (calls_in es) call)) same
-      by_test false apart rest = rest ∙ ap (λ b. cond b (Some e.1.outcome) (kept_outcome (calls_in es) call)) apart
+      by_test : (t : Bool) → t ≡ call_eq.eq call (kept_call_of e).0 → outcome_in (lookup (key_eq.eq key) es) ≡ kept_outcome (kept_calls_of es) call → outcome_in (cond t (Some e.1) (lookup (key_eq.eq key) es)) ≡ cond (call_eq.eq call (kept_call_of e).0) (Some e.1.outcome) (kept_outcome (kept_calls_of es) call)
+      by_test true same rest = ap (λ b. cond b (Some e.1.outcome) (kept_outcome (kept_calls_of es) call)) same
+      by_test false apart rest = rest ∙ ap (λ b. cond b (Some e.1.outcome) (kept_outcome (kept_calls_of es) call)) apart
 
   -- of a call whose head, or a text of whose inputs, isn't held
-  pub not_held : (entries : Entries) (call : Call) → All (IsKeptIn heads texts) entries → IsUnheld heads texts call → kept_outcome (calls_in entries) call ≡ None
+  pub not_held : (entries : Entries) (call : Call) → All (IsKeptIn heads texts) entries → IsUnheld heads texts call → kept_outcome (kept_calls_of entries) call ≡ None
   not_held [] call kept none = refl
-  not_held (e ∷ es) call kept none = by_test (call_eq.eq call (call_in e).0) refl (not_held es call (All-tail (IsKeptIn heads texts) e es kept) none)
+  not_held (e ∷ es) call kept none = by_test (call_eq.eq call (kept_call_of e).0) refl (not_held es call (All-tail (IsKeptIn heads texts) e es kept) none)
     where
-      by_test : (b : Bool) → call_eq.eq call (call_in e).0 ≡ b → kept_outcome (calls_in es) call ≡ None → cond b (Some e.1.outcome) (kept_outcome (calls_in es) call) ≡ None
+      by_test : (b : Bool) → call_eq.eq call (kept_call_of e).0 ≡ b → kept_outcome (kept_calls_of es) call ≡ None → cond b (Some e.1.outcome) (kept_outcome (kept_calls_of es) call) ≡ None
       by_test true same rest =
-          let is = subst (λ (d : Call). IsKeyOf heads texts e.0 d) (sym ((call_exact call (call_in e).0).0 same)) (All-head (IsKeptIn heads texts) e es kept).0 in
+          let is = subst (λ (d : Call). IsKeyOf heads texts e.0 d) (sym ((call_exact call (kept_call_of e).0).0 same)) (All-head (IsKeptIn heads texts) e es kept).0 in
           elim none [
             | inl head ↦ absurd (none-some e.0.head (sym head ∙ is.head))
             | inr text ↦ absurd (text is.held)
@@ -96,11 +96,11 @@ module _ (heads : List CallHead) (texts : Bodies) where
   none_there None none = refl
   none_there (Some e) none = absurd (none-some e.outcome (sym none))
 
-  pub added_last : (entries : Entries) (key : CallKey) (entry : Entry) → All (IsKeptIn heads texts) entries → IsKeyOf heads texts key (call_in (key, entry)).0 → IsNone (kept_outcome (calls_in entries) (call_in (key, entry)).0) → insert_entry key_eq.eq entries key entry ≡ entries ++ (key, entry) ∷ []
-  added_last entries key entry kept is new = goes_last key_eq.eq entries key entry (none_there (lookup (key_eq.eq key) entries) (looked entries key (call_in (key, entry)).0 kept is ∙ is_none _ new))
+  pub added_last : (entries : Entries) (key : CallKey) (entry : Entry) → All (IsKeptIn heads texts) entries → IsKeyOf heads texts key (kept_call_of (key, entry)).0 → IsNone (kept_outcome (kept_calls_of entries) (kept_call_of (key, entry)).0) → insert_entry key_eq.eq entries key entry ≡ entries ++ (key, entry) ∷ []
+  added_last entries key entry kept is new = goes_last key_eq.eq entries key entry (none_there (lookup (key_eq.eq key) entries) (looked entries key (kept_call_of (key, entry)).0 kept is ∙ is_none _ new))
 
-  pub kept_push : (entries : Entries) (key : CallKey) (entry : Entry) → All (IsKeptIn heads texts) entries → IsKeyOf heads texts key (call_in (key, entry)).0 → IsKept (call_in (key, entry)) → All (IsKeptIn heads texts) (entries ++ (key, entry) ∷ [])
+  pub kept_push : (entries : Entries) (key : CallKey) (entry : Entry) → All (IsKeptIn heads texts) entries → IsKeyOf heads texts key (kept_call_of (key, entry)).0 → IsKept (kept_call_of (key, entry)) → All (IsKeptIn heads texts) (entries ++ (key, entry) ∷ [])
   kept_push entries key entry kept is fits = All-push (IsKeptIn heads texts) entries (key, entry) kept (is, fits)
 
-pub calls_push : (entries : Entries) (key : CallKey) (entry : Entry) → calls_in (entries ++ (key, entry) ∷ []) ≡ calls_in entries ++ call_in (key, entry) ∷ []
-calls_push entries key entry = map-append call_in entries ((key, entry) ∷ [])
+pub calls_push : (entries : Entries) (key : CallKey) (entry : Entry) → kept_calls_of (entries ++ (key, entry) ∷ []) ≡ kept_calls_of entries ++ kept_call_of (key, entry) ∷ []
+calls_push entries key entry = map-append kept_call_of entries ((key, entry) ∷ [])

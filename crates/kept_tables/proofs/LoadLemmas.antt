@@ -13,7 +13,7 @@ use Rattle.meaning_records.specs.declared.items.StoredCall.{StoredCall}
 use Rattle.meaning_records.specs.declared.items.StoredOutcome.{StoredOutcome}
 use Rattle.meaning_records.specs.declared.items.Item.{Item}
 use Rattle.meaning_records.specs.declared.items.Item.TheVariants.{Kept}
-use Rattle.meaning_records.specs.Forms.{StandsAt, StandsNowhere}
+use Rattle.meaning_records.specs.Forms.{ParsesAt, StandsNowhere}
 use Rattle.meaning_records.specs.FormLemmas.{one_item}
 use Rattle.meaning_records.specs.PlaceLemmas.{one_stands}
 use Rattle.meaning_records.specs.Records.{item}
@@ -21,17 +21,17 @@ use Rattle.meaning_records.specs.Tables.{Tables, IsCallOf, IsOutcomeOf, Loads, w
 use Rattle.kept_contents.proofs.Lemmas.{one_call, one_outcome}
 use Rattle.kept_tables.specs.declared.loaded.Loaded.{Loaded}
 use Rattle.kept_tables.specs.Holdings.{MayKeep}
-use Rattle.kept_tables.specs.Loading.{LoadsItem, LoadsNothing, TakesIn}
+use Rattle.kept_tables.specs.Loading.{LoadsItem, LoadsNothing, TakesInItem}
 
 module _ (payload : List ℕ) (at : ℕ) (old : Tables) where
   pub nothing_there : StandsNowhere item payload at → LoadsNothing payload at old
   nothing_there nowhere it end new stands loads = nowhere it end stands
 
-  pub nothing_taken : (end : ℕ) (it : Item) → StandsAt item payload at end it → ((new : Tables) → Loads old it new → ⊥) → LoadsNothing payload at old
+  pub nothing_taken : (end : ℕ) (it : Item) → ParsesAt item payload at end it → ((new : Tables) → Loads old it new → ⊥) → LoadsNothing payload at old
   nothing_taken end it stood none other last new stands loads =
       none new (subst (λ (i : Item). Loads old i new) (one_stands item one_item payload at last end other it stands stood).0 loads)
 
-  pub taken : (end : ℕ) (it : Item) (new : Tables) (given : Loaded) → StandsAt item payload at end it → TakesIn it old new given → LoadsItem payload at end given old new
+  pub taken : (end : ℕ) (it : Item) (new : Tables) (given : Loaded) → ParsesAt item payload at end it → TakesInItem it old new given → LoadsItem payload at end given old new
   taken end it new given stands takes = record { it = it; stands = stands; loads = takes.loads; gives = takes.gives }
 
 module _ (old : Tables) (stored : StoredCall) (given : StoredOutcome) where

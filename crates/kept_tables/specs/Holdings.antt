@@ -36,9 +36,9 @@ pub record Batch : Type 0 where
   pub added : List Shared
   pub call : Option (HeldCall × Outcome)
 
-abbrev pub calls_of : Option (HeldCall × Outcome) → Calls
-calls_of None = []
-calls_of (Some (held, outcome)) = (held.call, outcome) ∷ []
+abbrev pub held_calls_of : Option (HeldCall × Outcome) → Calls
+held_calls_of None = []
+held_calls_of (Some (held, outcome)) = (held.call, outcome) ∷ []
 
 -- a call that may be kept
 pub record MayKeep (tables : Tables) (call : Call) (outcome : Outcome) : Type 0 where
@@ -62,7 +62,7 @@ with_calls tables more = record { contents = tables.contents; calls = tables.cal
 
 -- the tables with what a batch adds
 abbrev pub with_batch : Tables → Batch → Tables
-with_batch tables batch = record { contents = contents_with tables.contents (reverse batch.added); calls = tables.calls ++ calls_of batch.call }
+with_batch tables batch = record { contents = contents_with tables.contents (reverse batch.added); calls = tables.calls ++ held_calls_of batch.call }
 
 -- Taking this batch into these tables, which prepared it, makes those of them.
 pub record Commits (kept : Holding) (batch : Batch) (next : Tables) : Type 0 where
@@ -81,7 +81,7 @@ abbrev pub items_with : List Shared → Item → List Item
 items_with added last = items_of_texts added ++ last ∷ []
 
 -- A batch has the bytes of these items, and may be taken in.
-pub record Makes (added : List Shared) (last : Item) (call : Option (HeldCall × Outcome)) (kept : Holding) (batch : Batch) : Type 0 where
+pub record MakesBatch (added : List Shared) (last : Item) (call : Option (HeldCall × Outcome)) (kept : Holding) (batch : Batch) : Type 0 where
   pub fit : All item.fits (items_with added last)
   pub spelled : batch.payload ≡ spell_batch (items_with added last)
   pub added_is : reverse batch.added ≡ added
@@ -114,12 +114,12 @@ IsKept kept = IsWellFormed kept.0 × OutcomeFits kept.0 kept.1
 
 -- ---- calls as they are held
 
-abbrev pub call_in : CallKey × Entry → Call × Outcome
-call_in entry = (call_with entry.1.head entry.0.parts, entry.1.outcome)
+abbrev pub kept_call_of : CallKey × Entry → Call × Outcome
+kept_call_of entry = (call_with entry.1.head entry.0.parts, entry.1.outcome)
 
-abbrev pub calls_in : List (CallKey × Entry) → Calls
-calls_in = map call_in
+abbrev pub kept_calls_of : List (CallKey × Entry) → Calls
+kept_calls_of = map kept_call_of
 
 -- a kept call stands under its key
 abbrev pub IsKeptIn : List CallHead → Bodies → CallKey × Entry → Type 0
-IsKeptIn heads texts entry = IsKeyOf heads texts entry.0 (call_in entry).0 × IsKept (call_in entry)
+IsKeptIn heads texts entry = IsKeyOf heads texts entry.0 (kept_call_of entry).0 × IsKept (kept_call_of entry)

@@ -4,7 +4,7 @@ use Rattle.object_values.specs.declared.views.Value.{Value}
 use Rattle.object_sources.specs.Texts.{Text}
 use Rattle.meaning_records.specs.declared.items.Item.{Item}
 use Rattle.meaning_records.specs.declared.items.Item.TheVariants.{Graph, Content, Put, Dropped, Kept}
-use Rattle.meaning_records.specs.Forms.{StandsAt}
+use Rattle.meaning_records.specs.Forms.{ParsesAt}
 use Rattle.meaning_records.specs.Records.{item}
 use Rattle.meaning_records.specs.Tables.{Tables, IsText, Loads}
 use Rattle.kept_tables.specs.declared.loaded.Loaded.{Loaded}
@@ -21,15 +21,15 @@ IsLoaded contents (Kept call outcome) given = given ≡ loaded.CallKept
 -- An item stands at a place, may come behind these tables, and makes those of them.
 pub record LoadsItem (payload : List ℕ) (at end : ℕ) (given : Loaded) (old new : Tables) : Type 0 where
   pub it : Item
-  pub stands : StandsAt item payload at end it
+  pub stands : ParsesAt item payload at end it
   pub loads : Loads old it new
   pub gives : IsLoaded old.contents it given
 
 -- No item stands there that may come behind these tables.
 abbrev pub LoadsNothing : List ℕ → ℕ → Tables → Type 0
-LoadsNothing payload at old = (it : Item) (end : ℕ) (new : Tables) → StandsAt item payload at end it → ¬ Loads old it new
+LoadsNothing payload at old = (it : Item) (end : ℕ) (new : Tables) → ParsesAt item payload at end it → ¬ Loads old it new
 
 -- An item may come behind these tables, and this is given of it.
-pub record TakesIn (it : Item) (old new : Tables) (given : Loaded) : Type 0 where
+pub record TakesInItem (it : Item) (old new : Tables) (given : Loaded) : Type 0 where
   pub loads : Loads old it new
   pub gives : IsLoaded old.contents it given

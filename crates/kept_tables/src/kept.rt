@@ -8,7 +8,7 @@ ghost use Rattle.kept_tables.specs.Loading.{LoadsItem, LoadsNothing};
 ghost use Rattle.indexmap.specs.IndexMap.{insert_entry, spare};
 ghost use Rattle.kept_contents.specs.Added.{AreHeld, contents_with};
 ghost use Rattle.kept_contents.specs.Held.{IsHeld};
-ghost use Rattle.kept_tables.specs.Holdings.{IsCommitted, IsKept, IsPrepared, MayAdd, MayKeep, calls_of, with_calls};
+ghost use Rattle.kept_tables.specs.Holdings.{IsCommitted, IsKept, IsPrepared, MayAdd, MayKeep, held_calls_of, with_calls};
 
 use crate::loaded::Loaded;
 use crate::looks::Looks;
@@ -48,12 +48,12 @@ impl Drop for Kept {
 impl Model for Kept {
     ghost use Rattle.std.specs.Prelude.{All};
     ghost use Rattle.indexmap.specs.IndexMap.{spare};
-    ghost use Rattle.kept_tables.specs.Holdings.{Holding, IsKeptIn, calls_in};
+    ghost use Rattle.kept_tables.specs.Holdings.{Holding, IsKeptIn, kept_calls_of};
 
     ghost Value = { Holding };
 
     ghost view = { λ k. record {
-      tables = record { contents = k.contents.contents; calls = calls_in k.calls.entries };
+      tables = record { contents = k.contents.contents; calls = kept_calls_of k.calls.entries };
       texts = k.contents.texts;
       heads = k.heads;
       room = k.contents.room;
@@ -228,7 +228,7 @@ impl Kept {
     // Keeps the call of a batch, where it has one.
     fn add_call(&mut self, call: Option<(HeldCall, Outcome)>)
         requires { MayAdd self.old call }
-        ensures { self.new.tables ≡ with_calls self.old.tables (calls_of call) }
+        ensures { self.new.tables ≡ with_calls self.old.tables (held_calls_of call) }
     {
         match call {
             Some((held, outcome)) => self.add_kept(held, outcome),

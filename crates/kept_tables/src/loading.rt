@@ -5,7 +5,7 @@ ghost use Rattle.meaning_texts.specs.Classes.{IsName};
 ghost use Rattle.meaning_texts.specs.Limits.{body_limit};
 ghost use Rattle.meaning_records.specs.declared.items.Item.TheVariants as item;
 ghost use Rattle.meaning_records.specs.Tables.{Tables, IsShort, Loads};
-ghost use Rattle.kept_tables.specs.Loading.{TakesIn};
+ghost use Rattle.kept_tables.specs.Loading.{TakesInItem};
 
 use crate::kept::Kept;
 use crate::loaded::Loaded;
@@ -43,7 +43,7 @@ impl Kept {
     // Takes an item in, and gives what it brings. `None` where it may not come behind these tables.
     pub(crate) fn take_in(&mut self, alloc: Global, item: Item) -> Result<Option<Loaded>, Memory>
         ensures some { IfOk result (λ read.
-            IfSome read (TakesIn item self.old.tables self.new.tables)) }
+            IfSome read (TakesInItem item self.old.tables self.new.tables)) }
         ensures none { IfOk result (λ read. IfNone read
             ((new : Tables) → ¬ Loads self.old.tables item new)) }
     {
@@ -58,7 +58,7 @@ impl Kept {
 
     fn take_content(&mut self, alloc: Global, value: Value) -> Result<Option<Loaded>, Memory>
         ensures some { IfOk result (λ read. IfSome read
-            (TakesIn (item.Content value) self.old.tables self.new.tables)) }
+            (TakesInItem (item.Content value) self.old.tables self.new.tables)) }
         ensures none { IfOk result (λ read. IfNone read (¬ IsShort value)) }
     {
         if !is_short(&value) {
@@ -70,7 +70,7 @@ impl Kept {
 
     fn take_put(&self, alloc: Global, name: Bytes, number: u32) -> Result<Option<Loaded>, Memory>
         ensures some { IfOk result (λ read. IfSome read
-            (TakesIn (item.Put name number) self.now.tables self.now.tables)) }
+            (TakesInItem (item.Put name number) self.now.tables self.now.tables)) }
         ensures none { IfOk result (λ read. IfNone read
             ((new : Tables) → ¬ Loads self.now.tables (item.Put name number) new)) }
     {
@@ -87,7 +87,8 @@ impl Kept {
     }
 
     fn take_dropped(&self, name: Bytes) -> Option<Loaded>
-        ensures some { IfSome result (TakesIn (item.Dropped name) self.now.tables self.now.tables) }
+        ensures some { IfSome result
+            (TakesInItem (item.Dropped name) self.now.tables self.now.tables) }
         ensures none { IfNone result
             ((new : Tables) → ¬ Loads self.now.tables (item.Dropped name) new) }
     {
@@ -104,7 +105,7 @@ impl Kept {
         given: StoredOutcome,
     ) -> Result<Option<Loaded>, Memory>
         ensures some { IfOk result (λ read. IfSome read
-            (TakesIn (item.Kept stored given) self.old.tables self.new.tables)) }
+            (TakesInItem (item.Kept stored given) self.old.tables self.new.tables)) }
         ensures none { IfOk result (λ read. IfNone read
             ((new : Tables) → ¬ Loads self.old.tables (item.Kept stored given) new)) }
     {

@@ -5,8 +5,8 @@ ghost use Rattle.meaning_records.specs.Batches.{IsPutBatch, IsCallBatch};
 ghost use Rattle.meaning_records.specs.Tables.{IsCallOf, IsText, IsOutcomeOf};
 ghost use Rattle.kept_contents.specs.Held.{IsHeld};
 ghost use Rattle.kept_contents.specs.Stocks.{IsGrownFrom};
-ghost use Rattle.kept_contents.specs.Added.{AddsOne, Adds, AreHeld, contents_with, texts_of, texts_of_outputs, texts_of_parts};
-ghost use Rattle.kept_tables.specs.Holdings.{Makes, MayKeep, MayKeepSome, PreparesSome, items_of_texts, items_with};
+ghost use Rattle.kept_contents.specs.Added.{AddsOne, AddsTexts, AreHeld, contents_with, texts_of, texts_of_outputs, texts_of_parts};
+ghost use Rattle.kept_tables.specs.Holdings.{MakesBatch, MayKeep, MayKeepSome, PreparesSome, items_of_texts, items_with};
 
 use crate::kept::Kept;
 use crate::prepared::Prepared;
@@ -94,7 +94,7 @@ impl Kept {
         ensures call { IfOk result (λ stored.
             IsCallOf (contents_with self.old.tables.contents added.new) stored call.now) }
         ensures adds { OnOk result
-            (Adds self.old.tables.contents (texts_of_parts call.now.parts)
+            (AddsTexts self.old.tables.contents (texts_of_parts call.now.parts)
             (texts_of added.old) (texts_of added.new)) }
         ensures held { OnOk result (AreHeld self.new.texts added.new) }
         ensures same { self.new.tables ≡ self.old.tables }
@@ -115,7 +115,7 @@ impl Kept {
         ensures outcome { IfOk result (λ stored.
             IsOutcomeOf (contents_with self.old.tables.contents added.new) stored outcome.now) }
         ensures adds { OnOk result
-            (Adds self.old.tables.contents (texts_of_outputs outcome.now.outputs)
+            (AddsTexts self.old.tables.contents (texts_of_outputs outcome.now.outputs)
             (texts_of added.old) (texts_of added.new)) }
         ensures held { OnOk result (AreHeld self.new.texts added.new) }
         ensures same { self.new.tables ≡ self.old.tables }
@@ -135,7 +135,7 @@ impl Kept {
     ) -> Result<Prepared, Memory>
         requires held { AreHeld self.old.texts added }
         requires call { MayKeepSome self.old call }
-        ensures made { IfOk result (Makes added last call self.new) }
+        ensures made { IfOk result (MakesBatch added last call self.new) }
         ensures same { self.new.tables ≡ self.old.tables }
     {
         let items = items_of(alloc, added.as_slice(), last)?;

@@ -15,19 +15,19 @@ use Rattle.meaning_records.specs.States.{State, nothing, ReadsAll}
 use Rattle.meaning_records.specs.Stands.{Stands}
 use Rattle.meaning_records.specs.Laws.{StandsForOne}
 use Rattle.dg_reader.specs.Files.{IsRead}
-use Rattle.odin_journal.specs.Faults.{IsCauseOf}
+use Rattle.odin_journal.specs.Faults.{CountAfterJournalFault}
 use Rattle.odin_journal.specs.Moments.{Works}
 use Rattle.odin_journal.specs.declared.fault.JournalFault.{JournalFault}
 use Rattle.odin_journal.specs.declared.fault.JournalFault.TheVariants as fault
 use Rattle.odin_store.specs.declared.store.Store.{Store}
 use Rattle.odin_store.specs.Held.{Held}
-use Rattle.odin_store.specs.Opening.{IsOpenFault, OpensQuiet, graph_record}
+use Rattle.odin_store.specs.Opening.{IsStoreOpenFault, OpensQuietStore, graph_record}
 use Rattle.odin_engine.specs.Opened as engine
 use Rattle.load_session.specs.declared.session.Session.{Session}
 use Rattle.load_session.specs.Graph.{graph_text}
 use Rattle.load_session.specs.Room.{LoadFile, empty_disk, told_of_disk, PassesRoom}
 use Rattle.load_session.specs.Loads.{IsOpeningFault}
-use Rattle.load_session.specs.Moments.{IsNew}
+use Rattle.load_session.specs.Moments.{SessionIsNew}
 
 pub quiet : IsQuiet (told_of_disk empty_disk)
 quiet = record { follows = refl; only = λ c left. synced_only [] c left }
@@ -39,21 +39,21 @@ empty_records records (inr store) = let some = store.1.written.some in absurd (o
 pub empty_state : (records : List (List ℕ)) (state : State) → records ≡ [] → ReadsAll nothing records state → state ≡ nothing
 empty_state records state none read = subst (λ (l : List (List ℕ)). ReadsAll nothing l state) none read
 
-none_kept : (graph : Text) (new : Telling) (store : Store) → OpensQuiet graph (told_of_disk empty_disk) new store → store.kept.tables.calls ≡ []
+none_kept : (graph : Text) (new : Telling) (store : Store) → OpensQuietStore graph (told_of_disk empty_disk) new store → store.kept.tables.calls ≡ []
 none_kept graph new store opens =
     let opened = opens quiet in
     ap (λ (h : Held). h.calls) opened.holds ∙ ap (λ (s : State). s.tables.calls) (empty_state opened.records opened.state (empty_records opened.records opened.stored) opened.read)
 
 -- a session over a store that was opened just now
 pub opened_new : (session : Session) (text : Text) (graph : Graph) (old : LoadFile) → text ≡ graph_text → old ≡ empty_disk → IsRead graph_text graph
-    → OpensQuiet text (told_of_disk old) (told_of_disk session.disk) session.engine.store → engine.IsNew graph 1 (length (image_of session.disk.file)) session.engine
-    → session.tools ≡ tools.new_tools Toys [] → IsNew session
+    → OpensQuietStore text (told_of_disk old) (told_of_disk session.disk) session.engine.store → engine.EngineIsNew graph 1 (length (image_of session.disk.file)) session.engine
+    → session.tools ≡ tools.new_tools Toys [] → SessionIsNew session
 opened_new session text graph old text_is empty read opens new same =
-    let opened : OpensQuiet graph_text (told_of_disk empty_disk) (told_of_disk session.disk) session.engine.store =
-    subst₂ (λ t f. OpensQuiet t (told_of_disk f) (told_of_disk session.disk) session.engine.store) text_is empty opens in
+    let opened : OpensQuietStore graph_text (told_of_disk empty_disk) (told_of_disk session.disk) session.engine.store =
+    subst₂ (λ t f. OpensQuietStore t (told_of_disk f) (told_of_disk session.disk) session.engine.store) text_is empty opens in
     let none = none_kept graph_text (told_of_disk session.disk) session.engine.store opened in
     record {
-      opened = record { read = subst (IsRead graph_text) (sym new.graph_is) read; opened = opened; tools_are = ap tools.told_of same };
+      opened = record { read = subst (IsRead graph_text) (sym new.graph_is) read; opened = opened; tools_are = ap tools.tools_view same };
       rests = record {
         jobs = new.jobs_is;
         idle = record { ready = new.ready; none = ap (λ (t : tools.Tools). t.running) same };
@@ -70,8 +70,8 @@ empty_stands = record { records = []; stored = inl (record { within = omega arit
 record_long : (text : Text) → length (graph_record text) ≡ 5 + length text
 record_long text = omega (arith, length-append text [])
 
-fails_empty : (text : Text) (after : LoadFile) (e : JournalFault) → StandsForOne → length text ≤ graph_limit → IsOpenFault text (told_of_disk empty_disk) (told_of_disk after) e
-    → Works (72 + length (graph_record text)) 20 (told_of_disk empty_disk) (told_of_disk after) → IsCauseOf 0 after.file.faults e → (after.file.faults ≢ 0 → PassesRoom after) → IsOpeningFault e
+fails_empty : (text : Text) (after : LoadFile) (e : JournalFault) → StandsForOne → length text ≤ graph_limit → IsStoreOpenFault text (told_of_disk empty_disk) (told_of_disk after) e
+    → Works (72 + length (graph_record text)) 20 (told_of_disk empty_disk) (told_of_disk after) → CountAfterJournalFault 0 after.file.faults e → (after.file.faults ≢ 0 → PassesRoom after) → IsOpeningFault e
 fails_empty text after fault.Disk one short fails works cause past = elim (past (λ zero. absurd (omega arith))) [
   | inl bytes ↦ let long = record_long text in absurd (omega (arith, works.0, bytes))
   | inr calls ↦ absurd (omega (arith, works.1, calls))
@@ -81,9 +81,9 @@ fails_empty text after (fault.Full end count) one short fails works cause past =
 fails_empty text after fault.Memory one short fails works cause past = tt
 
 pub opening_fault : (text : Text) (old after : LoadFile) (e : JournalFault) → StandsForOne → length text ≤ graph_limit → old ≡ empty_disk
-    → IsOpenFault text (told_of_disk old) (told_of_disk after) e → (length (image_of old.file) ≡ 0 → Works (72 + length (graph_record text)) 20 (told_of_disk old) (told_of_disk after))
-    → IsCauseOf old.file.faults after.file.faults e → (after.file.faults ≢ 0 → PassesRoom after) → IsOpeningFault e
+    → IsStoreOpenFault text (told_of_disk old) (told_of_disk after) e → (length (image_of old.file) ≡ 0 → Works (72 + length (graph_record text)) 20 (told_of_disk old) (told_of_disk after))
+    → CountAfterJournalFault old.file.faults after.file.faults e → (after.file.faults ≢ 0 → PassesRoom after) → IsOpeningFault e
 opening_fault text old after e one short empty fails works cause past =
-    fails_empty text after e one short (subst (λ f. IsOpenFault text (told_of_disk f) (told_of_disk after) e) empty fails)
+    fails_empty text after e one short (subst (λ f. IsStoreOpenFault text (told_of_disk f) (told_of_disk after) e) empty fails)
     (subst (λ (f : LoadFile). length (image_of f.file) ≡ 0 → Works (72 + length (graph_record text)) 20 (told_of_disk f) (told_of_disk after)) empty works refl)
-    (subst (λ (f : LoadFile). IsCauseOf f.file.faults after.file.faults e) empty cause) past
+    (subst (λ (f : LoadFile). CountAfterJournalFault f.file.faults after.file.faults e) empty cause) past

@@ -11,29 +11,29 @@ use Rattle.odin_journal.specs.declared.fault.JournalFault.TheVariants as fault
 use Rattle.odin_store.specs.declared.store.Store.{Store}
 use Rattle.odin_store.specs.Held as held
 use Rattle.odin_store.specs.OnDisk.{state_in}
-use Rattle.odin_store.specs.Opening.{graph_record, IsOpening, Opens}
+use Rattle.odin_store.specs.Opening.{graph_record, IsOpening, OpensStore}
 use Rattle.odin_store.specs.Written.{written_in, WorksFor}
-use Rattle.odin_store.specs.Going.{Goes, HasBegun, Stops}
+use Rattle.odin_store.specs.Going.{Performs, HasPartialBatches, StopsPerforming}
 use Rattle.odin_store.proofs.Lemmas.{goes_none, goes_on, stops_behind, works_after}
 use Rattle.kept_derive.specs.Runs.{keeps_of}
 use Rattle.load_session.specs.Graph.{graph_text}
 use Rattle.load_session.specs.Room.{LoadFile, most_bytes, most_calls, empty_disk, told_of_disk, PassesRoom}
 use Rattle.load_session.specs.Session.{LoadStep, puts, asks, load_steps}
-use Rattle.load_session.specs.Served.{Moment, Serves, none, put, ask, StepFails, StopsAt, changes_of, failed_changes}
-use Rattle.load_session.specs.Loads.{IsOpened, PassesWith, LoadPasses}
+use Rattle.load_session.specs.Served.{Moment, ServesSteps, none, put, ask, StepFails, StopsAtStep, changes_of, failed_changes}
+use Rattle.load_session.specs.Loads.{LoadIsOpened, PassesWith, LoadPasses}
 use Rattle.load_session.proofs.OpenLemmas.{quiet, empty_records, empty_state}
 
 -- ---- the changes of steps
 
-serves_goes : (g : Graph) (old : Moment) (steps : List LoadStep) (answers : List (Calls × Reply)) (new : Moment) → (serves : Serves g old steps answers new)
-    → Goes told_of_disk (changes_of g old steps answers new serves) old.store new.store old.disk new.disk
+serves_goes : (g : Graph) (old : Moment) (steps : List LoadStep) (answers : List (Calls × Reply)) (new : Moment) → (serves : ServesSteps g old steps answers new)
+    → Performs told_of_disk (changes_of g old steps answers new serves) old.store new.store old.disk new.disk
 serves_goes g old steps answers new none = goes_none told_of_disk old.store old.store old.disk old.disk (record { disk_is = refl; store_is = record { journal = refl; tables = refl; sources = refl; epoch = refl } })
 serves_goes g old steps answers new (put before others mid _ name text changed serves has same) =
     goes_on told_of_disk (changes_of g old before others mid serves) (cond changed (held.puts name text ∷ []) []) old.store mid.store new.store old.disk mid.disk new.disk (serves_goes g old before others mid serves) has.goes
 serves_goes g old steps answers new (ask before others mid _ given reply serves has) =
     goes_on told_of_disk (changes_of g old before others mid serves) (keeps_of given) old.store mid.store new.store old.disk mid.disk new.disk (serves_goes g old before others mid serves) has.goes
 
-step_begins : (g : Graph) (step : LoadStep) (old new : Moment) (fails : StepFails g step old new fault.Disk) → Stops told_of_disk (failed_changes g step old new fails) old.store old.disk new.disk
+step_begins : (g : Graph) (step : LoadStep) (old new : Moment) (fails : StepFails g step old new fault.Disk) → StopsPerforming told_of_disk (failed_changes g step old new fails) old.store old.disk new.disk
 step_begins g (puts name text) old new fails = fails.1
 step_begins g asks old new fails =
     stops_behind told_of_disk (keeps_of fails.given) (held.keeps fails.call fails.outcome ∷ []) old.store fails.mid.store old.disk fails.mid.disk new.disk fails.goes fails.stops
@@ -41,7 +41,7 @@ step_begins g asks old new fails =
 -- ---- the room
 
 -- the store of a load begins with the batch of its graph alone
-opening_is : (store : Store) (new : Telling) → (opens : Opens graph_text (told_of_disk empty_disk) new store) → (opens.records ≡ []) × (opens.opening ≡ graph_record graph_text ∷ [])
+opening_is : (store : Store) (new : Telling) → (opens : OpensStore graph_text (told_of_disk empty_disk) new store) → (opens.records ≡ []) × (opens.opening ≡ graph_record graph_text ∷ [])
 opening_is store new opens =
     let unread : opens.records ≡ [] = empty_records opens.records opens.stored in
     let state : opens.state ≡ nothing = empty_state opens.records opens.state unread opens.read in
@@ -52,7 +52,7 @@ opening_is store new opens =
     by absent (inr added) = added.1
 
 -- the work of it all
-all_work : (store : Store) (mid new : Telling) (more : List (List ℕ)) → Opens graph_text (told_of_disk empty_disk) mid store → WorksFor more mid new
+all_work : (store : Store) (mid new : Telling) (more : List (List ℕ)) → OpensStore graph_text (told_of_disk empty_disk) mid store → WorksFor more mid new
     → Works (66 + written_in (graph_record graph_text ∷ more)) (16 + 4 * length (graph_record graph_text ∷ more)) (told_of_disk empty_disk) new
 all_work store mid new more opens works =
     let is = opening_is store mid opens in
@@ -67,16 +67,16 @@ passes : (new : LoadFile) (bytes calls : ℕ) → Works bytes calls (told_of_dis
 passes new bytes calls works (inl more) = inl (omega (arith, works.0, more))
 passes new bytes calls works (inr more) = inr (omega (arith, works.1, more))
 
-pub passes_with : (g : Graph) (start : Moment) (steps : List LoadStep) → IsOpened g start → (stops : StopsAt g start steps fault.Disk)
+pub passes_with : (g : Graph) (start : Moment) (steps : List LoadStep) → LoadIsOpened g start → (stops : StopsAtStep g start steps fault.Disk)
     → PassesWith (state_in start.store (Some graph_text)) (changes_of g start stops.served stops.answers stops.mid stops.serves ++ failed_changes g stops.step stops.mid stops.new stops.fails)
 passes_with g start steps opened stops =
     let made = changes_of g start stops.served stops.answers stops.mid stops.serves in
     let last = failed_changes g stops.step stops.mid stops.new stops.fails in
-    let opens : Opens graph_text (told_of_disk empty_disk) (told_of_disk start.disk) start.store = opened.opened quiet in
-    let all : Stops told_of_disk (made ++ last) start.store start.disk stops.new.disk =
+    let opens : OpensStore graph_text (told_of_disk empty_disk) (told_of_disk start.disk) start.store = opened.opened quiet in
+    let all : StopsPerforming told_of_disk (made ++ last) start.store start.disk stops.new.disk =
     stops_behind told_of_disk made last start.store stops.mid.store start.disk stops.mid.disk stops.new.disk
     (serves_goes g start stops.served stops.answers stops.mid stops.serves) (step_begins g stops.step stops.mid stops.new stops.fails) in
-    let begun : HasBegun told_of_disk (made ++ last) start.store start.disk stops.new.disk (Some graph_text) = all.begun (opens.records ++ opens.opening) (Some graph_text) opens.on in
+    let begun : HasPartialBatches told_of_disk (made ++ last) start.store start.disk stops.new.disk (Some graph_text) = all.begun (opens.records ++ opens.opening) (Some graph_text) opens.on in
     let more = begun.payloads ++ begun.begun in
     record {
       made = begun.made;

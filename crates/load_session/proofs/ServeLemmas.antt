@@ -13,19 +13,19 @@ use Rattle.odin_store.specs.Held.{Held}
 use Rattle.odin_store.specs.OnDisk.{held_in}
 use Rattle.load_session.specs.Session.{LoadStep, puts, asks}
 use Rattle.load_session.proofs.StepLemmas.{put_calls, keeps_calls}
-use Rattle.load_session.specs.Served.{Moment, Serves, none, put, ask, StopsAt, Stops}
+use Rattle.load_session.specs.Served.{Moment, ServesSteps, none, put, ask, StopsAtStep, StepsStopFor}
 
 -- ---- one behind another
 
 pub serves_more
     : (g : Graph) (old : Moment) (xs : List LoadStep) (some : List (Calls × Reply)) (mid : Moment) (ys : List LoadStep) (bs : List (Calls × Reply)) (new : Moment)
-    → Serves g old xs some mid → Serves g mid ys bs new → Serves g old (xs ++ ys) (some ++ bs) new
-serves_more g old xs some mid ys bs new first none = subst₂ (λ steps answers. Serves g old steps answers mid) (sym (append-nil xs)) (sym (append-nil some)) first
+    → ServesSteps g old xs some mid → ServesSteps g mid ys bs new → ServesSteps g old (xs ++ ys) (some ++ bs) new
+serves_more g old xs some mid ys bs new first none = subst₂ (λ steps answers. ServesSteps g old steps answers mid) (sym (append-nil xs)) (sym (append-nil some)) first
 serves_more g old xs some mid ys bs new first (put steps answers between _ name text changed before has same) =
-    subst (λ all. Serves g old all (some ++ answers) new) (append_assoc xs steps (puts name text ∷ []))
+    subst (λ all. ServesSteps g old all (some ++ answers) new) (append_assoc xs steps (puts name text ∷ []))
     (put (xs ++ steps) (some ++ answers) between new name text changed (serves_more g old xs some mid steps answers between first before) has same)
 serves_more g old xs some mid ys bs new first (ask steps answers between _ given reply before has) =
-    subst₂ (λ all replies. Serves g old all replies new) (append_assoc xs steps (asks ∷ [])) (append_assoc some answers ((given, reply) ∷ []))
+    subst₂ (λ all replies. ServesSteps g old all replies new) (append_assoc xs steps (asks ∷ [])) (append_assoc some answers ((given, reply) ∷ []))
     (ask (xs ++ steps) (some ++ answers) between new given reply (serves_more g old xs some mid steps answers between first before) has)
 
 -- ---- the kept calls
@@ -34,7 +34,7 @@ serves_more g old xs some mid ys bs new first (ask steps answers between _ given
 abbrev pub all_given : List (Calls × Reply) → Calls
 all_given = flat_map (λ (answer : Calls × Reply). answer.0)
 
-pub serves_calls : (g : Graph) (old : Moment) (steps : List LoadStep) (answers : List (Calls × Reply)) (new : Moment) → Serves g old steps answers new
+pub serves_calls : (g : Graph) (old : Moment) (steps : List LoadStep) (answers : List (Calls × Reply)) (new : Moment) → ServesSteps g old steps answers new
     → new.store.kept.tables.calls ≡ old.store.kept.tables.calls ++ all_given answers
 serves_calls g old steps answers new none = sym (append-nil new.store.kept.tables.calls)
 serves_calls g old steps answers new (put before others mid _ name text changed serves has same) =
@@ -46,7 +46,7 @@ serves_calls g old steps answers new (ask before others mid _ given reply serves
 
 -- ---- where they stop
 
-first_at : (g : Graph) (old : Moment) (xs ys : List LoadStep) (e : JournalFault) → StopsAt g old xs e → StopsAt g old (xs ++ ys) e
+first_at : (g : Graph) (old : Moment) (xs ys : List LoadStep) (e : JournalFault) → StopsAtStep g old xs e → StopsAtStep g old (xs ++ ys) e
 first_at g old xs ys e stops = record {
   served = stops.served;
   step = stops.step;
@@ -62,7 +62,7 @@ first_at g old xs ys e stops = record {
 }
 
 then_at : (g : Graph) (old : Moment) (xs : List LoadStep) (some : List (Calls × Reply)) (mid : Moment) (ys : List LoadStep) (e : JournalFault)
-    → Serves g old xs some mid → StopsAt g mid ys e → StopsAt g old (xs ++ ys) e
+    → ServesSteps g old xs some mid → StopsAtStep g mid ys e → StopsAtStep g old (xs ++ ys) e
 then_at g old xs some mid ys e serves stops = record {
   served = xs ++ stops.served;
   step = stops.step;
@@ -78,7 +78,7 @@ then_at g old xs some mid ys e serves stops = record {
 }
 
 -- the steps that come first fail as all do
-pub stops_first : (g : Graph) (old : Moment) (xs ys : List LoadStep) (e : JournalFault) → Stops g old xs e → Stops g old (xs ++ ys) e
+pub stops_first : (g : Graph) (old : Moment) (xs ys : List LoadStep) (e : JournalFault) → StepsStopFor g old xs e → StepsStopFor g old (xs ++ ys) e
 stops_first g old xs ys fault.Disk stops = first_at g old xs ys fault.Disk stops
 stops_first g old xs ys (fault.NotOurs at) stops = absurd stops
 stops_first g old xs ys (fault.Full at size) stops = first_at g old xs ys (fault.Full at size) stops
@@ -86,7 +86,7 @@ stops_first g old xs ys fault.Memory stops = tt
 
 -- and so do those behind steps that were served
 pub stops_then : (g : Graph) (old : Moment) (xs : List LoadStep) (some : List (Calls × Reply)) (mid : Moment) (ys : List LoadStep) (e : JournalFault)
-    → Serves g old xs some mid → Stops g mid ys e → Stops g old (xs ++ ys) e
+    → ServesSteps g old xs some mid → StepsStopFor g mid ys e → StepsStopFor g old (xs ++ ys) e
 stops_then g old xs some mid ys fault.Disk serves stops = then_at g old xs some mid ys fault.Disk serves stops
 stops_then g old xs some mid ys (fault.NotOurs at) serves stops = absurd stops
 stops_then g old xs some mid ys (fault.Full at size) serves stops = then_at g old xs some mid ys (fault.Full at size) serves stops

@@ -26,7 +26,7 @@ use Rattle.load_session.specs.Room.{LoadFile, told_of_disk}
 -- ---- the kept calls
 
 put_held : (changed : Bool) (name text : Text) (store next : Store)
-    → held_in next ≡ trails.after store_keeping (cond changed (puts name text ∷ []) []) (held_in store)
+    → held_in next ≡ trails.after_changes store_keeping (cond changed (puts name text ∷ []) []) (held_in store)
     → next.kept.tables.calls ≡ store.kept.tables.calls
 put_held true name text store next holds = ap (λ (h : Held). h.calls) holds
 put_held false name text store next holds = ap (λ (h : Held). h.calls) holds
@@ -37,7 +37,7 @@ pub put_calls : (name text : Text) (store next : Store) (disk after : LoadFile) 
 put_calls name text store next disk after changed has = put_held changed name text store next has.goes.holds
 
 -- and each call that is kept stands behind them
-pub keeps_calls : (given : Calls) (held : Held) → (trails.after store_keeping (keeps_of given) held).calls ≡ held.calls ++ given
+pub keeps_calls : (given : Calls) (held : Held) → (trails.after_changes store_keeping (keeps_of given) held).calls ≡ held.calls ++ given
 keeps_calls [] held = sym (append-nil held.calls)
 keeps_calls (x ∷ given) held =
     keeps_calls given (record held { calls = held.calls ++ (x.0, x.1) ∷ [] }) ∙ append_assoc held.calls ((x.0, x.1) ∷ []) given

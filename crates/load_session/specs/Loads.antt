@@ -11,31 +11,31 @@ use Rattle.odin_journal.specs.declared.fault.JournalFault.TheVariants as fault
 use Rattle.meaning_records.specs.States.{State}
 use Rattle.odin_store.specs.Held.{Change}
 use Rattle.odin_store.specs.OnDisk.{state_in}
-use Rattle.odin_store.specs.Opening.{graph_record, OpensQuiet}
+use Rattle.odin_store.specs.Opening.{graph_record, OpensQuietStore}
 use Rattle.odin_store.specs.Written.{written_in}
-use Rattle.odin_store.specs.Going.{AreBatches, IsBegun}
+use Rattle.odin_store.specs.Going.{AreBatches, IsPartialBatch}
 use Rattle.load_session.specs.declared.loaded.Loaded.{Loaded}
 use Rattle.load_session.specs.Graph.{graph_text}
 use Rattle.load_session.specs.Room.{most_bytes, most_calls, empty_disk, told_of_disk}
 use Rattle.load_session.specs.Session.{load_steps}
-use Rattle.load_session.specs.Served.{Moment, Serves, StopsAt, changes_of, failed_changes, shown_length}
+use Rattle.load_session.specs.Served.{Moment, ServesSteps, StopsAtStep, changes_of, failed_changes, shown_length}
 
 -- The graph is that of the text, and its store was opened over the empty disk and tools that did nothing yet.
-pub record IsOpened (g : Graph) (now : Moment) : Type 0 where
+pub record LoadIsOpened (g : Graph) (now : Moment) : Type 0 where
   pub read : IsRead graph_text g
-  pub opened : OpensQuiet graph_text (told_of_disk empty_disk) (told_of_disk now.disk) now.store
-  pub tools_are : now.tools ≡ tools.told_of (tools.new_tools Toys [])
+  pub opened : OpensQuietStore graph_text (told_of_disk empty_disk) (told_of_disk now.disk) now.store
+  pub tools_are : now.tools ≡ tools.tools_view (tools.new_tools Toys [])
 
 -- The store was opened, all steps were served, and this is told of the three asks.
-pub record IsLoaded (units : ℕ) (loaded : Loaded) : Type 0 where
+pub record LoadIsServed (units : ℕ) (loaded : Loaded) : Type 0 where
   pub graph : Graph
   pub start : Moment
-  pub opened : IsOpened graph start
+  pub opened : LoadIsOpened graph start
   pub first : Calls × Reply
   pub second : Calls × Reply
   pub third : Calls × Reply
   pub end : Moment
-  pub serves : Serves graph start (load_steps units) (first ∷ second ∷ third ∷ []) end
+  pub serves : ServesSteps graph start (load_steps units) (first ∷ second ∷ third ∷ []) end
   pub starts : loaded.starts ≡ length first.0 ∷ length second.0 ∷ length third.0 ∷ []
   pub length_is : loaded.length ≡ shown_length third.1
   pub kept : loaded.kept ≡ length (first.0 ++ second.0 ++ third.0)
@@ -50,8 +50,8 @@ IsOpeningFault other = ⊥
 pub record LoadFails (units : ℕ) (fault : JournalFault) : Type 0 where
   pub graph : Graph
   pub start : Moment
-  pub opened : IsOpened graph start
-  pub stops : StopsAt graph start (load_steps units) fault
+  pub opened : LoadIsOpened graph start
+  pub stops : StopsAtStep graph start (load_steps units) fault
 
 -- After what an opening writes, the batch of the graph, those of some first ones of these changes and one that was begun pass the room
 -- of the disk: a record takes its payload, 6 bytes and four calls.
@@ -63,15 +63,15 @@ pub record PassesWith (opened : State) (changes : List Change) : Type 0 where
   pub last : State
   pub are : AreBatches opened made payloads last
   pub begun : List (List ℕ)
-  pub next : IsBegun last.tables.contents rest begun
+  pub next : IsPartialBatch last.tables.contents rest begun
   pub over : (most_bytes < 66 + written_in (graph_record graph_text ∷ payloads ++ begun)) ⊎ (most_calls < 16 + 4 * length (graph_record graph_text ∷ payloads ++ begun))
 
 -- The store was opened, and a step failed at a batch for which the disk has no more room.
 pub record LoadPasses (units : ℕ) : Type 0 where
   pub graph : Graph
   pub start : Moment
-  pub opened : IsOpened graph start
-  pub stops : StopsAt graph start (load_steps units) fault.Disk
+  pub opened : LoadIsOpened graph start
+  pub stops : StopsAtStep graph start (load_steps units) fault.Disk
   pub past : PassesWith (state_in start.store (Some graph_text))
       (changes_of graph start stops.served stops.answers stops.mid stops.serves ++ failed_changes graph stops.step stops.mid stops.new stops.fails)
 

@@ -10,38 +10,38 @@ use Rattle.kept_derive.specs.Runs.{at}
 use Rattle.load_session.specs.declared.session.Session.{Session}
 use Rattle.load_session.specs.declared.asked.Asked.{Asked}
 use Rattle.load_session.specs.Session.{LoadStep}
-use Rattle.load_session.specs.Served.{Moment, Serves, Stops, shown_length}
-use Rattle.load_session.specs.Loads.{IsOpened}
+use Rattle.load_session.specs.Served.{Moment, ServesSteps, StepsStopFor, shown_length}
+use Rattle.load_session.specs.Loads.{LoadIsOpened}
 
 abbrev pub moment : Session → Moment
-moment session = at session.engine.store session.disk (tools.told_of session.tools)
+moment session = at session.engine.store session.disk (tools.tools_view session.tools)
 
 -- the calls that are kept
-abbrev pub calls_in : Session → Calls
-calls_in session = session.engine.store.kept.tables.calls
+abbrev pub session_calls : Session → Calls
+session_calls session = session.engine.store.kept.tables.calls
 
 -- One tool may run at a time, and none runs; the store can be changed, and as many tools were started as calls are kept.
 pub record IsAtRest (session : Session) : Type 0 where
   pub jobs : session.engine.jobs ≡ 1
-  pub idle : IsIdle session.engine.store (length (image_of session.disk.file)) (tools.told_of session.tools)
-  pub counted : session.tools.starts ≡ length (calls_in session)
+  pub idle : IsIdle session.engine.store (length (image_of session.disk.file)) (tools.tools_view session.tools)
+  pub counted : session.tools.starts ≡ length (session_calls session)
 
 -- And so many more edits are counted.
-pub record MayServe (more : ℕ) (session : Session) : Type 0 where
+pub record MayServeSteps (more : ℕ) (session : Session) : Type 0 where
   pub rests : IsAtRest session
   pub early : session.engine.store.epoch + more < 2 ^ 63
 
 -- It was opened just now.
-pub record IsNew (session : Session) : Type 0 where
-  pub opened : IsOpened session.engine.graph (moment session)
+pub record SessionIsNew (session : Session) : Type 0 where
+  pub opened : LoadIsOpened session.engine.graph (moment session)
   pub rests : IsAtRest session
-  pub none_kept : calls_in session ≡ []
+  pub none_kept : session_calls session ≡ []
   pub first : session.engine.store.epoch ≡ 0
 
 -- These steps were served.
 pub record HasServed (old : Session) (steps : List LoadStep) (answers : List (Calls × Reply)) (new : Session) : Type 0 where
   pub graph : new.engine.graph ≡ old.engine.graph
-  pub serves : Serves old.engine.graph (moment old) steps answers (moment new)
+  pub serves : ServesSteps old.engine.graph (moment old) steps answers (moment new)
   pub rests : IsAtRest new
   pub epoch : new.engine.store.epoch ≤ old.engine.store.epoch + length steps
 
@@ -52,8 +52,8 @@ pub record HasAsked (old : Session) (steps : List LoadStep) (new : Session) (ask
   pub served : HasServed old steps ((given, reply) ∷ []) new
   pub starts : asked.starts ≡ length given
   pub length_is : asked.length ≡ shown_length reply
-  pub kept : asked.kept ≡ length (calls_in new)
+  pub kept : asked.kept ≡ length (session_calls new)
 
 -- They were stopped for this fault.
-abbrev pub StopsIn : Session → List LoadStep → JournalFault → Type 0
-StopsIn session steps = Stops session.engine.graph (moment session) steps
+abbrev pub LoadStopsFor : Session → List LoadStep → JournalFault → Type 0
+LoadStopsFor session steps = StepsStopFor session.engine.graph (moment session) steps

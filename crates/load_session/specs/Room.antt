@@ -2,7 +2,7 @@
 use Rattle.std.specs.Prelude.{◌≡◌, ◌≢◌, ◌⊎◌, ℕ, ◌+◌, ◌≤◌, ◌<◌, [], length, Some, Result, OnOk, OnErr}
 use Rattle.odin_outside.specs.Disk.{Telling, Work}
 use Rattle.odin_fakes.specs.Calls.{bytes_written}
-use Rattle.odin_fakes.specs.File.{File, new_file, told_of}
+use Rattle.odin_fakes.specs.File.{File, new_file, file_view}
 
 -- the most bytes that may be written in all, and the most calls
 abbrev pub most_bytes : ℕ
@@ -16,12 +16,12 @@ pub record LoadFile : Type 0 where
   pub file : File
   pub lost : Work
 
-abbrev pub no_work : Work
-no_work = record { bytes = 0; calls = 0 }
+abbrev pub zero_work : Work
+zero_work = record { bytes = 0; calls = 0 }
 
 -- the empty file
 abbrev pub empty_disk : LoadFile
-empty_disk = record { file = new_file [] most_bytes most_calls; lost = no_work }
+empty_disk = record { file = new_file [] most_bytes most_calls; lost = zero_work }
 
 -- the work that was asked of it, up to the first call that was refused
 abbrev pub asked_of : LoadFile → Work
@@ -29,7 +29,7 @@ asked_of disk = record { bytes = bytes_written disk.file.calls + disk.lost.bytes
 
 -- what it tells
 abbrev pub told_of_disk : LoadFile → Telling
-told_of_disk disk = record (told_of disk.file) { work = Some (asked_of disk) }
+told_of_disk disk = record (file_view disk.file) { work = Some (asked_of disk) }
 
 -- More was asked of it than it has room for.
 abbrev pub PassesRoom : LoadFile → Type 0

@@ -5,11 +5,11 @@ use Rattle.meaning_records.specs.Tables.{Calls}
 use Rattle.meaning_commands.specs.declared.replies.Reply.{Reply}
 use Rattle.meaning_commands.specs.declared.replies.Reply.TheVariants.{Shown}
 use Rattle.meaning_commands.specs.declared.replies.ShownBody.TheVariants.{Simple}
-use Rattle.odin_journal.specs.Faults.{IsCauseOf}
+use Rattle.odin_journal.specs.Faults.{CountAfterJournalFault}
 use Rattle.odin_journal.specs.declared.fault.JournalFault.{JournalFault}
 use Rattle.odin_journal.specs.declared.fault.JournalFault.TheVariants as fault
 use Rattle.odin_store.specs.Held as held
-use Rattle.odin_store.specs.Going.{Goes}
+use Rattle.odin_store.specs.Going.{Performs}
 use Rattle.odin_store.specs.Edited.{HasPut, HasFailed}
 use Rattle.kept_derive.specs.Runs.{At, keeps_of}
 use Rattle.odin_answers.specs.Answers.{HasAnswer}
@@ -24,18 +24,18 @@ Moment = At LoadFile
 -- The program was answered, one tool at a time, and each call that was run for that is kept. No start was refused.
 pub record HasAnswered (g : Graph) (old : Moment) (given : Calls) (reply : Reply) (new : Moment) : Type 0 where
   pub is : HasAnswer g old.store.sources.texts old.store.kept.tables.calls 1 asked_text reply given old.tools new.tools
-  pub goes : Goes told_of_disk (keeps_of given) old.store new.store old.disk new.disk
+  pub goes : Performs told_of_disk (keeps_of given) old.store new.store old.disk new.disk
   pub epoch : new.store.epoch ≡ old.store.epoch
 
 -- Steps were served, one after another, from one moment to another; for each ask, the calls that were run and the reply.
-pub data Serves (g : Graph) (old : Moment) : List LoadStep → List (Calls × Reply) → Moment → Type 0 where
-  none : Serves g old [] [] old
+pub data ServesSteps (g : Graph) (old : Moment) : List LoadStep → List (Calls × Reply) → Moment → Type 0 where
+  none : ServesSteps g old [] [] old
   put : (steps : List LoadStep) (answers : List (Calls × Reply)) (mid new : Moment) (name text : Text) (changed : Bool)
-      → Serves g old steps answers mid → HasPut told_of_disk name text mid.store new.store mid.disk new.disk changed → new.tools ≡ mid.tools
-      → Serves g old (steps ++ puts name text ∷ []) answers new
+      → ServesSteps g old steps answers mid → HasPut told_of_disk name text mid.store new.store mid.disk new.disk changed → new.tools ≡ mid.tools
+      → ServesSteps g old (steps ++ puts name text ∷ []) answers new
   ask : (steps : List LoadStep) (answers : List (Calls × Reply)) (mid new : Moment) (given : Calls) (reply : Reply)
-      → Serves g old steps answers mid → HasAnswered g mid given reply new
-      → Serves g old (steps ++ asks ∷ []) (answers ++ (given, reply) ∷ []) new
+      → ServesSteps g old steps answers mid → HasAnswered g mid given reply new
+      → ServesSteps g old (steps ++ asks ∷ []) (answers ++ (given, reply) ∷ []) new
 
 -- A step failed, and why.
 abbrev pub StepFails : Graph → LoadStep → Moment → Moment → JournalFault → Type 0
@@ -43,7 +43,7 @@ StepFails g (puts name text) old new = HasFailed told_of_disk (held.puts name te
 StepFails g asks old new = HasStopped told_of_disk g 1 asked_text old new
 
 -- the changes that were made for steps, one after another
-abbrev pub changes_of : (g : Graph) (old : Moment) (steps : List LoadStep) (answers : List (Calls × Reply)) (new : Moment) → Serves g old steps answers new → List held.Change
+abbrev pub changes_of : (g : Graph) (old : Moment) (steps : List LoadStep) (answers : List (Calls × Reply)) (new : Moment) → ServesSteps g old steps answers new → List held.Change
 changes_of g old steps answers new none = []
 changes_of g old steps answers new (put before others mid _ name text changed serves has same) = changes_of g old before others mid serves ++ cond changed (held.puts name text ∷ []) []
 changes_of g old steps answers new (ask before others mid _ given reply serves has) = changes_of g old before others mid serves ++ keeps_of given
@@ -59,25 +59,25 @@ PassesFor fault.Disk disk = PassesRoom disk
 PassesFor other disk = ⊤
 
 -- Some first ones of these steps were served, and the next one failed for this fault.
-pub record StopsAt (g : Graph) (old : Moment) (steps : List LoadStep) (fault : JournalFault) : Type 0 where
+pub record StopsAtStep (g : Graph) (old : Moment) (steps : List LoadStep) (fault : JournalFault) : Type 0 where
   pub served : List LoadStep
   pub step : LoadStep
   pub more : List LoadStep
   pub whole : steps ≡ served ++ step ∷ more
   pub answers : List (Calls × Reply)
   pub mid : Moment
-  pub serves : Serves g old served answers mid
+  pub serves : ServesSteps g old served answers mid
   pub new : Moment
   pub fails : StepFails g step mid new fault
-  pub cause : IsCauseOf mid.disk.file.faults new.disk.file.faults fault
+  pub cause : CountAfterJournalFault mid.disk.file.faults new.disk.file.faults fault
   pub room : PassesFor fault new.disk
 
 -- Want of memory says nothing, and the file is always the store's own.
-abbrev pub Stops : Graph → Moment → List LoadStep → JournalFault → Type 0
-Stops g old steps fault.Disk = StopsAt g old steps fault.Disk
-Stops g old steps (fault.NotOurs at) = ⊥
-Stops g old steps (fault.Full at size) = StopsAt g old steps (fault.Full at size)
-Stops g old steps fault.Memory = ⊤
+abbrev pub StepsStopFor : Graph → Moment → List LoadStep → JournalFault → Type 0
+StepsStopFor g old steps fault.Disk = StopsAtStep g old steps fault.Disk
+StepsStopFor g old steps (fault.NotOurs at) = ⊥
+StepsStopFor g old steps (fault.Full at size) = StopsAtStep g old steps (fault.Full at size)
+StepsStopFor g old steps fault.Memory = ⊤
 
 -- how many bytes the object of a reply has, and 0 where it shows no simple one
 abbrev pub shown_length : Reply → ℕ

@@ -1,7 +1,7 @@
 // The load of a number of units.
 ghost use Rattle.std.specs.Prelude.{◌≤◌, IfOk, IfErr};
 ghost use Rattle.meaning_texts.specs.Limits.{unit_limit};
-ghost use Rattle.load_session.specs.Loads.{IsLoaded, IsLoadFault};
+ghost use Rattle.load_session.specs.Loads.{LoadIsServed, IsLoadFault};
 
 use crate::loaded::Loaded;
 use crate::puts::{serve_edit, serve_first};
@@ -14,7 +14,7 @@ use std::alloc::Global;
 pub fn serve_load(alloc: Global, units: u32) -> Result<Loaded, StoreFault>
     requires some { 1 ≤ units }
     requires few { units ≤ unit_limit }
-    ensures ok { IfOk result (IsLoaded units) }
+    ensures ok { IfOk result (LoadIsServed units) }
     ensures err { IfErr result (IsLoadFault units) }
 {
     let mut session = Session::open(alloc)?;

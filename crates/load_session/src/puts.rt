@@ -2,7 +2,7 @@
 ghost use Rattle.std.specs.Prelude.{◌≤◌, ◌<◌, ◌∷◌, [], IfOk, IfErr, OnOk};
 ghost use Rattle.meaning_texts.specs.Limits.{unit_limit};
 ghost use Rattle.load_session.specs.Session.{headers, header_steps, unit_steps, puts_header, puts_unit, puts_list, first_steps, edit_steps};
-ghost use Rattle.load_session.specs.Moments.{MayServe, HasServed, HasAsked, StopsIn};
+ghost use Rattle.load_session.specs.Moments.{MayServeSteps, HasServed, HasAsked, LoadStopsFor};
 
 use crate::asked::Asked;
 use crate::session::Session;
@@ -17,10 +17,10 @@ fn put_header(
     number: u32,
     value: u32,
 ) -> Result<(), StoreFault>
-    requires { MayServe 1 session.old }
+    requires { MayServeSteps 1 session.old }
     ensures ok { OnOk result
         (HasServed session.old (puts_header value number ∷ []) [] session.new) }
-    ensures err { IfErr result (StopsIn session.old (puts_header value number ∷ [])) }
+    ensures err { IfErr result (LoadStopsFor session.old (puts_header value number ∷ [])) }
 {
     let name = header_name(alloc, number)?;
     let text = header_text(alloc, number, value)?;
@@ -30,9 +30,9 @@ fn put_header(
 // Puts a unit.
 fn put_unit(alloc: Global, session: &mut Session, number: u32) -> Result<(), StoreFault>
     requires some { 0 < number }
-    requires may { MayServe 1 session.old }
+    requires may { MayServeSteps 1 session.old }
     ensures ok { OnOk result (HasServed session.old (puts_unit number ∷ []) [] session.new) }
-    ensures err { IfErr result (StopsIn session.old (puts_unit number ∷ [])) }
+    ensures err { IfErr result (LoadStopsFor session.old (puts_unit number ∷ [])) }
 {
     let name = unit_name(alloc, number)?;
     let text = unit_text(alloc, number)?;
@@ -42,9 +42,9 @@ fn put_unit(alloc: Global, session: &mut Session, number: u32) -> Result<(), Sto
 // Puts the list of so many units.
 fn put_list(alloc: Global, session: &mut Session, units: u32) -> Result<(), StoreFault>
     requires few { units ≤ unit_limit }
-    requires may { MayServe 1 session.old }
+    requires may { MayServeSteps 1 session.old }
     ensures ok { OnOk result (HasServed session.old (puts_list units ∷ []) [] session.new) }
-    ensures err { IfErr result (StopsIn session.old (puts_list units ∷ [])) }
+    ensures err { IfErr result (LoadStopsFor session.old (puts_list units ∷ [])) }
 {
     let text = list_text(alloc, units)?;
     session.put(alloc, LIST_NAME, text)
@@ -52,9 +52,9 @@ fn put_list(alloc: Global, session: &mut Session, units: u32) -> Result<(), Stor
 
 // Puts all headers.
 fn put_headers(alloc: Global, session: &mut Session) -> Result<(), StoreFault>
-    requires { MayServe 12 session.old }
+    requires { MayServeSteps 12 session.old }
     ensures ok { OnOk result (HasServed session.old (header_steps headers) [] session.new) }
-    ensures err { IfErr result (StopsIn session.old (header_steps headers)) }
+    ensures err { IfErr result (LoadStopsFor session.old (header_steps headers)) }
 {
     for before in 0..HEADERS {
         put_header(alloc, session, before + 1, 1)?;
@@ -65,9 +65,9 @@ fn put_headers(alloc: Global, session: &mut Session) -> Result<(), StoreFault>
 // Puts so many units.
 fn put_units(alloc: Global, session: &mut Session, units: u32) -> Result<(), StoreFault>
     requires few { units ≤ unit_limit }
-    requires may { MayServe units session.old }
+    requires may { MayServeSteps units session.old }
     ensures ok { OnOk result (HasServed session.old (unit_steps units) [] session.new) }
-    ensures err { IfErr result (StopsIn session.old (unit_steps units)) }
+    ensures err { IfErr result (LoadStopsFor session.old (unit_steps units)) }
 {
     for before in 0..units {
         put_unit(alloc, session, before + 1)?;
@@ -82,9 +82,9 @@ pub(crate) fn serve_first(
     units: u32,
 ) -> Result<Asked, StoreFault>
     requires few { units ≤ unit_limit }
-    requires may { MayServe 2013 session.old }
+    requires may { MayServeSteps 2013 session.old }
     ensures ok { IfOk result (HasAsked session.old (first_steps units) session.new) }
-    ensures err { IfErr result (StopsIn session.old (first_steps units)) }
+    ensures err { IfErr result (LoadStopsFor session.old (first_steps units)) }
 {
     put_headers(alloc, session)?;
     put_units(alloc, session, units)?;
@@ -98,9 +98,9 @@ pub(crate) fn serve_edit(
     session: &mut Session,
     value: u32,
 ) -> Result<Asked, StoreFault>
-    requires { MayServe 1 session.old }
+    requires { MayServeSteps 1 session.old }
     ensures ok { IfOk result (HasAsked session.old (edit_steps value) session.new) }
-    ensures err { IfErr result (StopsIn session.old (edit_steps value)) }
+    ensures err { IfErr result (LoadStopsFor session.old (edit_steps value)) }
 {
     put_header(alloc, session, 1, value)?;
     session.ask(alloc)

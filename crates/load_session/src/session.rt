@@ -37,11 +37,11 @@ impl Drop for Session {
 impl Session {
     ghost use Rattle.load_session.specs.Session.{puts, asks};
     ghost use Rattle.load_session.specs.Loads.{IsOpeningFault};
-    ghost use Rattle.load_session.specs.Moments.{IsNew, MayServe, IsAtRest, HasServed, HasAsked, StopsIn};
+    ghost use Rattle.load_session.specs.Moments.{SessionIsNew, MayServeSteps, IsAtRest, HasServed, HasAsked, LoadStopsFor};
 
     /// Opens the store over an empty disk, and tools that did nothing yet.
     pub(crate) fn open(alloc: Global) -> Result<Session, StoreFault>
-        ensures ok { IfOk result IsNew }
+        ensures ok { IfOk result SessionIsNew }
         ensures err { IfErr result IsOpeningFault }
     {
         stands_for_one();
@@ -59,10 +59,10 @@ impl Session {
 
     /// Gives a source a text.
     pub(crate) fn put(&mut self, alloc: Global, name: &[u8], text: Bytes) -> Result<(), StoreFault>
-        requires may { MayServe 1 self.old }
+        requires may { MayServeSteps 1 self.old }
         requires short { length text ≤ body_limit }
         ensures ok { OnOk result (HasServed self.old (puts name.now text ∷ []) [] self.new) }
-        ensures err { IfErr result (StopsIn self.old (puts name.now text ∷ [])) }
+        ensures err { IfErr result (LoadStopsFor self.old (puts name.now text ∷ [])) }
     {
         let name = read_name(alloc, name)?;
         let text = Text::of(text)?;
@@ -76,7 +76,7 @@ impl Session {
     pub(crate) fn ask(&mut self, alloc: Global) -> Result<Asked, StoreFault>
         requires { IsAtRest self.old }
         ensures ok { IfOk result (HasAsked self.old (asks ∷ []) self.new) }
-        ensures err { IfErr result (StopsIn self.old (asks ∷ [])) }
+        ensures err { IfErr result (LoadStopsFor self.old (asks ∷ [])) }
     {
         let before = self.tools.starts();
         let answer = answer_ask(

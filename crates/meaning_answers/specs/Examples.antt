@@ -14,44 +14,44 @@ use Rattle.meaning_commands.specs.declared.replies.Reply.TheVariants as reply
 use Rattle.meaning_commands.specs.declared.replies.ShownBody.TheVariants as shows
 use Rattle.meaning_answers.specs.Replies.{shown, refused_circular, refused_deep, plan_of}
 use Rattle.meaning_answers.specs.Answers.{Refused}
-use Rattle.meaning_answers.specs.Samples.{good, warned, part, aborted_view, message, object_of, debugged_object}
+use Rattle.meaning_answers.specs.Samples.{good, ex_warned_view, part, aborted_view, message, object_of, debugged_object}
 
 -- the view is shown so over c-units
 abbrev pub IsShown : View → Reply → Type 0
 IsShown view reply = shown c_units view ≡ reply
 
-abbrev pub two_parts : List Part
-two_parts = part (codes "prog") (codes "x=1\n") ∷ part (codes "src") (codes "a.c\n") ∷ []
+abbrev pub ex_two_parts : List Part
+ex_two_parts = part (codes "prog") (codes "x=1\n") ∷ part (codes "src") (codes "a.c\n") ∷ []
 
-abbrev pub no_source : List Message
-no_source = message (codes "z") Abort (codes "no source z") ∷ []
+abbrev pub ex_no_source : List Message
+ex_no_source = message (codes "z") Abort (codes "no source z") ∷ []
 
 -- objects of each kind, and one without a value
-pub record Objects : Type 0 where
+pub record ObjectAnswers : Type 0 where
   pub empty : IsShown (good (Simple [])) (reply.Shown Ok (shows.Simple []) [])
   -- a list by the texts of its nodes
   pub listed : IsShown (good (Listed (object_of (codes "a.c") ∷ debugged_object (codes "b.c") ∷ [])))
       (reply.Shown Ok (shows.List (codes "a.c:o" ∷ codes "b.c+debug:o" ∷ [])) [])
-  pub compound : IsShown (good (Compound two_parts)) (reply.Shown Ok (shows.Compound two_parts) [])
+  pub compound : IsShown (good (Compound ex_two_parts)) (reply.Shown Ok (shows.Compound ex_two_parts) [])
   pub failed : IsShown
       (record { value = Some (Simple (codes "x=1\n")); status = Error; messages = [] })
       (reply.Shown Error (shows.Simple (codes "x=1\n")) [])
-  pub aborted : IsShown (aborted_view no_source) (reply.Shown Abort shows.Nothing no_source)
+  pub aborted : IsShown (aborted_view ex_no_source) (reply.Shown Abort shows.Nothing ex_no_source)
   -- a message as it is, with its tab
-  pub tabbed : IsShown (warned (codes "x=1\n") (codes "a\tb"))
+  pub tabbed : IsShown (ex_warned_view (codes "x=1\n") (codes "a\tb"))
       (reply.Shown Warning (shows.Simple (codes "x=1\n"))
       (message (codes "a.c:o") Warning (codes "a\tb") ∷ []))
 
 -- the text is refused so over c-units
-abbrev pub IsRefused : Text → Reply → Type 0
-IsRefused text reply = Refused c_units text reply
+abbrev pub IsRefusedOverUnits : Text → Reply → Type 0
+IsRefusedOverUnits text reply = Refused c_units text reply
 
 -- texts that are no expression, or whose expression has no node
-pub record Refusals : Type 0 where
-  pub place : IsRefused (codes "a.c:") (reply.RefusedExpression 5)
-  pub param : IsRefused (codes "a.c+opt:zz") (reply.RefusedParam (codes "opt"))
-  pub type : IsRefused (codes "a.c:zz") (reply.RefusedType (codes "zz"))
-  pub path : IsRefused (codes "a.c:o%1") (reply.RefusedPath 2)
+pub record RefusalAnswers : Type 0 where
+  pub place : IsRefusedOverUnits (codes "a.c:") (reply.RefusedExpression 5)
+  pub param : IsRefusedOverUnits (codes "a.c+opt:zz") (reply.RefusedParam (codes "opt"))
+  pub type : IsRefusedOverUnits (codes "a.c:zz") (reply.RefusedType (codes "zz"))
+  pub path : IsRefusedOverUnits (codes "a.c:o%1") (reply.RefusedPath 2)
 
 -- chains of two nodes
 pub record ShownChains : Type 0 where

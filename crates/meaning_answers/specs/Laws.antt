@@ -60,8 +60,8 @@ pub record BothShowChains (g : Graph) (s : Sources) (outcomes : Outcomes) (text 
   pub another : ShowsChain g s outcomes node other
 
 -- A text has one answer, but for the choice of the chain.
-abbrev pub AnswerIsOne : Type 0
-AnswerIsOne =
+abbrev pub AnswerIsUnique : Type 0
+AnswerIsUnique =
     (g : Graph) (s : Sources) (outcomes : Outcomes) (text : Text) (reply other : Reply)
     → Answer g s outcomes text reply → Answer g s outcomes text other
     → (other ≡ reply) ⊎ BothShowChains g s outcomes text reply other

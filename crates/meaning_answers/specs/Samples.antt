@@ -45,8 +45,8 @@ abbrev pub good : Value → View
 good v = record { value = Some v; status = Ok; messages = [] }
 
 -- the text with a warning of a.c:o
-abbrev pub warned : Text → Text → View
-warned text warning = record {
+abbrev pub ex_warned_view : Text → Text → View
+ex_warned_view text warning = record {
   value = Some (Simple text);
   status = Warning;
   messages = message (codes "a.c:o") Warning warning ∷ [];
@@ -58,31 +58,31 @@ aborted_view messages = record { value = None; status = Abort; messages = messag
 -- ---- results
 
 -- a node by its text, and its view
-abbrev pub Entry : Type 0
-Entry = Text × View
+abbrev pub ViewByText : Type 0
+ViewByText = Text × View
 
-abbrev pub results_of : Graph → List Entry → Results
+abbrev pub results_of : Graph → List ViewByText → Results
 results_of g [] n = None
 results_of g (e ∷ entries) n =
     cond (bytes_eq e.0 (node_text g n)) (Some e.1) (results_of g entries n)
 
-abbrev pub simple_at : Text → Text → Entry
+abbrev pub simple_at : Text → Text → ViewByText
 simple_at name text = (name, good (Simple text))
 
-abbrev pub listed_at : Text → List Node → Entry
+abbrev pub listed_at : Text → List Node → ViewByText
 listed_at name elements = (name, good (Listed elements))
 
-abbrev pub warned_at : Text → Text → Text → Entry
-warned_at name text warning = (name, warned text warning)
+abbrev pub warned_at : Text → Text → Text → ViewByText
+warned_at name text warning = (name, ex_warned_view text warning)
 
 -- at `Abort` with one message, which may be of another label
-abbrev pub aborted_at : Text → Text → Text → Entry
+abbrev pub aborted_at : Text → Text → Text → ViewByText
 aborted_at name label text = (name, aborted_view (message label Abort text ∷ []))
 
 -- ---- outcomes
 
-abbrev pub made_by : Text → Text → Option Outcome
-made_by name body = Some (record { status = Ok; lines = []; outputs = part name body ∷ [] })
+abbrev pub ex_made_by : Text → Text → Option Outcome
+ex_made_by name body = Some (record { status = Ok; lines = []; outputs = part name body ∷ [] })
 
 abbrev pub ended_by : Text → Option Outcome
 ended_by text =
@@ -92,10 +92,10 @@ ended_by text =
 -- ---- settling
 
 -- no source has a text
-abbrev pub no_texts : Text → Option Text
-no_texts name = None
+abbrev pub ex_no_texts : Text → Option Text
+ex_no_texts name = None
 
 -- the reply, as bytes, that shows what the node settles to, with these reached names
-abbrev pub settled_reply : Graph → List Entry → Node → Option Outcome → List Text → Text
+abbrev pub settled_reply : Graph → List ViewByText → Node → Option Outcome → List Text → Text
 settled_reply g entries n outcome names =
-    reply_text (shown g (settle g no_texts n (results_of g entries) outcome names))
+    reply_text (shown g (settle g ex_no_texts n (results_of g entries) outcome names))

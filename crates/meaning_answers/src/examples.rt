@@ -1,14 +1,14 @@
 //! Worked examples of replies. Each is the contract of a function with an empty body.
-ghost use Rattle.meaning_answers.specs.Examples.{Objects, Refusals, ShownChains, Plans};
+ghost use Rattle.meaning_answers.specs.Examples.{ObjectAnswers, RefusalAnswers, ShownChains, Plans};
 
 /// Objects as they are shown.
 pub fn objects()
-    ensures { Objects }
+    ensures { ObjectAnswers }
 {}
 
 /// Texts that are refused.
 pub fn refusals()
-    ensures { Refusals }
+    ensures { RefusalAnswers }
 {}
 
 /// Refusals with a chain.

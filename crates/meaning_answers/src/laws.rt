@@ -1,5 +1,5 @@
 //! Laws of answers. Each is the contract of a function with an empty body.
-ghost use Rattle.meaning_answers.specs.Laws.{EachIsAnswered, EachHasPlan, FoundedIsShown, OthersAreChained, RefusalIsOne, PlanIsOne, AnswerIsOne};
+ghost use Rattle.meaning_answers.specs.Laws.{EachIsAnswered, EachHasPlan, FoundedIsShown, OthersAreChained, RefusalIsOne, PlanIsOne, AnswerIsUnique};
 
 /// Every text has an answer and a plan.
 pub fn each_is_answered()
@@ -17,5 +17,5 @@ pub fn answers_are_exact()
 pub fn answer_is_one()
     ensures refusal { RefusalIsOne }
     ensures plan { PlanIsOne }
-    ensures answer { AnswerIsOne }
+    ensures answer { AnswerIsUnique }
 {}

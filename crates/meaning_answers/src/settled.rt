@@ -1,9 +1,9 @@
 //! Worked examples of what nodes settle to, as it is printed. Each is the contract of a function with an empty body.
-ghost use Rattle.meaning_answers.specs.Settled.{Tools, MissingExtras, SourcesAndLists, Elements, Packs};
+ghost use Rattle.meaning_answers.specs.Settled.{ToolAnswers, MissingExtras, SourcesAndLists, Elements, PackAnswers};
 
 /// What tools make.
 pub fn tools()
-    ensures { Tools }
+    ensures { ToolAnswers }
 {}
 
 /// Extras to which no path leads.
@@ -23,5 +23,5 @@ pub fn elements()
 
 /// Packs.
 pub fn packs()
-    ensures { Packs }
+    ensures { PackAnswers }
 {}

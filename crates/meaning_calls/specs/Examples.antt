@@ -18,8 +18,8 @@ use Rattle.meaning_texts.specs.Lines.{with_lf}
 use Rattle.meaning_calls.specs.Jobs.{job_of}
 use Rattle.meaning_calls.specs.Outcomes.{message_lines, outcome_of}
 
-abbrev pub part : ℕ → List ℕ → Option (List ℕ) → CallPart
-part slot label body = record { slot = slot; label = label; body = body }
+abbrev pub ex_call_part : ℕ → List ℕ → Option (List ℕ) → CallPart
+ex_call_part slot label body = record { slot = slot; label = label; body = body }
 
 -- a call of cc with these inputs
 abbrev pub cc_call : List CallPart → Call
@@ -32,8 +32,8 @@ cc_call parts = record {
   outs = codes "o" ∷ [];
 }
 
-abbrev pub file : List ℕ → List ℕ → FileBody
-file name body = record { name = name; body = body }
+abbrev pub ex_file_body : List ℕ → List ℕ → FileBody
+ex_file_body name body = record { name = name; body = body }
 
 -- a job of cc
 abbrev pub cc_job : List FileBody → Job
@@ -43,30 +43,30 @@ cc_job files =
 -- a source with two headers that include each other
 abbrev pub loop_call : Call
 loop_call = cc_call
-    (part 0 (codes "a.c") (Some (codes "include a.h\nx=1\n"))
-    ∷ part 1 (codes "a.h") (Some (codes "include b.h\ny=2\n"))
-    ∷ part 1 (codes "b.h") (Some (codes "include a.h\nz=3\n")) ∷ [])
+    (ex_call_part 0 (codes "a.c") (Some (codes "include a.h\nx=1\n"))
+    ∷ ex_call_part 1 (codes "a.h") (Some (codes "include b.h\ny=2\n"))
+    ∷ ex_call_part 1 (codes "b.h") (Some (codes "include a.h\nz=3\n")) ∷ [])
 
 abbrev pub loop_files : List FileBody
 loop_files =
-    file (codes "call")
+    ex_file_body (codes "call")
     (codes "odin 1\ntool cc 1\npart 0 i1 a.c\npart 1 i2 a.h\npart 1 i3 b.h\nout out.o\n")
-    ∷ file (codes "i1") (codes "include a.h\nx=1\n")
-    ∷ file (codes "i2") (codes "include b.h\ny=2\n")
-    ∷ file (codes "i3") (codes "include a.h\nz=3\n") ∷ []
+    ∷ ex_file_body (codes "i1") (codes "include a.h\nx=1\n")
+    ∷ ex_file_body (codes "i2") (codes "include b.h\ny=2\n")
+    ∷ ex_file_body (codes "i3") (codes "include a.h\nz=3\n") ∷ []
 
 -- a source with a header that isn't there
 abbrev pub absent_call : Call
 absent_call =
     cc_call
-    (part 0 (codes "a.c") (Some (codes "x=1\n")) ∷ part 1 (codes "x.h") None
-    ∷ part 2 (codes "b.h") (Some []) ∷ [])
+    (ex_call_part 0 (codes "a.c") (Some (codes "x=1\n")) ∷ ex_call_part 1 (codes "x.h") None
+    ∷ ex_call_part 2 (codes "b.h") (Some []) ∷ [])
 
 abbrev pub absent_files : List FileBody
 absent_files =
-    file (codes "call")
+    ex_file_body (codes "call")
     (codes "odin 1\ntool cc 1\npart 0 i1 a.c\npart 1 - x.h\npart 2 i3 b.h\nout out.o\n")
-    ∷ file (codes "i1") (codes "x=1\n") ∷ file (codes "i3") [] ∷ []
+    ∷ ex_file_body (codes "i1") (codes "x=1\n") ∷ ex_file_body (codes "i3") [] ∷ []
 
 abbrev pub value_of_d : List ℕ → ParamValue
 value_of_d value = record { param = codes "d"; value = value }
@@ -88,7 +88,7 @@ params_text = codes "odin 1\ntool t 2.0\nparam d \nparam d x\nout out.p\nout out
 abbrev pub params_job : Job
 params_job = record {
   words = codes "a b" ∷ [];
-  files = file (codes "call") params_text ∷ [];
+  files = ex_file_body (codes "call") params_text ∷ [];
   outs = codes "warnings" ∷ codes "out.p" ∷ codes "out.q" ∷ [];
 }
 
@@ -101,63 +101,63 @@ pub record JobsOfCalls : Type 0 where
 abbrev pub left_by : End → List FileBody → Raw
 left_by end files = record { end = end; files = files }
 
-abbrev pub line : Status → List ℕ → OwnLine
-line level text = record { level = level; text = text }
+abbrev pub ex_own_line : Status → List ℕ → OwnLine
+ex_own_line level text = record { level = level; text = text }
 
-abbrev pub made : Status → List OwnLine → List Part → Outcome
-made status lines outputs = record { status = status; lines = lines; outputs = outputs }
+abbrev pub ex_outcome : Status → List OwnLine → List Part → Outcome
+ex_outcome status lines outputs = record { status = status; lines = lines; outputs = outputs }
 
-abbrev pub output : List ℕ → List ℕ → Part
-output name body = record { name = name; body = body }
+abbrev pub ex_output : List ℕ → List ℕ → Part
+ex_output name body = record { name = name; body = body }
 
 -- the output `o` with this body
 abbrev pub object_file : List ℕ → FileBody
-object_file body = file (codes "out.o") body
+object_file body = ex_file_body (codes "out.o") body
 
 -- the ends of cc over one input
 pub record EndsOfATool : Type 0 where
-  pub signal : outcome_of (cc_call []) (left_by Signal (file (codes "warnings") [] ∷ []))
-      ≡ made Abort (line Abort (codes "tool cc ended by a signal") ∷ []) []
+  pub signal : outcome_of (cc_call []) (left_by Signal (ex_file_body (codes "warnings") [] ∷ []))
+      ≡ ex_outcome Abort (ex_own_line Abort (codes "tool cc ended by a signal") ∷ []) []
   pub error : outcome_of (cc_call [])
-      (left_by (Exit 1) (file (codes "warnings") [] ∷ object_file (codes "x=1\n") ∷ []))
-      ≡ made Error [] (output (codes "o") (codes "x=1\n") ∷ [])
-  pub missing : outcome_of (cc_call []) (left_by (Exit 0) (file (codes "warnings") [] ∷ []))
-      ≡ made Abort (line Abort (codes "no output o") ∷ []) []
+      (left_by (Exit 1) (ex_file_body (codes "warnings") [] ∷ object_file (codes "x=1\n") ∷ []))
+      ≡ ex_outcome Error [] (ex_output (codes "o") (codes "x=1\n") ∷ [])
+  pub missing : outcome_of (cc_call []) (left_by (Exit 0) (ex_file_body (codes "warnings") [] ∷ []))
+      ≡ ex_outcome Abort (ex_own_line Abort (codes "no output o") ∷ []) []
   pub ok : outcome_of (cc_call []) (left_by (Exit 0) (object_file [] ∷ []))
-      ≡ made Ok [] (output (codes "o") [] ∷ [])
+      ≡ ex_outcome Ok [] (ex_output (codes "o") [] ∷ [])
   pub warning : outcome_of (cc_call [])
-      (left_by (Exit 0) (file (codes "warnings") (codes "old\n\nnew") ∷ object_file [] ∷ []))
-      ≡ made Warning (line Warning (codes "old") ∷ line Warning (codes "new") ∷ [])
-      (output (codes "o") [] ∷ [])
+      (left_by (Exit 0) (ex_file_body (codes "warnings") (codes "old\n\nnew") ∷ object_file [] ∷ []))
+      ≡ ex_outcome Warning (ex_own_line Warning (codes "old") ∷ ex_own_line Warning (codes "new") ∷ [])
+      (ex_output (codes "o") [] ∷ [])
   pub status : outcome_of (cc_call [])
-      (left_by (Exit 255) (file (codes "warnings") (codes "a\n") ∷ object_file [] ∷ []))
-      ≡ made Abort
-      (line Abort (codes "a") ∷ line Abort (codes "tool cc ended with status 255") ∷ []) []
+      (left_by (Exit 255) (ex_file_body (codes "warnings") (codes "a\n") ∷ object_file [] ∷ []))
+      ≡ ex_outcome Abort
+      (ex_own_line Abort (codes "a") ∷ ex_own_line Abort (codes "tool cc ended with status 255") ∷ []) []
 
 -- what the tool leaves beside its end: lines keep the level of the end where an output is missing,
 -- the first file of a name counts, and a CR without an LF is a line
 pub record FilesOfATool : Type 0 where
-  pub levels : outcome_of (cc_call []) (left_by (Exit 1) (file (codes "warnings") (codes "a") ∷ []))
-      ≡ made Abort (line Error (codes "a") ∷ line Abort (codes "no output o") ∷ []) []
+  pub levels : outcome_of (cc_call []) (left_by (Exit 1) (ex_file_body (codes "warnings") (codes "a") ∷ []))
+      ≡ ex_outcome Abort (ex_own_line Error (codes "a") ∷ ex_own_line Abort (codes "no output o") ∷ []) []
   pub first : outcome_of (cc_call [])
-      (left_by (Exit 0) (object_file (codes "1") ∷ object_file (codes "2") ∷ file (codes "out.p") []
+      (left_by (Exit 0) (object_file (codes "1") ∷ object_file (codes "2") ∷ ex_file_body (codes "out.p") []
       ∷ []))
-      ≡ made Ok [] (output (codes "o") (codes "1") ∷ [])
+      ≡ ex_outcome Ok [] (ex_output (codes "o") (codes "1") ∷ [])
   pub cr : outcome_of (cc_call [])
-      (left_by (Exit 0) (file (codes "warnings") (13 ∷ []) ∷ object_file [] ∷ []))
-      ≡ made Warning (line Warning (13 ∷ []) ∷ []) (output (codes "o") [] ∷ [])
+      (left_by (Exit 0) (ex_file_body (codes "warnings") (13 ∷ []) ∷ object_file [] ∷ []))
+      ≡ ex_outcome Warning (ex_own_line Warning (13 ∷ []) ∷ []) (ex_output (codes "o") [] ∷ [])
   pub crlf : outcome_of (cc_call [])
-      (left_by (Exit 0) (file (codes "warnings") (13 ∷ 10 ∷ []) ∷ object_file [] ∷ []))
-      ≡ made Ok [] (output (codes "o") [] ∷ [])
+      (left_by (Exit 0) (ex_file_body (codes "warnings") (13 ∷ 10 ∷ []) ∷ object_file [] ∷ []))
+      ≡ ex_outcome Ok [] (ex_output (codes "o") [] ∷ [])
 
 -- a body of one byte too much, and of the most bytes
 pub record LongOutputs : Type 0 where
   pub too_long : (body : List ℕ) → length body ≡ 16777217
       → outcome_of (cc_call []) (left_by (Exit 0) (object_file body ∷ []))
-      ≡ made Abort (line Abort (codes "output o too long") ∷ []) []
+      ≡ ex_outcome Abort (ex_own_line Abort (codes "output o too long") ∷ []) []
   pub longest : (body : List ℕ) → length body ≡ 16777216
       → outcome_of (cc_call []) (left_by (Exit 0) (object_file body ∷ []))
-      ≡ made Ok [] (output (codes "o") body ∷ [])
+      ≡ ex_outcome Ok [] (ex_output (codes "o") body ∷ [])
 
 -- of a line of 1,001 bytes the first 1,000 count, and of 1,001 lines the first 1,000
 pub record LongWarnings : Type 0 where
@@ -178,15 +178,15 @@ two_outputs = record {
 -- what is wrong with outputs stands in their order, behind the lines, and then no output stays
 pub record SeveralOutputs : Type 0 where
   pub both : outcome_of two_outputs
-      (left_by (Exit 0) (file (codes "out.q") (codes "2") ∷ file (codes "out.p") (codes "1") ∷ []))
-      ≡ made Ok [] (output (codes "p") (codes "1") ∷ output (codes "q") (codes "2") ∷ [])
+      (left_by (Exit 0) (ex_file_body (codes "out.q") (codes "2") ∷ ex_file_body (codes "out.p") (codes "1") ∷ []))
+      ≡ ex_outcome Ok [] (ex_output (codes "p") (codes "1") ∷ ex_output (codes "q") (codes "2") ∷ [])
   pub neither : outcome_of two_outputs
-      (left_by (Exit 0) (file (codes "warnings") (codes "w\n") ∷ []))
-      ≡ made Abort
-      (line Warning (codes "w") ∷ line Abort (codes "no output p")
-      ∷ line Abort (codes "no output q") ∷ []) []
-  pub one : outcome_of two_outputs (left_by (Exit 1) (file (codes "out.p") (codes "1") ∷ []))
-      ≡ made Abort (line Abort (codes "no output q") ∷ []) []
+      (left_by (Exit 0) (ex_file_body (codes "warnings") (codes "w\n") ∷ []))
+      ≡ ex_outcome Abort
+      (ex_own_line Warning (codes "w") ∷ ex_own_line Abort (codes "no output p")
+      ∷ ex_own_line Abort (codes "no output q") ∷ []) []
+  pub one : outcome_of two_outputs (left_by (Exit 1) (ex_file_body (codes "out.p") (codes "1") ∷ []))
+      ≡ ex_outcome Abort (ex_own_line Abort (codes "no output q") ∷ []) []
   pub ended : outcome_of two_outputs
-      (left_by (Exit 2) (file (codes "out.p") (codes "1") ∷ file (codes "out.q") (codes "2") ∷ []))
-      ≡ made Abort (line Abort (codes "tool t ended with status 2") ∷ []) []
+      (left_by (Exit 2) (ex_file_body (codes "out.p") (codes "1") ∷ ex_file_body (codes "out.q") (codes "2") ∷ []))
+      ≡ ex_outcome Abort (ex_own_line Abort (codes "tool t ended with status 2") ∷ []) []

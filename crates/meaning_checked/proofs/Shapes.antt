@@ -42,7 +42,7 @@ use Rattle.meaning_nodes.specs.NodeOf.{NodeAnswer, is_node, unknown_param, unkno
 use Rattle.meaning_tasks.specs.Tasks.{Own, Task, tooled, ToolTask, PackPart, fine_unless, unless_node, led_to, led_nodes, led_missing, with_params_of, answer_node, line_node, line_led, lines_own, read_own, each_own, element_name, parts_of, is_compound, outs_of, pack_part, tool_task, make_task, task_of}
 use Rattle.meaning_tasks.specs.Needs.{Known, has_value, elements_of, part_nodes, counted_needs}
 use Rattle.meaning_tasks.specs.Calls.{text_in, all_valued, call_of, tool_call}
-use Rattle.meaning_tasks.specs.Settle.{Texts, given_own, element_own, pick_own, picked_own, mapped_own, named_body, part_body, first_body, made_value, at_status, outcome_own, own_of}
+use Rattle.meaning_tasks.specs.Settle.{SourceLookup, given_own, element_own, pick_own, picked_own, mapped_own, named_body, part_body, first_body, made_value, at_status, outcome_own, own_of}
 use Rattle.meaning_tasks.specs.Maps.{IsElementOf, IsOfKind}
 use Rattle.meaning_nodes.proofs.Lemmas.{HasBase, made_fits, onward_named_fits}
 use Rattle.meaning_tasks.proofs.Lemmas.{packed_counted_are, from_kept, references_canonical}
@@ -329,7 +329,7 @@ module _ (g : Graph) (checked : Checked g) where
 
     -- ---- all tasks
 
-    module _ (n : Node) (f : Fits g n) (label : Text) (texts : Texts) (sources : (name text : Text) → texts name ≡ Some text → IsSource name text) (o : Option Outcome) (names : List Text) where
+    module _ (n : Node) (f : Fits g n) (label : Text) (texts : SourceLookup) (sources : (name text : Text) → texts name ≡ Some text → IsSource name text) (o : Option Outcome) (names : List Text) where
       source_good : n.steps ≡ [] → (v : Value) → (given_own label n.source (texts n.source)).value ≡ Some v → IsGood n v
       source_good e v h = by_text (texts n.source) refl h
         where

@@ -13,7 +13,7 @@ use Rattle.meaning_texts.proofs.Lemmas.{same_some, word_decides}
 use Rattle.meaning_commands.specs.declared.commands.Command.{Command}
 use Rattle.meaning_commands.specs.declared.commands.Command.TheVariants.{Put, Take, Remove, Ask, Plan, Sources, Kept, Quit, BadName}
 use Rattle.meaning_commands.specs.Commands.{IsArgument, IsPut, IsForm, put, put_bad, take, take_bad, remove, remove_bad, ask, plan, sources, kept, quit}
-use Rattle.meaning_commands.specs.Reading.{number_of, before_space, behind_space, behind, is_argument, naming, put_of, put_words, alone, first_of, readings, formed_command}
+use Rattle.meaning_commands.specs.Reading.{decimal_number, before_space, behind_space, behind, is_argument, naming, put_of, put_words, word_alone, first_command_of, readings, formed_command}
 use Rattle.meaning_commands.proofs.Words.{reads_number, is_number, before_is, behind_is, is_cut, argument_test, test_argument, is_behind}
 
 -- ---- names
@@ -53,10 +53,10 @@ named command count word c h =
 
 -- ---- the first that is there
 
-first_is : (o : Option Command) (rest : List (Option Command)) (c : Command) → o ≡ Some c → first_of (o ∷ rest) ≡ Some c
-first_is o rest c h = ap (λ x. first_of (x ∷ rest)) h
+first_is : (o : Option Command) (rest : List (Option Command)) (c : Command) → o ≡ Some c → first_command_of (o ∷ rest) ≡ Some c
+first_is o rest c h = ap (λ x. first_command_of (x ∷ rest)) h
 
-is_first : (xs : List (Option Command)) (c : Command) → first_of xs ≡ Some c → IsIn (Some c) xs
+is_first : (xs : List (Option Command)) (c : Command) → first_command_of xs ≡ Some c → IsIn (Some c) xs
 is_first [] c h = cc
 is_first (None ∷ rest) c h = inr (is_first rest c h)
 is_first (Some d ∷ rest) c h = inl (sym h)
@@ -69,15 +69,15 @@ mapped : {A B : Type 0} (f : A → B) (o : Option A) (y : B) → Some y ≡ opti
 mapped f None y h = cc
 mapped f (Some x) y h = (x, refl, same_some (sym h))
 
-lone : (word line : List ℕ) (command c : Command) → Some c ≡ alone word command line → (line ≡ word) × (command ≡ c)
+lone : (word line : List ℕ) (command c : Command) → Some c ≡ word_alone word command line → (line ≡ word) × (command ≡ c)
 lone word line command c h = let p = cond_some _ command c (sym h) in ((bytes_eq-Decides line word).0 p.0, p.1)
 
 -- ---- from the form
 
 put_reads : (word : List ℕ) (count : ℕ) (c : Command) → IsArgument word → count < 2 ^ 64 → naming (Put word count) count word ≡ Some c → put_words (word ++ 32 ∷ decimal count) ≡ Some c
 put_reads word count c a small h =
-    let number : option_and_then number_of (behind_space (word ++ 32 ∷ decimal count)) ≡ Some count = ap (option_and_then number_of) (behind_is word (decimal count) a.spaceless) ∙ reads_number count small in
-    ap (λ w. put_of w (option_and_then number_of (behind_space (word ++ 32 ∷ decimal count)))) (before_is word (decimal count) a.spaceless) ∙ ap (put_of word) number ∙ h
+    let number : option_and_then decimal_number (behind_space (word ++ 32 ∷ decimal count)) ≡ Some count = ap (option_and_then decimal_number) (behind_is word (decimal count) a.spaceless) ∙ reads_number count small in
+    ap (λ w. put_of w (option_and_then decimal_number (behind_space (word ++ 32 ∷ decimal count)))) (before_is word (decimal count) a.spaceless) ∙ ap (put_of word) number ∙ h
 
 behind_put : (rest : List ℕ) (c : Command) → put_words rest ≡ Some c → formed_command (codes "put " ++ rest) ≡ Some c
 unfolding formed_command
@@ -134,8 +134,8 @@ put_number rest (Some count) c h = (count, refl, h)
 put_form : (line rest : List ℕ) (c : Command) → line ≡ codes "put " ++ rest → put_words rest ≡ Some c → IsForm line c
 put_form line rest c is h =
     let word = before_space rest in
-    let p = put_number rest (option_and_then number_of (behind_space rest)) c h in
-    let q = bound number_of (behind_space rest) p.0 (sym p.1) in
+    let p = put_number rest (option_and_then decimal_number (behind_space rest)) c h in
+    let q = bound decimal_number (behind_space rest) p.0 (sym p.1) in
     let number = is_number q.0 p.0 q.2 in
     let w = named (Put word p.0) p.0 word c p.2 in
     let same : line ≡ codes "put " ++ (word ++ 32 ∷ decimal p.0) = is ∙ ap (λ l. codes "put " ++ l) (is_cut rest q.0 q.1 ∙ ap (λ l. word ++ 32 ∷ l) number.1) in

@@ -11,18 +11,18 @@ use Rattle.std.proofs.lemmas.Slice.Eq.{bytes_eq-Decides}
 use Rattle.meaning_texts.specs.Lists.{HasNo, is_empty}
 use Rattle.meaning_texts.proofs.Lemmas.{same_some, some_or_none}
 use Rattle.meaning_commands.specs.Commands.{IsArgument}
-use Rattle.meaning_commands.specs.Reading.{number_of, before_space, behind_space, behind, is_argument}
+use Rattle.meaning_commands.specs.Reading.{decimal_number, before_space, behind_space, behind, is_argument}
 
 -- ---- numbers
 
-pub reads_number : (n : ℕ) → n < 2 ^ 64 → number_of (decimal n) ≡ Some n
+pub reads_number : (n : ℕ) → n < 2 ^ 64 → decimal_number (decimal n) ≡ Some n
 reads_number n small =
     let value : digits_value 10 (decimal n) ≡ n = (decimal_is_IsNumeral n small).1 in
     let same : bytes_eq (decimal (digits_value 10 (decimal n))) (decimal n) ≡ true = (bytes_eq-Decides _ _).1 (ap decimal value) in
     let few : nat_lt (digits_value 10 (decimal n)) (2 ^ 64) ≡ true = lt-ltb _ _ (subst (λ m. m < 2 ^ 64) (sym value) small) in
     cond-true _ _ _ (and_from _ _ same few) ∙ ap Some value
 
-pub is_number : (text : List ℕ) (n : ℕ) → number_of text ≡ Some n → (n < 2 ^ 64) × (text ≡ decimal n)
+pub is_number : (text : List ℕ) (n : ℕ) → decimal_number text ≡ Some n → (n < 2 ^ 64) × (text ≡ decimal n)
 is_number text n h =
     let p = cond_some _ (digits_value 10 text) n h in
     let q = and_parts (bytes_eq (decimal (digits_value 10 text)) text) (nat_lt (digits_value 10 text) (2 ^ 64)) p.0 in
@@ -99,8 +99,8 @@ pub behind_front : (word rest : List ℕ) → behind word (word ++ rest) ≡ Som
 behind_front [] rest = refl
 behind_front (b ∷ word) rest = cond-true (b == b) (behind word (word ++ rest)) None (eq-eqb b b refl) ∙ behind_front word rest
 
-pub none_number : (text : List ℕ) → ((n : ℕ) → n < 2 ^ 64 → text ≢ decimal n) → number_of text ≡ None
-none_number text none = elim (some_or_none (number_of text)) [
+pub none_number : (text : List ℕ) → ((n : ℕ) → n < 2 ^ 64 → text ≢ decimal n) → decimal_number text ≡ None
+none_number text none = elim (some_or_none (decimal_number text)) [
   | inl p ↦ let q = is_number text p.0 p.1 in absurd (none p.0 q.0 q.1)
   | inr e ↦ e
 ]

@@ -56,10 +56,10 @@ pub data Spells (line : List ℕ) : Command → Type 0 where
   formless : line ≢ [] → ((command : Command) → ¬ IsForm line command) → Spells line Bad
 
 -- how many bytes behind its line belong to the command, whether they are a text or passed over
-abbrev pub takes : Command → ℕ
-takes (Put name count) = count
-takes (BadName count) = count
-takes other = 0
+abbrev pub bytes_after_line : Command → ℕ
+bytes_after_line (Put name count) = count
+bytes_after_line (BadName count) = count
+bytes_after_line other = 0
 
 -- the command is the last one that is read
 abbrev pub ends_run : Command → Bool

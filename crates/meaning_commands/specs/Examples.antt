@@ -6,7 +6,7 @@ use Rattle.object_values.specs.declared.views.Part.{Part}
 use Rattle.meaning_commands.specs.declared.commands.Command.TheVariants.{Put, Take, Remove, Ask, Plan, Sources, Kept, Quit, Nothing, Bad, BadName}
 use Rattle.meaning_commands.specs.declared.replies.Reply.TheVariants as reply
 use Rattle.meaning_commands.specs.declared.replies.ShownBody.TheVariants as body
-use Rattle.meaning_commands.specs.Commands.{takes, ends_run}
+use Rattle.meaning_commands.specs.Commands.{bytes_after_line, ends_run}
 use Rattle.meaning_commands.specs.Reading.{command_of}
 use Rattle.meaning_commands.specs.Replies.{reply_text}
 
@@ -17,7 +17,7 @@ abbrev pub letters : ℕ → List ℕ
 letters n = replicate n 97
 
 -- `put NAME LEN`, the number with its least and its greatest value
-pub record Puts : Type 0 where
+pub record PutCommands : Type 0 where
   pub some : command_of (codes "put a.c 3") ≡ Put (codes "a.c") 3
   pub none : command_of (codes "put a.c 0") ≡ Put (codes "a.c") 0
   pub greatest : command_of (codes "put x 18446744073709551615") ≡ Put (codes "x") 18446744073709551615
@@ -90,10 +90,10 @@ pub record LongLines : Type 0 where
 
 -- how many bytes belong to a command behind its line, and which one is the last
 pub record Sizes : Type 0 where
-  pub put : takes (Put (codes "a.c") 3) ≡ 3
-  pub bad_name : takes (BadName 2) ≡ 2
-  pub take : takes (Take (codes "a.c")) ≡ 0
-  pub bad : takes Bad ≡ 0
+  pub put : bytes_after_line (Put (codes "a.c") 3) ≡ 3
+  pub bad_name : bytes_after_line (BadName 2) ≡ 2
+  pub take : bytes_after_line (Take (codes "a.c")) ≡ 0
+  pub bad : bytes_after_line Bad ≡ 0
   pub quit : ends_run Quit ≡ true
   pub other : ends_run Kept ≡ false
 
@@ -130,8 +130,8 @@ pub record Refusals : Type 0 where
   pub deep : reply_text (reply.RefusedDeep (codes "a" ∷ codes "b" ∷ []))
       ≡ codes "refused deep 2\na\nb\n"
 
-abbrev pub part : List ℕ → List ℕ → Part
-part name text = record { name = name; body = text }
+abbrev pub ex_part : List ℕ → List ℕ → Part
+ex_part name text = record { name = name; body = text }
 
 -- a tab in a message is escaped
 abbrev pub tabbed : Message
@@ -145,7 +145,7 @@ pub record Objects : Type 0 where
   pub list : reply_text (reply.Shown Error (body.List (codes "a.c" ∷ codes "b.c" ∷ [])) [])
       ≡ codes "object error list 2\na.c\nb.c\nmessages 0\n"
   pub compound : reply_text (reply.Shown Ok (body.Compound
-      (part (codes "prog") (codes "x=1\n") ∷ part (codes "src") (codes "a.c\n") ∷ [])) [])
+      (ex_part (codes "prog") (codes "x=1\n") ∷ ex_part (codes "src") (codes "a.c\n") ∷ [])) [])
       ≡ codes "object ok compound 2\nprog 4\nx=1\n\nsrc 4\na.c\n\nmessages 0\n"
   pub aborted : reply_text (reply.Shown Abort body.Nothing [])
       ≡ codes "object abort none 0\nmessages 0\n"

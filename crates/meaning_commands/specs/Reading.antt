@@ -11,8 +11,8 @@ use Rattle.meaning_commands.specs.declared.commands.Command.{Command}
 use Rattle.meaning_commands.specs.declared.commands.Command.TheVariants.{Put, Take, Remove, Ask, Plan, Sources, Kept, Quit, Nothing, Bad, BadName}
 
 -- the number below 2^64 whose digits these are
-abbrev pub number_of : List ℕ → Option ℕ
-number_of text =
+abbrev pub decimal_number : List ℕ → Option ℕ
+decimal_number text =
     if bytes_eq (decimal (digits_value 10 text)) text && nat_lt (digits_value 10 text) (2 ^ 64)
     then Some (digits_value 10 text) else None
 
@@ -47,15 +47,15 @@ put_of word None = None
 put_of word (Some count) = naming (Put word count) count word
 
 abbrev pub put_words : List ℕ → Option Command
-put_words rest = put_of (before_space rest) (option_and_then number_of (behind_space rest))
+put_words rest = put_of (before_space rest) (option_and_then decimal_number (behind_space rest))
 
-abbrev pub alone : List ℕ → Command → List ℕ → Option Command
-alone word command line = if bytes_eq line word then Some command else None
+abbrev pub word_alone : List ℕ → Command → List ℕ → Option Command
+word_alone word command line = if bytes_eq line word then Some command else None
 
-abbrev pub first_of : List (Option Command) → Option Command
-first_of [] = None
-first_of (None ∷ rest) = first_of rest
-first_of (Some command ∷ rest) = Some command
+abbrev pub first_command_of : List (Option Command) → Option Command
+first_command_of [] = None
+first_command_of (None ∷ rest) = first_command_of rest
+first_command_of (Some command ∷ rest) = Some command
 
 -- what the line is as each of the commands
 abbrev pub readings : List ℕ → List (Option Command)
@@ -65,14 +65,14 @@ readings line =
     ∷ option_and_then (λ word. naming (Remove word) 0 word) (behind (codes "drop ") line)
     ∷ option_map Ask (behind (codes "ask ") line)
     ∷ option_map Plan (behind (codes "plan ") line)
-    ∷ alone (codes "sources") Sources line
-    ∷ alone (codes "kept") Kept line
-    ∷ alone (codes "quit") Quit line
+    ∷ word_alone (codes "sources") Sources line
+    ∷ word_alone (codes "kept") Kept line
+    ∷ word_alone (codes "quit") Quit line
     ∷ []
 
 -- the command whose shown words the line has
 unfoldable pub formed_command : List ℕ → Option Command
-formed_command line = first_of (readings line)
+formed_command line = first_command_of (readings line)
 
 abbrev pub or_bad : Option Command → Command
 or_bad None = Bad

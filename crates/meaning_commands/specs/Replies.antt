@@ -12,12 +12,12 @@ use Rattle.meaning_commands.specs.declared.replies.ShownBody.{ShownBody}
 use Rattle.meaning_commands.specs.declared.replies.ShownBody.TheVariants.{Nothing, Simple, List as Listed, Compound}
 
 -- a word and a number
-abbrev pub counted : List ℕ → ℕ → List ℕ
-counted word n = word ++ codes " " ++ decimal n
+abbrev pub word_and_number : List ℕ → ℕ → List ℕ
+word_and_number word n = word ++ codes " " ++ decimal n
 
 -- a line with the count of the lines behind it, and these lines
 abbrev pub counted_lines : List ℕ → List (List ℕ) → List ℕ
-counted_lines word lines = with_lf (counted word (length lines)) ++ flat_map with_lf lines
+counted_lines word lines = with_lf (word_and_number word (length lines)) ++ flat_map with_lf lines
 
 -- ---- objects
 
@@ -29,15 +29,15 @@ status_word Abort = codes "abort"
 
 -- `NAME LEN`, the bytes and an LF
 abbrev pub part_text : Part → List ℕ
-part_text p = with_lf (counted p.name (length p.body)) ++ with_lf p.body
+part_text p = with_lf (word_and_number p.name (length p.body)) ++ with_lf p.body
 
 -- the kind and the count, and what is shown
 abbrev pub body_text : ShownBody → List ℕ
-body_text Nothing = with_lf (counted (codes "none") 0)
-body_text (Simple text) = with_lf (counted (codes "simple") (length text)) ++ with_lf text
+body_text Nothing = with_lf (word_and_number (codes "none") 0)
+body_text (Simple text) = with_lf (word_and_number (codes "simple") (length text)) ++ with_lf text
 body_text (Listed lines) = counted_lines (codes "list") lines
 body_text (Compound parts) =
-    with_lf (counted (codes "compound") (length parts)) ++ flat_map part_text parts
+    with_lf (word_and_number (codes "compound") (length parts)) ++ flat_map part_text parts
 
 -- `LEVEL LABEL TEXT`, the text escaped
 abbrev pub message_text : Message → List ℕ
@@ -46,7 +46,7 @@ message_text m =
 
 abbrev pub messages_text : List Message → List ℕ
 messages_text messages =
-    with_lf (counted (codes "messages") (length messages)) ++ flat_map message_text messages
+    with_lf (word_and_number (codes "messages") (length messages)) ++ flat_map message_text messages
 
 -- the object, and then its messages
 abbrev pub object_text : Status → ShownBody → List Message → List ℕ
@@ -56,23 +56,23 @@ object_text status body messages =
 -- ---- replies
 
 abbrev pub reply_text : Reply → List ℕ
-reply_text (reply.Put name count) = with_lf (counted (codes "put " ++ name) count)
-reply_text (reply.Took name count) = with_lf (counted (codes "took " ++ name) count)
+reply_text (reply.Put name count) = with_lf (word_and_number (codes "put " ++ name) count)
+reply_text (reply.Took name count) = with_lf (word_and_number (codes "took " ++ name) count)
 reply_text (reply.NoFile name) = with_lf (codes "no file " ++ name)
 reply_text (reply.Dropped name) = with_lf (codes "dropped " ++ name)
 reply_text (reply.NoSource name) = with_lf (codes "no source " ++ name)
 reply_text (reply.Sources lines) = counted_lines (codes "sources") lines
-reply_text (reply.Kept count) = with_lf (counted (codes "kept") count)
+reply_text (reply.Kept count) = with_lf (word_and_number (codes "kept") count)
 reply_text (reply.Plan lines) = counted_lines (codes "plan") lines
 reply_text reply.Bye = with_lf (codes "bye")
 reply_text reply.RefusedCommand = with_lf (codes "refused command")
 reply_text reply.RefusedName = with_lf (codes "refused name")
 reply_text reply.RefusedSize = with_lf (codes "refused size")
 reply_text reply.RefusedRead = with_lf (codes "refused read")
-reply_text (reply.RefusedExpression place) = with_lf (counted (codes "refused expression") place)
+reply_text (reply.RefusedExpression place) = with_lf (word_and_number (codes "refused expression") place)
 reply_text (reply.RefusedParam name) = with_lf (codes "refused param " ++ name)
 reply_text (reply.RefusedType name) = with_lf (codes "refused type " ++ name)
-reply_text (reply.RefusedPath step) = with_lf (counted (codes "refused path") step)
+reply_text (reply.RefusedPath step) = with_lf (word_and_number (codes "refused path") step)
 reply_text (reply.RefusedCircular lines) = counted_lines (codes "refused circular") lines
 reply_text (reply.RefusedDeep lines) = counted_lines (codes "refused deep") lines
 reply_text reply.RefusedToolStart = with_lf (codes "refused tool start")

@@ -1,9 +1,9 @@
 //! Worked examples of commands and replies. Each is the contract of a function with an empty body.
-ghost use Rattle.meaning_commands.specs.Examples.{Puts, BadPuts, BadNames, Namings, Requests, Words, LongLines, Sizes, SourceReplies, OtherReplies, Refusals, Objects};
+ghost use Rattle.meaning_commands.specs.Examples.{PutCommands, BadPuts, BadNames, Namings, Requests, Words, LongLines, Sizes, SourceReplies, OtherReplies, Refusals, Objects};
 
 /// `put` with a name and a number.
 pub fn puts()
-    ensures { Puts }
+    ensures { PutCommands }
 {}
 
 /// `put` with other words.

@@ -13,7 +13,7 @@ use Rattle.meaning_tasks.specs.Reached.{Reached, by_own, by_line, AreReached}
 use Rattle.meaning_tasks.specs.Tasks.{task_of}
 use Rattle.meaning_tasks.specs.Needs.{Results, values_of, where_valued, elements_of, own_lines, needed, reached, in_role, nodes_of, needs_of}
 use Rattle.meaning_derive.specs.Chains.{IsNeed, IsCircular}
-use Rattle.meaning_derive.specs.Samples.{objs, exe, back, back_again, lines, joined}
+use Rattle.meaning_derive.specs.Samples.{objs, exe, back, back_again, lines, ex_joined_node}
 
 no_names : (own : List Text) (lines : Text → List Text) → own ≡ [] → AreReached own lines []
 unfolding IsStrictlySortedBy
@@ -67,16 +67,16 @@ circular seen h none =
     other_steps : back_again ≡ back → ⊥
     other_steps e = absurd (omega (arith, ap (λ (n : Node). length n.steps) e))
 
-pub self_reference : (seen : Results) → values_of seen lines ≡ Some (Some (Listed (joined ∷ []))) → IsCircular joined_texts seen joined (joined ∷ joined ∷ [])
+pub self_reference : (seen : Results) → values_of seen lines ≡ Some (Some (Listed (ex_joined_node ∷ []))) → IsCircular joined_texts seen ex_joined_node (ex_joined_node ∷ ex_joined_node ∷ [])
 unfolding task_of
 self_reference seen h =
-    let listed : IsIn joined (needs_of (task_of joined_texts joined) (values_of seen) []) =
-    subst (λ o. IsIn joined (nodes_of (in_role needed (lines ∷ where_valued o (elements_of o ++ [])) ++ in_role reached (where_valued o [])))) (sym h) (inr (inl refl)) in
+    let listed : IsIn ex_joined_node (needs_of (task_of joined_texts ex_joined_node) (values_of seen) []) =
+    subst (λ o. IsIn ex_joined_node (nodes_of (in_role needed (lines ∷ where_valued o (elements_of o ++ [])) ++ in_role reached (where_valued o [])))) (sym h) (inr (inl refl)) in
     record {
-      front = joined ∷ [];
-      last = joined;
+      front = ex_joined_node ∷ [];
+      last = ex_joined_node;
       is = refl;
-      leads = (refl, (need joined_texts seen joined joined (nowhere (values_of seen lines)) listed, tt));
+      leads = (refl, (need joined_texts seen ex_joined_node ex_joined_node (nowhere (values_of seen lines)) listed, tt));
       different = (λ none. none, tt);
       repeated = inl refl;
     }

@@ -26,7 +26,7 @@ use Rattle.meaning_nodes.specs.Values.{Picked, element, body, pick, worst}
 use Rattle.meaning_tasks.specs.Tasks.{Own, fine_unless, lines_own, read_own, each_own, element_name, Task, given, picked, mapped, packed, tooled, unfit, PackPart, make_task, maker_task, step_task, task_of}
 use Rattle.meaning_tasks.specs.Needs.{Results, Known, values_of, has_value, element_in, picked_element, counted_needs}
 use Rattle.meaning_tasks.specs.Calls.{all_valued}
-use Rattle.meaning_tasks.specs.Settle.{Texts, given_own, element_own, pick_own, picked_own, mapped_own, packed_own, at_status, outcome_own, own_of, status_in, worst_of, settled}
+use Rattle.meaning_tasks.specs.Settle.{SourceLookup, given_own, element_own, pick_own, picked_own, mapped_own, packed_own, at_status, outcome_own, own_of, status_in, worst_of, settled}
 use Rattle.meaning_tasks.proofs.Lemmas.{picked_counted_are}
 use Rattle.meaning_derive.specs.Derive.{Sources, text_of, Outcomes, names_for, derive}
 use Rattle.meaning_derive.proofs.Steps.{step_so}
@@ -147,7 +147,7 @@ outcome_sound : (label : Text) (made : Bool) (missing : List Message) (o : Optio
 outcome_sound label made missing None = refl
 outcome_sound label made missing (Some o) = status_sound o.status _ _
 
-pub own_sound : (label : Text) (texts : Texts) (t : Task) (known : Known) (o : Option Outcome) (names : List Text) → IsSoundTask t → all_valued known (counted_needs t known names) ≡ true → IsSoundOwn (own_of label texts t known o)
+pub own_sound : (label : Text) (texts : SourceLookup) (t : Task) (known : Known) (o : Option Outcome) (names : List Text) → IsSoundTask t → all_valued known (counted_needs t known names) ≡ true → IsSoundOwn (own_of label texts t known o)
 own_sound label texts (given name) known o names s h = given_sound label name (texts name)
 own_sound label texts (picked base key) known o names s h = picked_sound label key known (known base) (λ e i. in_all_pass (λ n. has_value (known n)) (base ∷ picked_element key (known base)) (subst (λ l. all_valued known l ≡ true) (picked_counted_are base key known names) h) e (inr i))
 own_sound label texts (mapped base f) known o names s h = mapped_sound f s (known base)

@@ -5,7 +5,7 @@ use Rattle.meaning_graph.specs.Samples.{c_units_back, joined_texts}
 use Rattle.meaning_nodes.specs.Labels.{node_text}
 use Rattle.meaning_tasks.specs.Needs.{Results, values_of}
 use Rattle.meaning_derive.specs.Chains.{IsCircular}
-use Rattle.meaning_derive.specs.Samples.{objs, exe, back, back_again, lines, joined}
+use Rattle.meaning_derive.specs.Samples.{objs, exe, back, back_again, lines, ex_joined_node}
 
 -- A program whose unit is made of the program, where the list of objects is known and nothing
 -- further on.
@@ -19,6 +19,6 @@ pub record MadeOfItself : Type 0 where
 
 -- A text that refers to the text that is joined from it.
 pub record SelfReference : Type 0 where
-  pub chain : (seen : Results) → values_of seen lines ≡ Some (Some (Listed (joined ∷ [])))
-      → IsCircular joined_texts seen joined (joined ∷ joined ∷ [])
-  pub text : node_text joined_texts joined ≡ codes "a1.t:l:u"
+  pub chain : (seen : Results) → values_of seen lines ≡ Some (Some (Listed (ex_joined_node ∷ [])))
+      → IsCircular joined_texts seen ex_joined_node (ex_joined_node ∷ ex_joined_node ∷ [])
+  pub text : node_text joined_texts ex_joined_node ≡ codes "a1.t:l:u"

@@ -22,5 +22,5 @@ back_again = at_steps (codes "m.sm") (Maker 2 ∷ Maker 3 ∷ Maker 4 ∷ Maker 
 abbrev pub lines : Node
 lines = at_steps (codes "a1.t") (Maker 0 ∷ [])
 
-abbrev pub joined : Node
-joined = at_steps (codes "a1.t") (Maker 0 ∷ Maker 1 ∷ [])
+abbrev pub ex_joined_node : Node
+ex_joined_node = at_steps (codes "a1.t") (Maker 0 ∷ Maker 1 ∷ [])

@@ -18,8 +18,8 @@ declared name kind supers = ObjectType (record { name = name; kind = kind; super
 abbrev pub simple : Text → Decl
 simple name = declared name Simple []
 
-abbrev pub list_of : Text → Text → Decl
-list_of name of = declared name (Listed of) []
+abbrev pub ex_list_type : Text → Text → Decl
+ex_list_type name of = declared name (Listed of) []
 
 abbrev pub suffix : Text → Text → Decl
 suffix end of = Suffix (record { suffix = end; of = of })
@@ -36,8 +36,8 @@ tool_with name from to word uses extras closure =
 abbrev pub tool : Text → Text → Text → Text → Decl
 tool name from to word = tool_with name from to word [] [] None
 
-abbrev pub part : Text → Text → PartDecl
-part name of = record { name = name; of = of }
+abbrev pub ex_part_decl : Text → Text → PartDecl
+ex_part_decl name of = record { name = name; of = of }
 
 abbrev pub two_ways : Graph
 two_ways =
@@ -52,7 +52,7 @@ abbrev pub c_units : Graph
 c_units =
     simple (codes "hdr") ∷ declared (codes "c") Simple (codes "hdr" ∷ []) ∷ simple (codes "sm")
     ∷ simple (codes "inc") ∷ simple (codes "o") ∷ simple (codes "exe")
-    ∷ list_of (codes "units") (codes "c") ∷ list_of (codes "objs") (codes "o")
+    ∷ ex_list_type (codes "units") (codes "c") ∷ ex_list_type (codes "objs") (codes "o")
     ∷ suffix (codes ".h") (codes "hdr") ∷ suffix (codes ".c") (codes "c")
     ∷ suffix (codes ".sm") (codes "sm")
     ∷ Param (codes "debug")
@@ -69,7 +69,7 @@ c_units_back = c_units ++ tool (codes "back") (codes "exe") (codes "c") (codes "
 abbrev pub joined_texts : Graph
 joined_texts =
     simple (codes "t") ∷ declared (codes "u") Simple (codes "t" ∷ [])
-    ∷ list_of (codes "l") (codes "t") ∷ suffix (codes ".t") (codes "t")
+    ∷ ex_list_type (codes "l") (codes "t") ∷ suffix (codes ".t") (codes "t")
     ∷ maker (codes "rd") Read (codes "t") (codes "l")
     ∷ tool (codes "join") (codes "l") (codes "u") (codes "ld") ∷ []
 
@@ -77,7 +77,7 @@ abbrev pub kits : Graph
 kits =
     c_units
     ++ declared (codes "kit")
-    (Compound (part (codes "prog") (codes "exe") ∷ part (codes "src") (codes "sm") ∷ [])) []
+    (Compound (ex_part_decl (codes "prog") (codes "exe") ∷ ex_part_decl (codes "src") (codes "sm") ∷ [])) []
     ∷ simple (codes "txt") ∷ maker (codes "pk") Pack (codes "sm") (codes "kit")
     ∷ tool_with (codes "doc") (codes "c") (codes "txt") (codes "ld") []
     (Also (codes "o") ∷ With (codes "lic.h") ∷ []) None

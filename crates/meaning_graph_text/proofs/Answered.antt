@@ -11,7 +11,7 @@ use Rattle.meaning_graph_text.specs.Tokens.{Token, BeginsWith, Tokens, one, is_p
 use Rattle.meaning_graph_text.specs.Lexing.{past_gap, Taken, taken, token_at}
 use Rattle.meaning_graph_text.specs.Grammar.{graph_tokens, HasSpelling, GraphText}
 use Rattle.meaning_graph_text.specs.Places.{line_behind, column_behind, IsFrontOfGraph, IsSyntaxFault}
-use Rattle.meaning_graph_text.specs.Going.{Class, Stage, between, kind, supers, super_ids, parts, ending, strings, used_ids, extras, Expected, expect, start, step, run, can_go_on}
+use Rattle.meaning_graph_text.specs.Going.{Class, Stage, between, kind, supers, super_ids, parts, ending, strings, used_ids, extras, Expected, expect, start, expected_after, run, can_go_on}
 use Rattle.meaning_graph_text.specs.Stopping.{is_done, stop_by, stop_at, stop_from, syntax_stop, front_of}
 use Rattle.meaning_graph_text.proofs.Lexed.{begins_from}
 use Rattle.meaning_graph_text.proofs.Readings.{Before, tokens_append, read_before, past_is_past, past_read, gap_shorter, begins_shorter, tokens_short}
@@ -96,17 +96,17 @@ fault text ts rest e r stops none =
     record { front = b.front; rest = rest; tokens = ts; is = b.is; before = r.tokens; begins = r.past; goes_on = reading_front text ts rest e r; stops = stops; none = none; line_is = ap line_behind (sym f); column_is = ap column_behind (sym f) }
 
 -- a token that isn't expected goes on to no graph
-not_expected : (ts : List Token) (e : Expected) (t : Token) → run start ts ≡ Some e → step e.must e.stage t ≡ None → IsFrontOfGraph (ts ++ t ∷ []) → ⊥
+not_expected : (ts : List Token) (e : Expected) (t : Token) → run start ts ≡ Some e → expected_after e.must e.stage t ≡ None → IsFrontOfGraph (ts ++ t ∷ []) → ⊥
 unfolding can_go_on
 not_expected ts e t h s f =
     let one_more : run start (ts ++ t ∷ []) ≡ None = run_append start ts (t ∷ []) ∙ (rw (h, s) refl) in
     let g : can_go_on (ts ++ t ∷ []) ≡ true = going_from_front (ts ++ t ∷ []) f in
     both_ways false refl (rw one_more at g)
 
-never_there : (ts : List Token) (e : Expected) (t : Token) → run start ts ≡ Some e → step e.must e.stage t ≡ None → (decls : List Decl) (more : List Token) → HasSpelling decls → ts ++ t ∷ more ≡ graph_tokens decls → ⊥
+never_there : (ts : List Token) (e : Expected) (t : Token) → run start ts ≡ Some e → expected_after e.must e.stage t ≡ None → (decls : List Decl) (more : List Token) → HasSpelling decls → ts ++ t ∷ more ≡ graph_tokens decls → ⊥
 never_there ts e t h s decls more good w = not_expected ts e t h s (record { more = more; decls = decls; spelled = good; is = append_assoc ts (t ∷ []) more ∙ w })
 
-unexpected : (text : List ℕ) (ts : List Token) (rest : List ℕ) (e : Expected) (k : Taken) → Reading text ts rest e → token_at rest ≡ Some k → step e.must e.stage k.token ≡ None → FaultAt text rest
+unexpected : (text : List ℕ) (ts : List Token) (rest : List ℕ) (e : Expected) (k : Taken) → Reading text ts rest e → token_at rest ≡ Some k → expected_after e.must e.stage k.token ≡ None → FaultAt text rest
 unexpected text ts rest e k r a s = fault text ts rest e r (stops_at rest k.rest ts k.token a (never_there ts e k.token r.runs s)) (no_graph_at text rest k.rest ts k.token r.tokens r.past a (never_there ts e k.token r.runs s))
 
 no_token : (text : List ℕ) (ts : List Token) (b : ℕ) (rest : List ℕ) (e : Expected) → Reading text ts (b ∷ rest) e → token_at (b ∷ rest) ≡ None → FaultAt text (b ∷ rest)
@@ -139,7 +139,7 @@ at_end text ts e r false d = fault text ts [] e r (stops_without [] ts refl) (no
     not_done s = let h : is_done e.must e.stage ≡ true = ap (λ (x : Expected). is_done x.must x.stage) s in both_ways (is_done e.must e.stage) d h
 
 -- one token more that is expected
-onward : (text : List ℕ) (ts : List Token) (rest : List ℕ) (e : Expected) (k : Taken) (f : Expected) → Reading text ts rest e → BeginsWith rest k.token k.rest → step e.must e.stage k.token ≡ Some f → Reading text (ts ++ k.token ∷ []) (past_gap false k.rest) f
+onward : (text : List ℕ) (ts : List Token) (rest : List ℕ) (e : Expected) (k : Taken) (f : Expected) → Reading text ts rest e → BeginsWith rest k.token k.rest → expected_after e.must e.stage k.token ≡ Some f → Reading text (ts ++ k.token ∷ []) (past_gap false k.rest) f
 onward text ts rest e k f r b s = record {
   low = r.low;
   tokens = tokens_append text ts rest (k.token ∷ []) (past_gap false k.rest) r.tokens (one rest k.token k.rest [] (past_gap false k.rest) b (past_read k.rest));
@@ -147,7 +147,7 @@ onward text ts rest e k f r b s = record {
   runs = run_append start ts (k.token ∷ []) ∙ step_on e f (run start ts) r.runs s;
 }
   where
-    step_on : (e f : Expected) (o : Option Expected) → o ≡ Some e → step e.must e.stage k.token ≡ Some f → option_and_then (λ (g : Expected). run g (k.token ∷ [])) o ≡ Some f
+    step_on : (e f : Expected) (o : Option Expected) → o ≡ Some e → expected_after e.must e.stage k.token ≡ Some f → option_and_then (λ (g : Expected). run g (k.token ∷ [])) o ≡ Some f
     step_on e f o h s = rw (h, s) refl
 
 -- what is behind a token is shorter
@@ -157,13 +157,13 @@ shorter rest k n b low =
     let c : length (past_gap false k.rest) ≤ length k.rest = gap_shorter false k.rest in
     omega arith
 
-by_step : (go : Expected → List ℕ → Option (List ℕ)) (text : List ℕ) (ts : List Token) (b : ℕ) (rest : List ℕ) (e : Expected) (k : Taken) → Reading text ts (b ∷ rest) e → token_at (b ∷ rest) ≡ Some k → ((f : Expected) → Reading text (ts ++ k.token ∷ []) (past_gap false k.rest) f → Answer text (go f (past_gap false k.rest))) → (o : Option Expected) → step e.must e.stage k.token ≡ o → Answer text (stop_by go (b ∷ rest) k o)
+by_step : (go : Expected → List ℕ → Option (List ℕ)) (text : List ℕ) (ts : List Token) (b : ℕ) (rest : List ℕ) (e : Expected) (k : Taken) → Reading text ts (b ∷ rest) e → token_at (b ∷ rest) ≡ Some k → ((f : Expected) → Reading text (ts ++ k.token ∷ []) (past_gap false k.rest) f → Answer text (go f (past_gap false k.rest))) → (o : Option Expected) → expected_after e.must e.stage k.token ≡ o → Answer text (stop_by go (b ∷ rest) k o)
 by_step go text ts b rest e k r a more None s = unexpected text ts (b ∷ rest) e k r a s
 by_step go text ts b rest e k r a more (Some f) s = more f (onward text ts (b ∷ rest) e k f r (begins_from (b ∷ rest) k a) s)
 
 by_token : (go : Expected → List ℕ → Option (List ℕ)) (text : List ℕ) (ts : List Token) (b : ℕ) (rest : List ℕ) (e : Expected) → Reading text ts (b ∷ rest) e → ((k : Taken) → token_at (b ∷ rest) ≡ Some k → (f : Expected) → Reading text (ts ++ k.token ∷ []) (past_gap false k.rest) f → Answer text (go f (past_gap false k.rest))) → (o : Option Taken) → token_at (b ∷ rest) ≡ o → Answer text (stop_at go e (b ∷ rest) o)
 by_token go text ts b rest e r more None a = no_token text ts b rest e r a
-by_token go text ts b rest e r more (Some k) a = by_step go text ts b rest e k r a (more k a) (step e.must e.stage k.token) refl
+by_token go text ts b rest e r more (Some k) a = by_step go text ts b rest e k r a (more k a) (expected_after e.must e.stage k.token) refl
 
 answer : (n : ℕ) (text : List ℕ) (ts : List Token) (rest : List ℕ) (e : Expected) → length rest ≤ n → Reading text ts rest e → Answer text (stop_from n e rest)
 answer zero text ts [] e low r = at_end text ts e r (is_done e.must e.stage) refl

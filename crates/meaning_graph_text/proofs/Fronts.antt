@@ -8,7 +8,7 @@ use Rattle.meaning_texts.specs.Limits.{graph_limit}
 use Rattle.meaning_texts.specs.Tests.{is_string_text}
 use Rattle.meaning_graph_text.specs.Tokens.{Token, word, string, semicolon, comma, opening, closing}
 use Rattle.meaning_graph_text.specs.Places.{IsFrontOfGraph}
-use Rattle.meaning_graph_text.specs.Going.{Class, keyword, identifier, any_word, any_string, name_string, open_mark, accepts, Stage, between, kind, supers, super_ids, parts, ending, strings, used_ids, extras, Expected, expect, start, extra_word, step_at, step, run, can_go_on}
+use Rattle.meaning_graph_text.specs.Going.{Class, keyword, identifier, any_word, any_string, name_string, open_mark, accepts, Stage, between, kind, supers, super_ids, parts, ending, strings, used_ids, extras, Expected, expect, start, extra_word, step_at, expected_after, run, can_go_on}
 use Rattle.meaning_graph_text.proofs.Runs.{graph_run, run_append}
 use Rattle.meaning_graph_text.specs.Laws.{AreOfGraph}
 use Rattle.meaning_graph_text.proofs.Accepted.{graph_told}
@@ -126,7 +126,7 @@ at_short extras comma = tt
 at_short extras opening = tt
 at_short extras closing = tt
 
-step_short : (cs : List Class) (l : Stage) (t : Token) → length cs ≤ 8 → Short (step cs l t)
+step_short : (cs : List Class) (l : Stage) (t : Token) → length cs ≤ 8 → Short (expected_after cs l t)
 step_short [] l t low = at_short l t
 step_short (c ∷ cs) l t low = short_cond (accepts c t) (expect cs l) None (omega arith) tt
 
@@ -141,8 +141,8 @@ and_then_some g (Some x) y e = (x, refl, e)
 run_short : (e : Expected) (ts : List Token) (f : Expected) → length e.must ≤ 8 → run e ts ≡ Some f → length f.must ≤ 8
 run_short e [] f low h = let same : e ≡ f = cc in subst (λ (y : Expected). length y.must ≤ 8) same low
 run_short e (t ∷ ts) f low h =
-    let a = and_then_some (λ (g : Expected). run g ts) (step e.must e.stage t) f h in
-    run_short a.0 ts f (short_next (step e.must e.stage t) (step_short e.must e.stage t low) a.0 a.1) a.2
+    let a = and_then_some (λ (g : Expected). run g ts) (expected_after e.must e.stage t) f h in
+    run_short a.0 ts f (short_next (expected_after e.must e.stage t) (step_short e.must e.stage t low) a.0 a.1) a.2
 
 length_samples : (cs : List Class) → length (samples cs) ≡ length cs
 length_samples [] = refl

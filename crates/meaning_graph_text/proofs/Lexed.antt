@@ -7,7 +7,7 @@ use Rattle.meaning_texts.specs.Classes.{is_name_byte}
 use Rattle.meaning_texts.specs.Tests.{is_name, is_string_text}
 use Rattle.meaning_texts.specs.Lines.{HasNoLf}
 use Rattle.meaning_texts.proofs.Lemmas.{word_decides, string_decides}
-use Rattle.meaning_graph_text.specs.Tokens.{Token, word, string, semicolon, comma, opening, closing, is_blank, begins_with, is_line_end, BeginsWith, a_word, a_string, a_semicolon, a_comma, an_opening, a_closing, Tokens, no_more, blank, comment, one}
+use Rattle.meaning_graph_text.specs.Tokens.{Token, word, string, semicolon, comma, opening, closing, is_blank, begins_in_class, is_line_end, BeginsWith, a_word, a_string, a_semicolon, a_comma, an_opening, a_closing, Tokens, no_more, blank, comment, one}
 use Rattle.meaning_graph_text.specs.Lexing.{past_gap, name_front, past_names, before_quote, behind_quote, Taken, taken, token_at}
 
 -- ---- one token
@@ -19,7 +19,7 @@ names_whole (b ∷ rest) = elim (cases_Bool (is_name_byte b)) [
   | inr e ↦ rw e refl
 ]
 
-names_stop : (text : List ℕ) → begins_with is_name_byte (past_names text) ≡ false
+names_stop : (text : List ℕ) → begins_in_class is_name_byte (past_names text) ≡ false
 names_stop [] = refl
 names_stop (b ∷ rest) = elim (cases_Bool (is_name_byte b)) [
   | inl e ↦ rw e (names_stop rest)

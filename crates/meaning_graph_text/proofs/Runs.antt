@@ -19,7 +19,7 @@ use Rattle.meaning_texts.specs.Tests.{is_name, is_id, is_string_text}
 use Rattle.meaning_texts.proofs.Lemmas.{word_decides, id_decides, string_decides}
 use Rattle.meaning_graph_text.specs.Tokens.{Token, word, semicolon, comma, closing}
 use Rattle.meaning_graph_text.specs.Grammar.{id_tokens, optional_tokens, part_tokens, kind_tokens, string_tokens, closure_tokens, maker_tokens, decl_tokens, graph_tokens, IsSpellablePart, IsSpellableKind, IsSpellableExtra, IsSpellableMake, IsSpellableDecl}
-use Rattle.meaning_graph_text.specs.Going.{Class, keyword, identifier, any_string, Stage, kind, supers, super_ids, parts, ending, strings, used_ids, extras, Expected, expect, start, step, run}
+use Rattle.meaning_graph_text.specs.Going.{Class, keyword, identifier, any_string, Stage, kind, supers, super_ids, parts, ending, strings, used_ids, extras, Expected, expect, start, expected_after, run}
 use Rattle.meaning_graph_text.proofs.Decls.{uses_behind, extras_behind}
 
 id_test : (id : List ℕ) → IsId id → is_id id ≡ true
@@ -129,4 +129,4 @@ chain xs ys (Some f) each = each f
 -- a run over two lists is one over the first, and then one over the second
 pub run_append : (e : Expected) (xs ys : List Token) → run e (xs ++ ys) ≡ option_and_then (λ (f : Expected). run f ys) (run e xs)
 run_append e [] ys = refl
-run_append e (x ∷ xs) ys = chain xs ys (step e.must e.stage x) (λ f. run_append f xs ys)
+run_append e (x ∷ xs) ys = chain xs ys (expected_after e.must e.stage x) (λ f. run_append f xs ys)

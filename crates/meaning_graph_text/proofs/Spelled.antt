@@ -18,7 +18,7 @@ use Rattle.object_values.specs.declared.graph.Decl.TheVariants.{ObjectType, Suff
 use Rattle.meaning_texts.specs.Classes.{is_letter, is_digit, is_name_byte, is_key_byte, is_string_byte, IsWord, IsId, IsName, IsStringText}
 use Rattle.meaning_texts.specs.Tests.{is_name}
 use Rattle.meaning_texts.proofs.Lemmas.{word_decides}
-use Rattle.meaning_graph_text.specs.Tokens.{Token, word, string, semicolon, comma, opening, closing, begins_with, BeginsWith, a_word, a_string, a_semicolon, a_comma, an_opening, a_closing, Tokens, no_more, blank, one}
+use Rattle.meaning_graph_text.specs.Tokens.{Token, word, string, semicolon, comma, opening, closing, begins_in_class, BeginsWith, a_word, a_string, a_semicolon, a_comma, an_opening, a_closing, Tokens, no_more, blank, one}
 use Rattle.meaning_graph_text.specs.Grammar.{id_tokens, optional_tokens, part_tokens, kind_tokens, string_tokens, extra_tokens, closure_tokens, way_tokens, maker_tokens, decl_tokens, graph_tokens, IsSpellablePart, IsSpellableKind, IsSpellableExtra, IsSpellableTool, IsSpellableMake, IsSpellableDecl, HasSpelling, GraphText}
 use Rattle.meaning_graph_text.specs.Spelling.{token_spelling, between, tokens_spelling, graph_spelling}
 
@@ -156,7 +156,7 @@ decl_class (Maker m) s = maker_class m m.make s.name s.from s.to s.make
 -- ---- lines
 
 -- a token stands before what doesn't lengthen it
-begins : (t : Token) (rest : List ℕ) → IsOfClass t → begins_with is_name_byte rest ≡ false → BeginsWith (token_spelling t ++ rest) t rest
+begins : (t : Token) (rest : List ℕ) → IsOfClass t → begins_in_class is_name_byte rest ≡ false → BeginsWith (token_spelling t ++ rest) t rest
 begins (word w) rest c n = a_word w rest c n
 begins (string s) rest c n = rw (append_assoc s (34 ∷ []) rest) (a_string s rest c)
 begins semicolon rest c n = a_semicolon rest

@@ -7,22 +7,22 @@ use Rattle.std.proofs.lemmas.List.Sums.{list_all-from_AllPass}
 use Rattle.meaning_texts.specs.Classes.{is_name_byte, is_string_byte, IsWord, IsStringText}
 use Rattle.meaning_texts.specs.Tests.{is_name}
 use Rattle.meaning_texts.proofs.Lemmas.{word_decides, string_decides}
-use Rattle.meaning_graph_text.specs.Tokens.{Token, word, string, is_blank, begins_with, BeginsWith, a_word, a_string, a_semicolon, a_comma, an_opening, a_closing, is_past_gap}
+use Rattle.meaning_graph_text.specs.Tokens.{Token, word, string, is_blank, begins_in_class, BeginsWith, a_word, a_string, a_semicolon, a_comma, an_opening, a_closing, is_past_gap}
 use Rattle.meaning_graph_text.specs.Lexing.{name_front, past_names, before_quote, behind_quote, Taken, taken, token_at}
 
 -- ---- words
 
-front_of_word : (w rest : List ℕ) → list_all is_name_byte w ≡ true → begins_with is_name_byte rest ≡ false → name_front (w ++ rest) ≡ w
+front_of_word : (w rest : List ℕ) → list_all is_name_byte w ≡ true → begins_in_class is_name_byte rest ≡ false → name_front (w ++ rest) ≡ w
 front_of_word [] [] e n = refl
 front_of_word [] (b ∷ rest) e n = rw n refl
 front_of_word (b ∷ w) rest e n = let h = and_parts (is_name_byte b) (list_all is_name_byte w) e in rw h.0 (ap (λ t. b ∷ t) (front_of_word w rest h.1 n))
 
-past_word : (w rest : List ℕ) → list_all is_name_byte w ≡ true → begins_with is_name_byte rest ≡ false → past_names (w ++ rest) ≡ rest
+past_word : (w rest : List ℕ) → list_all is_name_byte w ≡ true → begins_in_class is_name_byte rest ≡ false → past_names (w ++ rest) ≡ rest
 past_word [] [] e n = refl
 past_word [] (b ∷ rest) e n = rw n refl
 past_word (b ∷ w) rest e n = let h = and_parts (is_name_byte b) (list_all is_name_byte w) e in rw h.0 (past_word w rest h.1 n)
 
-word_taken : (w rest : List ℕ) → IsWord w → begins_with is_name_byte rest ≡ false → token_at (w ++ rest) ≡ Some (taken (word w) rest)
+word_taken : (w rest : List ℕ) → IsWord w → begins_in_class is_name_byte rest ≡ false → token_at (w ++ rest) ≡ Some (taken (word w) rest)
 word_taken [] rest i n = let some : 0 < 0 = i.some in absurd (omega arith)
 word_taken (b ∷ w) rest i n =
     let e : list_all is_name_byte (b ∷ w) ≡ true = list_all-from_AllPass is_name_byte (b ∷ w) i.each in

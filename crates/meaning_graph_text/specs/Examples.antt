@@ -9,7 +9,7 @@ use Rattle.object_values.specs.declared.graph.Decl.TheVariants.{Param}
 use Rattle.object_values.specs.declared.graph.GraphFault.{GraphFault}
 use Rattle.object_values.specs.declared.graph.GraphFault.TheVariants.{UnknownType, DoubleName, SupertypeLoop, WrongKind, TooMany, UnknownParam}
 use Rattle.meaning_graph.specs.Graphs.{Graph}
-use Rattle.meaning_graph.specs.Samples.{tool, declared, simple, list_of, suffix, maker, tool_with, c_units, c_units_back, joined_texts, two_ways, kits}
+use Rattle.meaning_graph.specs.Samples.{tool, declared, simple, ex_list_type, suffix, maker, tool_with, c_units, c_units_back, joined_texts, two_ways, kits}
 use Rattle.meaning_graph_text.specs.Grammar.{GraphText}
 use Rattle.meaning_graph_text.specs.Places.{IsSyntaxFault, BeginsOnLine}
 use Rattle.meaning_graph_text.specs.Spelling.{graph_spelling}
@@ -87,7 +87,7 @@ pub record FaultsOfGraphs : Type 0 where
   pub kind : first_fault (maker (codes "r") Read (codes "text") (codes "text") ∷ [])
       ≡ fault_at 1 WrongKind
   pub elements : first_fault
-      (simple (codes "a") ∷ list_of (codes "l") (codes "text")
+      (simple (codes "a") ∷ ex_list_type (codes "l") (codes "text")
       ∷ declared (codes "m") (ListOf (codes "a")) (codes "l" ∷ []) ∷ [])
       ≡ fault_at 3 WrongKind
   pub param : first_fault
@@ -110,7 +110,7 @@ pub record UnknownTypes : Type 0 where
   pub supertype : first_fault
       (simple (codes "a") ∷ declared (codes "b") Simple (codes "zz" ∷ []) ∷ [])
       ≡ fault_at 2 UnknownType
-  pub element : first_fault (simple (codes "a") ∷ list_of (codes "l") (codes "zz") ∷ [])
+  pub element : first_fault (simple (codes "a") ∷ ex_list_type (codes "l") (codes "zz") ∷ [])
       ≡ fault_at 2 UnknownType
   pub part : first_fault
       (simple (codes "a")
@@ -157,15 +157,15 @@ pub record DoubleNames : Type 0 where
 -- kinds that don't fit, each rule alone
 pub record WrongKinds : Type 0 where
   pub elements : first_fault
-      (list_of (codes "l") (codes "text") ∷ list_of (codes "m") (codes "l") ∷ [])
+      (ex_list_type (codes "l") (codes "text") ∷ ex_list_type (codes "m") (codes "l") ∷ [])
       ≡ fault_at 2 WrongKind
   pub parts : first_fault
-      (list_of (codes "l") (codes "text")
+      (ex_list_type (codes "l") (codes "text")
       ∷ declared (codes "k") (Compound (record { name = codes "p"; of = codes "l" }
       ∷ [])) [] ∷ [])
       ≡ fault_at 2 WrongKind
   pub simple_is_list : first_fault
-      (list_of (codes "l") (codes "text") ∷ declared (codes "a") Simple (codes "l" ∷ []) ∷ [])
+      (ex_list_type (codes "l") (codes "text") ∷ declared (codes "a") Simple (codes "l" ∷ []) ∷ [])
       ≡ fault_at 2 WrongKind
   pub list_is_simple : first_fault
       (declared (codes "l") (ListOf (codes "text")) (codes "text" ∷ []) ∷ [])
@@ -174,29 +174,29 @@ pub record WrongKinds : Type 0 where
       (declared (codes "k") (Compound (part_of_text (codes "p") ∷ [])) (codes "text" ∷ []) ∷ [])
       ≡ fault_at 1 WrongKind
   pub suffix_of_list : first_fault
-      (list_of (codes "l") (codes "text") ∷ suffix (codes ".l") (codes "l") ∷ [])
+      (ex_list_type (codes "l") (codes "text") ∷ suffix (codes ".l") (codes "l") ∷ [])
       ≡ fault_at 2 WrongKind
-  pub tool_makes_list : first_fault (list_of (codes "l") (codes "text") ∷ makes (codes "l") ∷ [])
+  pub tool_makes_list : first_fault (ex_list_type (codes "l") (codes "text") ∷ makes (codes "l") ∷ [])
       ≡ fault_at 2 WrongKind
   pub closure_is_list : first_fault
-      (list_of (codes "l") (codes "text")
+      (ex_list_type (codes "l") (codes "text")
       ∷ tool_with (codes "t") (codes "text") (codes "text") (codes "ld") [] [] (Some (codes "l")) ∷ [])
       ≡ fault_at 2 WrongKind
   pub read_of_list : first_fault
-      (list_of (codes "l") (codes "text") ∷ maker (codes "r") Read (codes "l") (codes "l") ∷ [])
+      (ex_list_type (codes "l") (codes "text") ∷ maker (codes "r") Read (codes "l") (codes "l") ∷ [])
       ≡ fault_at 2 WrongKind
   pub each_of_simple : first_fault
-      (list_of (codes "l") (codes "text") ∷ maker (codes "e") Each (codes "text") (codes "l") ∷ [])
+      (ex_list_type (codes "l") (codes "text") ∷ maker (codes "e") Each (codes "text") (codes "l") ∷ [])
       ≡ fault_at 2 WrongKind
   pub each_to_simple : first_fault
-      (list_of (codes "l") (codes "text") ∷ maker (codes "e") Each (codes "l") (codes "text") ∷ [])
+      (ex_list_type (codes "l") (codes "text") ∷ maker (codes "e") Each (codes "l") (codes "text") ∷ [])
       ≡ fault_at 2 WrongKind
   pub pack_to_simple : first_fault (maker (codes "p") Pack (codes "text") (codes "text") ∷ [])
       ≡ fault_at 1 WrongKind
   -- the elements of a supertype that are nowhere declared are its own fault alone
   pub unknown_elements : first_fault
       (declared (codes "l") (ListOf (codes "text")) (codes "m" ∷ [])
-      ∷ list_of (codes "m") (codes "zz") ∷ [])
+      ∷ ex_list_type (codes "m") (codes "zz") ∷ [])
       ≡ fault_at 2 UnknownType
 
 -- the least number of a declaration comes before the least fault

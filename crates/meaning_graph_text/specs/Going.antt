@@ -106,14 +106,14 @@ step_at extras (word w) = extra_word w
 step_at extras semicolon = Some start
 step_at stage token = None
 
-abbrev pub step : List Class → Stage → Token → Option Expected
-step [] stage token = step_at stage token
-step (class ∷ rest) stage token = if accepts class token then Some (expect rest stage) else None
+abbrev pub expected_after : List Class → Stage → Token → Option Expected
+expected_after [] stage token = step_at stage token
+expected_after (class ∷ rest) stage token = if accepts class token then Some (expect rest stage) else None
 
 -- what is expected behind these tokens, where they can go on
 abbrev pub run : Expected → List Token → Option Expected
 run e [] = Some e
-run e (t ∷ tokens) = option_and_then (λ (f : Expected). run f tokens) (step e.must e.stage t)
+run e (t ∷ tokens) = option_and_then (λ (f : Expected). run f tokens) (expected_after e.must e.stage t)
 
 unfoldable pub can_go_on : List Token → Bool
 can_go_on tokens = is_some (run start tokens)

@@ -111,8 +111,8 @@ IsFaultBefore text rest =
     IsSyntaxFault text (line_behind (front_of text rest)) (column_behind (front_of text rest))
 
 -- A text that isn't too long is one of a graph, or has a syntax fault where it is computed to stop.
-abbrev pub EachTextIsAnswered : Type 0
-EachTextIsAnswered =
+abbrev pub EachGraphTextIsAnswered : Type 0
+EachGraphTextIsAnswered =
     (text : List ℕ) → length text ≤ graph_limit
     → MatchOption (syntax_stop text) ((decls : List Decl) × GraphText text decls)
     (IsFaultBefore text)

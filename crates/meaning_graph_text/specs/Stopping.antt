@@ -1,7 +1,7 @@
 -- Where a text stops going on to a graph, computed.
 use Rattle.std.specs.Prelude.{ℕ, zero, suc, ◌-◌, Bool, true, false, cond, List, [], ◌∷◌, length, take, Option, Some, None}
 use Rattle.meaning_graph_text.specs.Lexing.{past_gap, Taken, token_at}
-use Rattle.meaning_graph_text.specs.Going.{Class, Stage, between, Expected, start, step}
+use Rattle.meaning_graph_text.specs.Going.{Class, Stage, between, Expected, start, expected_after}
 
 abbrev pub is_done : List Class → Stage → Bool
 is_done [] between = true
@@ -16,7 +16,7 @@ stop_by go rest k (Some e) = go e (past_gap false k.rest)
 abbrev pub stop_at : (Expected → List ℕ → Option (List ℕ)) → Expected → List ℕ → Option Taken
     → Option (List ℕ)
 stop_at go e rest None = Some rest
-stop_at go e rest (Some k) = stop_by go rest k (step e.must e.stage k.token)
+stop_at go e rest (Some k) = stop_by go rest k (expected_after e.must e.stage k.token)
 
 -- what is left where the text stops, with so many tokens at most; nothing where it is one of a
 -- graph

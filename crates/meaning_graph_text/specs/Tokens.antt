@@ -15,9 +15,9 @@ pub data Token : Type 0 where
 abbrev pub is_blank : ℕ → Bool
 is_blank b = b == 32 || b == 9 || b == 13 || b == 10
 
-abbrev pub begins_with : (ℕ → Bool) → List ℕ → Bool
-begins_with class [] = false
-begins_with class (b ∷ rest) = class b
+abbrev pub begins_in_class : (ℕ → Bool) → List ℕ → Bool
+begins_in_class class [] = false
+begins_in_class class (b ∷ rest) = class b
 
 -- the end of the text, or an LF
 abbrev pub is_line_end : List ℕ → Bool
@@ -26,7 +26,7 @@ is_line_end (b ∷ rest) = b == 10
 
 -- The text begins with this token, a word being of the longest length, and then comes the rest.
 pub data BeginsWith : List ℕ → Token → List ℕ → Type 0 where
-  a_word : (w rest : List ℕ) → IsWord w → begins_with is_name_byte rest ≡ false
+  a_word : (w rest : List ℕ) → IsWord w → begins_in_class is_name_byte rest ≡ false
       → BeginsWith (w ++ rest) (word w) rest
   a_string : (s rest : List ℕ) → IsStringText s → BeginsWith (34 ∷ (s ++ 34 ∷ rest)) (string s) rest
   a_semicolon : (rest : List ℕ) → BeginsWith (59 ∷ rest) semicolon rest
@@ -48,4 +48,4 @@ pub data Tokens : List ℕ → List Token → List ℕ → Type 0 where
 
 -- a byte that begins neither a blank nor a comment, or the end
 abbrev pub is_past_gap : List ℕ → Bool
-is_past_gap text = not (begins_with (λ b. is_blank b || b == 35) text)
+is_past_gap text = not (begins_in_class (λ b. is_blank b || b == 35) text)

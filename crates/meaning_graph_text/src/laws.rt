@@ -1,5 +1,5 @@
 //! Laws of graph files. Each is the contract of a function with an empty body.
-ghost use Rattle.meaning_graph_text.specs.Laws.{TokenIsAtFront, GapIsPassed, SpellingIsText, GraphIsOne, SyntaxFaultIsOne, LineIsOne, EachDeclarationBegins, FirstFaultIsComputed, FirstFaultIsOne, CheckedHasSpelling, NamedIsReachability, GoingIsTested, WholeIsTested, EachTextIsAnswered};
+ghost use Rattle.meaning_graph_text.specs.Laws.{TokenIsAtFront, GapIsPassed, SpellingIsText, GraphIsOne, SyntaxFaultIsOne, LineIsOne, EachDeclarationBegins, FirstFaultIsComputed, FirstFaultIsOne, CheckedHasSpelling, NamedIsReachability, GoingIsTested, WholeIsTested, EachGraphTextIsAnswered};
 
 /// The computed token is the one with which a text begins.
 pub fn token_is_at_front()
@@ -68,5 +68,5 @@ pub fn whole_is_tested()
 
 /// A text that isn't too long is one of a graph, or has a syntax fault.
 pub fn each_text_is_answered()
-    ensures { EachTextIsAnswered }
+    ensures { EachGraphTextIsAnswered }
 {}

@@ -17,7 +17,7 @@ use Rattle.meaning_graph.specs.Paths.{Makes, Path, Chosen, HasNoPath, made_of, c
 use Rattle.meaning_texts.proofs.Lemmas.{in_either, in_left, from_map, in_all, all_in, same_some}
 use Rattle.std.proofs.lemmas.Bool.{cond-true}
 use Rattle.meaning_graph.proofs.Lemmas.{so_is_a, path_chosen}
-use Rattle.meaning_nodes.specs.Nodes.{before_last, last_step, base_of, stepped, extended, step_type, type_after, reached_type, onward, onward_named, HasKeyOfClass, Fits}
+use Rattle.meaning_nodes.specs.Nodes.{before_last, last_step, base_of, node_with_step, extended, step_type, type_after, reached_type, onward, onward_named, HasKeyOfClass, Fits}
 use Rattle.meaning_nodes.specs.NodeOf.{NodeAnswer, is_node, unknown_param, unknown_type, no_path, node_or_no_path, toward, step_on, steps_on, unknown_in, of_known, node_of}
 use Rattle.meaning_nodes.specs.Laws.{IsLedTo}
 
@@ -124,7 +124,7 @@ base_fits g n s f e = by_type (reached_type g (base_of n)) refl
 
 -- ---- nodes of expressions
 
-pick_fits : (g : Graph) (n : Node) (key : Text) → Fits g n → IsExprStepOfClass (Pick key) → is_some (reached_type g (stepped n (PickKey key))) ≡ true → Fits g (stepped n (PickKey key))
+pick_fits : (g : Graph) (n : Node) (key : Text) → Fits g n → IsExprStepOfClass (Pick key) → is_some (reached_type g (node_with_step n (PickKey key))) ≡ true → Fits g (node_with_step n (PickKey key))
 pick_fits g n key f k t = record { source = f.source; params = f.params; keys = all_in HasKeyOfClass (n.steps ++ PickKey key ∷ []) keys; typed = t }
   where
     keys : (s : Step) → IsIn s (n.steps ++ PickKey key ∷ []) → HasKeyOfClass s
@@ -146,7 +146,7 @@ step_on_fits g n m k (To name) f c h = by_name (type_named g name) h
     by_name : (o : Option ℕ) → toward g n k name o ≡ is_node m → Fits g m
     by_name None q = cc
     by_name (Some to) q = by_onward to (onward g n to) refl q
-step_on_fits g n m k (Pick key) f c h = (elim (is_some (reached_type g (stepped n (PickKey key)))) as (λ b. is_some (reached_type g (stepped n (PickKey key))) ≡ b → cond b (is_node (stepped n (PickKey key))) (no_path k) ≡ is_node m → Fits g m) [
+step_on_fits g n m k (Pick key) f c h = (elim (is_some (reached_type g (node_with_step n (PickKey key)))) as (λ b. is_some (reached_type g (node_with_step n (PickKey key))) ≡ b → cond b (is_node (node_with_step n (PickKey key))) (no_path k) ≡ is_node m → Fits g m) [
   | true ↦ λ e q. subst (Fits g) (same_node q) (pick_fits g n key f c e)
   | false ↦ λ e q. cc
 ]) refl h

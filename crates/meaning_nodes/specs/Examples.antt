@@ -12,14 +12,14 @@ use Rattle.object_values.specs.declared.views.Value.TheVariants.{Simple, List as
 use Rattle.meaning_nodes.specs.Labels.{abort_message, label_of, node_text}
 use Rattle.meaning_nodes.specs.Values.{element, body, pick, worst, inherit}
 use Rattle.meaning_nodes.specs.NodeOf.{NodeAnswer, is_node, unknown_param, unknown_type, no_path}
-use Rattle.meaning_nodes.specs.Samples.{node_in, at_steps, parameter}
+use Rattle.meaning_nodes.specs.Samples.{ex_node_in, at_steps, parameter}
 
 -- the text is one of the node of this source and these steps
 abbrev pub IsNodeIn : Graph → Text → Text → List Step → Type 0
-IsNodeIn g text source steps = node_in g text ≡ Some (is_node (at_steps source steps))
+IsNodeIn g text source steps = ex_node_in g text ≡ Some (is_node (at_steps source steps))
 
 abbrev pub IsRefusedIn : Graph → Text → NodeAnswer → Type 0
-IsRefusedIn g text refusal = node_in g text ≡ Some refusal
+IsRefusedIn g text refusal = ex_node_in g text ≡ Some refusal
 
 -- the makers of chosen paths, and picks
 pub record NodesOfTexts : Type 0 where
@@ -46,21 +46,21 @@ pub record RefusedNodes : Type 0 where
   pub past_all : IsRefusedIn c_units (codes "m.sm:units%4294967296") (no_path 2)
 
 -- this source with the parameter `debug` and these steps
-abbrev pub debugged : Text → List Step → Node
-debugged source steps =
+abbrev pub ex_debug_node : Text → List Step → Node
+ex_debug_node source steps =
     record { source = source; params = parameter (codes "debug") ∷ []; steps = steps }
 
 -- labels have no parameters, texts have
 pub record LabelsAndTexts : Type 0 where
-  pub label : label_of c_units (debugged (codes "m.sm") (Maker 2 ∷ Maker 3 ∷ Pick (codes "9") ∷ []))
+  pub label : label_of c_units (ex_debug_node (codes "m.sm") (Maker 2 ∷ Maker 3 ∷ Pick (codes "9") ∷ []))
       ≡ codes "m.sm:units:objs%9"
-  pub text : node_text c_units (debugged (codes "a.c") (Maker 1 ∷ [])) ≡ codes "a.c+debug:o"
+  pub text : node_text c_units (ex_debug_node (codes "a.c") (Maker 1 ∷ [])) ≡ codes "a.c+debug:o"
 
 abbrev pub two_units : List Node
 two_units = at_steps (codes "a.c") [] ∷ at_steps (codes "b.c") [] ∷ []
 
-abbrev pub two_parts : Value
-two_parts =
+abbrev pub ex_two_part_value : Value
+ex_two_part_value =
     Compound
     (record { name = codes "prog"; body = codes "x=1\n" }
     ∷ record { name = codes "src"; body = codes "a.c\n" } ∷ [])
@@ -71,8 +71,8 @@ pub record Picks : Type 0 where
   pub second : pick (Listed two_units) (codes "2") ≡ Some (element (at_steps (codes "b.c") []))
   pub past : pick (Listed two_units) (codes "3") ≡ None
   pub leading_zero : pick (Listed two_units) (codes "02") ≡ None
-  pub part : pick two_parts (codes "src") ≡ Some (body (codes "a.c\n"))
-  pub no_part : pick two_parts (codes "2") ≡ None
+  pub part : pick ex_two_part_value (codes "src") ≡ Some (body (codes "a.c\n"))
+  pub no_part : pick ex_two_part_value (codes "2") ≡ None
   pub simple : pick (Simple (codes "x=1\n")) (codes "1") ≡ None
 
 -- the later of two statuses
@@ -90,12 +90,12 @@ said_b = abort_message (codes "b") (codes "x")
 abbrev pub said_more : Message
 said_more = abort_message (codes "a") (codes "y")
 
-abbrev pub warned : Message
-warned = record { label = codes "a"; level = Warning; text = codes "x" }
+abbrev pub ex_warning : Message
+ex_warning = record { label = codes "a"; level = Warning; text = codes "x" }
 
 -- those of the needs before the own ones, each once
 pub record InheritedMessages : Type 0 where
   pub order : inherit (said_a ∷ said_b ∷ []) (said_a ∷ said_more ∷ [])
       ≡ said_a ∷ said_b ∷ said_more ∷ []
   -- the level counts
-  pub levels : inherit (warned ∷ []) (said_a ∷ []) ≡ warned ∷ said_a ∷ []
+  pub levels : inherit (ex_warning ∷ []) (said_a ∷ []) ≡ ex_warning ∷ said_a ∷ []

@@ -21,12 +21,12 @@ abbrev pub written_step : Graph → Step → ExprStep
 written_step g (Maker k) = To (made_name (slice_get (makers g) k))
 written_step g (Pick key) = PickStep key
 
-abbrev pub written : Graph → Node → Expression
-written g n = record { source = n.source; params = n.params; steps = map (written_step g) n.steps }
+abbrev pub node_expression : Graph → Node → Expression
+node_expression g n = record { source = n.source; params = n.params; steps = map (written_step g) n.steps }
 
 -- the text of a node: the canonical spelling
 abbrev pub node_text : Graph → Node → Text
-node_text g n = spelling (written g n)
+node_text g n = spelling (node_expression g n)
 
 -- the label of a node: its text without parameters
 abbrev pub label_of : Graph → Node → Text

@@ -8,7 +8,7 @@ use Rattle.object_values.specs.declared.expressions.ExprStep.{ExprStep}
 use Rattle.object_values.specs.declared.expressions.ExprStep.TheVariants.{To, Pick}
 use Rattle.object_values.specs.declared.expressions.Expression.{Expression}
 use Rattle.meaning_graph.specs.Graphs.{Text, Graph, type_named, has_param}
-use Rattle.meaning_nodes.specs.Nodes.{stepped, reached_type, onward}
+use Rattle.meaning_nodes.specs.Nodes.{node_with_step, reached_type, onward}
 
 -- a node, the name of a parameter or of a type, or the number of a step from 1
 pub data NodeAnswer : Type 0 where
@@ -29,7 +29,7 @@ toward g n k name (Some to) = node_or_no_path k (onward g n to)
 abbrev pub step_on : Graph → Node → ℕ → ExprStep → NodeAnswer
 step_on g n k (To name) = toward g n k name (type_named g name)
 step_on g n k (Pick key) =
-    cond (is_some (reached_type g (stepped n (PickKey key)))) (is_node (stepped n (PickKey key)))
+    cond (is_some (reached_type g (node_with_step n (PickKey key)))) (is_node (node_with_step n (PickKey key)))
     (no_path k)
 
 -- the node behind the steps from number k on; a refusal stays

@@ -34,8 +34,8 @@ abbrev pub base_of : Node → Node
 base_of n = record n { steps = before_last n.steps }
 
 -- the node with one more step
-abbrev pub stepped : Node → Step → Node
-stepped n s = record n { steps = n.steps ++ s ∷ [] }
+abbrev pub node_with_step : Node → Step → Node
+node_with_step n s = record n { steps = n.steps ++ s ∷ [] }
 
 -- the node further along these makers
 abbrev pub extended : Node → List ℕ → Node

@@ -8,8 +8,8 @@ use Rattle.meaning_graph.specs.Graphs.{Text, Graph}
 use Rattle.meaning_nodes.specs.NodeOf.{NodeAnswer, node_of}
 
 -- the node of a text, or its refusal
-abbrev pub node_in : Graph → Text → Option NodeAnswer
-node_in g text = option_map (node_of g) (expression_of text)
+abbrev pub ex_node_in : Graph → Text → Option NodeAnswer
+ex_node_in g text = option_map (node_of g) (expression_of text)
 
 abbrev pub at_steps : Text → List Step → Node
 at_steps source steps = record { source = source; params = []; steps = steps }

@@ -8,7 +8,7 @@ use Rattle.std.proofs.Math.Seq.{take-append_seam}
 use Rattle.odin_bytes.specs.Fields.{bytes_field, u32_field, IsFieldAt}
 use Rattle.odin_bytes.specs.FieldLemmas.{field_front, body_front}
 use Rattle.meaning_store.specs.Front.{file_limit, start_of, HasFront}
-use Rattle.meaning_store.specs.Images.{IsWritten, IsOpen, IsClosed, behind, IsRecord, AreRecords, IsStore, Stored, NotOurs}
+use Rattle.meaning_store.specs.Images.{IsWritten, IsOpen, IsClosed, gate_after, IsRecord, AreRecords, IsStore, Stored, NotOurs}
 use Rattle.meaning_store.specs.ImageLemmas.{one_stored, one_end, no_records, one_place}
 use Rattle.meaning_records.specs.Forms.{bytes}
 use Rattle.meaning_records.specs.States.{State, nothing, ReadsAll}
@@ -22,7 +22,7 @@ abbrev RecordAt : List ℕ → ℕ → Type 0
 RecordAt image gate = (payload : List ℕ) × IsRecord image gate payload
 
 -- the bytes behind an open gate begin with a length and a body
-body_stands : (image : List ℕ) (gate : ℕ) → gate < length image → (b : Begins bytes (drop (gate + 1) image)) → IsFieldAt image (gate + 1) (behind gate b.thing) (bytes_field b.thing)
+body_stands : (image : List ℕ) (gate : ℕ) → gate < length image → (b : Begins bytes (drop (gate + 1) image)) → IsFieldAt image (gate + 1) (gate_after gate b.thing) (bytes_field b.thing)
 body_stands image gate within b =
     let field : List ℕ = bytes_field b.thing in
     let size : length field ≡ 4 + length b.thing = length-append (u32_field (length b.thing)) b.thing in
@@ -33,16 +33,16 @@ body_stands image gate within b =
       bytes = ap (λ n. take n (drop (gate + 1) image)) long ∙ ap (take (length field)) b.is ∙ take-append_seam field b.rest;
     }
 
-next_decided : (image : List ℕ) (gate : ℕ) → IsOpen image gate → (b : Begins bytes (drop (gate + 1) image)) → Dec (behind gate b.thing < length image) → Dec (RecordAt image gate)
+next_decided : (image : List ℕ) (gate : ℕ) → IsOpen image gate → (b : Begins bytes (drop (gate + 1) image)) → Dec (gate_after gate b.thing < length image) → Dec (RecordAt image gate)
 next_decided image gate opened b (yes next) = yes (b.thing, record { opened = opened; short = b.fits; body = body_stands image gate opened.within b; next = next })
 next_decided image gate opened b (no none) = no (λ r.
-    let front = field_front image (gate + 1) (behind gate r.0) (bytes_field r.0) r.1.body in
+    let front = field_front image (gate + 1) (gate_after gate r.0) (bytes_field r.0) r.1.body in
     let same = body_front b.thing r.0 b.rest _ b.fits r.1.short (sym b.is ∙ front) in
-    none (subst (λ (payload : List ℕ). behind gate payload < length image) (sym same.0) r.1.next))
+    none (subst (λ (payload : List ℕ). gate_after gate payload < length image) (sym same.0) r.1.next))
 
 record_by : (image : List ℕ) (gate : ℕ) → IsOpen image gate → Dec (Begins bytes (drop (gate + 1) image)) → Dec (RecordAt image gate)
-record_by image gate opened (yes b) = next_decided image gate opened b (less_decided (behind gate b.thing) (length image))
-record_by image gate opened (no none) = no (λ r. none (record { thing = r.0; rest = drop (behind gate r.0 - (gate + 1)) (drop (gate + 1) image); fits = r.1.short; is = field_front image (gate + 1) (behind gate r.0) (bytes_field r.0) r.1.body }))
+record_by image gate opened (yes b) = next_decided image gate opened b (less_decided (gate_after gate b.thing) (length image))
+record_by image gate opened (no none) = no (λ r. none (record { thing = r.0; rest = drop (gate_after gate r.0 - (gate + 1)) (drop (gate + 1) image); fits = r.1.short; is = field_front image (gate + 1) (gate_after gate r.0) (bytes_field r.0) r.1.body }))
 
 record_decided : (image : List ℕ) (gate : ℕ) → IsOpen image gate → Dec (RecordAt image gate)
 record_decided image gate opened = record_by image gate opened (bytes_decided (drop (gate + 1) image))
@@ -54,7 +54,7 @@ record Walked (image : List ℕ) (gate : ℕ) : Type 0 where
   whole : AreRecords image gate records end
   stop : IsClosed image end ⊎ (IsOpen image end × ((payload : List ℕ) → ¬ IsRecord image end payload))
 
-walk_behind : (image : List ℕ) (gate : ℕ) (first : RecordAt image gate) → Walked image (behind gate first.0) → Walked image gate
+walk_behind : (image : List ℕ) (gate : ℕ) (first : RecordAt image gate) → Walked image (gate_after gate first.0) → Walked image gate
 walk_behind image gate first w = record { records = first.0 ∷ w.records; end = w.end; whole = (first.1, w.whole); stop = w.stop }
 
 walk_stops : (image : List ℕ) (gate : ℕ) → IsClosed image gate ⊎ (IsOpen image gate × ((payload : List ℕ) → ¬ IsRecord image gate payload)) → Walked image gate
@@ -78,7 +78,7 @@ step_by image gate within (no other) = inr (inl (record { within = within; other
 walk : (bound : ℕ) (image : List ℕ) (gate : ℕ) → gate < length image → length image ≤ gate + bound → Walked image gate
 walk zero image gate within few = absurd (omega arith)
 walk (suc bound) image gate within few = elim (step_by image gate within (gate_decided image gate)) [
-  | inl first ↦ walk_behind image gate first (walk bound image (behind gate first.0) first.1.next (omega arith))
+  | inl first ↦ walk_behind image gate first (walk bound image (gate_after gate first.0) first.1.next (omega arith))
   | inr stop ↦ walk_stops image gate stop
 ]
 
@@ -187,4 +187,4 @@ one_offset image at other (inr bad) (inr also) =
 
 pub gates_lead : (image : List ℕ) (gate end : ℕ) (records : List (List ℕ)) → AreRecords image gate records end → end ≡ gate_behind gate records
 gates_lead image gate end [] whole = whole
-gates_lead image gate end (payload ∷ records) whole = gates_lead image (behind gate payload) end records whole.1
+gates_lead image gate end (payload ∷ records) whole = gates_lead image (gate_after gate payload) end records whole.1

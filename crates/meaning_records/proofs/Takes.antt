@@ -18,7 +18,7 @@ use Rattle.meaning_records.specs.declared.items.StoredOutcome.{StoredOutcome}
 use Rattle.meaning_records.specs.declared.items.Item.{Item}
 use Rattle.meaning_records.specs.declared.items.Item.TheVariants.{Graph, Content, Put, Dropped, Kept}
 use Rattle.meaning_records.specs.Tables.{Tables, IsShort, kept_outcome, MayBeKept, with_content, with_call, Loads}
-use Rattle.meaning_records.specs.States.{State, Edits, Takes, TakesAll, Reads, ReadsAll}
+use Rattle.meaning_records.specs.States.{State, ItemEditsSources, TakesOne, TakesAll, Reads, ReadsAll}
 use Rattle.meaning_records.proofs.Fronts.{decided, both_decided}
 use Rattle.meaning_records.proofs.Loading.{TextOf, text_decided, short_decided, one_text, CallOf, call_decided, one_call, OutcomeOf, outcome_decided, one_outcome}
 use Rattle.meaning_records.proofs.Payloads.{BatchOf, batch_decided, one_batch}
@@ -71,7 +71,7 @@ kept_decided tables stored given = call_kept tables stored given (call_decided t
 -- ---- items
 
 abbrev TakenBy : State → Item → Type 0
-TakenBy old it = (new : State) × Takes old it new
+TakenBy old it = (new : State) × TakesOne old it new
 
 -- a source that is put
 put_by : (old : State) (name : List ℕ) (number : ℕ) → Dec (IsName name × TextOf old.tables.contents number) → Dec (TakenBy old (Put name number))
@@ -115,13 +115,13 @@ one_table old (Kept stored given) new other is also =
     also.3 ∙ ap (λ (call : Call). with_call call also.1 old) calls ∙ ap (λ (outcome : Outcome). with_call is.0 outcome old) outcomes ∙ sym is.3
 
 -- the sources that it makes
-one_edit : (contents : List Value) (it : Item) (old new other : Texts) → Edits contents it old new → Edits contents it old other → other ≡ new
+one_edit : (contents : List Value) (it : Item) (old new other : Texts) → ItemEditsSources contents it old new → ItemEditsSources contents it old other → other ≡ new
 one_edit contents (Put name number) old new other is also =
     also.2 ∙ ap (λ (text : Text). map.insert old name text) (one_text contents number also.0 is.0 also.1 is.1) ∙ sym is.2
 one_edit contents (Dropped name) old new other is also = also.1 ∙ sym is.1
 one_edit contents _ old new other is also = also ∙ sym is
 
-pub one_taken : (old : State) (it : Item) (new other : State) → Takes old it new → Takes old it other → other ≡ new
+pub one_taken : (old : State) (it : Item) (new other : State) → TakesOne old it new → TakesOne old it other → other ≡ new
 one_taken old it new other is also =
     let tables : other.tables ≡ new.tables = one_table old.tables it new.tables other.tables is.loads also.loads in
     let sources : other.sources ≡ new.sources = one_edit old.tables.contents it old.sources new.sources other.sources is.edits also.edits in

@@ -22,9 +22,9 @@ use Rattle.meaning_records.specs.declared.items.Item.TheVariants.{Content, Put, 
 use Rattle.meaning_records.specs.Tables.{IsText, kept_outcome}
 use Rattle.meaning_records.specs.States.{State, TakesAll}
 use Rattle.meaning_records.specs.Batches.{contents_of, graph_batch, IsPutBatch, drop_batch, body_of, needed_texts, IsCallBatch}
-use Rattle.meaning_records.specs.Laws.{ReadAs}
+use Rattle.meaning_records.specs.Laws.{ItemsReadAs}
 
-pub graph_reads : (old : State) (text : Text) → ReadAs old (graph_batch text) old.tables.calls old.sources (Some text)
+pub graph_reads : (old : State) (text : Text) → ItemsReadAs old (graph_batch text) old.tables.calls old.sources (Some text)
 graph_reads old text =
     let new : State = record { tables = old.tables; sources = old.sources; graph = Some text } in
     record {
@@ -37,7 +37,7 @@ graph_reads old text =
       graph_is = refl;
     }
 
-pub drop_reads : (old : State) (name : Text) → IsName name → IsSome (names.get old.sources name) → ReadAs old (drop_batch name) old.tables.calls (names.remove old.sources name) old.graph
+pub drop_reads : (old : State) (name : Text) → IsName name → IsSome (names.get old.sources name) → ItemsReadAs old (drop_batch name) old.tables.calls (names.remove old.sources name) old.graph
 drop_reads old name named there =
     let new : State = record { tables = old.tables; sources = names.remove old.sources name; graph = old.graph } in
     record {
@@ -57,7 +57,7 @@ last_number : (values : List Value) (value : Value) → slice_get (values ++ val
 last_number [] value = refl
 last_number (first ∷ values) value = last_number values value
 
-put_known : (old : State) (name text : Text) (number : ℕ) → IsName name → IsText old.tables.contents number text → ReadAs old (Put name number ∷ []) old.tables.calls (names.insert old.sources name text) old.graph
+put_known : (old : State) (name text : Text) (number : ℕ) → IsName name → IsText old.tables.contents number text → ItemsReadAs old (Put name number ∷ []) old.tables.calls (names.insert old.sources name text) old.graph
 put_known old name text number named there =
     let new : State = record { tables = old.tables; sources = names.insert old.sources name text; graph = old.graph } in
     record {
@@ -75,7 +75,7 @@ with_more : State → List Value → State
 with_more old values = record { tables = record { contents = old.tables.contents ++ values; calls = old.tables.calls }; sources = old.sources; graph = old.graph }
 
 put_new : (old : State) (name text : Text) → IsName name → length text ≤ body_limit
-    → ReadAs old (Content (Simple text) ∷ Put name (length old.tables.contents) ∷ []) old.tables.calls (names.insert old.sources name text) old.graph
+    → ItemsReadAs old (Content (Simple text) ∷ Put name (length old.tables.contents) ∷ []) old.tables.calls (names.insert old.sources name text) old.graph
 unfolding with_more
 put_new old name text named short =
     let next : State = with_more old (Simple text ∷ []) in
@@ -92,11 +92,11 @@ put_new old name text named short =
     }
 
 pub put_reads : (old : State) (name text : Text) (items : List Item) → IsName name → length text ≤ body_limit → IsPutBatch old.tables.contents name text items
-    → ReadAs old items old.tables.calls (names.insert old.sources name text) old.graph
+    → ItemsReadAs old items old.tables.calls (names.insert old.sources name text) old.graph
 put_reads old name text items named short (inl known) =
-    subst (λ (l : List Item). ReadAs old l old.tables.calls (names.insert old.sources name text) old.graph) (sym known.2) (put_known old name text known.0 named known.1)
+    subst (λ (l : List Item). ItemsReadAs old l old.tables.calls (names.insert old.sources name text) old.graph) (sym known.2) (put_known old name text known.0 named known.1)
 put_reads old name text items named short (inr new) =
-    subst (λ (l : List Item). ReadAs old l old.tables.calls (names.insert old.sources name text) old.graph) (sym new.1) (put_new old name text named short)
+    subst (λ (l : List Item). ItemsReadAs old l old.tables.calls (names.insert old.sources name text) old.graph) (sym new.1) (put_new old name text named short)
 
 -- ---- calls
 
@@ -139,7 +139,7 @@ short_needed call outcome formed fits text there = by (in_either text (flat_map 
     by (inr output) = short_output outcome.outputs fits.short text output
 
 pub call_reads : (old : State) (call : Call) (outcome : Outcome) (items : List Item) → IsWellFormed call → OutcomeFits call outcome → IsNone (kept_outcome old.tables.calls call)
-    → IsCallBatch old.tables.contents call outcome items → ReadAs old items (old.tables.calls ++ (call, outcome) ∷ []) old.sources old.graph
+    → IsCallBatch old.tables.contents call outcome items → ItemsReadAs old items (old.tables.calls ++ (call, outcome) ∷ []) old.sources old.graph
 unfolding with_more
 call_reads old call outcome items formed fits new batch =
     let next : State = with_more old (contents_of batch.added) in

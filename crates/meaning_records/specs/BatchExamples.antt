@@ -5,7 +5,7 @@ use Rattle.object_values.specs.declared.views.Value.TheVariants.{Simple}
 use Rattle.meaning_records.specs.declared.items.Item.{Item}
 use Rattle.meaning_records.specs.declared.items.Item.TheVariants.{Content, Put, Kept}
 use Rattle.meaning_records.specs.Batches.{IsPutBatch, IsCallBatch}
-use Rattle.meaning_records.specs.ItemExamples.{old, stored_call, call, made, made_outcome}
+use Rattle.meaning_records.specs.ItemExamples.{old, stored_call, call, ex_made_outcome, made_outcome}
 
 -- a text that is a content, and texts that are none
 abbrev pub known : List ℕ
@@ -27,7 +27,7 @@ pub record BatchesOfPuts : Type 0 where
 
 -- the outputs are the known text
 abbrev pub kept_by : ℕ → Item
-kept_by number = Kept (stored_call (codes "cc") (Some number)) made
+kept_by number = Kept (stored_call (codes "cc") (Some number)) ex_made_outcome
 
 pub record BatchesOfCalls : Type 0 where
   pub of_known : IsCallBatch contents (call (Some known)) made_outcome (kept_by 0 ∷ [])

@@ -44,14 +44,14 @@ abbrev pub needed_texts : Call → Outcome → List Text
 needed_texts call outcome = flat_map (λ (p : CallPart). body_of p.body) call.parts ++ map (λ (o : Part). o.body) outcome.outputs
 
 -- each once
-abbrev pub AreOnce : List Text → Type 0
-AreOnce [] = ⊤
-AreOnce (text ∷ texts) = (¬ IsIn text texts) × AreOnce texts
+abbrev pub EachTextOnce : List Text → Type 0
+EachTextOnce [] = ⊤
+EachTextOnce (text ∷ texts) = (¬ IsIn text texts) × EachTextOnce texts
 
 pub record IsCallBatch (contents : List Value) (call : Call) (outcome : Outcome) (items : List Item) : Type 0 where
   -- the texts that are written: needed, each once, and such as the file hasn't
   pub added : List Text
-  pub once : AreOnce added
+  pub once : EachTextOnce added
   pub needed : All (λ text. IsIn text (needed_texts call outcome)) added
   pub new : All (IsNoText contents) added
   -- the call and the outcome by the numbers that stand then

@@ -11,7 +11,7 @@ use Rattle.object_values.specs.declared.calls.OwnLine.{OwnLine}
 use Rattle.meaning_records.specs.declared.items.StoredCall.{StoredCall}
 use Rattle.meaning_records.specs.declared.items.StoredOutcome.{StoredOutcome}
 use Rattle.meaning_records.specs.declared.items.Item.TheVariants.{Graph, Content, Put, Dropped, Kept}
-use Rattle.meaning_records.specs.Forms.{bytes, number, both, option_of, StandsAt, StandsNowhere}
+use Rattle.meaning_records.specs.Forms.{bytes, number, both, option_of, ParsesAt, StandsNowhere}
 use Rattle.meaning_records.specs.Records.{status, step, value, line, item}
 use Rattle.meaning_records.specs.States.{State, spell_batch, Reads}
 
@@ -32,8 +32,8 @@ debug_on = record { param = codes "debug"; value = codes "1" }
 abbrev pub first_element : Node
 first_element = record { source = codes "a.c"; params = debug_on ∷ []; steps = Maker 258 ∷ Pick (codes "1") ∷ [] }
 
-abbrev pub program : Part
-program = record { name = codes "prog"; body = codes "x=1" }
+abbrev pub ex_program_part : Part
+ex_program_part = record { name = codes "prog"; body = codes "x=1" }
 
 -- a call of two words with an input that is there and one that is absent
 abbrev pub stored_call : StoredCall
@@ -76,7 +76,7 @@ pub record BytesOfItems : Type 0 where
   pub list : item.spell (Content (Listed (first_element ∷ [])))
       ≡ 2 ∷ four 45 ++ 2 ∷ four 1 ++ text 3 (codes "a.c") ++ four 1 ++ text 5 (codes "debug") ++ text 1 (codes "1")
       ++ four 2 ++ 1 ∷ 0 ∷ 0 ∷ 1 ∷ 2 ∷ [] ++ 2 ∷ text 1 (codes "1")
-  pub compound : item.spell (Content (Compound (program ∷ []))) ≡ 2 ∷ four 20 ++ 3 ∷ four 1 ++ text 4 (codes "prog") ++ text 3 (codes "x=1")
+  pub compound : item.spell (Content (Compound (ex_program_part ∷ []))) ≡ 2 ∷ four 20 ++ 3 ∷ four 1 ++ text 4 (codes "prog") ++ text 3 (codes "x=1")
   pub put : item.spell (Put (codes "a.c") 16909060) ≡ 3 ∷ text 3 (codes "a.c") ++ 1 ∷ 2 ∷ 3 ∷ 4 ∷ []
   pub drop : item.spell (Dropped (codes "a.c")) ≡ 4 ∷ text 3 (codes "a.c")
   pub kept : item.spell (Kept stored_call stored_outcome) ≡ 5 ∷ call_bytes ++ outcome_bytes
@@ -88,7 +88,7 @@ FirstPut = spell_batch (Content (Simple []) ∷ Put (codes "a.c") 0 ∷ [])
 
 -- a thing stands between other bytes, from its first one up to the one behind it
 abbrev pub StandsBetween : Type 0
-StandsBetween = StandsAt (both bytes number) (9 ∷ text 1 (codes "a") ++ four 7 ++ 9 ∷ []) 1 10 (codes "a", 7)
+StandsBetween = ParsesAt (both bytes number) (9 ∷ text 1 (codes "a") ++ four 7 ++ 9 ∷ []) 1 10 (codes "a", 7)
 
 -- ---- bytes of no record
 

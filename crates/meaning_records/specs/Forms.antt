@@ -57,10 +57,10 @@ option_of form = record { spell = spell_option form; fits = fits_option form }
 -- ---- where they stand
 
 -- a thing of this form stands at a place, up to an end
-pub record StandsAt {T : Type 0} (form : Form T) (from : List ℕ) (at end : ℕ) (thing : T) : Type 0 where
+pub record ParsesAt {T : Type 0} (form : Form T) (from : List ℕ) (at end : ℕ) (thing : T) : Type 0 where
   pub fits : form.fits thing
   pub field : IsFieldAt from at end (form.spell thing)
 
 -- and none stands there
 abbrev pub StandsNowhere : {T : Type 0} → Form T → List ℕ → ℕ → Type 0
-StandsNowhere {T} form from at = (thing : T) (end : ℕ) → ¬ StandsAt form from at end thing
+StandsNowhere {T} form from at = (thing : T) (end : ℕ) → ¬ ParsesAt form from at end thing

@@ -34,15 +34,15 @@ with_contents value = record {
   graph = old.graph;
 }
 
-abbrev pub with_calls : Calls → State
-with_calls calls = record { tables = record { contents = old.tables.contents; calls = calls }; sources = old.sources; graph = old.graph }
+abbrev pub ex_with_calls : Calls → State
+ex_with_calls calls = record { tables = record { contents = old.tables.contents; calls = calls }; sources = old.sources; graph = old.graph }
 
 abbrev pub with_sources : Texts → State
 with_sources sources = record { tables = old.tables; sources = sources; graph = old.graph }
 
 -- these items don't read behind what is kept
-abbrev pub Refuses : State → List Item → Type 0
-Refuses state items = (new : State) → ¬ TakesAll state items new
+abbrev pub RefusesItems : State → List Item → Type 0
+RefusesItems state items = (new : State) → ¬ TakesAll state items new
 
 -- ---- graphs, contents and sources
 
@@ -58,13 +58,13 @@ pub record EditsThatRead : Type 0 where
   pub drop : TakesAll old (Dropped (codes "a.c") ∷ []) (with_sources (map.remove old.sources (codes "a.c")))
 
 pub record EditsThatDoNot : Type 0 where
-  pub put_number : Refuses old (Put (codes "b.c") 2 ∷ [])
-  pub put_kind : Refuses old (Put (codes "b.c") 1 ∷ [])
-  pub put_name : Refuses old (Put (codes "b c") 0 ∷ [])
-  pub drop_name : Refuses (with_sources (map.insert no_texts (codes "b c") [])) (Dropped (codes "b c") ∷ [])
-  pub drop_absent : Refuses old (Dropped (codes "b.c") ∷ [])
+  pub put_number : RefusesItems old (Put (codes "b.c") 2 ∷ [])
+  pub put_kind : RefusesItems old (Put (codes "b.c") 1 ∷ [])
+  pub put_name : RefusesItems old (Put (codes "b c") 0 ∷ [])
+  pub drop_name : RefusesItems (with_sources (map.insert no_texts (codes "b c") [])) (Dropped (codes "b c") ∷ [])
+  pub drop_absent : RefusesItems old (Dropped (codes "b.c") ∷ [])
   -- a text that comes later
-  pub put_early : Refuses old (Put (codes "b.c") 2 ∷ Content (Simple []) ∷ [])
+  pub put_early : RefusesItems old (Put (codes "b.c") 2 ∷ Content (Simple []) ∷ [])
 
 -- what the tables alone tell of items
 pub record TablesThatTell : Type 0 where
@@ -81,8 +81,8 @@ one_part body = Compound (record { name = codes "p"; body = body } ∷ [])
 pub record LongContents : Type 0 where
   pub longest : (text : List ℕ) → length text ≡ 16777216 → TakesAll old (Content (Simple text) ∷ []) (with_contents (Simple text))
   pub longest_part : (text : List ℕ) → length text ≡ 16777216 → TakesAll old (Content (one_part text) ∷ []) (with_contents (one_part text))
-  pub too_long : (text : List ℕ) → length text ≡ 16777217 → Refuses old (Content (Simple text) ∷ [])
-  pub too_long_part : (text : List ℕ) → length text ≡ 16777217 → Refuses old (Content (one_part text) ∷ [])
+  pub too_long : (text : List ℕ) → length text ≡ 16777217 → RefusesItems old (Content (Simple text) ∷ [])
+  pub too_long_part : (text : List ℕ) → length text ≡ 16777217 → RefusesItems old (Content (one_part text) ∷ [])
 
 -- ---- calls
 
@@ -114,47 +114,47 @@ p_of content = record { name = codes "p"; content = content }
 abbrev pub q_of : ℕ → StoredOutput
 q_of content = record { name = codes "q"; content = content }
 
-abbrev pub given : Status → List StoredOutput → StoredOutcome
-given status outputs = record { status = status; lines = []; outputs = outputs }
+abbrev pub ex_stored_outcome : Status → List StoredOutput → StoredOutcome
+ex_stored_outcome status outputs = record { status = status; lines = []; outputs = outputs }
 
 -- an outcome with both outputs, and one with none
-abbrev pub made : StoredOutcome
-made = given Ok (p_of 0 ∷ q_of 0 ∷ [])
+abbrev pub ex_made_outcome : StoredOutcome
+ex_made_outcome = ex_stored_outcome Ok (p_of 0 ∷ q_of 0 ∷ [])
 
-abbrev pub output : List ℕ → Part
-output name = record { name = name; body = codes "x=1" }
+abbrev pub ex_output_part : List ℕ → Part
+ex_output_part name = record { name = name; body = codes "x=1" }
 
 abbrev pub made_outcome : Outcome
-made_outcome = record { status = Ok; lines = []; outputs = output (codes "p") ∷ output (codes "q") ∷ [] }
+made_outcome = record { status = Ok; lines = []; outputs = ex_output_part (codes "p") ∷ ex_output_part (codes "q") ∷ [] }
 
-abbrev pub aborted : StoredOutcome
-aborted = given Abort []
+abbrev pub ex_aborted_outcome : StoredOutcome
+ex_aborted_outcome = ex_stored_outcome Abort []
 
 abbrev pub aborted_outcome : Outcome
 aborted_outcome = record { status = Abort; lines = []; outputs = [] }
 
 -- the call is kept
 abbrev pub with_kept : State
-with_kept = with_calls ((call (Some (codes "x=1")), made_outcome) ∷ [])
+with_kept = ex_with_calls ((call (Some (codes "x=1")), made_outcome) ∷ [])
 
 -- the item that keeps it
 abbrev pub keeps : Option ℕ → StoredOutcome → List Item
 keeps content outcome = Kept (stored_call (codes "cc") content) outcome ∷ []
 
 pub record CallsThatRead : Type 0 where
-  pub with_outputs : TakesAll old (keeps (Some 0) made) with_kept
-  pub without : TakesAll old (keeps (Some 0) aborted) (with_calls ((call (Some (codes "x=1")), aborted_outcome) ∷ []))
+  pub with_outputs : TakesAll old (keeps (Some 0) ex_made_outcome) with_kept
+  pub without : TakesAll old (keeps (Some 0) ex_aborted_outcome) (ex_with_calls ((call (Some (codes "x=1")), aborted_outcome) ∷ []))
   -- an absent input is another call
-  pub absent : TakesAll with_kept (keeps None aborted) (with_calls ((call (Some (codes "x=1")), made_outcome) ∷ (call None, aborted_outcome) ∷ []))
+  pub absent : TakesAll with_kept (keeps None ex_aborted_outcome) (ex_with_calls ((call (Some (codes "x=1")), made_outcome) ∷ (call None, aborted_outcome) ∷ []))
 
 pub record CallsThatDoNot : Type 0 where
   -- with another outcome, too
-  pub again : Refuses with_kept (keeps (Some 0) aborted)
-  pub form : Refuses old (Kept (stored_call [] (Some 0)) aborted ∷ [])
-  pub part_number : Refuses old (keeps (Some 2) aborted)
-  pub part_kind : Refuses old (keeps (Some 1) aborted)
-  pub output_number : Refuses old (keeps None (given Ok (p_of 0 ∷ q_of 2 ∷ [])))
-  pub output_kind : Refuses old (keeps None (given Ok (p_of 0 ∷ q_of 1 ∷ [])))
-  pub outputs_turned : Refuses old (keeps None (given Ok (q_of 0 ∷ p_of 0 ∷ [])))
-  pub output_missing : Refuses old (keeps None (given Error (p_of 0 ∷ [])))
-  pub abort_with_outputs : Refuses old (keeps None (given Abort (p_of 0 ∷ q_of 0 ∷ [])))
+  pub again : RefusesItems with_kept (keeps (Some 0) ex_aborted_outcome)
+  pub form : RefusesItems old (Kept (stored_call [] (Some 0)) ex_aborted_outcome ∷ [])
+  pub part_number : RefusesItems old (keeps (Some 2) ex_aborted_outcome)
+  pub part_kind : RefusesItems old (keeps (Some 1) ex_aborted_outcome)
+  pub output_number : RefusesItems old (keeps None (ex_stored_outcome Ok (p_of 0 ∷ q_of 2 ∷ [])))
+  pub output_kind : RefusesItems old (keeps None (ex_stored_outcome Ok (p_of 0 ∷ q_of 1 ∷ [])))
+  pub outputs_turned : RefusesItems old (keeps None (ex_stored_outcome Ok (q_of 0 ∷ p_of 0 ∷ [])))
+  pub output_missing : RefusesItems old (keeps None (ex_stored_outcome Error (p_of 0 ∷ [])))
+  pub abort_with_outputs : RefusesItems old (keeps None (ex_stored_outcome Abort (p_of 0 ∷ q_of 0 ∷ [])))

@@ -43,7 +43,7 @@ GatesFollow = (image : List ℕ) (gate end : ℕ) (records : List (List ℕ)) �
 -- ---- what a store writes
 
 -- These items read behind what is kept. Nothing is lost of the contents, and these calls, sources and graph are kept then.
-pub record ReadAs (old : State) (items : List Item) (calls : Calls) (sources : Texts) (graph : Option Text) : Type 0 where
+pub record ItemsReadAs (old : State) (items : List Item) (calls : Calls) (sources : Texts) (graph : Option Text) : Type 0 where
   pub new : State
   pub taken : TakesAll old items new
   pub more : List Value
@@ -54,12 +54,12 @@ pub record ReadAs (old : State) (items : List Item) (calls : Calls) (sources : T
 
 -- Each batch that a store writes reads as what it was asked for.
 pub record BatchesRead : Type 0 where
-  pub graph : (old : State) (text : Text) → ReadAs old (graph_batch text) old.tables.calls old.sources (Some text)
+  pub graph : (old : State) (text : Text) → ItemsReadAs old (graph_batch text) old.tables.calls old.sources (Some text)
   pub put : (old : State) (name text : Text) (items : List Item) → IsName name → length text ≤ body_limit
       → IsPutBatch old.tables.contents name text items
-      → ReadAs old items old.tables.calls (map.insert old.sources name text) old.graph
+      → ItemsReadAs old items old.tables.calls (map.insert old.sources name text) old.graph
   pub drop : (old : State) (name : Text) → IsName name → IsSome (map.get old.sources name)
-      → ReadAs old (drop_batch name) old.tables.calls (map.remove old.sources name) old.graph
+      → ItemsReadAs old (drop_batch name) old.tables.calls (map.remove old.sources name) old.graph
   pub call : (old : State) (call : Call) (outcome : Outcome) (items : List Item) → IsWellFormed call → OutcomeFits call outcome
       → IsNone (kept_outcome old.tables.calls call) → IsCallBatch old.tables.contents call outcome items
-      → ReadAs old items (old.tables.calls ++ (call, outcome) ∷ []) old.sources old.graph
+      → ItemsReadAs old items (old.tables.calls ++ (call, outcome) ∷ []) old.sources old.graph

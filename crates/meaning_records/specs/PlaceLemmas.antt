@@ -7,7 +7,7 @@ use Rattle.std.proofs.lemmas.List.Concat.{flat_map-append}
 use Rattle.std.proofs.lemmas.List.Elements.{All-nil, All-push, All-head, All-tail}
 use Rattle.odin_bytes.specs.Fields.{u32_field, IsFieldAt, HasNoBytesAt}
 use Rattle.odin_bytes.specs.FieldLemmas.{length-slice_range, slice_range-split, field_front}
-use Rattle.meaning_records.specs.Forms.{Form, StandsAt, StandsNowhere, IsOfOneThing, bytes, number, both, by_parts, list_of, option_of}
+use Rattle.meaning_records.specs.Forms.{Form, ParsesAt, StandsNowhere, IsOfOneThing, bytes, number, both, by_parts, list_of, option_of}
 use Rattle.meaning_records.specs.FormLemmas.{one_number}
 
 -- ---- fields
@@ -69,7 +69,7 @@ tag_there from at end tag field there =
 -- ---- things
 
 -- at a place stands one thing at most
-pub one_stands : {T : Type 0} (form : Form T) → IsOfOneThing form → (from : List ℕ) (at end last : ℕ) (a b : T) → StandsAt form from at end a → StandsAt form from at last b → (a ≡ b) × (end ≡ last)
+pub one_stands : {T : Type 0} (form : Form T) → IsOfOneThing form → (from : List ℕ) (at end last : ℕ) (a b : T) → ParsesAt form from at end a → ParsesAt form from at last b → (a ≡ b) × (end ≡ last)
 one_stands form one from at end last a b first second =
     let fronts = sym (field_front from at end (form.spell a) first.field) ∙ field_front from at last (form.spell b) second.field in
     let same : a ≡ b = (one a b _ _ first.fits second.fits fronts).0 in
@@ -78,16 +78,16 @@ one_stands form one from at end last a b first second =
 -- ---- one thing behind another
 
 pub both_stand : {A B : Type 0} (first : Form A) (second : Form B) (from : List ℕ) (at middle end : ℕ) (a : A) (b : B)
-    → StandsAt first from at middle a → StandsAt second from middle end b → StandsAt (both first second) from at end (a, b)
+    → ParsesAt first from at middle a → ParsesAt second from middle end b → ParsesAt (both first second) from at end (a, b)
 both_stand first second from at middle end a b there behind =
     record { fits = (there.fits, behind.fits); field = field_join from at middle end (first.spell a) (second.spell b) there.field behind.field }
 
 -- the two things that stand there, and the place between them
 pub record BothAt {A B : Type 0} (first : Form A) (second : Form B) (from : List ℕ) (at middle end : ℕ) (a : A) (b : B) : Type 0 where
-  pub front : StandsAt first from at middle a
-  pub back : StandsAt second from middle end b
+  pub front : ParsesAt first from at middle a
+  pub back : ParsesAt second from middle end b
 
-pub both_there : {A B : Type 0} (first : Form A) (second : Form B) (from : List ℕ) (at end : ℕ) (p : A × B) → StandsAt (both first second) from at end p
+pub both_there : {A B : Type 0} (first : Form A) (second : Form B) (from : List ℕ) (at end : ℕ) (p : A × B) → ParsesAt (both first second) from at end p
     → BothAt first second from at (at + length (first.spell p.0)) end p.0 p.1
 both_there first second from at end p there =
     let fields = field_split from at end (first.spell p.0) (second.spell p.1) there.field in
@@ -97,15 +97,15 @@ pub first_nowhere : {A B : Type 0} (first : Form A) (second : Form B) (from : Li
 first_nowhere first second from at none p end there = none p.0 (at + length (first.spell p.0)) (both_there first second from at end p there).front
 
 pub second_nowhere : {A B : Type 0} (first : Form A) (second : Form B) → IsOfOneThing first → (from : List ℕ) (at middle : ℕ) (a : A)
-    → StandsAt first from at middle a → StandsNowhere second from middle → StandsNowhere (both first second) from at
+    → ParsesAt first from at middle a → StandsNowhere second from middle → StandsNowhere (both first second) from at
 second_nowhere first second one from at middle a front none p end there =
     let parts = both_there first second from at end p there in
     let same = one_stands first one from at (at + length (first.spell p.0)) middle p.0 a parts.front front in
-    none p.1 end (subst (λ place. StandsAt second from place end p.1) same.1 parts.back)
+    none p.1 end (subst (λ place. ParsesAt second from place end p.1) same.1 parts.back)
 
 -- ---- a thing by its parts
 
-pub by_parts_stands : {T P : Type 0} (parts : T → P) (form : Form P) (from : List ℕ) (at end : ℕ) (x : T) → StandsAt form from at end (parts x) → StandsAt (by_parts parts form) from at end x
+pub by_parts_stands : {T P : Type 0} (parts : T → P) (form : Form P) (from : List ℕ) (at end : ℕ) (x : T) → ParsesAt form from at end (parts x) → ParsesAt (by_parts parts form) from at end x
 by_parts_stands parts form from at end x there = record { fits = there.fits; field = there.field }
 
 pub by_parts_nowhere : {T P : Type 0} (parts : T → P) (form : Form P) (from : List ℕ) (at : ℕ) → StandsNowhere form from at → StandsNowhere (by_parts parts form) from at
@@ -124,7 +124,7 @@ none_follow form from at within =
     record { fit = All-nil form.fits; field = record { in_range = (omega arith, within); bytes = ap (λ n. take n (drop at from)) none } }
 
 pub one_more_follows : {T : Type 0} (form : Form T) (from : List ℕ) (at middle end : ℕ) (members : List T) (x : T)
-    → FollowAt form from at middle members → StandsAt form from middle end x → FollowAt form from at end (members ++ x ∷ [])
+    → FollowAt form from at middle members → ParsesAt form from middle end x → FollowAt form from at end (members ++ x ∷ [])
 one_more_follows form from at middle end members x before there = record {
   fit = All-push form.fits members x before.fit there.fits;
   field = subst (IsFieldAt from at end) (sym (flat_map-append form.spell members (x ∷ []) ∙ ap (λ l. flat_map form.spell members ++ l) (append-nil (form.spell x))))
@@ -133,15 +133,15 @@ one_more_follows form from at middle end members x before there = record {
 
 -- as many as the count says
 pub list_stands : {T : Type 0} (form : Form T) (from : List ℕ) (at start end count : ℕ) (members : List T)
-    → StandsAt number from at start count → FollowAt form from start end members → length members ≡ count → StandsAt (list_of form) from at end members
+    → ParsesAt number from at start count → FollowAt form from start end members → length members ≡ count → ParsesAt (list_of form) from at end members
 list_stands form from at start end count members counted follow long = record {
   fits = (subst (λ n. n < 2 ^ 32) (sym long) counted.fits, follow.fit);
   field = field_join from at start end (u32_field (length members)) (flat_map form.spell members) (subst (λ n. IsFieldAt from at start (u32_field n)) (sym long) counted.field) follow.field;
 }
 
 -- the count and the members of a list that stands there
-list_there : {T : Type 0} (form : Form T) (from : List ℕ) (at end : ℕ) (members : List T) → StandsAt (list_of form) from at end members
-    → StandsAt number from at (at + 4) (length members) × FollowAt form from (at + 4) end members
+list_there : {T : Type 0} (form : Form T) (from : List ℕ) (at end : ℕ) (members : List T) → ParsesAt (list_of form) from at end members
+    → ParsesAt number from at (at + 4) (length members) × FollowAt form from (at + 4) end members
 list_there form from at end members there =
     let fields : FieldsAt from at (at + 4) end (u32_field (length members)) (flat_map form.spell members) = field_split from at end (u32_field (length members)) (flat_map form.spell members) there.field in
     (record { fits = there.fits.0; field = fields.first }, record { fit = there.fits.1; field = fields.second })
@@ -151,7 +151,7 @@ count_nowhere form from at none members end there = none (length members) (at + 
 
 -- the first of the members that follow each other, and the others
 pub record FirstAt {T : Type 0} (form : Form T) (from : List ℕ) (at middle end : ℕ) (x : T) (members : List T) : Type 0 where
-  pub first : StandsAt form from at middle x
+  pub first : ParsesAt form from at middle x
   pub others : FollowAt form from middle end members
 
 first_there : {T : Type 0} (form : Form T) (from : List ℕ) (at end : ℕ) (x : T) (members : List T) → FollowAt form from at end (x ∷ members)
@@ -171,7 +171,7 @@ none_behind form one from at middle end [] (y ∷ ys) before there fewer none =
     let here : middle ≡ at + 0 = field_end from at middle [] before.field in
     let same : at ≡ middle = omega arith in
     let first = (first_there form from at end y ys there).first in
-    none y (at + length (form.spell y)) (subst (λ place. StandsAt form from place (at + length (form.spell y)) y) same first)
+    none y (at + length (form.spell y)) (subst (λ place. ParsesAt form from place (at + length (form.spell y)) y) same first)
 none_behind form one from at middle end (x ∷ xs) (y ∷ ys) before there fewer none =
     let front = first_there form from at middle x xs before in
     let also = first_there form from at end y ys there in
@@ -180,7 +180,7 @@ none_behind form one from at middle end (x ∷ xs) (y ∷ ys) before there fewer
 
 -- a member is missing
 pub member_nowhere : {T : Type 0} (form : Form T) → IsOfOneThing form → (from : List ℕ) (at start middle count : ℕ) (members : List T)
-    → StandsAt number from at start count → FollowAt form from start middle members → length members < count → StandsNowhere form from middle
+    → ParsesAt number from at start count → FollowAt form from start middle members → length members < count → StandsNowhere form from middle
     → StandsNowhere (list_of form) from at
 member_nowhere form one from at start middle count members counted follow fewer none other end there =
     let parts = list_there form from at end other there in
@@ -189,13 +189,13 @@ member_nowhere form one from at start middle count members counted follow fewer 
 
 -- ---- options
 
-pub none_stands : {T : Type 0} (form : Form T) (from : List ℕ) (at : ℕ) → at < length from → slice_index from at ≡ 0 → StandsAt (option_of form) from at (at + 1) None
+pub none_stands : {T : Type 0} (form : Form T) (from : List ℕ) (at : ℕ) → at < length from → slice_index from at ≡ 0 → ParsesAt (option_of form) from at (at + 1) None
 none_stands form from at within zero_first =
     let nothing : IsFieldAt from (at + 1) (at + 1) [] = (none_follow form from (at + 1) (omega arith)).field in
     record { fits = tt; field = tag_stands from at (at + 1) 0 [] (record { within = within; byte = zero_first; rest = nothing }) }
 
-pub some_stands : {T : Type 0} (form : Form T) (from : List ℕ) (at end : ℕ) (x : T) → at < length from → slice_index from at ≡ 1 → StandsAt form from (at + 1) end x
-    → StandsAt (option_of form) from at end (Some x)
+pub some_stands : {T : Type 0} (form : Form T) (from : List ℕ) (at end : ℕ) (x : T) → at < length from → slice_index from at ≡ 1 → ParsesAt form from (at + 1) end x
+    → ParsesAt (option_of form) from at end (Some x)
 some_stands form from at end x within one_first there =
     record { fits = there.fits; field = tag_stands from at end 1 (form.spell x) (record { within = within; byte = one_first; rest = there.field }) }
 

@@ -1,7 +1,7 @@
 -- What an image stands for: what its whole records make of nothing, one after another; or the offset at which it isn't a store's.
 use Rattle.std.specs.Prelude.{◌≡◌, ◌⊎◌, ℕ, List, [], ◌∷◌, ◌++◌}
 use Rattle.meaning_store.specs.Front.{start_of}
-use Rattle.meaning_store.specs.Images.{behind, Stored, IsStore, NotOurs}
+use Rattle.meaning_store.specs.Images.{gate_after, Stored, IsStore, NotOurs}
 use Rattle.meaning_records.specs.States.{State, nothing, Reads, ReadsAll}
 
 pub record Stands (image : List ℕ) (state : State) : Type 0 where
@@ -12,7 +12,7 @@ pub record Stands (image : List ℕ) (state : State) : Type 0 where
 -- the gate behind records that follow each other from a gate on
 abbrev pub gate_behind : ℕ → List (List ℕ) → ℕ
 gate_behind gate [] = gate
-gate_behind gate (payload ∷ payloads) = gate_behind (behind gate payload) payloads
+gate_behind gate (payload ∷ payloads) = gate_behind (gate_after gate payload) payloads
 
 -- The records are whole, but one of them doesn't read behind those before it: this is its gate.
 pub record HasBadRecord (image : List ℕ) (at : ℕ) : Type 0 where

@@ -22,24 +22,24 @@ nothing = record { tables = record { contents = []; calls = [] }; sources = no_t
 -- ---- items
 
 -- What an item makes of the sources. A source that is dropped is there.
-abbrev pub Edits : List Value → Item → Texts → Texts → Type 0
-Edits contents (Put name number) old new = (text : Text) × IsText contents number text × (new ≡ map.insert old name text)
-Edits contents (Dropped name) old new = IsSome (map.get old name) × (new ≡ map.remove old name)
-Edits contents other old new = new ≡ old
+abbrev pub ItemEditsSources : List Value → Item → Texts → Texts → Type 0
+ItemEditsSources contents (Put name number) old new = (text : Text) × IsText contents number text × (new ≡ map.insert old name text)
+ItemEditsSources contents (Dropped name) old new = IsSome (map.get old name) × (new ≡ map.remove old name)
+ItemEditsSources contents other old new = new ≡ old
 
 abbrev pub graph_after : Item → Option Text → Option Text
 graph_after (Graph text) old = Some text
 graph_after other old = old
 
 -- An item may come behind what is kept, and this is kept then.
-pub record Takes (old : State) (it : Item) (new : State) : Type 0 where
+pub record TakesOne (old : State) (it : Item) (new : State) : Type 0 where
   pub loads : Loads old.tables it new.tables
-  pub edits : Edits old.tables.contents it old.sources new.sources
+  pub edits : ItemEditsSources old.tables.contents it old.sources new.sources
   pub graph : new.graph ≡ graph_after it old.graph
 
 abbrev pub TakesAll : State → List Item → State → Type 0
 TakesAll old [] new = new ≡ old
-TakesAll old (it ∷ items) new = (next : State) × Takes old it next × TakesAll next items new
+TakesAll old (it ∷ items) new = (next : State) × TakesOne old it next × TakesAll next items new
 
 -- ---- payloads
 

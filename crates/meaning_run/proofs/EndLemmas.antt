@@ -7,7 +7,7 @@ use Rattle.meaning_run.specs.Items.{Language, Item, all_bytes, last_item}
 use Rattle.meaning_run.specs.Machines as machines
 use Rattle.meaning_run.specs.Machines.{Machine, Halt}
 use Rattle.meaning_run.specs.Endings as endings
-use Rattle.meaning_run.specs.Endings.{IsSpent, IsFollowed, IsLastLine, StandsLast, HasRead, input_limit, piece_limit}
+use Rattle.meaning_run.specs.Endings.{IsSpent, IsLastWithLf, IsLastLine, StandsLast, HasRead, input_limit, piece_limit}
 use Rattle.meaning_run.specs.Streams as streams
 use Rattle.meaning_run.proofs.ItemLemmas.{nil_right, take-front, whole_not_inside, ends_only, said_not_inside, said_more}
 use Rattle.meaning_run.proofs.ToldLemmas.{took_none, prepended_none, prepended-prepended}
@@ -120,7 +120,7 @@ module _ {Command Held Code State Told : Type 0} (lang : Language Command) (Keep
         input_is EndsWell input left read.read read.bytes f.spent (whole_not_inside lang one f.served f.last a.0 read.read f.on a.1 f.cuts, inl f.short)
 
     -- the word with its LF
-    followed : (read : List ℕ) (served : List Item) (item : Item) → length read ≤ input_limit → items.AllGoOn lang served → items.EndsAt lang item → IsFollowed read (all_bytes served) item
+    followed : (read : List ℕ) (served : List Item) (item : Item) → length read ≤ input_limit → items.AllGoOn lang served → items.EndsAt lang item → IsLastWithLf read (all_bytes served) item
         → (more : List ℕ) → EndsWell (read ++ more)
     followed read served item within on ends stands more =
         let said : items.SaysEnd lang read = record { items = served; on = on; item = item; ends = ends; rest = stands.rest; cuts = stands.bytes } in

@@ -8,7 +8,7 @@ use Rattle.meaning_run.specs.Items.{Language, Item, all_bytes, last_item}
 use Rattle.meaning_run.specs.Machines as machines
 use Rattle.meaning_run.specs.Machines.{Machine, Halt, before_reply, within_reply, behind_reply}
 use Rattle.meaning_run.specs.Endings as endings
-use Rattle.meaning_run.specs.Endings.{StandsAt, StandsLast, input_limit, piece_limit}
+use Rattle.meaning_run.specs.Endings.{ItemStandsAfter, StandsLast, input_limit, piece_limit}
 use Rattle.meaning_run.specs.Streams as streams
 use Rattle.meaning_run.proofs.ItemLemmas.{nil_right, all_bytes-more, concat-more, AllGoOn-more}
 use Rattle.meaning_run.proofs.ToldLemmas.{took-took, took_none}
@@ -70,7 +70,7 @@ module _ {Command Held Code State Told : Type 0} (lang : Language Command) (Keep
 
   -- bytes that make an item whole, which is answered
   pub GoesOn-item : (bytes : List ℕ) (told told' : Told) (code code' : Code) (held held' : Held) (command : Command) (kept : List ℕ)
-      → streams.Completes lang Keeps bytes held command kept → lang.ends_run command ≡ false → ((part : List ℕ) → Keeps held part → Keeps held' [])
+      → streams.CompletesItem lang Keeps bytes held command kept → lang.ends_run command ≡ false → ((part : List ℕ) → Keeps held part → Keeps held' [])
       → machines.Serves lang m code code' command kept told told'
       → streams.GoesOn lang Keeps m bytes told code held told' code' held'
   GoesOn-item bytes told told' code code' held held' command kept whole on clear served first start text s =
@@ -91,7 +91,7 @@ module _ {Command Held Code State Told : Type 0} (lang : Language Command) (Keep
       }
 
   broken : (first : State) (start told told' : Told) (read : List ℕ) (left : Option (List ℕ)) (code : Code) (held : Held) (s : SoFar first start read told code held) → (text rest : List ℕ)
-      → text ≡ all_bytes s.served ++ rest → (item : Item) (command : Command) → StandsAt text left (all_bytes s.served) item
+      → text ≡ all_bytes s.served ++ rest → (item : Item) (command : Command) → ItemStandsAfter text left (all_bytes s.served) item
       → items.IsItem lang item command → machines.StopsBefore lang m first start s.state command item.body told told'
       → endings.EndsBeforeReply lang m first start told' text left
   broken first start told told' read left code held s text rest cuts item command stands item_is b = record {
@@ -109,8 +109,8 @@ module _ {Command Held Code State Told : Type 0} (lang : Language Command) (Keep
   }
 
   cut_off : (first : State) (start told told' : Told) (read : List ℕ) (left : Option (List ℕ)) (code : Code) (held : Held) (s : SoFar first start read told code held) → (text : List ℕ)
-      → (item : Item) (command : Command) → StandsAt text left (all_bytes s.served) item
-      → items.IsItem lang item command → machines.StopsWithin lang m first start s.state command item.body told told'
+      → (item : Item) (command : Command) → ItemStandsAfter text left (all_bytes s.served) item
+      → items.IsItem lang item command → machines.StopsWithinReply lang m first start s.state command item.body told told'
       → endings.EndsWithinReply lang m first start told' text left
   cut_off first start told told' read left code held s text item command stands item_is cut = record {
     served = s.served;
@@ -148,7 +148,7 @@ module _ {Command Held Code State Told : Type 0} (lang : Language Command) (Keep
         };
       }
 
-  stands_at : (read : List ℕ) (left : Option (List ℕ)) (before : List ℕ) (item : Item) → StandsLast read left before item → StandsAt read left before item
+  stands_at : (read : List ℕ) (left : Option (List ℕ)) (before : List ℕ) (item : Item) → StandsLast read left before item → ItemStandsAfter read left before item
   stands_at read left before item (inl followed) = inl (followed.rest, followed.bytes)
   stands_at read left before item (inr last) = inr (last.bytes, last.alone, last.spent)
 
@@ -165,7 +165,7 @@ module _ {Command Held Code State Told : Type 0} (lang : Language Command) (Keep
 
   -- bytes that make an item whole, whose serving stops
   pub StopsOn-item : (halt : Halt) (bytes : List ℕ) (told told' : Told) (code : Code) (held : Held) (command : Command) (kept : List ℕ) → 0 < length bytes
-      → streams.Completes lang Keeps bytes held command kept → machines.StopsServing lang m halt code command kept told told'
+      → streams.CompletesItem lang Keeps bytes held command kept → machines.StopsServing lang m halt code command kept told told'
       → streams.StopsOn lang Keeps m halt bytes told code held told'
   StopsOn-item halt bytes told told' code held command kept some whole stops first start text more left within piece s =
       let w = whole s.part s.keeps in

@@ -29,11 +29,11 @@ pub record HasRead (EndsSo : List ℕ → Option (List ℕ) → Type 0) (input l
   pub ends : EndsSo read left
 
 -- the item stands behind these bytes in what was read: with its LF, or as the last line of the input
-abbrev pub StandsAt : List ℕ → Option (List ℕ) → List ℕ → Item → Type 0
-StandsAt read left before item = ((rest : List ℕ) × (read ≡ before ++ (item_bytes item ++ rest))) ⊎ ((read ≡ before ++ item.line) × (item.body ≡ []) × IsSpent left)
+abbrev pub ItemStandsAfter : List ℕ → Option (List ℕ) → List ℕ → Item → Type 0
+ItemStandsAfter read left before item = ((rest : List ℕ) × (read ≡ before ++ (item_bytes item ++ rest))) ⊎ ((read ≡ before ++ item.line) × (item.body ≡ []) × IsSpent left)
 
 -- It stands there with its LF, and less than a piece was read behind it.
-pub record IsFollowed (read before : List ℕ) (item : Item) : Type 0 where
+pub record IsLastWithLf (read before : List ℕ) (item : Item) : Type 0 where
   pub rest : List ℕ
   pub bytes : read ≡ before ++ (item_bytes item ++ rest)
   pub few : length rest < piece_limit
@@ -47,7 +47,7 @@ pub record IsLastLine (read : List ℕ) (left : Option (List ℕ)) (before : Lis
 
 -- the item is the last one that was read, whole
 abbrev pub StandsLast : List ℕ → Option (List ℕ) → List ℕ → Item → Type 0
-StandsLast read left before item = IsFollowed read before item ⊎ IsLastLine read left before item
+StandsLast read left before item = IsLastWithLf read before item ⊎ IsLastLine read left before item
 
 module _ {Command Code State Told : Type 0} (lang : Language Command) (m : Machine Command Code State Told) where
   -- The replies to these items were taken and nothing else, and all of them are acknowledged in what is kept.
@@ -108,7 +108,7 @@ module _ {Command Code State Told : Type 0} (lang : Language Command) (m : Machi
     pub state : State
     pub run : Transcript lang m.Step first served replies state
     pub furthest : State
-    pub may : (furthest ≡ state) ⊎ ((item : Item) × StandsAt read left (all_bytes served) item × ItemMayLeave lang m state item furthest)
+    pub may : (furthest ≡ state) ⊎ ((item : Item) × ItemStandsAfter read left (all_bytes served) item × ItemMayLeave lang m state item furthest)
     pub wrote : m.sink told ≡ took (m.sink start) (concat replies)
     pub exit : m.AtExit first start state furthest told
 
@@ -117,7 +117,7 @@ module _ {Command Code State Told : Type 0} (lang : Language Command) (m : Machi
     pub served : List Item
     pub on : AllGoOn lang served
     pub item : Item
-    pub stands : StandsAt read left (all_bytes served) item
+    pub stands : ItemStandsAfter read left (all_bytes served) item
     pub replies : List (List ℕ)
     pub state : State
     pub run : Transcript lang m.Step first served replies state

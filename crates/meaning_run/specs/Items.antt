@@ -61,7 +61,7 @@ module _ {Command : Type 0} (lang : Language Command) where
     pub ends : lang.ends_run command ≡ true
 
   -- a command's whole line, and less than the bytes that belong to it
-  pub record IsBegun (part : List ℕ) (command : Command) : Type 0 where
+  pub record IsPartialCommand (part : List ℕ) (command : Command) : Type 0 where
     pub line : List ℕ
     pub body : List ℕ
     pub no_lf : HasNoLf line
@@ -71,7 +71,7 @@ module _ {Command : Type 0} (lang : Language Command) where
 
   -- less than an item: a part of a line, or a command that lacks bytes
   abbrev pub IsPart : List ℕ → Type 0
-  IsPart part = HasNoLf part ⊎ ((command : Command) × IsBegun part command)
+  IsPart part = HasNoLf part ⊎ ((command : Command) × IsPartialCommand part command)
 
   -- a last line whose command takes bytes
   pub record IsUnended (part : List ℕ) (command : Command) : Type 0 where
@@ -82,7 +82,7 @@ module _ {Command : Type 0} (lang : Language Command) where
   -- the end of an input inside a command: its bytes are not all there
   pub record IsCutShort (part : List ℕ) : Type 0 where
     pub command : Command
-    pub where_it_ends : IsBegun part command ⊎ IsUnended part command
+    pub where_it_ends : IsPartialCommand part command ⊎ IsUnended part command
 
   -- the input ends inside a command
   pub record EndsInside (input : List ℕ) : Type 0 where

@@ -60,7 +60,7 @@ module _ {Command Code State Told : Type 0} (lang : Language Command) (m : Machi
     pub exit : m.AtExit first start state furthest after
 
   -- Its reply was cut off, by a fault of the sink that was counted.
-  pub record StopsWithin (first : State) (start : Told) (state : State) (command : Command) (body : List ℕ) (before after : Told) : Type 0 where
+  pub record StopsWithinReply (first : State) (start : Told) (state : State) (command : Command) (body : List ℕ) (before after : Told) : Type 0 where
     pub reply : List ℕ
     pub new : State
     pub step : m.Step state command body reply new
@@ -78,7 +78,7 @@ module _ {Command Code State Told : Type 0} (lang : Language Command) (m : Machi
 
   abbrev pub StoppedBy : Halt → State → Told → State → Command → List ℕ → Told → Told → Type 0
   StoppedBy before_reply = StopsBefore
-  StoppedBy within_reply = StopsWithin
+  StoppedBy within_reply = StopsWithinReply
   StoppedBy behind_reply = StopsBehind
 
   -- A command is served with the bytes that were kept of its own, from every history that fits.

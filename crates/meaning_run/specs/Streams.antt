@@ -21,8 +21,8 @@ module _ {Command Held : Type 0} (lang : Language Command) (Keeps : Held → Lis
     pub item_is : IsItem lang item command
     pub body_is : SameBody lang command item.body kept
 
-  abbrev pub Completes : List ℕ → Held → Command → List ℕ → Type 0
-  Completes bytes held command kept = (part : List ℕ) → Keeps held part → IsMadeWhole part bytes command kept
+  abbrev pub CompletesItem : List ℕ → Held → Command → List ℕ → Type 0
+  CompletesItem bytes held command kept = (part : List ℕ) → Keeps held part → IsMadeWhole part bytes command kept
 
 module _ {Command Held Code State Told : Type 0} (lang : Language Command) (Keeps : Held → List ℕ → Type 0) (m : Machine Command Code State Told) where
   -- these bytes have come, and the whole items in them are answered

@@ -3,29 +3,29 @@ use Rattle.std.proofs.Common.{◌≡◌, ◌⊎◌, inl, inr, ℕ, ◌+◌, ◌<
 use Rattle.odin_bytes.specs.Fields.{bytes_field}
 use Rattle.odin_bytes.specs.FieldLemmas.{field_front, body_front}
 use Rattle.meaning_store.specs.Front.{start_of}
-use Rattle.meaning_store.specs.Images.{IsNew, IsWritten, IsClosed, behind, IsRecord, AreRecords, IsStore, Stored, NotOurs}
+use Rattle.meaning_store.specs.Images.{IsNew, IsWritten, IsClosed, gate_after, IsRecord, AreRecords, IsStore, Stored, NotOurs}
 
 -- behind a gate stands one record at most
 one_record : (image : List ℕ) (gate : ℕ) (payload other : List ℕ) → IsRecord image gate payload → IsRecord image gate other → payload ≡ other
 one_record image gate payload other record_a record_b =
-    let fronts = sym (field_front image (gate + 1) (behind gate payload) (bytes_field payload) record_a.body) ∙ field_front image (gate + 1) (behind gate other) (bytes_field other) record_b.body in
+    let fronts = sym (field_front image (gate + 1) (gate_after gate payload) (bytes_field payload) record_a.body) ∙ field_front image (gate + 1) (gate_after gate other) (bytes_field other) record_b.body in
     (body_front payload other _ _ record_a.short record_b.short fronts).0
 
 -- at this gate no record stands
-abbrev Stops : List ℕ → ℕ → Type 0
-Stops image gate = (payload : List ℕ) → ¬ (IsRecord image gate payload)
+abbrev HasNoRecordAt : List ℕ → ℕ → Type 0
+HasNoRecordAt image gate = (payload : List ℕ) → ¬ (IsRecord image gate payload)
 
-pub closed_stops : (image : List ℕ) (gate : ℕ) → IsClosed image gate → Stops image gate
+pub closed_stops : (image : List ℕ) (gate : ℕ) → IsClosed image gate → HasNoRecordAt image gate
 closed_stops image gate closed payload there = closed.other there.opened.one
 
 -- whole records up to a gate where none stands are one list
-pub one_list : (image : List ℕ) (gate end last : ℕ) (records other : List (List ℕ)) → AreRecords image gate records end → AreRecords image gate other last → Stops image end → Stops image last → (other ≡ records) × (last ≡ end)
-one_list image gate end last [] [] whole also stops ends = (refl, also ∙ sym whole)
-one_list image gate end last [] (payload ∷ other) whole also stops ends = absurd (stops payload (subst (λ at. IsRecord image at payload) (sym whole) also.0))
-one_list image gate end last (payload ∷ records) [] whole also stops ends = absurd (ends payload (subst (λ at. IsRecord image at payload) (sym also) whole.0))
-one_list image gate end last (payload ∷ records) (second ∷ other) whole also stops ends =
+pub one_list_of_records : (image : List ℕ) (gate end last : ℕ) (records other : List (List ℕ)) → AreRecords image gate records end → AreRecords image gate other last → HasNoRecordAt image end → HasNoRecordAt image last → (other ≡ records) × (last ≡ end)
+one_list_of_records image gate end last [] [] whole also stops ends = (refl, also ∙ sym whole)
+one_list_of_records image gate end last [] (payload ∷ other) whole also stops ends = absurd (stops payload (subst (λ at. IsRecord image at payload) (sym whole) also.0))
+one_list_of_records image gate end last (payload ∷ records) [] whole also stops ends = absurd (ends payload (subst (λ at. IsRecord image at payload) (sym also) whole.0))
+one_list_of_records image gate end last (payload ∷ records) (second ∷ other) whole also stops ends =
     let same : payload ≡ second = one_record image gate payload second whole.0 also.0 in
-    let rest = one_list image (behind gate payload) end last records other whole.1 (subst (λ p. AreRecords image (behind gate p) other last) (sym same) also.1) stops ends in
+    let rest = one_list_of_records image (gate_after gate payload) end last records other whole.1 (subst (λ p. AreRecords image (gate_after gate p) other last) (sym same) also.1) stops ends in
     (ap (λ p. p ∷ other) (sym same) ∙ ap (λ l. payload ∷ l) rest.0, rest.1)
 
 -- no file that counts as new is written
@@ -37,7 +37,7 @@ new_or_written image new written = by_blank new.blank
     by_blank (inr zero_first) = written.marked zero_first
 
 pub one_end : (image : List ℕ) (records other : List (List ℕ)) (end last : ℕ) → IsStore image records end → IsStore image other last → (other ≡ records) × (last ≡ end)
-one_end image records other end last store also = one_list image (start_of image) end last records other store.whole also.whole (closed_stops image end store.closed) (closed_stops image last also.closed)
+one_end image records other end last store also = one_list_of_records image (start_of image) end last records other store.whole also.whole (closed_stops image end store.closed) (closed_stops image last also.closed)
 
 pub one_stored : (image : List ℕ) (records other : List (List ℕ)) → Stored records image → Stored other image → other ≡ records
 one_stored image records other (inl new) (inl also) = also.1 ∙ sym new.1
@@ -55,7 +55,7 @@ no_records image at records (inr (inl none)) (inl new) = new_or_written image ne
 no_records image at records (inr (inl none)) (inr store) = none.1 store.1.front
 no_records image at records (inr (inr breaks)) (inl new) = new_or_written image new.0 breaks.written
 no_records image at records (inr (inr breaks)) (inr store) =
-    let one = one_list image (start_of image) store.0 at records breaks.records store.1.whole breaks.whole (closed_stops image store.0 store.1.closed) breaks.none in
+    let one = one_list_of_records image (start_of image) store.0 at records breaks.records store.1.whole breaks.whole (closed_stops image store.0 store.1.closed) breaks.none in
     store.1.closed.other (subst (λ gate. slice_index image gate ≡ 1) one.1 breaks.opened.one)
 
 pub one_place : (image : List ℕ) (at other : ℕ) → NotOurs image at → NotOurs image other → other ≡ at
@@ -67,4 +67,4 @@ one_place image at other (inr (inl none)) (inr (inl also)) = also.2 ∙ sym none
 one_place image at other (inr (inl none)) (inr (inr also)) = absurd (none.1 also.front)
 one_place image at other (inr (inr breaks)) (inl also) = absurd (too_long image also.0 breaks.written.within)
 one_place image at other (inr (inr breaks)) (inr (inl also)) = absurd (also.1 breaks.front)
-one_place image at other (inr (inr breaks)) (inr (inr also)) = (one_list image (start_of image) at other breaks.records also.records breaks.whole also.whole breaks.none also.none).1
+one_place image at other (inr (inr breaks)) (inr (inr also)) = (one_list_of_records image (start_of image) at other breaks.records also.records breaks.whole also.whole breaks.none also.none).1

@@ -25,8 +25,8 @@ pub record IsClosed (image : List ℕ) (gate : ℕ) : Type 0 where
   pub other : slice_index image gate ≢ 1
 
 -- the place of the gate behind a record of this payload
-abbrev pub behind : ℕ → List ℕ → ℕ
-behind gate payload = gate + 5 + length payload
+abbrev pub gate_after : ℕ → List ℕ → ℕ
+gate_after gate payload = gate + 5 + length payload
 
 -- the image once a record stands at the closed gate of this place: an open gate, a length, the payload and a closed gate
 abbrev pub with_record : ℕ → List ℕ → List ℕ → List ℕ
@@ -36,13 +36,13 @@ with_record gate payload image = take gate image ++ 1 ∷ (bytes_field payload +
 pub record IsRecord (image : List ℕ) (gate : ℕ) (payload : List ℕ) : Type 0 where
   pub opened : IsOpen image gate
   pub short : length payload < 2 ^ 32
-  pub body : IsFieldAt image (gate + 1) (behind gate payload) (bytes_field payload)
-  pub next : behind gate payload < length image
+  pub body : IsFieldAt image (gate + 1) (gate_after gate payload) (bytes_field payload)
+  pub next : gate_after gate payload < length image
 
 -- these records follow each other from one gate to another
 abbrev pub AreRecords : List ℕ → ℕ → List (List ℕ) → ℕ → Type 0
 AreRecords image gate [] end = end ≡ gate
-AreRecords image gate (payload ∷ records) end = IsRecord image gate payload × AreRecords image (behind gate payload) records end
+AreRecords image gate (payload ∷ records) end = IsRecord image gate payload × AreRecords image (gate_after gate payload) records end
 
 -- A store: the whole records from the start in use on, and the closed gate that ends them. What lies behind it has no meaning.
 pub record IsStore (image : List ℕ) (records : List (List ℕ)) (end : ℕ) : Type 0 where

@@ -14,7 +14,7 @@ use Rattle.meaning_nodes.specs.Nodes.{last_step}
 use Rattle.meaning_nodes.specs.Labels.{label_of}
 use Rattle.meaning_tasks.specs.Tasks.{Own, Task, given, make_task, maker_task, step_task, task_of}
 use Rattle.meaning_tasks.specs.Needs.{Results, Known, values_of, counted_needs}
-use Rattle.meaning_tasks.specs.Settle.{Texts, given_own, own_of, stepped_own, settled, Settles, SettlesWith}
+use Rattle.meaning_tasks.specs.Settle.{SourceLookup, given_own, own_of, stepped_own, settled, Settles, SettlesWith}
 
 not_empty : {A : Type 0} (x : A) (xs : List A) → x ∷ xs ≡ [] → ⊥
 not_empty x xs e = cc
@@ -23,7 +23,7 @@ pub source_task : (g : Graph) (n : Node) → n.steps ≡ [] → task_of g n ≡ 
 unfolding task_of
 source_task g n e = ap (λ steps. step_task g n (last_step steps)) e
 
-module _ (label : Text) (texts : Texts) (known : Known) (outcome : Option Outcome) where
+module _ (label : Text) (texts : SourceLookup) (known : Known) (outcome : Option Outcome) where
   -- the task gives the same over these sources as over none
   abbrev IsFree : Task → Type 0
   IsFree task = stepped_own label task known outcome ≡ own_of label texts task known outcome
@@ -52,7 +52,7 @@ module _ (label : Text) (texts : Texts) (known : Known) (outcome : Option Outcom
   task_free g n some = last_free g n n.steps some
 
 -- What a node gives itself is the same over sources that have the same text of its name, if it has no steps.
-pub own_by_source : (g : Graph) (n : Node) (texts others : Texts) (known : Known) (outcome : Option Outcome) → (n.steps ≡ [] → texts n.source ≡ others n.source) → own_of (label_of g n) texts (task_of g n) known outcome ≡ own_of (label_of g n) others (task_of g n) known outcome
+pub own_by_source : (g : Graph) (n : Node) (texts others : SourceLookup) (known : Known) (outcome : Option Outcome) → (n.steps ≡ [] → texts n.source ≡ others n.source) → own_of (label_of g n) texts (task_of g n) known outcome ≡ own_of (label_of g n) others (task_of g n) known outcome
 own_by_source g n texts others known outcome same = by_steps n.steps refl
   where
     by_steps : (steps : List Step) → n.steps ≡ steps → own_of (label_of g n) texts (task_of g n) known outcome ≡ own_of (label_of g n) others (task_of g n) known outcome
@@ -64,7 +64,7 @@ own_by_source g n texts others known outcome same = by_steps n.steps refl
         sym (task_free (label_of g n) texts known outcome g n some) ∙ task_free (label_of g n) others known outcome g n some
 
 -- What a node with steps settles to is the same over all sources.
-pub settles_over_any : (g : Graph) (n : Node) (seen : Results) (outcome : Option Outcome) (own : Own) (view : View) (sources : ℕ) → (n.steps ≡ [] → ⊥) → SettlesWith g n seen outcome own view sources → (texts : Texts) → Settles g texts n seen outcome view
+pub settles_over_any : (g : Graph) (n : Node) (seen : Results) (outcome : Option Outcome) (own : Own) (view : View) (sources : ℕ) → (n.steps ≡ [] → ⊥) → SettlesWith g n seen outcome own view sources → (texts : SourceLookup) → Settles g texts n seen outcome view
 settles_over_any g n seen outcome own view sources some s texts =
     let whole : own ≡ own_of (label_of g n) texts (task_of g n) (values_of seen) outcome = s.own ∙ task_free (label_of g n) texts (values_of seen) outcome g n some in
     record {

@@ -14,7 +14,7 @@ use Rattle.meaning_nodes.specs.Values.{worst, inherit}
 use Rattle.meaning_tasks.specs.Tasks.{Own, task_of}
 use Rattle.meaning_tasks.specs.Needs.{Results, values_of, AgreeOn, Grows, has_value, needs_of, counted_needs, Needs}
 use Rattle.meaning_tasks.specs.Calls.{call_of, CallOf}
-use Rattle.meaning_tasks.specs.Settle.{Texts, own_of, status_in, messages_in, worst_of, settled, settle}
+use Rattle.meaning_tasks.specs.Settle.{SourceLookup, own_of, status_in, messages_in, worst_of, settled, settle}
 use Rattle.meaning_tasks.specs.Laws.{AgreeAt, IsCarried}
 use Rattle.meaning_tasks.proofs.Reached.{one_list}
 use Rattle.meaning_tasks.proofs.Roles.{counted_in_needs}
@@ -35,7 +35,7 @@ same_settled seen more own nodes a =
     λ i. record { value = cond (v i) own.value None; status = w i; messages = inherit (m i) own.messages }
 
 -- the view is the same where the results of the needs are
-pub view_moves : (g : Graph) (texts : Texts) (n : Node) (seen more : Results) (names : List Text) → AgreeAt seen more (needs_of (task_of g n) (values_of seen) names) → (o : Option Outcome) → settle g texts n seen o names ≡ settle g texts n more o names
+pub view_moves : (g : Graph) (texts : SourceLookup) (n : Node) (seen more : Results) (names : List Text) → AgreeAt seen more (needs_of (task_of g n) (values_of seen) names) → (o : Option Outcome) → settle g texts n seen o names ≡ settle g texts n more o names
 view_moves g texts n seen more names a o =
     let agree = same_values seen more (needs_of (task_of g n) (values_of seen) names) a in
     same_settled seen more (own_of (label_of g n) texts (task_of g n) (values_of seen) o) (counted_needs (task_of g n) (values_of seen) names) (λ m i. a m (counted_in_needs (task_of g n) (values_of seen) names m i))
@@ -46,7 +46,7 @@ pub one_call : (g : Graph) (n : Node) (seen : Results) (call other : Option Call
 one_call g n seen call other p q = p.is ∙ ap (call_of g (task_of g n) (values_of seen)) (one_list _ _ _ _ p.reached q.reached) ∙ sym q.is
 
 -- Another map with the same results of the needs carries needs, call and view.
-pub carry : (g : Graph) (texts : Texts) (n : Node) (seen other : Results) (nodes : List Node) → Needs g n seen nodes → AgreeAt seen other nodes → IsCarried g texts n seen other nodes
+pub carry : (g : Graph) (texts : SourceLookup) (n : Node) (seen other : Results) (nodes : List Node) → Needs g n seen nodes → AgreeAt seen other nodes → IsCarried g texts n seen other nodes
 carry g texts n seen other nodes listed agree =
     let same : AgreeAt seen other (needs_of (task_of g n) (values_of seen) listed.names) = λ m i. agree m (subst (λ l. IsIn m l) (sym listed.listed) i) in
     let l = local g n seen other listed.names listed.reached (same_values seen other _ same) in
@@ -60,5 +60,5 @@ carry g texts n seen other nodes listed agree =
 pub full_agree : (seen more : Results) (nodes : List Node) → Grows seen more → ((m : Node) → IsIn m nodes → IsSome (seen m)) → AgreeAt seen more nodes
 full_agree seen more nodes grows known m i = let v = value_of_some (seen m) (known m i) in v.1 ∙ sym (grows m v.0 v.1)
 
-pub full_needs_stay : (g : Graph) (texts : Texts) (n : Node) (seen more : Results) (nodes : List Node) → Grows seen more → Needs g n seen nodes → ((m : Node) → IsIn m nodes → IsSome (seen m)) → IsCarried g texts n seen more nodes
+pub full_needs_stay : (g : Graph) (texts : SourceLookup) (n : Node) (seen more : Results) (nodes : List Node) → Grows seen more → Needs g n seen nodes → ((m : Node) → IsIn m nodes → IsSome (seen m)) → IsCarried g texts n seen more nodes
 full_needs_stay g texts n seen more nodes grows listed known = carry g texts n seen more nodes listed (full_agree seen more nodes grows known)

@@ -18,7 +18,7 @@ use Rattle.meaning_tasks.specs.Reached.{AreReached, reached_names, lines_among, 
 use Rattle.meaning_tasks.specs.Tasks.{Task, given, picked, mapped, packed, tooled, unfit, ToolTask, PackPart, Led, fine_unless, led_missing, task_of}
 use Rattle.meaning_tasks.specs.Needs.{Results, Known, values_of, AgreeOn, has_value, where_valued, elements_of, element_in, picked_element, with_elements, extra_needs, scan_needs, tool_needs, part_nodes, counted_needs, reached_needs, needs_of, lines_in, lines_by, own_lines, other_lines, ReachedNames, Needs}
 use Rattle.meaning_tasks.specs.Calls.{text_in, simple_part, value_parts, node_parts, extra_parts, reached_part, call_parts, tool_call, all_valued, call_of}
-use Rattle.meaning_tasks.specs.Settle.{Texts, element_own, pick_own, picked_own, mapped_own, named_body, part_body, packed_own, outcome_own, own_of}
+use Rattle.meaning_tasks.specs.Settle.{SourceLookup, element_own, pick_own, picked_own, mapped_own, named_body, part_body, packed_own, outcome_own, own_of}
 use Rattle.meaning_tasks.specs.Laws.{IsSameUnder}
 use Rattle.meaning_tasks.proofs.Reached.{reached_moved, among_reached, one_list}
 use Rattle.meaning_tasks.proofs.Valued.{IsValued, in_where, where_same}
@@ -225,7 +225,7 @@ module _ (known other : Known) where
       (same_flat (part_body known) (part_body other) parts (λ p i. same_part_body p (λ n h. a n (in_flat (λ (l : Led). option_to_list l.node) p.led n (map (λ q. q.led) parts) (in_map (λ (q : PackPart). q.led) p parts i) h))))
 
   -- What the node itself gives is the same under what agrees on the needs.
-  pub own_local : (label : Text) (texts : Texts) (t : Task) (names : List Text) (o : Option Outcome) → AgreeOn known other (needs_of t known names) → own_of label texts t known o ≡ own_of label texts t other o
+  pub own_local : (label : Text) (texts : SourceLookup) (t : Task) (names : List Text) (o : Option Outcome) → AgreeOn known other (needs_of t known names) → own_of label texts t known o ≡ own_of label texts t other o
   own_local label texts (given name) names o a = refl
   own_local label texts (picked base key) names o a = same_picked label key (known base) (λ n h. a n (subst (λ l. IsIn n l) (sym (picked_needs_are base key known names)) (inr h))) ∙ ap (picked_own label other key) (a base (inl refl))
   own_local label texts (mapped base f) names o a = ap (mapped_own f) (a base (inl refl))
@@ -247,7 +247,7 @@ local g n seen other names r a = record {
     counted_same : counted_needs (task_of g n) (values_of seen) names ≡ counted_needs (task_of g n) (values_of other) names
     counted_same = counted_local (values_of seen) (values_of other) (task_of g n) names a
 
-    own_same : (texts : Texts) (o : Option Outcome) → own_of (label_of g n) texts (task_of g n) (values_of seen) o ≡ own_of (label_of g n) texts (task_of g n) (values_of other) o
+    own_same : (texts : SourceLookup) (o : Option Outcome) → own_of (label_of g n) texts (task_of g n) (values_of seen) o ≡ own_of (label_of g n) texts (task_of g n) (values_of other) o
     own_same texts o = own_local (values_of seen) (values_of other) (label_of g n) texts (task_of g n) names o a
 
     valued_same : all_valued (values_of seen) (counted_needs (task_of g n) (values_of seen) names) ≡ all_valued (values_of other) (counted_needs (task_of g n) (values_of other) names)

@@ -14,18 +14,18 @@ use Rattle.object_values.specs.declared.graph.Kind.TheVariants.{Compound as Comp
 use Rattle.object_values.specs.declared.graph.Extra.TheVariants.{Also, With}
 use Rattle.object_values.specs.declared.graph.Make.TheVariants.{Pack}
 use Rattle.meaning_graph.specs.Graphs.{Text, Graph}
-use Rattle.meaning_graph.specs.Samples.{two_ways, c_units, kits, simple, declared, part, maker, tool_with}
+use Rattle.meaning_graph.specs.Samples.{two_ways, c_units, kits, simple, declared, ex_part_decl, maker, tool_with}
 use Rattle.meaning_nodes.specs.Labels.{abort_message}
 use Rattle.meaning_nodes.specs.Samples.{at_steps, parameter}
 use Rattle.meaning_tasks.specs.Tasks.{Own, fine, aborted, Led, read_own, each_own, extra_led, task_of}
 use Rattle.meaning_tasks.specs.Settle.{picked_own, stepped_own}
 use Rattle.meaning_tasks.specs.Calls.{value_parts}
-use Rattle.meaning_tasks.specs.Samples.{Entry, known_of, simple_entry, listed_entry, aborted_entry, need_texts, counted_texts, reached_texts, call_in, parts_of_call, call_part, Result, results_of, simple_view, aborted_view, view_over}
+use Rattle.meaning_tasks.specs.Samples.{ValueByText, known_of, simple_entry, listed_entry, aborted_entry, need_texts, counted_texts, reached_texts, ex_call_in, parts_of_call, call_part, Result, ex_results_of, simple_view, aborted_view, view_over}
 
 -- ---- the nodes
 
-abbrev pub source_of : Text → Node
-source_of name = at_steps name []
+abbrev pub ex_source_node : Text → Node
+ex_source_node name = at_steps name []
 
 -- NAME:o over c-units and kits
 abbrev pub object_of : Text → Node
@@ -38,12 +38,12 @@ units = at_steps (codes "m.sm") (Maker 2 ∷ [])
 abbrev pub objects : Node
 objects = at_steps (codes "m.sm") (Maker 2 ∷ Maker 3 ∷ [])
 
-abbrev pub program : Node
-program = at_steps (codes "m.sm") (Maker 2 ∷ Maker 3 ∷ Maker 4 ∷ [])
+abbrev pub ex_program_node : Node
+ex_program_node = at_steps (codes "m.sm") (Maker 2 ∷ Maker 3 ∷ Maker 4 ∷ [])
 
 -- m.sm:kit and a.c:txt over kits
-abbrev pub kit : Node
-kit = at_steps (codes "m.sm") (Maker 5 ∷ [])
+abbrev pub ex_kit : Node
+ex_kit = at_steps (codes "m.sm") (Maker 5 ∷ [])
 
 abbrev pub doc : Node
 doc = at_steps (codes "a.c") (Maker 6 ∷ [])
@@ -59,7 +59,7 @@ debug_at value = record { param = codes "debug"; value = value }
 
 -- one reference, to a.c with these parameters
 abbrev pub one_unit : List ParamValue → Own
-one_unit params = fine (Listed (with_params params (source_of (codes "a.c")) ∷ []))
+one_unit params = fine (Listed (with_params params (ex_source_node (codes "a.c")) ∷ []))
 
 -- what the reference list of a node of units reads as
 abbrev pub read_as : Node → Text → Own
@@ -71,7 +71,7 @@ fault_of_units text = abort_message (codes "m.sm:units") text
 -- the lines of a reference list, each a reference or a message
 pub record References : Type 0 where
   pub each_line : read_as units (codes "a.c\nb.c\n")
-      ≡ fine (Listed (source_of (codes "a.c") ∷ source_of (codes "b.c") ∷ []))
+      ≡ fine (Listed (ex_source_node (codes "a.c") ∷ ex_source_node (codes "b.c") ∷ []))
   pub bad : read_as units (codes "a.c\n?\n")
       ≡ aborted (fault_of_units (codes "line 2: bad reference") ∷ [])
   pub others : read_as units (codes "a.c+opt\n#\na.c:zz\nm.sm")
@@ -94,9 +94,9 @@ led_to_objects elements = each_own c_units objects (codes "o") (Listed elements)
 
 -- each reference is led on by the chosen path from its own type
 pub record Onward : Type 0 where
-  pub further : led_to_objects (source_of (codes "a.c") ∷ source_of (codes "b.c") ∷ [])
+  pub further : led_to_objects (ex_source_node (codes "a.c") ∷ ex_source_node (codes "b.c") ∷ [])
       ≡ fine (Listed (object_of (codes "a.c") ∷ object_of (codes "b.c") ∷ []))
-  pub no_way : led_to_objects (source_of (codes "m.sm") ∷ [])
+  pub no_way : led_to_objects (ex_source_node (codes "m.sm") ∷ [])
       ≡ aborted (abort_message (codes "m.sm:units:objs") (codes "no path o") ∷ [])
 
 -- ---- picks
@@ -113,7 +113,7 @@ pub record PickPastTheEnd : Type 0 where
 -- ---- closures
 
 -- an include loop
-abbrev pub loop : List Entry
+abbrev pub loop : List ValueByText
 loop =
     simple_entry (codes "a.c") (codes "include a.h\n")
     ∷ simple_entry (codes "a.c:inc") (codes "a.h\n")
@@ -123,7 +123,7 @@ loop =
     ∷ simple_entry (codes "b.h:inc") (codes "a.h\n") ∷ []
 
 -- headers that include one another, one behind the other
-abbrev pub chain : List Entry
+abbrev pub chain : List ValueByText
 chain =
     simple_entry (codes "a.c") (codes "include a.h\n")
     ∷ simple_entry (codes "a.c:inc") (codes "a.h\n")
@@ -134,13 +134,13 @@ chain =
     ∷ simple_entry (codes "c.h") [] ∷ simple_entry (codes "c.h:inc") [] ∷ []
 
 -- a header that isn't there
-abbrev pub absent : List Entry
+abbrev pub absent : List ValueByText
 absent =
     simple_entry (codes "a.c") (codes "include x.h\n")
     ∷ simple_entry (codes "a.c:inc") (codes "x.h\n") ∷ aborted_entry (codes "x.h") ∷ []
 
 -- a header that includes the source again
-abbrev pub source_again : List Entry
+abbrev pub source_again : List ValueByText
 source_again =
     simple_entry (codes "a.c") (codes "include a.h\n")
     ∷ simple_entry (codes "a.c:inc") (codes "a.h\n")
@@ -148,13 +148,13 @@ source_again =
     ∷ simple_entry (codes "a.h:inc") (codes "a.c\n") ∷ []
 
 -- a header at `Abort`, with lines that don't count
-abbrev pub aborted_header : List Entry
+abbrev pub aborted_header : List ValueByText
 aborted_header =
     simple_entry (codes "a.c") (codes "include a.h\n")
     ∷ simple_entry (codes "a.c:inc") (codes "a.h\n")
     ∷ aborted_entry (codes "a.h") ∷ simple_entry (codes "a.h:inc") (codes "b.h\n") ∷ []
 
-abbrev pub object_needs : List Text → List Entry → List Text
+abbrev pub object_needs : List Text → List ValueByText → List Text
 object_needs listed entries = need_texts c_units listed entries (object_of (codes "a.c"))
 
 -- the scan nodes by name, that of the own source first, and then the reached sources: an include
@@ -178,22 +178,22 @@ pub record Closures : Type 0 where
 pub record FirstNeeds : Type 0 where
   pub base_alone : object_needs [] [] ≡ codes "a.c" ∷ []
   pub base_aborted : object_needs [] (aborted_entry (codes "a.c") ∷ []) ≡ codes "a.c" ∷ []
-  pub packed : need_texts kits [] [] kit ≡ codes "m.sm:units:objs:exe" ∷ codes "m.sm" ∷ []
+  pub packed : need_texts kits [] [] ex_kit ≡ codes "m.sm:units:objs:exe" ∷ codes "m.sm" ∷ []
   -- the elements of a list follow it
   pub listed : need_texts c_units []
       (listed_entry (codes "m.sm:units:objs") (object_of (codes "a.c") ∷ object_of (codes "b.c")
-      ∷ []) ∷ []) program
+      ∷ []) ∷ []) ex_program_node
       ≡ codes "m.sm:units:objs" ∷ codes "a.c:o" ∷ codes "b.c:o" ∷ []
 
 -- ---- calls
 
 -- a.c+debug+opt:o
-abbrev pub debugged : Node
-debugged =
+abbrev pub ex_debug_object : Node
+ex_debug_object =
     with_params (parameter (codes "debug") ∷ parameter (codes "opt") ∷ []) (object_of (codes "a.c"))
 
 -- what it needs: the scan nodes have its parameters, the reached sources have none
-abbrev pub debugged_needs : List Entry
+abbrev pub debugged_needs : List ValueByText
 debugged_needs =
     simple_entry (codes "a.c+debug+opt") (codes "include a.h\n")
     ∷ simple_entry (codes "a.c+debug+opt:inc") (codes "a.h\n")
@@ -216,7 +216,7 @@ debugged_call = record {
 }
 
 pub record WholeCall : Type 0 where
-  pub call : call_in c_units (codes "a.h" ∷ codes "a.c" ∷ []) debugged_needs debugged
+  pub call : ex_call_in c_units (codes "a.h" ∷ codes "a.c" ∷ []) debugged_needs ex_debug_object
       ≡ Some debugged_call
 
 -- kits and a tool with extras and a closure
@@ -227,7 +227,7 @@ with_both =
     (Also (codes "o") ∷ With (codes "lic.h") ∷ []) (Some (codes "inc"))
     ∷ []
 
-abbrev pub both_needs : List Entry
+abbrev pub both_needs : List ValueByText
 both_needs =
     simple_entry (codes "a.c") (codes "x=1\n") ∷ simple_entry (codes "a.c:o") (codes "x=2\n")
     ∷ simple_entry (codes "lic.h") (codes "L\n")
@@ -235,8 +235,8 @@ both_needs =
     ∷ simple_entry (codes "a.h:inc") [] ∷ []
 
 -- m.sm:units:objs with two elements
-abbrev pub two_objects : Entry
-two_objects =
+abbrev pub ex_two_objects : ValueByText
+ex_two_objects =
     listed_entry (codes "m.sm:units:objs") (object_of (codes "a.c") ∷ object_of (codes "b.c") ∷ [])
 
 -- slot 0 is the base, the extras follow one by one, and the reached sources stand behind them
@@ -254,13 +254,13 @@ pub record Slots : Type 0 where
       ∷ [])
   -- each element of the base by its own label
   pub elements : parts_of_call c_units []
-      (two_objects ∷ simple_entry (codes "a.c:o") (codes "x=1\n")
-      ∷ simple_entry (codes "b.c:o") (codes "y=2\n") ∷ []) program
+      (ex_two_objects ∷ simple_entry (codes "a.c:o") (codes "x=1\n")
+      ∷ simple_entry (codes "b.c:o") (codes "y=2\n") ∷ []) ex_program_node
       ≡ Some
       (call_part 0 (codes "a.c:o") (Some (codes "x=1\n"))
       ∷ call_part 0 (codes "b.c:o") (Some (codes "y=2\n")) ∷ [])
   -- each part of a compound by its name behind the label
-  pub compound : value_parts kits (known_of kits []) 1 kit
+  pub compound : value_parts kits (known_of kits []) 1 ex_kit
       (Some (Some (Compound (record { name = codes "prog"; body = codes "x=1\n" } ∷ []))))
       ≡ call_part 1 (codes "m.sm:kit%prog") (Some (codes "x=1\n")) ∷ []
 
@@ -289,10 +289,10 @@ pub record NotRun : Type 0 where
 
 -- ---- roles
 
-abbrev pub counted_of : List Text → List Entry → List Text
+abbrev pub counted_of : List Text → List ValueByText → List Text
 counted_of listed entries = counted_texts c_units listed entries (object_of (codes "a.c"))
 
-abbrev pub reached_of : List Text → List Entry → List Text
+abbrev pub reached_of : List Text → List ValueByText → List Text
 reached_of listed entries = reached_texts c_units listed entries (object_of (codes "a.c"))
 
 -- A reached source is a need that isn't counted. The own source can be the base and a reached one.
@@ -305,9 +305,9 @@ pub record Roles : Type 0 where
   pub source_reached : reached_of (codes "a.c" ∷ codes "a.h" ∷ []) source_again
       ≡ codes "a.c" ∷ codes "a.h" ∷ []
   -- of a pack each need is counted
-  pub pack_counted : counted_texts kits [] [] kit
+  pub pack_counted : counted_texts kits [] [] ex_kit
       ≡ codes "m.sm:units:objs:exe" ∷ codes "m.sm" ∷ []
-  pub pack_reached : reached_texts kits [] [] kit ≡ []
+  pub pack_reached : reached_texts kits [] [] ex_kit ≡ []
 
 abbrev pub absent_message : Message
 absent_message = abort_message (codes "x.h") (codes "no source x.h")
@@ -327,16 +327,16 @@ scan_results =
     ∷ (codes "a.c:inc", aborted_view (scan_message ∷ [])) ∷ []
 
 -- the outcome with this output and no messages
-abbrev pub one_output : Text → Outcome
-one_output body =
+abbrev pub ex_one_output : Text → Outcome
+ex_one_output body =
     record { status = Ok; lines = []; outputs = record { name = codes "o"; body = body } ∷ [] }
 
 -- A header that is absent leaves a.c:o at `Ok` and without messages. A scan at `Abort` doesn't.
 pub record ReachedAddNothing : Type 0 where
-  pub absent : view_over c_units (codes "a.c" ∷ []) (results_of c_units absent_results)
-      (Some (one_output (codes "x=1\n"))) (object_of (codes "a.c"))
+  pub absent : view_over c_units (codes "a.c" ∷ []) (ex_results_of c_units absent_results)
+      (Some (ex_one_output (codes "x=1\n"))) (object_of (codes "a.c"))
       ≡ simple_view (codes "x=1\n")
-  pub scan_aborted : view_over c_units (codes "a.c" ∷ []) (results_of c_units scan_results) None
+  pub scan_aborted : view_over c_units (codes "a.c" ∷ []) (ex_results_of c_units scan_results) None
       (object_of (codes "a.c"))
       ≡ aborted_view (scan_message ∷ [])
 
@@ -356,7 +356,7 @@ pub record Extras : Type 0 where
   pub also : extra_led kits (with_params debug doc) (Also (codes "o"))
       ≡ led (with_params debug (object_of (codes "a.c")))
   pub named : extra_led kits (with_params debug doc) (With (codes "lic.h"))
-      ≡ led (source_of (codes "lic.h"))
+      ≡ led (ex_source_node (codes "lic.h"))
   pub no_way : extra_led with_far_extra (at_steps (codes "z.a") (Maker 4 ∷ [])) (Also (codes "far"))
       ≡ not_led (abort_message (codes "z.a:d") (codes "no path far"))
   pub needs : need_texts kits [] (simple_entry (codes "a.c+debug") [] ∷ []) (with_params debug doc)
@@ -367,13 +367,13 @@ abbrev pub with_far_part : Graph
 with_far_part =
     c_units
     ++ declared (codes "kit")
-    (CompoundKind (part (codes "prog") (codes "exe") ∷ part (codes "head") (codes "hdr") ∷ [])) []
+    (CompoundKind (ex_part_decl (codes "prog") (codes "exe") ∷ ex_part_decl (codes "head") (codes "hdr") ∷ [])) []
     ∷ maker (codes "pk") Pack (codes "sm") (codes "kit") ∷ []
 
 -- what a pack itself gives, where its program is there
 abbrev pub pack_own : Graph → Own
 pack_own g =
-    stepped_own (codes "m.sm:kit") (task_of g kit)
+    stepped_own (codes "m.sm:kit") (task_of g ex_kit)
     (known_of g
     (simple_entry (codes "m.sm:units:objs:exe") (codes "x=1\n")
     ∷ simple_entry (codes "m.sm") (codes "a.c\n") ∷ []))
@@ -387,4 +387,4 @@ pub record Packs : Type 0 where
       ∷ record { name = codes "src"; body = codes "a.c\n" } ∷ []))
   pub part_missing : pack_own with_far_part
       ≡ aborted (abort_message (codes "m.sm:kit") (codes "no path hdr") ∷ [])
-  pub others_needed : need_texts with_far_part [] [] kit ≡ codes "m.sm:units:objs:exe" ∷ []
+  pub others_needed : need_texts with_far_part [] [] ex_kit ≡ codes "m.sm:units:objs:exe" ∷ []

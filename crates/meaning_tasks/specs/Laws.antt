@@ -11,7 +11,7 @@ use Rattle.meaning_tasks.specs.Reached.{AreReached, reached_names}
 use Rattle.meaning_tasks.specs.Tasks.{Own, Task, task_of}
 use Rattle.meaning_tasks.specs.Needs.{Results, Known, values_of, AgreeOn, Grows, needs_of, counted_needs, reached_needs, Needs, ReachedNames}
 use Rattle.meaning_tasks.specs.Calls.{call_of, CallOf}
-use Rattle.meaning_tasks.specs.Settle.{Texts, own_of, settle, Settles, SettlesWith}
+use Rattle.meaning_tasks.specs.Settle.{SourceLookup, own_of, settle, Settles, SettlesWith}
 use Rattle.meaning_tasks.specs.Maps.{HasOnly}
 
 -- The computed names are the reached ones, where the listed names alone have lines.
@@ -49,10 +49,10 @@ pub record IsSameUnder (g : Graph) (n : Node) (seen other : Results)
       ≡ counted_needs (task_of g n) (values_of other) names
   pub call : call_of g (task_of g n) (values_of seen) names
       ≡ call_of g (task_of g n) (values_of other) names
-  pub own : (texts : Texts) (outcome : Option Outcome)
+  pub own : (texts : SourceLookup) (outcome : Option Outcome)
       → own_of (label_of g n) texts (task_of g n) (values_of seen) outcome
       ≡ own_of (label_of g n) texts (task_of g n) (values_of other) outcome
-  pub value : (texts : Texts) (outcome : Option Outcome)
+  pub value : (texts : SourceLookup) (outcome : Option Outcome)
       → (settle g texts n seen outcome names).value ≡ (settle g texts n other outcome names).value
 
 -- What agrees on the values of the needs agrees on all that follows from them.
@@ -73,7 +73,7 @@ abbrev pub SettlesOverAnySources : Type 0
 SettlesOverAnySources =
     (g : Graph) (n : Node) (seen : Results) (outcome : Option Outcome) (own : Own) (view : View)
     (sources : ℕ) → (n.steps ≡ [] → ⊥) → SettlesWith g n seen outcome own view sources
-    → (texts : Texts) → Settles g texts n seen outcome view
+    → (texts : SourceLookup) → Settles g texts n seen outcome view
 
 -- ---- roles
 
@@ -90,7 +90,7 @@ abbrev pub AgreeAt : Results → Results → List Node → Type 0
 AgreeAt seen other nodes = (m : Node) → IsIn m nodes → seen m ≡ other m
 
 -- Needs, call and settled view are the same under the other map.
-pub record IsCarried (g : Graph) (texts : Texts) (n : Node) (seen other : Results)
+pub record IsCarried (g : Graph) (texts : SourceLookup) (n : Node) (seen other : Results)
     (nodes : List Node) : Type 0 where
   pub needs : Needs g n other nodes
   pub call : (call : Option Call) → CallOf g n seen call → CallOf g n other call
@@ -100,13 +100,13 @@ pub record IsCarried (g : Graph) (texts : Texts) (n : Node) (seen other : Result
 -- They are so under each map that has the same results of the needs.
 abbrev pub NeedsCarry : Type 0
 NeedsCarry =
-    (g : Graph) (texts : Texts) (n : Node) (seen other : Results) (needs : List Node)
+    (g : Graph) (texts : SourceLookup) (n : Node) (seen other : Results) (needs : List Node)
     → Needs g n seen needs → AgreeAt seen other needs → IsCarried g texts n seen other needs
 
 -- Needs that all have results stay the needs under more results, and with them call and view.
 abbrev pub FullNeedsStay : Type 0
 FullNeedsStay =
-    (g : Graph) (texts : Texts) (n : Node) (seen more : Results) (needs : List Node)
+    (g : Graph) (texts : SourceLookup) (n : Node) (seen more : Results) (needs : List Node)
     → Grows seen more → Needs g n seen needs → ((m : Node) → IsIn m needs → IsSome (seen m))
     → IsCarried g texts n seen more needs
 

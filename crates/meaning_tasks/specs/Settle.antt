@@ -18,8 +18,8 @@ use Rattle.meaning_tasks.specs.Needs.{Results, Known, values_of, where_valued, c
 use Rattle.meaning_tasks.specs.Calls.{text_in, all_valued}
 
 -- the texts of the sources
-abbrev pub Texts : Type 0
-Texts = Text → Option Text
+abbrev pub SourceLookup : Type 0
+SourceLookup = Text → Option Text
 
 -- ---- what a node itself gives
 
@@ -93,7 +93,7 @@ stepped_own label (tooled t) known outcome =
 stepped_own label other known outcome = aborted []
 
 -- the same of every node: a source gives its text
-abbrev pub own_of : Text → Texts → Task → Known → Option Outcome → Own
+abbrev pub own_of : Text → SourceLookup → Task → Known → Option Outcome → Own
 own_of label texts (given name) known outcome = given_own label name (texts name)
 own_of label texts task known outcome = stepped_own label task known outcome
 
@@ -125,13 +125,13 @@ settled seen own counted = record {
 }
 
 -- the view of a node, given the reached names
-abbrev pub settle : Graph → Texts → Node → Results → Option Outcome → List Text → View
+abbrev pub settle : Graph → SourceLookup → Node → Results → Option Outcome → List Text → View
 settle g texts n seen outcome names =
     settled seen (own_of (label_of g n) texts (task_of g n) (values_of seen) outcome)
     (counted_needs (task_of g n) (values_of seen) names)
 
 -- A node settles to the view under the results, with the outcome of its call.
-pub record Settles (g : Graph) (texts : Texts) (n : Node) (seen : Results)
+pub record Settles (g : Graph) (texts : SourceLookup) (n : Node) (seen : Results)
     (outcome : Option Outcome) (view : View) : Type 0 where
   pub names : List Text
   pub reached : ReachedNames g n seen names

@@ -10,7 +10,7 @@ use Rattle.object_values.specs.declared.expressions.ExprStep.{ExprStep}
 use Rattle.object_values.specs.declared.expressions.ExprStep.TheVariants.{To, Pick}
 use Rattle.object_values.specs.declared.expressions.Expression.{Expression}
 use Rattle.meaning_texts.specs.Lists.{once}
-use Rattle.meaning_texts.specs.Expressions.{Items, no_more, space, param_value, param_alone, type_step, pick_step, ExpressionText, AreKeptAs, values_of, IsStepOfClass, IsParamOfClass, IsCanonical}
+use Rattle.meaning_texts.specs.Expressions.{Items, no_more, space, param_value, param_alone, type_step, pick_step, ExpressionText, AreKeptAs, values_of_param, IsStepOfClass, IsParamOfClass, IsCanonical}
 use Rattle.meaning_texts.specs.Reading.{same_param, sorted, put_sorted, kept_params}
 use Rattle.meaning_texts.proofs.Params.{one_kept, before}
 
@@ -65,7 +65,7 @@ once_twice [] = refl
 once_twice (x ∷ xs) = ap (λ t. x ∷ t) (ap (filter (is_other x)) (once_filter (is_other x) (once bytes_eq xs)) ∙ filter_twice (is_other x) (once bytes_eq (once bytes_eq xs)) ∙ ap (filter (is_other x)) (once_twice xs))
 
 kept_again : (written kept : List ParamValue) → AreKeptAs written kept → AreKeptAs kept kept
-kept_again written kept k = record { sorted = k.sorted; values = λ name. k.values name ∙ sym (once_twice (values_of name written)) ∙ ap (once bytes_eq) (sym (k.values name)) }
+kept_again written kept k = record { sorted = k.sorted; values = λ name. k.values name ∙ sym (once_twice (values_of_param name written)) ∙ ap (once bytes_eq) (sym (k.values name)) }
 
 -- ---- classes
 

@@ -10,7 +10,7 @@ use Rattle.std.proofs.lemmas.Slice.Eq.{bytes_eq-Decides}
 use Rattle.std.proofs.lemmas.List.Sorted.{sorted_far, ranks_by}
 use Rattle.object_values.specs.declared.nodes.ParamValue.{ParamValue}
 use Rattle.meaning_texts.specs.Lists.{once}
-use Rattle.meaning_texts.specs.Expressions.{name_cmp, values_of, AreKeptAs}
+use Rattle.meaning_texts.specs.Expressions.{name_cmp, values_of_param, AreKeptAs}
 use Rattle.meaning_texts.specs.Reading.{same_param, sorted, put_sorted, kept_params}
 
 abbrev pub before : ParamValue → ParamValue → Bool
@@ -86,12 +86,12 @@ sorted_up (p ∷ ps) = put_sorted_up p (sorted ps) (sorted_up ps)
 
 -- ---- the values of a name
 
-values_put : (name : List ℕ) (p : ParamValue) (qs : List ParamValue) → values_of name (put_sorted p qs) ≡ values_of name (p ∷ qs)
+values_put : (name : List ℕ) (p : ParamValue) (qs : List ParamValue) → values_of_param name (put_sorted p qs) ≡ values_of_param name (p ∷ qs)
 values_put name p [] = refl
 values_put name p (q ∷ qs) = elim (cases_Bool (before q p)) [
   | inl e ↦ rw e (elim (cases_Bool (bytes_eq q.param name)) [
     | inl n ↦ let other : bytes_eq p.param name ≡ false = rw (← same_name q.param name n) (other_back q.param p.param (less_is_other q.param p.param e)) in
-        let inner : values_of name (put_sorted p qs) ≡ values_of name qs = values_put name p qs ∙ (rw other refl) in
+        let inner : values_of_param name (put_sorted p qs) ≡ values_of_param name qs = values_put name p qs ∙ (rw other refl) in
         rw (n, other) (ap (λ t. q.value ∷ t) inner)
     | inr n ↦ rw n (values_put name p qs)
   ])
@@ -112,7 +112,7 @@ other_values v vs = filter (λ y. not (bytes_eq y v)) vs
 names_same : (x : List ℕ) → bytes_eq x x ≡ true
 names_same x = (bytes_eq-Decides x x).1 refl
 
-values_others : (p : ParamValue) (qs : List ParamValue) → values_of p.param (others p qs) ≡ other_values p.value (values_of p.param qs)
+values_others : (p : ParamValue) (qs : List ParamValue) → values_of_param p.param (others p qs) ≡ other_values p.value (values_of_param p.param qs)
 values_others p [] = refl
 values_others p (q ∷ qs) = elim (cases_Bool (bytes_eq q.param p.param)) [
   | inl n ↦ elim (cases_Bool (bytes_eq q.value p.value)) [
@@ -122,7 +122,7 @@ values_others p (q ∷ qs) = elim (cases_Bool (bytes_eq q.param p.param)) [
   | inr n ↦ rw (n, n) (values_others p qs)
 ]
 
-values_of_others : (name : List ℕ) (p : ParamValue) (qs : List ParamValue) → bytes_eq p.param name ≡ false → values_of name (others p qs) ≡ values_of name qs
+values_of_others : (name : List ℕ) (p : ParamValue) (qs : List ParamValue) → bytes_eq p.param name ≡ false → values_of_param name (others p qs) ≡ values_of_param name qs
 values_of_others name p [] other = refl
 values_of_others name p (q ∷ qs) other = elim (cases_Bool (bytes_eq q.param p.param)) [
   | inl n ↦ let s : bytes_eq q.param name ≡ false = rw (same_name q.param p.param n) other in
@@ -136,23 +136,23 @@ values_of_others name p (q ∷ qs) other = elim (cases_Bool (bytes_eq q.param p.
   ]
 ]
 
-values_single : (name : List ℕ) (ps : List ParamValue) → values_of name (once same_param ps) ≡ once bytes_eq (values_of name ps)
+values_single : (name : List ℕ) (ps : List ParamValue) → values_of_param name (once same_param ps) ≡ once bytes_eq (values_of_param name ps)
 values_single name [] = refl
 values_single name (p ∷ ps) = elim (cases_Bool (bytes_eq p.param name)) [
   | inl n ↦ let s : p.param ≡ name = same_name p.param name n in
-      let inner : values_of name (others p (once same_param ps)) ≡ other_values p.value (once bytes_eq (values_of name ps)) = rw (← s) (values_others p (once same_param ps) ∙ ap (other_values p.value) (values_single p.param ps)) in
+      let inner : values_of_param name (others p (once same_param ps)) ≡ other_values p.value (once bytes_eq (values_of_param name ps)) = rw (← s) (values_others p (once same_param ps) ∙ ap (other_values p.value) (values_single p.param ps)) in
       rw n (ap (λ t. p.value ∷ t) inner)
   | inr n ↦ rw n (values_of_others name p (once same_param ps) n ∙ values_single name ps)
 ]
 
 -- one parameter more in front of lists with the same values
-values_more : (name : List ℕ) (p : ParamValue) (xs ys : List ParamValue) → values_of name xs ≡ values_of name ys → values_of name (p ∷ xs) ≡ values_of name (p ∷ ys)
+values_more : (name : List ℕ) (p : ParamValue) (xs ys : List ParamValue) → values_of_param name xs ≡ values_of_param name ys → values_of_param name (p ∷ xs) ≡ values_of_param name (p ∷ ys)
 values_more name p xs ys e = elim (cases_Bool (bytes_eq p.param name)) [
   | inl n ↦ rw n (ap (λ t. p.value ∷ t) e)
   | inr n ↦ rw n e
 ]
 
-values_sorted : (name : List ℕ) (ps : List ParamValue) → values_of name (sorted ps) ≡ values_of name ps
+values_sorted : (name : List ℕ) (ps : List ParamValue) → values_of_param name (sorted ps) ≡ values_of_param name ps
 values_sorted name [] = refl
 values_sorted name (p ∷ ps) = values_put name p (sorted ps) ∙ values_more name p (sorted ps) ps (values_sorted name ps)
 
@@ -164,12 +164,12 @@ kept_are_kept written = record { sorted = sorted_up (once same_param written); v
 -- ---- one list alone
 
 -- no value of a name that no parameter has
-values_none : (name : List ℕ) (qs : List ParamValue) → ((j : ℕ) (d : ParamValue) → j < length qs → bytes_eq (get_or qs j d).param name ≡ false) → values_of name qs ≡ []
+values_none : (name : List ℕ) (qs : List ParamValue) → ((j : ℕ) (d : ParamValue) → j < length qs → bytes_eq (get_or qs j d).param name ≡ false) → values_of_param name qs ≡ []
 values_none name [] none = refl
 values_none name (q ∷ qs) none = rw (none 0 q (omega arith)) (values_none name qs (λ j d low. none (suc j) d (omega arith)))
 
 -- where the first name of a list is less than that of another, the other has no value of it
-values_below : (x y : ParamValue) (ys : List ParamValue) → IsSortedBy before (y ∷ ys) → before x y ≡ true → values_of x.param (y ∷ ys) ≡ []
+values_below : (x y : ParamValue) (ys : List ParamValue) → IsSortedBy before (y ∷ ys) → before x y ≡ true → values_of_param x.param (y ∷ ys) ≡ []
 values_below x y ys up less = values_none x.param (y ∷ ys) (λ j d low. go j d low)
   where
     go : (j : ℕ) (d : ParamValue) → j < length (y ∷ ys) → bytes_eq (get_or (y ∷ ys) j d).param x.param ≡ false
@@ -179,27 +179,27 @@ values_below x y ys up less = values_none x.param (y ∷ ys) (λ j d low. go j d
       | inr e ↦ e
     ]
 
-values_first : (x : ParamValue) (xs : List ParamValue) → values_of x.param (x ∷ xs) ≡ x.value ∷ values_of x.param xs
+values_first : (x : ParamValue) (xs : List ParamValue) → values_of_param x.param (x ∷ xs) ≡ x.value ∷ values_of_param x.param xs
 values_first x xs = rw (names_same x.param) refl
 
 -- the name of the first parameter has a value
-first_has_value : (x : ParamValue) (xs : List ParamValue) → values_of x.param (x ∷ xs) ≡ [] → ⊥
-first_has_value x xs e = let f : x.value ∷ values_of x.param xs ≡ [] = sym (values_first x xs) ∙ e in cc
+first_has_value : (x : ParamValue) (xs : List ParamValue) → values_of_param x.param (x ∷ xs) ≡ [] → ⊥
+first_has_value x xs e = let f : x.value ∷ values_of_param x.param xs ≡ [] = sym (values_first x xs) ∙ e in cc
 
 -- what stands behind two first parameters of one name, where the values of each name agree
-values_behind : (x y : ParamValue) (xs ys : List ParamValue) → x.param ≡ y.param → ((name : List ℕ) → values_of name (x ∷ xs) ≡ values_of name (y ∷ ys)) → (x.value ≡ y.value) × ((name : List ℕ) → values_of name xs ≡ values_of name ys)
+values_behind : (x y : ParamValue) (xs ys : List ParamValue) → x.param ≡ y.param → ((name : List ℕ) → values_of_param name (x ∷ xs) ≡ values_of_param name (y ∷ ys)) → (x.value ≡ y.value) × ((name : List ℕ) → values_of_param name xs ≡ values_of_param name ys)
 values_behind x y xs ys n same =
     let g : bytes_eq y.param x.param ≡ true = rw n (names_same y.param) in
-    let first : values_of x.param (y ∷ ys) ≡ y.value ∷ values_of x.param ys = rw g refl in
-    let whole : x.value ∷ values_of x.param xs ≡ y.value ∷ values_of x.param ys = sym (values_first x xs) ∙ same x.param ∙ first in
+    let first : values_of_param x.param (y ∷ ys) ≡ y.value ∷ values_of_param x.param ys = rw g refl in
+    let whole : x.value ∷ values_of_param x.param xs ≡ y.value ∷ values_of_param x.param ys = sym (values_first x xs) ∙ same x.param ∙ first in
     let of : x.value ≡ y.value = cc in
-    let tails : values_of x.param xs ≡ values_of x.param ys = cc in (
+    let tails : values_of_param x.param xs ≡ values_of_param x.param ys = cc in (
       of,
       λ name. elim (cases_Bool (bytes_eq x.param name)) [
         | inl e ↦ rw (← same_name x.param name e) tails
         | inr e ↦ let f : bytes_eq y.param name ≡ false = rw (← n) e in
-            let a : values_of name (x ∷ xs) ≡ values_of name xs = rw e refl in
-            let b : values_of name (y ∷ ys) ≡ values_of name ys = rw f refl in
+            let a : values_of_param name (x ∷ xs) ≡ values_of_param name xs = rw e refl in
+            let b : values_of_param name (y ∷ ys) ≡ values_of_param name ys = rw f refl in
             sym a ∙ same name ∙ b
       ],
     )
@@ -208,14 +208,14 @@ equal_params : (x y : ParamValue) → x.param ≡ y.param → x.value ≡ y.valu
 equal_params x y n v = let e : ◌≡◌ {A = ParamValue} (record { param = x.param; value = x.value }) (record { param = y.param; value = y.value }) = cc in e
 
 -- two sorted lists with the same values for each name have one first parameter
-first_of_both : (x y : ParamValue) (xs ys : List ParamValue) → IsSortedBy before (x ∷ xs) → IsSortedBy before (y ∷ ys) → ((name : List ℕ) → values_of name (x ∷ xs) ≡ values_of name (y ∷ ys)) → (r : Ordering) → name_cmp x.param y.param ≡ r → x.param ≡ y.param
+first_of_both : (x y : ParamValue) (xs ys : List ParamValue) → IsSortedBy before (x ∷ xs) → IsSortedBy before (y ∷ ys) → ((name : List ℕ) → values_of_param name (x ∷ xs) ≡ values_of_param name (y ∷ ys)) → (r : Ordering) → name_cmp x.param y.param ≡ r → x.param ≡ y.param
 first_of_both x y xs ys up down same Less e = absurd (first_has_value x xs (same x.param ∙ values_below x y ys down (rw e refl)))
 first_of_both x y xs ys up down same Equal e = equal_names x.param y.param e
 first_of_both x y xs ys up down same Greater e =
     let back : is_lt (name_cmp y.param x.param) ≡ true = rw (nat_list_cmp_total.antisymm y.param x.param, e) refl in
     absurd (first_has_value y ys (sym (same y.param) ∙ values_below y x xs up back))
 
-one_list : (xs ys : List ParamValue) → IsSortedBy before xs → IsSortedBy before ys → ((name : List ℕ) → values_of name xs ≡ values_of name ys) → xs ≡ ys
+one_list : (xs ys : List ParamValue) → IsSortedBy before xs → IsSortedBy before ys → ((name : List ℕ) → values_of_param name xs ≡ values_of_param name ys) → xs ≡ ys
 one_list [] [] up down same = refl
 one_list [] (y ∷ ys) up down same = absurd (first_has_value y ys (sym (same y.param)))
 one_list (x ∷ xs) [] up down same = absurd (first_has_value x xs (same x.param))

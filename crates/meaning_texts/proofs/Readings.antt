@@ -11,7 +11,7 @@ use Rattle.object_values.specs.declared.expressions.Expression.{Expression}
 use Rattle.meaning_texts.specs.Classes.{is_name_byte, is_key_byte}
 use Rattle.meaning_texts.specs.Limits.{expression_limit}
 use Rattle.meaning_texts.specs.Tests.{is_name, is_id, is_param_value}
-use Rattle.meaning_texts.specs.Expressions.{Items, no_more, space, param_value, param_alone, type_step, pick_step, Written, ExpressionText}
+use Rattle.meaning_texts.specs.Expressions.{Items, no_more, space, param_value, param_alone, type_step, pick_step, SpellsExpression, ExpressionText}
 use Rattle.meaning_texts.specs.Reading.{Piece, PieceCut, cut_at_marks, ItemList, put_param, put_step, name_part, value_part, read_piece, read_pieces, past_spaces, expression_with, read_cut, expression_of, kept_params}
 use Rattle.meaning_texts.specs.Lists.{is_empty}
 use Rattle.meaning_texts.proofs.Words.{word_decides, id_decides, value_decides}
@@ -132,7 +132,7 @@ pub record CutOf (text source : List ℕ) (ps : List ParamValue) (ss : List Expr
   pub is : cut_at_marks (past_spaces text) ≡ record { head = source; pieces = pieces }
   pub items : read_pieces pieces ≡ Some (items_with ps ss)
 
-pub written_cut : (text source : List ℕ) (ps : List ParamValue) (ss : List ExprStep) → Written text source ps ss → CutOf text source ps ss
+pub written_cut : (text source : List ℕ) (ps : List ParamValue) (ss : List ExprStep) → SpellsExpression text source ps ss → CutOf text source ps ss
 written_cut text source ps ss w =
     let n : is_name source ≡ true = (word_decides is_name_byte source).1 w.name in
     let r : ReadsAs w.behind ps ss = items_read w.behind ps ss w.items in
@@ -150,7 +150,7 @@ reads text e t =
     rw (le-leb (length text) expression_limit t.short, c.is, c.name, c.items) (ap (λ x. Some x) (same_expression e (kept_params t.params) (one_kept t.params e.params t.kept)))
 
 -- a text whose pieces read is of the grammar
-pub written_from_cut : (text head : List ℕ) (pieces : List Piece) (items : ItemList) → cut_at_marks (past_spaces text) ≡ record { head = head; pieces = pieces } → is_name head ≡ true → read_pieces pieces ≡ Some items → Written text head items.params items.steps
+pub written_from_cut : (text head : List ℕ) (pieces : List Piece) (items : ItemList) → cut_at_marks (past_spaces text) ≡ record { head = head; pieces = pieces } → is_name head ≡ true → read_pieces pieces ≡ Some items → SpellsExpression text head items.params items.steps
 written_from_cut text head pieces items c n r =
     let whole : past_spaces text ≡ head ++ flat_map piece_text pieces = sym (cut_text (past_spaces text)) ∙ ap (λ (x : PieceCut). x.head ++ flat_map piece_text x.pieces) c in
     record {
@@ -169,6 +169,6 @@ is_read text e t =
     let b = cond_some (is_name c.head) (option_map (expression_with c.head) (read_pieces c.pieces)) e a.1 in
     let m = map_some (expression_with c.head) (read_pieces c.pieces) e b.1 in
     let items : ItemList = m.0 in
-    let w : Written text c.head items.params items.steps = written_from_cut text c.head c.pieces items refl b.0 m.1 in
+    let w : SpellsExpression text c.head items.params items.steps = written_from_cut text c.head c.pieces items refl b.0 m.1 in
     let r : ExpressionText text (expression_with c.head items) = record { params = items.params; written = w; kept = kept_are_kept items.params; short = leb-true _ _ a.0 } in
     subst (ExpressionText text) m.2 r

@@ -15,25 +15,25 @@ use Rattle.meaning_texts.specs.References.{references, scanned_names}
 abbrev pub expression : List ℕ → List ParamValue → List ExprStep → Expression
 expression source params steps = record { source = source; params = params; steps = steps }
 
-abbrev pub bare : List ℕ → Expression
-bare source = expression source [] []
+abbrev pub ex_bare : List ℕ → Expression
+ex_bare source = expression source [] []
 
 abbrev pub param : List ℕ → List ℕ → ParamValue
 param name value = record { param = name; value = value }
 
 -- the text is one of the name `a` with this value of the parameter `b`
-abbrev pub HasValue : List ℕ → List ℕ → Type 0
-HasValue text value = ExpressionText text (expression (codes "a") (param (codes "b") value ∷ []) [])
+abbrev pub HasExampleValue : List ℕ → List ℕ → Type 0
+HasExampleValue text value = ExpressionText text (expression (codes "a") (param (codes "b") value ∷ []) [])
 
 -- `a.c+debug:o`
-abbrev pub debugged : Expression
-debugged = expression (codes "a.c") (param (codes "debug") [] ∷ []) (To (codes "o") ∷ [])
+abbrev pub ex_debug_expression : Expression
+ex_debug_expression = expression (codes "a.c") (param (codes "debug") [] ∷ []) (To (codes "o") ∷ [])
 
 -- ` a.c +debug :o ` is written `a.c+debug:o`, and that reads as the same
 pub record CanonicalSpelling : Type 0 where
-  pub read : ExpressionText (codes " a.c +debug :o ") debugged
-  pub written : spelling debugged ≡ codes "a.c+debug:o"
-  pub again : ExpressionText (codes "a.c+debug:o") debugged
+  pub read : ExpressionText (codes " a.c +debug :o ") ex_debug_expression
+  pub written : spelling ex_debug_expression ≡ codes "a.c+debug:o"
+  pub again : ExpressionText (codes "a.c+debug:o") ex_debug_expression
 
 -- `a+b=2+a+b=1+b=2%1`, as it is kept
 abbrev pub sorted : Expression
@@ -81,28 +81,28 @@ pub record LongWords : Type 0 where
 -- a name, an identifier and a key of 255 bytes, a text of 1,000 bytes, and a key that begins with a
 -- digit
 pub record LongestTexts : Type 0 where
-  pub name : ExpressionText (replicate 255 97) (bare (replicate 255 97))
+  pub name : ExpressionText (replicate 255 97) (ex_bare (replicate 255 97))
   pub id : ExpressionText (codes "a:" ++ replicate 255 97)
       (expression (codes "a") [] (To (replicate 255 97) ∷ []))
   pub key : ExpressionText (codes "a%" ++ replicate 255 49)
       (expression (codes "a") [] (Pick (replicate 255 49) ∷ []))
-  pub text : ExpressionText (97 ∷ replicate 999 32) (bare (codes "a"))
+  pub text : ExpressionText (97 ∷ replicate 999 32) (ex_bare (codes "a"))
   pub digit : ExpressionText (codes "a%1b") (expression (codes "a") [] (Pick (codes "1b") ∷ []))
 
 -- a value is empty or ends at `~`; it may hold `=`, and no byte past `~`
 pub record Values : Type 0 where
-  pub empty : HasValue (codes "a+b=") []
-  pub last : HasValue (codes "a+b=~") (codes "~")
-  pub equals : HasValue (codes "a+b=c=") (codes "c=")
+  pub empty : HasExampleValue (codes "a+b=") []
+  pub last : HasExampleValue (codes "a+b=~") (codes "~")
+  pub equals : HasExampleValue (codes "a+b=c=") (codes "c=")
   pub delete : IsFaultPlace (codes "a+b=" ++ 127 ∷ []) 5
 
 -- The second line is none. A comment and an empty line are counted and passed over, and a CR at the
 -- end of a line is dropped.
 pub record ReferenceLists : Type 0 where
-  pub bad : references (codes "a.c\n?\n") ≡ These (Good 1 (bare (codes "a.c")) ∷ Bad 2 ∷ [])
+  pub bad : references (codes "a.c\n?\n") ≡ These (Good 1 (ex_bare (codes "a.c")) ∷ Bad 2 ∷ [])
   pub passed : references (codes "#a" ++ 13 ∷ 10 ∷ 13 ∷ 10 ∷ codes "b.c:o" ++ 13 ∷ [])
       ≡ These (Good 3 (expression (codes "b.c") [] (To (codes "o") ∷ [])) ∷ [])
-  pub two : references (codes "a b\n a ") ≡ These (Bad 1 ∷ Good 2 (bare (codes "a")) ∷ [])
+  pub two : references (codes "a b\n a ") ≡ These (Bad 1 ∷ Good 2 (ex_bare (codes "a")) ∷ [])
   -- behind a space `#` begins no comment
   pub spaced : references (codes " #") ≡ These (Bad 1 ∷ [])
   pub one_cr : references (97 ∷ 13 ∷ 13 ∷ 10 ∷ []) ≡ These (Bad 1 ∷ [])

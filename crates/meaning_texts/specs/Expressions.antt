@@ -37,7 +37,7 @@ pub data Items : List ℕ → List ParamValue → List ExprStep → Type 0 where
       → Items rest ps ss → Items (37 ∷ (key ++ rest)) ps (Pick key ∷ ss)
 
 -- A text of the grammar, of any length: so many spaces, the name, and the items.
-pub record Written (text source : List ℕ) (params : List ParamValue)
+pub record SpellsExpression (text source : List ℕ) (params : List ParamValue)
     (steps : List ExprStep) : Type 0 where
   pub spaces : ℕ
   pub behind : List ℕ
@@ -52,22 +52,22 @@ abbrev pub name_cmp : List ℕ → List ℕ → Ordering
 name_cmp = slice_cmp nat_cmp
 
 -- the values of one name, in order
-abbrev pub values_of : List ℕ → List ParamValue → List (List ℕ)
-values_of name params =
+abbrev pub values_of_param : List ℕ → List ParamValue → List (List ℕ)
+values_of_param name params =
     map (λ (p : ParamValue). p.value) (filter (λ (p : ParamValue). bytes_eq p.param name) params)
 
 -- The parameters as an expression keeps them: sorted by name, and for each name its values in
 -- order, a value that was there before dropped.
 pub record AreKeptAs (written kept : List ParamValue) : Type 0 where
   pub sorted : IsSortedByKey (λ (p : ParamValue). p.param) name_cmp kept
-  pub values : (name : List ℕ) → values_of name kept ≡ once bytes_eq (values_of name written)
+  pub values : (name : List ℕ) → values_of_param name kept ≡ once bytes_eq (values_of_param name written)
 
 -- ---- texts and expressions
 
 -- The text is one of this expression.
 pub record ExpressionText (text : List ℕ) (e : Expression) : Type 0 where
   pub params : List ParamValue
-  pub written : Written text e.source params e.steps
+  pub written : SpellsExpression text e.source params e.steps
   pub kept : AreKeptAs params e.params
   pub short : length text ≤ expression_limit
 
@@ -79,7 +79,7 @@ pub record IsFront (bytes : List ℕ) : Type 0 where
   pub source : List ℕ
   pub params : List ParamValue
   pub steps : List ExprStep
-  pub written : Written (bytes ++ more) source params steps
+  pub written : SpellsExpression (bytes ++ more) source params steps
 
 -- Why a text can't go on at a place, all before it being a front.
 pub data IsStop (text : List ℕ) (place : ℕ) : Type 0 where

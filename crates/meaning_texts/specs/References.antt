@@ -19,26 +19,26 @@ is_passed_over (b ∷ rest) = b == 35
 -- ---- as a relation
 
 -- The line is an expression, or it is bad.
-pub data ReadsAs (number : ℕ) (text : List ℕ) : Line → Type 0 where
-  good : (e : Expression) → ExpressionText text e → ReadsAs number text (Good number e)
-  bad : ((e : Expression) → ExpressionText text e → ⊥) → ReadsAs number text (Bad number)
+pub data LineReadsAs (number : ℕ) (text : List ℕ) : Line → Type 0 where
+  good : (e : Expression) → ExpressionText text e → LineReadsAs number text (Good number e)
+  bad : ((e : Expression) → ExpressionText text e → ⊥) → LineReadsAs number text (Bad number)
 
 -- The lines that aren't passed over read so, one for one and in order; all are numbered, from this
 -- number on.
-pub data ReadAs : ℕ → List (List ℕ) → List Line → Type 0 where
-  no_more : (number : ℕ) → ReadAs number [] []
+pub data LinesReadAs : ℕ → List (List ℕ) → List Line → Type 0 where
+  no_more : (number : ℕ) → LinesReadAs number [] []
   passed : (number : ℕ) (text : List ℕ) (texts : List (List ℕ)) (lines : List Line)
-      → is_passed_over text ≡ true → ReadAs (number + 1) texts lines
-      → ReadAs number (text ∷ texts) lines
+      → is_passed_over text ≡ true → LinesReadAs (number + 1) texts lines
+      → LinesReadAs number (text ∷ texts) lines
   counted : (number : ℕ) (text : List ℕ) (texts : List (List ℕ)) (line : Line) (lines : List Line)
-      → is_passed_over text ≡ false → ReadsAs number text line → ReadAs (number + 1) texts lines
-      → ReadAs number (text ∷ texts) (line ∷ lines)
+      → is_passed_over text ≡ false → LineReadsAs number text line → LinesReadAs (number + 1) texts lines
+      → LinesReadAs number (text ∷ texts) (line ∷ lines)
 
 -- What a reference list says: its lines, unless there are too many.
 pub data ReferenceList (text : List ℕ) : Lines → Type 0 where
-  these : (lines : List Line) → ReadAs 1 (lines_of text) lines → length lines ≤ reference_limit
+  these : (lines : List Line) → LinesReadAs 1 (lines_of text) lines → length lines ≤ reference_limit
       → ReferenceList text (These lines)
-  too_many : (lines : List Line) → ReadAs 1 (lines_of text) lines → reference_limit < length lines
+  too_many : (lines : List Line) → LinesReadAs 1 (lines_of text) lines → reference_limit < length lines
       → ReferenceList text TooMany
 
 -- ---- computed

@@ -24,7 +24,7 @@ use Rattle.meaning_tasks.specs.Tasks.{Led, Task, given, picked, mapped, packed, 
 use Rattle.meaning_tasks.specs.Needs.{Results, Known, values_of, counted_needs, ReachedNames}
 use Rattle.meaning_tasks.specs.Calls.{node_parts, extra_parts, reached_part, all_valued, call_of, tool_call, CallOf}
 use Rattle.node_tasks.specs.Tasks.{RunsNoTool}
-use Rattle.node_tasks.specs.Calling.{call_with}
+use Rattle.node_tasks.specs.Calling.{task_call_with}
 
 -- ---- no extra lacks a path
 
@@ -73,9 +73,9 @@ module _ (g : Graph) (n : Node) (seen : Results) (names : List Text) (reached : 
 
 -- the call with the inputs of a tool
 pub call_is : (g : Graph) (t : ToolTask) (known : Known) (names : List Text) (base : Node) (extras : List Led) (parts : List CallPart) (call : Call) → base ≡ t.base → extras ≡ t.extras
-    → parts ≡ node_parts g known 0 base ++ (extra_parts g known 1 extras ++ map (reached_part known (length extras + 1)) names) → call ≡ call_with t parts → call ≡ tool_call g t known names
+    → parts ≡ node_parts g known 0 base ++ (extra_parts g known 1 extras ++ map (reached_part known (length extras + 1)) names) → call ≡ task_call_with t parts → call ≡ tool_call g t known names
 call_is g t known names base extras parts call b e p c =
-    c ∙ ap (call_with t) (p ∙ (λ i. node_parts g known 0 (b i) ++ (extra_parts g known 1 (e i) ++ map (reached_part known (length (e i) + 1)) names)))
+    c ∙ ap (task_call_with t) (p ∙ (λ i. node_parts g known 0 (b i) ++ (extra_parts g known 1 (e i) ++ map (reached_part known (length (e i) + 1)) names)))
 
 -- ---- a tool of a spellable graph has few extras
 

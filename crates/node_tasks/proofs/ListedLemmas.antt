@@ -15,7 +15,7 @@ use Rattle.meaning_tasks.specs.Tasks.{ToolTask, tooled, tool_task}
 use Rattle.meaning_tasks.specs.Needs.{Results, values_of, own_lines, other_lines}
 use Rattle.meaning_tasks.specs.Maps.{HasOnly}
 use Rattle.meaning_tasks.proofs.Lemmas.{IsValued, from_where}
-use Rattle.dynamic_inputs.specs.Closures.{ToldLines, Telling, lines_told, IsReached, IsWanted, wanted_name, with_lines}
+use Rattle.dynamic_inputs.specs.Closures.{ToldLines, ClosureView, lines_told, IsReached, IsWanted, wanted_name, with_lines}
 use Rattle.dynamic_inputs.specs.Laws.{with_own}
 use Rattle.dynamic_inputs.proofs.Lemmas.{untold_of, untold_falls, unfound_of, all_found}
 use Rattle.node_tasks.specs.Ahead.{IsLedOn}
@@ -30,7 +30,7 @@ told_listed names (e ∷ told) all y x h = (elim (bytes_eq y e.0) as (λ b. IsIn
 ]) h
 
 -- Where all lines are of these names, so is each wanted name.
-module _ (root : Text) (own : List Text) (lines : Text → List Text) (names : List Text) (c : Telling) (w : Tells root own lines c)
+module _ (root : Text) (own : List Text) (lines : Text → List Text) (names : List Text) (c : ClosureView) (w : Tells root own lines c)
     (has_root : IsIn root names) (has_own : (x : Text) → IsIn x own → IsIn x names) (has_lines : (y x : Text) → IsIn x (lines y) → IsIn x names) where
   of_told : (y : Text) (told : List Text) → IsIn (y, told) c.told → (x : Text) → IsIn x told → IsIn x names
   of_told y told i x h = (elim (bytes_eq y root) as (λ b. IsIn x (cond b own (lines y)) → IsIn x names) [ true ↦ λ k. has_own x k | false ↦ λ k. has_lines y x k ]) (subst (λ l. IsIn x l) (w.told y told i ∙ ap (λ r. with_own r own lines y) w.rooted) h)
@@ -57,7 +57,7 @@ by_node t seen nodes only y z h =
     let there = valued_seen seen (source_node y) valued in
     in_flat (λ (n : Node). other_lines (tooled t) (values_of seen) n.source) (source_node y) z nodes (only (source_node y) there.0 there.1) h
 
-pub tool_wanted : (t : ToolTask) (seen : Results) (nodes : List Node) → HasOnly seen nodes → (c : Telling) (x : Text)
+pub tool_wanted : (t : ToolTask) (seen : Results) (nodes : List Node) → HasOnly seen nodes → (c : ClosureView) (x : Text)
     → Tells t.root (own_lines (tooled t) (values_of seen)) (other_lines (tooled t) (values_of seen)) c → IsWanted c x
     → IsIn x (names_of t.root (own_lines (tooled t) (values_of seen)) (other_lines (tooled t) (values_of seen)) nodes)
 tool_wanted t seen nodes only c x w v = wanted_listed t.root own lines (names_of t.root own lines nodes) c w (inl refl) (λ y h. inr (in_left y own _ h)) (λ y z h. inr (in_right z own _ (by_node t seen nodes only y z h))) x v
@@ -99,10 +99,10 @@ left_falls g n tool seen nodes only before after looked on lt =
     subst (λ l. left_over all l (looked + 1) < left_over all before looked) (sym on.is) (omega (arith, less, lt))
 
 -- a wanted name that is told its lines is one less
-pub tool_falls : (g : Graph) (n : Node) (tool : ToolDecl) (seen : Results) (nodes : List Node) → HasOnly seen nodes → (c after : Telling) (x : Text) (lines : List Text)
+pub tool_falls : (g : Graph) (n : Node) (tool : ToolDecl) (seen : Results) (nodes : List Node) → HasOnly seen nodes → (c after : ClosureView) (x : Text) (lines : List Text)
     → Tells n.source (own_lines (tooled (tool_task g n any_maker tool)) (values_of seen)) (other_lines (tooled (tool_task g n any_maker tool)) (values_of seen)) c → Some x ≡ wanted_name c → IsWanted c x → after ≡ with_lines c lines
     → length (untold_of (all_names g n tool seen nodes) after) < length (untold_of (all_names g n tool seen nodes) c)
 tool_falls g n tool seen nodes only c after x lines w first wanted told =
     let names : List Text = all_names g n tool seen nodes in
-    subst (λ (d : Telling). length (untold_of names d) < length (untold_of names c)) (sym told)
+    subst (λ (d : ClosureView). length (untold_of names d) < length (untold_of names c)) (sym told)
     (untold_falls names c x lines (sym first) wanted (tool_wanted (tool_task g n any_maker tool) seen nodes only c x w wanted))

@@ -9,7 +9,7 @@ use Rattle.meaning_tasks.specs.Reached.{AreReached}
 use Rattle.meaning_tasks.specs.Tasks.{ToolTask, tooled}
 use Rattle.meaning_tasks.specs.Needs.{Known, has_value, where_valued, lines_by, own_lines, other_lines}
 use Rattle.node_tasks.proofs.NeedLemmas.{where_some}
-use Rattle.dynamic_inputs.specs.Closures.{Telling, lines_of, AllTold, wanted_name, with_lines}
+use Rattle.dynamic_inputs.specs.Closures.{ClosureView, lines_of, AllTold, wanted_name, with_lines}
 use Rattle.dynamic_inputs.specs.Laws.{with_own, IsToldBy}
 use Rattle.dynamic_inputs.proofs.Lemmas.{all_told_is_reached, told_first, told_next, root_stays}
 
@@ -26,15 +26,15 @@ ok_on (Err e) P Q p f = tt
 -- ---- the telling
 
 -- The closure begins at the root, and tells by these lines.
-pub record Tells (root : Text) (own : List Text) (lines : Text → List Text) (c : Telling) : Type 0 where
+pub record Tells (root : Text) (own : List Text) (lines : Text → List Text) (c : ClosureView) : Type 0 where
   pub rooted : c.root ≡ root
   pub told : IsToldBy own lines c
 
 module _ (root : Text) (own : List Text) (lines : Text → List Text) where
-  pub first_tells : (c : Telling) → c ≡ record { root = root; told = [] } → Tells root own lines c
+  pub first_tells : (c : ClosureView) → c ≡ record { root = root; told = [] } → Tells root own lines c
   first_tells c e = subst (Tells root own lines) (sym e) (record { rooted = refl; told = told_first own lines root })
 
-  pub next_tells : (c after : Telling) (x : Text) (more : List Text) → Tells root own lines c → Some x ≡ wanted_name c → more ≡ with_own root own lines x → after ≡ with_lines c more → Tells root own lines after
+  pub next_tells : (c after : ClosureView) (x : Text) (more : List Text) → Tells root own lines c → Some x ≡ wanted_name c → more ≡ with_own root own lines x → after ≡ with_lines c more → Tells root own lines after
   next_tells c after x more w is same e =
       let so : after ≡ with_lines c (with_own c.root own lines x) = e ∙ ap (with_lines c) (same ∙ ap (λ r. with_own r own lines x) (sym w.rooted)) in
       subst (Tells root own lines) (sym so) (record {
@@ -52,7 +52,7 @@ module _ (t : ToolTask) (known : Known) (valued : has_value (known t.base) ≡ t
   root_lines x h = subst (λ l. IsIn x l) (sym own_are) (less_where (known (source_node t.root)) x _ (less_where (known t.base) x _ h))
 
   -- once all are told
-  pub tool_names : (c : Telling) (names : List Text) → Tells t.root (own_lines (tooled t) known) (other_lines (tooled t) known) c → AllTold c → AreReached (lines_of c c.root) (lines_of c) names
+  pub tool_names : (c : ClosureView) (names : List Text) → Tells t.root (own_lines (tooled t) known) (other_lines (tooled t) known) c → AllTold c → AreReached (lines_of c c.root) (lines_of c) names
       → AreReached (own_lines (tooled t) known) (other_lines (tooled t) known) names
   tool_names c names w all a =
       all_told_is_reached c (own_lines (tooled t) known) (other_lines (tooled t) known) names w.told all

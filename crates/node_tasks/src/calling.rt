@@ -10,7 +10,7 @@ ghost use Rattle.meaning_tasks.specs.Needs.{values_of};
 ghost use Rattle.meaning_tasks.specs.Calls.{CallOf, all_valued, tool_call};
 ghost use Rattle.path_planner.specs.Ends.{plans_of};
 ghost use Rattle.task_needs.specs.Counting.{nodes_in};
-ghost use Rattle.node_tasks.specs.Calling.{call_with};
+ghost use Rattle.node_tasks.specs.Calling.{task_call_with};
 ghost use Rattle.node_tasks.specs.Needed.{IsNeeded};
 
 use crate::base::base_of;
@@ -116,7 +116,7 @@ fn made_call(
     parts: Seq<CallPart>,
 ) -> Result<Call, Memory>
     ensures { let task = tool_task graph.now node.now maker.now tool.now in
-        IfOk result (λ call. call ≡ call_with task parts) }
+        IfOk result (λ call. call ≡ task_call_with task parts) }
 {
     Ok(Call {
         tool: maker.name.copy(alloc)?,

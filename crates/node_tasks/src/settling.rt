@@ -3,7 +3,7 @@ ghost use Rattle.std.specs.Prelude.{◌≡◌, ◌≢◌, [], None, cond, IfOk, 
 ghost use Rattle.meaning_nodes.specs.Nodes.{Fits};
 ghost use Rattle.meaning_nodes.specs.Values.{inherit};
 ghost use Rattle.meaning_tasks.specs.Needs.{values_of};
-ghost use Rattle.meaning_tasks.specs.Settle.{Texts, settled, Settles};
+ghost use Rattle.meaning_tasks.specs.Settle.{SourceLookup, settled, Settles};
 ghost use Rattle.path_planner.specs.Ends.{plans_of};
 ghost use Rattle.node_tasks.specs.Needed.{IsNeeded};
 ghost use Rattle.node_tasks.specs.Settling.{SettlesSo};
@@ -92,7 +92,7 @@ pub fn settle<R: Results>(
     requires needed { IsNeeded graph.now node.now (R.results seen.now) needed.now }
     requires stepped { node.now.steps ≢ [] }
     ensures { let given = option_map (λ o. o.now) outcome.entry in
-        IfOk result (λ view. (texts : Texts) →
+        IfOk result (λ view. (texts : SourceLookup) →
         Settles graph.now texts node.now (R.results seen.now) given view) }
 {
     let whole = settle_whole(alloc, graph, plans, node, needed, seen, outcome)?;

@@ -22,11 +22,11 @@ abbrev pub entry_at : Texts → ℕ → Option (Text × Text)
 entry_at texts place = slice_get (map.entries texts) place
 
 -- the texts, and how many more names have room
-pub record Stock : Type 0 where
+pub record SourceStock : Type 0 where
   pub texts : Texts
   pub spare : ℕ
 
-abbrev pub stock_code : Coded Stock
+abbrev pub stock_code : Coded SourceStock
 stock_code = code_by (Texts × ℕ)
     (coded× (map.code (coded_list coded_ℕ) (coded_list coded_ℕ)) coded_ℕ)
     (λ s. (s.texts, s.spare))

@@ -38,9 +38,9 @@ impl Model for Sources {
     ghost use Rattle.std.specs.Prelude.{◌-◌, vec_len, vec_capacity};
     ghost use Rattle.std.specs.FinMap.{from_sorted};
     ghost use Rattle.object_sources.specs.Blocks.{joined, room_left, AreBlocks};
-    ghost use Rattle.object_sources.specs.Texts.{Stock, stock_code};
+    ghost use Rattle.object_sources.specs.Texts.{SourceStock, stock_code};
 
-    ghost Value = { Stock };
+    ghost Value = { SourceStock };
 
     ghost coded = { stock_code };
 

@@ -18,7 +18,7 @@ use Rattle.odin_journal.specs.declared.fault.JournalFault.TheVariants as store
 use Rattle.odin_store.specs.declared.store.Store.{Store}
 use Rattle.odin_store.specs.Held.{Change, keeps}
 use Rattle.odin_store.specs.OnDisk.{IsSame, IsOver}
-use Rattle.odin_store.specs.Going.{IsBatchOf, Goes}
+use Rattle.odin_store.specs.Going.{IsBatchOf, Performs}
 use Rattle.odin_store.proofs.Lemmas.{goes_none, goes_on, nothing_behind}
 use Rattle.walk_tables.specs.declared.found.Found.{Found}
 use Rattle.walk_tables.specs.declared.found.Found.TheVariants as found
@@ -28,14 +28,14 @@ use Rattle.derive_walk.proofs.Lemmas.{found_stays}
 use Rattle.plain_derive.specs.Flights.{Course, AreRun}
 use Rattle.plain_derive.proofs.Lemmas.{given_are_all}
 use Rattle.kept_derive.specs.Runs.{At, keeps_of, course_of}
-use Rattle.kept_derive.specs.Stops.{IsDrained as IsDrainedFor, IsUnkept, IsWanting}
+use Rattle.kept_derive.specs.Stops.{DeriveIsDrained as IsDrainedFor, IsUnkept, DeriveIsOutOfMemory}
 use Rattle.odin_engine.specs.declared.fault.AskFault.{AskFault}
 use Rattle.odin_engine.specs.declared.fault.AskFault.TheVariants as fault
 use Rattle.odin_engine.specs.Asked.{IsNodeOf}
 use Rattle.odin_engine.specs.Asking.{IsFoundFor, IsAskFault}
 use Rattle.odin_answers.specs.Answers.{AreAll, HaveFlown, IsReply, MayHaveBegun, found_reply}
 use Rattle.odin_answers.specs.Faults as faults
-use Rattle.odin_answers.specs.Replied.{HasReplied, HasWanted, HasFailed, IsFull, HasStopped}
+use Rattle.odin_answers.specs.Replied.{HasReplied, HasWanted, HasFailedToKeep, HasNoRoomToKeep, HasStopped}
 
 -- the changes of one more call that is kept
 pub keeps_behind : (given : Calls) (call : Call) (outcome : Outcome) → keeps_of (given ++ (call, outcome) ∷ []) ≡ keeps_of given ++ keeps call outcome ∷ []
@@ -81,9 +81,9 @@ module _ {Disk : Type 0} (told : Disk → Telling) where
   same_at old new e =
       subst (λ (z : At Disk). IsSame old.store z.store old.disk z.disk) (sym e) (record { disk_is = refl; store_is = record { journal = refl; tables = refl; sources = refl; epoch = refl } })
 
-  pub goes_same : (changes : List Change) (store mid next : Store) (disk between after : Disk) → Goes told changes store mid disk between → IsSame mid next between after → Goes told changes store next disk after
+  pub goes_same : (changes : List Change) (store mid next : Store) (disk between after : Disk) → Performs told changes store mid disk between → IsSame mid next between after → Performs told changes store next disk after
   goes_same changes store mid next disk between after goes same =
-      subst (λ c. Goes told c store next disk after) (nothing_behind changes)
+      subst (λ c. Performs told c store next disk after) (nothing_behind changes)
       (goes_on told changes [] store mid next disk between after goes (goes_none told mid next between after same))
 
   module _ (g : Graph) (limit : ℕ) (text : Text) (old new : At Disk) where
@@ -160,7 +160,7 @@ module _ {Disk : Type 0} (told : Disk → Telling) where
       epoch = drained.run.epoch;
     }
 
-    wanted : (n : Node) → IsNodeOf g text n → IsWanting told g n limit old new → HasWanted told g limit text old new
+    wanted : (n : Node) → IsNodeOf g text n → DeriveIsOutOfMemory told g n limit old new → HasWanted told g limit text old new
     wanted n of wanting = record {
       given = wanting.given;
       rest = wanting.rest;
@@ -169,7 +169,7 @@ module _ {Disk : Type 0} (told : Disk → Telling) where
       goes = wanting.goes;
     }
 
-    failed : (n : Node) → IsNodeOf g text n → IsUnkept told g n limit store.Disk old new → HasFailed told g limit text old new
+    failed : (n : Node) → IsNodeOf g text n → IsUnkept told g n limit store.Disk old new → HasFailedToKeep told g limit text old new
     failed n of u = record {
       given = u.given;
       call = u.call;
@@ -180,7 +180,7 @@ module _ {Disk : Type 0} (told : Disk → Telling) where
       stops = u.failed.1;
     }
 
-    full : (at size : ℕ) (n : Node) → IsNodeOf g text n → IsUnkept told g n limit (store.Full at size) old new → IsFull told g limit text old new at size
+    full : (at size : ℕ) (n : Node) → IsNodeOf g text n → IsUnkept told g n limit (store.Full at size) old new → HasNoRoomToKeep told g limit text old new at size
     full at size n of u =
         let same = u.failed.1.0 in
         record {
@@ -196,7 +196,7 @@ module _ {Disk : Type 0} (told : Disk → Telling) where
 
     -- ---- by the fault
 
-    pub refused : (f : AskFault) (reply : Reply) → IsAskFault told g limit text old new f → faults.Refuses g f reply → HasReplied told g limit text old new reply
+    pub refused : (f : AskFault) (reply : Reply) → IsAskFault told g limit text old new f → faults.IsReplyToFault g f reply → HasReplied told g limit text old new reply
     refused (fault.Expression place) reply is says = subst (HasReplied told g limit text old new) (sym says) (refused_reply (RefusedExpression place) is.0 is.1)
     refused (fault.UnknownType name) reply is says = subst (HasReplied told g limit text old new) (sym says) (refused_reply (RefusedType name) is.0 is.1)
     refused (fault.UnknownParam name) reply is says = subst (HasReplied told g limit text old new) (sym says) (refused_reply (RefusedParam name) is.0 is.1)
@@ -208,7 +208,7 @@ module _ {Disk : Type 0} (told : Disk → Telling) where
     refused (fault.Full at size) reply is says = absurd says
     refused fault.Memory reply is says = absurd says
 
-    pub stopped : (f : AskFault) (why : JournalFault) → IsAskFault told g limit text old new f → faults.Stops f why → HasStopped told g limit text old new why
+    pub stopped : (f : AskFault) (why : JournalFault) → IsAskFault told g limit text old new f → faults.StopsWithoutReply f why → HasStopped told g limit text old new why
     stopped (fault.Expression place) why is says = subst (HasStopped told g limit text old new) (sym says) (untouched is.1)
     stopped (fault.UnknownType name) why is says = subst (HasStopped told g limit text old new) (sym says) (untouched is.1)
     stopped (fault.UnknownParam name) why is says = subst (HasStopped told g limit text old new) (sym says) (untouched is.1)

@@ -6,31 +6,31 @@ use Rattle.object_values.specs.declared.views.View.{View}
 use Rattle.odin_outside.specs.Spawned.{Spawned}
 use Rattle.meaning_graph.specs.Graphs.{Graph}
 use Rattle.meaning_commands.specs.declared.replies.Reply.{Reply}
-use Rattle.odin_journal.specs.Faults.{IsCause, IsCauseOf}
+use Rattle.odin_journal.specs.Faults.{JournalFaultIsCounted, CountAfterJournalFault}
 use Rattle.odin_journal.specs.Rest.{IsReady}
 use Rattle.odin_journal.specs.declared.fault.JournalFault.{JournalFault}
 use Rattle.odin_journal.specs.declared.fault.JournalFault.TheVariants as store
 use Rattle.odin_store.specs.declared.store.Store.{Store}
-use Rattle.odin_store.specs.OnDisk.{IsLeft}
+use Rattle.odin_store.specs.OnDisk.{StoreAfter}
 use Rattle.kept_derive.specs.Rests.{ComesToRest, LeavesAll}
 use Rattle.odin_engine.specs.declared.fault.AskFault.{AskFault}
 use Rattle.odin_engine.specs.declared.fault.AskFault.TheVariants as fault
 use Rattle.odin_engine.specs.Asking as asking
-use Rattle.odin_answers.specs.Faults.{Refuses, Stops}
+use Rattle.odin_answers.specs.Faults.{IsReplyToFault, StopsWithoutReply}
 
 -- ---- answers that are no fault of the disk
 
-ready_left : (made : Store) (size : ℕ) (r : Result Reply JournalFault) → (IsErrOf r store.Disk → ⊥) → IsReady made.journal size → IsLeft made size r
+ready_left : (made : Store) (size : ℕ) (r : Result Reply JournalFault) → (IsErrOf r store.Disk → ⊥) → IsReady made.journal size → StoreAfter made size r
 ready_left made size (Ok reply) not ready = record { ready = ready; spent = λ e. absurd (not e) }
 ready_left made size (Err why) not ready = record { ready = tt; spent = λ e. absurd (not e) }
 
-uncounted : (before now : ℕ) (why : JournalFault) → (why ≡ store.Disk → ⊥) → now ≡ before → IsCauseOf before now why
+uncounted : (before now : ℕ) (why : JournalFault) → (why ≡ store.Disk → ⊥) → now ≡ before → CountAfterJournalFault before now why
 uncounted before now store.Disk not same = absurd (not refl)
 uncounted before now (store.NotOurs at) not same = same
 uncounted before now (store.Full end size) not same = same
 uncounted before now store.Memory not same = same
 
-same_cause : (before now : ℕ) (r : Result Reply JournalFault) → (IsErrOf r store.Disk → ⊥) → before ≤ now → now ≡ before → IsCause before now r
+same_cause : (before now : ℕ) (r : Result Reply JournalFault) → (IsErrOf r store.Disk → ⊥) → before ≤ now → now ≡ before → JournalFaultIsCounted before now r
 same_cause before now (Ok reply) not later same = record { later = later; ok = same; err = tt }
 same_cause before now (Err why) not later same = record { later = later; ok = tt; err = uncounted before now why (λ e. not (ap (λ w. Err w) e)) same }
 
@@ -63,7 +63,7 @@ tools_left limit before now (Err why) none answer few = record { answer = answer
 -- ---- behind a fault
 
 module _ (g : Graph) where
-  pub refused_rests : (limit : ℕ) (before now : Spawned) (f : AskFault) (r : Result Reply JournalFault) → IfOk r (Refuses g f) → IfErr r (Stops f) → ComesToRest {T = View} asking.LeavesTools limit before now (Err f) → ComesToRest LeavesAll limit before now r
+  pub refused_rests : (limit : ℕ) (before now : Spawned) (f : AskFault) (r : Result Reply JournalFault) → IfOk r (IsReplyToFault g f) → IfErr r (StopsWithoutReply f) → ComesToRest {T = View} asking.AskLeavesTools limit before now (Err f) → ComesToRest LeavesAll limit before now r
   refused_rests limit before now (fault.Expression place) r ok err rest = at_rest limit before now r rest.answer rest.few (rest.left (λ not. not))
   refused_rests limit before now (fault.UnknownType name) r ok err rest = at_rest limit before now r rest.answer rest.few (rest.left (λ not. not))
   refused_rests limit before now (fault.UnknownParam name) r ok err rest = at_rest limit before now r rest.answer rest.few (rest.left (λ not. not))
@@ -75,7 +75,7 @@ module _ (g : Graph) where
   refused_rests limit before now (fault.Full end size) r ok err rest = tools_left limit before now r ok rest.answer rest.few
   refused_rests limit before now fault.Memory r ok err rest = tools_left limit before now r ok rest.answer rest.few
 
-  pub refused_left : (made : Store) (size : ℕ) (f : AskFault) (r : Result Reply JournalFault) → IfOk r (Refuses g f) → IfErr r (Stops f) → asking.IsLeftBy made size f → IsLeft made size r
+  pub refused_left : (made : Store) (size : ℕ) (f : AskFault) (r : Result Reply JournalFault) → IfOk r (IsReplyToFault g f) → IfErr r (StopsWithoutReply f) → asking.StoreAfterAskFault made size f → StoreAfter made size r
   refused_left made size (fault.Expression place) r ok err left = ready_left made size r (wanted r err) left
   refused_left made size (fault.UnknownType name) r ok err left = ready_left made size r (wanted r err) left
   refused_left made size (fault.UnknownParam name) r ok err left = ready_left made size r (wanted r err) left
@@ -89,7 +89,7 @@ module _ (g : Graph) where
   refused_left made size fault.Disk (Err why) ok err left = record { ready = tt; spent = λ e. left }
   refused_left made size (fault.Full end most) r ok err left = ready_left made size r (full end most r err) left
 
-  pub refused_cause : (before now : ℕ) (f : AskFault) (r : Result Reply JournalFault) → IfOk r (Refuses g f) → IfErr r (Stops f) → before ≤ now → asking.IsCauseOf before now f → IsCause before now r
+  pub refused_cause : (before now : ℕ) (f : AskFault) (r : Result Reply JournalFault) → IfOk r (IsReplyToFault g f) → IfErr r (StopsWithoutReply f) → before ≤ now → asking.CountAfterAskFault before now f → JournalFaultIsCounted before now r
   refused_cause before now (fault.Expression place) r ok err later cause = same_cause before now r (wanted r err) later cause
   refused_cause before now (fault.UnknownType name) r ok err later cause = same_cause before now r (wanted r err) later cause
   refused_cause before now (fault.UnknownParam name) r ok err later cause = same_cause before now r (wanted r err) later cause
@@ -100,5 +100,5 @@ module _ (g : Graph) where
   refused_cause before now fault.Spawn (Ok reply) ok err later cause = same_cause before now (Ok reply) (λ e. cc) later cause
   refused_cause before now fault.Spawn (Err why) ok err later cause = absurd err
   refused_cause before now fault.Disk (Ok reply) ok err later cause = absurd ok
-  refused_cause before now fault.Disk (Err why) ok err later cause = record { later = later; ok = tt; err = subst (IsCauseOf before now) (sym err) cause }
+  refused_cause before now fault.Disk (Err why) ok err later cause = record { later = later; ok = tt; err = subst (CountAfterJournalFault before now) (sym err) cause }
   refused_cause before now (fault.Full end most) r ok err later cause = same_cause before now r (full end most r err) later cause

@@ -10,21 +10,21 @@ use Rattle.odin_engine.specs.declared.fault.AskFault.{AskFault}
 use Rattle.odin_engine.specs.declared.fault.AskFault.TheVariants as fault
 
 -- the reply for a fault; the store's faults and want of memory have none
-abbrev pub Refuses : Graph → AskFault → Reply → Type 0
-Refuses g (fault.Expression place) reply = reply ≡ RefusedExpression place
-Refuses g (fault.UnknownType name) reply = reply ≡ RefusedType name
-Refuses g (fault.UnknownParam name) reply = reply ≡ RefusedParam name
-Refuses g (fault.Path step) reply = reply ≡ RefusedPath step
-Refuses g (fault.Circular chain) reply = reply ≡ refused_circular g chain
-Refuses g (fault.Deep chain) reply = reply ≡ refused_deep g chain
-Refuses g fault.Spawn reply = reply ≡ RefusedToolStart
-Refuses g fault.Disk reply = ⊥
-Refuses g (fault.Full end length) reply = ⊥
-Refuses g fault.Memory reply = ⊥
+abbrev pub IsReplyToFault : Graph → AskFault → Reply → Type 0
+IsReplyToFault g (fault.Expression place) reply = reply ≡ RefusedExpression place
+IsReplyToFault g (fault.UnknownType name) reply = reply ≡ RefusedType name
+IsReplyToFault g (fault.UnknownParam name) reply = reply ≡ RefusedParam name
+IsReplyToFault g (fault.Path step) reply = reply ≡ RefusedPath step
+IsReplyToFault g (fault.Circular chain) reply = reply ≡ refused_circular g chain
+IsReplyToFault g (fault.Deep chain) reply = reply ≡ refused_deep g chain
+IsReplyToFault g fault.Spawn reply = reply ≡ RefusedToolStart
+IsReplyToFault g fault.Disk reply = ⊥
+IsReplyToFault g (fault.Full end length) reply = ⊥
+IsReplyToFault g fault.Memory reply = ⊥
 
 -- why there is no reply: the store's fault, or want of memory; a refused start always has one
-abbrev pub Stops : AskFault → JournalFault → Type 0
-Stops fault.Spawn why = ⊥
-Stops fault.Disk why = why ≡ store.Disk
-Stops (fault.Full end length) why = why ≡ store.Full end length
-Stops other why = why ≡ store.Memory
+abbrev pub StopsWithoutReply : AskFault → JournalFault → Type 0
+StopsWithoutReply fault.Spawn why = ⊥
+StopsWithoutReply fault.Disk why = why ≡ store.Disk
+StopsWithoutReply (fault.Full end length) why = why ≡ store.Full end length
+StopsWithoutReply other why = why ≡ store.Memory

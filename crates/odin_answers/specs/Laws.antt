@@ -37,8 +37,8 @@ pub record AnswersAreCounted : Type 0 where
       → IsFounded g s outcomes n → now.faults ≡ before.faults
 
 -- A refused start raised it.
-abbrev pub RefusalsAreCounted : Type 0
-RefusalsAreCounted =
+abbrev pub RefusalIsCounted : Type 0
+RefusalIsCounted =
     (g : Graph) (s : Sources) (kept : Calls) (limit : ℕ) (text : Text) (reply : Reply)
     (given : Calls) (before now : Spawned)
     → IsStartRefused g s kept limit text reply given before now
@@ -110,7 +110,7 @@ pub record IsTrueFor (table : Table) (tools : Spawned) (kept : Calls) : Type 0 w
   pub gives : HasMore (kept_outcome kept) (table_outcomes table)
 
 -- By a table what is kept stays true, with a reply and without one.
-pub record KeptStaysTrue : Type 0 where
+pub record KeptStaysTrueByAsk : Type 0 where
   pub replied : (g : Graph) (table : Table) (s : Sources) (kept : Calls) (limit : ℕ)
       (text : Text) (reply : Reply) (given : Calls) (before now : Spawned)
       → IsTrueFor table before kept → IsReply g s kept limit text reply given before now
@@ -145,8 +145,8 @@ pub record AreSameAnswers (kept kept' given given' : Calls) (reply other : Reply
   pub run : KeepSame kept kept' → RunSame kept kept' given given'
 
 -- By a table a text has one answer from the same sources, whatever is kept, but for the choice of the chain that a refusal shows.
-abbrev pub AnswerIsOne : Type 0
-AnswerIsOne =
+abbrev pub KeptAnswerIsUnique : Type 0
+KeptAnswerIsUnique =
     (g : Graph) (table : Table) (s : Sources) (kept kept' : Calls) (limit most : ℕ)
     (text : Text) (reply other : Reply) (given given' : Calls) (before now before' now' : Spawned)
     → IsTrueFor table before kept → IsTrueFor table before' kept'

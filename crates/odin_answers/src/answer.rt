@@ -3,10 +3,10 @@ ghost use Rattle.std.specs.Prelude.{◌≡◌, ◌<◌, IfOk, IfErr};
 ghost use Rattle.kept_derive.specs.Calls.{IsIdle};
 ghost use Rattle.kept_derive.specs.Rests.{ComesToRest, LeavesAll};
 ghost use Rattle.kept_derive.specs.Runs.{at};
-ghost use Rattle.odin_journal.specs.Faults.{IsCause};
-ghost use Rattle.odin_engine.specs.Engaged.{Stays};
-ghost use Rattle.odin_store.specs.OnDisk.{IsLeft};
-ghost use Rattle.odin_answers.specs.Faults.{Refuses, Stops};
+ghost use Rattle.odin_journal.specs.Faults.{JournalFaultIsCounted};
+ghost use Rattle.odin_engine.specs.Engaged.{GraphStays};
+ghost use Rattle.odin_store.specs.OnDisk.{StoreAfter};
+ghost use Rattle.odin_answers.specs.Faults.{IsReplyToFault, StopsWithoutReply};
 ghost use Rattle.odin_answers.specs.Planned.{IsPlanned};
 ghost use Rattle.odin_answers.specs.Replied.{HasReplied, HasStopped};
 
@@ -36,11 +36,11 @@ pub fn answer_ask<D: Disk, S: Spawner>(
     ensures err { let old = at engine.old.store disk.old (S.told tools.old) in
         IfErr result (HasStopped D.told engine.old.graph engine.old.jobs text.now
         old (at engine.new.store disk.new (S.told tools.new))) }
-    ensures stays { Stays engine.old engine.new }
+    ensures stays { GraphStays engine.old engine.new }
     ensures rest { ComesToRest LeavesAll engine.old.jobs
         (S.told tools.old) (S.told tools.new) result }
-    ensures left { IsLeft engine.new.store (D.size_of disk.new) result }
-    ensures cause { IsCause (D.faults disk.old) (D.faults disk.new) result }
+    ensures left { StoreAfter engine.new.store (D.size_of disk.new) result }
+    ensures cause { JournalFaultIsCounted (D.faults disk.old) (D.faults disk.new) result }
 {
     answer_counted::<D, S, Brand>(alloc, engine, disk, text, tools, Blank::new(1))
 }
@@ -62,11 +62,11 @@ fn answer_counted<D: Disk, S: Spawner, L: Ledger>(
     ensures err { let old = at engine.old.store disk.old (S.told tools.old) in
         IfErr result (HasStopped D.told engine.old.graph engine.old.jobs text.now
         old (at engine.new.store disk.new (S.told tools.new))) }
-    ensures stays { Stays engine.old engine.new }
+    ensures stays { GraphStays engine.old engine.new }
     ensures rest { ComesToRest LeavesAll engine.old.jobs
         (S.told tools.old) (S.told tools.new) result }
-    ensures left { IsLeft engine.new.store (D.size_of disk.new) result }
-    ensures cause { IsCause (D.faults disk.old) (D.faults disk.new) result }
+    ensures left { StoreAfter engine.new.store (D.size_of disk.new) result }
+    ensures cause { JournalFaultIsCounted (D.faults disk.old) (D.faults disk.new) result }
 {
     let mut steps = Steps::<L>::new(blank);
     match engine.ask(alloc, disk, tools, text, &mut steps) {
@@ -90,8 +90,8 @@ pub fn answer_plan(alloc: Global, engine: &Engine, text: &[u8]) -> Result<Planne
 
 // The reply for a fault, or why there is none.
 fn refused(alloc: Global, graph: &Graph, fault: AskFault) -> Result<Reply, StoreFault>
-    ensures ok { IfOk result (Refuses graph.now fault) }
-    ensures err { IfErr result (Stops fault) }
+    ensures ok { IfOk result (IsReplyToFault graph.now fault) }
+    ensures err { IfErr result (StopsWithoutReply fault) }
 {
     match fault {
         AskFault::Expression(place) => Ok(Reply::RefusedExpression(u64::from(place))),

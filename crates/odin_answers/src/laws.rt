@@ -1,10 +1,10 @@
 //! Laws of replies. Each is the contract of a function with an empty body.
-ghost use Rattle.odin_answers.specs.Laws.{AnswersAreCounted, RefusalsAreCounted, NoneIsTakenBack, CallsAreItsOwn, StartsAreItsOwn, AskedAgain, KeptStaysTrue, AnswersAreFresh, AnswerIsOne, OthersDontMatter};
+ghost use Rattle.odin_answers.specs.Laws.{AnswersAreCounted, RefusalIsCounted, NoneIsTakenBack, CallsAreItsOwn, StartsAreItsOwn, AskedAgain, KeptStaysTrueByAsk, AnswersAreFresh, KeptAnswerIsUnique, OthersDontMatter};
 
 /// An answer leaves the count of the tools' faults as it was where the node has a result, and never lets it fall; a refused start raised it.
 pub fn replies_are_counted()
     ensures answers { AnswersAreCounted }
-    ensures refusals { RefusalsAreCounted }
+    ensures refusals { RefusalIsCounted }
     ensures none { NoneIsTakenBack }
 {}
 
@@ -22,14 +22,14 @@ pub fn asked_again()
 
 /// Where the tools answer by a table, and what is kept is what it gives, that stays so; and an answer is what is derived with nothing kept.
 pub fn kept_stays_true()
-    ensures kept { KeptStaysTrue }
+    ensures kept { KeptStaysTrueByAsk }
     ensures fresh { AnswersAreFresh }
 {}
 
 /// There a text has one answer from the same sources, whatever is kept, and the same calls are run for it where the same are kept; or two
 /// answers show chains, of which there may be more than one.
 pub fn answer_is_one()
-    ensures { AnswerIsOne }
+    ensures { KeptAnswerIsUnique }
 {}
 
 /// Editing sources that an object doesn't need runs nothing for it, and changes no byte of its reply.

@@ -5,7 +5,7 @@ use Rattle.std.proofs.lemmas.List.{length-map, get_or-map, get_or_default}
 use Rattle.odin_outside.specs.declared.events.Running.{Running}
 use Rattle.odin_outside.specs.Causes.{IsCounted}
 use Rattle.odin_outside.specs.Spawned.{Fails}
-use Rattle.odin_children.specs.Told.{told_of}
+use Rattle.odin_children.specs.Told.{children_view}
 
 pub any_to_map : {X Y : Type 0} (f : X → Y) (P : Y → Type 0) (xs : List X) → Any (λ x. P (f x)) xs → Any P (map f xs)
 any_to_map f P xs (k, x, inside, at, holds) =
@@ -33,5 +33,5 @@ pub none_has : {X : Type 0} (f : X → ℕ) (xs : List X) (number : ℕ) → ((k
 none_has f xs number misses (k, x, inside, at, same) = misses k inside x at same
 
 -- what is told where nothing happened but a fault
-pub fails : (running running' : List Running) (starts starts' before now : ℕ) → running' ≡ running → starts' ≡ starts → IsCounted before now → Fails (told_of running starts before) (told_of running' starts' now)
-fails running running' starts starts' before now same_running same_starts counted = record { counted = counted; is = ap₂ (λ r s. told_of r s now) same_running same_starts }
+pub fails : (running running' : List Running) (starts starts' before now : ℕ) → running' ≡ running → starts' ≡ starts → IsCounted before now → Fails (children_view running starts before) (children_view running' starts' now)
+fails running running' starts starts' before now same_running same_starts counted = record { counted = counted; is = ap₂ (λ r s. children_view r s now) same_running same_starts }

@@ -2,7 +2,7 @@
 ghost use Rattle.std.specs.Prelude.{◌≡◌, IsOk, IfOk, OnOk};
 ghost use Rattle.std.specs.List.{All};
 ghost use Rattle.std.specs.Str.{IsUtf8};
-ghost use Rattle.odin_children.specs.Folders.{laid_out, IsAdded, IsPlain, IsFileName, IsPutLeft, AreLeft, SameBut};
+ghost use Rattle.odin_children.specs.Folders.{laid_out, IsAdded, HasNoSlash, IsFileName, IsPutLeft, AreLeft, SameBut};
 ghost use Rattle.odin_children.specs.Logs.{CountsWhere};
 
 use crate::system::System;
@@ -14,7 +14,7 @@ use std::alloc::Global;
 // The name of a file right in a folder. One with a slash would lead out of it.
 fn plain_name(name: &[u8]) -> Result<&str, SystemFault>
     ensures name { IfOk result (λ text. text.now ≡ name.now) }
-    ensures plain { IfOk result (λ text. IsPlain text.now) }
+    ensures plain { IfOk result (λ text. HasNoSlash text.now) }
     ensures given { IsFileName name.now → IsOk result }
 {
     if name.contains(&b'/') {

@@ -2,7 +2,7 @@
 ghost use Rattle.std.specs.Prelude.{◌≡◌, string_bytes, IfOk};
 ghost use Rattle.odin_children.specs.Folders.{SameBut};
 ghost use Rattle.odin_children.specs.Paths.{IsSession, home_of, slot_path};
-ghost use Rattle.odin_children.specs.Logs.{Counts};
+ghost use Rattle.odin_children.specs.Logs.{CountsFailure};
 
 use crate::system::System;
 use odin_files::SystemFault;
@@ -27,7 +27,7 @@ pub fn open_home<S: System>(system: &mut S, alloc: Global) -> Result<String, Sys
     ensures named { IfOk result (λ home. IsSession (string_bytes home)) }
     ensures others { IfOk result (λ home.
         SameBut (string_bytes home) (S.held system.old) (S.held system.new)) }
-    ensures counts { Counts SystemFault.Memory (S.log system.old) (S.log system.new) result }
+    ensures counts { CountsFailure SystemFault.Memory (S.log system.old) (S.log system.new) result }
 {
     let first = system.draw()?;
     let second = system.draw()?;

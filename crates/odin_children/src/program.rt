@@ -1,13 +1,13 @@
 // A child program: how it is started, and what it leaves.
 ghost use Rattle.std.specs.Prelude.{◌≡◌, ◌≢◌, Some, Err, IfOk, OnOk};
 ghost use Rattle.std.specs.Process.{child_status};
-ghost use Rattle.odin_children.specs.Ends.{IsEndOf, HasEnded, HasLeft};
-ghost use Rattle.odin_children.specs.Finishes.{CanBeGiven, IsCleared};
+ghost use Rattle.odin_children.specs.Ends.{IsEndOf, TellsEnd, HasLeft};
+ghost use Rattle.odin_children.specs.Finishes.{CanBeGiven, FolderIsCleared};
 ghost use Rattle.odin_children.specs.Folders.{laid_out, SameBut};
 ghost use Rattle.odin_children.specs.Seen.{seen_of};
-ghost use Rattle.odin_children.specs.Starts.{AreWords, IsStartable};
-ghost use Rattle.odin_children.specs.Told.{Seen, IsAsked};
-ghost use Rattle.odin_children.specs.Logs.{CountsWhere, LaunchesWhere, launch_of, Inherits};
+ghost use Rattle.odin_children.specs.Starts.{AreWords, JobIsStartable};
+ghost use Rattle.odin_children.specs.Told.{ChildView, IsAsked};
+ghost use Rattle.odin_children.specs.Logs.{CountsWhere, LaunchesWhere, launch_of, InheritsEnvironment};
 
 use crate::contents::{lay_out, left_in};
 use crate::system::System;
@@ -30,7 +30,7 @@ pub struct Started<S: System> {
 fn command_of(alloc: Global, folder: &str, words: &[Bytes]) -> Result<Command, SystemFault>
     ensures launch { IfOk result (λ command. launch_of command
         ≡ record { words = words.now; folder = Some folder.now }) }
-    ensures inherits { IfOk result Inherits }
+    ensures inherits { IfOk result InheritsEnvironment }
     ensures failed { AreWords words.now → result ≢ Err SystemFault.Failed }
 {
     let [program, others @ ..] = words else {
@@ -55,7 +55,7 @@ fn start_in<S: System>(
     ensures ok { OnOk result (S.held system.new folder.now
         ≡ laid_out job.now.files (S.held system.old folder.now)) }
     ensures others { SameBut folder.now (S.held system.old) (S.held system.new) }
-    ensures launches { LaunchesWhere (IsStartable job.now)
+    ensures launches { LaunchesWhere (JobIsStartable job.now)
         (record { words = job.now.words; folder = Some folder.now }) SystemFault.Memory
         (S.log system.old) (S.log system.new) result }
 {
@@ -75,7 +75,7 @@ pub fn start_child<S: System>(
     ensures ok { OnOk result (S.held system.new folder.now
         ≡ laid_out job.now.files (S.held system.old folder.now)) }
     ensures others { SameBut folder.now (S.held system.old) (S.held system.new) }
-    ensures launches { LaunchesWhere (IsStartable job.now)
+    ensures launches { LaunchesWhere (JobIsStartable job.now)
         (record { words = job.now.words; folder = Some folder.now }) SystemFault.Memory
         (S.log system.old) (S.log system.new) result }
 {
@@ -100,7 +100,7 @@ impl<S: System> Started<S> {
     // Waits for the end, and gives what was left in the folder, where it has an outcome.
     fn outcome(&mut self, alloc: Global, system: &mut S) -> Result<Raw, SystemFault>
         ensures asked { IsAsked (seen_of self.old) (seen_of self.new) }
-        ensures end { IfOk result (λ raw. HasEnded (child_status self.new.child) raw.end) }
+        ensures end { IfOk result (λ raw. TellsEnd (child_status self.new.child) raw.end) }
         ensures left { IfOk result (HasLeft (seen_of self.old) (S.held system.old)) }
         ensures held { S.held system.new ≡ S.held system.old }
         ensures counts { CountsWhere (CanBeGiven (S.held system.old) (seen_of self.old))
@@ -119,10 +119,10 @@ impl<S: System> Started<S> {
     /// again: the end is the same one then.
     pub fn end(&mut self, alloc: Global, system: &mut S) -> Result<Raw, SystemFault>
         ensures asked { IsAsked (seen_of self.old) (seen_of self.new) }
-        ensures end { IfOk result (λ raw. HasEnded (child_status self.new.child) raw.end) }
+        ensures end { IfOk result (λ raw. TellsEnd (child_status self.new.child) raw.end) }
         ensures left { IfOk result (HasLeft (seen_of self.old) (S.held system.old)) }
         ensures cleared { result ≢ Err SystemFault.Memory →
-            IsCleared (seen_of self.old) (S.held system.old) (S.held system.new) }
+            FolderIsCleared (seen_of self.old) (S.held system.old) (S.held system.new) }
         ensures memory { result ≡ Err SystemFault.Memory → S.held system.new ≡ S.held system.old }
         ensures counts { CountsWhere (CanBeGiven (S.held system.old) (seen_of self.old))
             SystemFault.Memory (S.log system.old) (S.log system.new) result }

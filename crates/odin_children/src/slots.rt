@@ -3,7 +3,7 @@ ghost use Rattle.std.specs.Prelude.{◌≡◌, ◌≢◌, ◌<◌, ◌↔◌, �
 ghost use Rattle.std.specs.List.{HoldsAt};
 ghost use Rattle.odin_outside.specs.Spawned.{IsLeastFree, IsRunning};
 ghost use Rattle.odin_children.specs.Ends.{HasLeft};
-ghost use Rattle.odin_children.specs.Finishes.{CanBeGiven, IsCleared};
+ghost use Rattle.odin_children.specs.Finishes.{CanBeGiven, FolderIsCleared};
 ghost use Rattle.odin_children.specs.Seen.{seen_of};
 ghost use Rattle.odin_children.specs.Told.{AreAsked};
 ghost use Rattle.odin_children.specs.Logs.{CountsWhere};
@@ -55,7 +55,8 @@ pub fn end_at<S: System>(
     ensures others { remove started.new.items place ≡ remove started.old.items place }
     ensures left { IfOk result (λ raw. HoldsAt (λ tool. HasLeft (seen_of tool)
         (S.held system.old) raw) started.old.items place) }
-    ensures cleared { result ≢ Err SystemFault.Memory → HoldsAt (λ tool. IsCleared (seen_of tool)
+    ensures cleared { result ≢ Err SystemFault.Memory → HoldsAt
+        (λ tool. FolderIsCleared (seen_of tool)
         (S.held system.old) (S.held system.new)) started.old.items place }
     ensures memory { result ≡ Err SystemFault.Memory → S.held system.new ≡ S.held system.old }
     ensures counts { CountsWhere (HoldsAt (λ tool. CanBeGiven (S.held system.old) (seen_of tool))

@@ -1,8 +1,8 @@
 // What child programs need of the system, path by path.
 ghost use Rattle.std.specs.Prelude.{◌≡◌, ⊤, Some, Ok, IfOk, OnOk, IfSome};
 ghost use Rattle.std.specs.Process.{child_status};
-ghost use Rattle.odin_children.specs.Folders.{Held, removed, IsMade, IsAdded, IsFound, IsPlain, IsToldOf, SameBut};
-ghost use Rattle.odin_children.specs.Logs.{Log, Counts, LaunchesWhere, launch_of, Inherits};
+ghost use Rattle.odin_children.specs.Folders.{FoldersTold, removed, FolderIsMade, IsAdded, IsFoundInFolder, HasNoSlash, IsToldOf, SameBut};
+ghost use Rattle.odin_children.specs.Logs.{Log, CountsFailure, LaunchesWhere, launch_of, InheritsEnvironment};
 
 use object_values::Bytes;
 use odin_files::SystemFault;
@@ -16,7 +16,7 @@ pub trait System {
     type Started: OpenProcess + Drop;
 
     /// What stands at each path, where it is told: nothing, or a folder with these files.
-    ghost held: { Self → Held };
+    ghost held: { Self → FoldersTold };
 
     /// What the system did, where it is told.
     ghost log: { Self → Log };
@@ -24,14 +24,14 @@ pub trait System {
     /// A random number.
     fn draw(&mut self) -> Result<u64, SystemFault>
         ensures held { held self.new ≡ held self.old }
-        ensures counts { Counts SystemFault.Memory (log self.old) (log self.new) result };
+        ensures counts { CountsFailure SystemFault.Memory (log self.old) (log self.new) result };
 
     /// Makes the folder of a session in `odin.work`, which is made where there is none. Where `odin.work` is no folder, but a link to one
     /// too, this fails, and what is at its other end isn't touched. What else is in `odin.work` is removed as far as it can be: it is of
     /// sessions that ended, and nothing is told of it.
     fn open(&mut self, alloc: Global, home: &str) -> Result<(), SystemFault>
         ensures others { SameBut home.now (held self.old) (held self.new) }
-        ensures counts { Counts SystemFault.Memory (log self.old) (log self.new) result };
+        ensures counts { CountsFailure SystemFault.Memory (log self.old) (log self.new) result };
 
     /// Removes the folder of a session, as far as it can be.
     fn close(&mut self, alloc: Global, home: &str);
@@ -45,9 +45,9 @@ pub trait System {
 
     /// Makes a folder where nothing is.
     fn make(&mut self, path: &str) -> Result<(), SystemFault>
-        ensures ok { OnOk result (IsMade (held self.old path.now) (held self.new path.now)) }
+        ensures ok { OnOk result (FolderIsMade (held self.old path.now) (held self.new path.now)) }
         ensures others { SameBut path.now (held self.old) (held self.new) }
-        ensures counts { Counts SystemFault.Memory (log self.old) (log self.new) result };
+        ensures counts { CountsFailure SystemFault.Memory (log self.old) (log self.new) result };
 
     /// Makes a file in a folder. Where it has one of that name already this fails.
     fn add(
@@ -57,11 +57,11 @@ pub trait System {
         name: &str,
         body: &[u8],
     ) -> Result<(), SystemFault>
-        requires { IsPlain name.now }
+        requires { HasNoSlash name.now }
         ensures ok { OnOk result (IsAdded (record { name = name.now; body = body.now })
             (held self.old folder.now) (held self.new folder.now)) }
         ensures others { SameBut folder.now (held self.old) (held self.new) }
-        ensures counts { Counts SystemFault.Memory (log self.old) (log self.new) result };
+        ensures counts { CountsFailure SystemFault.Memory (log self.old) (log self.new) result };
 
     /// The first 16,777,217 bytes of a file in a folder, or all where it is shorter. `None` is said where there is no such file.
     fn read(
@@ -70,17 +70,17 @@ pub trait System {
         folder: &str,
         name: &str,
     ) -> Result<Option<Bytes>, SystemFault>
-        requires { IsPlain name.now }
-        ensures found { IfOk result (IsFound (held self.old folder.now) name.now) }
+        requires { HasNoSlash name.now }
+        ensures found { IfOk result (IsFoundInFolder (held self.old folder.now) name.now) }
         ensures held { held self.new ≡ held self.old }
-        ensures counts { Counts SystemFault.Memory (log self.old) (log self.new) result };
+        ensures counts { CountsFailure SystemFault.Memory (log self.old) (log self.new) result };
 
     /// Whether a folder has anything of a name: a file, a folder, a link or whatever else.
     fn has(&mut self, alloc: Global, folder: &str, name: &str) -> Result<bool, SystemFault>
-        requires { IsPlain name.now }
+        requires { HasNoSlash name.now }
         ensures found { IfOk result (IsToldOf (held self.old folder.now) name.now) }
         ensures held { held self.new ≡ held self.old }
-        ensures counts { Counts SystemFault.Memory (log self.old) (log self.new) result };
+        ensures counts { CountsFailure SystemFault.Memory (log self.old) (log self.new) result };
 
     /// Starts a program. Its input is empty, and its output and its errors go to `errors`.
     fn spawn(
@@ -88,7 +88,7 @@ pub trait System {
         command: Command,
         errors: Stderr,
     ) -> Result<Child<Self::Started>, SystemFault>
-        requires { Inherits command }
+        requires { InheritsEnvironment command }
         ensures held { held self.new ≡ held self.old }
         ensures launches { LaunchesWhere ⊤ (launch_of command) SystemFault.Memory
             (log self.old) (log self.new) result };
@@ -100,7 +100,7 @@ pub trait System {
             (λ told. child_status child.new ≡ Some told) }
         ensures kept { IfOk result (λ status. child_status child.new ≡ Some status) }
         ensures held { held self.new ≡ held self.old }
-        ensures counts { Counts SystemFault.Memory (log self.old) (log self.new) result };
+        ensures counts { CountsFailure SystemFault.Memory (log self.old) (log self.new) result };
 
     /// Lets so much time pass.
     fn pause(&self, time: Duration);

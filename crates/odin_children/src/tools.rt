@@ -5,9 +5,9 @@ ghost use Rattle.odin_outside.specs.Causes.{once_more, IsCounted};
 ghost use Rattle.odin_outside.specs.Spawned.{IsLeastFree, begun, Fails, Ends, LosesAt};
 ghost use Rattle.odin_children.specs.Finishes.{CanBeGiven, Finishes};
 ghost use Rattle.odin_children.specs.Seen.{seen_of};
-ghost use Rattle.odin_children.specs.Starts.{IsHome, IsPlace, IsLaunched, IsStartable, IsStarted, CanStart};
-ghost use Rattle.odin_children.specs.Told.{told_of};
-ghost use Rattle.odin_children.specs.Logs.{Counts, CountsWhere, FailsWhere};
+ghost use Rattle.odin_children.specs.Starts.{IsHome, IsSlotPath, IsLaunched, JobIsStartable, IsStarted, CanStart};
+ghost use Rattle.odin_children.specs.Told.{children_view};
+ghost use Rattle.odin_children.specs.Logs.{CountsFailure, CountsWhere, FailsWhere};
 
 use crate::homes::{folder_in, open_home};
 use crate::program::{Started, start_child};
@@ -63,9 +63,9 @@ impl<S: System + Drop> ChildTools<S> {
     fn refuse(&mut self) -> Result<u32, StartFault>
         ensures result { result ≡ Err StartFault.Failed }
         ensures fails { Fails
-            (told_of (map (λ tool. tool.running) self.old.started.items) self.old.starts
+            (children_view (map (λ tool. tool.running) self.old.started.items) self.old.starts
             self.old.faults)
-            (told_of (map (λ tool. tool.running) self.new.started.items) self.new.starts
+            (children_view (map (λ tool. tool.running) self.new.started.items) self.new.starts
             self.new.faults) }
         ensures system { self.new.system ≡ self.old.system }
         ensures home { self.new.home ≡ self.old.home }
@@ -76,11 +76,12 @@ impl<S: System + Drop> ChildTools<S> {
 
     // The path of the folder of a slot, in that of the session, which is made where there is none.
     fn folder_of(&mut self, alloc: Global, slot: u32) -> Result<String, SystemFault>
-        ensures place { IfOk result (λ folder. IsPlace (option_map string_bytes self.new.home) slot
+        ensures place { IfOk result
+            (λ folder. IsSlotPath (option_map string_bytes self.new.home) slot
             (string_bytes folder) (S.held self.old.system) (S.held self.new.system)) }
         ensures home { IsHome (option_map string_bytes self.old.home)
             (option_map string_bytes self.new.home) }
-        ensures counts { Counts SystemFault.Memory (S.log self.old.system)
+        ensures counts { CountsFailure SystemFault.Memory (S.log self.old.system)
             (S.log self.new.system) result }
         ensures started { self.new.started ≡ self.old.started }
         ensures starts { self.new.starts ≡ self.old.starts }
@@ -107,7 +108,7 @@ impl<S: System + Drop> ChildTools<S> {
             (S.log self.old.system) (S.log self.new.system)) }
         ensures home { IsHome (option_map string_bytes self.old.home)
             (option_map string_bytes self.new.home) }
-        ensures fails { FailsWhere (IsStartable job.now) SystemFault.Memory
+        ensures fails { FailsWhere (JobIsStartable job.now) SystemFault.Memory
             (S.log self.old.system) (S.log self.new.system) result }
         ensures started { self.new.started ≡ self.old.started }
         ensures starts { self.new.starts ≡ self.old.starts }
@@ -166,9 +167,9 @@ impl<S: System + Drop> ChildTools<S> {
 
 impl<S: System + Drop> Spawner for ChildTools<S> {
     ghost use Rattle.std.specs.Prelude.{map};
-    ghost use Rattle.odin_children.specs.Told.{told_of};
+    ghost use Rattle.odin_children.specs.Told.{children_view};
 
-    ghost told = { λ s. told_of (map (λ tool. tool.running) s.started.items) s.starts s.faults };
+    ghost told = { λ s. children_view (map (λ tool. tool.running) s.started.items) s.starts s.faults };
 
     fn start(&mut self, alloc: Global, job: &Job) -> Result<u32, StartFault>
         ensures slot { let told = ⟦<ChildTools<S> as Spawner>⟧.told in

@@ -12,11 +12,11 @@ use Rattle.meaning_texts.proofs.Lemmas.{word_decides}
 use Rattle.meaning_commands.specs.declared.commands.Command.{Command}
 use Rattle.meaning_commands.specs.declared.commands.Command.TheVariants.{Put, Ask, Plan, Bad, BadName}
 use Rattle.meaning_commands.specs.Commands.{Spells, formed, formless}
-use Rattle.meaning_commands.specs.Reading.{number_of, before_space, behind_space, is_argument, naming, put_of, put_words, first_of, formed_command}
+use Rattle.meaning_commands.specs.Reading.{decimal_number, before_space, behind_space, is_argument, naming, put_of, put_words, first_command_of, formed_command}
 use Rattle.meaning_commands.proofs.Lemmas.{reads_number, none_number, before_is, behind_is, none_space, none_behind, argument_test, form_reads, reads_form}
 use Rattle.odin_commands.specs.declared.read.Argument.{Argument}
 use Rattle.odin_commands.specs.declared.read.Argument.TheVariants.{Name, Other, NoWord}
-use Rattle.odin_commands.specs.Arguments.{argument_of, taken, dropped, single_word}
+use Rattle.odin_commands.specs.Arguments.{argument_of, take_command, drop_command, single_word}
 
 -- ---- a word in the place of a name
 
@@ -38,17 +38,17 @@ may_name word some spaceless = argument_test word (record { some = some; spacele
 -- ---- the words behind `put `
 
 pub no_put_space : (rest : List ℕ) → HasNo 32 rest → None ≡ put_words rest
-no_put_space rest h = sym (ap (λ o. put_of (before_space rest) (option_and_then number_of o)) (none_space rest h))
+no_put_space rest h = sym (ap (λ o. put_of (before_space rest) (option_and_then decimal_number o)) (none_space rest h))
 
 -- the words are cut at the first space
-pub put_cut : (rest word digits : List ℕ) → rest ≡ word ++ 32 ∷ digits → HasNo 32 word → put_words rest ≡ put_of word (number_of digits)
-put_cut rest word digits is spaceless = ap put_words is ∙ ap (λ w. put_of w (option_and_then number_of (behind_space (word ++ 32 ∷ digits)))) (before_is word digits spaceless) ∙ ap (λ o. put_of word (option_and_then number_of o)) (behind_is word digits spaceless)
+pub put_cut : (rest word digits : List ℕ) → rest ≡ word ++ 32 ∷ digits → HasNo 32 word → put_words rest ≡ put_of word (decimal_number digits)
+put_cut rest word digits is spaceless = ap put_words is ∙ ap (λ w. put_of w (option_and_then decimal_number (behind_space (word ++ 32 ∷ digits)))) (before_is word digits spaceless) ∙ ap (λ o. put_of word (option_and_then decimal_number o)) (behind_is word digits spaceless)
 
 pub no_put_number : (rest word digits : List ℕ) → rest ≡ word ++ 32 ∷ digits → HasNo 32 word → ((n : ℕ) → n < 2 ^ 64 → digits ≢ decimal n) → None ≡ put_words rest
 no_put_number rest word digits is spaceless none = sym (put_cut rest word digits is spaceless ∙ ap (put_of word) (none_number digits none))
 
 pub put_number : (rest word digits : List ℕ) (count : ℕ) → rest ≡ word ++ 32 ∷ digits → HasNo 32 word → count < 2 ^ 64 → digits ≡ decimal count → put_words rest ≡ naming (Put word count) count word
-put_number rest word digits count is spaceless small spelled = put_cut rest word digits is spaceless ∙ ap (λ d. put_of word (number_of d)) spelled ∙ ap (put_of word) (reads_number count small)
+put_number rest word digits count is spaceless small spelled = put_cut rest word digits is spaceless ∙ ap (λ d. put_of word (decimal_number d)) spelled ∙ ap (put_of word) (reads_number count small)
 
 -- the command that is made of what stands in the place of a name
 abbrev pub put_made : ℕ → Argument → Option Command
@@ -80,11 +80,11 @@ pub record HasNoFirst (line : List ℕ) : Type 0 where
   pub ask : (rest : List ℕ) → line ≢ codes "ask " ++ rest
   pub plan : (rest : List ℕ) → line ≢ codes "plan " ++ rest
 
-none_first : (n : ℕ) → ◌≡◌ {A = Option Command} None (first_of (replicate n None))
+none_first : (n : ℕ) → ◌≡◌ {A = Option Command} None (first_command_of (replicate n None))
 none_first zero = refl
 none_first (suc n) = none_first n
 
-only_first : (o : Option Command) (n : ℕ) → o ≡ first_of (o ∷ replicate n None)
+only_first : (o : Option Command) (n : ℕ) → o ≡ first_command_of (o ∷ replicate n None)
 only_first None n = none_first n
 only_first (Some command) n = refl
 
@@ -92,13 +92,13 @@ pub behind_put : (rest : List ℕ) → put_words rest ≡ formed_command (codes 
 unfolding formed_command
 behind_put rest = only_first (put_words rest) 7
 
-pub behind_take : (word : List ℕ) → taken word ≡ formed_command (codes "take " ++ word)
+pub behind_take : (word : List ℕ) → take_command word ≡ formed_command (codes "take " ++ word)
 unfolding formed_command
-behind_take word = only_first (taken word) 6
+behind_take word = only_first (take_command word) 6
 
-pub behind_drop : (word : List ℕ) → dropped word ≡ formed_command (codes "drop " ++ word)
+pub behind_drop : (word : List ℕ) → drop_command word ≡ formed_command (codes "drop " ++ word)
 unfolding formed_command
-behind_drop word = only_first (dropped word) 5
+behind_drop word = only_first (drop_command word) 5
 
 pub behind_ask : (text : List ℕ) → Some (Ask text) ≡ formed_command (codes "ask " ++ text)
 unfolding formed_command

@@ -6,7 +6,7 @@ use meaning_commands::Command;
 
 /// How many bytes behind its line belong to a command, whether they are a text or passed over.
 pub fn body_size(command: &Command) -> u64
-    ensures { result ≡ meaning.takes command.now }
+    ensures { result ≡ meaning.bytes_after_line command.now }
 {
     match command {
         Command::Put(_, count) => *count,

@@ -2,7 +2,7 @@
 ghost use Rattle.std.specs.Prelude.{◌≡◌, IfOk};
 ghost use Rattle.meaning_commands.specs.Commands.{Spells};
 ghost use Rattle.meaning_commands.specs.Reading.{put_words, formed_command};
-ghost use Rattle.odin_commands.specs.Arguments.{argument_of, taken, dropped, single_word};
+ghost use Rattle.odin_commands.specs.Arguments.{argument_of, take_command, drop_command, single_word};
 
 use meaning_commands::Command;
 use object_values::{Bytes, COMMAND_LIMIT, Memory};
@@ -50,7 +50,7 @@ fn read_put(alloc: Global, rest: &[u8]) -> Result<Option<Command>, Memory>
 
 // The command behind `take `.
 fn read_take(alloc: Global, word: &[u8]) -> Result<Option<Command>, Memory>
-    ensures { IfOk result (λ command. command ≡ taken word.now) }
+    ensures { IfOk result (λ command. command ≡ take_command word.now) }
 {
     match read_argument(alloc, word)? {
         Argument::Name(name) => Ok(Some(Command::Take(name))),
@@ -61,7 +61,7 @@ fn read_take(alloc: Global, word: &[u8]) -> Result<Option<Command>, Memory>
 
 // The command behind `drop `.
 fn read_drop(alloc: Global, word: &[u8]) -> Result<Option<Command>, Memory>
-    ensures { IfOk result (λ command. command ≡ dropped word.now) }
+    ensures { IfOk result (λ command. command ≡ drop_command word.now) }
 {
     match read_argument(alloc, word)? {
         Argument::Name(name) => Ok(Some(Command::Remove(name))),

@@ -1,7 +1,7 @@
 // The replies, each by its variant.
 ghost use Rattle.std.specs.Prelude.{◌≡◌, ◌++◌, IfOk, OnOk, OnErr};
 ghost use Rattle.meaning_commands.specs.Replies.{reply_text};
-ghost use Rattle.odin_commands.specs.Writing.{Adds};
+ghost use Rattle.odin_commands.specs.Writing.{AppendsText};
 
 use crate::lines::{write_counted, write_line, write_lines, write_named, write_named_count};
 use crate::objects::write_object;
@@ -14,7 +14,7 @@ const USUAL_ROOM: usize = 96;
 
 // Leaves what it began at want of memory.
 fn put_reply(reply: &Reply, out: &mut Bytes) -> Result<(), Memory>
-    ensures { Adds result out.old out.new (reply_text reply.now) }
+    ensures { AppendsText result out.old out.new (reply_text reply.now) }
 {
     match reply {
         Reply::Put(name, count) => write_named_count(b"put ", name.as_slice(), *count, out),

@@ -15,11 +15,11 @@ use Rattle.kept_derive.specs.declared.fault.KeptFault.TheVariants as stop
 use Rattle.kept_derive.specs.Runs.{At, HasFound}
 use Rattle.kept_derive.specs.Stops.{IsStopped}
 use Rattle.kept_derive.specs.Rests.{ComesToRest, LeavesTools as LeavesKept}
-use Rattle.kept_derive.specs.Faults.{IsLeft as IsKeptLeft, IsCause as IsKeptCause}
+use Rattle.kept_derive.specs.Faults.{StoreAfterDerive as IsKeptLeft, KeptFaultIsCounted as IsKeptCause}
 use Rattle.odin_engine.specs.declared.fault.AskFault.{AskFault}
 use Rattle.odin_engine.specs.declared.fault.AskFault.TheVariants as fault
 use Rattle.odin_engine.specs.Asked.{IsNodeOf, IsRefusedFor}
-use Rattle.odin_engine.specs.Asking.{IsAnswered, IsAskFault, answer_of, LeavesTools, IsLeftBy, IsLeft, IsCauseOf, IsCause}
+use Rattle.odin_engine.specs.Asking.{IsAnswered, IsAskFault, answer_of, AskLeavesTools, StoreAfterAskFault, StoreAfterAsk, CountAfterAskFault, AskFaultIsCounted}
 
 module _ {D : Type 0} (told : D → Telling) (g : Graph) (limit : ℕ) (text : Text) (node : Node) (is : IsNodeOf g text node) (old new : At D) where
   pub answered : (r : Result Found KeptFault) → IfOk r (HasFound told g node limit old new) → IfOk (answer_of r) (IsAnswered told g limit text old new)
@@ -42,7 +42,7 @@ module _ {D : Type 0} (told : D → Telling) (g : Graph) (limit : ℕ) (text : T
 
 -- ---- what is left
 
-pub left_so : (store : Store) (size : ℕ) (r : Result Found KeptFault) → IsKeptLeft store size r → IsLeft store size (answer_of r)
+pub left_so : (store : Store) (size : ℕ) (r : Result Found KeptFault) → IsKeptLeft store size r → StoreAfterAsk store size (answer_of r)
 left_so store size (Ok (found.Answer view)) left = record { ready = left.ready; left = tt }
 left_so store size (Ok (found.Circular chain)) left = record { ready = tt; left = left.ready }
 left_so store size (Ok (found.Deep chain)) left = record { ready = tt; left = left.ready }
@@ -51,7 +51,7 @@ left_so store size (Err stop.Disk) left = record { ready = tt; left = left.left 
 left_so store size (Err (stop.Full end count)) left = record { ready = tt; left = left.left }
 left_so store size (Err stop.Memory) left = record { ready = tt; left = left.left }
 
-pub cause_so : (before now : ℕ) (r : Result Found KeptFault) → IsKeptCause before now r → IsCause before now (answer_of r)
+pub cause_so : (before now : ℕ) (r : Result Found KeptFault) → IsKeptCause before now r → AskFaultIsCounted before now (answer_of r)
 cause_so before now (Ok (found.Answer view)) cause = record { later = cause.later; ok = cause.ok; err = tt }
 cause_so before now (Ok (found.Circular chain)) cause = record { later = cause.later; ok = tt; err = cause.ok }
 cause_so before now (Ok (found.Deep chain)) cause = record { later = cause.later; ok = tt; err = cause.ok }
@@ -60,7 +60,7 @@ cause_so before now (Err stop.Disk) cause = record { later = cause.later; ok = t
 cause_so before now (Err (stop.Full end count)) cause = record { later = cause.later; ok = tt; err = cause.err }
 cause_so before now (Err stop.Memory) cause = record { later = cause.later; ok = tt; err = cause.err }
 
-pub rests_so : (limit : ℕ) (before now : Spawned) (r : Result Found KeptFault) → ComesToRest LeavesKept limit before now r → ComesToRest LeavesTools limit before now (answer_of r)
+pub rests_so : (limit : ℕ) (before now : Spawned) (r : Result Found KeptFault) → ComesToRest LeavesKept limit before now r → ComesToRest AskLeavesTools limit before now (answer_of r)
 rests_so limit before now (Ok (found.Answer view)) rest = record { answer = rest.answer; few = rest.few; idle = rest.idle; left = tt }
 rests_so limit before now (Ok (found.Circular chain)) rest = record { answer = rest.answer; few = rest.few; idle = tt; left = λ not. rest.idle }
 rests_so limit before now (Ok (found.Deep chain)) rest = record { answer = rest.answer; few = rest.few; idle = tt; left = λ not. rest.idle }
@@ -83,7 +83,7 @@ refused_so told g limit text now fault.Disk refused = absurd refused
 refused_so told g limit text now (fault.Full end count) refused = absurd refused
 refused_so told g limit text now fault.Memory refused = inl refl
 
-refused_left : (g : Graph) (text : Text) (store : Store) (size : ℕ) (given : AskFault) → IsRefusedFor g text given → IsReady store.journal size → IsLeftBy store size given
+refused_left : (g : Graph) (text : Text) (store : Store) (size : ℕ) (given : AskFault) → IsRefusedFor g text given → IsReady store.journal size → StoreAfterAskFault store size given
 refused_left g text store size (fault.Expression place) refused ready = ready
 refused_left g text store size (fault.UnknownType name) refused ready = ready
 refused_left g text store size (fault.UnknownParam name) refused ready = ready
@@ -95,7 +95,7 @@ refused_left g text store size fault.Disk refused ready = absurd refused
 refused_left g text store size (fault.Full end count) refused ready = ready
 refused_left g text store size fault.Memory refused ready = ready
 
-refused_cause : (g : Graph) (text : Text) (count : ℕ) (given : AskFault) → IsRefusedFor g text given → IsCauseOf count count given
+refused_cause : (g : Graph) (text : Text) (count : ℕ) (given : AskFault) → IsRefusedFor g text given → CountAfterAskFault count count given
 refused_cause g text count (fault.Expression place) refused = refl
 refused_cause g text count (fault.UnknownType name) refused = refl
 refused_cause g text count (fault.UnknownParam name) refused = refl
@@ -111,12 +111,12 @@ refused_cause g text count fault.Memory refused = refl
 pub refused_at : {D : Type 0} (r : Result View AskFault) (told : D → Telling) (g : Graph) (limit : ℕ) (text : Text) (now : At D) (given : AskFault) → r ≡ Err given → IsRefusedFor g text given → IfErr r (IsAskFault told g limit text now now)
 refused_at r told g limit text now given is refused = subst (λ z. IfErr z (IsAskFault told g limit text now now)) (sym is) (refused_so told g limit text now given refused)
 
-pub refused_leaves : (g : Graph) (text : Text) (store : Store) (size : ℕ) (r : Result View AskFault) (given : AskFault) → r ≡ Err given → IsRefusedFor g text given → IsReady store.journal size → IsLeft store size r
-refused_leaves g text store size r given is refused ready = subst (IsLeft store size) (sym is) (record { ready = tt; left = refused_left g text store size given refused ready })
+pub refused_leaves : (g : Graph) (text : Text) (store : Store) (size : ℕ) (r : Result View AskFault) (given : AskFault) → r ≡ Err given → IsRefusedFor g text given → IsReady store.journal size → StoreAfterAsk store size r
+refused_leaves g text store size r given is refused ready = subst (StoreAfterAsk store size) (sym is) (record { ready = tt; left = refused_left g text store size given refused ready })
 
-pub refused_counts : (g : Graph) (text : Text) (count : ℕ) (r : Result View AskFault) (given : AskFault) → r ≡ Err given → IsRefusedFor g text given → IsCause count count r
-refused_counts g text count r given is refused = subst (IsCause count count) (sym is) (record { later = omega arith; ok = tt; err = refused_cause g text count given refused })
+pub refused_counts : (g : Graph) (text : Text) (count : ℕ) (r : Result View AskFault) (given : AskFault) → r ≡ Err given → IsRefusedFor g text given → AskFaultIsCounted count count r
+refused_counts g text count r given is refused = subst (AskFaultIsCounted count count) (sym is) (record { later = omega arith; ok = tt; err = refused_cause g text count given refused })
 
-pub refused_rests : (r : Result View AskFault) (limit : ℕ) (now : Spawned) → now.running ≡ [] → ComesToRest LeavesTools limit now now r
+pub refused_rests : (r : Result View AskFault) (limit : ℕ) (now : Spawned) → now.running ≡ [] → ComesToRest AskLeavesTools limit now now r
 refused_rests (Ok view) limit now idle = let none = ap length idle in record { answer = refl; few = omega (arith, none); idle = idle; left = tt }
 refused_rests (Err given) limit now idle = let none = ap length idle in record { answer = refl; few = omega (arith, none); idle = tt; left = λ not. idle }

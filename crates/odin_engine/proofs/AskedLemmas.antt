@@ -10,7 +10,7 @@ use Rattle.meaning_nodes.specs.NodeOf.{is_node, node_of}
 use Rattle.meaning_answers.specs.Answers.{Refused}
 use Rattle.request_parser.specs.declared.fault.ExpressionFault.{ExpressionFault}
 use Rattle.request_parser.specs.declared.fault.ExpressionFault.TheVariants as unread
-use Rattle.request_parser.specs.Refused.{IsRefusal}
+use Rattle.request_parser.specs.Refused.{IsExpressionRefusal}
 use Rattle.odin_nodes.specs.declared.fault.NodeFault.{NodeFault}
 use Rattle.odin_nodes.specs.declared.fault.NodeFault.TheVariants as none
 use Rattle.odin_nodes.specs.Refusals.{IsNodeRefusal}
@@ -21,7 +21,7 @@ use Rattle.odin_engine.specs.declared.fault.AskFault.{AskFault}
 pub numbered : (text : Text) (e : Expression) → ExpressionText text e → length e.steps < 2 ^ 32
 numbered text e is = let few : length e.steps ≤ 1000 = few_steps text e is in omega (arith, few)
 
-pub unread_refused : (g : Graph) (text : Text) (fault : ExpressionFault) (given : AskFault) → IsRefusal text fault → IsFaultOf fault given → IsRefusedFor g text given
+pub unread_refused : (g : Graph) (text : Text) (fault : ExpressionFault) (given : AskFault) → IsExpressionRefusal text fault → IsFaultOf fault given → IsRefusedFor g text given
 unread_refused g text (unread.BadAt place) given is same = subst (IsRefusedFor g text) (sym same) (Refused.expression text place is)
 unread_refused g text unread.Memory given is same = subst (IsRefusedFor g text) (sym same) tt
 

@@ -54,27 +54,27 @@ answer_of (Err (stop.Full end count)) = Err (fault.Full end count)
 answer_of (Err stop.Memory) = Err fault.Memory
 
 -- the faults that leave what runs
-abbrev pub LeavesTools : AskFault → Type 0
-LeavesTools fault.Disk = ⊤
-LeavesTools (fault.Full end count) = ⊤
-LeavesTools fault.Memory = ⊤
-LeavesTools other = ⊥
+abbrev pub AskLeavesTools : AskFault → Type 0
+AskLeavesTools fault.Disk = ⊤
+AskLeavesTools (fault.Full end count) = ⊤
+AskLeavesTools fault.Memory = ⊤
+AskLeavesTools other = ⊥
 
 -- what a fault leaves of a store: it is spent where the disk failed, and else can be changed on
-abbrev pub IsLeftBy : Store → ℕ → AskFault → Type 0
-IsLeftBy store size fault.Disk = IsTrue store.journal.spent
-IsLeftBy store size other = IsReady store.journal size
+abbrev pub StoreAfterAskFault : Store → ℕ → AskFault → Type 0
+StoreAfterAskFault store size fault.Disk = IsTrue store.journal.spent
+StoreAfterAskFault store size other = IsReady store.journal size
 
-pub record IsLeft (store : Store) (size : ℕ) (result : Result View AskFault) : Type 0 where
+pub record StoreAfterAsk (store : Store) (size : ℕ) (result : Result View AskFault) : Type 0 where
   pub ready : OnOk result (IsReady store.journal size)
-  pub left : IfErr result (IsLeftBy store size)
+  pub left : IfErr result (StoreAfterAskFault store size)
 
 -- the disk's count of faults rose where the disk failed, and else is as it was
-abbrev pub IsCauseOf : ℕ → ℕ → AskFault → Type 0
-IsCauseOf before now fault.Disk = Rose before now
-IsCauseOf before now other = now ≡ before
+abbrev pub CountAfterAskFault : ℕ → ℕ → AskFault → Type 0
+CountAfterAskFault before now fault.Disk = Rose before now
+CountAfterAskFault before now other = now ≡ before
 
-pub record IsCause (before now : ℕ) (result : Result View AskFault) : Type 0 where
+pub record AskFaultIsCounted (before now : ℕ) (result : Result View AskFault) : Type 0 where
   pub later : before ≤ now
   pub ok : OnOk result (now ≡ before)
-  pub err : IfErr result (IsCauseOf before now)
+  pub err : IfErr result (CountAfterAskFault before now)

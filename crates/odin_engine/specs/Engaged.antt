@@ -15,6 +15,6 @@ pub record Engaged : Type 0 where
   pub store : Store
 
 -- its graph and its limit stay
-pub record Stays (old new : Engaged) : Type 0 where
+pub record GraphStays (old new : Engaged) : Type 0 where
   pub graph : new.graph ≡ old.graph
   pub jobs : new.jobs ≡ old.jobs

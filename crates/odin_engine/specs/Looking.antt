@@ -15,7 +15,7 @@ use Rattle.odin_engine.specs.declared.fault.AskFault.TheVariants as fault
 use Rattle.odin_engine.specs.Asked.{IsNodeOf}
 
 -- What was found of a node, or why not, and the looks that it took.
-pub record IsDerived {Disk : Type 0} (told : Disk → Telling) (g : Graph) (n : Node) (limit : ℕ) (old new : At Disk) (first last : ℕ) (result : Result Found KeptFault) : Type 0 where
+pub record IsDerivedWithLooks {Disk : Type 0} (told : Disk → Telling) (g : Graph) (n : Node) (limit : ℕ) (old new : At Disk) (first last : ℕ) (result : Result Found KeptFault) : Type 0 where
   pub found : IfOk result (HasFound told g n limit old new)
   pub stopped : IfErr result (IsStopped told g n limit old new)
   pub looks : AreLooks told g n limit old new first last result

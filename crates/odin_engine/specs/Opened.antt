@@ -12,7 +12,7 @@ pub record MayOpen (text : List ℕ) (graph : List Decl) (jobs : ℕ) : Type 0 w
   pub limit : IsLimit jobs
 
 -- The engine has this graph and this limit and counts no edit yet, and it may be used over a disk of this size.
-pub record IsNew (graph : List Decl) (jobs size : ℕ) (engine : Engaged) : Type 0 where
+pub record EngineIsNew (graph : List Decl) (jobs size : ℕ) (engine : Engaged) : Type 0 where
   pub graph_is : engine.graph ≡ graph
   pub jobs_is : engine.jobs ≡ jobs
   pub first : IsAtFirst engine.store

@@ -2,12 +2,12 @@
 ghost use Rattle.std.specs.Prelude.{◌≡◌, IfOk, IfErr};
 ghost use Rattle.kept_derive.specs.Calls.{IsIdle};
 ghost use Rattle.meaning_nodes.specs.Nodes.{Fits};
-ghost use Rattle.kept_derive.specs.Faults.{IsCause as IsKeptCause, IsLeft as IsKeptLeft};
+ghost use Rattle.kept_derive.specs.Faults.{KeptFaultIsCounted as IsKeptCause, StoreAfterDerive as IsKeptLeft};
 ghost use Rattle.kept_derive.specs.Rests.{ComesToRest, LeavesTools as LeavesKept};
 ghost use Rattle.kept_derive.specs.Runs.{at};
-ghost use Rattle.odin_engine.specs.Asking.{answer_of, IsAnswered, IsAskFault, IsCause, IsLeft, LeavesTools};
-ghost use Rattle.odin_engine.specs.Engaged.{Stays};
-ghost use Rattle.odin_engine.specs.Looking.{AreAskLooks, IsDerived};
+ghost use Rattle.odin_engine.specs.Asking.{answer_of, IsAnswered, IsAskFault, AskFaultIsCounted, StoreAfterAsk, AskLeavesTools};
+ghost use Rattle.odin_engine.specs.Engaged.{GraphStays};
+ghost use Rattle.odin_engine.specs.Looking.{AreAskLooks, IsDerivedWithLooks};
 
 use crate::engine::Engine;
 use crate::fault::AskFault;
@@ -35,11 +35,11 @@ impl Engine {
         ensures err { let old = at self.old.store disk.old (S.told tools.old) in
             IfErr result (IsAskFault D.told self.old.graph self.old.jobs text.now
             old (at self.new.store disk.new (S.told tools.new))) }
-        ensures stays { Stays self.old self.new }
-        ensures rest { ComesToRest LeavesTools self.old.jobs
+        ensures stays { GraphStays self.old self.new }
+        ensures rest { ComesToRest AskLeavesTools self.old.jobs
             (S.told tools.old) (S.told tools.new) result }
-        ensures left { IsLeft self.new.store (D.size_of disk.new) result }
-        ensures cause { IsCause (D.faults disk.old) (D.faults disk.new) result }
+        ensures left { StoreAfterAsk self.new.store (D.size_of disk.new) result }
+        ensures cause { AskFaultIsCounted (D.faults disk.old) (D.faults disk.new) result }
         ensures counted { let old = at self.old.store disk.old (S.told tools.old) in
             AreAskLooks D.told self.old.graph self.old.jobs text.now
             old (at self.new.store disk.new (S.told tools.new)) steps.old steps.new result }
@@ -61,9 +61,9 @@ impl Engine {
         requires fits { Fits self.old.graph node.now }
         requires idle { IsIdle self.old.store (D.size_of disk.old) (S.told tools.old) }
         ensures derived { let old = at self.old.store disk.old (S.told tools.old) in
-            IsDerived D.told self.old.graph node.now self.old.jobs
+            IsDerivedWithLooks D.told self.old.graph node.now self.old.jobs
             old (at self.new.store disk.new (S.told tools.new)) steps.old steps.new result }
-        ensures stays { Stays self.old self.new }
+        ensures stays { GraphStays self.old self.new }
         ensures left { IsKeptLeft self.new.store (D.size_of disk.new) result }
         ensures cause { IsKeptCause (D.faults disk.old) (D.faults disk.new) result }
         ensures rest { ComesToRest LeavesKept self.old.jobs

@@ -1,16 +1,16 @@
 // The engine: its opening, and the edits of the sources.
 ghost use Rattle.std.specs.Prelude.{◌≡◌, ◌+◌, length, IfOk, IfErr};
 ghost use Rattle.path_planner.specs.Ends.{plans_of};
-ghost use Rattle.odin_journal.specs.Faults.{IsCause};
+ghost use Rattle.odin_journal.specs.Faults.{JournalFaultIsCounted};
 ghost use Rattle.odin_journal.specs.Moments.{Works};
 ghost use Rattle.odin_store.specs.Held.{puts, drops};
-ghost use Rattle.odin_store.specs.OnDisk.{BeginsOnce, IsLeft, IsOpen};
-ghost use Rattle.odin_store.specs.Opening.{graph_record, IsOpenFault, LeavesOpening, OpensQuiet};
+ghost use Rattle.odin_store.specs.OnDisk.{BeginsOnce, StoreAfter, StoreIsOpen};
+ghost use Rattle.odin_store.specs.Opening.{graph_record, IsStoreOpenFault, LeavesOpening, OpensQuietStore};
 ghost use Rattle.odin_store.specs.Changes.{DropBatch, MayPut, PutBatch};
 ghost use Rattle.odin_store.specs.Edited.{HasFailed, HasPut, HasDropped};
 ghost use Rattle.odin_engine.specs.Asked.{IsNodeOf, IsRefusedFor};
-ghost use Rattle.odin_engine.specs.Engaged.{Stays};
-ghost use Rattle.odin_engine.specs.Opened.{IsNew, MayOpen};
+ghost use Rattle.odin_engine.specs.Engaged.{GraphStays};
+ghost use Rattle.odin_engine.specs.Opened.{EngineIsNew, MayOpen};
 
 use crate::asked::node_of_text;
 use crate::fault::AskFault;
@@ -76,14 +76,14 @@ impl Engine {
     ) -> Result<Engine, StoreFault>
         requires { MayOpen text.now graph jobs }
         ensures opened { IfOk result (λ engine.
-            OpensQuiet text.now (D.told disk.old) (D.told disk.new) engine.store) }
-        ensures new { IfOk result (IsNew graph jobs (D.size_of disk.new)) }
+            OpensQuietStore text.now (D.told disk.old) (D.told disk.new) engine.store) }
+        ensures new { IfOk result (EngineIsNew graph jobs (D.size_of disk.new)) }
         ensures any_moment { LeavesOpening text.now (D.told disk.old) (D.told disk.new) }
         ensures refused { IfErr result
-            (IsOpenFault text.now (D.told disk.old) (D.told disk.new)) }
+            (IsStoreOpenFault text.now (D.told disk.old) (D.told disk.new)) }
         ensures works { D.size_of disk.old ≡ 0
             → Works (72 + length (graph_record text.now)) 20 (D.told disk.old) (D.told disk.new) }
-        ensures cause { IsCause (D.faults disk.old) (D.faults disk.new) result }
+        ensures cause { JournalFaultIsCounted (D.faults disk.old) (D.faults disk.new) result }
     {
         let plans = Plans::new(alloc, &graph)?;
         let store = Store::open(alloc, disk, text)?;
@@ -108,11 +108,11 @@ impl Engine {
             (HasPut D.told name.now text.now self.old.store self.new.store disk.old disk.new) }
         ensures err { IfErr result (HasFailed D.told (puts name.now text.now)
             self.old.store self.new.store disk.old disk.new) }
-        ensures stays { Stays self.old self.new }
-        ensures left { IsLeft self.new.store (D.size_of disk.new) result }
+        ensures stays { GraphStays self.old self.new }
+        ensures left { StoreAfter self.new.store (D.size_of disk.new) result }
         ensures begins { BeginsOnce (PutBatch self.old.store name.now text.now) self.old.store
             (D.told disk.old) (D.told disk.new) }
-        ensures cause { IsCause (D.faults disk.old) (D.faults disk.new) result }
+        ensures cause { JournalFaultIsCounted (D.faults disk.old) (D.faults disk.new) result }
     {
         edits_are_told::<D>();
         self.store.put_source(alloc, disk, name, text)
@@ -125,16 +125,16 @@ impl Engine {
         disk: &mut D,
         name: &Name,
     ) -> Result<bool, StoreFault>
-        requires { IsOpen self.old.store (D.size_of disk.old) }
+        requires { StoreIsOpen self.old.store (D.size_of disk.old) }
         ensures ok { IfOk result
             (HasDropped D.told name.now self.old.store self.new.store disk.old disk.new) }
         ensures err { IfErr result (HasFailed D.told (drops name.now)
             self.old.store self.new.store disk.old disk.new) }
-        ensures stays { Stays self.old self.new }
-        ensures left { IsLeft self.new.store (D.size_of disk.new) result }
+        ensures stays { GraphStays self.old self.new }
+        ensures left { StoreAfter self.new.store (D.size_of disk.new) result }
         ensures begins { BeginsOnce (DropBatch name.now) self.old.store
             (D.told disk.old) (D.told disk.new) }
-        ensures cause { IsCause (D.faults disk.old) (D.faults disk.new) result }
+        ensures cause { JournalFaultIsCounted (D.faults disk.old) (D.faults disk.new) result }
     {
         edits_are_told::<D>();
         self.store.drop_source(alloc, disk, name)

@@ -11,9 +11,9 @@ use Rattle.odin_outside.specs.declared.events.ToolEvent.TheVariants.{Ended, Lost
 use Rattle.object_values.specs.declared.jobs.Job.{Job}
 use Rattle.object_values.specs.declared.jobs.Raw.{Raw}
 use Rattle.odin_outside.specs.Causes.{IsCounted}
-use Rattle.odin_outside.specs.Spawned.{Stops, Ends, Loses}
+use Rattle.odin_outside.specs.Spawned.{StopsJob, Ends, Loses}
 use Rattle.odin_fakes.specs.declared.plan.Failing.{Failing}
-use Rattle.odin_fakes.specs.Tools.{Tools, told_with, told_failing, answer_of, place_among, next_place, ended, EndsNext, LosesNext}
+use Rattle.odin_fakes.specs.Tools.{Tools, told_with, told_failing, answer_to_job, place_among, next_place, ended, EndsNext, LosesNext}
 
 -- a number of the order is used up, if one is left
 pub used : (order : List ℕ) (ended next : ℕ) → ended ≤ length order → length order < 18446744073709551616 → next ≡ min (min (ended + 1) 18446744073709551615) (length order) → drop next order ≡ drop 1 (drop ended order)
@@ -40,7 +40,7 @@ after_next old place rest event placed rest_is =
     ap (λ (r : List ℕ). without old r place event) rest_is ∙ ap (λ (p : ℕ). without old (drop 1 old.order) p event) placed
 
 -- What runs is cut at the next place. So many faults were counted by then.
-pub told_stops : (old : Tools) (tool : Running) (event : ToolEvent) (before now : ℕ) → slice_get old.running (next_place old) ≡ Some tool → Stops (told_with before old) tool.slot tool.job event now (told_with now (ended old event))
+pub told_stops : (old : Tools) (tool : Running) (event : ToolEvent) (before now : ℕ) → slice_get old.running (next_place old) ≡ Some tool → StopsJob (told_with before old) tool.slot tool.job event now (told_with now (ended old event))
 told_stops old tool event before now next =
     let inside : next_place old < length old.running = slice_get_within old.running (next_place old) tool next in
     let here : get_or old.running (next_place old) tool ≡ tool = get_or_from_slice_get old.running (next_place old) tool tool next in
@@ -59,11 +59,11 @@ read_next old place tool some is at =
 pub loses_next : (old new : Tools) (place : ℕ) (tool : Running) → 0 < length old.running → place ≡ next_place old → tool ≡ get_or old.running place tool → new ≡ ended old (Lost tool.slot) → LosesNext old tool.slot new
 loses_next old new place tool some is at after = record { job = tool.job; next = read_next old place tool some is at; after = after }
 
-pub ends_next : (old new : Tools) (place : ℕ) (tool : Running) (raw : Raw) → 0 < length old.running → place ≡ next_place old → tool ≡ get_or old.running place tool → raw ≡ answer_of old.answers tool.job → new ≡ ended old (Ended tool.slot) → EndsNext old tool.slot raw new
+pub ends_next : (old new : Tools) (place : ℕ) (tool : Running) (raw : Raw) → 0 < length old.running → place ≡ next_place old → tool ≡ get_or old.running place tool → raw ≡ answer_to_job old.answers tool.job → new ≡ ended old (Ended tool.slot) → EndsNext old tool.slot raw new
 ends_next old new place tool raw some is at answer after = record { job = tool.job; next = read_next old place tool some is at; answer = answer; after = after }
 
-stops_here : (old new : Tools) (slot : ℕ) (job : Job) (event : ToolEvent) (before now : ℕ) → slice_get old.running (next_place old) ≡ Some (record { slot = slot; job = job }) → new ≡ ended old event → Stops (told_with before old) slot job event now (told_with now new)
-stops_here old new slot job event before now next after = subst (λ (t : Tools). Stops (told_with before old) slot job event now (told_with now t)) (sym after) (told_stops old (record { slot = slot; job = job }) event before now next)
+stops_here : (old new : Tools) (slot : ℕ) (job : Job) (event : ToolEvent) (before now : ℕ) → slice_get old.running (next_place old) ≡ Some (record { slot = slot; job = job }) → new ≡ ended old event → StopsJob (told_with before old) slot job event now (told_with now new)
+stops_here old new slot job event before now next after = subst (λ (t : Tools). StopsJob (told_with before old) slot job event now (told_with now t)) (sym after) (told_stops old (record { slot = slot; job = job }) event before now next)
 
 pub told_loses : (old new : Tools) (slot before now : ℕ) → IsCounted before now → LosesNext old slot new → Loses (told_with before old) slot (told_with now new)
 told_loses old new slot before now counted l = record { job = l.job; counted = counted; stops = stops_here old new slot l.job (Lost slot) before now l.next l.after }

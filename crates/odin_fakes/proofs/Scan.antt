@@ -6,7 +6,7 @@ use Rattle.std.specs.Cmp.Lexicographic.{slice_cmp, nat_list_cmp_total, texts_tie
 use Rattle.std.specs.FinMap.{find}
 use Rattle.std.proofs.lemmas.List.{at_drop_more, take_min}
 use Rattle.object_values.specs.declared.jobs.FileBody.{FileBody}
-use Rattle.odin_outside.specs.Files.{file_limit}
+use Rattle.odin_outside.specs.Files.{given_file_limit}
 use Rattle.odin_fakes.specs.Entry.{entry_of}
 
 -- what is found from a place on
@@ -30,7 +30,7 @@ passed name files at file inside is eq =
     at_place name files at file inside is ∙ ap (λ b. cond b (Some file.body) (found_from name files (at + 1))) (ties file.name name false eq)
 
 -- a body cut at the limit
-pub cut_body : (given stored body : List ℕ) (n : ℕ) → given ≡ take n stored → n ≡ min (length stored) file_limit → stored ≡ body → given ≡ take file_limit body
+pub cut_body : (given stored body : List ℕ) (n : ℕ) → given ≡ take n stored → n ≡ min (length stored) given_file_limit → stored ≡ body → given ≡ take given_file_limit body
 cut_body given stored body n is least same =
-    let turned : n ≡ min file_limit (length stored) = omega arith in
-    is ∙ ap (λ k. take k stored) turned ∙ take_min file_limit stored ∙ ap (λ bytes. take file_limit bytes) same
+    let turned : n ≡ min given_file_limit (length stored) = omega arith in
+    is ∙ ap (λ k. take k stored) turned ∙ take_min given_file_limit stored ∙ ap (λ bytes. take given_file_limit bytes) same

@@ -11,8 +11,8 @@ use Rattle.odin_fakes.specs.declared.choice.Choice.{Choice}
 use Rattle.odin_fakes.specs.declared.disk.Entry.{Entry}
 use Rattle.odin_fakes.specs.declared.disk.Entry.TheVariants as entry
 use Rattle.odin_fakes.specs.Calls.{Call, Wrote, WasCut, Looked, torn_count, changed, image_after, image_before, FitsIn, UndoesNewest}
-use Rattle.odin_fakes.specs.Choices.{IsWhole, Tells, past_digit}
-use Rattle.odin_fakes.specs.Entries.{call_of, calls_after, calls_of, bytes_left, EndsSynced, IsPending, DoesWhole, DoesNone, IsUnfinished, LeavesOut, LeavesOutLast, choice_past, Undoes, UndoesLast}
+use Rattle.odin_fakes.specs.Choices.{IsWhole, TearsAs, past_digit}
+use Rattle.odin_fakes.specs.Entries.{call_from_entry, calls_after, calls_from_entries, bytes_left, EndsSynced, IsPending, DoesWhole, DoesNone, IsUnfinished, LeavesOut, LeavesOutLast, choice_past, Undoes, UndoesLast}
 use Rattle.odin_fakes.proofs.Replaying.{after_both, last_call, Turn, turn_call, turn_whole}
 
 -- by the choice of whole calls each is done, and so are those behind it
@@ -49,7 +49,7 @@ lead [] = 0
 lead (kept ∷ []) = 0
 lead (kept ∷ next ∷ more) = lead (next ∷ more) + tears kept
 
-power_tells : (choice : Choice) (n : ℕ) → choice.rest ≡ 8 ^ suc n → IsFalse choice.chance → Tells 0 choice
+power_tells : (choice : Choice) (n : ℕ) → choice.rest ≡ 8 ^ suc n → IsFalse choice.chance → TearsAs 0 choice
 power_tells choice n is chance = record { digit = ap (λ r. r % 8) (is ∙ pow-suc 8 n) ∙ mul-mod_left (8 ^ n) 8; chance = chance }
 
 power_past : (rest n : ℕ) → rest ≡ 8 ^ suc n → rest / 8 ≡ 8 ^ n
@@ -60,7 +60,7 @@ record Leads (back : List Entry) (done : List Call) (number : ℕ) : Type 0 wher
   number_is : number ≡ 8 ^ (lead back + torn_count done)
   undoes : (choice : Choice) → choice.rest ≡ 8 ^ lead back → IsFalse choice.chance → UndoesLast back choice
 
-one_tells : (choice : Choice) → choice.rest ≡ 8 ^ 0 → IsFalse choice.chance → Tells 1 choice
+one_tells : (choice : Choice) → choice.rest ≡ 8 ^ 0 → IsFalse choice.chance → TearsAs 1 choice
 one_tells choice is chance = record { digit = ap (λ r. r % 8) is; chance = chance }
 
 leads : (kept : Entry) (more : List Entry) (bytes : List ℕ) (done : List Call) (number : ℕ) → All IsPending (kept ∷ more) → UndoesNewest number (calls_after (kept ∷ more) bytes done) → Leads (kept ∷ more) done number
@@ -102,9 +102,9 @@ record Settled (calls : List Call) : Type 0 where
   none : torn_count calls ≡ 0
   keeps : (number : ℕ) → UndoesNewest number calls → ⊥
 
-settled : (front : List Entry) (written : List ℕ) → EndsSynced front → Settled (calls_of front written)
+settled : (front : List Entry) (written : List ℕ) → EndsSynced front → Settled (calls_from_entries front written)
 settled front written (inl none) =
-    let empty : calls_of front written ≡ [] = ap (λ (es : List Entry). calls_of es written) none in
+    let empty : calls_from_entries front written ≡ [] = ap (λ (es : List Entry). calls_from_entries es written) none in
     subst Settled (sym empty) (record { none = refl; keeps = λ number undoes. undoes })
 settled front written (inr ends) = subst Settled (sym (last_call front ends.0 written ends.1)) (record { none = refl; keeps = λ number undoes. undoes })
 
@@ -116,17 +116,17 @@ undoes_back (kept ∷ more) bytes done choice before pending undoes =
     all.undoes choice (all.number_is ∙ ap (λ k. 8 ^ k) count) undoes.chance
 
 -- the choice undoes the last of the calls that are pending
-undoes_pending : (entries : List Entry) (written : List ℕ) (place : ℕ) (choice : Choice) → EndsSynced (take place entries) → All IsPending (drop place entries) → Undoes choice (calls_of entries written) → UndoesLast (drop place entries) choice
+undoes_pending : (entries : List Entry) (written : List ℕ) (place : ℕ) (choice : Choice) → EndsSynced (take place entries) → All IsPending (drop place entries) → Undoes choice (calls_from_entries entries written) → UndoesLast (drop place entries) choice
 undoes_pending entries written place choice synced pending undoes =
-    let parts : calls_of entries written ≡ calls_after (drop place entries) (bytes_left (take place entries) written) (calls_of (take place entries) written) =
-    ap (λ (es : List Entry). calls_of es written) (sym (take-append-drop place entries)) ∙ after_both (take place entries) (drop place entries) written [] in
-    undoes_back (drop place entries) (bytes_left (take place entries) written) (calls_of (take place entries) written) choice (settled (take place entries) written synced) pending (subst (λ (calls : List Call). Undoes choice calls) parts undoes)
+    let parts : calls_from_entries entries written ≡ calls_after (drop place entries) (bytes_left (take place entries) written) (calls_from_entries (take place entries) written) =
+    ap (λ (es : List Entry). calls_from_entries es written) (sym (take-append-drop place entries)) ∙ after_both (take place entries) (drop place entries) written [] in
+    undoes_back (drop place entries) (bytes_left (take place entries) written) (calls_from_entries (take place entries) written) choice (settled (take place entries) written synced) pending (subst (λ (calls : List Call). Undoes choice calls) parts undoes)
 
 -- a loop over the calls: those before the last are done, and at its end the last is not
 pub record UndoesSoFar (first : List ℕ) (entries : List Entry) (written : List ℕ) (pending place : ℕ) (choice : Choice) (image : List ℕ) : Type 0 where
   pub ahead : pending ≤ place → place < length entries → UndoesLast (drop place entries) choice
-  pub done : place < length entries → image ≡ image_after first (calls_of (take place entries) written)
-  pub undone : place ≡ length entries → image ≡ image_before first (calls_of (take place entries) written)
+  pub done : place < length entries → image ≡ image_after first (calls_from_entries (take place entries) written)
+  pub undone : place ≡ length entries → image ≡ image_before first (calls_from_entries (take place entries) written)
 
 -- a choice undoes one of the calls
 pub some_pending : (entries : List Entry) (pending : ℕ) (choice : Choice) → UndoesLast (drop pending entries) choice → pending < length entries
@@ -136,7 +136,7 @@ some_pending entries pending choice undoes = elim (cases_lt pending (length entr
 ]
 
 -- up to those that are pending
-pub undoes_early : (first : List ℕ) (entries : List Entry) (written : List ℕ) (pending place : ℕ) (original choice : Choice) (image : List ℕ) → UndoesLast (drop pending entries) original → choice ≡ original → place ≤ pending → image ≡ image_after first (calls_of (take place entries) written) → UndoesSoFar first entries written pending place choice image
+pub undoes_early : (first : List ℕ) (entries : List Entry) (written : List ℕ) (pending place : ℕ) (original choice : Choice) (image : List ℕ) → UndoesLast (drop pending entries) original → choice ≡ original → place ≤ pending → image ≡ image_after first (calls_from_entries (take place entries) written) → UndoesSoFar first entries written pending place choice image
 undoes_early first entries written pending place original choice image undoes same early whole =
     let some : pending < length entries = some_pending entries pending original undoes in
     record {
@@ -146,7 +146,7 @@ undoes_early first entries written pending place original choice image undoes sa
     }
 
 -- one of them
-pub undoes_late : (first : List ℕ) (entries : List Entry) (written bytes : List ℕ) (pending place : ℕ) (kept : Entry) (here : List ℕ) (choice next : Choice) (image new : List ℕ) → Turn first entries written bytes place kept here → pending ≤ place → UndoesSoFar first entries written pending place choice image → (DoesWhole choice kept → FitsIn (call_of kept here) image → new ≡ changed (call_of kept here) image) → (DoesNone choice kept → new ≡ image) → (DoesWhole choice kept → next ≡ choice_past kept choice) → UndoesSoFar first entries written pending (place + 1) next new
+pub undoes_late : (first : List ℕ) (entries : List Entry) (written bytes : List ℕ) (pending place : ℕ) (kept : Entry) (here : List ℕ) (choice next : Choice) (image new : List ℕ) → Turn first entries written bytes place kept here → pending ≤ place → UndoesSoFar first entries written pending place choice image → (DoesWhole choice kept → FitsIn (call_from_entry kept here) image → new ≡ changed (call_from_entry kept here) image) → (DoesNone choice kept → new ≡ image) → (DoesWhole choice kept → next ≡ choice_past kept choice) → UndoesSoFar first entries written pending (place + 1) next new
 undoes_late first entries written bytes pending place kept here choice next image new turn late before whole none past =
     let rest : List Entry = drop (place + 1) entries in
     let split : drop place entries ≡ kept ∷ rest = drop_more entries place kept turn.inside ∙ ap (λ (e : Entry). e ∷ rest) (sym turn.is) in
@@ -161,19 +161,19 @@ undoes_late first entries written bytes pending place kept here choice next imag
           none last ∙ before.done turn.inside ∙ sym (ap (λ (calls : List Call). image_before first calls) (turn_call first entries written bytes place kept here turn)));
     }
 
-pub undoes_all : (first : List ℕ) (entries : List Entry) (written : List ℕ) (pending place : ℕ) (choice : Choice) (image : List ℕ) → place ≡ length entries → UndoesSoFar first entries written pending place choice image → image ≡ image_before first (calls_of entries written)
+pub undoes_all : (first : List ℕ) (entries : List Entry) (written : List ℕ) (pending place : ℕ) (choice : Choice) (image : List ℕ) → place ≡ length entries → UndoesSoFar first entries written pending place choice image → image ≡ image_before first (calls_from_entries entries written)
 undoes_all first entries written pending place choice image end so_far =
-    so_far.undone end ∙ ap (λ (es : List Entry). image_before first (calls_of es written)) (take_all place entries (omega (arith, end)))
+    so_far.undone end ∙ ap (λ (es : List Entry). image_before first (calls_from_entries es written)) (take_all place entries (omega (arith, end)))
 
 -- the calls but for a sync at their end, where the newest call is undone
-undoes_unfinished : (choice : Choice) (entries before : List Entry) (written : List ℕ) → IsUnfinished entries before → Undoes choice (calls_of entries written) → Undoes choice (calls_of before written) × (calls_of before written ≡ calls_of entries written)
+undoes_unfinished : (choice : Choice) (entries before : List Entry) (written : List ℕ) → IsUnfinished entries before → Undoes choice (calls_from_entries entries written) → Undoes choice (calls_from_entries before written) × (calls_from_entries before written ≡ calls_from_entries entries written)
 undoes_unfinished choice entries before written (inl same) undoes =
-    let is : calls_of before written ≡ calls_of entries written = ap (λ (es : List Entry). calls_of es written) same in
+    let is : calls_from_entries before written ≡ calls_from_entries entries written = ap (λ (es : List Entry). calls_from_entries es written) same in
     (subst (λ (calls : List Call). Undoes choice calls) (sym is) undoes, is)
 undoes_unfinished choice entries before written (inr synced) undoes =
     absurd (subst (λ (calls : List Call). Undoes choice calls) (last_call entries before written synced) undoes).rest
 
 pub last_out : (first : List ℕ) (entries before : List Entry) (written : List ℕ) (pending : ℕ) (choice : Choice) (image : Vec ℕ Global) → IsUnfinished entries before → EndsSynced (take pending before) → All IsPending (drop pending before) → LeavesOutLast pending choice first before written image → LeavesOut choice first entries written image
 last_out first entries before written pending choice image unfinished synced unsynced last = λ undoes.
-    let shorter : Undoes choice (calls_of before written) × (calls_of before written ≡ calls_of entries written) = undoes_unfinished choice entries before written unfinished undoes in
+    let shorter : Undoes choice (calls_from_entries before written) × (calls_from_entries before written ≡ calls_from_entries entries written) = undoes_unfinished choice entries before written unfinished undoes in
     last (undoes_pending before written pending choice synced unsynced shorter.0) ∙ ap (λ (calls : List Call). image_before first calls) shorter.1

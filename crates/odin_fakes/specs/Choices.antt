@@ -8,7 +8,7 @@ pub record IsWhole (choice : Choice) : Type 0 where
   pub chance : IsFalse choice.chance
 
 -- the next write or cut is torn so: 0 not at all, 1 nothing of it is done
-pub record Tells (how : ℕ) (choice : Choice) : Type 0 where
+pub record TearsAs (how : ℕ) (choice : Choice) : Type 0 where
   pub digit : choice.rest % 8 ≡ how
   pub chance : IsFalse choice.chance
 

@@ -40,8 +40,8 @@ abbrev pub bytes_at : ℕ → ℕ → File → List ℕ
 bytes_at at count file = take count (drop at (image_of file))
 
 -- after a write of these bytes at this offset
-abbrev pub after_write : ℕ → List ℕ → File → File
-after_write at bytes file = after_call (Wrote at bytes) (length bytes) file
+abbrev pub file_after_write : ℕ → List ℕ → File → File
+file_after_write at bytes file = after_call (Wrote at bytes) (length bytes) file
 
 -- the file has no room for a write of these bytes
 abbrev pub HasNoRoomFor : List ℕ → File → Type 0
@@ -63,8 +63,8 @@ abbrev pub IsUndoneAt : ℕ → File → List ℕ → Type 0
 IsUndoneAt moment file image = image ≡ image_before file.first (calls_until moment file.calls)
 
 -- what it tells
-abbrev pub told_of : File → Telling
-told_of file = record {
+abbrev pub file_view : File → Telling
+file_view file = record {
   seen = image_of file;
   pending = pending_after file.first file.calls;
   moment = length file.calls;
@@ -90,7 +90,7 @@ abbrev pub stopped_by_file : Failing File → Failing File
 stopped_by_file file = record { inner = refused file.inner; plan = failed file.plan }
 
 -- What such a call comes to that failed: by plan, or, where the plan lets it pass, because the wrapped file refuses it.
-pub record Stops {T E : Type 0} (refuses : Type 0) (old new : Failing File) (result : Result T E) : Type 0 where
+pub record FailsByPlanOrFile {T E : Type 0} (refuses : Type 0) (old new : Failing File) (result : Result T E) : Type 0 where
   pub fails : IsErr result ↔ (FailsNext old.plan ⊎ refuses)
   pub by_plan : FailsNext old.plan → new ≡ stopped_by_plan old
   pub by_file : ¬ (FailsNext old.plan) → refuses → new ≡ stopped_by_file old

@@ -9,8 +9,8 @@ pub record Input : Type 0 where
   pub piece : ℕ
 
 -- after so many bytes were given
-abbrev pub given : ℕ → Input → Input
-given count input = record input { left = drop count input.left }
+abbrev pub input_after : ℕ → Input → Input
+input_after count input = record input { left = drop count input.left }
 
 -- how many bytes a read into so much room gives: the least of what is left, the room and the piece
 abbrev pub given_count : Input → ℕ → ℕ
@@ -18,7 +18,7 @@ given_count input room = min (min (length input.left) room) input.piece
 
 -- after so many bytes were given, of an input whose calls fail by plan
 abbrev pub given_unplanned : ℕ → Failing Input → Failing Input
-given_unplanned count input = record { inner = given count input.inner; plan = called input.plan }
+given_unplanned count input = record { inner = input_after count input.inner; plan = called input.plan }
 
 -- after a read that failed by plan
 abbrev pub stopped_read : Failing Input → Failing Input

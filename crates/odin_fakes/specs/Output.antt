@@ -12,8 +12,8 @@ pub record Output : Type 0 where
   pub faults : ℕ
 
 -- after these bytes were taken
-abbrev pub took : List ℕ → Output → Output
-took bytes output = record output { taken = output.taken ++ bytes; room = output.room - length bytes }
+abbrev pub output_after : List ℕ → Output → Output
+output_after bytes output = record output { taken = output.taken ++ bytes; room = output.room - length bytes }
 
 -- how many of so many bytes a write takes: the least of them, the piece and the room
 abbrev pub taken_count : Output → ℕ → ℕ
@@ -25,7 +25,7 @@ refused output = record output { faults = once_more output.faults }
 
 -- after these bytes were taken, of an output whose calls fail by plan
 abbrev pub took_unplanned : List ℕ → Failing Output → Failing Output
-took_unplanned bytes output = record { inner = took bytes output.inner; plan = called output.plan }
+took_unplanned bytes output = record { inner = output_after bytes output.inner; plan = called output.plan }
 
 -- What a write comes to that failed: by plan, which leaves the wrapped output as it was, or, where the plan lets it pass, for want of
 -- room.

@@ -29,17 +29,17 @@ abbrev pub answer_among : List JobRaw → Raw → Job → Raw
 answer_among [] other job = other
 answer_among (pair ∷ pairs) other job = if job_eq.eq pair.job job then pair.raw else answer_among pairs other job
 
-abbrev pub answer_of : Answers → Job → Raw
-answer_of (Pairs pairs other) job = answer_among pairs other job
-answer_of Toys job = toy_raw job
+abbrev pub answer_to_job : Answers → Job → Raw
+answer_to_job (Pairs pairs other) job = answer_among pairs other job
+answer_to_job Toys job = toy_raw job
 
 -- what is told of them, of which so many starts and ends have failed
 abbrev pub told_with : ℕ → Tools → Spawned
-told_with faults tools = record { answer = Some (answer_of tools.answers); running = tools.running; log = Some tools.log; starts = tools.starts; faults = faults }
+told_with faults tools = record { answer = Some (answer_to_job tools.answers); running = tools.running; log = Some tools.log; starts = tools.starts; faults = faults }
 
 -- and of tools that never fail
-abbrev pub told_of : Tools → Spawned
-told_of tools = told_with 0 tools
+abbrev pub tools_view : Tools → Spawned
+tools_view tools = told_with 0 tools
 
 -- the place of the next end among so many that run
 abbrev pub place_among : List ℕ → ℕ → ℕ
@@ -54,8 +54,8 @@ abbrev pub new_tools : Answers → List ℕ → Tools
 new_tools answers order = record { answers = answers; order = order; running = []; log = []; starts = 0 }
 
 -- after the start of a job in a slot
-abbrev pub started : Tools → ℕ → Job → Tools
-started old slot job = record old { running = (begun (told_of old) slot job).running; log = old.log ++ ToolEvent.Began slot job ∷ []; starts = (begun (told_of old) slot job).starts }
+abbrev pub tools_after_start : Tools → ℕ → Job → Tools
+tools_after_start old slot job = record old { running = (begun (tools_view old) slot job).running; log = old.log ++ ToolEvent.Began slot job ∷ []; starts = (begun (tools_view old) slot job).starts }
 
 -- after the end at the next place, which is noted so
 abbrev pub ended : Tools → ToolEvent → Tools
@@ -65,7 +65,7 @@ ended old event = record old { order = drop 1 old.order; running = remove old.ru
 pub record EndsNext (old : Tools) (slot : ℕ) (raw : Raw) (new : Tools) : Type 0 where
   pub job : Job
   pub next : slice_get old.running (next_place old) ≡ Some (record { slot = slot; job = job })
-  pub answer : raw ≡ answer_of old.answers job
+  pub answer : raw ≡ answer_to_job old.answers job
   pub after : new ≡ ended old (Ended slot)
 
 -- the tool at the next place ends, in this slot, and what it leaves is lost
@@ -94,11 +94,11 @@ OnLost result P = (slot : ℕ) → result ≡ Err (FinishFault.Failed slot) → 
 
 -- such tools after the start of a job in a slot
 abbrev pub started_unplanned : Failing Tools → ℕ → Job → Failing Tools
-started_unplanned old slot job = record { inner = started old.inner slot job; plan = called old.plan }
+started_unplanned old slot job = record { inner = tools_after_start old.inner slot job; plan = called old.plan }
 
 -- after a start that failed by plan, which started nothing
-abbrev pub stopped : Failing Tools → Failing Tools
-stopped old = record old { plan = failed old.plan }
+abbrev pub tools_after_failed_start : Failing Tools → Failing Tools
+tools_after_failed_start old = record old { plan = failed old.plan }
 
 -- after a call that wanted memory
 abbrev pub wanted : Failing Tools → Failing Tools

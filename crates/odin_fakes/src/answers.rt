@@ -1,6 +1,6 @@
 // What jobs leave.
 ghost use Rattle.std.specs.Prelude.{◌≡◌, IfOk};
-ghost use Rattle.odin_fakes.specs.Tools.{answer_among, answer_of};
+ghost use Rattle.odin_fakes.specs.Tools.{answer_among, answer_to_job};
 
 use object_values::{Copied, Memory, Seq};
 use odin_outside::{Job, Raw};
@@ -45,7 +45,7 @@ fn answer_in(alloc: Global, pairs: &[JobRaw], other: &Raw, job: &Job) -> Result<
 impl Answers {
     /// What the job leaves.
     pub(crate) fn answer(&self, alloc: Global, job: &Job) -> Result<Raw, Memory>
-        ensures { IfOk result (λ raw. raw ≡ answer_of self.now job.now) }
+        ensures { IfOk result (λ raw. raw ≡ answer_to_job self.now job.now) }
     {
         match self {
             Answers::Pairs(pairs, other) => answer_in(alloc, pairs.as_slice(), other, job),

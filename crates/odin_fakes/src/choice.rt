@@ -1,6 +1,6 @@
 // How calls are torn.
 ghost use Rattle.std.specs.Prelude.{◌≡◌, ◌≤◌, false};
-ghost use Rattle.odin_fakes.specs.Choices.{Tells, past_digit};
+ghost use Rattle.odin_fakes.specs.Choices.{TearsAs, past_digit};
 
 /// How the calls since the last sync are torn. The digits of a number in base 8, from the last one on, say it of one write or cut
 /// after the other. From a digit 7 on all is left to chance, which begins with the digits before it.
@@ -31,9 +31,9 @@ impl Choice {
 
     /// How the next write or cut is torn.
     pub fn how(&mut self) -> u64
-        ensures whole { Tells 0 self.old → result ≡ 0 }
-        ensures none { Tells 1 self.old → result ≡ 1 }
-        ensures past { Tells 0 self.old → self.new ≡ past_digit self.old }
+        ensures whole { TearsAs 0 self.old → result ≡ 0 }
+        ensures none { TearsAs 1 self.old → result ≡ 1 }
+        ensures past { TearsAs 0 self.old → self.new ≡ past_digit self.old }
     {
         if self.chance {
             return self.turn() % 8;

@@ -36,18 +36,18 @@ impl Model for MemDisk {
     ghost use Rattle.std.specs.Prelude.{◌≡◌, ◌≤◌, ◌+◌, length, vec_capacity};
     ghost use Rattle.odin_fakes.specs.File.{File};
     ghost use Rattle.odin_fakes.specs.Calls.{image_after, AreWithin};
-    ghost use Rattle.odin_fakes.specs.Entries.{calls_of, bytes_of};
+    ghost use Rattle.odin_fakes.specs.Entries.{calls_from_entries, bytes_of};
 
     ghost Value = { File };
 
-    ghost view = { λ d. record { first = d.first; calls = calls_of d.entries.items d.written.items; bytes = d.bytes; room = d.room; faults = d.faults } };
+    ghost view = { λ d. record { first = d.first; calls = calls_from_entries d.entries.items d.written.items; bytes = d.bytes; room = d.room; faults = d.faults } };
 
-    ghost invariant = { λ d. (d.image.items ≡ image_after d.first (calls_of d.entries.items d.written.items))
+    ghost invariant = { λ d. (d.image.items ≡ image_after d.first (calls_from_entries d.entries.items d.written.items))
         × (length d.image.items + d.bytes ≤ vec_capacity d.image)
         × (length d.written.items + d.bytes ≤ vec_capacity d.written)
         × (length d.entries.items + d.room ≤ vec_capacity d.entries)
         × (length d.written.items ≡ bytes_of d.entries.items)
-        × AreWithin d.first (calls_of d.entries.items d.written.items) };
+        × AreWithin d.first (calls_from_entries d.entries.items d.written.items) };
 }
 
 impl Drop for MemDisk {
@@ -85,7 +85,7 @@ pub fn overwrite(image: &mut Vec<u8>, start: usize, bytes: &[u8]) -> Result<(), 
 
 impl MemDisk {
     ghost use Rattle.odin_fakes.specs.File.{new_file, image_of, after_call, refused, IsLeftAt, IsSeenAt, IsUndoneAt, UndoesAt};
-    ghost use Rattle.odin_fakes.specs.Entries.{IsPlain, call_of};
+    ghost use Rattle.odin_fakes.specs.Entries.{IsPlain, call_from_entry};
 
     /// A file with these bytes, and room for so many bytes to be written in all and for so many calls.
     pub fn new(alloc: Global, image: Bytes, bytes: usize, calls: usize) -> Result<Self, Memory>
@@ -156,7 +156,7 @@ impl MemDisk {
     fn keep(&mut self, entry: Entry) -> Result<(), Failed>
         requires { IsPlain entry }
         ensures fails { IsErr result ↔ (self.old.room ≡ 0) }
-        ensures ok { OnOk result (self.new ≡ after_call (call_of entry []) 0 self.old) }
+        ensures ok { OnOk result (self.new ≡ after_call (call_from_entry entry []) 0 self.old) }
         ensures err { OnErr result (self.new ≡ refused self.old) }
         ensures cause { HasCause self.old.faults self.new.faults result }
     {
@@ -173,11 +173,11 @@ impl MemDisk {
 
 impl Disk for MemDisk {
     ghost use Rattle.std.specs.Prelude.{◌≡◌, refl, length};
-    ghost use Rattle.odin_fakes.specs.File.{image_of, after_call, after_write, bytes_at, refused, HasNoRoomFor, told_of};
+    ghost use Rattle.odin_fakes.specs.File.{image_of, after_call, file_after_write, bytes_at, refused, HasNoRoomFor, file_view};
     ghost use Rattle.odin_fakes.specs.Calls.{WasCut, Synced, Looked};
     ghost use Rattle.odin_fakes.specs.DiskLaws.{image_is_left, left_now, left_only};
 
-    ghost told = { told_of };
+    ghost told = { file_view };
 
     ghost size_of = { λ d. length (image_of d) };
 
@@ -221,7 +221,7 @@ impl Disk for MemDisk {
         requires inside { at ≤ length (image_of self.old) }
         requires end { at + length bytes.now ≤ 2 ^ 30 }
         ensures fails { IsErr result ↔ HasNoRoomFor bytes.now self.old }
-        ensures ok { OnOk result (self.new ≡ after_write at bytes.now self.old) }
+        ensures ok { OnOk result (self.new ≡ file_after_write at bytes.now self.old) }
         ensures err { OnErr result (self.new ≡ refused self.old) }
         ensures cause { HasCause self.old.faults self.new.faults result }
     {

@@ -24,11 +24,11 @@ fn counted<T>(plan: &mut FailPlan, done: Result<T, Failed>) -> Result<T, Failed>
 
 impl Disk for Failing<MemDisk> {
     ghost use Rattle.std.specs.Prelude.{◌≡◌, refl, length};
-    ghost use Rattle.odin_fakes.specs.File.{bytes_at, image_of, went, went_write, HasNoRoomFor, Stops, told_of};
+    ghost use Rattle.odin_fakes.specs.File.{bytes_at, image_of, went, went_write, HasNoRoomFor, FailsByPlanOrFile, file_view};
     ghost use Rattle.odin_fakes.specs.Calls.{WasCut, Synced, Looked};
     ghost use Rattle.odin_fakes.specs.DiskLaws.{image_is_left, left_now, left_only};
 
-    ghost told = { λ d. told_of d.inner };
+    ghost told = { λ d. file_view d.inner };
 
     ghost size_of = { λ d. length (image_of d.inner) };
 
@@ -45,7 +45,7 @@ impl Disk for Failing<MemDisk> {
     fn size(&mut self) -> Result<u64, Failed>
         ensures size { IfOk result (λ n. n ≡ length (image_of self.old.inner)) }
         ensures ok { OnOk result (self.new ≡ went Looked 0 self.old) }
-        ensures stops { Stops (self.old.inner.room ≡ 0) self.old self.new result }
+        ensures stops { FailsByPlanOrFile (self.old.inner.room ≡ 0) self.old self.new result }
         ensures cause { HasCause self.old.plan.faults self.new.plan.faults result }
     {
         self.plan.call()?;
@@ -56,7 +56,7 @@ impl Disk for Failing<MemDisk> {
         requires { at + length into.old ≤ length (image_of self.old.inner) }
         ensures bytes { OnOk result (into.new ≡ bytes_at at (length into.old) self.old.inner) }
         ensures ok { OnOk result (self.new ≡ went Looked 0 self.old) }
-        ensures stops { Stops (self.old.inner.room ≡ 0) self.old self.new result }
+        ensures stops { FailsByPlanOrFile (self.old.inner.room ≡ 0) self.old self.new result }
         ensures cause { HasCause self.old.plan.faults self.new.plan.faults result }
     {
         self.plan.call()?;
@@ -67,7 +67,8 @@ impl Disk for Failing<MemDisk> {
         requires inside { at ≤ length (image_of self.old.inner) }
         requires end { at + length bytes.now ≤ 2 ^ 30 }
         ensures ok { OnOk result (self.new ≡ went_write at bytes.now self.old) }
-        ensures stops { Stops (HasNoRoomFor bytes.now self.old.inner) self.old self.new result }
+        ensures stops { FailsByPlanOrFile (HasNoRoomFor bytes.now self.old.inner)
+            self.old self.new result }
         ensures cause { HasCause self.old.plan.faults self.new.plan.faults result }
     {
         self.plan.call()?;
@@ -77,7 +78,7 @@ impl Disk for Failing<MemDisk> {
     fn cut(&mut self, size: u64) -> Result<(), Failed>
         requires { size ≤ length (image_of self.old.inner) }
         ensures ok { OnOk result (self.new ≡ went (WasCut size) 0 self.old) }
-        ensures stops { Stops (self.old.inner.room ≡ 0) self.old self.new result }
+        ensures stops { FailsByPlanOrFile (self.old.inner.room ≡ 0) self.old self.new result }
         ensures cause { HasCause self.old.plan.faults self.new.plan.faults result }
     {
         self.plan.call()?;
@@ -86,7 +87,7 @@ impl Disk for Failing<MemDisk> {
 
     fn sync(&mut self) -> Result<(), Failed>
         ensures ok { OnOk result (self.new ≡ went Synced 0 self.old) }
-        ensures stops { Stops (self.old.inner.room ≡ 0) self.old self.new result }
+        ensures stops { FailsByPlanOrFile (self.old.inner.room ≡ 0) self.old self.new result }
         ensures cause { HasCause self.old.plan.faults self.new.plan.faults result }
     {
         self.plan.call()?;

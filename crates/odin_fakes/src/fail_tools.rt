@@ -12,7 +12,7 @@ use std::alloc::Global;
 pub type FailTools = Failing<TableTools>;
 
 impl Spawner for Failing<TableTools> {
-    ghost use Rattle.odin_fakes.specs.Tools.{told_failing, started_unplanned, stopped, wanted, OnLost, FailsAsTold, EndsAsTold, LosesAsTold, EndsUnplanned, LosesByPlan};
+    ghost use Rattle.odin_fakes.specs.Tools.{told_failing, started_unplanned, tools_after_failed_start, wanted, OnLost, FailsAsTold, EndsAsTold, LosesAsTold, EndsUnplanned, LosesByPlan};
 
     ghost told = { told_failing };
 
@@ -20,7 +20,7 @@ impl Spawner for Failing<TableTools> {
         ensures fails { (result ≡ Err StartFault.Failed) ↔ FailsNext self.old.plan }
         ensures slot { IfOk result (IsLeastFree self.old.inner.running) }
         ensures ok { IfOk result (λ slot. self.new ≡ started_unplanned self.old slot job.now) }
-        ensures by_plan { FailsNext self.old.plan → self.new ≡ stopped self.old }
+        ensures by_plan { FailsNext self.old.plan → self.new ≡ tools_after_failed_start self.old }
         ensures told { result ≡ Err StartFault.Failed → FailsAsTold self.old self.new }
         ensures memory { result ≡ Err StartFault.Memory → self.new ≡ wanted self.old }
     {

@@ -15,9 +15,9 @@ pub struct FailPlan {
 }
 
 impl Model for FailPlan {
-    ghost use Rattle.odin_fakes.specs.Plan.{Plan};
+    ghost use Rattle.odin_fakes.specs.Plan.{FaultPlan};
 
-    ghost Value = { Plan };
+    ghost Value = { FaultPlan };
 
     ghost view = { λ p. record { fails = p.fails; calls = p.calls; faults = p.faults } };
 }

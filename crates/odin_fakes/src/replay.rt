@@ -2,7 +2,7 @@
 ghost use Rattle.std.specs.Prelude.{◌≡◌, ◌≤◌, All, length, take, drop, IfOk, OnOk};
 ghost use Rattle.odin_fakes.specs.Calls.{AreWithin, TornBy};
 ghost use Rattle.odin_fakes.specs.Choices.{IsWhole};
-ghost use Rattle.odin_fakes.specs.Entries.{DoesNone, DoesWhole, EndsSynced, IsCrashOf, IsDoneBy, IsImageOf, IsPending, IsStopOf, IsUnfinished, LeavesOut, LeavesOutAt, LeavesOutLast, SeenAt, StopAt, call_of, choice_past, count_of, calls_of};
+ghost use Rattle.odin_fakes.specs.Entries.{DoesNone, DoesWhole, EndsSynced, IsCrashOf, IsDoneBy, IsImageOf, IsPending, IsStopOf, IsUnfinished, LeavesOut, LeavesOutAt, LeavesOutLast, SeenAt, StopAt, call_from_entry, choice_past, count_of, calls_from_entries};
 
 use crate::choice::Choice;
 use crate::disk::Entry;
@@ -37,7 +37,8 @@ fn tear(
     earlier: &[u8],
     choice: &mut Choice,
 ) -> Result<(), Memory>
-    ensures torn { OnOk result (TornBy (call_of entry bytes.now) image.old.items image.new.items) }
+    ensures torn { OnOk result
+        (TornBy (call_from_entry entry bytes.now) image.old.items image.new.items) }
     ensures whole { OnOk result (IsDoneBy choice.old entry bytes.now image.old image.new) }
     ensures none { DoesNone choice.old entry → OnOk result (image.new.items ≡ image.old.items) }
     ensures past { DoesWhole choice.old entry → choice.new ≡ choice_past entry choice.old }
@@ -58,7 +59,7 @@ fn torn(
     pending: usize,
     choice: Choice,
 ) -> Result<Vec<u8>, Memory>
-    requires within { AreWithin first.now (calls_of entries.now written.now) }
+    requires within { AreWithin first.now (calls_from_entries entries.now written.now) }
     requires unsynced { All IsPending (drop pending entries.now) }
     ensures left { IfOk result (IsCrashOf first.now entries.now written.now) }
     ensures whole { IsWhole choice → IfOk result (IsImageOf first.now entries.now written.now) }
@@ -114,7 +115,7 @@ fn within_last(
     written: &[u8],
     choice: Choice,
 ) -> Result<Vec<u8>, Memory>
-    requires { AreWithin first.now (calls_of entries.now written.now) }
+    requires { AreWithin first.now (calls_from_entries entries.now written.now) }
     ensures left { IfOk result (IsStopOf first.now entries.now written.now) }
     ensures whole { IsWhole choice → IfOk result (IsImageOf first.now entries.now written.now) }
     ensures none { IfOk result (LeavesOut choice first.now entries.now written.now) }
@@ -132,7 +133,7 @@ pub fn stopped(
     moment: usize,
     choice: Choice,
 ) -> Result<Vec<u8>, Memory>
-    requires within { AreWithin first.now (calls_of entries.now written.now) }
+    requires within { AreWithin first.now (calls_from_entries entries.now written.now) }
     requires moment { moment ≤ length entries.now }
     ensures left { IfOk result (StopAt moment first.now entries.now written.now) }
     ensures whole { IsWhole choice → IfOk result (SeenAt moment first.now entries.now written.now) }

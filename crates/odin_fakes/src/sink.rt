@@ -1,7 +1,7 @@
 // Output that is kept in memory.
 ghost use Rattle.std.specs.Prelude.{◌≡◌, ◌↔◌, ◌<◌, ◌+◌, [], length, take, Some, IfOk, IsErr, OnOk, OnErr};
 ghost use Rattle.odin_outside.specs.Causes.{HasCause};
-ghost use Rattle.odin_fakes.specs.Output.{refused, taken_count, took};
+ghost use Rattle.odin_fakes.specs.Output.{refused, taken_count, output_after};
 
 use object_values::Memory;
 use odin_outside::{Failed, Sink};
@@ -71,7 +71,7 @@ impl Sink for MemSink {
         ensures fails { IsErr result ↔ (self.old.room ≡ 0) }
         ensures count { IfOk result (λ n. n ≡ taken_count self.old (length bytes.now)) }
         ensures some { IfOk result (λ n. 0 < n) }
-        ensures ok { IfOk result (λ n. self.new ≡ took (take n bytes.now) self.old) }
+        ensures ok { IfOk result (λ n. self.new ≡ output_after (take n bytes.now) self.old) }
         ensures err { OnErr result (self.new ≡ refused self.old) }
         ensures cause { HasCause self.old.faults self.new.faults result }
     {

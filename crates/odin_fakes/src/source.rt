@@ -39,7 +39,7 @@ impl MemSource {
 }
 
 impl Source for MemSource {
-    ghost use Rattle.odin_fakes.specs.Input.{given, given_count};
+    ghost use Rattle.odin_fakes.specs.Input.{input_after, given_count};
 
     ghost left = { λ s. Some s.left };
 
@@ -50,7 +50,7 @@ impl Source for MemSource {
         ensures count { result ≡ Ok (given_count self.old (length into.old)) }
         ensures bytes { IfOk result (λ n. take n into.new ≡ take n self.old.left) }
         ensures end { IfOk result (λ n. n ≡ 0 → self.old.left ≡ []) }
-        ensures rest { IfOk result (λ n. self.new ≡ given n self.old) }
+        ensures rest { IfOk result (λ n. self.new ≡ input_after n self.old) }
     {
         let rest = &self.bytes.as_slice()[self.at..];
         let count = rest.len().min(into.len()).min(self.piece);

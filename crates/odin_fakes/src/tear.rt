@@ -2,7 +2,7 @@
 ghost use Rattle.std.specs.Prelude.{◌≡◌, max, length, take, IfOk, OnOk};
 ghost use Rattle.odin_outside.specs.Disk.{Torn, Cut};
 ghost use Rattle.odin_fakes.specs.Calls.{Holds};
-ghost use Rattle.odin_fakes.specs.Choices.{Tells, past_digit};
+ghost use Rattle.odin_fakes.specs.Choices.{TearsAs, past_digit};
 
 use crate::choice::Choice;
 use crate::disk::overwrite;
@@ -122,9 +122,9 @@ pub fn tear_write(
     choice: &mut Choice,
 ) -> Result<(), Memory>
     ensures torn { OnOk result (Torn start (length bytes.now) image.old.items image.new.items) }
-    ensures whole { Tells 0 choice.old → OnOk result (Holds image.old start bytes.now image.new) }
-    ensures none { Tells 1 choice.old → OnOk result (image.new.items ≡ image.old.items) }
-    ensures past { Tells 0 choice.old → choice.new ≡ past_digit choice.old }
+    ensures whole { TearsAs 0 choice.old → OnOk result (Holds image.old start bytes.now image.new) }
+    ensures none { TearsAs 1 choice.old → OnOk result (image.new.items ≡ image.old.items) }
+    ensures past { TearsAs 0 choice.old → choice.new ≡ past_digit choice.old }
 {
     let half = bytes.len() / 2;
     match choice.how() {
@@ -149,9 +149,10 @@ pub fn tear_cut(
     choice: &mut Choice,
 ) -> Result<(), Memory>
     ensures torn { OnOk result (Cut size image.old.items image.new.items) }
-    ensures whole { Tells 0 choice.old → OnOk result (image.new.items ≡ take size image.old.items) }
-    ensures none { Tells 1 choice.old → OnOk result (image.new.items ≡ image.old.items) }
-    ensures past { Tells 0 choice.old → choice.new ≡ past_digit choice.old }
+    ensures whole { TearsAs 0 choice.old → OnOk result
+        (image.new.items ≡ take size image.old.items) }
+    ensures none { TearsAs 1 choice.old → OnOk result (image.new.items ≡ image.old.items) }
+    ensures past { TearsAs 0 choice.old → choice.new ≡ past_digit choice.old }
 {
     let past = image.len().saturating_sub(size);
     match choice.how() {

@@ -156,13 +156,13 @@ impl TableTools {
 }
 
 impl Spawner for TableTools {
-    ghost use Rattle.odin_fakes.specs.Tools.{told_of, started, EndsNext};
+    ghost use Rattle.odin_fakes.specs.Tools.{tools_view, tools_after_start, EndsNext};
 
-    ghost told = { told_of };
+    ghost told = { tools_view };
 
     fn start(&mut self, alloc: Global, job: &Job) -> Result<u32, StartFault>
         ensures slot { IfOk result (IsLeastFree self.old.running) }
-        ensures ok { IfOk result (λ slot. self.new ≡ started self.old slot job.now) }
+        ensures ok { IfOk result (λ slot. self.new ≡ tools_after_start self.old slot job.now) }
         ensures err { OnErr result (self.new ≡ self.old) }
         ensures only { result ≢ Err StartFault.Failed }
     {
@@ -182,7 +182,8 @@ impl Spawner for TableTools {
     fn finish(&mut self, alloc: Global) -> Result<(u32, Raw), FinishFault>
         requires { 0 < length self.old.running }
         ensures ok { IfOk result (λ end. EndsNext self.old end.0 end.1 self.new) }
-        ensures told { IfOk result (λ end. Ends (told_of self.old) end.0 end.1 (told_of self.new)) }
+        ensures told { IfOk result
+            (λ end. Ends (tools_view self.old) end.0 end.1 (tools_view self.new)) }
         ensures err { OnErr result (self.new ≡ self.old) }
         ensures only { (slot : ℕ) → result ≢ Err (FinishFault.Failed slot) }
     {

@@ -5,9 +5,9 @@ use Rattle.std.specs.Option.{option_map}
 use Rattle.std.specs.IoError.{error_kind}
 use Rattle.std.specs.FinMap.{get}
 use Rattle.std.specs.declared.io.Error.{Error}
-use Rattle.odin_outside.specs.Files.{Files, IsGiven, file_limit}
+use Rattle.odin_outside.specs.Files.{Files, IsGiven, given_file_limit}
 use Rattle.odin_files.specs.declared.fault.SystemFault.{SystemFault}
-use Rattle.odin_files.specs.Answers.{answer_of, fault_of}
+use Rattle.odin_files.specs.Answers.{answer_of_error, fault_of}
 use Rattle.odin_files.specs.Opens.{IsOpened, IsAbsentIn, says_absent}
 use Rattle.std.specs.Prelude.{if◌then◌else◌, ◌≤◌}
 use Rattle.std.proofs.Math.Nat.{le_of_eq}
@@ -17,22 +17,22 @@ use Rattle.odin_outside.specs.declared.tree.TreeFault.TheVariants as tree
 use Rattle.odin_files.specs.declared.fault.SystemFault.TheVariants.{Failed, Memory}
 use Rattle.odin_files.specs.Answers.{tree_fault, faults_after}
 
-by_got : (got : Option (List ℕ)) (front : List ℕ) → IsSome got → IfSome got (λ left. front ≡ take file_limit left) → Some front ≡ option_map (λ body. take file_limit body) got
+by_got : (got : Option (List ℕ)) (front : List ℕ) → IsSome got → IfSome got (λ left. front ≡ take given_file_limit left) → Some front ≡ option_map (λ body. take given_file_limit body) got
 by_got None front some same = cc
 by_got (Some left) front some same = ap Some same
 
 -- the front of what is left of it
-pub given_front : {T : Type 0} (remaining : T → Option (List ℕ)) (bodies : Option Files) (path : List ℕ) (reader : T) (front : List ℕ) → IsOpened remaining bodies path (Some reader) → IfSome (remaining reader) (λ left. front ≡ take file_limit left) → IsGiven bodies path (Some front)
+pub given_front : {T : Type 0} (remaining : T → Option (List ℕ)) (bodies : Option Files) (path : List ℕ) (reader : T) (front : List ℕ) → IsOpened remaining bodies path (Some reader) → IfSome (remaining reader) (λ left. front ≡ take given_file_limit left) → IsGiven bodies path (Some front)
 given_front remaining None path reader front opened same = tt
-given_front remaining (Some files) path reader front opened same = by_got (get files path) front opened.0 (subst (λ got. IfSome got (λ left. front ≡ take file_limit left)) opened.1 same)
+given_front remaining (Some files) path reader front opened same = by_got (get files path) front opened.0 (subst (λ got. IfSome got (λ left. front ≡ take given_file_limit left)) opened.1 same)
 
 -- nothing where none was opened
 pub given_none : {T : Type 0} (remaining : T → Option (List ℕ)) (bodies : Option Files) (path : List ℕ) → IsOpened remaining bodies path None → IsGiven bodies path None
 given_none remaining None path opened = tt
-given_none remaining (Some files) path opened = sym (ap (option_map (λ body. take file_limit body)) opened)
+given_none remaining (Some files) path opened = sym (ap (option_map (λ body. take given_file_limit body)) opened)
 
 by_absent : (is : Bool) (files : Files) (path : List ℕ) (fault : SystemFault) → (IsTrue is → get files path ≡ None) → IfOk (if is then Ok None else Err fault) (IsGiven (Some files) path)
-by_absent true files path fault absent = sym (ap (option_map (λ body. take file_limit body)) (absent refl))
+by_absent true files path fault absent = sym (ap (option_map (λ body. take given_file_limit body)) (absent refl))
 by_absent false files path fault absent = tt
 
 untold : (result : Result (Option (List ℕ)) SystemFault) (path : List ℕ) → IfOk result (IsGiven None path)
@@ -40,7 +40,7 @@ untold (Ok found) path = tt
 untold (Err fault) path = tt
 
 -- what is answered at an error
-pub given_at_error : (bodies : Option Files) (path : List ℕ) (error : Error) (result : Result (Option (List ℕ)) SystemFault) → IsAbsentIn bodies path error → result ≡ answer_of error → IfOk result (IsGiven bodies path)
+pub given_at_error : (bodies : Option Files) (path : List ℕ) (error : Error) (result : Result (Option (List ℕ)) SystemFault) → IsAbsentIn bodies path error → result ≡ answer_of_error error → IfOk result (IsGiven bodies path)
 given_at_error None path error result absent is = untold result path
 given_at_error (Some files) path error result absent is = subst (λ r. IfOk r (IsGiven (Some files) path)) (sym is) (by_absent (says_absent (error_kind error)) files path (fault_of (error_kind error)) absent)
 

@@ -17,8 +17,8 @@ fault_of OutOfMemory = Memory
 fault_of _ = Failed
 
 -- nothing where the error says that no file is there, or else the fault
-abbrev pub answer_of : Error → Result (Option (List ℕ)) SystemFault
-answer_of error = if says_absent (error_kind error) then Ok None else Err (fault_of (error_kind error))
+abbrev pub answer_of_error : Error → Result (Option (List ℕ)) SystemFault
+answer_of_error error = if says_absent (error_kind error) then Ok None else Err (fault_of (error_kind error))
 
 -- the same fault of a tree, and the count of faults after it
 abbrev pub tree_fault : SystemFault → TreeFault

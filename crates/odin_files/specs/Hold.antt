@@ -29,9 +29,9 @@ after_lock (Err InUse) hold = record hold { ours = false; others = true }
 after_lock (Err Failed) hold = record hold { ours = false; others = false }
 
 -- after a look at it, which found it under its own name with this size, or not
-abbrev pub after_look : {E : Type 0} → Result (Option ℕ) E → Hold → Hold
-after_look (Ok size) hold = record hold { seen = size }
-after_look (Err _) hold = record hold { seen = None }
+abbrev pub hold_after_look : {E : Type 0} → Result (Option ℕ) E → Hold → Hold
+hold_after_look (Ok size) hold = record hold { seen = size }
+hold_after_look (Err _) hold = record hold { seen = None }
 
 -- after it was written or cut, or a try to do that
 abbrev pub after_change : Hold → Hold
@@ -47,8 +47,8 @@ after_naming (Ok _) hold = record hold { lasting = true }
 after_naming (Err _) hold = hold
 
 -- the lock is ours, where that is told
-abbrev pub IsOurs : Option Hold → Type 0
-IsOurs hold = ForSome hold (λ h. IsTrue h.ours)
+abbrev pub LockIsOurs : Option Hold → Type 0
+LockIsOurs hold = ForSome hold (λ h. IsTrue h.ours)
 
 -- no file was made meanwhile, where that is told
 abbrev pub MakesNone : Option Hold → Option Hold → Type 0

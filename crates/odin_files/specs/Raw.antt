@@ -3,7 +3,7 @@ use Rattle.std.specs.Prelude.{◌≡◌, ◌⊎◌, ◌≤◌, ℕ, IsTrue, List
 use Rattle.odin_outside.specs.Disk.{Telling, MayLeave, synced_at}
 
 -- a call that changes neither its bytes nor what is pending
-pub record Stays (old new : Telling) : Type 0 where
+pub record DiskStays (old new : Telling) : Type 0 where
   pub follows : new.follows ≡ old.follows
   pub seen : IsTrue old.follows → new.seen ≡ old.seen
   pub pending : IsTrue old.follows → new.pending ≡ old.pending

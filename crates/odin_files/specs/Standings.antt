@@ -26,24 +26,24 @@ abbrev pub IsUsed : Standing → Option Hold → Type 0
 IsUsed standing hold = ForSome hold (λ h. h.others ≡ is_in_use standing)
 
 -- the lock is ours, and the name is there after a crash too
-pub record IsKept (hold : Hold) : Type 0 where
+pub record HoldLasts (hold : Hold) : Type 0 where
   pub ours : IsTrue hold.ours
   pub lasting : IsTrue hold.lasting
 
 -- an open file has the disk's size, and is kept
-pub record IsWhole (file : Telling) (hold : Option Hold) (size : ℕ) : Type 0 where
+pub record FileIsWhole (file : Telling) (hold : Option Hold) (size : ℕ) : Type 0 where
   pub sized : HasSize file size
-  pub kept : ForSome hold IsKept
+  pub kept : ForSome hold HoldLasts
 
 -- where no file is there yet the disk is empty
-pub record IsEmpty (file : Telling) (size : ℕ) : Type 0 where
+pub record DiskIsEmpty (file : Telling) (size : ℕ) : Type 0 where
   pub nothing : IsNothing file
   pub none : size ≡ 0
 
 -- how a disk of this size stands to a file of which this is told
-pub record Stands (standing : Standing) (file : Telling) (hold : Option Hold) (size : ℕ) : Type 0 where
-  pub absent : standing ≡ Absent → IsEmpty file size
-  pub opened : standing ≡ Open → IsWhole file hold size
+pub record StandingFits (standing : Standing) (file : Telling) (hold : Option Hold) (size : ℕ) : Type 0 where
+  pub absent : standing ≡ Absent → DiskIsEmpty file size
+  pub opened : standing ≡ Open → FileIsWhole file hold size
   pub used : IsUsed standing hold
 
 -- A call that fails is counted once and gives the file up, and no other is counted; after that each call fails.
@@ -55,17 +55,17 @@ pub record Fares {T E : Type 0} (old new : Standing) (before now : ℕ) (result 
 
 -- the file is kept, and was seen under its name with this size right before the last change
 pub record WasSeen (size : ℕ) (hold : Hold) : Type 0 where
-  pub kept : IsKept hold
+  pub kept : HoldLasts hold
   pub seen : hold.changed ≡ Some size
 
 -- the file is kept, and was seen under its name with this size, with no change since
 pub record StaysSeen (size : ℕ) (hold : Hold) : Type 0 where
-  pub kept : IsKept hold
+  pub kept : HoldLasts hold
   pub seen : hold.seen ≡ Some size
 
 -- An open file of this size is whole, and nothing is pending.
-pub record IsHeld (file : Telling) (hold : Option Hold) (size : ℕ) : Type 0 where
-  pub whole : IsWhole file hold size
+pub record FileIsHeld (file : Telling) (hold : Option Hold) (size : ℕ) : Type 0 where
+  pub whole : FileIsWhole file hold size
   pub quiet : IsTrue file.follows → file.pending ≡ synced_at file.seen
 
 -- a try to hold a file says that another has the lock exactly where one has it
@@ -78,10 +78,10 @@ abbrev pub IsLockedAs : {T : Type 0} → Result T LockFault → Option Hold → 
 IsLockedAs result hold = ForSome hold (λ h. h.others ≡ refuses result)
 
 -- the same of a standing and a size
-abbrev pub StandsAt : (Standing × ℕ) → Telling → Option Hold → Type 0
-StandsAt at file hold = Stands at.0 file hold at.1
+abbrev pub SizedStandingFits : (Standing × ℕ) → Telling → Option Hold → Type 0
+SizedStandingFits at file hold = StandingFits at.0 file hold at.1
 
 -- The file is open, and was just seen as the disk knows it.
-pub record IsReady (standing : Standing) (hold : Option Hold) (size : ℕ) : Type 0 where
+pub record FileIsReady (standing : Standing) (hold : Option Hold) (size : ℕ) : Type 0 where
   pub opened : standing ≡ Open
   pub seen : ForSome hold (StaysSeen size)

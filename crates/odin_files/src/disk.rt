@@ -2,10 +2,10 @@
 ghost use Rattle.std.specs.Prelude.{◌≡◌, ◌+◌, ◌^◌, ◌≤◌, IsTrue, length, Option, None, IfOk, OnOk, OnErr};
 ghost use Rattle.std.specs.Option.{ForSome};
 ghost use Rattle.odin_outside.specs.Causes.{IsCounted, once_more};
-ghost use Rattle.odin_outside.specs.Disk.{Goes, Gives, SeesSame, SeesCut, SeesTaken, SeesTorn, SeesWritten, cut_to, same_pending, size_with, synced_as, wrote};
+ghost use Rattle.odin_outside.specs.Disk.{ChangesPending, Gives, SeesSame, SeesCut, SeesTaken, SeesTorn, SeesWritten, cut_to, same_pending, size_with, synced_as, wrote};
 ghost use Rattle.odin_files.specs.Hold.{MakesNone};
-ghost use Rattle.odin_files.specs.Raw.{HasSize, Stays, Syncs, idle, size_over};
-ghost use Rattle.odin_files.specs.Standings.{Fares, IsHeld, IsReady, StaysSeen, Stands, WasSeen, is_gone, is_in_use};
+ghost use Rattle.odin_files.specs.Raw.{HasSize, DiskStays, Syncs, idle, size_over};
+ghost use Rattle.odin_files.specs.Standings.{Fares, FileIsHeld, FileIsReady, StaysSeen, StandingFits, WasSeen, is_gone, is_in_use};
 
 use crate::opening::{found, made};
 use crate::raw::RawFile;
@@ -21,7 +21,7 @@ pub struct FileDisk<F: RawFile + Drop> {
     size: u64,
     standing: Standing,
     faults: u64,
-    ghost stands: { Stands standing (F.told file) (F.hold file) size },
+    ghost stands: { StandingFits standing (F.told file) (F.hold file) size },
 }
 
 // Counts a fault, and gives the file up.
@@ -44,7 +44,7 @@ impl<F: RawFile + Drop> FileDisk<F> {
         ensures faults { result.faults ≡ 0 }
         ensures syncs { Syncs (F.told file) (F.told result.file) }
         ensures opened { result.standing ≡ Standing.Open
-            → IsHeld (F.told result.file) (F.hold result.file) result.size }
+            → FileIsHeld (F.told result.file) (F.hold result.file) result.size }
         ensures makes_none { MakesNone (F.hold file) (F.hold result.file) }
     {
         let mut file = file;
@@ -67,7 +67,7 @@ impl<F: RawFile + Drop> FileDisk<F> {
 
     // Makes the file where none stood there.
     fn make_absent(&mut self)
-        ensures stays { Stays (F.told self.old.file) (F.told self.new.file) }
+        ensures stays { DiskStays (F.told self.old.file) (F.told self.new.file) }
         ensures there { ¬ (self.new.standing ≡ Standing.Absent) }
         ensures gone { IsTrue (is_gone self.old.standing) → self.new.standing ≡ self.old.standing }
         ensures size { self.new.size ≡ self.old.size }
@@ -81,7 +81,7 @@ impl<F: RawFile + Drop> FileDisk<F> {
     // Whether the open file stands under its own name, and is as long as it was left.
     fn is_as_left(&mut self) -> bool
         ensures ready { IsTrue result → ForSome (F.hold self.new.file) (StaysSeen self.old.size) }
-        ensures stays { Stays (F.told self.old.file) (F.told self.new.file) }
+        ensures stays { DiskStays (F.told self.old.file) (F.told self.new.file) }
         ensures standing { self.new.standing ≡ self.old.standing }
         ensures open { IsTrue result → self.old.standing ≡ Standing.Open }
         ensures size { self.new.size ≡ self.old.size }
@@ -102,7 +102,7 @@ impl<F: RawFile + Drop> FileDisk<F> {
         ensures size_told { IsTrue result → HasSize (F.told self.new.file) self.new.size }
         ensures look { IsTrue result → self.new.standing ≡ Standing.Open
             → ForSome (F.hold self.new.file) (StaysSeen self.old.size) }
-        ensures stays { Stays (F.told self.old.file) (F.told self.new.file) }
+        ensures stays { DiskStays (F.told self.old.file) (F.told self.new.file) }
         ensures standing { self.new.standing ≡ self.old.standing }
         ensures gone { IsTrue result → ¬ IsTrue (is_gone self.old.standing) }
         ensures size { self.new.size ≡ self.old.size }
@@ -118,7 +118,7 @@ impl<F: RawFile + Drop> FileDisk<F> {
     // Whether nothing stands there still.
     fn is_absent(&mut self) -> bool
         requires { self.old.standing ≡ Standing.Absent }
-        ensures stays { Stays (F.told self.old.file) (F.told self.new.file) }
+        ensures stays { DiskStays (F.told self.old.file) (F.told self.new.file) }
         ensures standing { self.new.standing ≡ self.old.standing }
         ensures size { self.new.size ≡ self.old.size }
         ensures faults { self.new.faults ≡ self.old.faults }
@@ -133,8 +133,8 @@ impl<F: RawFile + Drop> FileDisk<F> {
     // Whether the file may be changed: it is made where none stood there, and looked at.
     fn is_ready(&mut self) -> bool
         ensures ready { IsTrue result
-            → IsReady self.new.standing (F.hold self.new.file) self.new.size }
-        ensures stays { Stays (F.told self.old.file) (F.told self.new.file) }
+            → FileIsReady self.new.standing (F.hold self.new.file) self.new.size }
+        ensures stays { DiskStays (F.told self.old.file) (F.told self.new.file) }
         ensures gone { IsTrue (is_gone self.old.standing) → ¬ IsTrue result }
         ensures size { self.new.size ≡ self.old.size }
         ensures faults { self.new.faults ≡ self.old.faults }
@@ -168,7 +168,7 @@ impl<F: RawFile + Drop> Disk for FileDisk<F> {
             ≡ size_over (F.told self.old.file) self.old.size) }
         ensures seen { SeesSame (F.told self.old.file) (F.told self.new.file) }
         ensures goes { let old = idle (F.told self.old.file) in
-            Goes same_pending old (idle (F.told self.new.file)) result }
+            ChangesPending same_pending old (idle (F.told self.new.file)) result }
         ensures look { OnOk result (self.new.standing ≡ Standing.Open
             → ForSome (F.hold self.new.file) (StaysSeen self.old.size)) }
         ensures makes_none { MakesNone (F.hold self.old.file) (F.hold self.new.file) }
@@ -189,7 +189,7 @@ impl<F: RawFile + Drop> Disk for FileDisk<F> {
             ≡ size_over (F.told self.old.file) self.old.size) }
         ensures seen { SeesSame (F.told self.old.file) (F.told self.new.file) }
         ensures goes { let old = idle (F.told self.old.file) in
-            Goes same_pending old (idle (F.told self.new.file)) result }
+            ChangesPending same_pending old (idle (F.told self.new.file)) result }
         ensures makes_none { MakesNone (F.hold self.old.file) (F.hold self.new.file) }
         ensures fares { Fares self.old.standing self.new.standing
             self.old.faults self.new.faults result }
@@ -216,7 +216,7 @@ impl<F: RawFile + Drop> Disk for FileDisk<F> {
         ensures err { OnErr result
             (SeesTorn at bytes.now (F.told self.old.file) (F.told self.new.file)) }
         ensures goes { let old = idle (F.told self.old.file) in
-            Goes (wrote at (length bytes.now)) old (idle (F.told self.new.file)) result }
+            ChangesPending (wrote at (length bytes.now)) old (idle (F.told self.new.file)) result }
         ensures look { OnOk result (ForSome (F.hold self.new.file) (WasSeen self.old.size)) }
         ensures fares { Fares self.old.standing self.new.standing
             self.old.faults self.new.faults result }
@@ -239,7 +239,7 @@ impl<F: RawFile + Drop> Disk for FileDisk<F> {
         ensures err { OnErr result
             (SeesCut size (F.told self.old.file) (F.told self.new.file)) }
         ensures goes { let old = idle (F.told self.old.file) in
-            Goes (cut_to size) old (idle (F.told self.new.file)) result }
+            ChangesPending (cut_to size) old (idle (F.told self.new.file)) result }
         ensures look { OnOk result (ForSome (F.hold self.new.file) (WasSeen self.old.size)) }
         ensures fares { Fares self.old.standing self.new.standing
             self.old.faults self.new.faults result }
@@ -259,7 +259,7 @@ impl<F: RawFile + Drop> Disk for FileDisk<F> {
             ≡ size_over (F.told self.old.file) self.old.size) }
         ensures seen { SeesSame (F.told self.old.file) (F.told self.new.file) }
         ensures goes { let old = idle (F.told self.old.file) in
-            Goes (synced_as old) old (idle (F.told self.new.file)) result }
+            ChangesPending (synced_as old) old (idle (F.told self.new.file)) result }
         ensures look { OnOk result (ForSome (F.hold self.new.file) (StaysSeen self.old.size)) }
         ensures fares { Fares self.old.standing self.new.standing
             self.old.faults self.new.faults result }

@@ -1,8 +1,8 @@
 // The opening of a store's file, and its making.
 ghost use Rattle.std.specs.Prelude.{◌≡◌, IfOk};
 ghost use Rattle.odin_files.specs.Hold.{MakesNone};
-ghost use Rattle.odin_files.specs.Raw.{IsNothing, Stays, Syncs};
-ghost use Rattle.odin_files.specs.Standings.{IsHeld, IsLockedAs, StandsAt};
+ghost use Rattle.odin_files.specs.Raw.{IsNothing, DiskStays, Syncs};
+ghost use Rattle.odin_files.specs.Standings.{FileIsHeld, IsLockedAs, SizedStandingFits};
 
 use crate::lock::LockFault;
 use crate::raw::RawFile;
@@ -10,7 +10,7 @@ use crate::standing::Standing;
 
 // Locks an open file, looks at it, and syncs it with its name: its size.
 pub fn hold<F: RawFile>(file: &mut F) -> Result<u64, LockFault>
-    ensures ok { IfOk result (IsHeld (F.told file.new) (F.hold file.new)) }
+    ensures ok { IfOk result (FileIsHeld (F.told file.new) (F.hold file.new)) }
     ensures used { IsLockedAs result (F.hold file.new) }
     ensures syncs { Syncs (F.told file.old) (F.told file.new) }
     ensures makes_none { MakesNone (F.hold file.old) (F.hold file.new) }
@@ -26,10 +26,10 @@ pub fn hold<F: RawFile>(file: &mut F) -> Result<u64, LockFault>
 
 // How a disk stands to an open file, and the size of that.
 fn held<F: RawFile>(file: &mut F) -> (Standing, u64)
-    ensures stands { StandsAt result (F.told file.new) (F.hold file.new) }
+    ensures stands { SizedStandingFits result (F.told file.new) (F.hold file.new) }
     ensures syncs { Syncs (F.told file.old) (F.told file.new) }
     ensures opened { result.0 ≡ Standing.Open
-        → IsHeld (F.told file.new) (F.hold file.new) result.1 }
+        → FileIsHeld (F.told file.new) (F.hold file.new) result.1 }
     ensures makes_none { MakesNone (F.hold file.old) (F.hold file.new) }
 {
     match hold(file) {
@@ -41,10 +41,10 @@ fn held<F: RawFile>(file: &mut F) -> (Standing, u64)
 
 /// How a disk stands to a file, and the size of that. Nothing is made.
 pub fn found<F: RawFile>(file: &mut F) -> (Standing, u64)
-    ensures stands { StandsAt result (F.told file.new) (F.hold file.new) }
+    ensures stands { SizedStandingFits result (F.told file.new) (F.hold file.new) }
     ensures syncs { Syncs (F.told file.old) (F.told file.new) }
     ensures opened { result.0 ≡ Standing.Open
-        → IsHeld (F.told file.new) (F.hold file.new) result.1 }
+        → FileIsHeld (F.told file.new) (F.hold file.new) result.1 }
     ensures makes_none { MakesNone (F.hold file.old) (F.hold file.new) }
 {
     match file.find() {
@@ -57,9 +57,9 @@ pub fn found<F: RawFile>(file: &mut F) -> (Standing, u64)
 /// How a disk stands to a file that it makes, since none was there. Where others made one meanwhile that isn't empty, it is given up.
 pub fn made<F: RawFile>(file: &mut F) -> Standing
     requires { IsNothing (F.told file.old) }
-    ensures stands { StandsAt (result, 0) (F.told file.new) (F.hold file.new) }
+    ensures stands { SizedStandingFits (result, 0) (F.told file.new) (F.hold file.new) }
     ensures there { ¬ (result ≡ Standing.Absent) }
-    ensures stays { Stays (F.told file.old) (F.told file.new) }
+    ensures stays { DiskStays (F.told file.old) (F.told file.new) }
 {
     if file.make().is_err() {
         return Standing::Lost;

@@ -1,9 +1,9 @@
 // The front of a file.
 ghost use Rattle.std.specs.Prelude.{◌≡◌, take, Err, IfOk, IfErr, IsOk, IfSome};
 ghost use Rattle.std.specs.Str.{IsUtf8};
-ghost use Rattle.odin_outside.specs.Files.{IsGiven, file_limit};
+ghost use Rattle.odin_outside.specs.Files.{IsGiven, given_file_limit};
 ghost use Rattle.odin_files.specs.Opens.{HasOpened, IsAbsentIn, IsOpened, says_absent};
-ghost use Rattle.odin_files.specs.Answers.{answer_of};
+ghost use Rattle.odin_files.specs.Answers.{answer_of_error};
 
 use crate::fault::SystemFault;
 use crate::raw_files::RawFiles;
@@ -31,7 +31,7 @@ pub fn text_of(bytes: &[u8]) -> Result<&str, SystemFault>
 /// The first 16,777,217 bytes of what a reader has left, or all where that is shorter. No byte after them is read.
 pub fn read_front<R: Read + Drop>(alloc: Global, reader: R) -> Result<Bytes, SystemFault>
     ensures { IfOk result (λ front.
-        IfSome (R.remaining reader) (λ left. front ≡ take file_limit left)) }
+        IfSome (R.remaining reader) (λ left. front ≡ take given_file_limit left)) }
 {
     let mut front = Vec::new(alloc);
     match reader.take(LIMIT).read_to_end(&mut front) {
@@ -52,7 +52,7 @@ fn is_absent(kind: ErrorKind) -> bool
 
 // What is answered at an error.
 fn answer_at(error: io::Error) -> Result<Option<Bytes>, SystemFault>
-    ensures { result ≡ answer_of error }
+    ensures { result ≡ answer_of_error error }
 {
     if is_absent(error.kind()) {
         Ok(None)

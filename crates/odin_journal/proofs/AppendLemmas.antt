@@ -9,7 +9,7 @@ use Rattle.odin_outside.specs.Disk.{Telling, MayLeave, LeavesOnly, Written, Torn
 use Rattle.odin_journal.specs.Rest.{AtRest, BeforeOrAfter}
 use Rattle.odin_outside.specs.Moments.{no_call}
 use Rattle.meaning_store.specs.Front.{file_limit, start_of, HasFront}
-use Rattle.meaning_store.specs.Images.{IsWritten, with_record, behind, IsRecord, AreRecords, IsStore, Stored}
+use Rattle.meaning_store.specs.Images.{IsWritten, with_record, gate_after, IsRecord, AreRecords, IsStore, Stored}
 
 -- two images that have the same first bytes
 pub record Agree (n : ℕ) (image c : List ℕ) : Type 0 where
@@ -48,27 +48,27 @@ agree_front n image c agree large inside front =
       starts_within = subst (λ s. s < length c) (sym start) inside;
     }
 
-agree_record : (n : ℕ) (image c : List ℕ) → Agree n image c → (gate : ℕ) (payload : List ℕ) → behind gate payload ≤ n → behind gate payload < length c → IsRecord image gate payload → IsRecord c gate payload
+agree_record : (n : ℕ) (image c : List ℕ) → Agree n image c → (gate : ℕ) (payload : List ℕ) → gate_after gate payload ≤ n → gate_after gate payload < length c → IsRecord image gate payload → IsRecord c gate payload
 agree_record n image c agree gate payload high inside there = record {
   opened = record { within = omega arith; one = agree_index n image c agree gate (omega arith) ∙ there.opened.one };
   short = there.short;
-  body = record { in_range = (omega arith, omega arith); bytes = agree_range n image c agree (gate + 1) (behind gate payload) (omega arith) high ∙ there.body.bytes };
+  body = record { in_range = (omega arith, omega arith); bytes = agree_range n image c agree (gate + 1) (gate_after gate payload) (omega arith) high ∙ there.body.bytes };
   next = inside;
 }
 
 pub records_le : (image : List ℕ) (gate end : ℕ) (records : List (List ℕ)) → AreRecords image gate records end → gate ≤ end
 records_le image gate end [] whole = omega arith
-records_le image gate end (payload ∷ records) whole = let rest = records_le image (behind gate payload) end records whole.1 in omega arith
+records_le image gate end (payload ∷ records) whole = let rest = records_le image (gate_after gate payload) end records whole.1 in omega arith
 
 agree_records : (n : ℕ) (image c : List ℕ) → Agree n image c → (gate end : ℕ) (records : List (List ℕ)) → end ≤ n → end < length c → AreRecords image gate records end → AreRecords c gate records end
 agree_records n image c agree gate end [] high inside whole = whole
 agree_records n image c agree gate end (payload ∷ records) high inside whole =
-    let le = records_le image (behind gate payload) end records whole.1 in
-    (agree_record n image c agree gate payload (omega arith) (omega arith) whole.0, agree_records n image c agree (behind gate payload) end records high inside whole.1)
+    let le = records_le image (gate_after gate payload) end records whole.1 in
+    (agree_record n image c agree gate payload (omega arith) (omega arith) whole.0, agree_records n image c agree (gate_after gate payload) end records high inside whole.1)
 
-pub one_more : (image : List ℕ) (gate end : ℕ) (records : List (List ℕ)) (payload : List ℕ) → AreRecords image gate records end → IsRecord image end payload → AreRecords image gate (records ++ payload ∷ []) (behind end payload)
-one_more image gate end [] payload whole last = (subst (λ at. IsRecord image at payload) whole last, ap (λ at. behind at payload) whole)
-one_more image gate end (first ∷ records) payload whole last = (whole.0, one_more image (behind gate first) end records payload whole.1 last)
+pub one_more : (image : List ℕ) (gate end : ℕ) (records : List (List ℕ)) (payload : List ℕ) → AreRecords image gate records end → IsRecord image end payload → AreRecords image gate (records ++ payload ∷ []) (gate_after end payload)
+one_more image gate end [] payload whole last = (subst (λ at. IsRecord image at payload) whole last, ap (λ at. gate_after at payload) whole)
+one_more image gate end (first ∷ records) payload whole last = (whole.0, one_more image (gate_after gate first) end records payload whole.1 last)
 
 -- What comes before the gate at the end of a store, over images that agree on it.
 agree_written : (n : ℕ) (image c : List ℕ) → Agree n image c → 64 ≤ n → length c ≤ file_limit → IsWritten image → IsWritten c
@@ -91,7 +91,7 @@ closed_store image c records end store agree inside short shut =
     }
 
 -- and one with a record more, if the gate there is open, and the record and a closed gate stand behind it
-opened_store : (image c : List ℕ) (records : List (List ℕ)) (end : ℕ) (payload : List ℕ) → IsStore image records end → Agree end image c → length c ≤ file_limit → IsRecord c end payload → slice_index c (behind end payload) ≡ 0 → IsStore c (records ++ payload ∷ []) (behind end payload)
+opened_store : (image c : List ℕ) (records : List (List ℕ)) (end : ℕ) (payload : List ℕ) → IsStore image records end → Agree end image c → length c ≤ file_limit → IsRecord c end payload → slice_index c (gate_after end payload) ≡ 0 → IsStore c (records ++ payload ∷ []) (gate_after end payload)
 opened_store image c records end payload store agree short last shut =
     let le = records_le image (start_of image) end records store.whole in
     let large : 64 ≤ end = omega (arith, store.front.starts_behind) in
@@ -123,9 +123,9 @@ torn_store image c records end at n store torn behind_end room =
 
 -- a length, a payload and a closed gate stand behind a gate
 pub record Stands (image : List ℕ) (end : ℕ) (payload : List ℕ) : Type 0 where
-  pub body : slice_range image (end + 1) (behind end payload) ≡ bytes_field payload
-  pub shut : slice_index image (behind end payload) ≡ 0
-  pub within : behind end payload < length image
+  pub body : slice_range image (end + 1) (gate_after end payload) ≡ bytes_field payload
+  pub shut : slice_index image (gate_after end payload) ≡ 0
+  pub within : gate_after end payload < length image
 
 pub stands : (image c : List ℕ) (end : ℕ) (payload : List ℕ) → end < length image → Written image (end + 1) (bytes_field payload ++ 0 ∷ []) c → Stands c end payload
 stands image c end payload inside written =
@@ -136,8 +136,8 @@ stands image c end payload inside written =
     let size : length field ≡ 4 + length payload = omega arith in
     let is : c ≡ front ++ (field ++ 0 ∷ rest) = written ∙ append_assoc front (field ++ 0 ∷ []) rest ∙ ap (λ l. front ++ l) (append_assoc field (0 ∷ []) rest) in
     let back : drop (end + 1) c ≡ field ++ 0 ∷ rest = ap (λ n. drop n c) (sym long) ∙ ap (drop (length front)) is ∙ drop-append_seam front (field ++ 0 ∷ rest) in
-    let count : behind end payload - (end + 1) ≡ length field = omega arith in
-    let place : behind end payload ≡ length (front ++ field) = omega (arith, length-append front field) in
+    let count : gate_after end payload - (end + 1) ≡ length field = omega arith in
+    let place : gate_after end payload ≡ length (front ++ field) = omega (arith, length-append front field) in
     record {
       body = ap (λ n. take n (drop (end + 1) c)) count ∙ ap (take (length field)) back ∙ take-append_seam field (0 ∷ rest);
       shut = ap (λ n. slice_index c n) place ∙ ap (λ l. slice_index l (length (front ++ field))) (is ∙ sym (append_assoc front field (0 ∷ rest))) ∙ get_or-append_seam (front ++ field) 0 rest 0;
@@ -151,7 +151,7 @@ pub torn_gate_back : (image c : List ℕ) (end : ℕ) → end < length image →
 torn_gate_back image c end inside torn = sym (take_all (length image - (end + 1)) (drop (end + 1) c) (omega (arith, torn_gate_size image c end inside torn, length-drop (end + 1) c))) ∙ torn.after
 
 -- an open gate in front of what stands there makes a record of it
-pub opened_torn : (image c : List ℕ) (records : List (List ℕ)) (end : ℕ) (payload : List ℕ) → IsStore image records end → Stands image end payload → Torn end 1 image c → slice_index c end ≡ 1 → IsStore c (records ++ payload ∷ []) (behind end payload)
+pub opened_torn : (image c : List ℕ) (records : List (List ℕ)) (end : ℕ) (payload : List ℕ) → IsStore image records end → Stands image end payload → Torn end 1 image c → slice_index c end ≡ 1 → IsStore c (records ++ payload ∷ []) (gate_after end payload)
 opened_torn image c records end payload store there torn one =
     let inside = store.closed.within in
     let size = torn_gate_size image c end inside torn in
@@ -161,18 +161,18 @@ opened_torn image c records end payload store there torn one =
     let last : IsRecord c end payload = record {
       opened = record { within = omega arith; one = one };
       short = omega arith;
-      body = record { in_range = (omega arith, omega arith); bytes = ap (take (behind end payload - (end + 1))) back ∙ there.body };
+      body = record { in_range = (omega arith, omega arith); bytes = ap (take (gate_after end payload - (end + 1))) back ∙ there.body };
       next = omega arith;
     } in
-    let place : end + 1 + (4 + length payload) ≡ behind end payload = omega arith in
-    let byte : (l : List ℕ) → slice_index l (behind end payload) ≡ slice_index (drop (end + 1) l) (4 + length payload) = λ l. ap (λ n. slice_index l n) (sym place) ∙ sym (get_or-drop (end + 1) l (4 + length payload) 0) in
-    let shut : slice_index c (behind end payload) ≡ 0 = byte c ∙ ap (λ l. slice_index l (4 + length payload)) back ∙ sym (byte image) ∙ there.shut in
+    let place : end + 1 + (4 + length payload) ≡ gate_after end payload = omega arith in
+    let byte : (l : List ℕ) → slice_index l (gate_after end payload) ≡ slice_index (drop (end + 1) l) (4 + length payload) = λ l. ap (λ n. slice_index l n) (sym place) ∙ sym (get_or-drop (end + 1) l (4 + length payload) 0) in
+    let shut : slice_index c (gate_after end payload) ≡ 0 = byte c ∙ ap (λ l. slice_index l (4 + length payload)) back ∙ sym (byte image) ∙ there.shut in
     opened_store image c records end payload store (torn_agree end 1 image c (omega arith) torn) (omega arith) last shut
 
 -- each outcome of a write of the gate has the records from before, or one more
 pub torn_gate : (image c : List ℕ) (records : List (List ℕ)) (end : ℕ) (payload : List ℕ) → IsStore image records end → Stands image end payload → Torn end 1 image c → Stored records c ⊎ Stored (records ++ payload ∷ []) c
 torn_gate image c records end payload store there torn = elim (cases_eq (slice_index c end) 1) [
-  | inl one ↦ inr (inr (behind end payload, opened_torn image c records end payload store there torn one))
+  | inl one ↦ inr (inr (gate_after end payload, opened_torn image c records end payload store there torn one))
   | inr shut ↦
       let inside = store.closed.within in
       let size = torn_gate_size image c end inside torn in

@@ -4,7 +4,7 @@ use Rattle.std.proofs.lemmas.Bool.{cases_eq}
 use Rattle.odin_outside.specs.Disk.{Telling, Written, Torn}
 use Rattle.meaning_store.specs.Front.{file_limit, new_front}
 use Rattle.meaning_store.specs.Images.{IsNew, IsStore, Stored}
-use Rattle.odin_journal.specs.Rest.{Clears, Makes}
+use Rattle.odin_journal.specs.Rest.{Clears, MakesNewStore}
 use Rattle.odin_journal.proofs.AppendLemmas.{agree_index, torn_agree, torn_gate_back, torn_gate_size}
 
 -- what is written behind the byte at 0: the front of a new store without its first byte
@@ -72,5 +72,5 @@ marked_bytes image c rest is torn written =
     torn_mark_is image c rest is torn ∙ ap (λ b. b ∷ (blank ++ rest)) (ap (λ l. slice_index l 0) written)
 
 -- a store that was made of a file whose byte at 0 was written first
-pub makes_on : (old mid new : Telling) → Clears old mid → Makes mid new → Makes old new
+pub makes_on : (old mid new : Telling) → Clears old mid → MakesNewStore mid new → MakesNewStore old new
 makes_on old mid new clears makes = record { rests = makes.rests; bytes = makes.bytes ∙ ap (λ rest. new_front ++ rest) clears.back }

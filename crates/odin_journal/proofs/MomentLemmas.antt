@@ -1,7 +1,7 @@
 -- What is known of a disk that is only read.
 use Rattle.std.proofs.Common.{◌≡◌, ℕ, List, Result, Ok, Err, OnOk, OnErr, sym, ◌∙◌}
-use Rattle.odin_outside.specs.Disk.{Telling, MayLeave, Goes, IsQuiet, same_pending}
-use Rattle.odin_outside.specs.Moments.{follows_on, one_call, then, after_look}
+use Rattle.odin_outside.specs.Disk.{Telling, MayLeave, ChangesPending, IsQuiet, same_pending}
+use Rattle.odin_outside.specs.Moments.{follows_on, leaves_by_one_call, then, after_look}
 use Rattle.odin_journal.specs.Moments.{Untouched}
 
 pub on_ok_two : {T E P Q R : Type 0} (r : Result T E) → (P → Q → R) → OnOk r P → OnOk r Q → OnOk r R
@@ -27,11 +27,11 @@ untouched_on old mid new first second = record {
 }
 
 -- a call that only reads leaves a disk untouched
-pub untouched_call : {T E : Type 0} (old new : Telling) (r : Result T E) → ((c : List ℕ) → old.left_since old.moment c → MayLeave old c) → IsQuiet old → Goes same_pending old new r → new.seen ≡ old.seen → Untouched old new
+pub untouched_call : {T E : Type 0} (old new : Telling) (r : Result T E) → ((c : List ℕ) → old.left_since old.moment c → MayLeave old c) → IsQuiet old → ChangesPending same_pending old new r → new.seen ≡ old.seen → Untouched old new
 untouched_call old new r only_now quiet goes same =
     let here : (c : List ℕ) → MayLeave new c → c ≡ old.seen = λ c left. quiet.only c (after_look old new r goes quiet.follows c left) in
     record {
       quiet = record { follows = follows_on same_pending old new r goes quiet.follows; only = λ c left. here c left ∙ sym same };
       same = same;
-      leaves = one_call same_pending old new r (λ image. image ≡ old.seen) quiet.follows goes (λ c left. quiet.only c (only_now c left)) here;
+      leaves = leaves_by_one_call same_pending old new r (λ image. image ≡ old.seen) quiet.follows goes (λ c left. quiet.only c (only_now c left)) here;
     }

@@ -8,7 +8,7 @@ use Rattle.odin_journal.specs.Faults.{BreaksBehind, IsReadFault, IsOpenFault}
 use Rattle.odin_journal.specs.declared.fault.JournalFault.{JournalFault}
 use Rattle.odin_journal.specs.declared.fault.JournalFault.TheVariants as fault
 use Rattle.odin_journal.specs.Moments.{IsLookOf, IsQuietAt, Untouched}
-use Rattle.odin_journal.specs.Rest.{AtRest, Makes, Opens, KeepsRecords}
+use Rattle.odin_journal.specs.Rest.{AtRest, MakesNewStore, OpensJournal, KeepsRecords}
 use Rattle.odin_journal.specs.declared.front.Looked.{Looked}
 use Rattle.odin_outside.specs.Moments.{then, weaker}
 use Rattle.odin_journal.proofs.MomentLemmas.{untouched_on}
@@ -63,7 +63,7 @@ look_again old mid looked untouched look is quiet =
     (record { quiet = same.quiet; long = ap length same.same ∙ seen.long }, subst (λ (image : List ℕ). IsWritten image) (sym same.same) (seen.written is))
 
 -- an opened store
-pub opens_store : (old mid new : Telling) (records : List (List ℕ)) (end : ℕ) → Untouched old mid → Untouched mid new → IsWritten mid.seen → IsStore mid.seen records end → Opens old new records end
+pub opens_store : (old mid new : Telling) (records : List (List ℕ)) (end : ℕ) → Untouched old mid → Untouched mid new → IsWritten mid.seen → IsStore mid.seen records end → OpensJournal old new records end
 opens_store old mid new records end first second written store =
     let both : Untouched old new = untouched_on old mid new first second in
     let there : IsStore old.seen records end = subst (λ (image : List ℕ). IsStore image records end) first.same store in
@@ -74,7 +74,7 @@ opens_store old mid new records end first second written store =
     }
 
 -- and one that was made
-pub opens_new : (old mid new : Telling) → Untouched old mid → IsNew old.seen → Makes mid new → Opens old new [] 64
+pub opens_new : (old mid new : Telling) → Untouched old mid → IsNew old.seen → MakesNewStore mid new → OpensJournal old new [] 64
 opens_new old mid new first is_new made = record {
   stored = inl (is_new, refl);
   rests = made.rests;

@@ -3,7 +3,7 @@ use Rattle.std.proofs.Common.{◌≡◌, ℕ, ◌+◌, ◌-◌, ◌<◌, ◌≤�
 use Rattle.std.proofs.lemmas.List.{get_or-take, get_or-drop}
 use Rattle.odin_bytes.specs.Fields.{u32_field, bytes_field, IsFieldAt}
 use Rattle.odin_bytes.specs.FieldLemmas.{body_at, field_front, u32_front, length-slice_range}
-use Rattle.meaning_store.specs.Images.{behind, IsOpen, IsRecord}
+use Rattle.meaning_store.specs.Images.{gate_after, IsOpen, IsRecord}
 use Rattle.odin_journal.proofs.AppendLemmas.{range_of_front}
 
 -- what was read at a gate: at least a gate, and the number that stands behind it
@@ -53,7 +53,7 @@ record_read image head payload gate count number read field small room is =
 pub no_record : (image head payload : List ℕ) (gate count number : ℕ) → Head image head gate count → IsFieldAt head 1 5 (u32_field number) → number < 2 ^ 32 → length image - gate < 6 + number → IsRecord image gate payload → ⊥
 no_record image head payload gate count number read field small short there =
     let front = field_front image (gate + 1) (gate + 5) (u32_field number) (length_there image head gate count number read field) in
-    let whole = field_front image (gate + 1) (behind gate payload) (bytes_field payload) there.body in
+    let whole = field_front image (gate + 1) (gate_after gate payload) (bytes_field payload) there.body in
     let same = u32_front number (length payload) _ _ small there.short (sym front ∙ whole ∙ append_assoc (u32_field (length payload)) payload _) in
     let next = there.next in
     omega (arith, same.0)

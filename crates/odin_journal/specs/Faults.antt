@@ -9,15 +9,15 @@ use Rattle.odin_journal.specs.declared.fault.JournalFault.{JournalFault}
 use Rattle.odin_journal.specs.declared.fault.JournalFault.TheVariants as fault
 
 -- what a fault says of the disk's count of faults: it rose where the disk failed, and else it is as it was
-abbrev pub IsCauseOf : ℕ → ℕ → JournalFault → Type 0
-IsCauseOf before now fault.Disk = Rose before now
-IsCauseOf before now other = now ≡ before
+abbrev pub CountAfterJournalFault : ℕ → ℕ → JournalFault → Type 0
+CountAfterJournalFault before now fault.Disk = Rose before now
+CountAfterJournalFault before now other = now ≡ before
 
 -- and what any answer says of it
-pub record IsCause {T : Type 0} (before now : ℕ) (result : Result T JournalFault) : Type 0 where
+pub record JournalFaultIsCounted {T : Type 0} (before now : ℕ) (result : Result T JournalFault) : Type 0 where
   pub later : before ≤ now
   pub ok : OnOk result (now ≡ before)
-  pub err : IfErr result (IsCauseOf before now)
+  pub err : IfErr result (CountAfterJournalFault before now)
 
 -- a fault of a reading: `NotOurs` only at such an offset, and never `Full`
 abbrev pub IsReadFault : (ℕ → Type 0) → JournalFault → Type 0
@@ -55,7 +55,7 @@ IsAddFault end count (fault.Full at some) = (file_limit < end + 6 + count) × (a
 IsAddFault end count other = ⊤
 
 -- `Full` is answered exactly where so many bytes don't fit behind this end.
-pub record IsFull {T : Type 0} (end count : ℕ) (result : Result T JournalFault) : Type 0 where
+pub record FullIsExact {T : Type 0} (end count : ℕ) (result : Result T JournalFault) : Type 0 where
   pub room : OnOk result (end + 6 + count ≤ file_limit)
   pub exact : file_limit < end + 6 + count → IsErrOf result (fault.Full end count)
   pub err : IfErr result (IsAddFault end count)

@@ -21,8 +21,8 @@ abbrev pub grown : ℕ → ℕ → List ℕ → ℕ
 grown size at bytes = max size (at + length bytes)
 
 -- what a read gives has these bytes at this offset, where the disk follows the model
-abbrev pub Writes : ℕ → List ℕ → Telling → Telling → Type 0
-Writes at bytes old new = IsTrue old.follows → Written old.seen at bytes new.seen
+abbrev pub WritesAt : ℕ → List ℕ → Telling → Telling → Type 0
+WritesAt at bytes old new = IsTrue old.follows → Written old.seen at bytes new.seen
 
 -- a crash at any moment leaves the file but for so many bytes at this offset
 abbrev pub LeavesTorn : ℕ → ℕ → Telling → Telling → Type 0
@@ -44,7 +44,7 @@ abbrev pub IsLookAt : Telling → Looked → Type 0
 IsLookAt disk looked = IsQuiet disk → IsLookOf disk.seen looked
 
 -- the size of the disk that was looked at, which a store may have
-pub record HasSize (size : ℕ) (looked : Looked) : Type 0 where
+pub record HasStoreSize (size : ℕ) (looked : Looked) : Type 0 where
   pub is : looked.size ≡ size
   pub within : looked.size ≤ file_limit
 

@@ -4,7 +4,7 @@ use Rattle.odin_outside.specs.Disk.{Telling, IsQuiet, LeavesOnly, Written}
 use Rattle.odin_bytes.specs.Fields.{bytes_field}
 use Rattle.odin_journal.specs.Moments.{Untouched}
 use Rattle.meaning_store.specs.Front.{file_limit, front_size, new_store}
-use Rattle.meaning_store.specs.Images.{behind, with_record, IsNew, Stored, IsStore}
+use Rattle.meaning_store.specs.Images.{gate_after, with_record, IsNew, Stored, IsStore}
 use Rattle.odin_journal.specs.declared.journal.Journal.{Journal}
 use Rattle.odin_journal.specs.declared.fault.JournalFault.{JournalFault}
 use Rattle.odin_journal.specs.declared.fault.JournalFault.TheVariants.{Disk}
@@ -31,19 +31,19 @@ pub record Clears (old new : Telling) : Type 0 where
   pub back : drop 65 new.seen ≡ drop 65 old.seen
 
 -- a file that counted as new became a store without records
-pub record Makes (old new : Telling) : Type 0 where
+pub record MakesNewStore (old new : Telling) : Type 0 where
   pub rests : AtRest new [] front_size
   pub bytes : new.seen ≡ new_store old.seen
 
 -- where nothing is pending on it
 abbrev pub MakesNew : Telling → Telling → Type 0
-MakesNew old new = IsQuiet old → IsNew old.seen → Makes old new
+MakesNew old new = IsQuiet old → IsNew old.seen → MakesNewStore old new
 
 abbrev pub ClearsNew : Telling → Telling → Type 0
 ClearsNew old new = IsQuiet old → IsNew old.seen → Clears old new
 
 abbrev pub MakesCleared : Telling → Telling → Type 0
-MakesCleared old new = IsCleared old → Makes old new
+MakesCleared old new = IsCleared old → MakesNewStore old new
 
 -- and a crash at any moment leaves a file without records
 abbrev pub StaysEmpty : Telling → Telling → Type 0
@@ -53,14 +53,14 @@ abbrev pub StaysCleared : Telling → Telling → Type 0
 StaysCleared old new = IsCleared old → LeavesOnly old new (Stored [])
 
 -- The records of the file were these, and the journal rests on them. A file that counted as new was made a store, with these bytes.
-pub record Opens (old new : Telling) (records : List (List ℕ)) (end : ℕ) : Type 0 where
+pub record OpensJournal (old new : Telling) (records : List (List ℕ)) (end : ℕ) : Type 0 where
   pub stored : Stored records old.seen
   pub rests : AtRest new records end
   pub made : IsNew old.seen → new.seen ≡ new_store old.seen
 
 -- where nothing was pending
-abbrev pub OpensQuiet : Telling → Telling → Journal × List (List ℕ) → Type 0
-OpensQuiet old new opened = IsQuiet old → Opens old new opened.1 opened.0.end
+abbrev pub OpensQuietJournal : Telling → Telling → Journal × List (List ℕ) → Type 0
+OpensQuietJournal old new opened = IsQuiet old → OpensJournal old new opened.1 opened.0.end
 
 -- a file that doesn't count as new is only read
 abbrev pub OnlyReads : Telling → Telling → Type 0
@@ -71,8 +71,8 @@ abbrev pub KeepsRecords : Telling → Telling → Type 0
 KeepsRecords old new = (records : List (List ℕ)) → IsQuiet old → Stored records old.seen → LeavesOnly old new (Stored records)
 
 -- A record was added at this end, and the next is added at that one.
-pub record Adds (end next : ℕ) (payload : List ℕ) (old new : Telling) : Type 0 where
-  pub next_is : next ≡ behind end payload
+pub record AddsRecord (end next : ℕ) (payload : List ℕ) (old new : Telling) : Type 0 where
+  pub next_is : next ≡ gate_after end payload
   pub rests : (records : List (List ℕ)) → AtRest old records end → AtRest new (records ++ payload ∷ []) next
   pub bytes : IsQuiet old → new.seen ≡ with_record end payload old.seen
 
@@ -97,12 +97,12 @@ pub record IsReady (journal : Journal) (size : ℕ) : Type 0 where
 
 -- the adding of a record to a journal
 abbrev pub AddsTo : Journal → Journal → List ℕ → Telling → Telling → Type 0
-AddsTo journal next payload old new = Adds journal.end next.end payload old new
+AddsTo journal next payload old new = AddsRecord journal.end next.end payload old new
 
 abbrev pub LeavesAdded : Journal → List ℕ → Telling → Telling → Type 0
 LeavesAdded journal payload old new = KeepsOrAdds journal.end payload old new
 
 -- what a journal is after an adding: it can be added to, or is spent
-pub record IsLeft {T : Type 0} (journal : Journal) (size : ℕ) (result : Result T JournalFault) : Type 0 where
+pub record JournalAfter {T : Type 0} (journal : Journal) (size : ℕ) (result : Result T JournalFault) : Type 0 where
   pub ready : OnOk result (IsReady journal size)
   pub spent : IsErrOf result Disk → IsTrue journal.spent

@@ -2,8 +2,8 @@
 ghost use Rattle.std.specs.Prelude.{◌≡◌, ◌≤◌, ◌<◌, IsTrue, IfOk, IfErr, OnOk};
 ghost use Rattle.odin_outside.specs.Causes.{HasCause};
 ghost use Rattle.meaning_store.specs.Front.{front_size};
-ghost use Rattle.odin_journal.specs.Faults.{IsCause, IsReadFault};
-ghost use Rattle.odin_journal.specs.Moments.{HasSize, IsLookAt, StaysQuiet, Works};
+ghost use Rattle.odin_journal.specs.Faults.{JournalFaultIsCounted, IsReadFault};
+ghost use Rattle.odin_journal.specs.Moments.{HasStoreSize, IsLookAt, StaysQuiet, Works};
 ghost use Rattle.odin_journal.specs.Reads.{IsLong};
 ghost use Rattle.odin_journal.specs.Rest.{ClearsNew, MakesCleared, MakesNew, StaysCleared, StaysEmpty};
 
@@ -29,12 +29,12 @@ pub struct Looked {
 /// Looks at a file, which may be a store of another length than the longest.
 pub fn look<D: Disk>(disk: &mut D) -> Result<Looked, JournalFault>
     ensures look { IfOk result (IsLookAt (D.told disk.old)) }
-    ensures size { IfOk result (HasSize (D.size_of disk.new)) }
+    ensures size { IfOk result (HasStoreSize (D.size_of disk.new)) }
     ensures empty { D.size_of disk.old ≡ 0 → IfOk result (λ looked. IsTrue looked.is_new) }
     ensures untouched { StaysQuiet (D.told disk.old) (D.told disk.new) }
     ensures err { IfErr result (IsReadFault (IsLong (D.told disk.old))) }
     ensures works { Works 0 2 (D.told disk.old) (D.told disk.new) }
-    ensures cause { IsCause (D.faults disk.old) (D.faults disk.new) result }
+    ensures cause { JournalFaultIsCounted (D.faults disk.old) (D.faults disk.new) result }
 {
     let size = disk.size()?;
     if size > STORE_LIMIT {

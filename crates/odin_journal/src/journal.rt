@@ -2,9 +2,9 @@
 ghost use Rattle.std.specs.Prelude.{◌≡◌, ◌<◌, ◌≤◌, ◌+◌, ◌*◌, ◌^◌, ◌++◌, [], ◌∷◌, length, IfOk, IfErr, OnOk};
 ghost use Rattle.odin_bytes.specs.Fields.{bytes_field};
 ghost use Rattle.odin_outside.specs.Causes.{HasCause};
-ghost use Rattle.odin_journal.specs.Faults.{IsCause, IsFull, IsOpenFault, IsRefused};
+ghost use Rattle.odin_journal.specs.Faults.{JournalFaultIsCounted, FullIsExact, IsOpenFault, IsRefused};
 ghost use Rattle.odin_journal.specs.Moments.{Works};
-ghost use Rattle.odin_journal.specs.Rest.{AddsBytes, AddsTo, IsLeft, IsReady, KeepsOrAddsBytes, KeepsRecords, LeavesAdded, OnlyReads, OpensGate, OpensQuiet};
+ghost use Rattle.odin_journal.specs.Rest.{AddsBytes, AddsTo, JournalAfter, IsReady, KeepsOrAddsBytes, KeepsRecords, LeavesAdded, OnlyReads, OpensGate, OpensQuietJournal};
 
 use crate::fault::JournalFault;
 use crate::front::{FRONT_SIZE, look, make_new};
@@ -25,7 +25,7 @@ pub struct Journal {
 impl Journal {
     /// Opens the journal in a file and gives its whole records. It makes a file that counts as new a store, and repairs nothing else.
     pub fn open<D: Disk>(alloc: Global, disk: &mut D) -> Result<(Journal, Seq<Bytes>), JournalFault>
-        ensures opened { IfOk result (OpensQuiet (D.told disk.old) (D.told disk.new)) }
+        ensures opened { IfOk result (OpensQuietJournal (D.told disk.old) (D.told disk.new)) }
         // A file that doesn't count as new is only read, whatever the answer.
         ensures untouched { OnlyReads (D.told disk.old) (D.told disk.new) }
         ensures any_moment { KeepsRecords (D.told disk.old) (D.told disk.new) }
@@ -34,7 +34,7 @@ impl Journal {
         ensures works { D.size_of disk.old ≡ 0 → Works 66 16 (D.told disk.old) (D.told disk.new) }
         ensures reads { IfOk result (λ opened.
             Works 66 (16 + 2 * length opened.1) (D.told disk.old) (D.told disk.new)) }
-        ensures cause { IsCause (D.faults disk.old) (D.faults disk.new) result }
+        ensures cause { JournalFaultIsCounted (D.faults disk.old) (D.faults disk.new) result }
     {
         let looked = look(disk)?;
         if looked.is_new {
@@ -73,11 +73,11 @@ impl Journal {
         ensures added { OnOk result
             (AddsTo self.old self.new payload.now (D.told disk.old) (D.told disk.new)) }
         ensures any_moment { LeavesAdded self.old payload.now (D.told disk.old) (D.told disk.new) }
-        ensures full { IsFull self.old.end (length payload.now) result }
+        ensures full { FullIsExact self.old.end (length payload.now) result }
         ensures same { IsRefused result → (disk.new ≡ disk.old) × (self.new ≡ self.old) }
-        ensures state { IsLeft self.new (D.size_of disk.new) result }
+        ensures state { JournalAfter self.new (D.size_of disk.new) result }
         ensures works { Works (length payload.now + 6) 4 (D.told disk.old) (D.told disk.new) }
-        ensures cause { IsCause (D.faults disk.old) (D.faults disk.new) result }
+        ensures cause { JournalFaultIsCounted (D.faults disk.old) (D.faults disk.new) result }
     {
         let length = payload.len() as u64;
         if self.end > STORE_LIMIT - 6 || length > STORE_LIMIT - 6 - self.end {

@@ -1,8 +1,8 @@
 // The reading of an existing store file.
 ghost use Rattle.std.specs.Prelude.{◌≡◌, ◌+◌, ◌*◌, ◌<◌, ◌≤◌, length, IfOk, IfErr, IfSome, IfNone};
 ghost use Rattle.meaning_store.specs.Front.{front_size, start_of};
-ghost use Rattle.meaning_store.specs.Images.{behind};
-ghost use Rattle.odin_journal.specs.Faults.{IsCause, IsReadFault, nowhere};
+ghost use Rattle.meaning_store.specs.Images.{gate_after};
+ghost use Rattle.odin_journal.specs.Faults.{JournalFaultIsCounted, IsReadFault, nowhere};
 ghost use Rattle.odin_journal.specs.Marks.{HasMarks};
 ghost use Rattle.odin_journal.specs.Moments.{IsOnlyRead, IsPlace, IsRangeOf, Works};
 ghost use Rattle.odin_journal.specs.Reads.{BreaksFrom, BreaksHere, BreaksStore, HasNoFront, HasRecord, HasRecords, HasStart, HasStore, IsShut};
@@ -29,7 +29,7 @@ pub fn read_bytes<D: Disk>(
         (D.size_of disk.old) (D.size_of disk.new) result }
     ensures err { IfErr result (IsReadFault nowhere) }
     ensures works { Works 0 1 (D.told disk.old) (D.told disk.new) }
-    ensures cause { IsCause (D.faults disk.old) (D.faults disk.new) result }
+    ensures cause { JournalFaultIsCounted (D.faults disk.old) (D.faults disk.new) result }
 {
     let mut bytes = vec![in alloc; 0; count as usize]?;
     disk.read(at, bytes.as_mut_slice())?;
@@ -45,13 +45,13 @@ pub fn read_record<D: Disk>(
 ) -> Result<Option<Bytes>, JournalFault>
     requires { IsPlace (D.size_of disk.old) size gate }
     ensures some { IfOk result (λ read. IfSome read (HasRecord (D.told disk.old) size gate)) }
-    ensures room { IfOk result (λ read. IfSome read (λ payload. behind gate payload < size)) }
+    ensures room { IfOk result (λ read. IfSome read (λ payload. gate_after gate payload < size)) }
     ensures none { IfOk result (λ read. IfNone read (IsShut (D.told disk.old) size gate)) }
     ensures left { IsOnlyRead (D.told disk.old) (D.told disk.new)
         (D.size_of disk.old) (D.size_of disk.new) result }
     ensures err { IfErr result (IsReadFault (BreaksHere (D.told disk.old) size gate)) }
     ensures works { Works 0 2 (D.told disk.old) (D.told disk.new) }
-    ensures cause { IsCause (D.faults disk.old) (D.faults disk.new) result }
+    ensures cause { JournalFaultIsCounted (D.faults disk.old) (D.faults disk.new) result }
 {
     let head = read_bytes(alloc, disk, gate, (size - gate).min(5))?;
     let bytes = head.as_slice();
@@ -84,7 +84,7 @@ pub fn read_records<D: Disk>(
     ensures err { IfErr result (IsReadFault (BreaksFrom (D.told disk.old) size start)) }
     ensures works { IfOk result (λ read.
         Works 0 (2 * length read.1 + 2) (D.told disk.old) (D.told disk.new)) }
-    ensures cause { IsCause (D.faults disk.old) (D.faults disk.new) result }
+    ensures cause { JournalFaultIsCounted (D.faults disk.old) (D.faults disk.new) result }
 {
     let mut records = Seq::new(alloc);
     let mut gate = start;
@@ -109,7 +109,7 @@ pub fn read_start<D: Disk>(
         (D.size_of disk.old) (D.size_of disk.new) result }
     ensures err { IfErr result (IsReadFault nowhere) }
     ensures works { Works 0 1 (D.told disk.old) (D.told disk.new) }
-    ensures cause { IsCause (D.faults disk.old) (D.faults disk.new) result }
+    ensures cause { JournalFaultIsCounted (D.faults disk.old) (D.faults disk.new) result }
 {
     if size <= FRONT_SIZE {
         return Ok(None);
@@ -157,7 +157,7 @@ pub fn read_store<D: Disk>(
     ensures err { IfErr result (IsReadFault (BreaksStore (D.told disk.old) size)) }
     ensures works { IfOk result (λ read.
         Works 0 (2 * length read.1 + 3) (D.told disk.old) (D.told disk.new)) }
-    ensures cause { IsCause (D.faults disk.old) (D.faults disk.new) result }
+    ensures cause { JournalFaultIsCounted (D.faults disk.old) (D.faults disk.new) result }
 {
     let Some(start) = read_start(alloc, disk, size)? else {
         return Err(JournalFault::NotOurs(0));

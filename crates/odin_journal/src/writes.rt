@@ -2,7 +2,7 @@
 ghost use Rattle.std.specs.Prelude.{◌≡◌, ◌+◌, ◌^◌, ◌≤◌, length, OnOk};
 ghost use Rattle.odin_outside.specs.Causes.{HasCause};
 ghost use Rattle.odin_outside.specs.Disk.{IsQuiet};
-ghost use Rattle.odin_journal.specs.Moments.{grown, LeavesTorn, Works, Writes};
+ghost use Rattle.odin_journal.specs.Moments.{grown, LeavesTorn, Works, WritesAt};
 
 use odin_outside::{Disk, Failed};
 
@@ -11,7 +11,7 @@ pub fn write_synced<D: Disk>(disk: &mut D, at: u64, bytes: &[u8]) -> Result<(), 
     requires inside { at ≤ D.size_of disk.old }
     requires end { at + length bytes.now ≤ 2 ^ 30 }
     ensures ok { OnOk result (IsQuiet (D.told disk.old) → IsQuiet (D.told disk.new)) }
-    ensures written { OnOk result (Writes at bytes.now (D.told disk.old) (D.told disk.new)) }
+    ensures written { OnOk result (WritesAt at bytes.now (D.told disk.old) (D.told disk.new)) }
     ensures any_moment { LeavesTorn at (length bytes.now) (D.told disk.old) (D.told disk.new) }
     ensures size { OnOk result (D.size_of disk.new ≡ grown (D.size_of disk.old) at bytes.now) }
     ensures works { Works (length bytes.now) 2 (D.told disk.old) (D.told disk.new) }

@@ -14,13 +14,13 @@ use Rattle.object_values.specs.declared.expressions.Expression.{Expression}
 use Rattle.meaning_graph.specs.Graphs.{Text, Graph, type_named, kind_of}
 use Rattle.meaning_graph.specs.Suffixes.{source_type}
 use Rattle.meaning_graph.specs.Paths.{Path, chosen_path}
-use Rattle.meaning_nodes.specs.Nodes.{stepped, extended, picked_type, type_after, reached_type, onward}
+use Rattle.meaning_nodes.specs.Nodes.{node_with_step, extended, picked_type, type_after, reached_type, onward}
 use Rattle.meaning_nodes.specs.NodeOf.{NodeAnswer, is_node, unknown_param, unknown_type, no_path, node_or_no_path, toward, step_on, steps_on, unknown_in, of_known, node_of}
 use Rattle.meaning_nodes.proofs.Lemmas.{type_after-append, type_after_none, path_type}
 use Rattle.odin_nodes.specs.declared.fault.NodeFault.{NodeFault}
 use Rattle.odin_nodes.specs.declared.fault.NodeFault.TheVariants.{UnknownParam, UnknownType, NoPath, Memory}
-use Rattle.odin_nodes.specs.Refusals.{IsRefusal}
-use Rattle.odin_nodes.specs.Making.{bare, IsMade}
+use Rattle.odin_nodes.specs.Refusals.{IsFaultOfAnswer}
+use Rattle.odin_nodes.specs.Making.{bare_source, IsMade}
 
 -- ---- one step
 
@@ -30,18 +30,18 @@ module _ (g : Graph) (n : Node) (at : ℕ) (typed : reached_type g n ≡ Some at
   unfolding reached_type
   typed_on steps = type_after-append g (Some (source_type g n.source)) n.steps steps ∙ ap (λ o. type_after g o steps) typed
 
-  typed_pick : (key : Text) (o : Option ℕ) → o ≡ picked_type g key (kind_of g at) → reached_type g (stepped n (PickKey key)) ≡ o
+  typed_pick : (key : Text) (o : Option ℕ) → o ≡ picked_type g key (kind_of g at) → reached_type g (node_with_step n (PickKey key)) ≡ o
   typed_pick key o is = typed_on (PickKey key ∷ []) ∙ type_after_none g (picked_type g key (kind_of g at)) ∙ sym is
 
-  pub pick_typed : (key : Text) (t : ℕ) → Some t ≡ picked_type g key (kind_of g at) → reached_type g (stepped n (PickKey key)) ≡ Some t
+  pub pick_typed : (key : Text) (t : ℕ) → Some t ≡ picked_type g key (kind_of g at) → reached_type g (node_with_step n (PickKey key)) ≡ Some t
   pick_typed key t is = typed_pick key (Some t) is
 
   -- a key that picks, and one that doesn't
-  pub picks : (k : ℕ) (key : Text) (t : ℕ) → Some t ≡ picked_type g key (kind_of g at) → step_on g n k (Pick key) ≡ is_node (stepped n (PickKey key))
-  picks k key t is = ap (λ o. cond (is_some o) (is_node (stepped n (PickKey key))) (no_path k)) (typed_pick key (Some t) is)
+  pub picks : (k : ℕ) (key : Text) (t : ℕ) → Some t ≡ picked_type g key (kind_of g at) → step_on g n k (Pick key) ≡ is_node (node_with_step n (PickKey key))
+  picks k key t is = ap (λ o. cond (is_some o) (is_node (node_with_step n (PickKey key))) (no_path k)) (typed_pick key (Some t) is)
 
   pub picks_none : (k : ℕ) (key : Text) → None ≡ picked_type g key (kind_of g at) → step_on g n k (Pick key) ≡ no_path k
-  picks_none k key is = ap (λ o. cond (is_some o) (is_node (stepped n (PickKey key))) (no_path k)) (typed_pick key None is)
+  picks_none k key is = ap (λ o. cond (is_some o) (is_node (node_with_step n (PickKey key))) (no_path k)) (typed_pick key None is)
 
   onward_by : (to : ℕ) (o : Option (List ℕ)) → o ≡ chosen_path g at to → onward g n to ≡ option_map (extended n) o
   onward_by to o is = ap (option_and_then (λ t. option_map (extended n) (chosen_path g t to))) typed ∙ ap (option_map (extended n)) (sym is)
@@ -91,7 +91,7 @@ path_stays g k j [] = refl
 path_stays g k j (s ∷ steps) = refl
 
 -- a refusal stays
-refusal_stays : (g : Graph) (k : ℕ) (steps : List ExprStep) (answer : NodeAnswer) (fault : NodeFault) → IsRefusal answer fault → IsRefusal (steps_on g k answer steps) fault
+refusal_stays : (g : Graph) (k : ℕ) (steps : List ExprStep) (answer : NodeAnswer) (fault : NodeFault) → IsFaultOfAnswer answer fault → IsFaultOfAnswer (steps_on g k answer steps) fault
 refusal_stays g k steps answer (UnknownParam name) e = ap (λ a. steps_on g k a steps) e ∙ param_stays g k name steps
 refusal_stays g k steps answer (UnknownType name) e = ap (λ a. steps_on g k a steps) e ∙ type_stays g k name steps
 refusal_stays g k steps answer (NoPath j) e = ap (λ a. steps_on g k a steps) e ∙ path_stays g k j steps
@@ -114,9 +114,9 @@ module _ (g : Graph) (start : Node) (steps : List ExprStep) where
   pub step_made : (i : ℕ) (n : Node) (at : ℕ) (s : ExprStep) (m : Node) (next : ℕ) → AreMade g start steps i n at → i < length steps → s ≡ get_or steps i s → step_on g n (i + 1) s ≡ is_node m → reached_type g m ≡ Some next → AreMade g start steps (i + 1) m next
   step_made i n at s m next w below is e typed = record { typed = typed; left = step_left i n at s w below is ∙ ap (λ a. steps_on g (i + 1 + 1) a (drop (i + 1) steps)) e }
 
-  pub step_refused : (i : ℕ) (n : Node) (at : ℕ) (s : ExprStep) (fault : NodeFault) → AreMade g start steps i n at → i < length steps → s ≡ get_or steps i s → IsRefusal (step_on g n (i + 1) s) fault → IsRefusal (steps_on g 1 (is_node start) steps) fault
+  pub step_refused : (i : ℕ) (n : Node) (at : ℕ) (s : ExprStep) (fault : NodeFault) → AreMade g start steps i n at → i < length steps → s ≡ get_or steps i s → IsFaultOfAnswer (step_on g n (i + 1) s) fault → IsFaultOfAnswer (steps_on g 1 (is_node start) steps) fault
   step_refused i n at s fault w below is e =
-      subst (λ a. IsRefusal a fault) (sym (step_left i n at s w below is)) (refusal_stays g (i + 1 + 1) (drop (i + 1) steps) (step_on g n (i + 1) s) fault e)
+      subst (λ a. IsFaultOfAnswer a fault) (sym (step_left i n at s w below is)) (refusal_stays g (i + 1 + 1) (drop (i + 1) steps) (step_on g n (i + 1) s) fault e)
 
   pub all_made : (i : ℕ) (n : Node) (at : ℕ) → AreMade g start steps i n at → length steps ≤ i → steps_on g 1 (is_node start) steps ≡ is_node n
   all_made i n at w past = w.left ∙ at_drop_all (steps_on g (i + 1) (is_node n)) steps i past
@@ -127,7 +127,7 @@ pub param_unknown : (g : Graph) (e : Expression) (p : ParamValue) → Some p ≡
 unfolding node_of
 param_unknown g e p is = ap (of_known g e) (sym is)
 
-pub params_known : (g : Graph) (e : Expression) → None ≡ unknown_in g e.params → node_of g e ≡ steps_on g 1 (is_node (bare e.source e.params)) e.steps
+pub params_known : (g : Graph) (e : Expression) → None ≡ unknown_in g e.params → node_of g e ≡ steps_on g 1 (is_node (bare_source e.source e.params)) e.steps
 unfolding node_of
 params_known g e is = ap (of_known g e) (sym is)
 
@@ -138,10 +138,10 @@ start_typed g source params steps t none is = ap (type_after g (Some (source_typ
 -- ---- what is handed on
 
 -- the same fault of a call that would give something else
-pub refused_by : {T : Type 0} (r : Result T NodeFault) (fault : NodeFault) (answer : NodeAnswer) → IsErrAnd r (λ e. e ≡ fault) → IsRefusal answer fault → IfErr r (IsRefusal answer)
+pub refused_by : {T : Type 0} (r : Result T NodeFault) (fault : NodeFault) (answer : NodeAnswer) → IsErrAnd r (λ e. e ≡ fault) → IsFaultOfAnswer answer fault → IfErr r (IsFaultOfAnswer answer)
 refused_by r fault answer is h =
     let same = err_from_is_err_and r is in
-    subst (λ x. IfErr x (IsRefusal answer)) (sym same.1) (subst (IsRefusal answer) (sym same.2) h)
+    subst (λ x. IfErr x (IsFaultOfAnswer answer)) (sym same.1) (subst (IsFaultOfAnswer answer) (sym same.2) h)
 
 -- what is said of a value where the work on it is done, and of the fault of that work
 pub when_ok : {T U : Type 0} (r : Result T NodeFault) (done : Result U NodeFault) (P : Type 0) (v : T) (Q : T → Type 0) → IfOk r (λ x. x ≡ v) → result_err r ≡ result_err done → OnOk done P → (P → Q v) → IfOk r Q

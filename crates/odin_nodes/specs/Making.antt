@@ -8,8 +8,8 @@ use Rattle.meaning_nodes.specs.NodeOf.{NodeAnswer, is_node}
 use Rattle.odin_nodes.specs.declared.making.Reached.{Reached}
 
 -- a source with parameters and no steps
-abbrev pub bare : Text → List ParamValue → Node
-bare source params = record { source = source; params = params; steps = [] }
+abbrev pub bare_source : Text → List ParamValue → Node
+bare_source source params = record { source = source; params = params; steps = [] }
 
 -- the type is the one to which the steps lead
 abbrev pub IsTyped : Graph → Reached → Type 0

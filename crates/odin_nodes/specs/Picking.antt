@@ -4,6 +4,6 @@ use Rattle.odin_nodes.specs.declared.picking.Picked.{Picked as PickedPart}
 use Rattle.odin_nodes.specs.declared.picking.Picked.TheVariants.{Element, Body}
 
 -- the element or the body to which it refers
-abbrev pub told : PickedPart → Picked
-told (Element n) = element n.now
-told (Body text) = body text.now
+abbrev pub picked_view : PickedPart → Picked
+picked_view (Element n) = element n.now
+picked_view (Body text) = body text.now

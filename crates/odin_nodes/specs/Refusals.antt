@@ -7,12 +7,12 @@ use Rattle.odin_nodes.specs.declared.fault.NodeFault.{NodeFault}
 use Rattle.odin_nodes.specs.declared.fault.NodeFault.TheVariants.{UnknownParam, UnknownType, NoPath, Memory}
 
 -- The fault is what came instead of a node. Nothing is said of want of memory.
-abbrev pub IsRefusal : NodeAnswer → NodeFault → Type 0
-IsRefusal answer (UnknownParam name) = answer ≡ unknown_param name
-IsRefusal answer (UnknownType name) = answer ≡ unknown_type name
-IsRefusal answer (NoPath number) = answer ≡ no_path number
-IsRefusal answer Memory = ⊤
+abbrev pub IsFaultOfAnswer : NodeAnswer → NodeFault → Type 0
+IsFaultOfAnswer answer (UnknownParam name) = answer ≡ unknown_param name
+IsFaultOfAnswer answer (UnknownType name) = answer ≡ unknown_type name
+IsFaultOfAnswer answer (NoPath number) = answer ≡ no_path number
+IsFaultOfAnswer answer Memory = ⊤
 
 -- the same of what comes of an expression
 abbrev pub IsNodeRefusal : Graph → Expression → NodeFault → Type 0
-IsNodeRefusal g e = IsRefusal (node_of g e)
+IsNodeRefusal g e = IsFaultOfAnswer (node_of g e)

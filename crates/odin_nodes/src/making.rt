@@ -6,8 +6,8 @@ ghost use Rattle.meaning_graph.specs.Graphs.{types};
 ghost use Rattle.meaning_nodes.specs.Nodes.{Fits, onward};
 ghost use Rattle.meaning_nodes.specs.NodeOf.{is_node, node_of, node_or_no_path, step_on, steps_on, unknown_in};
 ghost use Rattle.path_planner.specs.Ends.{plans_of};
-ghost use Rattle.odin_nodes.specs.Making.{bare, IsTyped, IsMade};
-ghost use Rattle.odin_nodes.specs.Refusals.{IsRefusal, IsNodeRefusal};
+ghost use Rattle.odin_nodes.specs.Making.{bare_source, IsTyped, IsMade};
+ghost use Rattle.odin_nodes.specs.Refusals.{IsFaultOfAnswer, IsNodeRefusal};
 
 use crate::fault::NodeFault;
 use crate::picks::picked_type;
@@ -88,7 +88,7 @@ impl Drop for Reached {
 impl Reached {
     // A source with parameters, before the first step.
     fn start(alloc: Global, graph: &Graph, source: Bytes, params: Seq<ParamValue>) -> Self
-        ensures node { result.node ≡ bare source params }
+        ensures node { result.node ≡ bare_source source params }
         ensures typed { IsTyped graph.now result }
     {
         let at = graph.source_type(source.as_slice());
@@ -124,7 +124,7 @@ impl Reached {
         ensures ok { let answer = steps_on graph.now 1 (is_node self.old.node) steps.now in
             OnOk result (answer ≡ is_node self.new.node) }
         ensures err { let answer = steps_on graph.now 1 (is_node self.old.node) steps.now in
-            IfErr result (IsRefusal answer) }
+            IfErr result (IsFaultOfAnswer answer) }
     {
         for (before, step) in steps.iter().enumerate() {
             self.add_step(alloc, graph, plans, before as u32 + 1, step)?;
@@ -146,7 +146,7 @@ impl Reached {
         ensures ok { let answer = step_on graph.now self.old.node number step.now in
             OnOk result (IsMade graph.now answer self.new) }
         ensures err { let answer = step_on graph.now self.old.node number step.now in
-            IfErr result (IsRefusal answer) }
+            IfErr result (IsFaultOfAnswer answer) }
     {
         match step {
             ExprStep::To(name) => match graph.type_named(name.as_slice()) {
@@ -172,7 +172,7 @@ impl Reached {
         ensures ok { let answer = node_or_no_path number (onward graph.now self.old.node to) in
             OnOk result (IsMade graph.now answer self.new) }
         ensures err { let answer = node_or_no_path number (onward graph.now self.old.node to) in
-            IfErr result (IsRefusal answer) }
+            IfErr result (IsFaultOfAnswer answer) }
     {
         let Some((maker, at)) = plans.direct(graph, self.at, to) else {
             return self.go_along(alloc, graph, plans, number, to);
@@ -197,7 +197,7 @@ impl Reached {
         ensures ok { let answer = node_or_no_path number (onward graph.now self.old.node to) in
             OnOk result (IsMade graph.now answer self.new) }
         ensures err { let answer = node_or_no_path number (onward graph.now self.old.node to) in
-            IfErr result (IsRefusal answer) }
+            IfErr result (IsFaultOfAnswer answer) }
     {
         let Some(path) = plans.plan(alloc, graph, self.at, to)? else {
             return Err(NodeFault::NoPath(number));
@@ -223,7 +223,7 @@ impl Reached {
         ensures ok { let answer = step_on graph.now self.old.node number (ExprStep.Pick key.now) in
             OnOk result (IsMade graph.now answer self.new) }
         ensures err { let answer = step_on graph.now self.old.node number (ExprStep.Pick key.now) in
-            IfErr result (IsRefusal answer) }
+            IfErr result (IsFaultOfAnswer answer) }
     {
         let Some(at) = picked_type(graph, self.at, key.as_slice()) else {
             return Err(NodeFault::NoPath(number));

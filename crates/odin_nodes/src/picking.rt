@@ -3,7 +3,7 @@ ghost use Rattle.std.specs.Prelude.{◌≡◌, ◌-◌, ◌<◌, bytes_eq, find,
 ghost use Rattle.std.specs.Option.{option_copied};
 ghost use Rattle.meaning_nodes.specs.Nodes.{element_number};
 ghost use Rattle.meaning_nodes.specs.Values.{pick};
-ghost use Rattle.odin_nodes.specs.Picking.{told};
+ghost use Rattle.odin_nodes.specs.Picking.{picked_view};
 
 use crate::picks::element_number;
 use object_values::{Copied, Memory, Node, Part, Text, Value};
@@ -24,7 +24,7 @@ impl<'a> Copied for Picked<'a> {
 
 /// Element K from 1 of a list, or the part of that name. There is nothing else to pick.
 pub fn pick<'a>(value: &'a Value, key: &[u8]) -> Option<Picked<'a>>
-    ensures { option_map told result ≡ pick value.now key.now }
+    ensures { option_map picked_view result ≡ pick value.now key.now }
 {
     match value {
         Value::Simple(_) => None,

@@ -19,7 +19,7 @@ IsUncut [] k = ⊤
 IsUncut (size ∷ sizes) k = (k < size) × IsUncut sizes k
 
 -- a place whose byte stays: within the image at the sync, in no written range and not past a cut
-pub record IsKept (pending : Pending) (k : ℕ) : Type 0 where
+pub record ByteStays (pending : Pending) (k : ℕ) : Type 0 where
   pub inside : k < length pending.synced
   pub unwritten : IsUnwritten pending.written k
   pub uncut : IsUncut pending.cuts k
@@ -45,7 +45,7 @@ greatest_size pending = greatest_among (length pending.synced) pending.written
 pub record IsCrashImage (pending : Pending) (image : List ℕ) : Type 0 where
   pub no_shorter : least_size pending ≤ length image
   pub no_longer : length image ≤ greatest_size pending
-  pub kept : (k : ℕ) → IsKept pending k → k < length image → slice_index image k ≡ slice_index pending.synced k
+  pub kept : (k : ℕ) → ByteStays pending k → k < length image → slice_index image k ≡ slice_index pending.synced k
 
 -- after a sync with this image
 abbrev pub synced_at : List ℕ → Pending
@@ -130,7 +130,7 @@ abbrev pub SyncsLeaveOne : Type 0
 SyncsLeaveOne = (image : List ℕ) → IsCrashImage (synced_at image) image × Only image (IsCrashImage (synced_at image))
 
 -- What a call does that changes so what is pending: at Failed it did that or nothing. Whether the disk follows the model stays.
-pub record Goes {T E : Type 0} (change : Pending → Pending) (old new : Telling) (result : Result T E) : Type 0 where
+pub record ChangesPending {T E : Type 0} (change : Pending → Pending) (old new : Telling) (result : Result T E) : Type 0 where
   pub follows : new.follows ≡ old.follows
   pub ok : OnOk result (IsTrue old.follows → new.pending ≡ change old.pending)
   pub err : OnErr result (IsTrue old.follows → (new.pending ≡ old.pending) ⊎ (new.pending ≡ change old.pending))
@@ -140,7 +140,7 @@ pub record Goes {T E : Type 0} (change : Pending → Pending) (old new : Telling
   pub keeps : IsTrue old.follows → (t : ℕ) (c : List ℕ) → t ≤ old.moment → old.left_since t c → new.left_since t c
 
 -- the work of a call that writes so many bytes; one that fails may count it or not
-pub record Works {T E : Type 0} (n : ℕ) (old new : Option Work) (result : Result T E) : Type 0 where
+pub record CountsWork {T E : Type 0} (n : ℕ) (old new : Option Work) (result : Result T E) : Type 0 where
   pub ok : OnOk result (new ≡ worked n old)
   pub err : OnErr result ((new ≡ old) ⊎ (new ≡ worked n old))
 

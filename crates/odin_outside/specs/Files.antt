@@ -10,12 +10,12 @@ abbrev pub Files : Type 0
 Files = FinMap (slice_cmp nat_cmp) (List ℕ)
 
 -- how many bytes of a file are given at most
-abbrev pub file_limit : ℕ
-file_limit = 16777217
+abbrev pub given_file_limit : ℕ
+given_file_limit = 16777217
 
 -- what these files give under a name: the first bytes of that file, or nothing where there is none
 abbrev pub given_of : Files → List ℕ → Option (List ℕ)
-given_of files name = option_map (λ body. take file_limit body) (get files name)
+given_of files name = option_map (λ body. take given_file_limit body) (get files name)
 
 -- the answer is that of the files, where they are told
 abbrev pub IsGiven : Option Files → List ℕ → Option (List ℕ) → Type 0

@@ -45,28 +45,28 @@ pub record Fails (old new : Spawned) : Type 0 where
   pub is : new ≡ record old { faults = new.faults }
 
 -- The job ran in the slot, and runs there no longer.
-pub record Stops (old : Spawned) (slot : ℕ) (job : Job) (event : ToolEvent) (faults : ℕ) (new : Spawned) : Type 0 where
+pub record StopsJob (old : Spawned) (slot : ℕ) (job : Job) (event : ToolEvent) (faults : ℕ) (new : Spawned) : Type 0 where
   pub before : List Running
   pub after : List Running
   pub ran : old.running ≡ before ++ (record { slot = slot; job = job }) ∷ after
   pub is : new ≡ record old { running = before ++ after; log = noted old.log event; faults = faults }
 
 -- the answer to the job, where answers are told
-abbrev pub Leaves : Option Table → Job → Raw → Type 0
-Leaves None job raw = ⊤
-Leaves (Some table) job raw = raw ≡ table job
+abbrev pub IsAnswerToJob : Option Table → Job → Raw → Type 0
+IsAnswerToJob None job raw = ⊤
+IsAnswerToJob (Some table) job raw = raw ≡ table job
 
 -- A job that ran in the slot has ended, and left this.
 pub record Ends (old : Spawned) (slot : ℕ) (raw : Raw) (new : Spawned) : Type 0 where
   pub job : Job
-  pub stops : Stops old slot job (Ended slot) old.faults new
-  pub leaves : Leaves old.answer job raw
+  pub stops : StopsJob old slot job (Ended slot) old.faults new
+  pub leaves : IsAnswerToJob old.answer job raw
 
 -- A job that ran in the slot has ended, and what it left is lost: a fault, which was counted.
 pub record Loses (old : Spawned) (slot : ℕ) (new : Spawned) : Type 0 where
   pub job : Job
   pub counted : IsCounted old.faults new.faults
-  pub stops : Stops old slot job (Lost slot) new.faults new
+  pub stops : StopsJob old slot job (Lost slot) new.faults new
 
 -- the same of a result that names the slot
 abbrev pub LosesAt : {T : Type 0} → Spawned → Spawned → Result T FinishFault → Type 0

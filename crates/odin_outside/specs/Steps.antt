@@ -7,7 +7,7 @@ use Rattle.std.proofs.lemmas.Bool.{cases_lt}
 use Rattle.std.proofs.lemmas.Bool.Decides.{nat_tests}
 use Rattle.std.proofs.lemmas.List.{length-take, get_or-take, get_or-drop, get_or_append_left, take_at, drop_at, take_all, take_min}
 use Rattle.std.proofs.Math.Seq.{get_or-append_seam}
-use Rattle.odin_outside.specs.Disk.{Pending, IsUncut, IsKept, least_among, least_size, greatest_among, greatest_size, IsCrashImage, synced_at, wrote, cut_to, Torn, Cut, Written, Follows}
+use Rattle.odin_outside.specs.Disk.{Pending, IsUncut, ByteStays, least_among, least_size, greatest_among, greatest_size, IsCrashImage, synced_at, wrote, cut_to, Torn, Cut, Written, Follows}
 
 -- the least size is no greater than that at the sync, nor the greatest less
 least_among-le : (size : ℕ) (cuts : List ℕ) → least_among size cuts ≤ size
@@ -26,7 +26,7 @@ uncut-lt size (cut ∷ cuts) k inside uncut =
     let rest : k < least_among size cuts = uncut-lt size cuts k inside uncut.1 in
     omega arith
 
-kept-lt : (pending : Pending) (k : ℕ) → IsKept pending k → k < least_size pending
+kept-lt : (pending : Pending) (k : ℕ) → ByteStays pending k → k < least_size pending
 kept-lt pending k kept = uncut-lt (length pending.synced) pending.cuts k kept.inside kept.uncut
 
 -- an image is torn where its size and the bytes outside the range are right
@@ -90,7 +90,7 @@ torn_image pending at n old new image torn = record {
   no_shorter = omega (arith, image.no_shorter, torn.no_shorter);
   no_longer = omega (arith, image.no_longer, torn.no_longer);
   kept = λ k kept inside.
-      let before : IsKept pending k = record { inside = kept.inside; unwritten = kept.unwritten.1; uncut = kept.uncut } in
+      let before : ByteStays pending k = record { inside = kept.inside; unwritten = kept.unwritten.1; uncut = kept.uncut } in
       let least : k < least_size pending = kept-lt pending k before in
       let within : k < length old = omega (arith, image.no_shorter) in
       torn-outside at n old new k torn within kept.unwritten.0 ∙ image.kept k before within;
@@ -101,7 +101,7 @@ cut_image pending size old new image cut = record {
   no_shorter = omega (arith, image.no_shorter, cut.no_shorter);
   no_longer = omega (arith, image.no_longer, cut.no_longer);
   kept = λ k kept inside.
-      let before : IsKept pending k = record { inside = kept.inside; unwritten = kept.unwritten; uncut = kept.uncut.1 } in
+      let before : ByteStays pending k = record { inside = kept.inside; unwritten = kept.unwritten; uncut = kept.uncut.1 } in
       let below : k < size = kept.uncut.0 in
       let lt : k < min size (length new) = omega arith in
       let within : k < length old = omega (arith, cut.no_longer) in

@@ -1,7 +1,7 @@
 // The file that the store is kept in, and what crashes may leave of it.
 ghost use Rattle.std.specs.Prelude.{◌≡◌, ◌+◌, ◌^◌, ◌≤◌, ℕ, List, IsTrue, length, IfOk, OnOk, OnErr};
 ghost use Rattle.odin_outside.specs.Causes.{HasCause};
-ghost use Rattle.odin_outside.specs.Disk.{Telling, MayLeave, Goes, Works, wrote, cut_to, same_pending, synced_as, size_with};
+ghost use Rattle.odin_outside.specs.Disk.{Telling, MayLeave, ChangesPending, CountsWork, wrote, cut_to, same_pending, synced_as, size_with};
 ghost use Rattle.odin_outside.specs.Disk.{SeesSame, Gives, SeesWritten, SeesTorn, SeesTaken, SeesCut};
 
 use crate::failed::Failed;
@@ -21,8 +21,8 @@ pub trait Disk {
         ensures size { IfOk result (λ n. n ≡ size_of self.old) }
         ensures kept { OnOk result (size_of self.new ≡ size_of self.old) }
         ensures seen { SeesSame (told self.old) (told self.new) }
-        ensures goes { Goes same_pending (told self.old) (told self.new) result }
-        ensures works { Works 0 (told self.old).work (told self.new).work result }
+        ensures goes { ChangesPending same_pending (told self.old) (told self.new) result }
+        ensures works { CountsWork 0 (told self.old).work (told self.new).work result }
         ensures cause { HasCause (faults self.old) (faults self.new) result };
 
     /// Reads the bytes from `at` on, as many as the buffer has.
@@ -31,8 +31,8 @@ pub trait Disk {
         ensures bytes { OnOk result (Gives at (length into.old) (told self.old) into.new) }
         ensures kept { OnOk result (size_of self.new ≡ size_of self.old) }
         ensures seen { SeesSame (told self.old) (told self.new) }
-        ensures goes { Goes same_pending (told self.old) (told self.new) result }
-        ensures works { Works 0 (told self.old).work (told self.new).work result }
+        ensures goes { ChangesPending same_pending (told self.old) (told self.new) result }
+        ensures works { CountsWork 0 (told self.old).work (told self.new).work result }
         ensures cause { HasCause (faults self.old) (faults self.new) result };
 
     /// Writes the bytes from `at` on, over what was there and behind it.
@@ -42,8 +42,10 @@ pub trait Disk {
         ensures written { OnOk result (SeesWritten at bytes.now (told self.old) (told self.new)) }
         ensures size { OnOk result (size_of self.new ≡ size_with (size_of self.old) at bytes.now) }
         ensures err { OnErr result (SeesTorn at bytes.now (told self.old) (told self.new)) }
-        ensures goes { Goes (wrote at (length bytes.now)) (told self.old) (told self.new) result }
-        ensures works { Works (length bytes.now) (told self.old).work (told self.new).work result }
+        ensures goes { ChangesPending (wrote at (length bytes.now)) (told self.old)
+            (told self.new) result }
+        ensures works { CountsWork (length bytes.now) (told self.old).work
+            (told self.new).work result }
         ensures cause { HasCause (faults self.old) (faults self.new) result };
 
     /// Takes the bytes from `size` on away.
@@ -52,16 +54,17 @@ pub trait Disk {
         ensures seen { OnOk result (SeesTaken size (told self.old) (told self.new)) }
         ensures size { OnOk result (size_of self.new ≡ size) }
         ensures err { OnErr result (SeesCut size (told self.old) (told self.new)) }
-        ensures goes { Goes (cut_to size) (told self.old) (told self.new) result }
-        ensures works { Works 0 (told self.old).work (told self.new).work result }
+        ensures goes { ChangesPending (cut_to size) (told self.old) (told self.new) result }
+        ensures works { CountsWork 0 (told self.old).work (told self.new).work result }
         ensures cause { HasCause (faults self.old) (faults self.new) result };
 
     /// Returns once what was written is there after a crash too.
     fn sync(&mut self) -> Result<(), Failed>
         ensures kept { OnOk result (size_of self.new ≡ size_of self.old) }
         ensures seen { SeesSame (told self.old) (told self.new) }
-        ensures goes { Goes (synced_as (told self.old)) (told self.old) (told self.new) result }
-        ensures works { Works 0 (told self.old).work (told self.new).work result }
+        ensures goes { ChangesPending (synced_as (told self.old)) (told self.old)
+            (told self.new) result }
+        ensures works { CountsWork 0 (told self.old).work (told self.new).work result }
         ensures cause { HasCause (faults self.old) (faults self.new) result };
 
     /// The size is that of what a read gives.

@@ -2,7 +2,7 @@
 use Rattle.std.proofs.Common.{◌≡◌, ◌≢◌, ℕ, ◌≤◌, List, [], ◌∷◌, ◌++◌, length, None, Result, IfErr, IsErrAnd, inl, inr, ap, ap₂, sym, refl, ◌∙◌, subst, append-nil, arith}
 use Rattle.std.proofs.lemmas.Result.{err_from_is_err_and}
 use Rattle.odin_outside.specs.Spawned.{Spawned}
-use Rattle.disk_trails.specs.Trails.{after}
+use Rattle.disk_trails.specs.Trails.{after_changes}
 use Rattle.object_sources.specs.Texts.{Text, Texts}
 use Rattle.meaning_texts.proofs.Lemmas.{same_some}
 use Rattle.meaning_graph.specs.Graphs.{Graph}
@@ -10,7 +10,7 @@ use Rattle.meaning_commands.specs.declared.commands.Command.{Command}
 use Rattle.meaning_commands.specs.declared.replies.Reply.{Reply}
 use Rattle.meaning_commands.specs.Replies.{reply_text}
 use Rattle.meaning_records.specs.Tables.{Calls}
-use Rattle.odin_journal.specs.Faults.{IsCauseOf}
+use Rattle.odin_journal.specs.Faults.{CountAfterJournalFault}
 use Rattle.odin_journal.specs.Rest.{IsReady}
 use Rattle.odin_journal.specs.declared.fault.JournalFault.{JournalFault}
 use Rattle.odin_journal.specs.declared.fault.JournalFault.TheVariants as fault
@@ -18,21 +18,21 @@ use Rattle.odin_store.specs.declared.store.Store.{Store}
 use Rattle.odin_store.specs.Held.{Held, Change, keeps, IsDue}
 use Rattle.odin_store.specs.OnDisk.{held_in, IsSame}
 use Rattle.odin_store.specs.Keeping.{store_keeping}
-use Rattle.odin_store.specs.Going.{Goes}
+use Rattle.odin_store.specs.Going.{Performs}
 use Rattle.odin_store.specs.Edited.{HasFailed}
 use Rattle.odin_store.proofs.Lemmas.{goes_none, stops_behind}
-use Rattle.odin_engine.specs.Engaged.{Engaged, Stays}
+use Rattle.odin_engine.specs.Engaged.{Engaged, GraphStays}
 use Rattle.kept_derive.specs.Runs.{At, at, keeps_of}
 use Rattle.odin_answers.specs.Answers.{IsReply, MayHaveBegun}
 use Rattle.odin_answers.specs.Replied.{HasReplied, HasStopped}
 use Rattle.odin_answers.proofs.Lemmas.{keeps_behind, reply_begun, reply_later, begun_later}
-use Rattle.source_edits.specs.Edits.{Says, TreeTold, TreeStays, IsAsked, Takes}
+use Rattle.source_edits.specs.Edits.{SaysReply, TreeTold, TreeStays, TreeIsAsked, Takes}
 use Rattle.source_edits.specs.Changes.{edit_changes}
 use Rattle.odin_shell.specs.declared.stop.Stop.TheVariants as stop
 use Rattle.odin_shell.specs.Endings.{stop_of}
-use Rattle.odin_shell.specs.Filed.{DiskMeaning, IsFull, IsSafe}
-use Rattle.odin_shell.specs.Machine.{State, Told, Makes, Edits, EditsByFile, Asks, Step, MayEdit, MayHaveAsked, MayLeave, Belongs, IsLeft, ToolsStay, stopped}
-use Rattle.odin_shell.specs.Served.{telling, Answers, Halts, AnswersAsk, HaltsAsk}
+use Rattle.odin_shell.specs.Filed.{DiskMeaning, HasNoRoomForLast, IsSafe}
+use Rattle.odin_shell.specs.Machine.{SessionState, Told, Applies, EditsByCommand, EditsByFile, AsksForObject, Step, MayEdit, MayHaveAsked, CommandMayLeave, SessionInvariant, StateAtExit, ToolsStay, told_with_stop}
+use Rattle.odin_shell.specs.Served.{telling, Answers, HaltsCommand, AnswersAsk, HaltsAsk}
 use Rattle.odin_shell.proofs.StateLemmas.{next_state, makes_next, belongs_on, Lasts, left_by, safe_made, holds_all, safe_failed, failed_last, safe_full, full_last, is_full, rests, same_tools, same_tree}
 
 -- what holds at the one error holds where the result is that error
@@ -45,7 +45,7 @@ module _ {D : Type 0} (disk : DiskMeaning D) where
   -- ---- no change
 
   pub same_answers : (code : Engaged) (c : Command) (kept reply : List ℕ) (told : Told D)
-      → ((g : Graph) (limit : ℕ) (state : State) (body : List ℕ) → code.graph ≡ g → held_in code.store ≡ state.held → Step g limit state c body reply state) → Answers disk code c kept told reply code told
+      → ((g : Graph) (limit : ℕ) (state : SessionState) (body : List ℕ) → code.graph ≡ g → held_in code.store ≡ state.held → Step g limit state c body reply state) → Answers disk code c kept told reply code told
   same_answers code c kept reply told step g text limit first start state body same fits = record {
     new = state;
     step = step g limit state body fits.graph fits.held;
@@ -54,62 +54,62 @@ module _ {D : Type 0} (disk : DiskMeaning D) where
   }
 
   -- what is left where memory was wanting and nothing was done
-  pub same_halts : (code : Engaged) (c : Command) (kept : List ℕ) (told : Told D) → ((g : Graph) (limit : ℕ) (state : State) (body : List ℕ) → held_in code.store ≡ state.held → told.tools ≡ state.tools → told.tree ≡ state.tree → MayLeave g limit state c body state)
-      → told.over ≡ None → Halts disk code c kept told fault.Memory told
+  pub same_halts : (code : Engaged) (c : Command) (kept : List ℕ) (told : Told D) → ((g : Graph) (limit : ℕ) (state : SessionState) (body : List ℕ) → held_in code.store ≡ state.held → told.tools ≡ state.tools → told.tree ≡ state.tree → CommandMayLeave g limit state c body state)
+      → told.over ≡ None → HaltsCommand disk code c kept told fault.Memory told
   same_halts code c kept told may none g text limit first start state body same fits = record {
     furthest = state;
     may = may g limit state body fits.held fits.tools fits.tree;
-    exit = subst (λ (t : Told D). IsLeft disk g text limit first start state state t) (λ i. record told { over = none i }) (rests disk g text limit first start code state told fits);
+    exit = subst (λ (t : Told D). StateAtExit disk g text limit first start state state t) (λ i. record told { over = none i }) (rests disk g text limit first start code state told fits);
   }
 
   -- ---- edits
 
-  module _ (g : Graph) (text : Text) (limit : ℕ) (first : State) (start : Told D) (code : Engaged) (state : State) (told : Told D) (fits : Belongs disk g text limit first start code state told) where
+  module _ (g : Graph) (text : Text) (limit : ℕ) (first : SessionState) (start : Told D) (code : Engaged) (state : SessionState) (told : Told D) (fits : SessionInvariant disk g text limit first start code state told) where
     sources_are : code.store.sources.texts ≡ state.held.sources
     sources_are = ap (λ (h : Held). h.sources) fits.held
 
-    module _ (name : Text) (code' : Engaged) (told' : Told D) (goes : Goes disk.told (edit_changes name code.store.sources.texts code'.store.sources.texts) code.store code'.store told.disk told'.disk) where
+    module _ (name : Text) (code' : Engaged) (told' : Told D) (goes : Performs disk.told (edit_changes name code.store.sources.texts code'.store.sources.texts) code.store code'.store told.disk told'.disk) where
       abbrev edited : List Change
       edited = edit_changes name code.store.sources.texts code'.store.sources.texts
 
-      abbrev new : State
+      abbrev new : SessionState
       new = next_state state edited told'.tools told'.tree
 
       new_are : code'.store.sources.texts ≡ new.held.sources
-      new_are = ap (λ (h : Held). h.sources) (goes.holds ∙ ap (after store_keeping edited) fits.held)
+      new_are = ap (λ (h : Held). h.sources) (goes.holds ∙ ap (after_changes store_keeping edited) fits.held)
 
-      makes_edit : Makes (edit_changes name state.held.sources new.held.sources) state new
+      makes_edit : Applies (edit_changes name state.held.sources new.held.sources) state new
       makes_edit =
-          subst (λ c. Makes c state new) (ap₂ (λ (a b : Texts). edit_changes name a b) sources_are new_are)
+          subst (λ c. Applies c state new) (ap₂ (λ (a b : Texts). edit_changes name a b) sources_are new_are)
           (makes_next state edited told'.tools told'.tree)
 
-      says_edit : (P : Texts → Reply → Texts → Type 0) (bytes : List ℕ) → Says (λ said. P code.store.sources.texts said code'.store.sources.texts) bytes → Says (λ said. P state.held.sources said new.held.sources) bytes
+      says_edit : (P : Texts → Reply → Texts → Type 0) (bytes : List ℕ) → SaysReply (λ said. P code.store.sources.texts said code'.store.sources.texts) bytes → SaysReply (λ said. P state.held.sources said new.held.sources) bytes
       says_edit P bytes says = record {
         said = says.said;
         bytes_are = says.bytes_are;
         holds = subst (λ (a : Texts). P a says.said new.held.sources) sources_are (subst (λ (b : Texts). P code.store.sources.texts says.said b) new_are says.holds);
       }
 
-      pub edits : (P : Texts → Reply → Texts → Type 0) (bytes : List ℕ) → Says (λ said. P code.store.sources.texts said code'.store.sources.texts) bytes → told'.tools ≡ told.tools → told'.tree ≡ told.tree
-          → Edits name (P state.held.sources) state bytes new
+      pub edits : (P : Texts → Reply → Texts → Type 0) (bytes : List ℕ) → SaysReply (λ said. P code.store.sources.texts said code'.store.sources.texts) bytes → told'.tools ≡ told.tools → told'.tree ≡ told.tree
+          → EditsByCommand name (P state.held.sources) state bytes new
       edits P bytes says tools tree = record { says = says_edit P bytes says; makes = makes_edit; tools = tools ∙ fits.tools; tree = tree ∙ fits.tree }
 
-      pub edits_by_file : (bytes : List ℕ) → Says (λ said. Takes code.store.sources.texts name told.tree said code'.store.sources.texts told'.tree) bytes → told'.tools ≡ told.tools → IsAsked told.tree told'.tree
+      pub edits_by_file : (bytes : List ℕ) → SaysReply (λ said. Takes code.store.sources.texts name told.tree said code'.store.sources.texts told'.tree) bytes → told'.tools ≡ told.tools → TreeIsAsked told.tree told'.tree
           → EditsByFile name state bytes new
       edits_by_file bytes says tools asked = record {
-        says = subst (λ (t : TreeTold). Says (λ said. Takes state.held.sources name t said new.held.sources told'.tree) bytes) fits.tree
+        says = subst (λ (t : TreeTold). SaysReply (λ said. Takes state.held.sources name t said new.held.sources told'.tree) bytes) fits.tree
             (says_edit (λ a said b. Takes a name told.tree said b told'.tree) bytes says);
         makes = makes_edit;
-        asked = subst (λ t. IsAsked t told'.tree) fits.tree asked;
+        asked = subst (λ t. TreeIsAsked t told'.tree) fits.tree asked;
         tools = tools ∙ fits.tools;
       }
 
-      pub edit_belongs : Stays code code' → IsReady code'.store.journal (disk.size told'.disk) → disk.faults told'.disk ≡ disk.faults told.disk → told'.tools ≡ told.tools → TreeStays told.tree told'.tree → told'.over ≡ None
-          → Belongs disk g text limit first start code' new told'
+      pub edit_belongs : GraphStays code code' → IsReady code'.store.journal (disk.size told'.disk) → disk.faults told'.disk ≡ disk.faults told.disk → told'.tools ≡ told.tools → TreeStays told.tree told'.tree → told'.over ≡ None
+          → SessionInvariant disk g text limit first start code' new told'
       edit_belongs stays ready faults tools tree within =
           belongs_on disk g text limit first start code state told fits edited code' told' goes stays ready faults (same_tools told.tools told'.tools tools fits.stay.few) tree (ap (λ (t : Spawned). t.running) tools ∙ fits.idle) within
 
-      pub edit_leaves : disk.faults told'.disk ≡ disk.faults told.disk → told'.tools ≡ told.tools → TreeStays told.tree told'.tree → told'.over ≡ None → IsLeft disk g text limit first start state new told'
+      pub edit_leaves : disk.faults told'.disk ≡ disk.faults told.disk → told'.tools ≡ told.tools → TreeStays told.tree told'.tree → told'.over ≡ None → StateAtExit disk g text limit first start state new told'
       edit_leaves faults tools tree within =
           left_by disk g text limit first start code state told fits told' (same_tools told.tools told'.tools tools fits.stay.few) tree edited
           (safe_made disk g text limit first start code state told fits edited code'.store told'.disk goes faults) (λ at size some. (let no : ⊥ = cc in absurd no))
@@ -119,49 +119,49 @@ module _ {D : Type 0} (disk : DiskMeaning D) where
 
     -- what an edit leaves that was not made, or that the disk failed
     pub edit_left : (change : Change) (Asked : Change → Type 0) (next : Store) (told' : Told D) (e : JournalFault) → (e ≢ fault.Memory → Asked change) → HasFailed disk.told change code.store next told.disk told'.disk e
-        → disk.faults told.disk ≤ disk.faults told'.disk → IsCauseOf (disk.faults told.disk) (disk.faults told'.disk) e → told'.tools ≡ told.tools → TreeStays told.tree told'.tree
-        → (furthest : State) × (MayEdit Asked state furthest × (furthest.tree ≡ told'.tree) × IsLeft disk g text limit first start state furthest (stopped (stop_of e) told'))
+        → disk.faults told.disk ≤ disk.faults told'.disk → CountAfterJournalFault (disk.faults told.disk) (disk.faults told'.disk) e → told'.tools ≡ told.tools → TreeStays told.tree told'.tree
+        → (furthest : SessionState) × (MayEdit Asked state furthest × (furthest.tree ≡ told'.tree) × StateAtExit disk g text limit first start state furthest (told_with_stop (stop_of e) told'))
     edit_left change Asked next told' fault.Disk due failed later cause tools tree =
         let new = next_state state (change ∷ []) told'.tools told'.tree in
         let here : IsSame code.store code.store told.disk told.disk = record { disk_is = refl; store_is = record { journal = refl; tables = refl; sources = refl; epoch = refl } } in
-        let goes : Goes disk.told [] code.store code.store told.disk told.disk = goes_none disk.told code.store code.store told.disk told.disk here in (
+        let goes : Performs disk.told [] code.store code.store told.disk told.disk = goes_none disk.told code.store code.store told.disk told.disk here in (
           new,
           (
             record { changes = change ∷ []; due = inr (change, due (λ e. let no : ⊥ = cc in no), subst (λ (h : Held). IsDue change h) fits.held failed.0, refl); makes = makes_next state (change ∷ []) told'.tools told'.tree; tools = tools ∙ fits.tools },
             refl,
-            left_by disk g text limit first start code state told fits (stopped stop.Disk told') (same_tools told.tools told'.tools tools fits.stay.few) tree (change ∷ [])
+            left_by disk g text limit first start code state told fits (told_with_stop stop.Disk told') (same_tools told.tools told'.tools tools fits.stay.few) tree (change ∷ [])
                 (safe_failed disk g text limit first start code state told fits (change ∷ []) told'.disk failed.1 later cause) (λ at size some. (let no : ⊥ = cc in absurd no))
-                (failed_last disk g text limit first start code state told fits [] change code.store told.disk (stopped stop.Disk told') goes failed.1 cause),
+                (failed_last disk g text limit first start code state told fits [] change code.store told.disk (told_with_stop stop.Disk told') goes failed.1 cause),
           ),
         )
     edit_left change Asked next told' (fault.NotOurs at) due failed later cause tools tree = absurd failed
     edit_left change Asked next told' (fault.Full at size) due failed later cause tools tree =
         let new = next_state state (change ∷ []) told'.tools told'.tree in
         let here : IsSame code.store code.store told.disk told'.disk = record { disk_is = failed.1.0.disk_is; store_is = record { journal = refl; tables = refl; sources = refl; epoch = refl } } in
-        let goes : Goes disk.told [] code.store code.store told.disk told'.disk = goes_none disk.told code.store code.store told.disk told'.disk here in (
+        let goes : Performs disk.told [] code.store code.store told.disk told'.disk = goes_none disk.told code.store code.store told.disk told'.disk here in (
           new,
           (
             record { changes = change ∷ []; due = inr (change, due (λ e. let no : ⊥ = cc in no), subst (λ (h : Held). IsDue change h) fits.held failed.0, refl); makes = makes_next state (change ∷ []) told'.tools told'.tree; tools = tools ∙ fits.tools },
             refl,
-            left_by disk g text limit first start code state told fits (stopped (stop.Full at size) told') (same_tools told.tools told'.tools tools fits.stay.few) tree (change ∷ [])
+            left_by disk g text limit first start code state told fits (told_with_stop (stop.Full at size) told') (same_tools told.tools told'.tools tools fits.stay.few) tree (change ∷ [])
                 (safe_full disk g text limit first start code state told fits [] change code.store told'.disk goes cause)
                 (λ a s some.
                 let same_at : at ≡ a = ap (λ (p : ℕ × ℕ). p.0) (same_some some) in
                 let same_size : size ≡ s = ap (λ (p : ℕ × ℕ). p.1) (same_some some) in
-                subst (λ x. IsFull text (state.changes ++ change ∷ []) (disk.told start.disk) (disk.told told'.disk) x s) same_at
-                (subst (λ x. IsFull text (state.changes ++ change ∷ []) (disk.told start.disk) (disk.told told'.disk) at x) same_size
+                subst (λ x. HasNoRoomForLast text (state.changes ++ change ∷ []) (disk.told start.disk) (disk.told told'.disk) x s) same_at
+                (subst (λ x. HasNoRoomForLast text (state.changes ++ change ∷ []) (disk.told start.disk) (disk.told told'.disk) at x) same_size
                 (is_full disk g text limit first start code state told fits [] change code.store told'.disk failed.1.1.0 at size goes failed.1.1.1 failed.1.1.2)))
-                (full_last disk g text limit first start code state told fits [] change code.store (stopped (stop.Full at size) told') goes (λ none. (let no : ⊥ = cc in no))),
+                (full_last disk g text limit first start code state told fits [] change code.store (told_with_stop (stop.Full at size) told') goes (λ none. (let no : ⊥ = cc in no))),
           ),
         )
     edit_left change Asked next told' fault.Memory due failed later cause tools tree =
         let new = next_state state [] told'.tools told'.tree in
-        let goes : Goes disk.told [] code.store next told.disk told'.disk = goes_none disk.told code.store next told.disk told'.disk failed in (
+        let goes : Performs disk.told [] code.store next told.disk told'.disk = goes_none disk.told code.store next told.disk told'.disk failed in (
           new,
           (
             record { changes = []; due = inl refl; makes = makes_next state [] told'.tools told'.tree; tools = tools ∙ fits.tools },
             refl,
-            left_by disk g text limit first start code state told fits (stopped stop.Memory told') (same_tools told.tools told'.tools tools fits.stay.few) tree []
+            left_by disk g text limit first start code state told fits (told_with_stop stop.Memory told') (same_tools told.tools told'.tools tools fits.stay.few) tree []
                 (safe_made disk g text limit first start code state told fits [] next told'.disk goes cause) (λ at size some. (let no : ⊥ = cc in absurd no))
                 (λ quiet. inl (holds_all disk g text limit first start code state told fits [] next told'.disk goes quiet)),
           ),
@@ -192,7 +192,7 @@ module _ {D : Type 0} (disk : DiskMeaning D) where
         (subst (λ (t : Spawned). IsReply code.graph code.store.sources.texts code.store.kept.tables.calls code.jobs query said given t told'.tools) fits.tools is))))
 
     pub asks : (query : Text) (said : Reply) (bytes : List ℕ) (given : Calls) (told' : Told D) → bytes ≡ reply_text said → IsReply code.graph code.store.sources.texts code.store.kept.tables.calls code.jobs query said given told.tools told'.tools
-        → told'.tree ≡ told.tree → Asks g limit query state bytes (next_state state (keeps_of given) told'.tools told'.tree)
+        → told'.tree ≡ told.tree → AsksForObject g limit query state bytes (next_state state (keeps_of given) told'.tools told'.tree)
     asks query said bytes given told' bytes_are is tree = record {
       given = given;
       says = record { said = said; bytes_are = bytes_are; holds = reply_from query said given told' is };
@@ -201,14 +201,14 @@ module _ {D : Type 0} (disk : DiskMeaning D) where
     }
 
     -- what comes after it
-    pub asked_belongs : (given : Calls) (code' : Engaged) (told' : Told D) → Goes disk.told (keeps_of given) code.store code'.store told.disk told'.disk → Stays code code' → IsReady code'.store.journal (disk.size told'.disk)
+    pub asked_belongs : (given : Calls) (code' : Engaged) (told' : Told D) → Performs disk.told (keeps_of given) code.store code'.store told.disk told'.disk → GraphStays code code' → IsReady code'.store.journal (disk.size told'.disk)
         → disk.faults told'.disk ≡ disk.faults told.disk → ToolsStay told.tools told'.tools → told'.tree ≡ told.tree → told'.tools.running ≡ [] → told'.over ≡ None
-        → Belongs disk g text limit first start code' (next_state state (keeps_of given) told'.tools told'.tree) told'
+        → SessionInvariant disk g text limit first start code' (next_state state (keeps_of given) told'.tools told'.tree) told'
     asked_belongs given code' told' goes stays ready faults stay tree idle within =
         belongs_on disk g text limit first start code state told fits (keeps_of given) code' told' goes stays ready faults stay (same_tree told.tree told'.tree tree) idle within
 
-    pub asked_leaves : (given : Calls) (store : Store) (told' : Told D) → Goes disk.told (keeps_of given) code.store store told.disk told'.disk → disk.faults told'.disk ≡ disk.faults told.disk → ToolsStay told.tools told'.tools
-        → told'.tree ≡ told.tree → told'.over ≡ None → IsLeft disk g text limit first start state (next_state state (keeps_of given) told'.tools told'.tree) told'
+    pub asked_leaves : (given : Calls) (store : Store) (told' : Told D) → Performs disk.told (keeps_of given) code.store store told.disk told'.disk → disk.faults told'.disk ≡ disk.faults told.disk → ToolsStay told.tools told'.tools
+        → told'.tree ≡ told.tree → told'.over ≡ None → StateAtExit disk g text limit first start state (next_state state (keeps_of given) told'.tools told'.tree) told'
     asked_leaves given store told' goes faults stay tree within =
         left_by disk g text limit first start code state told fits told' stay (same_tree told.tree told'.tree tree) (keeps_of given)
         (safe_made disk g text limit first start code state told fits (keeps_of given) store told'.disk goes faults) (λ at size some. (let no : ⊥ = cc in absurd no))
@@ -235,21 +235,21 @@ module _ {D : Type 0} (disk : DiskMeaning D) where
     -- what an ask leaves that gets no reply
     pub ask_left : (query : Text) (next : Store) (told' : Told D) (e : JournalFault)
         → HasStopped disk.told code.graph code.jobs query (at code.store told.disk told.tools) (at next told'.disk told'.tools) e
-        → disk.faults told.disk ≤ disk.faults told'.disk → IsCauseOf (disk.faults told.disk) (disk.faults told'.disk) e → ToolsStay told.tools told'.tools → told'.tree ≡ told.tree
-        → (furthest : State) × MayHaveAsked g limit query state furthest × IsLeft disk g text limit first start state furthest (stopped (stop_of e) told')
+        → disk.faults told.disk ≤ disk.faults told'.disk → CountAfterJournalFault (disk.faults told.disk) (disk.faults told'.disk) e → ToolsStay told.tools told'.tools → told'.tree ≡ told.tree
+        → (furthest : SessionState) × MayHaveAsked g limit query state furthest × StateAtExit disk g text limit first start state furthest (told_with_stop (stop_of e) told')
     ask_left query next told' fault.Disk failed later cause stay tree =
         let last : Change = keeps failed.call failed.outcome in
         let given : Calls = failed.given ++ (failed.call, failed.outcome) ∷ [] in
         let list : keeps_of given ≡ keeps_of failed.given ++ last ∷ [] = keeps_behind failed.given failed.call failed.outcome in (
           next_state state (keeps_of given) told'.tools told'.tree,
           may_have_come query given told' (inr failed.came) tree,
-          left_by disk g text limit first start code state told fits (stopped stop.Disk told') stay (same_tree told.tree told'.tree tree) (keeps_of given)
+          left_by disk g text limit first start code state told fits (told_with_stop stop.Disk told') stay (same_tree told.tree told'.tree tree) (keeps_of given)
               (subst (λ l. IsSafe text first.held state.changes (state.changes ++ l) (disk.told start.disk) (disk.told told'.disk) (disk.faults start.disk) (disk.faults told'.disk)) (sym list)
               (safe_failed disk g text limit first start code state told fits (keeps_of failed.given ++ last ∷ []) told'.disk
               (stops_behind disk.told (keeps_of failed.given) (last ∷ []) code.store failed.mid.store told.disk failed.mid.disk told'.disk failed.goes failed.stops) later cause))
               (λ at size some. (let no : ⊥ = cc in absurd no))
-              (λ quiet. subst (λ l. Lasts disk g text limit first start code state told fits l (stopped stop.Disk told')) (sym list)
-              (failed_last disk g text limit first start code state told fits (keeps_of failed.given) last failed.mid.store failed.mid.disk (stopped stop.Disk told') failed.goes failed.stops cause quiet)),
+              (λ quiet. subst (λ l. Lasts disk g text limit first start code state told fits l (told_with_stop stop.Disk told')) (sym list)
+              (failed_last disk g text limit first start code state told fits (keeps_of failed.given) last failed.mid.store failed.mid.disk (told_with_stop stop.Disk told') failed.goes failed.stops cause quiet)),
         )
     ask_left query next told' (fault.NotOurs place) failed later cause stay tree = absurd failed
     ask_left query next told' (fault.Full end size) failed later cause stay tree =
@@ -258,23 +258,23 @@ module _ {D : Type 0} (disk : DiskMeaning D) where
         let list : keeps_of given ≡ keeps_of failed.given ++ last ∷ [] = keeps_behind failed.given failed.call failed.outcome in (
           next_state state (keeps_of given) told'.tools told'.tree,
           may_have_come query given told' (inr failed.came) tree,
-          left_by disk g text limit first start code state told fits (stopped (stop.Full end size) told') stay (same_tree told.tree told'.tree tree) (keeps_of given)
+          left_by disk g text limit first start code state told fits (told_with_stop (stop.Full end size) told') stay (same_tree told.tree told'.tree tree) (keeps_of given)
               (subst (λ l. IsSafe text first.held state.changes (state.changes ++ l) (disk.told start.disk) (disk.told told'.disk) (disk.faults start.disk) (disk.faults told'.disk)) (sym list)
               (safe_full disk g text limit first start code state told fits (keeps_of failed.given) last next told'.disk failed.goes cause))
               (λ a s some.
               let same_at : end ≡ a = ap (λ (p : ℕ × ℕ). p.0) (same_some some) in
               let same_size : size ≡ s = ap (λ (p : ℕ × ℕ). p.1) (same_some some) in
-              subst (λ l. IsFull text (state.changes ++ l) (disk.told start.disk) (disk.told told'.disk) a s) (sym list)
-              (subst (λ x. IsFull text (state.changes ++ (keeps_of failed.given ++ last ∷ [])) (disk.told start.disk) (disk.told told'.disk) x s) same_at
-              (subst (λ x. IsFull text (state.changes ++ (keeps_of failed.given ++ last ∷ [])) (disk.told start.disk) (disk.told told'.disk) end x) same_size
+              subst (λ l. HasNoRoomForLast text (state.changes ++ l) (disk.told start.disk) (disk.told told'.disk) a s) (sym list)
+              (subst (λ x. HasNoRoomForLast text (state.changes ++ (keeps_of failed.given ++ last ∷ [])) (disk.told start.disk) (disk.told told'.disk) x s) same_at
+              (subst (λ x. HasNoRoomForLast text (state.changes ++ (keeps_of failed.given ++ last ∷ [])) (disk.told start.disk) (disk.told told'.disk) end x) same_size
               (is_full disk g text limit first start code state told fits (keeps_of failed.given) last next told'.disk failed.items end size failed.goes failed.batch failed.over))))
-              (λ quiet. subst (λ l. Lasts disk g text limit first start code state told fits l (stopped (stop.Full end size) told')) (sym list)
-              (full_last disk g text limit first start code state told fits (keeps_of failed.given) last next (stopped (stop.Full end size) told') failed.goes (λ none. (let no : ⊥ = cc in no)) quiet)),
+              (λ quiet. subst (λ l. Lasts disk g text limit first start code state told fits l (told_with_stop (stop.Full end size) told')) (sym list)
+              (full_last disk g text limit first start code state told fits (keeps_of failed.given) last next (told_with_stop (stop.Full end size) told') failed.goes (λ none. (let no : ⊥ = cc in no)) quiet)),
         )
     ask_left query next told' fault.Memory wanted later cause stay tree = (
       next_state state (keeps_of wanted.given) told'.tools told'.tree,
       may_have_asked query wanted.given wanted.rest told' wanted.few wanted.begun tree,
-      left_by disk g text limit first start code state told fits (stopped stop.Memory told') stay (same_tree told.tree told'.tree tree) (keeps_of wanted.given)
+      left_by disk g text limit first start code state told fits (told_with_stop stop.Memory told') stay (same_tree told.tree told'.tree tree) (keeps_of wanted.given)
           (safe_made disk g text limit first start code state told fits (keeps_of wanted.given) next told'.disk wanted.goes cause) (λ at size some. (let no : ⊥ = cc in absurd no))
           (λ quiet. inl (holds_all disk g text limit first start code state told fits (keeps_of wanted.given) next told'.disk wanted.goes quiet)),
     )
@@ -305,7 +305,7 @@ module _ {D : Type 0} (disk : DiskMeaning D) where
       stay : (limit : ℕ) → code.jobs ≡ limit → limit ≤ 64 → ToolsStay tools tools'
       stay limit jobs most = asked_tools tools tools' answer (reply_later code.graph code.store.sources.texts code.store.kept.tables.calls code.jobs query said replied.given tools tools' replied.is) (omega (arith, few, jobs, most))
 
-      pub ask_answers : bytes ≡ reply_text said → Stays code code' → IsReady code'.store.journal (disk.size now') → tools'.running ≡ [] → AnswersAsk disk code query tools now bytes code' tools' now'
+      pub ask_answers : bytes ≡ reply_text said → GraphStays code code' → IsReady code'.store.journal (disk.size now') → tools'.running ≡ [] → AnswersAsk disk code query tools now bytes code' tools' now'
       ask_answers bytes_are stays ready idle kept sink tree g text limit first start state body same fits =
           let told : Told D = telling sink tools tree now in
           let told' : Told D = telling sink tools' tree now' in
@@ -329,7 +329,7 @@ module _ {D : Type 0} (disk : DiskMeaning D) where
           }
 
     -- an ask that gets no reply
-    pub ask_halts : (e : JournalFault) → HasStopped disk.told code.graph code.jobs query first_at last_at e → tools'.answer ≡ tools.answer → length tools'.running ≤ code.jobs → disk.faults now ≤ disk.faults now' → IsCauseOf (disk.faults now) (disk.faults now') e
+    pub ask_halts : (e : JournalFault) → HasStopped disk.told code.graph code.jobs query first_at last_at e → tools'.answer ≡ tools.answer → length tools'.running ≤ code.jobs → disk.faults now ≤ disk.faults now' → CountAfterJournalFault (disk.faults now) (disk.faults now') e
         → HaltsAsk disk code query tools now e tools' now'
     ask_halts e has answer few later cause kept sink tree g text limit first start state body same fits =
         let told : Told D = telling sink tools tree now in

@@ -16,12 +16,12 @@ use Rattle.source_edits.specs.Edits.{TreeTold}
 use Rattle.odin_shell.specs.declared.ending.Ending.{Ending}
 use Rattle.odin_shell.specs.declared.ending.Ending.TheVariants.{Whole, CutShort, BadGraph, Disk, Memory, Output, Input, NotOurs, Full, Usage, TooLong, Loaded, Room}
 use Rattle.odin_shell.specs.declared.graph.Opened.TheVariants.{Ready, Refused}
-use Rattle.odin_shell.specs.Endings.{status_of}
+use Rattle.odin_shell.specs.Endings.{ending_status}
 use Rattle.odin_shell.specs.Filed.{DiskMeaning}
 use Rattle.odin_shell.specs.Laws.{NoFault}
 use Rattle.odin_shell.specs.Objects.{SourceTold, Outside, Meaning}
 use Rattle.odin_shell.specs.Machine.{Told}
-use Rattle.odin_shell.specs.Opened.{IsRefused}
+use Rattle.odin_shell.specs.Opened.{GraphIsRefused}
 use Rattle.odin_shell.specs.Run as run
 use Rattle.odin_shell.specs.Run.{AllowedBy, OutputCount, DiskCount, Closes, ClosesFor, SessionEnds}
 use Rattle.odin_shell.specs.Complete.{IsServable, RunsComplete}
@@ -64,7 +64,7 @@ module _ {I O T S D : Type 0} (m : Meaning I O T S D) (words : List Text) (befor
 
   module _ (one : AskedIsOne) (stands : StandsForOne) where
     -- the file of the graph is not refused
-    not_refused : (opened : TreeTold) (given : Option Text) (line : Text) → run.Gives m words before after opened given → IsRefused given line → ⊥
+    not_refused : (opened : TreeTold) (given : Option Text) (line : Text) → run.TreeGives m words before after opened given → GraphIsRefused given line → ⊥
     not_refused told given line gives refused =
         let work : Serve gives.asks.name ≡ Serve can.name = (one words (Serve can.name) (Serve gives.asks.name) can.jobs gives.asks.jobs can.asks gives.asks.named).0 in
         let name : gives.asks.name ≡ can.name = cc in
@@ -112,7 +112,7 @@ module _ {I O T S D : Type 0} (m : Meaning I O T S D) (words : List Text) (befor
   module _ (opened : TreeTold) (input : NoFault (m.input_faults before.input) (m.input_faults after.input)) (output : NoFault (m.output_faults before.output) (m.output_faults after.output))
       (disk : NoFault (m.disk.faults before.disk) (m.disk.faults after.disk)) (tree : NoFault (m.tree_faults before.tree) opened.faults) where
     comes : (ending : Ending) → CanEnd ending → IfSome (m.left before.input) (AllowedBy ending) → OutputCount ending (m.output_faults before.output) (m.output_faults after.output)
-        → run.ReadCounts m words before after opened ending → DiskCount ending (m.disk.faults before.disk) (m.disk.faults after.disk) → Comes (status_of ending)
+        → run.ReadCounts m words before after opened ending → DiskCount ending (m.disk.faults before.disk) (m.disk.faults after.disk) → Comes (ending_status ending)
     comes Whole may exact written read kept = inl refl
     comes CutShort may exact written read kept = absurd (can.whole (allowed CutShort exact).1)
     comes BadGraph may exact written read kept = absurd may

@@ -21,8 +21,8 @@ use Rattle.meaning_commands.specs.declared.replies.Reply.TheVariants as reply
 use Rattle.meaning_commands.specs.Replies.{reply_text}
 use Rattle.odin_shell.specs.Language.{commands}
 use Rattle.source_edits.specs.Edits.{TreeTold, Inserts, TakesFile, RemovesText, source_lines}
-use Rattle.odin_shell.specs.Machine.{State, Step}
-use Rattle.odin_shell.specs.Laws.{count_of, FitsCounts}
+use Rattle.odin_shell.specs.Machine.{SessionState, Step}
+use Rattle.odin_shell.specs.Laws.{count_of_reply, FitsCounts}
 
 -- ---- bytes
 
@@ -139,34 +139,34 @@ no_read_in : (bytes : List ℕ) (said : Reply) → bytes ≡ reply_text said →
 no_read_in bytes said is other = not_one bytes (reply_text reply.RefusedRead) _ refl (λ e. other (only_read said (sym is ∙ e)))
 
 -- a reply tells no more faults than were counted
-pub record Counts (old : State) (bytes : List ℕ) (new : State) : Type 0 where
+pub record Counts (old : SessionState) (bytes : List ℕ) (new : SessionState) : Type 0 where
   pub starts : min (old.tools.faults + starts_in bytes) last_count ≤ new.tools.faults
   pub reads : min (old.tree.faults + reads_in bytes) last_count ≤ new.tree.faults
 
-by_none : (old : State) (bytes : List ℕ) (new : State) → starts_in bytes ≡ 0 → reads_in bytes ≡ 0 → old.tools.faults ≤ new.tools.faults → old.tree.faults ≤ new.tree.faults → Counts old bytes new
+by_none : (old : SessionState) (bytes : List ℕ) (new : SessionState) → starts_in bytes ≡ 0 → reads_in bytes ≡ 0 → old.tools.faults ≤ new.tools.faults → old.tree.faults ≤ new.tree.faults → Counts old bytes new
 by_none old bytes new starts reads tools tree = record { starts = omega (arith, starts, tools); reads = omega (arith, reads, tree) }
 
-by_silent : (old : State) (bytes : List ℕ) (new : State) (said : Reply) → bytes ≡ reply_text said → IsSilent said → old.tools.faults ≤ new.tools.faults → old.tree.faults ≤ new.tree.faults → Counts old bytes new
+by_silent : (old : SessionState) (bytes : List ℕ) (new : SessionState) (said : Reply) → bytes ≡ reply_text said → IsSilent said → old.tools.faults ≤ new.tools.faults → old.tree.faults ≤ new.tree.faults → Counts old bytes new
 by_silent old bytes new said is silent = by_none old bytes new (no_start_in bytes said is silent.no_start) (no_read_in bytes said is silent.no_read)
 
-tools_later : (old new : State) → new.tools ≡ old.tools → old.tools.faults ≤ new.tools.faults
+tools_later : (old new : SessionState) → new.tools ≡ old.tools → old.tools.faults ≤ new.tools.faults
 tools_later old new same = let count : new.tools.faults ≡ old.tools.faults = ap (λ (t : Spawned). t.faults) same in omega arith
 
-tree_later : (old new : State) → new.tree ≡ old.tree → old.tree.faults ≤ new.tree.faults
+tree_later : (old new : SessionState) → new.tree ≡ old.tree → old.tree.faults ≤ new.tree.faults
 tree_later old new same = let count : new.tree.faults ≡ old.tree.faults = ap (λ (t : TreeTold). t.faults) same in omega arith
 
-no_change : (old : State) (bytes : List ℕ) (new : State) (said : Reply) → bytes ≡ reply_text said → IsSilent said → new ≡ old → Counts old bytes new
+no_change : (old : SessionState) (bytes : List ℕ) (new : SessionState) (said : Reply) → bytes ≡ reply_text said → IsSilent said → new ≡ old → Counts old bytes new
 no_change old bytes new said is silent same =
-    by_silent old bytes new said is silent (tools_later old new (ap (λ (s : State). s.tools) same)) (tree_later old new (ap (λ (s : State). s.tree) same))
+    by_silent old bytes new said is silent (tools_later old new (ap (λ (s : SessionState). s.tools) same)) (tree_later old new (ap (λ (s : SessionState). s.tree) same))
 
-no_reply : (old : State) (bytes : List ℕ) (new : State) → bytes ≡ [] → new ≡ old → Counts old bytes new
+no_reply : (old : SessionState) (bytes : List ℕ) (new : SessionState) → bytes ≡ [] → new ≡ old → Counts old bytes new
 no_reply old bytes new none same =
     by_none old bytes new
     (not_one bytes (reply_text reply.RefusedToolStart) _ refl (λ e. clash [] (reply_text reply.RefusedToolStart) (sym none ∙ e) 0 0 114 refl refl (λ z. omega arith)))
     (not_one bytes (reply_text reply.RefusedRead) _ refl (λ e. clash [] (reply_text reply.RefusedRead) (sym none ∙ e) 0 0 114 refl refl (λ z. omega arith)))
-    (tools_later old new (ap (λ (s : State). s.tools) same)) (tree_later old new (ap (λ (s : State). s.tree) same))
+    (tools_later old new (ap (λ (s : SessionState). s.tools) same)) (tree_later old new (ap (λ (s : SessionState). s.tree) same))
 
-pub counted : (g : Graph) (limit : ℕ) (old : State) (c : Command) (body bytes : List ℕ) (new : State) → Step g limit old c body bytes new → Counts old bytes new
+pub counted : (g : Graph) (limit : ℕ) (old : SessionState) (c : Command) (body bytes : List ℕ) (new : SessionState) → Step g limit old c body bytes new → Counts old bytes new
 counted g limit old (Put name count) body bytes new step =
     by_silent old bytes new step.says.said step.says.bytes_are
     (inserted_silent old.held.sources name body count (reply.Put name count) step.says.said new.held.sources (record { no_start = λ z. cc; no_read = λ z. cc }) step.says.holds)
@@ -209,10 +209,10 @@ counted g limit old (BadName count) body bytes new step = no_change old bytes ne
 both : (f a r m s : ℕ) → min (f + a) last_count ≤ m → min (m + r) last_count ≤ s → min (f + (a + r)) last_count ≤ s
 both f a r m s first rest = omega arith
 
-pub counts : (g : Graph) (limit : ℕ) (first last : State) (items : List Item) (replies : List (List ℕ)) → Transcript commands (Step g limit) first items replies last → FitsCounts first last replies
+pub counts : (g : Graph) (limit : ℕ) (first last : SessionState) (items : List Item) (replies : List (List ℕ)) → Transcript commands (Step g limit) first items replies last → FitsCounts first last replies
 counts g limit first last [] [] run =
-    let tools : last.tools.faults ≡ first.tools.faults = ap (λ (s : State). s.tools.faults) run in
-    let tree : last.tree.faults ≡ first.tree.faults = ap (λ (s : State). s.tree.faults) run in
+    let tools : last.tools.faults ≡ first.tools.faults = ap (λ (s : SessionState). s.tools.faults) run in
+    let tree : last.tree.faults ≡ first.tree.faults = ap (λ (s : SessionState). s.tree.faults) run in
     record { starts = omega arith; reads = omega arith }
 counts g limit first last [] (reply ∷ replies) run = absurd run
 counts g limit first last (item ∷ items) [] run = absurd run
@@ -220,6 +220,6 @@ counts g limit first last (item ∷ items) (bytes ∷ replies) run =
     let step = counted g limit first run.1.command item.body bytes run.0 run.1.step in
     let rest = counts g limit run.0 last items replies run.2 in
     record {
-      starts = both first.tools.faults (starts_in bytes) (count_of reply.RefusedToolStart replies) run.0.tools.faults last.tools.faults step.starts rest.starts;
-      reads = both first.tree.faults (reads_in bytes) (count_of reply.RefusedRead replies) run.0.tree.faults last.tree.faults step.reads rest.reads;
+      starts = both first.tools.faults (starts_in bytes) (count_of_reply reply.RefusedToolStart replies) run.0.tools.faults last.tools.faults step.starts rest.starts;
+      reads = both first.tree.faults (reads_in bytes) (count_of_reply reply.RefusedRead replies) run.0.tree.faults last.tree.faults step.reads rest.reads;
     }

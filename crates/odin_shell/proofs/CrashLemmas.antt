@@ -7,7 +7,7 @@ use Rattle.object_values.specs.declared.calls.Call.{Call}
 use Rattle.object_values.specs.declared.calls.Outcome.{Outcome}
 use Rattle.odin_outside.specs.Disk.{IsQuiet}
 use Rattle.odin_outside.specs.Spawned.{Table, Spawned}
-use Rattle.disk_trails.specs.Trails.{after, IsPrefix}
+use Rattle.disk_trails.specs.Trails.{after_changes, IsPrefix}
 use Rattle.meaning_graph.specs.Graphs.{Text, Graph}
 use Rattle.meaning_derive.specs.Given.{table_outcomes}
 use Rattle.meaning_texts.specs.Lists.{IsIn}
@@ -30,26 +30,26 @@ use Rattle.odin_answers.specs.Laws.{IsTrueFor}
 use Rattle.odin_answers.proofs.Lemmas.{kept_first, kept_by_either}
 use Rattle.odin_shell.specs.Filed.{DiskMeaning}
 use Rattle.odin_shell.specs.Language.{commands}
-use Rattle.odin_shell.specs.Machine.{State, Told, Makes, Step, MayLeave, IsLeft}
-use Rattle.odin_shell.specs.Laws.{IsMade}
-use Rattle.odin_shell.specs.Crashes.{ComesTo, IsCallOfAsk, ComesOfAsk, ComesByTable, IsOurs, HoldsOurs, LeavesOurs}
+use Rattle.odin_shell.specs.Machine.{SessionState, Told, Applies, Step, CommandMayLeave, StateAtExit}
+use Rattle.odin_shell.specs.Laws.{ChangesAreMade}
+use Rattle.odin_shell.specs.Crashes.{SessionComesTo, IsCallOfAsk, ComesOfAsk, ComesByTable, IsOurs, HoldsOurs, LeavesOurs}
 use Rattle.odin_shell.proofs.MadeLemmas.{after_both, kept_calls, edits_keep, edit_keeps, puts_keep, drops_keep, is_made, left_made, made_on, stays_true, left_true}
 
 -- ---- calls that are kept stay
 
-pub grows : (changes : List Change) (held : Held) (call : Call) (o : Outcome) → kept_outcome held.calls call ≡ Some o → kept_outcome (after store_keeping changes held).calls call ≡ Some o
+pub grows : (changes : List Change) (held : Held) (call : Call) (o : Outcome) → kept_outcome held.calls call ≡ Some o → kept_outcome (after_changes store_keeping changes held).calls call ≡ Some o
 grows [] held call o e = e
 grows (puts name text ∷ changes) held call o e = grows changes (apply (puts name text) held) call o e
 grows (drops name ∷ changes) held call o e = grows changes (apply (drops name) held) call o e
 grows (keeps c outcome ∷ changes) held call o e = grows changes (apply (keeps c outcome) held) call o (kept_first held.calls ((c, outcome) ∷ []) call o e)
 
 -- what the first changes keep, all keep
-first_grows : (k : ℕ) (changes : List Change) (held : Held) (call : Call) (o : Outcome) → kept_outcome (after store_keeping (take k changes) held).calls call ≡ Some o
-    → kept_outcome (after store_keeping changes held).calls call ≡ Some o
+first_grows : (k : ℕ) (changes : List Change) (held : Held) (call : Call) (o : Outcome) → kept_outcome (after_changes store_keeping (take k changes) held).calls call ≡ Some o
+    → kept_outcome (after_changes store_keeping changes held).calls call ≡ Some o
 first_grows k changes held call o e =
-    ap (λ l. kept_outcome (after store_keeping l held).calls call) (sym (take-append-drop k changes))
+    ap (λ l. kept_outcome (after_changes store_keeping l held).calls call) (sym (take-append-drop k changes))
     ∙ ap (λ (h : Held). kept_outcome h.calls call) (after_both (take k changes) (drop k changes) held)
-    ∙ grows (drop k changes) (after store_keeping (take k changes) held) call o e
+    ∙ grows (drop k changes) (after_changes store_keeping (take k changes) held) call o e
 
 there : (x y : Option Outcome) → ((o : Outcome) → x ≡ Some o → y ≡ Some o) → IsSome x → IsSome y
 there (Some o) y grows is = ap is_some (grows o refl)
@@ -58,7 +58,7 @@ there None y grows is = absurd (let no : ⊥ = cc in no)
 -- ---- one item
 
 -- calls that came of an ask
-module _ (g : Graph) (old : State) (item : Item) (text : Text) (given : Calls) (is : IsItem commands item (Ask text)) where
+module _ (g : Graph) (old : SessionState) (item : Item) (text : Text) (given : Calls) (is : IsItem commands item (Ask text)) where
   run_ours : (n : Node) → answers.Asks g text n → HaveCome old.tools.answer given → AreGiven g old.held.sources (kept_outcome old.held.calls) n given → (call : Call) → IsIn call (calls_of given) → IsCallOfAsk g old item call
   run_ours n asks came are call i = record {
     text = text;
@@ -96,17 +96,17 @@ among call (x ∷ given) rest (inl e) = inl e
 among call (x ∷ given) rest (inr i) = inr (among call given rest i)
 
 -- a call that is kept behind an item was kept before it, or is one of its ask
-abbrev Either : Graph → State → Item → State → Call → Type 0
+abbrev Either : Graph → SessionState → Item → SessionState → Call → Type 0
 Either g old item new call = IsSome (kept_outcome new.held.calls call) → IsSome (kept_outcome old.held.calls call) ⊎ IsCallOfAsk g old item call
 
-module _ (g : Graph) (old new : State) (item : Item) (call : Call) where
+module _ (g : Graph) (old new : SessionState) (item : Item) (call : Call) where
   same_calls : new.held.calls ≡ old.held.calls → Either g old item new call
   same_calls same kept = inl (subst (λ l. IsSome (kept_outcome l call)) same kept)
 
   same_state : new ≡ old → Either g old item new call
-  same_state same = same_calls (ap (λ (s : State). s.held.calls) same)
+  same_state same = same_calls (ap (λ (s : SessionState). s.held.calls) same)
 
-  more_calls : (given : Calls) → Makes (keeps_of given) old new → ((c : Call) → IsIn c (calls_of given) → IsCallOfAsk g old item c) → Either g old item new call
+  more_calls : (given : Calls) → Applies (keeps_of given) old new → ((c : Call) → IsIn c (calls_of given) → IsCallOfAsk g old item c) → Either g old item new call
   more_calls given makes ours kept =
       elim (kept_by_either old.held.calls given call (subst (λ l. IsSome (kept_outcome l call)) (ap (λ (h : Held). h.calls) makes.held ∙ kept_calls given old.held) kept)) [
         | inl was ↦ inl was
@@ -126,7 +126,7 @@ module _ (g : Graph) (old new : State) (item : Item) (call : Call) where
   step_ours limit Bad bytes is step = same_state step.1
   step_ours limit (BadName count) bytes is step = same_state step.1
 
-  left_ours : (limit : ℕ) (c : Command) → IsItem commands item c → MayLeave g limit old c item.body new → Either g old item new call
+  left_ours : (limit : ℕ) (c : Command) → IsItem commands item c → CommandMayLeave g limit old c item.body new → Either g old item new call
   left_ours limit (Put name count) is may = same_calls (edit_keeps _ old new (λ change due. puts_keep name item.body change due.1) may.0)
   left_ours limit (Take name) is may = same_calls (edit_keeps _ old new (λ change due. puts_keep name due.0 change due.3) may.0)
   left_ours limit (Remove name) is may = same_calls (edit_keeps _ old new (drops_keep name) may.0)
@@ -142,7 +142,7 @@ module _ (g : Graph) (old new : State) (item : Item) (call : Call) where
 -- ---- all items
 
 -- an ask behind one more item
-behind_one : (g : Graph) (limit : ℕ) (first mid : State) (item : Item) (items : List Item) (bytes : List ℕ) → AnswersItem commands (Step g limit) first item bytes mid → (call : Call) → ComesOfAsk g limit mid items call → ComesOfAsk g limit first (item ∷ items) call
+behind_one : (g : Graph) (limit : ℕ) (first mid : SessionState) (item : Item) (items : List Item) (bytes : List ℕ) → AnswersItem commands (Step g limit) first item bytes mid → (call : Call) → ComesOfAsk g limit mid items call → ComesOfAsk g limit first (item ∷ items) call
 behind_one g limit first mid item items bytes a call c = record {
   front = item ∷ c.front;
   item = c.item;
@@ -155,11 +155,11 @@ behind_one g limit first mid item items bytes a call c = record {
 }
 
 -- one of the first of the items, or of the one behind them
-at_front : (g : Graph) (limit : ℕ) (first : State) (item : Item) (items : List Item) (call : Call) → IsCallOfAsk g first item call → ComesOfAsk g limit first (item ∷ items) call
+at_front : (g : Graph) (limit : ℕ) (first : SessionState) (item : Item) (items : List Item) (call : Call) → IsCallOfAsk g first item call → ComesOfAsk g limit first (item ∷ items) call
 at_front g limit first item items call is = record { front = []; item = item; rest = items; cuts = refl; replies = []; old = first; run = refl; is = is }
 
-all_ours : (g : Graph) (limit : ℕ) (first last : State) (items : List Item) (replies : List (List ℕ)) → Transcript commands (Step g limit) first items replies last → (call : Call) → IsSome (kept_outcome last.held.calls call) → IsOurs g limit first items call
-all_ours g limit first last [] [] run call kept = inl (subst (λ (s : State). IsSome (kept_outcome s.held.calls call)) run kept)
+all_ours : (g : Graph) (limit : ℕ) (first last : SessionState) (items : List Item) (replies : List (List ℕ)) → Transcript commands (Step g limit) first items replies last → (call : Call) → IsSome (kept_outcome last.held.calls call) → IsOurs g limit first items call
+all_ours g limit first last [] [] run call kept = inl (subst (λ (s : SessionState). IsSome (kept_outcome s.held.calls call)) run kept)
 all_ours g limit first last [] (bytes ∷ replies) run call kept = absurd run
 all_ours g limit first last (item ∷ items) [] run call kept = absurd run
 all_ours g limit first last (item ∷ items) (bytes ∷ replies) run call kept = elim (all_ours g limit run.0 last items replies run.2 call kept) [
@@ -170,7 +170,7 @@ all_ours g limit first last (item ∷ items) (bytes ∷ replies) run call kept =
   | inr c ↦ inr (behind_one g limit first run.0 item items bytes run.1 call c)
 ]
 
-longer : (g : Graph) (limit : ℕ) (first : State) (items : List Item) (item : Item) (call : Call) → ComesOfAsk g limit first items call → ComesOfAsk g limit first (items ++ item ∷ []) call
+longer : (g : Graph) (limit : ℕ) (first : SessionState) (items : List Item) (item : Item) (call : Call) → ComesOfAsk g limit first items call → ComesOfAsk g limit first (items ++ item ∷ []) call
 longer g limit first items item call c = record {
   front = c.front;
   item = c.item;
@@ -182,9 +182,9 @@ longer g limit first items item call c = record {
   is = c.is;
 }
 
-come_ours : (g : Graph) (limit : ℕ) (first : State) (items : List Item) (furthest : State) → ComesTo g limit first items furthest → (call : Call) → IsSome (kept_outcome furthest.held.calls call) → IsOurs g limit first items call
-come_ours g limit first items furthest (ComesTo.answered _ replies _ run) call kept = all_ours g limit first furthest items replies run call kept
-come_ours g limit first _ furthest (ComesTo.begun items replies state item command _ run is may) call kept = elim (left_ours g state furthest item call limit command is may kept) [
+come_ours : (g : Graph) (limit : ℕ) (first : SessionState) (items : List Item) (furthest : SessionState) → SessionComesTo g limit first items furthest → (call : Call) → IsSome (kept_outcome furthest.held.calls call) → IsOurs g limit first items call
+come_ours g limit first items furthest (SessionComesTo.answered _ replies _ run) call kept = all_ours g limit first furthest items replies run call kept
+come_ours g limit first _ furthest (SessionComesTo.begun items replies state item command _ run is may) call kept = elim (left_ours g state furthest item call limit command is may kept) [
   | inl was ↦ elim (all_ours g limit first state items replies run call was) [
     | inl first_kept ↦ inl first_kept
     | inr c ↦ inr (longer g limit first items item call c)
@@ -192,18 +192,18 @@ come_ours g limit first _ furthest (ComesTo.begun items replies state item comma
   | inr ask ↦ inr (record { front = items; item = item; rest = []; cuts = refl; replies = replies; old = state; run = run; is = ask })
 ]
 
-come_made : (g : Graph) (limit : ℕ) (first : State) (items : List Item) (furthest : State) → ComesTo g limit first items furthest → IsMade first furthest
-come_made g limit first items furthest (ComesTo.answered _ replies _ run) = is_made g limit first furthest items replies run
-come_made g limit first _ furthest (ComesTo.begun items replies state item command _ run is may) = made_on first state furthest (is_made g limit first state items replies run) (left_made g limit state furthest command item.body may)
+come_made : (g : Graph) (limit : ℕ) (first : SessionState) (items : List Item) (furthest : SessionState) → SessionComesTo g limit first items furthest → ChangesAreMade first furthest
+come_made g limit first items furthest (SessionComesTo.answered _ replies _ run) = is_made g limit first furthest items replies run
+come_made g limit first _ furthest (SessionComesTo.begun items replies state item command _ run is may) = made_on first state furthest (is_made g limit first state items replies run) (left_made g limit state furthest command item.body may)
 
-come_true : (g : Graph) (limit : ℕ) (table : Table) (first : State) (items : List Item) (furthest : State) → IsTrueFor table first.tools first.held.calls → ComesTo g limit first items furthest → IsTrueFor table furthest.tools furthest.held.calls
-come_true g limit table first items furthest right (ComesTo.answered _ replies _ run) = stays_true g limit table first furthest items replies right run
-come_true g limit table first _ furthest right (ComesTo.begun items replies state item command _ run is may) =
+come_true : (g : Graph) (limit : ℕ) (table : Table) (first : SessionState) (items : List Item) (furthest : SessionState) → IsTrueFor table first.tools first.held.calls → SessionComesTo g limit first items furthest → IsTrueFor table furthest.tools furthest.held.calls
+come_true g limit table first items furthest right (SessionComesTo.answered _ replies _ run) = stays_true g limit table first furthest items replies right run
+come_true g limit table first _ furthest right (SessionComesTo.begun items replies state item command _ run is may) =
     left_true g limit table state furthest command item.body (stays_true g limit table first state items replies right run) may
 
 -- ---- by a table
 
-module _ (g : Graph) (limit : ℕ) (table : Table) (first : State) (items : List Item) (right : IsTrueFor table first.tools first.held.calls) (call : Call) where
+module _ (g : Graph) (limit : ℕ) (table : Table) (first : SessionState) (items : List Item) (right : IsTrueFor table first.tools first.held.calls) (call : Call) where
   -- what is kept then, and what came, is what the table gives
   agrees_by : (c : ComesOfAsk g limit first items call) → Agrees c.old.held.calls c.is.given (table_outcomes table)
   agrees_by c =
@@ -216,22 +216,22 @@ module _ (g : Graph) (limit : ℕ) (table : Table) (first : State) (items : List
 
 -- ---- images
 
-module _ (g : Graph) (limit : ℕ) (first : State) (items : List Item) (furthest : State) (none : first.changes ≡ []) (comes : ComesTo g limit first items furthest) where
-  held_is : furthest.held ≡ after store_keeping furthest.changes first.held
-  held_is = let made = come_made g limit first items furthest comes in made.held ∙ ap (λ l. after store_keeping l first.held) (sym (made.list ∙ ap (λ l. l ++ made.made) none))
+module _ (g : Graph) (limit : ℕ) (first : SessionState) (items : List Item) (furthest : SessionState) (none : first.changes ≡ []) (comes : SessionComesTo g limit first items furthest) where
+  held_is : furthest.held ≡ after_changes store_keeping furthest.changes first.held
+  held_is = let made = come_made g limit first items furthest comes in made.held ∙ ap (λ l. after_changes store_keeping l first.held) (sym (made.list ∙ ap (λ l. l ++ made.made) none))
 
   -- what the first changes keep is kept in the furthest state
-  kept_furthest : (k : ℕ) (call : Call) (o : Outcome) → kept_outcome (after store_keeping (take k furthest.changes) first.held).calls call ≡ Some o → kept_outcome furthest.held.calls call ≡ Some o
+  kept_furthest : (k : ℕ) (call : Call) (o : Outcome) → kept_outcome (after_changes store_keeping (take k furthest.changes) first.held).calls call ≡ Some o → kept_outcome furthest.held.calls call ≡ Some o
   kept_furthest k call o e = ap (λ (h : Held). kept_outcome h.calls call) held_is ∙ first_grows k furthest.changes first.held call o e
 
-  kept_ours : (k : ℕ) (call : Call) → IsSome (kept_outcome (after store_keeping (take k furthest.changes) first.held).calls call) → IsOurs g limit first items call
+  kept_ours : (k : ℕ) (call : Call) → IsSome (kept_outcome (after_changes store_keeping (take k furthest.changes) first.held).calls call) → IsOurs g limit first items call
   kept_ours k call kept =
       come_ours g limit first items furthest comes call
-      (there (kept_outcome (after store_keeping (take k furthest.changes) first.held).calls call) (kept_outcome furthest.held.calls call) (kept_furthest k call) kept)
+      (there (kept_outcome (after_changes store_keeping (take k furthest.changes) first.held).calls call) (kept_outcome furthest.held.calls call) (kept_furthest k call) kept)
 
   holds_ours : (least : ℕ) (image : List ℕ) → IsPrefix store_keeping first.held least furthest.changes image → HoldsOurs g limit first items furthest least image
   holds_ours least image some = record {
-    held = after store_keeping (take some.k furthest.changes) first.held;
+    held = after_changes store_keeping (take some.k furthest.changes) first.held;
     stands = some.stands;
     count = some.k;
     at_least = some.at_least;
@@ -241,8 +241,8 @@ module _ (g : Graph) (limit : ℕ) (first : State) (items : List Item) (furthest
     right = λ table right call o e. (let kept_true = come_true g limit table first items furthest right comes in kept_true.gives call o (kept_furthest some.k call o e));
   }
 
-pub images_hold_ours : {D : Type 0} (disk : DiskMeaning D) (g : Graph) (limit : ℕ) (text : Text) (first : State) (items : List Item) (start : Told D) (acknowledged furthest : State) (now : Told D)
-    → first.changes ≡ [] → IsQuiet (disk.told start.disk) → ComesTo g limit first items furthest → IsLeft disk g text limit first start acknowledged furthest now → LeavesOurs disk g limit first items start acknowledged furthest now
+pub images_hold_ours : {D : Type 0} (disk : DiskMeaning D) (g : Graph) (limit : ℕ) (text : Text) (first : SessionState) (items : List Item) (start : Told D) (acknowledged furthest : SessionState) (now : Told D)
+    → first.changes ≡ [] → IsQuiet (disk.told start.disk) → SessionComesTo g limit first items furthest → StateAtExit disk g text limit first start acknowledged furthest now → LeavesOurs disk g limit first items start acknowledged furthest now
 images_hold_ours disk g limit text first items start acknowledged furthest now none quiet comes left =
     let safe = left.safe.crash quiet in
     record {

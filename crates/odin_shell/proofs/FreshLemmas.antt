@@ -32,9 +32,9 @@ use Rattle.odin_store.specs.Held.{Held}
 use Rattle.kept_derive.specs.Runs.{course_of}
 use Rattle.odin_answers.specs.Answers.{Agrees, AreAll, IsLeftAlone, IsDerived, IsReply}
 use Rattle.odin_answers.specs.Laws.{IsTrueFor}
-use Rattle.source_edits.specs.Edits.{Says}
+use Rattle.source_edits.specs.Edits.{SaysReply}
 use Rattle.odin_shell.specs.Language.{commands}
-use Rattle.odin_shell.specs.Machine.{State, Step, Asks}
+use Rattle.odin_shell.specs.Machine.{SessionState, Step, AsksForObject}
 use Rattle.odin_shell.specs.Fresh.{fresh_of, GrowsBySome, GrowsByAll, FreshAnswer, FreshStep}
 use Rattle.odin_shell.proofs.MadeLemmas.{kept_calls, kept_sources, edits_keep, step_true}
 use Rattle.odin_shell.proofs.OnceLemmas.{given_there}
@@ -50,7 +50,7 @@ kept_in (x ∷ kept) call there = by_test (call_eq.eq call x.0) refl (kept_in ke
 
 -- ---- an ask
 
-module _ (g : Graph) (table : Table) (limit : ℕ) (text : Text) (old new : State) (bytes : List ℕ) (right : IsTrueFor table old.tools old.held.calls) (asks : Asks g limit text old bytes new) where
+module _ (g : Graph) (table : Table) (limit : ℕ) (text : Text) (old new : SessionState) (bytes : List ℕ) (right : IsTrueFor table old.tools old.held.calls) (asks : AsksForObject g limit text old bytes new) where
   abbrev s : Texts
   s = old.held.sources
 
@@ -133,12 +133,12 @@ module _ (g : Graph) (table : Table) (limit : ℕ) (text : Text) (old new : Stat
       let d = refused.drained in
       subst (FreshAnswer g table (fresh_of old) (fresh_of new) text) (sym refused.is) (FreshAnswer.not_started d.node d.asks (grows d.node (off_course for_spawn) d.run))
 
-  ask_fresh : Says (FreshAnswer g table (fresh_of old) (fresh_of new) text) bytes
+  ask_fresh : SaysReply (FreshAnswer g table (fresh_of old) (fresh_of new) text) bytes
   ask_fresh = record { said = asks.says.said; bytes_are = asks.says.bytes_are; holds = said_fresh asks.says.said asks.says.holds }
 
 -- ---- a command
 
-module _ (g : Graph) (limit : ℕ) (table : Table) (old new : State) (right : IsTrueFor table old.tools old.held.calls) where
+module _ (g : Graph) (limit : ℕ) (table : Table) (old new : SessionState) (right : IsTrueFor table old.tools old.held.calls) where
   step_fresh : (c : Command) (body bytes : List ℕ) → Step g limit old c body bytes new → FreshStep g table (fresh_of old) c body bytes (fresh_of new)
   step_fresh (Put name count) body bytes step = record { says = step.says; calls = ap calls_of (edits_keep name old new step.makes); tree = step.tree }
   step_fresh (Take name) body bytes step = record { says = step.says; asked = step.asked; calls = ap calls_of (edits_keep name old new step.makes) }
@@ -154,7 +154,7 @@ module _ (g : Graph) (limit : ℕ) (table : Table) (old new : State) (right : Is
 
 -- ---- a transcript
 
-pub run_fresh : (g : Graph) (limit : ℕ) (table : Table) (first last : State) (items : List Item) (replies : List (List ℕ)) → IsTrueFor table first.tools first.held.calls
+pub run_fresh : (g : Graph) (limit : ℕ) (table : Table) (first last : SessionState) (items : List Item) (replies : List (List ℕ)) → IsTrueFor table first.tools first.held.calls
     → Transcript commands (Step g limit) first items replies last → Transcript commands (FreshStep g table) (fresh_of first) items replies (fresh_of last)
 run_fresh g limit table first last [] [] right run = ap fresh_of run
 run_fresh g limit table first last [] (bytes ∷ replies) right run = absurd run

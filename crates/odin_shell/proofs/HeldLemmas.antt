@@ -10,11 +10,11 @@ use Rattle.meaning_run.proofs.Lemmas.{take-append}
 use Rattle.meaning_texts.specs.Lines.{HasNoLf, without_cr}
 use Rattle.meaning_texts.proofs.Lemmas.{HasNo-append}
 use Rattle.meaning_commands.specs.declared.commands.Command.{Command}
-use Rattle.meaning_commands.specs.Commands.{Spells, takes}
+use Rattle.meaning_commands.specs.Commands.{Spells, bytes_after_line}
 use Rattle.odin_shell.specs.declared.pending.Pending.{Pending}
 use Rattle.odin_shell.specs.declared.cutter.Cutter.{Cutter}
 use Rattle.odin_shell.specs.Language.{keeps_body, commands}
-use Rattle.odin_shell.specs.Held.{held_length, KeepsPart, Keeps, IsNew}
+use Rattle.odin_shell.specs.Held.{held_length, KeepsPart, Keeps, PendingIsNew}
 use Rattle.odin_shell.proofs.LineLemmas.{Spells-held}
 
 -- more than all is all
@@ -41,7 +41,7 @@ Keeps-line line line' part bytes room room_is is no_lf k =
     )
 
 -- the LF of a line whose command takes no bytes
-pub Keeps-ended : (line part : List ℕ) (command : Command) → Spells (without_cr line) command → takes command ≡ 0 → KeepsPart line None part
+pub Keeps-ended : (line part : List ℕ) (command : Command) → Spells (without_cr line) command → bytes_after_line command ≡ 0 → KeepsPart line None part
     → streams.IsMadeWhole commands Keeps part (10 ∷ []) command []
 Keeps-ended line part command s none k = record {
   item = record { line = part; body = [] };
@@ -51,10 +51,10 @@ Keeps-ended line part command s none k = record {
 }
 
 -- the LF of a line whose command takes bytes
-pub Keeps-begun : (line part : List ℕ) (command : Command) (held : Pending) → Spells (without_cr line) command → 0 < takes command → IsNew command held → KeepsPart line None part
+pub Keeps-begun : (line part : List ℕ) (command : Command) (held : Pending) → Spells (without_cr line) command → 0 < bytes_after_line command → PendingIsNew command held → KeepsPart line None part
     → KeepsPart [] (Some held) (part ++ 10 ∷ [])
 Keeps-begun line part command held s some is k =
-    let same : takes held.command ≡ takes command = ap takes is.command_is in
+    let same : bytes_after_line held.command ≡ bytes_after_line command = ap bytes_after_line is.command_is in
     let lacking = is.lacking in (
       refl,
       record {
@@ -77,7 +77,7 @@ pub Keeps-text : (line part bytes : List ℕ) (held held' : Pending) → held'.c
 Keeps-text line part bytes held held' command text missing k =
     let begun = k.1.begun in
     let all : length (begun.body ++ bytes) ≡ length begun.body + length bytes = length-append begun.body bytes in
-    let same : takes held'.command ≡ takes held.command = ap takes command in
+    let same : bytes_after_line held'.command ≡ bytes_after_line held.command = ap bytes_after_line command in
     let lacking = k.1.lacking in
     let some = held'.lacks in (
       k.0,
@@ -101,7 +101,7 @@ pub Keeps-last : (line part bytes : List ℕ) (held : Pending) (body : List ℕ)
 Keeps-last line part bytes held body last text k =
     let begun = k.1.begun in
     let lacking = k.1.lacking in
-    let size : length (begun.body ++ bytes) ≡ takes held.command = omega (arith, length-append begun.body bytes) in
+    let size : length (begun.body ++ bytes) ≡ bytes_after_line held.command = omega (arith, length-append begun.body bytes) in
     record {
       item = record { line = begun.line; body = begun.body ++ bytes };
       bytes_are = ap (λ t. t ++ bytes) begun.is ∙ append_assoc begun.line (10 ∷ begun.body) bytes;
@@ -118,14 +118,14 @@ Keeps-less held part k = by held.line held.pending k
     by line (Some held) k = inr (held.command, k.1.begun)
 
 -- the end of the input behind a line whose command takes no bytes
-pub Keeps-last_line : (line part : List ℕ) (pending : Option Pending) (command : Command) → pending ≡ None → Spells (without_cr line) command → takes command ≡ 0 → KeepsPart line pending part
+pub Keeps-last_line : (line part : List ℕ) (pending : Option Pending) (command : Command) → pending ≡ None → Spells (without_cr line) command → bytes_after_line command ≡ 0 → KeepsPart line pending part
     → items.IsItem commands (last_item part) command
 Keeps-last_line line part pending command e s none k =
     let held = subst (λ p. KeepsPart line p part) e k in
     record { no_lf = held.0; spelled = Spells-held command line part held.1 s; size = sym none }
 
 -- the end of the input inside a command
-pub Keeps-unended : (line part : List ℕ) (pending : Option Pending) (command : Command) → pending ≡ None → Spells (without_cr line) command → 0 < takes command → KeepsPart line pending part
+pub Keeps-unended : (line part : List ℕ) (pending : Option Pending) (command : Command) → pending ≡ None → Spells (without_cr line) command → 0 < bytes_after_line command → KeepsPart line pending part
     → items.IsCutShort commands part
 Keeps-unended line part pending command e s some k =
     let held = subst (λ p. KeepsPart line p part) e k in

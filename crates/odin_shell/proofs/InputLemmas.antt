@@ -19,27 +19,27 @@ use Rattle.odin_shell.specs.Endings.{ending_of}
 use Rattle.odin_shell.specs.Filed.{DiskMeaning}
 use Rattle.odin_shell.specs.Held.{Keeps}
 use Rattle.odin_shell.specs.Language.{commands}
-use Rattle.odin_shell.specs.Machine.{State, at_first, Told, machine as machine_of, halt_of, stopped}
+use Rattle.odin_shell.specs.Machine.{SessionState, at_first, Told, machine as machine_of, halt_of, told_with_stop}
 use Rattle.odin_shell.specs.Objects.{SourceTold}
-use Rattle.odin_shell.specs.Served.{MayServe, IsOnward, Counts}
-use Rattle.odin_shell.specs.Sessions.{Goes, StopsIn, Finishes, StopsAtEnd, Reads}
-use Rattle.odin_shell.specs.Begun.{MayBegin, BeginsWith, SessionServes}
+use Rattle.odin_shell.specs.Served.{MayServe, IsOnward, CountsStop}
+use Rattle.odin_shell.specs.Sessions.{AdvancesSession, StopsSession, FinishesSession, StopsSessionAtEnd, ReadsSessionInput}
+use Rattle.odin_shell.specs.Begun.{MayBeginSession, SessionBegins, SessionServes}
 use Rattle.odin_shell.proofs.HeldLemmas.{Keeps-less}
 use Rattle.odin_shell.proofs.StateLemmas.{rests}
 use Rattle.odin_shell.proofs.ServeLemmas.{onward_none, onward_on}
 use Rattle.odin_shell.proofs.SessionLemmas.{reads_none, stopped_leaves, stopped_input, stopped_disk}
 
 module _ {D : Type 0} (disk : DiskMeaning D) where
-  abbrev machine : Graph → Text → ℕ → Machine Command Engaged State (Told D)
+  abbrev machine : Graph → Text → ℕ → Machine Command Engaged SessionState (Told D)
   machine = machine_of disk
 
   -- The session has read so many bytes of its input, whatever it began with; so many edits were made at most, and no tool runs.
   pub record IsAt (code : Engaged) (before : Told D) (input left : Option (List ℕ)) (count : ℕ) (now : Told D) (session : Session) : Type 0 where
-    pub reads : (g : Graph) (text : Text) (limit : ℕ) (held : Held) (start : Told D) → BeginsWith disk g text limit held start code before → Reads disk g text limit held start input left count now session
+    pub reads : (g : Graph) (text : Text) (limit : ℕ) (held : Held) (start : Told D) → SessionBegins disk g text limit held start code before → ReadsSessionInput disk g text limit held start input left count now session
     pub onward : IsOnward disk count code session.engine before.disk now.disk
     pub idle : now.tools.running ≡ []
 
-  pub none_read : (code : Engaged) (before : Told D) (left : Option (List ℕ)) (session : Session) → MayBegin code (disk.size before.disk) before.tools → session.engine ≡ code → Keeps session.cutter [] → IsAt code before left left 0 before session
+  pub none_read : (code : Engaged) (before : Told D) (left : Option (List ℕ)) (session : Session) → MayBeginSession code (disk.size before.disk) before.tools → session.engine ≡ code → Keeps session.cutter [] → IsAt code before left left 0 before session
   none_read code before left session may same keeps = record {
     reads = λ g text limit held start begins.
         subst (λ (e : Engaged). streams.Reading commands Keeps (machine g text limit) (at_first held start.tools start.tree) start left left 0 before e session.cutter) (sym same)
@@ -54,7 +54,7 @@ module _ {D : Type 0} (disk : DiskMeaning D) where
 
   module _ (code : Engaged) (before : Told D) where
     pub piece_read : (input left left' : Option (List ℕ)) (count n : ℕ) (now now' : Told D) (session session' : Session) (piece : List ℕ) → IsAt code before input left count now session → left ≡ prepended piece left' → length piece ≡ n
-        → Goes disk piece now session now' session' → IsOnward disk n session.engine session'.engine now.disk now'.disk → IsAt code before input left' (count + n) now' session'
+        → AdvancesSession disk piece now session now' session' → IsOnward disk n session.engine session'.engine now.disk now'.disk → IsAt code before input left' (count + n) now' session'
     piece_read input left left' count n now now' session session' piece at is size goes onward = record {
       reads = λ g text limit held start begins.
           Reading-more commands Keeps (machine g text limit) (at_first held start.tools start.tree) start now now' input left left' count n session.engine session'.engine session.cutter session'.cutter piece (at.reads g text limit held start begins) is size (goes.over g text limit);
@@ -63,7 +63,7 @@ module _ {D : Type 0} (disk : DiskMeaning D) where
     }
 
     -- so many commands may be served more
-    pub may_serve : (input left : Option (List ℕ)) (count n : ℕ) (now : Told D) (session : Session) → MayBegin code (disk.size before.disk) before.tools → count + n ≤ input_limit → IsAt code before input left count now session
+    pub may_serve : (input left : Option (List ℕ)) (count n : ℕ) (now : Told D) (session : Session) → MayBeginSession code (disk.size before.disk) before.tools → count + n ≤ input_limit → IsAt code before input left count now session
         → MayServe n session.engine (disk.size now.disk) now.tools
     may_serve input left count n now session may few at =
         let first = may.first in
@@ -83,7 +83,7 @@ module _ {D : Type 0} (disk : DiskMeaning D) where
       })
 
       module _ (small : count < input_limit) (buffer : List ℕ) (is : mid ≡ prepended (take n buffer) left.left) (none : n ≡ 0) (spent : IsSpent left.left) (read : left.faults ≡ input.faults) where
-        pub ends_whole : Finishes disk finish.Whole now session after → disk.faults after.disk ≡ disk.faults now.disk → SessionServes disk code input left before after ending.Whole
+        pub ends_whole : FinishesSession disk finish.Whole now session after → disk.faults after.disk ≡ disk.faults now.disk → SessionServes disk code input left before after ending.Whole
         ends_whole done unfailed = record {
           leaves = λ g text limit held start begins.
               inl (HasRead-finish commands Keeps (machine g text limit) (EndsWhole commands (machine g text limit)) (at_first held start.tools start.tree) start now after input.left mid left.left count n session.engine session.cutter buffer (at.reads g text limit held start begins) small is none spent (done.over g text limit));
@@ -92,7 +92,7 @@ module _ {D : Type 0} (disk : DiskMeaning D) where
           idle = λ other. done.idle;
         }
 
-        pub ends_inside : Finishes disk finish.CutShort now session after → disk.faults after.disk ≡ disk.faults now.disk → SessionServes disk code input left before after ending.CutShort
+        pub ends_inside : FinishesSession disk finish.CutShort now session after → disk.faults after.disk ≡ disk.faults now.disk → SessionServes disk code input left before after ending.CutShort
         ends_inside done unfailed = record {
           leaves = λ g text limit held start begins.
               HasRead-finish commands Keeps (machine g text limit) (EndsCutShort commands (machine g text limit)) (at_first held start.tools start.tree) start now after input.left mid left.left count n session.engine session.cutter buffer (at.reads g text limit held start begins) small is none spent (done.over g text limit);
@@ -102,11 +102,11 @@ module _ {D : Type 0} (disk : DiskMeaning D) where
         }
 
         -- it stopped at the last line
-        pub ends_last : (stop : Stop) → StopsAtEnd disk stop now session after → Counts stop (disk.faults now.disk) (disk.faults after.disk) → after.over ≡ None → SessionServes disk code input left before after (ending_of stop)
+        pub ends_last : (stop : Stop) → StopsSessionAtEnd disk stop now session after → CountsStop stop (disk.faults now.disk) (disk.faults after.disk) → after.over ≡ None → SessionServes disk code input left before after (ending_of stop)
         ends_last stop done counted within = record {
           leaves = λ g text limit held start begins.
               stopped_leaves disk g text limit held input left start after stop
-              (HasRead-finish commands Keeps (machine g text limit) (EndsStopped commands (machine g text limit) (halt_of stop)) (at_first held start.tools start.tree) start now (stopped stop after) input.left mid left.left count n session.engine session.cutter buffer (at.reads g text limit held start begins) small is none spent (done.over g text limit))
+              (HasRead-finish commands Keeps (machine g text limit) (EndsStopped commands (machine g text limit) (halt_of stop)) (at_first held start.tools start.tree) start now (told_with_stop stop after) input.left mid left.left count n session.engine session.cutter buffer (at.reads g text limit held start begins) small is none spent (done.over g text limit))
               within;
           read = stopped_input stop input.faults left.faults read;
           counted = stopped_disk stop (disk.faults before.disk) (disk.faults now.disk) (disk.faults after.disk) at.onward.faults counted;
@@ -114,12 +114,12 @@ module _ {D : Type 0} (disk : DiskMeaning D) where
         }
 
       -- it stopped on a piece
-      pub ends_piece : (stop : Stop) (piece : List ℕ) → mid ≡ prepended piece left.left → length piece ≡ n → count + n ≤ input_limit → n ≤ piece_limit → left.faults ≡ input.faults → StopsIn disk stop piece now session after
-          → Counts stop (disk.faults now.disk) (disk.faults after.disk) → after.over ≡ None → SessionServes disk code input left before after (ending_of stop)
+      pub ends_piece : (stop : Stop) (piece : List ℕ) → mid ≡ prepended piece left.left → length piece ≡ n → count + n ≤ input_limit → n ≤ piece_limit → left.faults ≡ input.faults → StopsSession disk stop piece now session after
+          → CountsStop stop (disk.faults now.disk) (disk.faults after.disk) → after.over ≡ None → SessionServes disk code input left before after (ending_of stop)
       ends_piece stop piece is size within few read done counted none = record {
         leaves = λ g text limit held start begins.
             stopped_leaves disk g text limit held input left start after stop
-            (HasRead-piece commands Keeps (machine g text limit) (halt_of stop) (at_first held start.tools start.tree) start now (stopped stop after) input.left mid left.left count n session.engine session.cutter piece (at.reads g text limit held start begins) is size within few (done.over g text limit))
+            (HasRead-piece commands Keeps (machine g text limit) (halt_of stop) (at_first held start.tools start.tree) start now (told_with_stop stop after) input.left mid left.left count n session.engine session.cutter piece (at.reads g text limit held start begins) is size within few (done.over g text limit))
             none;
         read = stopped_input stop input.faults left.faults read;
         counted = stopped_disk stop (disk.faults before.disk) (disk.faults now.disk) (disk.faults after.disk) at.onward.faults counted;

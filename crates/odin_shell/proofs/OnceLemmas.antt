@@ -10,7 +10,7 @@ use Rattle.object_values.specs.contracts.calls.CallPartialEq.TheImpl.{ghosts as 
 use Rattle.object_values.specs.Exact.{call_exact}
 use Rattle.odin_outside.specs.Disk.{MayLeave as MayBeLeft, IsQuiet}
 use Rattle.odin_outside.specs.Spawned.{Spawned}
-use Rattle.disk_trails.specs.Trails.{after, IsPrefix}
+use Rattle.disk_trails.specs.Trails.{after_changes, IsPrefix}
 use Rattle.meaning_texts.specs.Lists.{IsIn}
 use Rattle.meaning_texts.proofs.Lemmas.{in_either, in_map}
 use Rattle.meaning_calls.specs.Jobs.{job_of}
@@ -36,8 +36,8 @@ use Rattle.odin_answers.specs.Laws.{AskedAgain}
 use Rattle.odin_answers.proofs.Lemmas.{kept_first}
 use Rattle.odin_shell.specs.Filed.{DiskMeaning}
 use Rattle.odin_shell.specs.Language.{commands}
-use Rattle.odin_shell.specs.Machine.{State, Told, Step, IsLeft}
-use Rattle.odin_shell.specs.Laws.{IsMade}
+use Rattle.odin_shell.specs.Machine.{SessionState, Told, Step, StateAtExit}
+use Rattle.odin_shell.specs.Laws.{ChangesAreMade}
 use Rattle.odin_shell.specs.Once.{CameOnce, IsAcknowledged, GoesBeyond, StaysAnswered}
 use Rattle.odin_shell.proofs.MadeLemmas.{after_both, kept_calls, edits_keep, step_made, is_made, left_made, made_on}
 use Rattle.odin_shell.proofs.CrashLemmas.{grows}
@@ -140,7 +140,7 @@ module _ (g : Graph) (s : Sources) (kept : Calls) (limit : ℕ) (text : Text) (s
 
 -- ---- over a session
 
-none_came : (old new : State) → new.held.calls ≡ old.held.calls → new.tools ≡ old.tools → CameOnce old new
+none_came : (old new : SessionState) → new.held.calls ≡ old.held.calls → new.tools ≡ old.tools → CameOnce old new
 none_came old new same tools = record {
   came = [];
   kept = same ∙ sym (append-nil old.held.calls);
@@ -149,14 +149,14 @@ none_came old new same tools = record {
 }
 
 -- the same, of a state that is the same
-none_done : (old new : State) → new ≡ old → CameOnce old new
-none_done old new same = none_came old new (ap (λ (s : State). s.held.calls) same) (ap (λ (s : State). s.tools) same)
+none_done : (old new : SessionState) → new ≡ old → CameOnce old new
+none_done old new same = none_came old new (ap (λ (s : SessionState). s.held.calls) same) (ap (λ (s : SessionState). s.tools) same)
 
 jobs_both : (calls more : Calls) → ◌≡◌ {A = List Job} (map job_of (calls_of (calls ++ more))) (map job_of (calls_of calls) ++ map job_of (calls_of more))
 jobs_both [] more = refl
 jobs_both (x ∷ calls) more = ap (λ (l : List Job). job_of x.0 ∷ l) (jobs_both calls more)
 
-came_both : (first mid last : State) → CameOnce first mid → CameOnce mid last → CameOnce first last
+came_both : (first mid last : SessionState) → CameOnce first mid → CameOnce mid last → CameOnce first last
 came_both first mid last a b = record {
   came = a.came ++ b.came;
   kept = b.kept ∙ ap (λ l. l ++ b.came) a.kept ∙ append_assoc first.held.calls a.came b.came;
@@ -165,7 +165,7 @@ came_both first mid last a b = record {
       (log_both first.tools.log mid.tools.log last.tools.log (map job_of (calls_of a.came)) (map job_of (calls_of b.came)) a.log b.log);
 }
 
-step_once : (g : Graph) (limit : ℕ) (old : State) (c : Command) (body bytes : List ℕ) (new : State) → Step g limit old c body bytes new → CameOnce old new
+step_once : (g : Graph) (limit : ℕ) (old : SessionState) (c : Command) (body bytes : List ℕ) (new : SessionState) → Step g limit old c body bytes new → CameOnce old new
 step_once g limit old (Put name count) body bytes new step = none_came old new (edits_keep name old new step.makes) step.tools
 step_once g limit old (Take name) body bytes new step = none_came old new (edits_keep name old new step.makes) step.tools
 step_once g limit old (Remove name) body bytes new step = none_came old new (edits_keep name old new step.makes) step.tools
@@ -183,7 +183,7 @@ step_once g limit old Nothing body bytes new step = none_done old new step.1
 step_once g limit old Bad body bytes new step = none_done old new step.1
 step_once g limit old (BadName count) body bytes new step = none_done old new step.1
 
-pub came_once : (g : Graph) (limit : ℕ) (first last : State) (items : List Item) (replies : List (List ℕ)) → Transcript commands (Step g limit) first items replies last → CameOnce first last
+pub came_once : (g : Graph) (limit : ℕ) (first last : SessionState) (items : List Item) (replies : List (List ℕ)) → Transcript commands (Step g limit) first items replies last → CameOnce first last
 came_once g limit first last [] [] run = none_done first last run
 came_once g limit first last [] (bytes ∷ replies) run = absurd run
 came_once g limit first last (item ∷ items) [] run = absurd run
@@ -192,9 +192,9 @@ came_once g limit first last (item ∷ items) (bytes ∷ replies) run =
 
 -- ---- behind a crash
 
-beyond_made : (g : Graph) (limit : ℕ) (acknowledged furthest : State) → GoesBeyond g limit acknowledged furthest → IsMade acknowledged furthest
+beyond_made : (g : Graph) (limit : ℕ) (acknowledged furthest : SessionState) → GoesBeyond g limit acknowledged furthest → ChangesAreMade acknowledged furthest
 beyond_made g limit acknowledged furthest (GoesBeyond.no_more same) =
-    record { made = []; list = ap (λ (s : State). s.changes) same ∙ sym (append-nil acknowledged.changes); held = ap (λ (s : State). s.held) same }
+    record { made = []; list = ap (λ (s : SessionState). s.changes) same ∙ sym (append-nil acknowledged.changes); held = ap (λ (s : SessionState). s.held) same }
 beyond_made g limit acknowledged furthest (GoesBeyond.unreplied item command is may) = left_made g limit acknowledged furthest command item.body may
 beyond_made g limit acknowledged furthest (GoesBeyond.cut_off item reply a) = step_made g limit acknowledged a.command item.body reply furthest a.step
 
@@ -202,19 +202,19 @@ beyond_made g limit acknowledged furthest (GoesBeyond.cut_off item reply a) = st
 first_changes : (made more : List Change) (k : ℕ) → length made ≤ k → take k (made ++ more) ≡ made ++ take (k - length made) more
 first_changes made more k least = ap (λ n. take n (made ++ more)) (let e : k ≡ length made + (k - length made) = omega (arith, least) in e) ∙ take-append-add made more (k - length made)
 
-module _ (again : AskedAgain) (g : Graph) (limit : ℕ) (text : Text) (reply : Reply) (first acknowledged furthest : State) (none : first.changes ≡ []) (beyond : GoesBeyond g limit acknowledged furthest)
+module _ (again : AskedAgain) (g : Graph) (limit : ℕ) (text : Text) (reply : Reply) (first acknowledged furthest : SessionState) (none : first.changes ≡ []) (beyond : GoesBeyond g limit acknowledged furthest)
     (a : IsAcknowledged g limit text reply first acknowledged) where
   abbrev sources : Sources
   sources = a.old.held.sources
 
   -- what made the state behind the answer, and what came behind it
-  before_it : IsMade first a.mid
+  before_it : ChangesAreMade first a.mid
   before_it = made_on first a.old a.mid (is_made g limit first a.old a.front a.replies a.begins) (record { made = keeps_of a.given; list = a.makes.list; held = a.makes.held })
 
-  to_acknowledged : IsMade a.mid acknowledged
+  to_acknowledged : ChangesAreMade a.mid acknowledged
   to_acknowledged = is_made g limit a.mid acknowledged a.back a.others a.goes
 
-  behind_it : IsMade a.mid furthest
+  behind_it : ChangesAreMade a.mid furthest
   behind_it = made_on a.mid acknowledged furthest to_acknowledged (beyond_made g limit acknowledged furthest beyond)
 
   mid_changes : a.mid.changes ≡ before_it.made
@@ -232,18 +232,18 @@ module _ (again : AskedAgain) (g : Graph) (limit : ℕ) (text : Text) (reply : R
 
   module _ (k : ℕ) (least : length acknowledged.changes ≤ k) where
     abbrev held : Held
-    held = after store_keeping (take k furthest.changes) first.held
+    held = after_changes store_keeping (take k furthest.changes) first.held
 
     abbrev rest : List Change
     rest = take (k - length before_it.made) behind_it.made
 
-    held_is : held ≡ after store_keeping rest a.mid.held
+    held_is : held ≡ after_changes store_keeping rest a.mid.held
     held_is =
         let enough : length before_it.made ≤ k = (let long = long_enough in omega (arith, long, least)) in
-        ap (λ l. after store_keeping (take k l) first.held) furthest_changes
-        ∙ ap (λ l. after store_keeping l first.held) (first_changes before_it.made behind_it.made k enough)
+        ap (λ l. after_changes store_keeping (take k l) first.held) furthest_changes
+        ∙ ap (λ l. after_changes store_keeping l first.held) (first_changes before_it.made behind_it.made k enough)
         ∙ after_both before_it.made rest first.held
-        ∙ ap (after store_keeping rest) (sym before_it.held)
+        ∙ ap (after_changes store_keeping rest) (sym before_it.held)
 
     mid_calls : a.mid.held.calls ≡ a.old.held.calls ++ a.given
     mid_calls = ap (λ (h : Held). h.calls) a.makes.held ∙ kept_calls a.given a.old.held
@@ -262,8 +262,8 @@ module _ (again : AskedAgain) (g : Graph) (limit : ℕ) (text : Text) (reply : R
         a.answer (agrees some.k some.at_least) is;
   }
 
-pub survives : AskedAgain → {D : Type 0} (disk : DiskMeaning D) (g : Graph) (graph_text : Text) (limit : ℕ) (first : State) (start : Told D) (acknowledged furthest : State) (now : Told D)
-    → first.changes ≡ [] → IsQuiet (disk.told start.disk) → GoesBeyond g limit acknowledged furthest → IsLeft disk g graph_text limit first start acknowledged furthest now
+pub survives : AskedAgain → {D : Type 0} (disk : DiskMeaning D) (g : Graph) (graph_text : Text) (limit : ℕ) (first : SessionState) (start : Told D) (acknowledged furthest : SessionState) (now : Told D)
+    → first.changes ≡ [] → IsQuiet (disk.told start.disk) → GoesBeyond g limit acknowledged furthest → StateAtExit disk g graph_text limit first start acknowledged furthest now
     → (text : Text) (reply : Reply) → (a : IsAcknowledged g limit text reply first acknowledged) → (image : List ℕ) → MayBeLeft (disk.told now.disk) image → StaysAnswered g text a.old.held.sources image
 survives again disk g graph_text limit first start acknowledged furthest now none quiet beyond left text reply a image may =
     let safe = left.safe.crash quiet in

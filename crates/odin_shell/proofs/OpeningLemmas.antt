@@ -9,23 +9,23 @@ use Rattle.meaning_records.specs.Stands.{gate_behind}
 use Rattle.odin_store.specs.Held.{StandsFor}
 use Rattle.odin_store.specs.Keeping.{KeepsChanges}
 use Rattle.odin_store.specs.OnDisk.{held_in, state_in, IsOn}
-use Rattle.odin_store.specs.Opening.{Opens, OpensQuiet, LeavesOpening}
+use Rattle.odin_store.specs.Opening.{OpensStore, OpensQuietStore, LeavesOpening}
 use Rattle.odin_store.specs.Written.{written_in, with_records, record_keeping}
 use Rattle.odin_store.specs.Going.{AreBatches}
 use Rattle.odin_store.proofs.Lemmas.{nothing_behind}
 use Rattle.odin_engine.specs.Engaged.{Engaged, IsLimit}
-use Rattle.odin_engine.specs.Opened.{IsNew}
+use Rattle.odin_engine.specs.Opened.{EngineIsNew}
 use Rattle.odin_shell.specs.declared.ending.Ending.{Ending}
 use Rattle.odin_shell.specs.Filed.{DiskMeaning, HasWritten}
 use Rattle.odin_shell.specs.Machine.{Told}
-use Rattle.odin_shell.specs.Begun.{BeginsWith, SessionServes}
+use Rattle.odin_shell.specs.Begun.{SessionBegins, SessionServes}
 use Rattle.odin_shell.specs.Objects.{SourceTold}
 use Rattle.odin_shell.specs.Run.{DiskCount, SessionEnds}
 use Rattle.odin_shell.proofs.StateLemmas.{same_tools, same_tree, idle_few}
 
 -- ---- what the file has behind the opening
 
-module _ (text : Text) (old new : Telling) (engine : Engaged) (opens : Opens text old new engine.store) where
+module _ (text : Text) (old new : Telling) (engine : Engaged) (opens : OpensStore text old new engine.store) where
   pub written_first : Trail record_keeping opens.records old opens.opening engine.store new → HasWritten text [] old engine.store new
   written_first trail =
       let all : opens.opening ≡ opens.opening ++ [] = sym (nothing_behind opens.opening) in
@@ -59,9 +59,9 @@ module _ (text : Text) (old new : Telling) (engine : Engaged) (opens : Opens tex
 -- ---- the session
 
 module _ {D : Type 0} (disk : DiskMeaning D) (keeping : KeepsChanges disk.told) (g : Graph) (text : Text) (limit : ℕ) (engine : Engaged) (start before : Told D) where
-  pub begins : IsLimit limit → start.tools.running ≡ [] → before.sink ≡ start.sink → before.tools ≡ start.tools → before.tree ≡ start.tree → before.over ≡ None → OpensQuiet text (disk.told start.disk) (disk.told before.disk) engine.store
-      → LeavesOpening text (disk.told start.disk) (disk.told before.disk) → IsNew g limit (disk.size before.disk) engine → disk.faults before.disk ≡ disk.faults start.disk
-      → BeginsWith disk g text limit (held_in engine.store) start engine before
+  pub begins : IsLimit limit → start.tools.running ≡ [] → before.sink ≡ start.sink → before.tools ≡ start.tools → before.tree ≡ start.tree → before.over ≡ None → OpensQuietStore text (disk.told start.disk) (disk.told before.disk) engine.store
+      → LeavesOpening text (disk.told start.disk) (disk.told before.disk) → EngineIsNew g limit (disk.size before.disk) engine → disk.faults before.disk ≡ disk.faults start.disk
+      → SessionBegins disk g text limit (held_in engine.store) start engine before
   begins most idle sink tools tree within opens leaves new faults = record {
     sink = sink;
     fits = record {
@@ -82,7 +82,7 @@ module _ {D : Type 0} (disk : DiskMeaning D) (keeping : KeepsChanges disk.told) 
     };
   }
 
-  pub session_ends : (input left : SourceTold) (after : Told D) (due : Ending) → OpensQuiet text (disk.told start.disk) (disk.told before.disk) engine.store → BeginsWith disk g text limit (held_in engine.store) start engine before
+  pub session_ends : (input left : SourceTold) (after : Told D) (due : Ending) → OpensQuietStore text (disk.told start.disk) (disk.told before.disk) engine.store → SessionBegins disk g text limit (held_in engine.store) start engine before
       → disk.faults before.disk ≡ disk.faults start.disk → SessionServes disk engine input left before after due → SessionEnds disk g text limit input left start after due
   session_ends input left after due opens begins faults served = record {
     held = held_in engine.store;

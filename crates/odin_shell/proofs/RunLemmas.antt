@@ -8,9 +8,9 @@ use Rattle.meaning_graph.specs.Graphs.{Text}
 use Rattle.odin_shell.specs.declared.ending.Ending.{Ending}
 use Rattle.odin_shell.specs.declared.ending.Ending.TheVariants.{Whole, CutShort, BadGraph, Disk, Memory, Output, Input, NotOurs, Full, Usage, TooLong, Loaded, Room}
 use Rattle.odin_shell.specs.declared.graph.Opened.{Opened}
-use Rattle.odin_shell.specs.Endings.{status_of}
+use Rattle.odin_shell.specs.Endings.{ending_status}
 use Rattle.odin_words.specs.Asked.{AsksFor, Serve}
-use Rattle.odin_shell.specs.Opened.{Opens}
+use Rattle.odin_shell.specs.Opened.{OpensGraphFile}
 use Rattle.source_edits.specs.Edits.{TreeTold, TreeStays, tree_of}
 use Rattle.odin_shell.specs.Machine.{ToolsStay}
 use Rattle.odin_shell.specs.Objects.{Outside, Meaning}
@@ -31,8 +31,8 @@ module _ {I O T S D : Type 0} (m : Meaning I O T S D) (words : List Text) (befor
   asks name jobs opened named once kept later = record { name = name; jobs = jobs; named = named; asked = record { stays = record { files = kept; later = later }; once = once } }
 
   -- and gave it
-  abbrev pub gives : (name : Text) (jobs : ℕ) (opened : TreeTold) (o : Opened) → AsksFor words (Serve name) jobs → (opens : Opens (m.files before.tree) name o) → opened.reads ≡ once_more (m.reads before.tree) → opened.files ≡ m.files before.tree
-      → m.tree_faults before.tree ≤ opened.faults → opened.faults ≡ m.tree_faults before.tree → run.Gives m words before after opened opens.given
+  abbrev pub gives : (name : Text) (jobs : ℕ) (opened : TreeTold) (o : Opened) → AsksFor words (Serve name) jobs → (opens : OpensGraphFile (m.files before.tree) name o) → opened.reads ≡ once_more (m.reads before.tree) → opened.files ≡ m.files before.tree
+      → m.tree_faults before.tree ≤ opened.faults → opened.faults ≡ m.tree_faults before.tree → run.TreeGives m words before after opened opens.given
   gives name jobs opened o named opens once kept later unfailed = record { asks = record { name = name; jobs = jobs; named = named; asked = record { stays = record { files = kept; later = later }; once = once } }; is = opens.is; unfailed = unfailed }
 
   reads_of : (opened : TreeTold) (ending : Ending) → InputCount ending (m.input_faults before.input) (m.input_faults after.input) → opened.faults ≡ m.tree_faults before.tree → run.ReadCounts m words before after opened ending
@@ -116,7 +116,7 @@ module _ {I O T S D : Type 0} (m : Meaning I O T S D) (words : List Text) (befor
   reads opened ending (run.graph_read text g mid given same is ends) =
       reads_of opened ending (subst (λ n. InputCount ending n (m.input_faults after.input)) (ap (λ (o : Outside I O T S D). m.input_faults o.input) same) (store_input m text g given.gives.asks.jobs mid after ending ends)) given.gives.unfailed
 
-  pub run_ends : (ending : Ending) (status : ℕ) → status ≡ status_of ending → run.Ended m words before after ending → run.RunEnds m words before after status
+  pub run_ends : (ending : Ending) (status : ℕ) → status ≡ ending_status ending → run.Ended m words before after ending → run.RunEnds m words before after status
   run_ends ending status is ended = record {
     ending = ending;
     status_is = is;

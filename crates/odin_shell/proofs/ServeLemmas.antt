@@ -4,7 +4,7 @@ use Rattle.odin_outside.specs.Spawned.{Spawned}
 use Rattle.meaning_graph.specs.Graphs.{Text, Graph}
 use Rattle.meaning_run.specs.Objects.{SinkTold, took, TookPart}
 use Rattle.meaning_commands.specs.Commands.{ends_run}
-use Rattle.odin_journal.specs.Faults.{IsCauseOf}
+use Rattle.odin_journal.specs.Faults.{CountAfterJournalFault}
 use Rattle.odin_journal.specs.Rest.{IsReady}
 use Rattle.odin_journal.specs.declared.fault.JournalFault.{JournalFault}
 use Rattle.odin_journal.specs.declared.fault.JournalFault.TheVariants as fault
@@ -15,9 +15,9 @@ use Rattle.odin_shell.specs.declared.stop.Stop.{Stop}
 use Rattle.odin_shell.specs.declared.stop.Stop.TheVariants as stop
 use Rattle.odin_shell.specs.Endings.{stop_of}
 use Rattle.odin_shell.specs.Filed.{DiskMeaning}
-use Rattle.odin_shell.specs.Machine.{State, Told, Belongs, IsLeft}
-use Rattle.odin_shell.specs.Served.{telling, MayServe, IsOnward, Counts, Answers, Halts}
-use Rattle.odin_shell.specs.Sessions.{Serves, StopsServing}
+use Rattle.odin_shell.specs.Machine.{SessionState, Told, SessionInvariant, StateAtExit}
+use Rattle.odin_shell.specs.Served.{telling, MayServe, IsOnward, CountsStop, Answers, HaltsCommand}
+use Rattle.odin_shell.specs.Sessions.{ServesInSession, StopsServingInSession}
 use Rattle.odin_shell.proofs.StateLemmas.{rests}
 
 -- ---- how many edits were made
@@ -54,19 +54,19 @@ module _ {D : Type 0} (disk : DiskMeaning D) where
       record { ready = onward.ready; early = omega (arith, within, early, one); idle = idle }
 
 -- a stop counts what its fault does
-pub counts_of : (why : JournalFault) (before now : ℕ) → before ≤ now → IsCauseOf before now why → Counts (stop_of why) before now
+pub counts_of : (why : JournalFault) (before now : ℕ) → before ≤ now → CountAfterJournalFault before now why → CountsStop (stop_of why) before now
 counts_of fault.Disk before now later cause = record { later = later; rose = cause }
 counts_of (fault.NotOurs at) before now later cause = cause
 counts_of (fault.Full at size) before now later cause = cause
 counts_of fault.Memory before now later cause = cause
 
-pub counted_behind : (s : Stop) (first mid last : ℕ) → mid ≡ first → Counts s mid last → Counts s first last
-counted_behind s first mid last same counted = subst (λ n. Counts s n last) same counted
+pub counted_behind : (s : Stop) (first mid last : ℕ) → mid ≡ first → CountsStop s mid last → CountsStop s first last
+counted_behind s first mid last same counted = subst (λ n. CountsStop s n last) same counted
 
 module _ {D : Type 0} (disk : DiskMeaning D) where
   -- what the sink took is no part of it
-  module _ (g : Graph) (text : Text) (limit : ℕ) (first : State) (start : Told D) (s s' : SinkTold) (tools : Spawned) (tree : TreeTold) (d : D) where
-    on_sink : (code : Engaged) (state : State) → Belongs disk g text limit first start code state (telling s tools tree d) → Belongs disk g text limit first start code state (telling s' tools tree d)
+  module _ (g : Graph) (text : Text) (limit : ℕ) (first : SessionState) (start : Told D) (s s' : SinkTold) (tools : Spawned) (tree : TreeTold) (d : D) where
+    on_sink : (code : Engaged) (state : SessionState) → SessionInvariant disk g text limit first start code state (telling s tools tree d) → SessionInvariant disk g text limit first start code state (telling s' tools tree d)
     on_sink code state fits = record {
       graph = fits.graph;
       jobs = fits.jobs;
@@ -84,7 +84,7 @@ module _ {D : Type 0} (disk : DiskMeaning D) where
       within = refl;
     }
 
-    left_sink : (state furthest : State) → IsLeft disk g text limit first start state furthest (telling s tools tree d) → IsLeft disk g text limit first start state furthest (telling s' tools tree d)
+    left_sink : (state furthest : SessionState) → StateAtExit disk g text limit first start state furthest (telling s tools tree d) → StateAtExit disk g text limit first start state furthest (telling s' tools tree d)
     left_sink state furthest left = record {
       tools = left.tools;
       tree = left.tree;
@@ -108,7 +108,7 @@ module _ {D : Type 0} (disk : DiskMeaning D) where
     after = telling s' tools' tree' d'
 
     module _ (is : given ≡ reply) (answers : Answers disk code whole.command whole.body before reply code' mid) (idle : tools'.running ≡ []) where
-      pub serves : ends_run whole.command ≡ false → s' ≡ took s given → Serves disk code code' whole before after
+      pub serves : ends_run whole.command ≡ false → s' ≡ took s given → ServesInSession disk code code' whole before after
       serves on wrote = record {
         on = on;
         rests = record {
@@ -125,7 +125,7 @@ module _ {D : Type 0} (disk : DiskMeaning D) where
         };
       }
 
-      pub stops_reply : TookPart given s s' → StopsServing disk stop.Output code whole before after
+      pub stops_reply : TookPart given s s' → StopsServingInSession disk stop.Output code whole before after
       stops_reply wrote = record {
         idle = λ other. idle;
         over = λ g text limit first start state body same fits.
@@ -139,7 +139,7 @@ module _ {D : Type 0} (disk : DiskMeaning D) where
             };
       }
 
-      pub stops_quit : ends_run whole.command ≡ true → s' ≡ took s given → StopsServing disk stop.Quit code whole before after
+      pub stops_quit : ends_run whole.command ≡ true → s' ≡ took s given → StopsServingInSession disk stop.Quit code whole before after
       stops_quit ends wrote = record {
         idle = λ other. idle;
         over = λ g text limit first start state body same fits.
@@ -155,7 +155,7 @@ module _ {D : Type 0} (disk : DiskMeaning D) where
       }
 
   module _ (code : Engaged) (whole : Whole) (s : SinkTold) (tools tools' : Spawned) (tree tree' : TreeTold) (d d' : D) where
-    pub stops_answer : (why : JournalFault) → Halts disk code whole.command whole.body (telling s tools tree d) why (telling s tools' tree' d') → StopsServing disk (stop_of why) code whole (telling s tools tree d) (telling s tools' tree' d')
+    pub stops_answer : (why : JournalFault) → HaltsCommand disk code whole.command whole.body (telling s tools tree d) why (telling s tools' tree' d') → StopsServingInSession disk (stop_of why) code whole (telling s tools tree d) (telling s tools' tree' d')
     stops_answer fault.Disk halts = record {
       idle = λ stays. absurd (stays tt);
       over = λ g text limit first start state body same fits. (let left = halts g text limit first start state body same fits in record { furthest = left.furthest; may = left.may; wrote = refl; exit = left.exit });

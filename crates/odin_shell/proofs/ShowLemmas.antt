@@ -12,20 +12,20 @@ use Rattle.odin_answers.specs.declared.plan.Planned.TheVariants as planned
 use Rattle.odin_answers.specs.Planned.{HasSteps, IsPlanned}
 use Rattle.odin_store.specs.Held.{Held}
 use Rattle.odin_engine.specs.Engaged.{Engaged}
-use Rattle.source_edits.specs.Edits.{Says, source_lines}
+use Rattle.source_edits.specs.Edits.{SaysReply, source_lines}
 use Rattle.odin_shell.specs.Filed.{DiskMeaning}
 use Rattle.odin_shell.specs.Machine.{Told}
 use Rattle.odin_shell.specs.Served.{Answers}
 use Rattle.odin_shell.proofs.AnswerLemmas.{same_answers}
 
 -- the steps by their text
-pub steps_said : (g : Graph) (text bytes : Text) (p : Planned) → p ≡ planned.Steps bytes → IsPlanned g text p → Says (Plan g text) bytes
+pub steps_said : (g : Graph) (text bytes : Text) (p : Planned) → p ≡ planned.Steps bytes → IsPlanned g text p → SaysReply (Plan g text) bytes
 steps_said g text bytes p same is =
     let has : HasSteps g text bytes = subst (IsPlanned g text) same is in
     record { said = plan_of g has.node; bytes_are = has.bytes_are; holds = Plan.steps text has.node has.asks }
 
 -- the refusal
-pub refusal_said : (g : Graph) (text bytes : Text) (p : Planned) (reply : Reply) → p ≡ planned.Refused reply → IsPlanned g text p → bytes ≡ reply_text reply → Says (Plan g text) bytes
+pub refusal_said : (g : Graph) (text bytes : Text) (p : Planned) (reply : Reply) → p ≡ planned.Refused reply → IsPlanned g text p → bytes ≡ reply_text reply → SaysReply (Plan g text) bytes
 refusal_said g text bytes p reply same is said =
     let refused : Refused g text reply = subst (IsPlanned g text) same is in
     record { said = reply; bytes_are = said; holds = Plan.refused_plan text reply refused }
@@ -33,9 +33,9 @@ refusal_said g text bytes p reply same is said =
 -- ---- what they show of what is held
 
 module _ {D : Type 0} (disk : DiskMeaning D) (code : Engaged) (told : Told D) (kept bytes : List ℕ) where
-  pub plan_answers : (text : Text) → Says (Plan code.graph text) bytes → Answers disk code (command.Plan text) kept told bytes code told
+  pub plan_answers : (text : Text) → SaysReply (Plan code.graph text) bytes → Answers disk code (command.Plan text) kept told bytes code told
   plan_answers text says = same_answers disk code (command.Plan text) kept bytes told (λ g limit state body graph held. record {
-    says = subst (λ (on : Graph). Says (Plan on text) bytes) graph says;
+    says = subst (λ (on : Graph). SaysReply (Plan on text) bytes) graph says;
     same = refl;
   })
 

@@ -4,7 +4,7 @@ use Rattle.std.proofs.Math.Nat.{le_refl}
 use Rattle.odin_outside.specs.Causes.{Rose}
 use Rattle.odin_outside.specs.Disk.{Telling, IsQuiet}
 use Rattle.odin_outside.specs.Spawned.{Spawned}
-use Rattle.disk_trails.specs.Trails.{after, Trail, Leaves}
+use Rattle.disk_trails.specs.Trails.{after_changes, Trail, LeavesPrefix}
 use Rattle.meaning_graph.specs.Graphs.{Text, Graph}
 use Rattle.meaning_records.specs.declared.items.Item.{Item}
 use Rattle.meaning_records.specs.Stands.{gate_behind}
@@ -14,13 +14,13 @@ use Rattle.odin_store.specs.declared.store.Store.{Store}
 use Rattle.odin_store.specs.Held.{Change}
 use Rattle.odin_store.specs.OnDisk.{state_in, IsOn, IsOver, IsSame}
 use Rattle.odin_store.specs.Keeping.{store_keeping}
-use Rattle.odin_store.specs.Going.{IsBatchOf, HasBatches, Goes, HasBegun, Stops}
+use Rattle.odin_store.specs.Going.{IsBatchOf, HasBatches, Performs, HasPartialBatches, StopsPerforming}
 use Rattle.odin_store.specs.Written.{written_in, WorksFor, with_records, record_keeping}
 use Rattle.odin_store.proofs.Lemmas.{nothing_behind, batches_on, goes_none, stops_left, stops_more, gate-append, records-append, works_after}
-use Rattle.odin_engine.specs.Engaged.{Engaged, Stays}
+use Rattle.odin_engine.specs.Engaged.{Engaged, GraphStays}
 use Rattle.source_edits.specs.Edits.{TreeTold, TreeStays}
-use Rattle.odin_shell.specs.Filed.{DiskMeaning, OpensFile, WorksOver, HasWritten, StopsWriting, HoldsAll, LacksLast, IsFull, IsSafe}
-use Rattle.odin_shell.specs.Machine.{State, Told, Makes, Belongs, StoreFailed, IsLeft, ToolsStay}
+use Rattle.odin_shell.specs.Filed.{DiskMeaning, OpensFile, WorksOver, HasWritten, StopsWriting, HoldsAll, LacksLast, HasNoRoomForLast, IsSafe}
+use Rattle.odin_shell.specs.Machine.{SessionState, Told, Applies, SessionInvariant, StoreFailed, StateAtExit, ToolsStay}
 
 -- where none runs no more do than may
 pub idle_few : (tools : Spawned) → tools.running ≡ [] → length tools.running ≤ 64
@@ -49,39 +49,39 @@ works_more text start over payloads more mid now first second =
     (works_after 66 (16 + 2 * length over.records) (over.opening ++ payloads) more start mid now first second)
 
 -- the batches of more changes after those that it has
-pub written_on : {D : Type 0} (told : D → Telling) (text : Text) (changes more : List Change) (start : D) (store next : Store) (disk after : D)
-    → HasWritten text changes (told start) store (told disk) → Goes told more store next disk after → HasWritten text (changes ++ more) (told start) next (told after)
-written_on told text changes more start store next disk after w goes =
+pub written_on : {D : Type 0} (told : D → Telling) (text : Text) (changes more : List Change) (start : D) (store next : Store) (disk after_changes : D)
+    → HasWritten text changes (told start) store (told disk) → Performs told more store next disk after_changes → HasWritten text (changes ++ more) (told start) next (told after_changes)
+written_on told text changes more start store next disk after_changes w goes =
     let over = w.over in
     let records = (over.records ++ over.opening) ++ w.payloads in
-    let others : HasBatches told more store next disk after records (Some text) = goes.batches records (Some text) w.on in
+    let others : HasBatches told more store next disk after_changes records (Some text) = goes.batches records (Some text) w.on in
     let all = over.opening ++ w.payloads in
     let list : all ++ others.payloads ≡ over.opening ++ (w.payloads ++ others.payloads) = append_assoc over.opening w.payloads others.payloads in
     record {
       over = over;
       payloads = w.payloads ++ others.payloads;
       are = batches_on over.opened (state_in store (Some text)) changes w.payloads w.are more others.payloads (state_in next (Some text)) others.are;
-      on = subst (λ r. IsOn (told after) next r (Some text)) (append_assoc (over.records ++ over.opening) w.payloads others.payloads) others.on;
+      on = subst (λ r. IsOn (told after_changes) next r (Some text)) (append_assoc (over.records ++ over.opening) w.payloads others.payloads) others.on;
       made = w.made;
       is_made = w.is_made;
       gate = w.gate;
       whole = w.whole;
       end = subst (λ l. next.journal.end ≡ gate_behind w.gate l) list (others.end ∙ ap (λ gate. gate_behind gate others.payloads) w.end ∙ sym (gate-append w.gate all others.payloads));
       bytes =
-          subst (λ l. (told after).seen ≡ with_records w.gate l w.made) list
+          subst (λ l. (told after_changes).seen ≡ with_records w.gate l w.made) list
           (others.bytes ∙ ap (λ gate. with_records gate others.payloads (told disk).seen) w.end
           ∙ ap (with_records (gate_behind w.gate all) others.payloads) w.bytes ∙ sym (records-append w.gate all others.payloads w.made));
-      trail = subst (λ l. Trail record_keeping over.records (told start) l next (told after)) list (others.grows over.records start all w.trail);
-      works = works_more text (told start) over w.payloads others.payloads (told disk) (told after) w.works others.works;
+      trail = subst (λ l. Trail record_keeping over.records (told start) l next (told after_changes)) list (others.grows over.records start all w.trail);
+      works = works_more text (told start) over w.payloads others.payloads (told disk) (told after_changes) w.works others.works;
     }
 
 -- and where they stop
-pub writing_stops : {D : Type 0} (told : D → Telling) (text : Text) (changes more : List Change) (start : D) (store : Store) (disk after : D)
-    → HasWritten text changes (told start) store (told disk) → Stops told more store disk after → StopsWriting text (changes ++ more) (told start) (told after)
-writing_stops told text changes more start store disk after w stops =
+pub writing_stops : {D : Type 0} (told : D → Telling) (text : Text) (changes more : List Change) (start : D) (store : Store) (disk after_changes : D)
+    → HasWritten text changes (told start) store (told disk) → StopsPerforming told more store disk after_changes → StopsWriting text (changes ++ more) (told start) (told after_changes)
+writing_stops told text changes more start store disk after_changes w stops =
     let over = w.over in
     let records = (over.records ++ over.opening) ++ w.payloads in
-    let has : HasBegun told more store disk after (Some text) = stops.begun records (Some text) w.on in
+    let has : HasPartialBatches told more store disk after_changes (Some text) = stops.begun records (Some text) w.on in
     let all = over.opening ++ w.payloads in
     record {
       over = over;
@@ -94,33 +94,33 @@ writing_stops told text changes more start store disk after w stops =
       begun = has.begun;
       next = has.next;
       leaves =
-          subst (λ l. Leaves record_keeping over.records (told start) (over.opening ++ (w.payloads ++ has.payloads)) l (told after))
+          subst (λ l. LeavesPrefix record_keeping over.records (told start) (over.opening ++ (w.payloads ++ has.payloads)) l (told after_changes))
           (append_assoc over.opening w.payloads (has.payloads ++ has.begun) ∙ ap (λ l. over.opening ++ l) (sym (append_assoc w.payloads has.payloads has.begun)))
-          (subst (λ l. Leaves record_keeping over.records (told start) l (all ++ (has.payloads ++ has.begun)) (told after)) (append_assoc over.opening w.payloads has.payloads) (has.leaves over.records start all w.trail));
-      works = subst (λ (l : List (List ℕ)). WorksOver text (told start) over l (told after)) (sym (append_assoc w.payloads has.payloads has.begun))
-          (works_more text (told start) over w.payloads (has.payloads ++ has.begun) (told disk) (told after) w.works has.works);
+          (subst (λ l. LeavesPrefix record_keeping over.records (told start) l (all ++ (has.payloads ++ has.begun)) (told after_changes)) (append_assoc over.opening w.payloads has.payloads) (has.leaves over.records start all w.trail));
+      works = subst (λ (l : List (List ℕ)). WorksOver text (told start) over l (told after_changes)) (sym (append_assoc w.payloads has.payloads has.begun))
+          (works_more text (told start) over w.payloads (has.payloads ++ has.begun) (told disk) (told after_changes) w.works has.works);
     }
 
 -- ---- the next state
 
 -- the state behind these changes, with what is told of tools and tree then
-abbrev pub next_state : State → List Change → Spawned → TreeTold → State
-next_state state changes tools tree = record { held = after store_keeping changes state.held; changes = state.changes ++ changes; tools = tools; tree = tree }
+abbrev pub next_state : SessionState → List Change → Spawned → TreeTold → SessionState
+next_state state changes tools tree = record { held = after_changes store_keeping changes state.held; changes = state.changes ++ changes; tools = tools; tree = tree }
 
-pub makes_next : (state : State) (changes : List Change) (tools : Spawned) (tree : TreeTold) → Makes changes state (next_state state changes tools tree)
+pub makes_next : (state : SessionState) (changes : List Change) (tools : Spawned) (tree : TreeTold) → Applies changes state (next_state state changes tools tree)
 makes_next state changes tools tree = record { held = refl; list = refl }
 
-module _ {D : Type 0} (disk : DiskMeaning D) (g : Graph) (text : Text) (limit : ℕ) (first : State) (start : Told D) (code : Engaged) (state : State) (told : Told D) (fits : Belongs disk g text limit first start code state told) where
+module _ {D : Type 0} (disk : DiskMeaning D) (g : Graph) (text : Text) (limit : ℕ) (first : SessionState) (start : Told D) (code : Engaged) (state : SessionState) (told : Told D) (fits : SessionInvariant disk g text limit first start code state told) where
   -- ---- the session goes on
 
-  pub belongs_on : (changes : List Change) (code' : Engaged) (told' : Told D) → Goes disk.told changes code.store code'.store told.disk told'.disk → Stays code code' → IsReady code'.store.journal (disk.size told'.disk)
+  pub belongs_on : (changes : List Change) (code' : Engaged) (told' : Told D) → Performs disk.told changes code.store code'.store told.disk told'.disk → GraphStays code code' → IsReady code'.store.journal (disk.size told'.disk)
       → disk.faults told'.disk ≡ disk.faults told.disk → ToolsStay told.tools told'.tools → TreeStays told.tree told'.tree → told'.tools.running ≡ [] → told'.over ≡ None
-      → Belongs disk g text limit first start code' (next_state state changes told'.tools told'.tree) told'
+      → SessionInvariant disk g text limit first start code' (next_state state changes told'.tools told'.tree) told'
   belongs_on changes code' told' goes stays ready faults stay tree idle within = record {
     graph = stays.graph ∙ fits.graph;
     jobs = stays.jobs ∙ fits.jobs;
     few = fits.few;
-    held = goes.holds ∙ ap (after store_keeping changes) fits.held;
+    held = goes.holds ∙ ap (after_changes store_keeping changes) fits.held;
     tools = refl;
     tree = refl;
     stay = stay_on fits.stay stay;
@@ -150,8 +150,8 @@ module _ {D : Type 0} (disk : DiskMeaning D) (g : Graph) (text : Text) (limit : 
     tree_counted = let here : told.tree.faults ≡ state.tree.faults = ap (λ (t : TreeTold). t.faults) fits.tree in let later = tree.later in omega arith
 
     pub left_by : (changes : List Change) → IsSafe text first.held state.changes (state.changes ++ changes) (disk.told start.disk) (disk.told told'.disk) (disk.faults start.disk) (disk.faults told'.disk)
-        → ((at size : ℕ) → told'.over ≡ Some (at, size) → IsFull text (state.changes ++ changes) (disk.told start.disk) (disk.told told'.disk) at size)
-        → (IsQuiet (disk.told start.disk) → Lasts changes told') → IsLeft disk g text limit first start state (next_state state changes told'.tools told'.tree) told'
+        → ((at size : ℕ) → told'.over ≡ Some (at, size) → HasNoRoomForLast text (state.changes ++ changes) (disk.told start.disk) (disk.told told'.disk) at size)
+        → (IsQuiet (disk.told start.disk) → Lasts changes told') → StateAtExit disk g text limit first start state (next_state state changes told'.tools told'.tree) told'
     left_by changes safe full lasting = record {
       tools = refl;
       tree = refl;
@@ -165,7 +165,7 @@ module _ {D : Type 0} (disk : DiskMeaning D) (g : Graph) (text : Text) (limit : 
     }
 
   -- the changes that were made are in the file
-  pub safe_made : (changes : List Change) (store : Store) (now : D) → Goes disk.told changes code.store store told.disk now → disk.faults now ≡ disk.faults told.disk
+  pub safe_made : (changes : List Change) (store : Store) (now : D) → Performs disk.told changes code.store store told.disk now → disk.faults now ≡ disk.faults told.disk
       → IsSafe text first.held state.changes (state.changes ++ changes) (disk.told start.disk) (disk.told now) (disk.faults start.disk) (disk.faults now)
   safe_made changes store now goes faults =
       let same = faults ∙ fits.faults in
@@ -182,7 +182,7 @@ module _ {D : Type 0} (disk : DiskMeaning D) (g : Graph) (text : Text) (limit : 
       }
 
   -- every image has them
-  pub holds_all : (changes : List Change) (store : Store) (now : D) → Goes disk.told changes code.store store told.disk now → IsQuiet (disk.told start.disk)
+  pub holds_all : (changes : List Change) (store : Store) (now : D) → Performs disk.told changes code.store store told.disk now → IsQuiet (disk.told start.disk)
       → HoldsAll text first.held (state.changes ++ changes) (disk.told start.disk) (disk.told now)
   holds_all changes store now goes quiet =
       let all = state.changes ++ changes in
@@ -190,12 +190,12 @@ module _ {D : Type 0} (disk : DiskMeaning D) (g : Graph) (text : Text) (limit : 
       record {
         store = store;
         written = written_on disk.told text state.changes changes start.disk code.store store told.disk now (fits.written quiet) goes;
-        crash = subst (λ l. Leaves store_keeping first.held (disk.told start.disk) all l (disk.told now)) (nothing_behind all)
+        crash = subst (λ l. LeavesPrefix store_keeping first.held (disk.told start.disk) all l (disk.told now)) (nothing_behind all)
             ((stops_left disk.told [] store store now now (goes_none disk.told store store now now same)).within first.held start.disk all (goes.grows first.held start.disk state.changes (fits.trail quiet)));
       }
 
   -- the next change stopped behind them: every image has all of them, and may have that
-  pub lacks_last : (changes : List Change) (change : Change) (store : Store) (mid now : D) → Goes disk.told changes code.store store told.disk mid → Stops disk.told (change ∷ []) store mid now → IsQuiet (disk.told start.disk)
+  pub lacks_last : (changes : List Change) (change : Change) (store : Store) (mid now : D) → Performs disk.told changes code.store store told.disk mid → StopsPerforming disk.told (change ∷ []) store mid now → IsQuiet (disk.told start.disk)
       → LacksLast first.held (state.changes ++ (changes ++ change ∷ [])) (disk.told start.disk) (disk.told now)
   lacks_last changes change store mid now goes stops quiet =
       let front = state.changes ++ changes in
@@ -204,27 +204,27 @@ module _ {D : Type 0} (disk : DiskMeaning D) (g : Graph) (text : Text) (limit : 
         front = front;
         change = change;
         whole = list;
-        crash = subst (λ l. Leaves store_keeping first.held (disk.told start.disk) front l (disk.told now)) (sym list)
+        crash = subst (λ l. LeavesPrefix store_keeping first.held (disk.told start.disk) front l (disk.told now)) (sym list)
             (stops.within first.held start.disk front (goes.grows first.held start.disk state.changes (fits.trail quiet)));
       }
 
   -- so it is where the disk failed at it
-  pub failed_last : (changes : List Change) (change : Change) (store : Store) (mid : D) (told' : Told D) → Goes disk.told changes code.store store told.disk mid → Stops disk.told (change ∷ []) store mid told'.disk
+  pub failed_last : (changes : List Change) (change : Change) (store : Store) (mid : D) (told' : Told D) → Performs disk.told changes code.store store told.disk mid → StopsPerforming disk.told (change ∷ []) store mid told'.disk
       → Rose (disk.faults told.disk) (disk.faults told'.disk) → IsQuiet (disk.told start.disk) → Lasts (changes ++ change ∷ []) told'
   failed_last changes change store mid told' goes stops rose quiet =
       inr (inl (subst (λ n. Rose n (disk.faults told'.disk)) fits.faults rose), lacks_last changes change store mid told'.disk goes stops quiet)
 
   -- and where its batch doesn't fit
-  pub full_last : (changes : List Change) (change : Change) (store : Store) (told' : Told D) → Goes disk.told changes code.store store told.disk told'.disk → told'.over ≢ None
+  pub full_last : (changes : List Change) (change : Change) (store : Store) (told' : Told D) → Performs disk.told changes code.store store told.disk told'.disk → told'.over ≢ None
       → IsQuiet (disk.told start.disk) → Lasts (changes ++ change ∷ []) told'
   full_last changes change store told' goes over quiet =
       let now = told'.disk in
       let same : IsSame store store now now = record { disk_is = refl; store_is = record { journal = refl; tables = refl; sources = refl; epoch = refl } } in
-      let stops : Stops disk.told (change ∷ []) store now now = stops_more disk.told [] (change ∷ []) store now now (stops_left disk.told [] store store now now (goes_none disk.told store store now now same)) in
+      let stops : StopsPerforming disk.told (change ∷ []) store now now = stops_more disk.told [] (change ∷ []) store now now (stops_left disk.told [] store store now now (goes_none disk.told store store now now same)) in
       inr (inr over, lacks_last changes change store now now goes stops quiet)
 
   -- the disk failed at one of the changes
-  pub safe_failed : (changes : List Change) (now : D) → Stops disk.told changes code.store told.disk now → disk.faults told.disk ≤ disk.faults now → Rose (disk.faults told.disk) (disk.faults now)
+  pub safe_failed : (changes : List Change) (now : D) → StopsPerforming disk.told changes code.store told.disk now → disk.faults told.disk ≤ disk.faults now → Rose (disk.faults told.disk) (disk.faults now)
       → IsSafe text first.held state.changes (state.changes ++ changes) (disk.told start.disk) (disk.told now) (disk.faults start.disk) (disk.faults now)
   safe_failed changes now stops later rose =
       let same = fits.faults in
@@ -235,7 +235,7 @@ module _ {D : Type 0} (disk : DiskMeaning D) (g : Graph) (text : Text) (limit : 
       }
 
   -- the last of the changes was due, and its batch doesn't fit behind those of the others
-  pub safe_full : (changes : List Change) (change : Change) (store : Store) (now : D) → Goes disk.told changes code.store store told.disk now → disk.faults now ≡ disk.faults told.disk
+  pub safe_full : (changes : List Change) (change : Change) (store : Store) (now : D) → Performs disk.told changes code.store store told.disk now → disk.faults now ≡ disk.faults told.disk
       → IsSafe text first.held state.changes (state.changes ++ (changes ++ change ∷ [])) (disk.told start.disk) (disk.told now) (disk.faults start.disk) (disk.faults now)
   safe_full changes change store now goes faults =
       let same = faults ∙ fits.faults in
@@ -251,8 +251,8 @@ module _ {D : Type 0} (disk : DiskMeaning D) (g : Graph) (text : Text) (limit : 
         later = omega (arith, same);
       }
 
-  pub is_full : (changes : List Change) (change : Change) (store : Store) (now : D) (items : List Item) (at size : ℕ) → Goes disk.told changes code.store store told.disk now → IsBatchOf store.kept.tables.contents change items → IsOver items store.journal.end at size
-      → IsFull text (state.changes ++ (changes ++ change ∷ [])) (disk.told start.disk) (disk.told now) at size
+  pub is_full : (changes : List Change) (change : Change) (store : Store) (now : D) (items : List Item) (at size : ℕ) → Performs disk.told changes code.store store told.disk now → IsBatchOf store.kept.tables.contents change items → IsOver items store.journal.end at size
+      → HasNoRoomForLast text (state.changes ++ (changes ++ change ∷ [])) (disk.told start.disk) (disk.told now) at size
   is_full changes change store now items at size goes batch over = record {
     front = state.changes ++ changes;
     change = change;
@@ -267,12 +267,12 @@ module _ {D : Type 0} (disk : DiskMeaning D) (g : Graph) (text : Text) (limit : 
   }
 
 -- between two commands all is left as it is
-pub rests : {D : Type 0} (disk : DiskMeaning D) (g : Graph) (text : Text) (limit : ℕ) (first : State) (start : Told D) (code : Engaged) (state : State) (told : Told D) → Belongs disk g text limit first start code state told → IsLeft disk g text limit first start state state told
+pub rests : {D : Type 0} (disk : DiskMeaning D) (g : Graph) (text : Text) (limit : ℕ) (first : SessionState) (start : Told D) (code : Engaged) (state : SessionState) (told : Told D) → SessionInvariant disk g text limit first start code state told → StateAtExit disk g text limit first start state state told
 rests disk g text limit first start code state told fits =
     let tools : told.tools.faults ≡ state.tools.faults = ap (λ (t : Spawned). t.faults) fits.tools in
     let tree : told.tree.faults ≡ state.tree.faults = ap (λ (t : TreeTold). t.faults) fits.tree in
     let same : IsSame code.store code.store told.disk told.disk = record { disk_is = refl; store_is = record { journal = refl; tables = refl; sources = refl; epoch = refl } } in
-    let goes : Goes disk.told [] code.store code.store told.disk told.disk = goes_none disk.told code.store code.store told.disk told.disk same in
+    let goes : Performs disk.told [] code.store code.store told.disk told.disk = goes_none disk.told code.store code.store told.disk told.disk same in
     record {
       tools = fits.tools;
       tree = fits.tree;

@@ -12,14 +12,14 @@ use Rattle.meaning_commands.specs.declared.commands.Command.{Command}
 use Rattle.meaning_commands.specs.declared.commands.Command.TheVariants.{Put, Take, Remove, Ask, Plan, Sources, Kept, Quit, Nothing, Bad, BadName}
 use Rattle.meaning_commands.specs.declared.replies.Reply.{Reply}
 use Rattle.meaning_commands.specs.Commands as spelling
-use Rattle.meaning_commands.specs.Commands.{takes}
-use Rattle.disk_trails.specs.Trails.{after}
+use Rattle.meaning_commands.specs.Commands.{bytes_after_line}
+use Rattle.disk_trails.specs.Trails.{after_changes}
 use Rattle.odin_store.specs.Held.{Held, Change, drops, apply}
 use Rattle.odin_store.specs.Keeping.{store_keeping}
 use Rattle.odin_store.proofs.Lemmas.{put_stays, drop_stays}
 use Rattle.odin_shell.specs.Language.{commands}
 use Rattle.source_edits.specs.Edits.{Inserts, TakesFile, RemovesText}
-use Rattle.odin_shell.specs.Machine.{State, Step, IsPutChange, IsTakeChange, MayEdit, MayLeave}
+use Rattle.odin_shell.specs.Machine.{SessionState, Step, IsPutChange, IsTakeChange, MayEdit, CommandMayLeave}
 use Rattle.odin_shell.proofs.MadeLemmas.{kept_sources}
 
 -- ---- names
@@ -56,8 +56,8 @@ insert_stays old name text size accepted said new are named short (inl put) = su
 insert_stays old name text size accepted said new are named short (inr long) = subst AreSources (sym long.same) are
 
 take_stays : (old : Texts) (name : Text) (file : Option Text) (said : Reply) (new : Texts) → AreSources old → IsName name → TakesFile old name file said new → AreSources new
-take_stays old name None said new are named takes = subst AreSources (sym takes.1) are
-take_stays old name (Some text) said new are named takes = insert_stays old name text (length text) _ said new are named (λ le. le) takes
+take_stays old name None said new are named bytes_after_line = subst AreSources (sym bytes_after_line.1) are
+take_stays old name (Some text) said new are named bytes_after_line = insert_stays old name text (length text) _ said new are named (λ le. le) bytes_after_line
 
 remove_stays : (found : Option Text) (old : Texts) (name : Text) (said : Reply) (new : Texts) → AreSources old → RemovesText found old name said new → AreSources new
 remove_stays None old name said new are removes = subst AreSources (sym removes.1) are
@@ -65,11 +65,11 @@ remove_stays (Some text) old name said new are removes = subst AreSources (sym r
 
 -- ---- commands
 
-same_stays : (old new : State) → AreSources old.held.sources → new ≡ old → AreSources new.held.sources
-same_stays old new are same = subst (λ (s : State). AreSources s.held.sources) (sym same) are
+same_stays : (old new : SessionState) → AreSources old.held.sources → new ≡ old → AreSources new.held.sources
+same_stays old new are same = subst (λ (s : SessionState). AreSources s.held.sources) (sym same) are
 
 -- a command whose bytes are not too long
-step_stays : (g : Graph) (limit : ℕ) (old new : State) (command : Command) (body reply : List ℕ) → AreSources old.held.sources → BringsName command → (takes command ≤ body_limit → length body ≤ body_limit)
+step_stays : (g : Graph) (limit : ℕ) (old new : SessionState) (command : Command) (body reply : List ℕ) → AreSources old.held.sources → BringsName command → (bytes_after_line command ≤ body_limit → length body ≤ body_limit)
     → Step g limit old command body reply new → AreSources new.held.sources
 step_stays g limit old new (Put name count) body reply are named short step = insert_stays old.held.sources name body count _ step.says.said new.held.sources are named short step.says.holds
 step_stays g limit old new (Take name) body reply are named short step = elim step.says.holds [
@@ -86,7 +86,7 @@ step_stays g limit old new Nothing body reply are named short step = same_stays 
 step_stays g limit old new Bad body reply are named short step = same_stays old new are step.1
 step_stays g limit old new (BadName count) body reply are named short step = same_stays old new are step.1
 
-pub stay : (g : Graph) (limit : ℕ) (old new : State) (item : Item) (command : Command) (reply : List ℕ) → AreSources old.held.sources → IsItem commands item command → Step g limit old command item.body reply new
+pub stay : (g : Graph) (limit : ℕ) (old new : SessionState) (item : Item) (command : Command) (reply : List ℕ) → AreSources old.held.sources → IsItem commands item command → Step g limit old command item.body reply new
     → AreSources new.held.sources
 stay g limit old new item command reply are i step =
     let size = i.size in
@@ -94,14 +94,14 @@ stay g limit old new item command reply are i step =
 
 -- ---- without a reply
 
-due_stays : (Asked : Change → Type 0) (old new : State) → ((change : Change) → Asked change → AreSources (apply change old.held).sources) → AreSources old.held.sources → MayEdit Asked old new → AreSources new.held.sources
+due_stays : (Asked : Change → Type 0) (old new : SessionState) → ((change : Change) → Asked change → AreSources (apply change old.held).sources) → AreSources old.held.sources → MayEdit Asked old new → AreSources new.held.sources
 due_stays Asked old new each are may = subst (λ (h : Held). AreSources h.sources) (sym may.makes.held) (elim may.due [
-  | inl none ↦ subst (λ c. AreSources (after store_keeping c old.held).sources) (sym none) are
-  | inr one ↦ subst (λ c. AreSources (after store_keeping c old.held).sources) (sym one.3) (each one.0 one.1)
+  | inl none ↦ subst (λ c. AreSources (after_changes store_keeping c old.held).sources) (sym none) are
+  | inr one ↦ subst (λ c. AreSources (after_changes store_keeping c old.held).sources) (sym one.3) (each one.0 one.1)
 ])
 
-step_left : (g : Graph) (limit : ℕ) (old new : State) (command : Command) (body : List ℕ) → AreSources old.held.sources → BringsName command → (takes command ≤ body_limit → length body ≤ body_limit)
-    → MayLeave g limit old command body new → AreSources new.held.sources
+step_left : (g : Graph) (limit : ℕ) (old new : SessionState) (command : Command) (body : List ℕ) → AreSources old.held.sources → BringsName command → (bytes_after_line command ≤ body_limit → length body ≤ body_limit)
+    → CommandMayLeave g limit old command body new → AreSources new.held.sources
 step_left g limit old new (Put name count) body are named short may =
     due_stays (IsPutChange name count body) old new (λ change due. subst (λ c. AreSources (apply c old.held).sources) (sym due.1) (put_stays old.held.sources name body are named (short due.0))) are may.0
 step_left g limit old new (Take name) body are named short may =
@@ -117,7 +117,7 @@ step_left g limit old new Nothing body are named short may = same_stays old new 
 step_left g limit old new Bad body are named short may = same_stays old new are may
 step_left g limit old new (BadName count) body are named short may = same_stays old new are may
 
-pub stay_left : (g : Graph) (limit : ℕ) (old furthest : State) (item : Item) (command : Command) → AreSources old.held.sources → IsItem commands item command → MayLeave g limit old command item.body furthest
+pub stay_left : (g : Graph) (limit : ℕ) (old furthest : SessionState) (item : Item) (command : Command) → AreSources old.held.sources → IsItem commands item command → CommandMayLeave g limit old command item.body furthest
     → AreSources furthest.held.sources
 stay_left g limit old furthest item command are i may =
     let size = i.size in

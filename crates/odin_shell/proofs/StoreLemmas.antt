@@ -7,13 +7,13 @@ use Rattle.odin_outside.specs.Spawned.{Spawned}
 use Rattle.meaning_graph.specs.Graphs.{Text, Graph}
 use Rattle.meaning_run.specs.Objects.{SinkTold}
 use Rattle.meaning_run.proofs.Lemmas.{not_inside, at_word, is_inside, is_long}
-use Rattle.odin_journal.specs.Faults.{IsCauseOf}
+use Rattle.odin_journal.specs.Faults.{CountAfterJournalFault}
 use Rattle.odin_journal.specs.declared.fault.JournalFault.{JournalFault}
 use Rattle.odin_journal.specs.declared.fault.JournalFault.TheVariants as fault
 use Rattle.odin_store.specs.Held.{Held}
 use Rattle.odin_shell.specs.declared.ending.Ending.{Ending}
 use Rattle.odin_shell.specs.declared.ending.Ending.TheVariants.{Whole, CutShort, BadGraph, Disk, Memory, Output, Input, NotOurs, Full, Usage, TooLong, Loaded, Room}
-use Rattle.odin_shell.specs.Endings.{status_of, LeavesTools}
+use Rattle.odin_shell.specs.Endings.{ending_status, EndingLeavesTools}
 use Rattle.odin_shell.specs.Opened.{not_ours_line, full_line}
 use Rattle.odin_shell.specs.Filed.{DiskMeaning}
 use Rattle.odin_shell.specs.Language.{commands}
@@ -22,7 +22,7 @@ use Rattle.source_edits.specs.Edits.{TreeTold, TreeStays, tree_of}
 use Rattle.odin_shell.specs.Machine.{at_first, Told, ToolsStay, machine}
 use Rattle.odin_shell.specs.Objects.{Outside, Meaning}
 use Rattle.odin_shell.specs.Run as run
-use Rattle.odin_shell.specs.Run.{LastLine, whole, cut_off, SessionLeaves, InputCount, DiskCount, OutputCount, AllowedBy, Closes, ClosesFor, Says}
+use Rattle.odin_shell.specs.Run.{LastLine, whole, cut_off, SessionLeaves, InputCount, DiskCount, OutputCount, AllowedBy, Closes, ClosesFor, SaysLastLine}
 use Rattle.meaning_commands.proofs.Lemmas.{one_command}
 use Rattle.odin_shell.proofs.StateLemmas.{idle_few, same_tools, same_tree}
 
@@ -39,11 +39,11 @@ line_output line due before now ending other (whole is) = other (ap (λ (s : Sin
 line_output line due before now ending other (cut_off part) = part.counted
 
 -- the same of a line that may want memory before it
-pub at_says : (line : Text) (due : Ending) (before now : SinkTold) (ending : Ending) (P : Ending → Type 0) → Says line due before now ending → P due → P Output → P Memory → P ending
+pub at_says : (line : Text) (due : Ending) (before now : SinkTold) (ending : Ending) (P : Ending → Type 0) → SaysLastLine line due before now ending → P due → P Output → P Memory → P ending
 at_says line due before now ending P (inl last) p q m = at_end line due before now ending P last p q
 at_says line due before now ending P (inr none) p q m = subst P (sym none.1) m
 
-pub says_output : (line : Text) (due : Ending) (before now : SinkTold) (ending : Ending) → (now.faults ≡ before.faults → OutputCount due before.faults now.faults) → Says line due before now ending
+pub says_output : (line : Text) (due : Ending) (before now : SinkTold) (ending : Ending) → (now.faults ≡ before.faults → OutputCount due before.faults now.faults) → SaysLastLine line due before now ending
     → OutputCount ending before.faults now.faults
 says_output line due before now ending other (inl last) = line_output line due before now ending other last
 says_output line due before now ending other (inr none) = subst (λ e. OutputCount e before.faults now.faults) (sym none.1) (ap (λ (s : SinkTold). s.faults) none.0)
@@ -55,14 +55,14 @@ anything (Some text) = tt
 -- the endings of a run behind which tools may run: those that leave them, and a failed output, which may come in the place of one
 abbrev pub MayRunOn : Ending → Type 0
 MayRunOn Output = ⊤
-MayRunOn due = LeavesTools due
+MayRunOn due = EndingLeavesTools due
 
-runs_on : (due : Ending) → LeavesTools due → MayRunOn due
+runs_on : (due : Ending) → EndingLeavesTools due → MayRunOn due
 runs_on Output leaves = tt
 runs_on due leaves = leaves
 
 -- at these statuses alone
-pub status_runs : (ending : Ending) (status : ℕ) → status ≡ status_of ending → status ≢ 3 → status ≢ 4 → status ≢ 5 → status ≢ 8 → ¬ MayRunOn ending
+pub status_runs : (ending : Ending) (status : ℕ) → status ≡ ending_status ending → status ≢ 3 → status ≢ 4 → status ≢ 5 → status ≢ 8 → ¬ MayRunOn ending
 status_runs Disk status is three four five eight = λ runs. three is
 status_runs Memory status is three four five eight = λ runs. four is
 status_runs Output status is three four five eight = λ runs. five is
@@ -205,13 +205,13 @@ fault_output (fault.Full at size) before now ending (inr none) = subst (λ e. Ou
 fault_output fault.Memory before now ending closes = subst (λ e. OutputCount e before.faults now.faults) (sym closes.1) (ap (λ (s : SinkTold). s.faults) closes.0)
 
 -- what a fault says of the disk's count
-fault_counts : (e : JournalFault) (before now : ℕ) → before ≤ now → IsCauseOf before now e → DiskCount (due_for e) before now
+fault_counts : (e : JournalFault) (before now : ℕ) → before ≤ now → CountAfterJournalFault before now e → DiskCount (due_for e) before now
 fault_counts fault.Disk before now later cause = record { later = later; rose = cause }
 fault_counts (fault.NotOurs at) before now later cause = cause
 fault_counts (fault.Full at size) before now later cause = cause
 fault_counts fault.Memory before now later cause = cause
 
-uncounted : (e : JournalFault) (before now : ℕ) → IsCauseOf before now e → e ≢ fault.Disk → now ≡ before
+uncounted : (e : JournalFault) (before now : ℕ) → CountAfterJournalFault before now e → e ≢ fault.Disk → now ≡ before
 uncounted fault.Disk before now cause other = absurd (other refl)
 uncounted (fault.NotOurs at) before now cause other = cause
 uncounted (fault.Full at size) before now cause other = cause

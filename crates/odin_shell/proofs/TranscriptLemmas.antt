@@ -24,9 +24,9 @@ use Rattle.meaning_commands.specs.Replies.{reply_text}
 use Rattle.meaning_commands.proofs.Lemmas.{one_command}
 use Rattle.odin_store.specs.Held.{Held}
 use Rattle.odin_shell.specs.Language.{commands}
-use Rattle.source_edits.specs.Edits.{Says, TreeTold, TreeStays, Inserts, Puts, TakesFile, Takes, IsTaken, IsAsked, RemovesText, Removes, source_lines}
-use Rattle.odin_shell.specs.Machine.{State, Step, Edits, EditsByFile, Asks}
-use Rattle.odin_shell.specs.Laws.{NoFault, CountsNone, BothCountKept, AreAlike, AreSideBySide, AreSame, IsToldBy}
+use Rattle.source_edits.specs.Edits.{SaysReply, TreeTold, TreeStays, Inserts, Puts, TakesFile, Takes, IsTaken, TreeIsAsked, RemovesText, Removes, source_lines}
+use Rattle.odin_shell.specs.Machine.{SessionState, Step, EditsByCommand, EditsByFile, AsksForObject}
+use Rattle.odin_shell.specs.Laws.{NoFault, CountsNone, BothCountKept, AreAlike, AreSideBySide, AreSame, IsToldByTable}
 use Rattle.odin_shell.proofs.CountLemmas.{counted, counts}
 use Rattle.odin_shell.proofs.MadeLemmas.{kept_calls, kept_sources, edits_keep, step_true}
 use Rattle.odin_shell.proofs.StateLemmas.{same_tree}
@@ -75,14 +75,14 @@ taken old name before said new now none (inr unread) = absurd (not_counted befor
 abbrev asked_once : TreeTold → TreeTold
 asked_once before = record { files = before.files; faults = before.faults; reads = once_more before.reads }
 
-tree_is : (before now : TreeTold) → IsAsked before now → now.faults ≡ before.faults → now ≡ asked_once before
+tree_is : (before now : TreeTold) → TreeIsAsked before now → now.faults ≡ before.faults → now ≡ asked_once before
 tree_is before now asked unfailed = λ i. record { files = asked.stays.files i; faults = unfailed i; reads = asked.once i }
 
 -- what stays of the tree over one command
-same_state : (old new : State) → new ≡ old → TreeStays old.tree new.tree
-same_state old new same = same_tree old.tree new.tree (ap (λ (s : State). s.tree) same)
+same_state : (old new : SessionState) → new ≡ old → TreeStays old.tree new.tree
+same_state old new same = same_tree old.tree new.tree (ap (λ (s : SessionState). s.tree) same)
 
-step_tree : (g : Graph) (limit : ℕ) (old : State) (c : Command) (body bytes : List ℕ) (new : State) → Step g limit old c body bytes new → TreeStays old.tree new.tree
+step_tree : (g : Graph) (limit : ℕ) (old : SessionState) (c : Command) (body bytes : List ℕ) (new : SessionState) → Step g limit old c body bytes new → TreeStays old.tree new.tree
 step_tree g limit old (Put name count) body bytes new step = same_tree old.tree new.tree step.tree
 step_tree g limit old (Take name) body bytes new step = step.asked.stays
 step_tree g limit old (Remove name) body bytes new step = same_tree old.tree new.tree step.tree
@@ -98,23 +98,23 @@ step_tree g limit old (BadName count) body bytes new step = same_state old new s
 -- ---- one step
 
 -- an answer, since a refusal is counted
-answered : (g : Graph) (limit : ℕ) (old new : State) (text : Text) (said : Reply) (given : Calls) → CountsNone old new → IsReply g old.held.sources old.held.calls limit text said given old.tools new.tools
+answered : (g : Graph) (limit : ℕ) (old new : SessionState) (text : Text) (said : Reply) (given : Calls) → CountsNone old new → IsReply g old.held.sources old.held.calls limit text said given old.tools new.tools
     → HasAnswer g old.held.sources old.held.calls limit text said given old.tools new.tools
 answered g limit old new text said given none (inl is) = is
 answered g limit old new text said given none (inr refused) =
     absurd (not_counted old.tools.faults new.tools.faults none.tools (refusal_counted g old.held.sources old.held.calls limit text said given old.tools new.tools refused))
 
 -- what an ask leaves of the sources
-asked_sources : (g : Graph) (limit : ℕ) (text : Text) (old new : State) (bytes : List ℕ) → Asks g limit text old bytes new → new.held.sources ≡ old.held.sources
+asked_sources : (g : Graph) (limit : ℕ) (text : Text) (old new : SessionState) (bytes : List ℕ) → AsksForObject g limit text old bytes new → new.held.sources ≡ old.held.sources
 asked_sources g limit text old new bytes asks = ap (λ (h : Held). h.sources) asks.makes.held ∙ kept_sources asks.given old.held
 
 -- what is the same behind one command
-record IsSame (g : Graph) (table : Table) (item : Item) (bytes bytes' : List ℕ) (old new old' new' : State) : Type 0 where
+record IsSame (g : Graph) (table : Table) (item : Item) (bytes bytes' : List ℕ) (old new old' new' : SessionState) : Type 0 where
   alike : AreAlike g table item bytes bytes' old new old' new'
   sources : new'.held.sources ≡ new.held.sources
   tree : old'.tree ≡ old.tree → new'.tree ≡ new.tree
 
-same_bytes : (P Q : Reply → Type 0) (bytes bytes' : List ℕ) (a : Says P bytes) (b : Says Q bytes') → b.said ≡ a.said → bytes' ≡ bytes
+same_bytes : (P Q : Reply → Type 0) (bytes bytes' : List ℕ) (a : SaysReply P bytes) (b : SaysReply Q bytes') → b.said ≡ a.said → bytes' ≡ bytes
 same_bytes P Q bytes bytes' a b same = b.bytes_are ∙ ap reply_text same ∙ sym a.bytes_are
 
 -- the same calls are kept where neither changes them
@@ -122,21 +122,21 @@ calls_stay : (calls more calls' more' : Calls) → more ≡ calls → more' ≡ 
 calls_stay calls more calls' more' stays stays' same call = ap (λ l. kept_outcome l call) stays' ∙ same call ∙ sym (ap (λ l. kept_outcome l call) stays)
 
 -- those behind an ask
-asked_calls : (g : Graph) (limit : ℕ) (text : Text) (old new : State) (bytes : List ℕ) → (a : Asks g limit text old bytes new) → new.held.calls ≡ old.held.calls ++ a.given
+asked_calls : (g : Graph) (limit : ℕ) (text : Text) (old new : SessionState) (bytes : List ℕ) → (a : AsksForObject g limit text old bytes new) → new.held.calls ≡ old.held.calls ++ a.given
 asked_calls g limit text old new bytes a = ap (λ (h : Held). h.calls) a.makes.held ∙ kept_calls a.given old.held
 
-module _ (g : Graph) (limit most : ℕ) (table : Table) (files : Files) (item : Item) (old new old' new' : State) (same : old'.held.sources ≡ old.held.sources) where
+module _ (g : Graph) (limit most : ℕ) (table : Table) (files : Files) (item : Item) (old new old' new' : SessionState) (same : old'.held.sources ≡ old.held.sources) where
   unchanged : (bytes bytes' : List ℕ) → (bytes' ≡ bytes) ⊎ BothCountKept bytes bytes' old old' → new ≡ old → new' ≡ old' → IsSame g table item bytes bytes' old new old' new'
   unchanged bytes bytes' reply stays stays' = record {
     alike = inl (record {
       reply = reply;
-      kept = calls_stay old.held.calls new.held.calls old'.held.calls new'.held.calls (ap (λ (s : State). s.held.calls) stays) (ap (λ (s : State). s.held.calls) stays');
+      kept = calls_stay old.held.calls new.held.calls old'.held.calls new'.held.calls (ap (λ (s : SessionState). s.held.calls) stays) (ap (λ (s : SessionState). s.held.calls) stays');
     });
-    sources = ap (λ (s : State). s.held.sources) stays' ∙ same ∙ sym (ap (λ (s : State). s.held.sources) stays);
-    tree = λ (e : old'.tree ≡ old.tree). ap (λ (s : State). s.tree) stays' ∙ e ∙ sym (ap (λ (s : State). s.tree) stays);
+    sources = ap (λ (s : SessionState). s.held.sources) stays' ∙ same ∙ sym (ap (λ (s : SessionState). s.held.sources) stays);
+    tree = λ (e : old'.tree ≡ old.tree). ap (λ (s : SessionState). s.tree) stays' ∙ e ∙ sym (ap (λ (s : SessionState). s.tree) stays);
   }
 
-  edited : (name : Text) (P Q : Reply → Texts → Type 0) (bytes bytes' : List ℕ) (a : Edits name P old bytes new) (b : Edits name Q old' bytes' new') → IsOne a.says.said b.says.said new.held.sources new'.held.sources
+  edited : (name : Text) (P Q : Reply → Texts → Type 0) (bytes bytes' : List ℕ) (a : EditsByCommand name P old bytes new) (b : EditsByCommand name Q old' bytes' new') → IsOne a.says.said b.says.said new.held.sources new'.held.sources
       → IsSame g table item bytes bytes' old new old' new'
   edited name P Q bytes bytes' a b one = record {
     alike = inl (record {
@@ -166,7 +166,7 @@ module _ (g : Graph) (limit most : ℕ) (table : Table) (files : Files) (item : 
       }
 
   asked : (text : Text) (bytes bytes' : List ℕ) → IsItem commands item (Ask text) → IsTrueFor table old.tools old.held.calls → IsTrueFor table old'.tools old'.held.calls → CountsNone old new → CountsNone old' new'
-      → Asks g limit text old bytes new → Asks g most text old' bytes' new' → IsSame g table item bytes bytes' old new old' new'
+      → AsksForObject g limit text old bytes new → AsksForObject g most text old' bytes' new' → IsSame g table item bytes bytes' old new old' new'
   asked text bytes bytes' asks right right' none none' a b =
       let one = answered g limit old new text a.says.said a.given none a.says.holds in
       let other = subst (λ (t : Texts). HasAnswer g t old'.held.calls most text b.says.said b.given old'.tools new'.tools) same (answered g most old' new' text b.says.said b.given none' b.says.holds) in
@@ -182,7 +182,7 @@ module _ (g : Graph) (limit most : ℕ) (table : Table) (files : Files) (item : 
         tree = λ (e : old'.tree ≡ old.tree). b.tree ∙ e ∙ sym a.tree;
       }
 
-  module _ (told : IsToldBy table files old) (told' : IsToldBy table files old') (none : CountsNone old new) (none' : CountsNone old' new') where
+  module _ (told : IsToldByTable table files old) (told' : IsToldByTable table files old') (none : CountsNone old new) (none' : CountsNone old' new') where
     one_step : (c : Command) (body bytes bytes' : List ℕ) → IsItem commands item c → Step g limit old c body bytes new → Step g most old' c body bytes' new' → IsSame g table item bytes bytes' old new old' new'
     one_step (Put name count) body bytes bytes' i a b =
         edited name (Puts old.held.sources name count body) (Puts old'.held.sources name count body) bytes bytes' a b
@@ -210,7 +210,7 @@ module _ (g : Graph) (limit most : ℕ) (table : Table) (files : Files) (item : 
 -- ---- a transcript
 
 -- no fault is counted on the way
-parts : (g : Graph) (limit : ℕ) (first last : State) (item : Item) (items : List Item) (bytes : List ℕ) (replies : List (List ℕ)) (mid : State)
+parts : (g : Graph) (limit : ℕ) (first last : SessionState) (item : Item) (items : List Item) (bytes : List ℕ) (replies : List (List ℕ)) (mid : SessionState)
     → (a : AnswersItem commands (Step g limit) first item bytes mid) → Transcript commands (Step g limit) mid items replies last → CountsNone first last → CountsNone first mid × CountsNone mid last
 parts g limit first last item items bytes replies mid a run none =
     let step = counted g limit first a.command item.body bytes mid a.step in
@@ -220,19 +220,19 @@ parts g limit first last item items bytes replies mid a run none =
     (record { tools = tools.0; tree = tree.0 }, record { tools = tools.1; tree = tree.1 })
 
 module _ (g : Graph) (table : Table) (files : Files) where
-  told_on : (limit : ℕ) (first mid : State) (item : Item) (bytes : List ℕ) → AnswersItem commands (Step g limit) first item bytes mid → IsToldBy table files first → IsToldBy table files mid
+  told_on : (limit : ℕ) (first mid : SessionState) (item : Item) (bytes : List ℕ) → AnswersItem commands (Step g limit) first item bytes mid → IsToldByTable table files first → IsToldByTable table files mid
   told_on limit first mid item bytes a told =
       let stays = step_tree g limit first a.command item.body bytes mid a.step in
       record { right = step_true g limit table first mid told.right a.command item.body bytes a.step; files_are = stays.files ∙ told.files_are }
 
   -- nothing is left to answer
-  ended : (limit most : ℕ) (first last first' last' : State) → first'.held.sources ≡ first.held.sources → last ≡ first → last' ≡ first' → AreSame g limit most table [] [] [] first last first' last'
+  ended : (limit most : ℕ) (first last first' last' : SessionState) → first'.held.sources ≡ first.held.sources → last ≡ first → last' ≡ first' → AreSame g limit most table [] [] [] first last first' last'
   ended limit most first last first' last' same run run' =
-      subst (λ (z : State). AreSame g limit most table [] [] [] first z first' last') (sym run)
-      (subst (λ (z : State). AreSame g limit most table [] [] [] first first first' z) (sym run')
+      subst (λ (z : SessionState). AreSame g limit most table [] [] [] first z first' last') (sym run)
+      (subst (λ (z : SessionState). AreSame g limit most table [] [] [] first first first' z) (sym run')
       (record { replies = AreSideBySide.at_end first first'; sources = same; tree = λ (e : first'.tree ≡ first.tree). e }))
 
-  once : (limit most : ℕ) (items : List Item) (one other : List (List ℕ)) (first last first' last' : State) → first'.held.sources ≡ first.held.sources → IsToldBy table files first → IsToldBy table files first'
+  once : (limit most : ℕ) (items : List Item) (one other : List (List ℕ)) (first last first' last' : SessionState) → first'.held.sources ≡ first.held.sources → IsToldByTable table files first → IsToldByTable table files first'
       → Transcript commands (Step g limit) first items one last → Transcript commands (Step g most) first' items other last'
       → CountsNone first last → CountsNone first' last' → AreSame g limit most table items one other first last first' last'
   once limit most [] [] [] first last first' last' same told told' run run' none none' = ended limit most first last first' last' same run run'
@@ -251,8 +251,8 @@ module _ (g : Graph) (table : Table) (files : Files) where
         tree = λ (e : first'.tree ≡ first.tree). rest.tree (step.tree e);
       }
 
-pub one_transcript : (g : Graph) (limit most : ℕ) (table : Table) (files : Files) (items : List Item) (one other : List (List ℕ)) (first last first' last' : State) → first'.held.sources ≡ first.held.sources
-    → IsToldBy table files first → IsToldBy table files first'
+pub one_transcript : (g : Graph) (limit most : ℕ) (table : Table) (files : Files) (items : List Item) (one other : List (List ℕ)) (first last first' last' : SessionState) → first'.held.sources ≡ first.held.sources
+    → IsToldByTable table files first → IsToldByTable table files first'
     → Transcript commands (Step g limit) first items one last → CountsNone first last
     → Transcript commands (Step g most) first' items other last' → CountsNone first' last' → AreSame g limit most table items one other first last first' last'
 one_transcript g limit most table files items one other first last first' last' same told told' run none run' none' =

@@ -10,7 +10,7 @@ use Rattle.odin_words.specs.Asked.{AsksFor, Serve}
 use Rattle.odin_shell.specs.Language.{commands}
 use Rattle.odin_shell.specs.Laws.{NoFault}
 use Rattle.odin_shell.specs.Objects.{Outside, Meaning}
-use Rattle.odin_shell.specs.Opened.{ReadsAs}
+use Rattle.odin_shell.specs.Opened.{ReadsAsGraph}
 use Rattle.odin_shell.specs.Run.{RunEnds}
 
 module _ {I O T S D : Type 0} (m : Meaning I O T S D) (words : List Text) (before after : Outside I O T S D) where
@@ -24,7 +24,7 @@ module _ {I O T S D : Type 0} (m : Meaning I O T S D) (words : List Text) (befor
     pub files_are : m.files before.tree ≡ Some files
     pub text : Text
     pub graph : Graph
-    pub reads : ReadsAs (given_of files name) text graph
+    pub reads : ReadsAsGraph (given_of files name) text graph
     pub quiet : IsQuiet (m.disk.told before.disk)
     pub held : Held
     pub stands : StandsFor held (m.disk.told before.disk).seen

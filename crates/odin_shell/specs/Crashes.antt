@@ -4,7 +4,7 @@ use Rattle.object_values.specs.declared.nodes.Node.{Node}
 use Rattle.object_values.specs.declared.calls.Call.{Call}
 use Rattle.odin_outside.specs.Disk.{MayLeave as MayBeLeft, IsQuiet}
 use Rattle.odin_outside.specs.Spawned.{Table}
-use Rattle.disk_trails.specs.Trails.{after}
+use Rattle.disk_trails.specs.Trails.{after_changes}
 use Rattle.meaning_graph.specs.Graphs.{Text, Graph}
 use Rattle.meaning_derive.specs.Derive.{Outcomes, derived}
 use Rattle.meaning_derive.specs.Calls.{IsCallFrom}
@@ -23,18 +23,18 @@ use Rattle.odin_answers.specs.Answers.{Agrees}
 use Rattle.odin_answers.specs.Laws.{IsTrueFor}
 use Rattle.odin_shell.specs.Filed.{DiskMeaning}
 use Rattle.odin_shell.specs.Language.{commands}
-use Rattle.odin_shell.specs.Machine.{State, Told, Step, MayLeave, IsLeft}
+use Rattle.odin_shell.specs.Machine.{SessionState, Told, Step, CommandMayLeave, StateAtExit}
 
 -- A session has come this far over these items: all are answered, or the last of them was begun and has no reply.
-pub data ComesTo (g : Graph) (limit : ℕ) (first : State) : List Item → State → Type 0 where
-  answered : (items : List Item) (replies : List (List ℕ)) (state : State) → Transcript commands (Step g limit) first items replies state → ComesTo g limit first items state
-  begun : (items : List Item) (replies : List (List ℕ)) (state : State) (item : Item) (command : Command) (furthest : State)
-      → Transcript commands (Step g limit) first items replies state → IsItem commands item command → MayLeave g limit state command item.body furthest
-      → ComesTo g limit first (items ++ item ∷ []) furthest
+pub data SessionComesTo (g : Graph) (limit : ℕ) (first : SessionState) : List Item → SessionState → Type 0 where
+  answered : (items : List Item) (replies : List (List ℕ)) (state : SessionState) → Transcript commands (Step g limit) first items replies state → SessionComesTo g limit first items state
+  begun : (items : List Item) (replies : List (List ℕ)) (state : SessionState) (item : Item) (command : Command) (furthest : SessionState)
+      → Transcript commands (Step g limit) first items replies state → IsItem commands item command → CommandMayLeave g limit state command item.body furthest
+      → SessionComesTo g limit first (items ++ item ∷ []) furthest
 
 -- The item asks for a node. These outcomes came of the tools, at calls at which its derivation stopped by the sources and the calls that are
 -- held then; and the call is one of the node, whatever else comes to be known than what is kept and what came.
-pub record IsCallOfAsk (g : Graph) (old : State) (item : Item) (call : Call) : Type 0 where
+pub record IsCallOfAsk (g : Graph) (old : SessionState) (item : Item) (call : Call) : Type 0 where
   pub text : Text
   pub is : IsItem commands item (Ask text)
   pub node : Node
@@ -45,33 +45,33 @@ pub record IsCallOfAsk (g : Graph) (old : State) (item : Item) (call : Call) : T
   pub from : (outcomes : Outcomes) → Agrees old.held.calls given outcomes → IsCallFrom g (derived g old.held.sources outcomes) node call
 
 -- It is one of an ask among these items.
-pub record ComesOfAsk (g : Graph) (limit : ℕ) (first : State) (items : List Item) (call : Call) : Type 0 where
+pub record ComesOfAsk (g : Graph) (limit : ℕ) (first : SessionState) (items : List Item) (call : Call) : Type 0 where
   pub front : List Item
   pub item : Item
   pub rest : List Item
   pub cuts : items ≡ front ++ item ∷ rest
   pub replies : List (List ℕ)
-  pub old : State
+  pub old : SessionState
   pub run : Transcript commands (Step g limit) first front replies old
   pub is : IsCallOfAsk g old item call
 
 -- A call was kept at the start, or is one of an ask.
-abbrev pub IsOurs : Graph → ℕ → State → List Item → Call → Type 0
+abbrev pub IsOurs : Graph → ℕ → SessionState → List Item → Call → Type 0
 IsOurs g limit first items call = IsSome (kept_outcome first.held.calls call) ⊎ ComesOfAsk g limit first items call
 
 -- By a table it is one of a node of an ask among these items: by the sources that are held then, with nothing kept.
-pub record ComesByTable (g : Graph) (limit : ℕ) (first : State) (items : List Item) (table : Table) (call : Call) : Type 0 where
+pub record ComesByTable (g : Graph) (limit : ℕ) (first : SessionState) (items : List Item) (table : Table) (call : Call) : Type 0 where
   pub ask : ComesOfAsk g limit first items call
   pub from : IsCallFrom g (derived g ask.old.held.sources (table_outcomes table)) ask.is.node call
 
 -- The image stands for what the first of the changes made, at least so many of them. Each call that it keeps is ours; and where the tools
 -- answer by a table it is ours by the table, and has the outcome that the table gives.
-pub record HoldsOurs (g : Graph) (limit : ℕ) (first : State) (items : List Item) (furthest : State) (least : ℕ) (image : List ℕ) : Type 0 where
+pub record HoldsOurs (g : Graph) (limit : ℕ) (first : SessionState) (items : List Item) (furthest : SessionState) (least : ℕ) (image : List ℕ) : Type 0 where
   pub held : Held
   pub stands : StandsFor held image
   pub count : ℕ
   pub at_least : least ≤ count
-  pub is : held ≡ after store_keeping (take count furthest.changes) first.held
+  pub is : held ≡ after_changes store_keeping (take count furthest.changes) first.held
   pub calls : (call : Call) → IsSome (kept_outcome held.calls call) → IsOurs g limit first items call
   pub table_calls : (table : Table) → IsTrueFor table first.tools first.held.calls → (call : Call) → IsSome (kept_outcome held.calls call)
       → IsSome (kept_outcome first.held.calls call) ⊎ ComesByTable g limit first items table call
@@ -80,12 +80,12 @@ pub record HoldsOurs (g : Graph) (limit : ℕ) (first : State) (items : List Ite
 module _ {D : Type 0} (disk : DiskMeaning D) where
   -- At an exit of a session that began with no change, over a disk on which nothing was pending: an image that a crash since the start may
   -- have left, and one that a crash may leave now, with all that is acknowledged.
-  pub record LeavesOurs (g : Graph) (limit : ℕ) (first : State) (items : List Item) (start : Told D) (acknowledged furthest : State) (now : Told D) : Type 0 where
+  pub record LeavesOurs (g : Graph) (limit : ℕ) (first : SessionState) (items : List Item) (start : Told D) (acknowledged furthest : SessionState) (now : Told D) : Type 0 where
     pub since : (image : List ℕ) → (disk.told now.disk).left_since (disk.told start.disk).moment image → HoldsOurs g limit first items furthest 0 image
     pub left : (image : List ℕ) → MayBeLeft (disk.told now.disk) image → HoldsOurs g limit first items furthest (length acknowledged.changes) image
 
   abbrev pub ImagesHoldOurs : Type 0
   ImagesHoldOurs =
-      (g : Graph) (limit : ℕ) (text : Text) (first : State) (items : List Item) (start : Told D) (acknowledged furthest : State) (now : Told D)
-      → first.changes ≡ [] → IsQuiet (disk.told start.disk) → ComesTo g limit first items furthest
-      → IsLeft disk g text limit first start acknowledged furthest now → LeavesOurs g limit first items start acknowledged furthest now
+      (g : Graph) (limit : ℕ) (text : Text) (first : SessionState) (items : List Item) (start : Told D) (acknowledged furthest : SessionState) (now : Told D)
+      → first.changes ≡ [] → IsQuiet (disk.told start.disk) → SessionComesTo g limit first items furthest
+      → StateAtExit disk g text limit first start acknowledged furthest now → LeavesOurs g limit first items start acknowledged furthest now

@@ -7,27 +7,27 @@ use Rattle.odin_journal.specs.declared.fault.JournalFault.TheVariants as fault
 use Rattle.odin_shell.specs.declared.stop.Stop.{Stop}
 use Rattle.odin_shell.specs.declared.stop.Stop.TheVariants as stop
 
-abbrev pub status_of : Ending → ℕ
-status_of Whole = 0
-status_of CutShort = 1
-status_of BadGraph = 2
-status_of Disk = 3
-status_of Memory = 4
-status_of Output = 5
-status_of Input = 6
-status_of (NotOurs at) = 7
-status_of (Full at size) = 8
-status_of Usage = 9
-status_of TooLong = 10
-status_of Loaded = 0
-status_of Room = 3
+abbrev pub ending_status : Ending → ℕ
+ending_status Whole = 0
+ending_status CutShort = 1
+ending_status BadGraph = 2
+ending_status Disk = 3
+ending_status Memory = 4
+ending_status Output = 5
+ending_status Input = 6
+ending_status (NotOurs at) = 7
+ending_status (Full at size) = 8
+ending_status Usage = 9
+ending_status TooLong = 10
+ending_status Loaded = 0
+ending_status Room = 3
 
 -- the endings that leave what runs: those of the store's faults, and want of memory
-abbrev pub LeavesTools : Ending → Type 0
-LeavesTools Disk = ⊤
-LeavesTools Memory = ⊤
-LeavesTools (Full at size) = ⊤
-LeavesTools other = ⊥
+abbrev pub EndingLeavesTools : Ending → Type 0
+EndingLeavesTools Disk = ⊤
+EndingLeavesTools Memory = ⊤
+EndingLeavesTools (Full at size) = ⊤
+EndingLeavesTools other = ⊥
 
 -- how a run ends whose serving stopped
 abbrev pub ending_of : Stop → Ending

@@ -2,7 +2,7 @@
 use Rattle.std.specs.Prelude.{◌≡◌, ◌⊎◌, ℕ, ◌+◌, ◌*◌, ◌≤◌, List, [], ◌∷◌, ◌++◌, length, Some}
 use Rattle.odin_outside.specs.Causes.{Rose}
 use Rattle.odin_outside.specs.Disk.{Telling, IsQuiet}
-use Rattle.disk_trails.specs.Trails.{Trail, Leaves}
+use Rattle.disk_trails.specs.Trails.{Trail, LeavesPrefix}
 use Rattle.meaning_graph.specs.Graphs.{Text}
 use Rattle.meaning_store.specs.Images.{Stored, IsStore}
 use Rattle.odin_journal.specs.Moments.{Works}
@@ -13,9 +13,9 @@ use Rattle.odin_store.specs.declared.store.Store.{Store}
 use Rattle.odin_store.specs.Held.{Held, Change, StandsFor}
 use Rattle.odin_store.specs.OnDisk.{state_in, IsOn, IsOver}
 use Rattle.odin_store.specs.Opening.{IsOpening}
-use Rattle.odin_store.specs.Written.{written_in, with_records, IsMade, record_keeping}
+use Rattle.odin_store.specs.Written.{written_in, with_records, StoreIsMade, record_keeping}
 use Rattle.odin_store.specs.Keeping.{store_keeping}
-use Rattle.odin_store.specs.Going.{IsBatchOf, AreBatches, IsBegun}
+use Rattle.odin_store.specs.Going.{IsBatchOf, AreBatches, IsPartialBatch}
 
 -- what a disk tells: of its bytes and of crashes, its size, and how often it failed
 pub record DiskMeaning (Disk : Type 0) : Type 1 where
@@ -52,7 +52,7 @@ pub record HasWritten (text : Text) (changes : List Change) (start : Telling) (s
   pub are : AreBatches over.opened changes payloads (state_in store (Some text))
   pub on : IsOn now store ((over.records ++ over.opening) ++ payloads) (Some text)
   pub made : List ℕ
-  pub is_made : IsMade start.seen made
+  pub is_made : StoreIsMade start.seen made
   pub gate : ℕ
   pub whole : IsStore made over.records gate
   pub end : store.journal.end ≡ gate_behind gate (over.opening ++ payloads)
@@ -71,8 +71,8 @@ pub record StopsWriting (text : Text) (changes : List Change) (start now : Telli
   pub last : Read
   pub are : AreBatches over.opened made payloads last
   pub begun : List (List ℕ)
-  pub next : IsBegun last.tables.contents rest begun
-  pub leaves : Leaves record_keeping over.records start (over.opening ++ payloads) (over.opening ++ (payloads ++ begun)) now
+  pub next : IsPartialBatch last.tables.contents rest begun
+  pub leaves : LeavesPrefix record_keeping over.records start (over.opening ++ payloads) (over.opening ++ (payloads ++ begun)) now
   pub works : WorksOver text start over (payloads ++ begun) now
 
 -- The file has the batches of the changes that are acknowledged and of some more, but of none that isn't one of these.
@@ -91,7 +91,7 @@ pub record OverBehind (text : Text) (front : List Change) (change : Change) (sta
   pub batch : IsBatchOf store.kept.tables.contents change items
   pub over : IsOver items store.journal.end at size
 
-pub record IsFull (text : Text) (furthest : List Change) (start now : Telling) (at size : ℕ) : Type 0 where
+pub record HasNoRoomForLast (text : Text) (furthest : List Change) (start now : Telling) (at size : ℕ) : Type 0 where
   pub front : List Change
   pub change : Change
   pub whole : furthest ≡ front ++ change ∷ []
@@ -103,14 +103,14 @@ pub record IsFull (text : Text) (furthest : List Change) (start now : Telling) (
 pub record HoldsAll (text : Text) (held : Held) (changes : List Change) (start now : Telling) : Type 0 where
   pub store : Store
   pub written : HasWritten text changes start store now
-  pub crash : Leaves store_keeping held start changes changes now
+  pub crash : LeavesPrefix store_keeping held start changes changes now
 
 -- Every such image has all of these changes but the last.
 pub record LacksLast (held : Held) (changes : List Change) (start now : Telling) : Type 0 where
   pub front : List Change
   pub change : Change
   pub whole : changes ≡ front ++ change ∷ []
-  pub crash : Leaves store_keeping held start front changes now
+  pub crash : LeavesPrefix store_keeping held start front changes now
 
 -- the file stands for this, where nothing is pending on it
 abbrev pub StartsFrom : Telling → Held → Type 0
@@ -120,6 +120,6 @@ StartsFrom start held = IsQuiet start → StandsFor held start.seen
 -- changes, and every image that one may leave now has all that are acknowledged. What the file has is that, too, by its records, unless
 -- the disk failed; and then every image has the records of the start with some first ones of those that belong to it.
 pub record IsSafe (text : Text) (held : Held) (acknowledged furthest : List Change) (start now : Telling) (before after : ℕ) : Type 0 where
-  pub crash : IsQuiet start → Leaves store_keeping held start acknowledged furthest now
+  pub crash : IsQuiet start → LeavesPrefix store_keeping held start acknowledged furthest now
   pub written : IsQuiet start → LiesBetween text acknowledged furthest start now ⊎ (Rose before after × StopsWriting text furthest start now)
   pub later : before ≤ after

@@ -26,16 +26,16 @@ use Rattle.meaning_answers.specs.Answers as answers
 use Rattle.walk_tables.specs.Calls.{AreOnce}
 use Rattle.plain_derive.specs.Given.{calls_of}
 use Rattle.odin_answers.specs.Laws.{IsTrueFor}
-use Rattle.source_edits.specs.Edits.{Says, TreeTold, IsAsked, Puts, Takes, Removes, source_lines}
+use Rattle.source_edits.specs.Edits.{SaysReply, TreeTold, TreeIsAsked, Puts, Takes, Removes, source_lines}
 use Rattle.odin_shell.specs.Language.{commands}
-use Rattle.odin_shell.specs.Machine.{State, Step}
+use Rattle.odin_shell.specs.Machine.{SessionState, Step}
 
 pub record FreshState : Type 0 where
   pub sources : Texts
   pub calls : List Call
   pub tree : TreeTold
 
-abbrev pub fresh_of : State → FreshState
+abbrev pub fresh_of : SessionState → FreshState
 fresh_of state = record { sources = state.held.sources; calls = calls_of state.held.calls; tree = state.tree }
 
 -- ---- asks
@@ -75,19 +75,19 @@ module _ (g : Graph) (table : Table) (old new : FreshState) where
 
 -- a reply of which this holds, and no change but of the sources
 pub record FreshEdits (P : Reply → Texts → Type 0) (old : FreshState) (bytes : List ℕ) (new : FreshState) : Type 0 where
-  pub says : Says (λ said. P said new.sources) bytes
+  pub says : SaysReply (λ said. P said new.sources) bytes
   pub calls : new.calls ≡ old.calls
   pub tree : new.tree ≡ old.tree
 
 -- the tree is asked for a file
 pub record FreshTakes (name : Text) (old : FreshState) (bytes : List ℕ) (new : FreshState) : Type 0 where
-  pub says : Says (λ said. Takes old.sources name old.tree said new.sources new.tree) bytes
-  pub asked : IsAsked old.tree new.tree
+  pub says : SaysReply (λ said. Takes old.sources name old.tree said new.sources new.tree) bytes
+  pub asked : TreeIsAsked old.tree new.tree
   pub calls : new.calls ≡ old.calls
 
 -- a reply of which this holds, and no change
 abbrev pub FreshSays : (Reply → Type 0) → FreshState → List ℕ → FreshState → Type 0
-FreshSays P old bytes new = Says P bytes × (new ≡ old)
+FreshSays P old bytes new = SaysReply P bytes × (new ≡ old)
 
 abbrev pub FreshReplies : Reply → FreshState → List ℕ → FreshState → Type 0
 FreshReplies said old bytes new = (bytes ≡ reply_text said) × (new ≡ old)
@@ -96,7 +96,7 @@ abbrev pub FreshStep : Graph → Table → FreshState → Command → List ℕ �
 FreshStep g table old (Put name count) body bytes new = FreshEdits (Puts old.sources name count body) old bytes new
 FreshStep g table old (Take name) body bytes new = FreshTakes name old bytes new
 FreshStep g table old (Remove name) body bytes new = FreshEdits (Removes old.sources name) old bytes new
-FreshStep g table old (Ask text) body bytes new = Says (FreshAnswer g table old new text) bytes
+FreshStep g table old (Ask text) body bytes new = SaysReply (FreshAnswer g table old new text) bytes
 FreshStep g table old (Plan text) body bytes new = FreshSays (answers.Plan g text) old bytes new
 FreshStep g table old Sources body bytes new = FreshReplies (reply.Sources (source_lines old.sources)) old bytes new
 FreshStep g table old Kept body bytes new = FreshReplies (reply.Kept (length old.calls)) old bytes new
@@ -112,7 +112,7 @@ FreshStep g table old (BadName count) body bytes new = FreshReplies reply.Refuse
 -- an answer, by some of them at a chain or a refused start, and by no others.
 abbrev pub RunIsFresh : Type 0
 RunIsFresh =
-    (g : Graph) (limit : ℕ) (table : Table) (first last : State) (items : List Item) (replies : List (List ℕ))
+    (g : Graph) (limit : ℕ) (table : Table) (first last : SessionState) (items : List Item) (replies : List (List ℕ))
     → IsTrueFor table first.tools first.held.calls
     → Transcript commands (Step g limit) first items replies last
     → Transcript commands (FreshStep g table) (fresh_of first) items replies (fresh_of last)

@@ -4,7 +4,7 @@ use Rattle.meaning_texts.specs.Limits.{body_limit}
 use Rattle.meaning_run.specs.Items.{Language}
 use Rattle.meaning_commands.specs.declared.commands.Command.{Command}
 use Rattle.meaning_commands.specs.declared.commands.Command.TheVariants.{Put}
-use Rattle.meaning_commands.specs.Commands.{Spells, takes, ends_run}
+use Rattle.meaning_commands.specs.Commands.{Spells, bytes_after_line, ends_run}
 
 -- The bytes behind a `put` are kept where they are a text. All others are passed over.
 abbrev pub keeps_body : Command → Bool
@@ -18,7 +18,7 @@ kept_of command count = cond (keeps_body command) count 0
 abbrev pub commands : Language Command
 commands = record {
   Spells = λ command line. Spells line command;
-  takes = takes;
+  takes = bytes_after_line;
   keeps_body = keeps_body;
   ends_run = ends_run;
 }

@@ -3,7 +3,7 @@ use Rattle.std.specs.Prelude.{◌≡◌, ◌≢◌, ◌⊎◌, ℕ, ◌≤◌, L
 use Rattle.odin_outside.specs.Causes.{Rose}
 use Rattle.odin_outside.specs.Disk.{IsQuiet}
 use Rattle.odin_outside.specs.Spawned.{Spawned}
-use Rattle.disk_trails.specs.Trails.{Trail, after}
+use Rattle.disk_trails.specs.Trails.{Trail, after_changes}
 use Rattle.object_sources.specs.Texts.{Texts}
 use Rattle.meaning_graph.specs.Graphs.{Text, Graph}
 use Rattle.meaning_records.specs.Tables.{Calls}
@@ -26,20 +26,20 @@ use Rattle.meaning_commands.specs.declared.replies.Reply.TheVariants as reply
 use Rattle.meaning_commands.specs.Replies.{reply_text}
 use Rattle.odin_shell.specs.declared.stop.Stop.{Stop}
 use Rattle.odin_shell.specs.declared.stop.Stop.TheVariants as stop
-use Rattle.odin_shell.specs.Filed.{DiskMeaning, HasWritten, HoldsAll, LacksLast, IsFull, IsSafe}
-use Rattle.source_edits.specs.Edits.{Says, TreeTold, TreeStays, IsAsked, Puts, Takes, Removes, source_lines}
+use Rattle.odin_shell.specs.Filed.{DiskMeaning, HasWritten, HoldsAll, LacksLast, HasNoRoomForLast, IsSafe}
+use Rattle.source_edits.specs.Edits.{SaysReply, TreeTold, TreeStays, TreeIsAsked, Puts, Takes, Removes, source_lines}
 use Rattle.source_edits.specs.Changes.{edit_changes}
 
 -- What is held: the sources, and the calls that are kept; the changes since the start that made it so; and what is told of the tools and
 -- of the tree.
-pub record State : Type 0 where
+pub record SessionState : Type 0 where
   pub held : Held
   pub changes : List Change
   pub tools : Spawned
   pub tree : TreeTold
 
 -- with no change yet
-abbrev pub at_first : Held → Spawned → TreeTold → State
+abbrev pub at_first : Held → Spawned → TreeTold → SessionState
 at_first held tools tree = record { held = held; changes = []; tools = tools; tree = tree }
 
 -- What is told of the sink, of the tools and of the tree, and the disk itself. Where the session stopped at a batch that doesn't fit, the two
@@ -54,48 +54,48 @@ pub record Told (Disk : Type 0) : Type 0 where
 -- ---- commands
 
 -- These changes are made of what is held, and no others.
-pub record Makes (changes : List Change) (old new : State) : Type 0 where
-  pub held : new.held ≡ after store_keeping changes old.held
+pub record Applies (changes : List Change) (old new : SessionState) : Type 0 where
+  pub held : new.held ≡ after_changes store_keeping changes old.held
   pub list : new.changes ≡ old.changes ++ changes
 
 -- A reply of which this holds, and no change but that of this source.
-pub record Edits (name : Text) (P : Reply → Texts → Type 0) (old : State) (bytes : List ℕ) (new : State) : Type 0 where
-  pub says : Says (λ said. P said new.held.sources) bytes
-  pub makes : Makes (edit_changes name old.held.sources new.held.sources) old new
+pub record EditsByCommand (name : Text) (P : Reply → Texts → Type 0) (old : SessionState) (bytes : List ℕ) (new : SessionState) : Type 0 where
+  pub says : SaysReply (λ said. P said new.held.sources) bytes
+  pub makes : Applies (edit_changes name old.held.sources new.held.sources) old new
   pub tools : new.tools ≡ old.tools
   pub tree : new.tree ≡ old.tree
 
 -- The tree is asked for a file.
-pub record EditsByFile (name : Text) (old : State) (bytes : List ℕ) (new : State) : Type 0 where
-  pub says : Says (λ said. Takes old.held.sources name old.tree said new.held.sources new.tree) bytes
-  pub makes : Makes (edit_changes name old.held.sources new.held.sources) old new
-  pub asked : IsAsked old.tree new.tree
+pub record EditsByFile (name : Text) (old : SessionState) (bytes : List ℕ) (new : SessionState) : Type 0 where
+  pub says : SaysReply (λ said. Takes old.held.sources name old.tree said new.held.sources new.tree) bytes
+  pub makes : Applies (edit_changes name old.held.sources new.held.sources) old new
+  pub asked : TreeIsAsked old.tree new.tree
   pub tools : new.tools ≡ old.tools
 
 -- The object of a text is answered as it is derived from the present sources with nothing kept; it may be refused where the count of the
 -- tools' faults rose. Tools run only as its derivation calls them, as many at once as may, and each outcome is kept.
-pub record Asks (g : Graph) (limit : ℕ) (text : Text) (old : State) (bytes : List ℕ) (new : State) : Type 0 where
+pub record AsksForObject (g : Graph) (limit : ℕ) (text : Text) (old : SessionState) (bytes : List ℕ) (new : SessionState) : Type 0 where
   pub given : Calls
-  pub says : Says (λ said. IsReply g old.held.sources old.held.calls limit text said given old.tools new.tools) bytes
-  pub makes : Makes (keeps_of given) old new
+  pub says : SaysReply (λ said. IsReply g old.held.sources old.held.calls limit text said given old.tools new.tools) bytes
+  pub makes : Applies (keeps_of given) old new
   pub tree : new.tree ≡ old.tree
 
 -- A reply of which this holds, and no change.
-pub record Shows (P : Reply → Type 0) (old : State) (bytes : List ℕ) (new : State) : Type 0 where
-  pub says : Says P bytes
+pub record Shows (P : Reply → Type 0) (old : SessionState) (bytes : List ℕ) (new : SessionState) : Type 0 where
+  pub says : SaysReply P bytes
   pub same : new ≡ old
 
 -- this reply, and no change
-abbrev pub Replies : Reply → State → List ℕ → State → Type 0
+abbrev pub Replies : Reply → SessionState → List ℕ → SessionState → Type 0
 Replies said old bytes new = (bytes ≡ reply_text said) × (new ≡ old)
 
 -- From the old state the command with these bytes behind its line gets this reply, and the new state comes after it. So many tools may run at
 -- once.
-abbrev pub Step : Graph → ℕ → State → Command → List ℕ → List ℕ → State → Type 0
-Step g limit old (Put name count) body bytes new = Edits name (Puts old.held.sources name count body) old bytes new
+abbrev pub Step : Graph → ℕ → SessionState → Command → List ℕ → List ℕ → SessionState → Type 0
+Step g limit old (Put name count) body bytes new = EditsByCommand name (Puts old.held.sources name count body) old bytes new
 Step g limit old (Take name) body bytes new = EditsByFile name old bytes new
-Step g limit old (Remove name) body bytes new = Edits name (Removes old.held.sources name) old bytes new
-Step g limit old (Ask text) body bytes new = Asks g limit text old bytes new
+Step g limit old (Remove name) body bytes new = EditsByCommand name (Removes old.held.sources name) old bytes new
+Step g limit old (Ask text) body bytes new = AsksForObject g limit text old bytes new
 Step g limit old (Plan text) body bytes new = Shows (answers.Plan g text) old bytes new
 Step g limit old Sources body bytes new = Replies (reply.Sources (source_lines old.held.sources)) old bytes new
 Step g limit old Kept body bytes new = Replies (reply.Kept (length old.held.calls)) old bytes new
@@ -114,29 +114,29 @@ abbrev pub IsTakeChange : Text → TreeTold → Change → Type 0
 IsTakeChange name tree change = (text : Text) × (length text ≤ body_limit) × IsGiven tree.files name (Some text) × (change ≡ puts name text)
 
 -- Such a change was asked for and due, or none was.
-pub record MayEdit (Asked : Change → Type 0) (old new : State) : Type 0 where
+pub record MayEdit (Asked : Change → Type 0) (old new : SessionState) : Type 0 where
   pub changes : List Change
   pub due : (changes ≡ []) ⊎ ((change : Change) × Asked change × IsDue change old.held × (changes ≡ change ∷ []))
-  pub makes : Makes changes old new
+  pub makes : Applies changes old new
   pub tools : new.tools ≡ old.tools
 
 -- An `ask` may have begun its derivation: each outcome that came of it is kept, but for the last at most.
-pub record MayHaveAsked (g : Graph) (limit : ℕ) (text : Text) (old new : State) : Type 0 where
+pub record MayHaveAsked (g : Graph) (limit : ℕ) (text : Text) (old new : SessionState) : Type 0 where
   pub given : Calls
   pub rest : Calls
   pub few : length rest ≤ 1
   pub begun : MayHaveBegun g old.held.sources old.held.calls limit text (given ++ rest) old.tools new.tools
-  pub makes : Makes (keeps_of given) old new
+  pub makes : Applies (keeps_of given) old new
   pub tree : new.tree ≡ old.tree
 
 -- What a command without its reply may leave: of an edit its change; of an `ask` its derivation, as far as it was begun; of a `take` that the
 -- tree was asked; of any other command nothing.
-abbrev pub MayLeave : Graph → ℕ → State → Command → List ℕ → State → Type 0
-MayLeave g limit old (Put name count) body new = MayEdit (IsPutChange name count body) old new × (new.tree ≡ old.tree)
-MayLeave g limit old (Take name) body new = MayEdit (IsTakeChange name old.tree) old new × IsAsked old.tree new.tree
-MayLeave g limit old (Remove name) body new = MayEdit (λ change. change ≡ drops name) old new × (new.tree ≡ old.tree)
-MayLeave g limit old (Ask text) body new = MayHaveAsked g limit text old new
-MayLeave g limit old other body new = new ≡ old
+abbrev pub CommandMayLeave : Graph → ℕ → SessionState → Command → List ℕ → SessionState → Type 0
+CommandMayLeave g limit old (Put name count) body new = MayEdit (IsPutChange name count body) old new × (new.tree ≡ old.tree)
+CommandMayLeave g limit old (Take name) body new = MayEdit (IsTakeChange name old.tree) old new × TreeIsAsked old.tree new.tree
+CommandMayLeave g limit old (Remove name) body new = MayEdit (λ change. change ≡ drops name) old new × (new.tree ≡ old.tree)
+CommandMayLeave g limit old (Ask text) body new = MayHaveAsked g limit text old new
+CommandMayLeave g limit old other body new = new ≡ old
 
 -- ---- between two commands, and at an exit
 
@@ -149,7 +149,7 @@ pub record ToolsStay (start now : Spawned) : Type 0 where
 module _ {Disk : Type 0} (disk : DiskMeaning Disk) (g : Graph) (text : Text) (limit : ℕ) where
   -- Between two commands the engine works by this graph and this limit, 64 at most. The store holds what the state does, and rests on its
   -- file; tools and tree are told as in the state, and no tool runs. No fault of the disk was counted.
-  pub record Belongs (first : State) (start : Told Disk) (code : Engaged) (state : State) (now : Told Disk) : Type 0 where
+  pub record SessionInvariant (first : SessionState) (start : Told Disk) (code : Engaged) (state : SessionState) (now : Told Disk) : Type 0 where
     pub graph : code.graph ≡ g
     pub jobs : code.jobs ≡ limit
     pub few : limit ≤ 64
@@ -172,7 +172,7 @@ module _ {Disk : Type 0} (disk : DiskMeaning Disk) (g : Graph) (text : Text) (li
   -- At an exit tools and tree have done what they did in the furthest state, and no more, and no fault is acknowledged that they have not
   -- counted. All changes that are acknowledged are in every image that a crash may leave; and so are all others, but for the last one, where
   -- the disk failed at it or its batch didn't fit.
-  pub record IsLeft (first : State) (start : Told Disk) (acknowledged furthest : State) (now : Told Disk) : Type 0 where
+  pub record StateAtExit (first : SessionState) (start : Told Disk) (acknowledged furthest : SessionState) (now : Told Disk) : Type 0 where
     pub tools : now.tools ≡ furthest.tools
     pub tree : now.tree ≡ furthest.tree
     pub counted : acknowledged.tools.faults ≤ now.tools.faults
@@ -182,15 +182,15 @@ module _ {Disk : Type 0} (disk : DiskMeaning Disk) (g : Graph) (text : Text) (li
     pub safe : IsSafe text first.held acknowledged.changes furthest.changes (disk.told start.disk) (disk.told now.disk) (disk.faults start.disk) (disk.faults now.disk)
     pub lasting : IsQuiet (disk.told start.disk) → HoldsAll text first.held furthest.changes (disk.told start.disk) (disk.told now.disk)
         ⊎ (StoreFailed start now × LacksLast first.held furthest.changes (disk.told start.disk) (disk.told now.disk))
-    pub full : (at size : ℕ) → now.over ≡ Some (at, size) → IsFull text furthest.changes (disk.told start.disk) (disk.told now.disk) at size
+    pub full : (at size : ℕ) → now.over ≡ Some (at, size) → HasNoRoomForLast text furthest.changes (disk.told start.disk) (disk.told now.disk) at size
 
-  abbrev pub machine : Machine Command Engaged State (Told Disk)
+  abbrev pub machine : Machine Command Engaged SessionState (Told Disk)
   machine = record {
     sink = λ told. told.sink;
     Step = Step g limit;
-    MayLeave = λ state command body furthest. MayLeave g limit state command body furthest;
-    Invariant = λ first start code state now. Belongs first start code state now;
-    AtExit = λ first start acknowledged furthest now. IsLeft first start acknowledged furthest now;
+    MayLeave = λ state command body furthest. CommandMayLeave g limit state command body furthest;
+    Invariant = λ first start code state now. SessionInvariant first start code state now;
+    AtExit = λ first start acknowledged furthest now. StateAtExit first start acknowledged furthest now;
   }
 
 -- where a session may stop at a command
@@ -206,5 +206,5 @@ abbrev pub over_of : Stop → Option (ℕ × ℕ)
 over_of (stop.Full at size) = Some (at, size)
 over_of other = None
 
-abbrev pub stopped : {Disk : Type 0} → Stop → Told Disk → Told Disk
-stopped s told = record told { over = over_of s }
+abbrev pub told_with_stop : {Disk : Type 0} → Stop → Told Disk → Told Disk
+told_with_stop s told = record told { over = over_of s }

@@ -19,14 +19,14 @@ use Rattle.odin_answers.specs.Answers.{HasAnswer, IsReply}
 use Rattle.odin_answers.specs.Laws.{IsAnsweredAtOnce}
 use Rattle.odin_shell.specs.Filed.{DiskMeaning}
 use Rattle.odin_shell.specs.Language.{commands}
-use Rattle.odin_shell.specs.Machine.{State, Told, Makes, Step, MayLeave, IsLeft}
+use Rattle.odin_shell.specs.Machine.{SessionState, Told, Applies, Step, CommandMayLeave, StateAtExit}
 
 -- ---- over a whole session
 
 -- All outcomes that came of tools are kept after those of before, in their order. None is of a call that was kept, and no two are of one
 -- call: no tool was run twice to its end for the same inputs. Where the tools' log is told, the tools that came to their end by it are just
 -- those of these calls, in this order, and none that was started runs still.
-pub record CameOnce (first last : State) : Type 0 where
+pub record CameOnce (first last : SessionState) : Type 0 where
   pub came : Calls
   pub kept : last.held.calls ≡ first.held.calls ++ came
   pub new : AreNew (kept_outcome first.held.calls) came
@@ -34,29 +34,29 @@ pub record CameOnce (first last : State) : Type 0 where
 
 abbrev pub NeverTwice : Type 0
 NeverTwice =
-    (g : Graph) (limit : ℕ) (first last : State) (items : List Item) (replies : List (List ℕ))
+    (g : Graph) (limit : ℕ) (first last : SessionState) (items : List Item) (replies : List (List ℕ))
     → Transcript commands (Step g limit) first items replies last → CameOnce first last
 
 -- ---- behind a crash
 
 -- A text was answered in a session, and the answer was acknowledged.
-pub record IsAcknowledged (g : Graph) (limit : ℕ) (text : Text) (reply : Reply) (first acknowledged : State) : Type 0 where
+pub record IsAcknowledged (g : Graph) (limit : ℕ) (text : Text) (reply : Reply) (first acknowledged : SessionState) : Type 0 where
   pub front : List Item
   pub replies : List (List ℕ)
-  pub old : State
+  pub old : SessionState
   pub begins : Transcript commands (Step g limit) first front replies old
   pub given : Calls
-  pub mid : State
+  pub mid : SessionState
   pub answer : HasAnswer g old.held.sources old.held.calls limit text reply given old.tools mid.tools
-  pub makes : Makes (keeps_of given) old mid
+  pub makes : Applies (keeps_of given) old mid
   pub back : List Item
   pub others : List (List ℕ)
   pub goes : Transcript commands (Step g limit) mid back others acknowledged
 
 -- The furthest state is what is acknowledged, or one command came behind it: without a reply, or with one that was cut off.
-pub data GoesBeyond (g : Graph) (limit : ℕ) (acknowledged furthest : State) : Type 0 where
+pub data GoesBeyond (g : Graph) (limit : ℕ) (acknowledged furthest : SessionState) : Type 0 where
   no_more : furthest ≡ acknowledged → GoesBeyond g limit acknowledged furthest
-  unreplied : (item : Item) (command : Command) → IsItem commands item command → MayLeave g limit acknowledged command item.body furthest → GoesBeyond g limit acknowledged furthest
+  unreplied : (item : Item) (command : Command) → IsItem commands item command → CommandMayLeave g limit acknowledged command item.body furthest → GoesBeyond g limit acknowledged furthest
   cut_off : (item : Item) (reply : List ℕ) → AnswersItem commands (Step g limit) acknowledged item reply furthest → GoesBeyond g limit acknowledged furthest
 
 -- What is held when the file is opened again: from the same sources the text is answered at once, whatever tools there are then and however
@@ -72,8 +72,8 @@ module _ {D : Type 0} (disk : DiskMeaning D) where
   -- So it is of every acknowledged answer at every exit, in each image that a crash may leave then.
   abbrev pub AnswersSurvive : Type 0
   AnswersSurvive =
-      (g : Graph) (graph_text : Text) (limit : ℕ) (first : State) (start : Told D) (acknowledged furthest : State) (now : Told D)
+      (g : Graph) (graph_text : Text) (limit : ℕ) (first : SessionState) (start : Told D) (acknowledged furthest : SessionState) (now : Told D)
       → first.changes ≡ [] → IsQuiet (disk.told start.disk) → GoesBeyond g limit acknowledged furthest
-      → IsLeft disk g graph_text limit first start acknowledged furthest now
+      → StateAtExit disk g graph_text limit first start acknowledged furthest now
       → (text : Text) (reply : Reply) → (a : IsAcknowledged g limit text reply first acknowledged)
       → (image : List ℕ) → MayBeLeft (disk.told now.disk) image → StaysAnswered g text a.old.held.sources image

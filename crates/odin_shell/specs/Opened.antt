@@ -25,13 +25,13 @@ fault_words UnknownParam = codes "unknown param"
 abbrev pub no_file_line : Text
 no_file_line = with_lf (codes "graph: no file")
 
-abbrev pub at_line : ℕ → Text → Text
-at_line line words = with_lf (codes "graph: line " ++ decimal line ++ codes ": " ++ words)
+abbrev pub at_graph_line : ℕ → Text → Text
+at_graph_line line words = with_lf (codes "graph: line " ++ decimal line ++ codes ": " ++ words)
 
 abbrev pub fault_line : ReadFault → Text
 fault_line TooLong = with_lf (codes "graph: too long")
 fault_line (Syntax line column) = with_lf (codes "graph: line " ++ decimal line ++ codes " column " ++ decimal column ++ codes ": syntax")
-fault_line (Check line fault) = at_line line (fault_words fault)
+fault_line (Check line fault) = at_graph_line line (fault_words fault)
 fault_line Memory = []
 
 abbrev pub not_ours_line : ℕ → Text
@@ -43,21 +43,21 @@ full_line at size = with_lf (codes "store: full " ++ decimal at ++ codes " " ++ 
 -- ---- graphs
 
 -- The file has this text, which is one of a checked graph.
-pub record ReadsAs (given : Option Text) (text : Text) (g : Graph) : Type 0 where
+pub record ReadsAsGraph (given : Option Text) (text : Text) (g : Graph) : Type 0 where
   pub there : given ≡ Some text
   pub read : IsRead text g
 
 -- The file is refused by this last line.
-pub data IsRefused : Option Text → Text → Type 0 where
-  no_file : IsRefused None no_file_line
-  not_read : (text : Text) (fault : ReadFault) → fault ≢ Memory → Refuses text fault → IsRefused (Some text) (fault_line fault)
+pub data GraphIsRefused : Option Text → Text → Type 0 where
+  no_file : GraphIsRefused None no_file_line
+  not_read : (text : Text) (fault : ReadFault) → fault ≢ Memory → Refuses text fault → GraphIsRefused (Some text) (fault_line fault)
 
-abbrev pub IsOpened : Option Text → Opened → Type 0
-IsOpened given (opened.Ready text g) = ReadsAs given text g
-IsOpened given (opened.Refused line) = IsRefused given line
+abbrev pub GraphIsOpened : Option Text → Opened → Type 0
+GraphIsOpened given (opened.Ready text g) = ReadsAsGraph given text g
+GraphIsOpened given (opened.Refused line) = GraphIsRefused given line
 
 -- what the tree gives of the file of this name is opened so
-pub record Opens (files : Option Files) (name : Text) (o : Opened) : Type 0 where
+pub record OpensGraphFile (files : Option Files) (name : Text) (o : Opened) : Type 0 where
   pub given : Option Text
   pub is : IsGiven files name given
-  pub opened : IsOpened given o
+  pub opened : GraphIsOpened given o

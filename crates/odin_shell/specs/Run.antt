@@ -6,7 +6,7 @@ use Rattle.std.specs.Prelude.{◌≡◌, ⊤, ℕ, ◌+◌, ◌<◌, ◌≤◌, 
 use Rattle.odin_outside.specs.Causes.{IsCounted}
 use Rattle.odin_outside.specs.Disk.{Telling}
 use Rattle.odin_outside.specs.Files.{IsGiven}
-use Rattle.odin_journal.specs.Faults.{IsCauseOf}
+use Rattle.odin_journal.specs.Faults.{CountAfterJournalFault}
 use Rattle.odin_journal.specs.Moments.{Works}
 use Rattle.odin_journal.specs.declared.fault.JournalFault.{JournalFault}
 use Rattle.odin_journal.specs.declared.fault.JournalFault.TheVariants as fault
@@ -18,16 +18,16 @@ use Rattle.odin_store.specs.Held.{Held}
 use Rattle.odin_store.specs.Opening as store
 use Rattle.odin_shell.specs.declared.ending.Ending.{Ending}
 use Rattle.odin_shell.specs.declared.ending.Ending.TheVariants.{Whole, CutShort, BadGraph, Disk, Memory, Output, Input, NotOurs, Full, Usage, TooLong, Loaded, Room}
-use Rattle.odin_shell.specs.Endings.{status_of, LeavesTools}
+use Rattle.odin_shell.specs.Endings.{ending_status, EndingLeavesTools}
 use Rattle.odin_words.specs.Asked.{AsksFor, IsNotAccepted, Serve, Load}
 use Rattle.load_session.specs.declared.loaded.Loaded.{Loaded as Counts}
-use Rattle.load_session.specs.Loads.{IsLoaded, IsLoadFault}
+use Rattle.load_session.specs.Loads.{LoadIsServed, IsLoadFault}
 use Rattle.odin_shell.specs.Words.{usage_line}
 use Rattle.odin_shell.specs.Loading.{load_lines}
-use Rattle.odin_shell.specs.Opened.{ReadsAs, IsRefused, not_ours_line, full_line}
+use Rattle.odin_shell.specs.Opened.{ReadsAsGraph, GraphIsRefused, not_ours_line, full_line}
 use Rattle.odin_shell.specs.Language.{commands}
 use Rattle.odin_shell.specs.Filed.{DiskMeaning, StartsFrom}
-use Rattle.source_edits.specs.Edits.{TreeTold, IsAsked, tree_of}
+use Rattle.source_edits.specs.Edits.{TreeTold, TreeIsAsked, tree_of}
 use Rattle.odin_shell.specs.Machine.{at_first, Told, machine}
 use Rattle.odin_shell.specs.Objects.{SourceTold, source_of, sink_of, Outside, Meaning}
 
@@ -74,22 +74,22 @@ pub record SessionEnds {D : Type 0} (disk : DiskMeaning D) (g : Graph) (text : T
   pub leaves : SessionLeaves disk g text limit held ending input.left left.left start now
   pub read : InputCount ending input.faults left.faults
   pub counted : DiskCount ending (disk.faults start.disk) (disk.faults now.disk)
-  pub idle : ¬ LeavesTools ending → now.tools.running ≡ []
+  pub idle : ¬ EndingLeavesTools ending → now.tools.running ≡ []
 
 -- A last line where this ending is due, or want of memory before it.
-abbrev pub Says : Text → Ending → SinkTold → SinkTold → Ending → Type 0
-Says line due before now ending = LastLine line due before now ending ⊎ ((now ≡ before) × (ending ≡ Memory))
+abbrev pub SaysLastLine : Text → Ending → SinkTold → SinkTold → Ending → Type 0
+SaysLastLine line due before now ending = LastLine line due before now ending ⊎ ((now ≡ before) × (ending ≡ Memory))
 
 -- What a session leaves to be written: its last line, where the file is full.
 abbrev pub Closes : Ending → SinkTold → SinkTold → Ending → Type 0
-Closes (Full at size) before now ending = Says (full_line at size) (Full at size) before now ending
+Closes (Full at size) before now ending = SaysLastLine (full_line at size) (Full at size) before now ending
 Closes due before now ending = (now ≡ before) × (ending ≡ due)
 
 -- What is written where the store was not opened for this fault.
 abbrev pub ClosesFor : JournalFault → SinkTold → SinkTold → Ending → Type 0
 ClosesFor fault.Disk before now ending = (now ≡ before) × (ending ≡ Disk)
-ClosesFor (fault.NotOurs at) before now ending = Says (not_ours_line at) (NotOurs at) before now ending
-ClosesFor (fault.Full at size) before now ending = Says (full_line at size) (Full at size) before now ending
+ClosesFor (fault.NotOurs at) before now ending = SaysLastLine (not_ours_line at) (NotOurs at) before now ending
+ClosesFor (fault.Full at size) before now ending = SaysLastLine (full_line at size) (Full at size) before now ending
 ClosesFor fault.Memory before now ending = (now ≡ before) × (ending ≡ Memory)
 
 -- ---- a load session
@@ -98,12 +98,12 @@ ClosesFor fault.Memory before now ending = (now ≡ before) × (ending ≡ Memor
 abbrev pub ClosesLoad : JournalFault → SinkTold → SinkTold → Ending → Type 0
 ClosesLoad fault.Disk before now ending = (now ≡ before) × (ending ≡ Room)
 ClosesLoad (fault.NotOurs at) before now ending = (now ≡ before) × (ending ≡ Memory)
-ClosesLoad (fault.Full at size) before now ending = Says (full_line at size) (Full at size) before now ending
+ClosesLoad (fault.Full at size) before now ending = SaysLastLine (full_line at size) (Full at size) before now ending
 ClosesLoad fault.Memory before now ending = (now ≡ before) × (ending ≡ Memory)
 
 -- A load session of so many units was served, and its lines are due; or it failed.
 pub data LoadEnds (units : ℕ) (before now : SinkTold) (ending : Ending) : Type 0 where
-  load_served : (loaded : Counts) → IsLoaded units loaded → Says (load_lines units loaded) Loaded before now ending → LoadEnds units before now ending
+  load_served : (loaded : Counts) → LoadIsServed units loaded → SaysLastLine (load_lines units loaded) Loaded before now ending → LoadEnds units before now ending
   load_failed : (fault : JournalFault) → IsLoadFault units fault → ClosesLoad fault before now ending → LoadEnds units before now ending
 
 -- ---- what every way to end says
@@ -147,10 +147,10 @@ module _ {I O T S D : Type 0} (m : Meaning I O T S D) where
   -- The store was not opened for this fault: a crash leaves the records that the file had, or, where it was due, the batch of the graph after
   -- them, and so what the file stood for. Over an empty file the work is that of a new store and of that batch at most.
   pub record IsUnopened (text : Text) (before after : Outside I O T S D) (fault : JournalFault) : Type 0 where
-    pub refused : store.IsOpenFault text (disk before) (disk after) fault
+    pub refused : store.IsStoreOpenFault text (disk before) (disk after) fault
     pub crash : store.LeavesOpening text (disk before) (disk after)
     pub later : m.disk.faults before.disk ≤ m.disk.faults after.disk
-    pub cause : IsCauseOf (m.disk.faults before.disk) (m.disk.faults after.disk) fault
+    pub cause : CountAfterJournalFault (m.disk.faults before.disk) (m.disk.faults after.disk) fault
     pub works : m.disk.size before.disk ≡ 0 → Works (72 + length (store.graph_record text)) 20 (disk before) (disk after)
 
   -- Each way to end over the text of a graph, with at most so many tools at once.
@@ -184,10 +184,10 @@ module _ {I O T S D : Type 0} (m : Meaning I O T S D) (words : List Text) (befor
     pub name : Text
     pub jobs : ℕ
     pub named : AsksFor words (Serve name) jobs
-    pub asked : IsAsked (tree m before) opened
+    pub asked : TreeIsAsked (tree m before) opened
 
   -- The tree gave this of the file.
-  pub record Gives (opened : TreeTold) (given : Option Text) : Type 0 where
+  pub record TreeGives (opened : TreeTold) (given : Option Text) : Type 0 where
     pub asks : AsksOnce opened
     pub is : IsGiven (m.files before.tree) asks.name given
     pub unfailed : GraphStayed opened
@@ -195,8 +195,8 @@ module _ {I O T S D : Type 0} (m : Meaning I O T S D) (words : List Text) (befor
   -- The tree gave the text of a checked graph.
   pub record GivesGraph (opened : TreeTold) (text : Text) (g : Graph) : Type 0 where
     pub given : Option Text
-    pub gives : Gives opened given
-    pub reads : ReadsAs given text g
+    pub gives : TreeGives opened given
+    pub reads : ReadsAsGraph given text g
 
   -- Each way to end, from what the tree told behind the reading of the graph. What isn't named in `after ≡ ..` is as it was.
   pub data EndsAs (opened : TreeTold) (ending : Ending) : Type 0 where
@@ -211,7 +211,7 @@ module _ {I O T S D : Type 0} (m : Meaning I O T S D) (words : List Text) (befor
     -- memory was wanted before the graph was read
     graph_unread : ending ≡ Memory → AsksOnce opened → GraphStayed opened → opened ≡ tree m after → after ≡ record before { tree = after.tree } → EndsAs opened ending
     -- the file is refused, by this line
-    graph_refused : (given : Option Text) (line : Text) → Gives opened given → IsRefused given line → LastLine line BadGraph (sink m before) (sink m after) ending
+    graph_refused : (given : Option Text) (line : Text) → TreeGives opened given → GraphIsRefused given line → LastLine line BadGraph (sink m before) (sink m after) ending
         → opened ≡ tree m after → after ≡ record before { output = after.output; tree = after.tree } → EndsAs opened ending
     -- the file is one of this graph, and the run ended over it, with as many tools at once as the words ask for
     graph_read : (text : Text) (g : Graph) (mid : Outside I O T S D) → (given : GivesGraph opened text g) → mid ≡ record before { tree = mid.tree } → opened ≡ tree m mid
@@ -230,7 +230,7 @@ module _ {I O T S D : Type 0} (m : Meaning I O T S D) (words : List Text) (befor
   -- The run ended with this status: how, what its input says of it, and which count of faults rose.
   pub record RunEnds (status : ℕ) : Type 0 where
     pub ending : Ending
-    pub status_is : status ≡ status_of ending
+    pub status_is : status ≡ ending_status ending
     pub ended : Ended ending
     pub exact : IfSome (m.left before.input) (AllowedBy ending)
     pub output : OutputCount ending (m.output_faults before.output) (m.output_faults after.output)

@@ -16,7 +16,7 @@ use Rattle.odin_shell.specs.declared.stop.Stop.TheVariants as stop
 use Rattle.odin_shell.specs.Endings.{stop_of}
 use Rattle.odin_shell.specs.Filed.{DiskMeaning}
 use Rattle.odin_shell.specs.Language.{commands}
-use Rattle.odin_shell.specs.Machine.{State, Told, Step, MayLeave, Belongs, IsLeft, stopped}
+use Rattle.odin_shell.specs.Machine.{SessionState, Told, Step, CommandMayLeave, SessionInvariant, StateAtExit, told_with_stop}
 
 -- all that is told between two commands
 abbrev pub telling : {D : Type 0} → SinkTold → Spawned → TreeTold → D → Told D
@@ -35,33 +35,33 @@ pub record IsOnward {D : Type 0} (disk : DiskMeaning D) (most : ℕ) (old new : 
   pub faults : disk.faults after ≡ disk.faults before
 
 -- the count of the disk's faults rises where it is why the serving stopped
-abbrev pub Counts : Stop → ℕ → ℕ → Type 0
-Counts stop.Disk before after = IsCounted before after
-Counts other before after = after ≡ before
+abbrev pub CountsStop : Stop → ℕ → ℕ → Type 0
+CountsStop stop.Disk before after = IsCounted before after
+CountsStop other before after = after ≡ before
 
 module _ {D : Type 0} (disk : DiskMeaning D) where
   -- The command with the bytes that were kept of it gets this reply, and what comes after it fits; and it may be left before that.
-  pub record HasStepped (g : Graph) (text : Text) (limit : ℕ) (first : State) (start : Told D) (state : State) (command : Command) (body reply : List ℕ) (code : Engaged) (now : Told D) : Type 0 where
-    pub new : State
+  pub record HasStepped (g : Graph) (text : Text) (limit : ℕ) (first : SessionState) (start : Told D) (state : SessionState) (command : Command) (body reply : List ℕ) (code : Engaged) (now : Told D) : Type 0 where
+    pub new : SessionState
     pub step : Step g limit state command body reply new
-    pub fits : Belongs disk g text limit first start code new now
-    pub left : IsLeft disk g text limit first start state new now
+    pub fits : SessionInvariant disk g text limit first start code new now
+    pub left : StateAtExit disk g text limit first start state new now
 
   abbrev pub Answers : Engaged → Command → List ℕ → Told D → List ℕ → Engaged → Told D → Type 0
   Answers code command kept told reply code' told' =
-      (g : Graph) (text : Text) (limit : ℕ) (first : State) (start : Told D) (state : State) (body : List ℕ) → SameBody commands command body kept
-      → Belongs disk g text limit first start code state told → HasStepped g text limit first start state command body reply code' told'
+      (g : Graph) (text : Text) (limit : ℕ) (first : SessionState) (start : Told D) (state : SessionState) (body : List ℕ) → SameBody commands command body kept
+      → SessionInvariant disk g text limit first start code state told → HasStepped g text limit first start state command body reply code' told'
 
   -- The command gets no reply, for a fault of the store or for want of memory, and this may be left of it.
-  pub record HasHalted (g : Graph) (text : Text) (limit : ℕ) (first : State) (start : Told D) (state : State) (command : Command) (body : List ℕ) (now : Told D) : Type 0 where
-    pub furthest : State
-    pub may : MayLeave g limit state command body furthest
-    pub exit : IsLeft disk g text limit first start state furthest now
+  pub record HasHalted (g : Graph) (text : Text) (limit : ℕ) (first : SessionState) (start : Told D) (state : SessionState) (command : Command) (body : List ℕ) (now : Told D) : Type 0 where
+    pub furthest : SessionState
+    pub may : CommandMayLeave g limit state command body furthest
+    pub exit : StateAtExit disk g text limit first start state furthest now
 
-  abbrev pub Halts : Engaged → Command → List ℕ → Told D → JournalFault → Told D → Type 0
-  Halts code command kept told why told' =
-      (g : Graph) (text : Text) (limit : ℕ) (first : State) (start : Told D) (state : State) (body : List ℕ) → SameBody commands command body kept
-      → Belongs disk g text limit first start code state told → HasHalted g text limit first start state command body (stopped (stop_of why) told')
+  abbrev pub HaltsCommand : Engaged → Command → List ℕ → Told D → JournalFault → Told D → Type 0
+  HaltsCommand code command kept told why told' =
+      (g : Graph) (text : Text) (limit : ℕ) (first : SessionState) (start : Told D) (state : SessionState) (body : List ℕ) → SameBody commands command body kept
+      → SessionInvariant disk g text limit first start code state told → HasHalted g text limit first start state command body (told_with_stop (stop_of why) told')
 
   -- ---- the object of a text, whatever was kept of the command, and whatever is told of sink and tree
 
@@ -71,4 +71,4 @@ module _ {D : Type 0} (disk : DiskMeaning D) where
 
   abbrev pub HaltsAsk : Engaged → Text → Spawned → D → JournalFault → Spawned → D → Type 0
   HaltsAsk code query tools now why tools' now' =
-      (kept : List ℕ) (sink : SinkTold) (tree : TreeTold) → Halts code (Ask query) kept (telling sink tools tree now) why (telling sink tools' tree now')
+      (kept : List ℕ) (sink : SinkTold) (tree : TreeTold) → HaltsCommand code (Ask query) kept (telling sink tools tree now) why (telling sink tools' tree now')

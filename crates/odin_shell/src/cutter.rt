@@ -4,7 +4,7 @@ ghost use Rattle.meaning_texts.specs.Lines.{HasNoLf};
 ghost use Rattle.meaning_run.specs.Streams.{Extends};
 ghost use Rattle.odin_shell.specs.Language.{commands};
 ghost use Rattle.odin_shell.specs.Held.{Keeps};
-ghost use Rattle.odin_shell.specs.Cuts.{Takes, Cuts, IsLast};
+ghost use Rattle.odin_shell.specs.Cuts.{CutterTakes, Cuts, IsLastOfInput};
 
 use crate::pending::Pending;
 use crate::whole::Whole;
@@ -84,7 +84,7 @@ impl Cutter {
     // The LF of a line.
     fn end_line(&mut self, alloc: Global) -> Result<Option<Whole>, Memory>
         requires { self.old.pending ≡ None }
-        ensures { IfOk result (λ whole. Takes (10 ∷ []) self.old whole self.new) }
+        ensures { IfOk result (λ whole. CutterTakes (10 ∷ []) self.old whole self.new) }
     {
         let command = read_command(alloc, drop_cr(self.line.as_slice()))?;
         self.line.clear();
@@ -132,7 +132,7 @@ impl Cutter {
 
     /// The command of a last line without LF. There is none where the input ends inside a command.
     pub(crate) fn last(&self, alloc: Global) -> Result<Option<Whole>, Memory>
-        ensures { IfOk result (IsLast self.now) }
+        ensures { IfOk result (IsLastOfInput self.now) }
     {
         if self.pending.is_some() {
             return Ok(None);

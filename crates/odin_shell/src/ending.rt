@@ -1,6 +1,6 @@
 // How a run ends.
 ghost use Rattle.std.specs.Prelude.{◌≡◌};
-ghost use Rattle.odin_shell.specs.Endings.{status_of};
+ghost use Rattle.odin_shell.specs.Endings.{ending_status};
 
 /// How a run ends. Each way has one status.
 #[derive(Clone, Copy)]
@@ -26,7 +26,7 @@ pub(crate) enum Ending {
 
 impl Ending {
     pub(crate) fn status(self) -> u8
-        ensures { result ≡ status_of self }
+        ensures { result ≡ ending_status self }
     {
         match self {
             Ending::Whole => 0,

@@ -1,7 +1,7 @@
 // The graph that a run works by.
 ghost use Rattle.std.specs.Prelude.{◌≡◌, Some, IfOk, IsErr};
 ghost use Rattle.odin_outside.specs.Causes.{HasCauseBut, once_more};
-ghost use Rattle.odin_shell.specs.Opened.{fault_words, at_line, fault_line, IsOpened, Opens};
+ghost use Rattle.odin_shell.specs.Opened.{fault_words, at_graph_line, fault_line, GraphIsOpened, OpensGraphFile};
 
 use dg_reader::{ReadFault, read_graph_file};
 use object_values::{Bytes, GraphFault, Memory};
@@ -51,7 +51,7 @@ fn words_of(fault: GraphFault) -> &'static [u8]
 
 // The last line on the declaration that begins on a line.
 fn line_at(alloc: Global, line: u32, words: &[u8]) -> Result<Bytes, Memory>
-    ensures { IfOk result (λ text. text ≡ at_line line words.now) }
+    ensures { IfOk result (λ text. text ≡ at_graph_line line words.now) }
 {
     let mut text = Bytes::from_slice(alloc, b"graph: line ")?;
     write_number(u64::from(line), &mut text)?;
@@ -89,7 +89,7 @@ fn line_of_fault(alloc: Global, fault: ReadFault) -> Result<Bytes, Memory>
 
 // The graph in a text.
 fn read_text(alloc: Global, text: Bytes) -> Result<Opened, Memory>
-    ensures { IfOk result (IsOpened (Some text)) }
+    ensures { IfOk result (GraphIsOpened (Some text)) }
 {
     match read_graph_file(alloc, text.as_slice()) {
         Ok(file) => {
@@ -102,7 +102,7 @@ fn read_text(alloc: Global, text: Bytes) -> Result<Opened, Memory>
 
 // The graph in what a tree gives.
 fn read_given(alloc: Global, given: Option<Bytes>) -> Result<Opened, Memory>
-    ensures { IfOk result (IsOpened given) }
+    ensures { IfOk result (GraphIsOpened given) }
 {
     match given {
         Some(text) => read_text(alloc, text),
@@ -116,7 +116,7 @@ pub(crate) fn open_graph<T: Tree>(
     tree: &mut T,
     name: &[u8],
 ) -> Result<Opened, OpenFault>
-    ensures ok { IfOk result (Opens (T.files tree.old) name.now) }
+    ensures ok { IfOk result (OpensGraphFile (T.files tree.old) name.now) }
     ensures kept { T.files tree.new ≡ T.files tree.old }
     ensures once { T.reads tree.new ≡ once_more (T.reads tree.old) }
     ensures cause { HasCauseBut OpenFault.Memory (T.faults tree.old) (T.faults tree.new) result }

@@ -1,9 +1,9 @@
 // How the bytes behind a line are held, where its command keeps them.
 ghost use Rattle.std.specs.Prelude.{◌≡◌, ◌+◌, ◌-◌, ◌<◌, ◌≤◌, ◌++◌, [], true, length, IfOk};
 ghost use Rattle.meaning_texts.specs.Limits.{body_limit};
-ghost use Rattle.meaning_commands.specs.Commands.{takes};
+ghost use Rattle.meaning_commands.specs.Commands.{bytes_after_line};
 ghost use Rattle.odin_shell.specs.Language as language;
-ghost use Rattle.odin_shell.specs.Held.{IsNew};
+ghost use Rattle.odin_shell.specs.Held.{PendingIsNew};
 
 use crate::command::keeps_body;
 use crate::pending::Pending;
@@ -26,8 +26,8 @@ fn room_for(alloc: Global, command: &Command) -> Result<Bytes, Memory>
 impl Pending {
     /// A command that takes bytes, before the first of them.
     pub(crate) fn new(alloc: Global, command: Command) -> Result<Self, Memory>
-        requires { 0 < takes command }
-        ensures { IfOk result (IsNew command) }
+        requires { 0 < bytes_after_line command }
+        ensures { IfOk result (PendingIsNew command) }
     {
         let missing = body_size(&command);
         let text = room_for(alloc, &command)?;

@@ -5,7 +5,7 @@ ghost use Rattle.odin_outside.specs.Told.{prepended};
 ghost use Rattle.meaning_run.specs.Endings.{IsSpent, piece_limit};
 ghost use Rattle.odin_shell.specs.Objects.{source_of, told_of};
 ghost use Rattle.odin_shell.specs.Filed.{disk_meaning};
-ghost use Rattle.odin_shell.specs.Begun.{MayBegin, SessionServes};
+ghost use Rattle.odin_shell.specs.Begun.{MayBeginSession, SessionServes};
 
 use crate::ending::Ending;
 use crate::session::{Finish, Session};
@@ -54,7 +54,7 @@ fn serve_pieces<I: Source, O: Sink, T: Tree, S: Spawner, D: Disk>(
 ) -> Ending
     requires some { 0 < length buffer.old }
     requires few { length buffer.old ≤ piece_limit }
-    requires may { MayBegin engine (D.size_of disk.old) (S.told tools.old) }
+    requires may { MayBeginSession engine (D.size_of disk.old) (S.told tools.old) }
     ensures { let source = source_of I.left I.faults in
         let told = told_of O.taken O.faults T.files T.faults T.reads S.told in
         let before = told output.old tree.old tools.old disk.old in
@@ -93,7 +93,7 @@ pub(crate) fn serve_input<I: Source, O: Sink, T: Tree, S: Spawner, D: Disk>(
     tools: &mut S,
     disk: &mut D,
 ) -> Ending
-    requires { MayBegin engine (D.size_of disk.old) (S.told tools.old) }
+    requires { MayBeginSession engine (D.size_of disk.old) (S.told tools.old) }
     ensures { let source = source_of I.left I.faults in
         let told = told_of O.taken O.faults T.files T.faults T.reads S.told in
         let before = told output.old tree.old tools.old disk.old in

@@ -3,7 +3,7 @@ ghost use Rattle.std.specs.Prelude.{◌≡◌, ◌≤◌, ◌++◌, OnOk, IfOk};
 ghost use Rattle.meaning_texts.specs.Limits.{unit_limit};
 ghost use Rattle.odin_shell.specs.Loading.{spaced, counts_line, load_lines};
 ghost use Rattle.odin_shell.specs.Objects.{sink_of};
-ghost use Rattle.odin_shell.specs.Run.{Says, ClosesLoad, LoadEnds};
+ghost use Rattle.odin_shell.specs.Run.{SaysLastLine, ClosesLoad, LoadEnds};
 
 use crate::ending::Ending;
 use crate::entry::{close, end_with};
@@ -52,7 +52,8 @@ fn load_lines(alloc: Global, units: u32, loaded: Loaded) -> Result<Bytes, Memory
 // Writes the lines of a load session that was served.
 fn tell<O: Sink>(alloc: Global, output: &mut O, units: u32, loaded: Loaded) -> Ending
     ensures { let sink = sink_of O.taken O.faults in
-        Says (load_lines units loaded) Ending.Loaded (sink output.old) (sink output.new) result }
+        SaysLastLine (load_lines units loaded) Ending.Loaded (sink output.old)
+        (sink output.new) result }
 {
     match load_lines(alloc, units, loaded) {
         Ok(lines) => end_with(output, lines.as_slice(), Ending::Loaded),

@@ -2,12 +2,12 @@
 ghost use Rattle.std.specs.Prelude.{◌≡◌, [], IfOk, OnOk, IfErr};
 ghost use Rattle.meaning_answers.specs.Answers as answers;
 ghost use Rattle.meaning_run.specs.Objects.{SinkTold};
-ghost use Rattle.odin_journal.specs.Faults.{IsCause};
-ghost use Rattle.source_edits.specs.Edits.{Says, tree_of};
+ghost use Rattle.odin_journal.specs.Faults.{JournalFaultIsCounted};
+ghost use Rattle.source_edits.specs.Edits.{SaysReply, tree_of};
 ghost use Rattle.odin_shell.specs.Filed.{disk_meaning};
 ghost use Rattle.odin_shell.specs.Objects.{told_of};
-ghost use Rattle.odin_shell.specs.Served.{telling, MayServe, Answers, Halts, AnswersAsk, HaltsAsk, Counts, IsOnward};
-ghost use Rattle.odin_shell.specs.Sessions.{Serves, StopsServing};
+ghost use Rattle.odin_shell.specs.Served.{telling, MayServe, Answers, HaltsCommand, AnswersAsk, HaltsAsk, CountsStop, IsOnward};
+ghost use Rattle.odin_shell.specs.Sessions.{ServesInSession, StopsServingInSession};
 
 use crate::stop::Stop;
 use crate::whole::Whole;
@@ -35,13 +35,14 @@ pub(crate) fn serve_command<O: Sink, T: Tree, S: Spawner, D: Disk>(
         let before = told output.old tree.old tools.old disk.old in
         let after = told output.new tree.new tools.new disk.new in
         let on = disk_meaning D.told D.size_of D.faults in
-        OnOk result (Serves on engine.old engine.new whole before after) }
+        OnOk result (ServesInSession on engine.old engine.new whole before after) }
     ensures err { let told = told_of O.taken O.faults T.files T.faults T.reads S.told in
         let before = told output.old tree.old tools.old disk.old in
         let after = told output.new tree.new tools.new disk.new in
         let on = disk_meaning D.told D.size_of D.faults in
-        IfErr result (λ stop. StopsServing on stop engine.old whole before after) }
-    ensures counted { IfErr result (λ stop. Counts stop (D.faults disk.old) (D.faults disk.new)) }
+        IfErr result (λ stop. StopsServingInSession on stop engine.old whole before after) }
+    ensures counted { IfErr result
+        (λ stop. CountsStop stop (D.faults disk.old) (D.faults disk.new)) }
     ensures onward { let on = disk_meaning D.told D.size_of D.faults in
         OnOk result (IsOnward on 1 engine.old engine.new disk.old disk.new) }
 {
@@ -71,10 +72,10 @@ fn answer<T: Tree, S: Spawner, D: Disk>(
         (telling sink (S.told tools.new) (told tree.new) disk.new)) }
     ensures err { let on = disk_meaning D.told D.size_of D.faults in
         let told = tree_of T.files T.faults T.reads in
-        IfErr result (λ why. (sink : SinkTold) → Halts on engine.old whole.command whole.body
+        IfErr result (λ why. (sink : SinkTold) → HaltsCommand on engine.old whole.command whole.body
         (telling sink (S.told tools.old) (told tree.old) disk.old) why
         (telling sink (S.told tools.new) (told tree.new) disk.new)) }
-    ensures cause { IsCause (D.faults disk.old) (D.faults disk.new) result }
+    ensures cause { JournalFaultIsCounted (D.faults disk.old) (D.faults disk.new) result }
     ensures onward { let on = disk_meaning D.told D.size_of D.faults in
         OnOk result (IsOnward on 1 engine.old engine.new disk.old disk.new) }
     ensures idle { OnOk result ((S.told tools.new).running ≡ []) }
@@ -110,7 +111,7 @@ fn ask<S: Spawner, D: Disk>(
     ensures err { let on = disk_meaning D.told D.size_of D.faults in
         let halts = HaltsAsk on engine.old text.now (S.told tools.old) disk.old in
         IfErr result (λ why. halts why (S.told tools.new) disk.new) }
-    ensures cause { IsCause (D.faults disk.old) (D.faults disk.new) result }
+    ensures cause { JournalFaultIsCounted (D.faults disk.old) (D.faults disk.new) result }
     ensures onward { let on = disk_meaning D.told D.size_of D.faults in
         OnOk result (IsOnward on 1 engine.old engine.new disk.old disk.new) }
     ensures idle { OnOk result ((S.told tools.new).running ≡ []) }
@@ -121,7 +122,7 @@ fn ask<S: Spawner, D: Disk>(
 
 // The reply to a text that asks for the steps to an object.
 fn plan(alloc: Global, engine: &Engine, text: &[u8]) -> Result<Bytes, Memory>
-    ensures { IfOk result (Says (answers.Plan engine.now.graph text.now)) }
+    ensures { IfOk result (SaysReply (answers.Plan engine.now.graph text.now)) }
 {
     match answer_plan(alloc, engine, text)? {
         Planned::Steps(bytes) => Ok(bytes),

@@ -3,8 +3,8 @@ ghost use Rattle.std.specs.Prelude.{◌≡◌, ◌+◌, ◌≤◌, ◌<◌, [], 
 ghost use Rattle.odin_shell.specs.Filed.{disk_meaning};
 ghost use Rattle.odin_shell.specs.Held.{Keeps};
 ghost use Rattle.odin_shell.specs.Objects.{told_of};
-ghost use Rattle.odin_shell.specs.Served.{Counts, IsOnward, MayServe};
-ghost use Rattle.odin_shell.specs.Sessions.{Goes, StopsIn, Finishes, StopsAtEnd};
+ghost use Rattle.odin_shell.specs.Served.{CountsStop, IsOnward, MayServe};
+ghost use Rattle.odin_shell.specs.Sessions.{AdvancesSession, StopsSession, FinishesSession, StopsSessionAtEnd};
 
 use crate::cutter::{Cutter, Front};
 use crate::serve::serve_command;
@@ -61,15 +61,16 @@ impl Session {
             let before = told output.old tree.old tools.old disk.old in
             let after = told output.new tree.new tools.new disk.new in
             let on = disk_meaning D.told D.size_of D.faults in
-            IfOk result (λ n. Goes on (take n piece.now) before self.old after self.new) }
+            IfOk result (λ n. AdvancesSession on (take n piece.now) before
+            self.old after self.new) }
         ensures front { IfOk result (λ n. (0 < n) × (n ≤ length piece.now)) }
         ensures err { let told = told_of O.taken O.faults T.files T.faults T.reads S.told in
             let before = told output.old tree.old tools.old disk.old in
             let after = told output.new tree.new tools.new disk.new in
             let on = disk_meaning D.told D.size_of D.faults in
-            IfErr result (λ stop. StopsIn on stop piece.now before self.old after) }
+            IfErr result (λ stop. StopsSession on stop piece.now before self.old after) }
         ensures counted { IfErr result (λ stop.
-            Counts stop (D.faults disk.old) (D.faults disk.new)) }
+            CountsStop stop (D.faults disk.old) (D.faults disk.new)) }
         ensures onward { let on = disk_meaning D.told D.size_of D.faults in
             OnOk result (IsOnward on 1 self.old.engine self.new.engine disk.old disk.new) }
     {
@@ -96,14 +97,14 @@ impl Session {
             let before = told output.old tree.old tools.old disk.old in
             let after = told output.new tree.new tools.new disk.new in
             let on = disk_meaning D.told D.size_of D.faults in
-            OnOk result (Goes on piece.now before self.old after self.new) }
+            OnOk result (AdvancesSession on piece.now before self.old after self.new) }
         ensures err { let told = told_of O.taken O.faults T.files T.faults T.reads S.told in
             let before = told output.old tree.old tools.old disk.old in
             let after = told output.new tree.new tools.new disk.new in
             let on = disk_meaning D.told D.size_of D.faults in
-            IfErr result (λ stop. StopsIn on stop piece.now before self.old after) }
+            IfErr result (λ stop. StopsSession on stop piece.now before self.old after) }
         ensures counted { IfErr result (λ stop.
-            Counts stop (D.faults disk.old) (D.faults disk.new)) }
+            CountsStop stop (D.faults disk.old) (D.faults disk.new)) }
         ensures onward { let on = disk_meaning D.told D.size_of D.faults in
             let most = length piece.now in
             OnOk result (IsOnward on most self.old.engine self.new.engine disk.old disk.new) }
@@ -129,14 +130,14 @@ impl Session {
             let before = told output.old tree.old tools.old disk.old in
             let after = told output.new tree.new tools.new disk.new in
             let on = disk_meaning D.told D.size_of D.faults in
-            IfOk result (λ finish. Finishes on finish before self after) }
+            IfOk result (λ finish. FinishesSession on finish before self after) }
         ensures err { let told = told_of O.taken O.faults T.files T.faults T.reads S.told in
             let before = told output.old tree.old tools.old disk.old in
             let after = told output.new tree.new tools.new disk.new in
             let on = disk_meaning D.told D.size_of D.faults in
-            IfErr result (λ stop. StopsAtEnd on stop before self after) }
+            IfErr result (λ stop. StopsSessionAtEnd on stop before self after) }
         ensures counted { IfErr result (λ stop.
-            Counts stop (D.faults disk.old) (D.faults disk.new)) }
+            CountsStop stop (D.faults disk.old) (D.faults disk.new)) }
         ensures unfailed { OnOk result (D.faults disk.new ≡ D.faults disk.old) }
     {
         let Some(whole) = self.cutter.last(alloc)? else {

@@ -15,7 +15,7 @@ use Rattle.meaning_records.specs.declared.items.Item.{Item}
 use Rattle.meaning_records.specs.declared.items.Item.TheVariants.{Graph, Content, Put, Dropped, Kept}
 use Rattle.meaning_records.specs.Records.{item}
 use Rattle.meaning_records.specs.Tables.{Tables, IsText, IsCallOf, IsOutcomeOf, MayBeKept, kept_outcome, with_content, with_call, Loads, LoadsAll}
-use Rattle.meaning_records.specs.States.{State, Takes, TakesAll, spell_batch}
+use Rattle.meaning_records.specs.States.{State, TakesOne, TakesAll, spell_batch}
 use Rattle.meaning_records.specs.Batches.{contents_of, drop_batch, IsPutBatch, IsCallBatch}
 use Rattle.meaning_records.specs.Laws.{ReadsInOneWay}
 use Rattle.kept_tables.specs.Holdings as kept
@@ -32,7 +32,7 @@ seam (first ∷ contents) value = seam contents value
 
 -- a put behind tables that have the text
 put_taken : (tables next : Tables) (sources : Texts) (graph : Option Text) (name text : Text) (number : ℕ) → Loads tables (Put name number) next → IsText tables.contents number text
-    → Takes (record { tables = tables; sources = sources; graph = graph }) (Put name number) (record { tables = next; sources = texts.insert sources name text; graph = graph })
+    → TakesOne (record { tables = tables; sources = sources; graph = graph }) (Put name number) (record { tables = next; sources = texts.insert sources name text; graph = graph })
 put_taken tables next sources graph name text number loads there = record { loads = loads; edits = (text, there, refl); graph = refl }
 
 known_put : (name text : Text) (tables next : Tables) (sources : Texts) (number : ℕ) → IsText tables.contents number text → All item.fits (Put name number ∷ []) → LoadsAll tables (Put name number ∷ []) next
@@ -112,7 +112,7 @@ ArePlain [] = ⊤
 ArePlain (it ∷ items) = IsPlain it × ArePlain items
 
 plain_taken : (it : Item) (tables next : Tables) (sources : Texts) (graph : Option Text) → IsPlain it → Loads tables it next
-    → Takes (record { tables = tables; sources = sources; graph = graph }) it (record { tables = next; sources = sources; graph = graph })
+    → TakesOne (record { tables = tables; sources = sources; graph = graph }) it (record { tables = next; sources = sources; graph = graph })
 plain_taken (Graph text) tables next sources graph plain loads = absurd plain
 plain_taken (Content value) tables next sources graph plain loads = record { loads = loads; edits = refl; graph = refl }
 plain_taken (Put name number) tables next sources graph plain loads = absurd plain

@@ -18,7 +18,7 @@ use Rattle.odin_store.specs.Held.{Change, apply}
 use Rattle.odin_store.specs.OnDisk.{held_in, state_in, IsOn, LeavesChange, AddsBatch, IsChangeFault, IsSame, BeginsOnce, IsOneOf}
 use Rattle.odin_store.specs.Changes.{EditsWhere}
 use Rattle.odin_store.specs.Keeping.{store_keeping}
-use Rattle.odin_store.specs.Going.{IsBatchOf, AreBatches, HasBatches, Goes, IsBegun, HasBegun, LeavesBegun, Stops}
+use Rattle.odin_store.specs.Going.{IsBatchOf, AreBatches, HasBatches, Performs, IsPartialBatch, HasPartialBatches, LeavesBegun, StopsPerforming}
 use Rattle.odin_store.specs.Written.{WorksFor, with_records, record_keeping, LeavesFirst, RecordsRest}
 use Rattle.odin_store.proofs.RecordTrails.{stops_record, first_leaves, rests_leave}
 use Rattle.odin_store.specs.Edited.{HasEdited, HasFailed}
@@ -57,7 +57,7 @@ batches_on old mid some payloads first _ _ _ (AreBatches.one_batch changes befor
 -- ---- changes
 
 module _ {Disk : Type 0} (told : Disk → Telling) where
-  pub goes_none : (store next : Store) (disk after : Disk) → IsSame store next disk after → Goes told [] store next disk after
+  pub goes_none : (store next : Store) (disk after : Disk) → IsSame store next disk after → Performs told [] store next disk after
   goes_none store next disk after same = record {
     holds = same_held store next same.store_is;
     grows = untouched_grows store_keeping told disk after store next same.disk_is
@@ -77,7 +77,7 @@ module _ {Disk : Type 0} (told : Disk → Telling) where
 
   pub goes_one : ReadsInOneWay → (change : Change) (store next : Store) (disk after : Disk) → held_in next ≡ apply change (held_in store)
       → AddsBatch (IsBatchOf store.kept.tables.contents change) store next (told disk) (told after)
-      → LeavesChange change store (told disk) (told after) → Goes told (change ∷ []) store next disk after
+      → LeavesChange change store (told disk) (told after) → Performs told (change ∷ []) store next disk after
   goes_one law change store next disk after holds (items, batch, appends) leaves =
       -- the records on which the store rests are those that it rested on
       let one_rest : (records kept : List (List ℕ)) → RecordsRest (told disk) store records → RecordsRest (told disk) store kept → records ≡ kept =
@@ -101,9 +101,9 @@ module _ {Disk : Type 0} (told : Disk → Telling) where
             };
       }
 
-  pub goes_on : (some more : List Change) (store mid next : Store) (disk between after : Disk) → Goes told some store mid disk between → Goes told more mid next between after → Goes told (some ++ more) store next disk after
+  pub goes_on : (some more : List Change) (store mid next : Store) (disk between after : Disk) → Performs told some store mid disk between → Performs told more mid next between after → Performs told (some ++ more) store next disk after
   goes_on some more store mid next disk between after first second = record {
-    holds = second.holds ∙ ap (trails.after store_keeping more) first.holds ∙ sym (after-append store_keeping some more (held_in store));
+    holds = second.holds ∙ ap (trails.after_changes store_keeping more) first.holds ∙ sym (after-append store_keeping some more (held_in store));
     grows = grows_on store_keeping told some more disk between after store mid next first.grows second.grows;
     batches = λ records graph on.
         let one : HasBatches told some store mid disk between records graph = first.batches records graph on in
@@ -125,11 +125,11 @@ module _ {Disk : Type 0} (told : Disk → Telling) where
   -- what was begun, after none of these
   begun_first : (store : Store) (disk after : Disk) (begun : List (List ℕ)) → LeavesFirst store begun (told disk) (told after) → LeavesBegun told [] begun store disk after
   begun_first store disk after begun leaves first start before trail =
-      subst (λ l. trails.Leaves record_keeping first (told start) l (before ++ begun) (told after)) (sym (nothing_behind before))
+      subst (λ l. trails.LeavesPrefix record_keeping first (told start) l (before ++ begun) (told after)) (sym (nothing_behind before))
       (first_leaves first before begun store (told start) (told disk) (told after) leaves trail)
 
   -- a change that failed: its batch was begun, or none
-  failed_begun : (change : Change) (store : Store) (disk after : Disk) (graph : Option Text) → BeginsOnce (IsBatchOf store.kept.tables.contents change) store (told disk) (told after) → HasBegun told (change ∷ []) store disk after graph
+  failed_begun : (change : Change) (store : Store) (disk after : Disk) (graph : Option Text) → BeginsOnce (IsBatchOf store.kept.tables.contents change) store (told disk) (told after) → HasPartialBatches told (change ∷ []) store disk after graph
   failed_begun change store disk after graph begins = record {
     made = [];
     rest = change ∷ [];
@@ -143,31 +143,31 @@ module _ {Disk : Type 0} (told : Disk → Telling) where
     works = begins.works;
   }
     where
-      by : (begun : List (List ℕ)) → IsOneOf (IsBatchOf store.kept.tables.contents change) begun → IsBegun store.kept.tables.contents (change ∷ []) begun
-      by begun (inl none) = subst (IsBegun store.kept.tables.contents (change ∷ [])) (sym none) (IsBegun.none_begun (change ∷ []))
-      by begun (inr (items, batch, is)) = subst (IsBegun store.kept.tables.contents (change ∷ [])) (sym is) (IsBegun.one_begun change [] items batch)
+      by : (begun : List (List ℕ)) → IsOneOf (IsBatchOf store.kept.tables.contents change) begun → IsPartialBatch store.kept.tables.contents (change ∷ []) begun
+      by begun (inl none) = subst (IsPartialBatch store.kept.tables.contents (change ∷ [])) (sym none) (IsPartialBatch.none_begun (change ∷ []))
+      by begun (inr (items, batch, is)) = subst (IsPartialBatch store.kept.tables.contents (change ∷ [])) (sym is) (IsPartialBatch.one_begun change [] items batch)
 
   pub stops_failed : (change : Change) (store : Store) (disk after : Disk) → LeavesChange change store (told disk) (told after)
-      → BeginsOnce (IsBatchOf store.kept.tables.contents change) store (told disk) (told after) → Stops told (change ∷ []) store disk after
+      → BeginsOnce (IsBatchOf store.kept.tables.contents change) store (told disk) (told after) → StopsPerforming told (change ∷ []) store disk after
   stops_failed change store disk after leaves begins = record {
     within = stops_within store_keeping told change disk after store (stops_in change store (told disk) (told after) leaves);
     begun = λ records graph on. failed_begun change store disk after graph begins;
   }
 
   -- what was begun after payloads after others
-  begun_behind : (some more begun : List (List ℕ)) (store mid : Store) (disk between after : Disk) → trails.Grows record_keeping told some disk store between mid → LeavesBegun told more begun mid between after
+  begun_behind : (some more begun : List (List ℕ)) (store mid : Store) (disk between after : Disk) → trails.ExtendsTrail record_keeping told some disk store between mid → LeavesBegun told more begun mid between after
       → LeavesBegun told (some ++ more) begun store disk after
   begun_behind some more begun store mid disk between after grows leaves first start before trail =
-      subst (λ l. trails.Leaves record_keeping first (told start) (before ++ (some ++ more)) l (told after))
+      subst (λ l. trails.LeavesPrefix record_keeping first (told start) (before ++ (some ++ more)) l (told after))
       (append_assoc before some (more ++ begun) ∙ ap (λ l. before ++ l) (sym (append_assoc some more begun)))
-      (subst (λ l. trails.Leaves record_keeping first (told start) l ((before ++ some) ++ (more ++ begun)) (told after)) (append_assoc before some more) (leaves first start (before ++ some) (grows first start before trail)))
+      (subst (λ l. trails.LeavesPrefix record_keeping first (told start) l ((before ++ some) ++ (more ++ begun)) (told after)) (append_assoc before some more) (leaves first start (before ++ some) (grows first start before trail)))
 
-  pub stops_behind : (some more : List Change) (store mid : Store) (disk between after : Disk) → Goes told some store mid disk between → Stops told more mid between after → Stops told (some ++ more) store disk after
+  pub stops_behind : (some more : List Change) (store mid : Store) (disk between after : Disk) → Performs told some store mid disk between → StopsPerforming told more mid between after → StopsPerforming told (some ++ more) store disk after
   stops_behind some more store mid disk between after goes stops = record {
     within = grows_stops store_keeping told some more disk between after store mid goes.grows stops.within;
     begun = λ records graph on.
         let one : HasBatches told some store mid disk between records graph = goes.batches records graph on in
-        let two : HasBegun told more mid between after graph = stops.begun (records ++ one.payloads) graph one.on in
+        let two : HasPartialBatches told more mid between after graph = stops.begun (records ++ one.payloads) graph one.on in
         record {
           made = some ++ two.made;
           rest = two.rest;
@@ -184,12 +184,12 @@ module _ {Disk : Type 0} (told : Disk → Telling) where
   }
 
   -- nothing was begun after these
-  none_after : (payloads : List (List ℕ)) (store next : Store) (disk after : Disk) → trails.Grows record_keeping told payloads disk store after next → LeavesBegun told payloads [] store disk after
+  none_after : (payloads : List (List ℕ)) (store next : Store) (disk after : Disk) → trails.ExtendsTrail record_keeping told payloads disk store after next → LeavesBegun told payloads [] store disk after
   none_after payloads store next disk after grows first start before trail =
-      subst (λ l. trails.Leaves record_keeping first (told start) (before ++ payloads) (before ++ l) (told after)) (sym (nothing_behind payloads))
+      subst (λ l. trails.LeavesPrefix record_keeping first (told start) (before ++ payloads) (before ++ l) (told after)) (sym (nothing_behind payloads))
       (trail_leaves record_keeping first (told start) (told after) (before ++ payloads) next (λ kept rests image left. rests_leave (told after) next kept rests image left) (grows first start before trail))
 
-  pub stops_left : (changes : List Change) (store next : Store) (disk after : Disk) → Goes told changes store next disk after → Stops told changes store disk after
+  pub stops_left : (changes : List Change) (store next : Store) (disk after : Disk) → Performs told changes store next disk after → StopsPerforming told changes store disk after
   stops_left changes store next disk after goes = record {
     within = grows_left store_keeping told changes disk after store next (λ held rests. left_durably (told after) next held rests) goes.grows;
     begun = λ records graph on.
@@ -202,22 +202,22 @@ module _ {Disk : Type 0} (told : Disk → Telling) where
           last = state_in next graph;
           are = all.are;
           begun = [];
-          next = IsBegun.none_begun [];
+          next = IsPartialBatch.none_begun [];
           leaves = none_after all.payloads store next disk after all.grows;
           works = subst (λ l. WorksFor l (told disk) (told after)) (sym (nothing_behind all.payloads)) all.works;
         };
   }
 
   -- what was begun of some changes was begun of more
-  begun_of_more : (contents : List Value) (rest more : List Change) (begun : List (List ℕ)) → IsBegun contents rest begun → IsBegun contents (rest ++ more) begun
-  begun_of_more contents rest more _ (IsBegun.none_begun _) = IsBegun.none_begun (rest ++ more)
-  begun_of_more contents _ more _ (IsBegun.one_begun change others items batch) = IsBegun.one_begun change (others ++ more) items batch
+  begun_of_more : (contents : List Value) (rest more : List Change) (begun : List (List ℕ)) → IsPartialBatch contents rest begun → IsPartialBatch contents (rest ++ more) begun
+  begun_of_more contents rest more _ (IsPartialBatch.none_begun _) = IsPartialBatch.none_begun (rest ++ more)
+  begun_of_more contents _ more _ (IsPartialBatch.one_begun change others items batch) = IsPartialBatch.one_begun change (others ++ more) items batch
 
-  pub stops_more : (changes more : List Change) (store : Store) (disk after : Disk) → Stops told changes store disk after → Stops told (changes ++ more) store disk after
+  pub stops_more : (changes more : List Change) (store : Store) (disk after : Disk) → StopsPerforming told changes store disk after → StopsPerforming told (changes ++ more) store disk after
   stops_more changes more store disk after stops = record {
     within = stops_longer store_keeping told changes more disk after store stops.within;
     begun = λ records graph on.
-        let has : HasBegun told changes store disk after graph = stops.begun records graph on in
+        let has : HasPartialBatches told changes store disk after graph = stops.begun records graph on in
         record {
           made = has.made;
           rest = has.rest ++ more;

@@ -14,7 +14,7 @@ use Rattle.meaning_records.specs.States.{State, nothing, ReadsAll, spell_batch}
 use Rattle.odin_store.specs.declared.store.Store.{Store}
 use Rattle.odin_store.specs.Held.{Held, Change, apply, StandsFor}
 use Rattle.odin_store.specs.OnDisk.{held_in, state_in, IsOn, LeavesChange, Appends, IsUnchanged, IsSame}
-use Rattle.odin_store.specs.Opening.{graph_record, IsOpening, Opens, HaveOther, HasOpening, LeavesOpening}
+use Rattle.odin_store.specs.Opening.{graph_record, IsOpening, OpensStore, HaveOther, HasOpening, LeavesOpening}
 use Rattle.odin_store.specs.Written.{record_keeping}
 use Rattle.odin_store.specs.Keeping.{Rests, store_keeping}
 use Rattle.odin_store.proofs.StoreLemmas.{held_left}
@@ -25,7 +25,7 @@ stops_in change store old new leaves held rests =
     subst (λ h. LeavesOnly old new (λ image. StandsFor h image ⊎ StandsFor (apply change h) image)) (sym rests.holds) (leaves rests.records rests.graph rests.on)
 
 pub kept_on : (items : List Item) (change : Change) (store next : Store) (old new : Telling) → held_in next ≡ apply change (held_in store) → Appends items store next old new → LeavesChange change store old new
-    → trails.Keeps store_keeping change old store new next
+    → trails.KeepsChange store_keeping change old store new next
 kept_on items change store next old new holds appends leaves = record {
   rests = λ held rests. record {
     records = rests.records ++ spell_batch items ∷ [];
@@ -64,7 +64,7 @@ left_durably disk store held rests image left = subst (λ h. StandsFor h image) 
 
 -- ---- an opened store
 
-opened_rests : (graph : Text) (store : Store) (old new : Telling) → Opens graph old new store → Rests new store (held_in store)
+opened_rests : (graph : Text) (store : Store) (old new : Telling) → OpensStore graph old new store → Rests new store (held_in store)
 opened_rests graph store old new opens = record { records = opens.records ++ opens.opening; graph = Some graph; on = opens.on; holds = refl }
 
 -- records read in one way
@@ -78,7 +78,7 @@ all_read law (payload ∷ records) first one other reads also =
 none_due : ReadsInOneWay → (graph : Text) (records : List (List ℕ)) (state : State) → ReadsAll nothing records state → state.graph ≡ Some graph → HaveOther graph records → ⊥
 none_due law graph records state read known (found, reads, other) = other (ap (λ (s : State). s.graph) (all_read law records nothing state found read reads) ∙ known)
 
-module _ (law : ReadsInOneWay) (graph : Text) (store : Store) (old new : Telling) (quiet : IsQuiet old) (opens : Opens graph old new store) (leaves : LeavesOpening graph old new) where
+module _ (law : ReadsInOneWay) (graph : Text) (store : Store) (old new : Telling) (quiet : IsQuiet old) (opens : OpensStore graph old new store) (leaves : LeavesOpening graph old new) where
   -- an image that a crash within the opening may leave stands for what the store holds
   opening_holds : (opening : List (List ℕ)) → IsOpening graph opens.state.graph opening → ReadsAll nothing (opens.records ++ opening) (state_in store (Some graph)) → (image : List ℕ) → HasOpening graph opens.records image
       → StandsFor (held_in store) image

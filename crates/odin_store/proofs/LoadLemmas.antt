@@ -6,12 +6,12 @@ use Rattle.std.proofs.lemmas.List.Elements.{All-nil, All-push, All-head, All-tai
 use Rattle.object_sources.specs.Texts.{Text}
 use Rattle.meaning_records.specs.declared.items.Item.{Item}
 use Rattle.meaning_records.specs.declared.items.Item.TheVariants.{Graph, Content, Put, Dropped, Kept}
-use Rattle.meaning_records.specs.Forms.{StandsAt}
+use Rattle.meaning_records.specs.Forms.{ParsesAt}
 use Rattle.meaning_records.specs.Records.{item}
 use Rattle.meaning_records.specs.FormLemmas.{one_item}
 use Rattle.meaning_records.specs.PlaceLemmas.{FollowAt, none_follow, one_more_follows, one_stands, field_end, field_split}
 use Rattle.meaning_records.specs.Tables.{Tables}
-use Rattle.meaning_records.specs.States.{State, Takes, TakesAll, Reads, ReadsAll, spell_batch}
+use Rattle.meaning_records.specs.States.{State, TakesOne, TakesAll, Reads, ReadsAll, spell_batch}
 use Rattle.meaning_records.specs.Laws.{ReadsInOneWay}
 use Rattle.kept_tables.specs.declared.loaded.Loaded.{Loaded}
 use Rattle.kept_tables.specs.declared.loaded.Loaded.TheVariants as loaded
@@ -48,17 +48,17 @@ pub dropped_none : (payload : List ℕ) (at end : ℕ) (given : Loaded) (name : 
 dropped_none payload at end given name old tables loads is none it last new stands takes =
     let there = dropped_there old.tables.contents loads.it given name loads.gives is in
     let same = (one_stands item one_item payload at end last loads.it it loads.stands stands).0 in
-    let dropped : Takes old (Dropped name) new = subst (λ i. Takes old i new) (sym same ∙ there) takes in
+    let dropped : TakesOne old (Dropped name) new = subst (λ i. TakesOne old i new) (sym same ∙ there) takes in
     let some : IsSome (map.get old.sources name) = dropped.edits.0 in
     not_some (map.get old.sources name) none some
 
 -- ---- items so far, and items to come
 
-pub takes_on : (items : List Item) (it : Item) (old mid new : State) → TakesAll old items mid → Takes mid it new → TakesAll old (items ++ it ∷ []) new
-takes_on [] it old mid new before takes = (new, subst (λ s. Takes s it new) before takes, refl)
+pub takes_on : (items : List Item) (it : Item) (old mid new : State) → TakesAll old items mid → TakesOne mid it new → TakesAll old (items ++ it ∷ []) new
+takes_on [] it old mid new before takes = (new, subst (λ s. TakesOne s it new) before takes, refl)
 takes_on (first ∷ items) it old mid new before takes = (before.0, before.1, takes_on items it before.0 mid new before.2 takes)
 
-alone : (old : State) (it : Item) (new : State) → item.fits it → Takes old it new → Reads old (spell_batch (it ∷ [])) new
+alone : (old : State) (it : Item) (new : State) → item.fits it → TakesOne old it new → Reads old (spell_batch (it ∷ [])) new
 alone old it new fits takes = record {
   items = it ∷ [];
   some = λ none. (let no : ⊥ = cc in no);
@@ -67,7 +67,7 @@ alone old it new fits takes = record {
   taken = (new, takes, refl);
 }
 
-pub one_taken : ReadsInOneWay → (old : State) (it : Item) (new other : State) → item.fits it → Takes old it new → Takes old it other → other ≡ new
+pub one_taken : ReadsInOneWay → (old : State) (it : Item) (new other : State) → item.fits it → TakesOne old it new → TakesOne old it other → other ≡ new
 one_taken law old it new other fits takes also = law old (spell_batch (it ∷ [])) new other (alone old it new fits takes) (alone old it other fits also)
 
 -- the items up to a place make this of what was kept
@@ -104,8 +104,8 @@ record Front (payload : List ℕ) (at : ℕ) (now new : State) : Type 0 where
   it : Item
   end : ℕ
   next : State
-  stands : StandsAt item payload at end it
-  takes : Takes now it next
+  stands : ParsesAt item payload at end it
+  takes : TakesOne now it next
   rest : ReadsFrom payload end next new
 
 front_of : (payload : List ℕ) (at : ℕ) (now new : State) (items : List Item) → at < length payload → FollowAt item payload at (length payload) items → TakesAll now items new → Front payload at now new
@@ -125,7 +125,7 @@ pub on_from : ReadsInOneWay → (payload : List ℕ) (at end : ℕ) (now next ne
 on_from law payload at end now next new inside taken reads =
     let front = front_of payload at now new reads.items inside reads.follow reads.taken in
     let same = one_stands item one_item payload at front.end end front.it taken.it front.stands taken.stands in
-    let also : Takes now taken.it front.next = subst (λ i. Takes now i front.next) same.0 front.takes in
+    let also : TakesOne now taken.it front.next = subst (λ i. TakesOne now i front.next) same.0 front.takes in
     let state : front.next ≡ next = one_taken law now taken.it next front.next taken.stands.fits taken.takes also in
     subst (λ s. ReadsFrom payload end s new) state (subst (λ e. ReadsFrom payload e front.next new) same.1 front.rest)
 

@@ -6,12 +6,12 @@ use Rattle.odin_outside.specs.Disk.{Telling, IsQuiet}
 use Rattle.odin_outside.specs.Moments.{then, weaker}
 use Rattle.object_sources.specs.Texts.{Text}
 use Rattle.meaning_store.specs.Front.{start_of, new_store}
-use Rattle.meaning_store.specs.Images.{behind, IsNew, AreRecords, IsStore, Stored}
+use Rattle.meaning_store.specs.Images.{gate_after, IsNew, AreRecords, IsStore, Stored}
 use Rattle.meaning_store.specs.ImageLemmas.{new_or_written, no_records, one_stored}
 use Rattle.odin_journal.specs.Faults as journal
 use Rattle.disk_trails.specs.WorkLemmas.{more_work, add_work}
 use Rattle.odin_journal.specs.Moments.{Untouched, Works}
-use Rattle.odin_journal.specs.Rest.{AtRest, BeforeOrAfter, Opens, OnlyReads, KeepsRecords, Adds, KeepsOrAdds}
+use Rattle.odin_journal.specs.Rest.{AtRest, BeforeOrAfter, OpensJournal, OnlyReads, KeepsRecords, AddsRecord, KeepsOrAdds}
 use Rattle.odin_journal.specs.declared.fault.JournalFault.{JournalFault}
 use Rattle.odin_journal.specs.declared.fault.JournalFault.TheVariants as fault
 use Rattle.meaning_records.specs.declared.items.Item.TheVariants.{Graph}
@@ -22,10 +22,10 @@ use Rattle.meaning_records.specs.Stands.{gate_behind, StandsNot}
 use Rattle.odin_store.specs.declared.store.Store.{Store}
 use Rattle.odin_store.specs.Held.{held_of, StandsFor}
 use Rattle.odin_store.specs.OnDisk.{state_in, IsOn}
-use Rattle.odin_store.specs.Written.{written_in, IsMade}
-use Rattle.odin_store.specs.Loading.{records_size, BreaksAt, IsLoadFault}
+use Rattle.odin_store.specs.Written.{written_in, StoreIsMade}
+use Rattle.odin_store.specs.Loading.{records_size, RecordBreaksAt, IsRecordLoadFault}
 use Rattle.odin_store.specs.Opening as store
-use Rattle.odin_store.specs.Opening.{graph_record, HaveOther, HasOpening, LeavesOpening, LeavesHeld, IsMadeNew, IsFull, IsOpenFault}
+use Rattle.odin_store.specs.Opening.{graph_record, HaveOther, HasOpening, LeavesOpening, LeavesHeld, IsMadeNew, HasNoRoomForGraph, IsStoreOpenFault}
 use Rattle.odin_store.proofs.LoadLemmas.{reads_on}
 use Rattle.odin_store.proofs.RecordLemmas.{size-append}
 use Rattle.odin_store.proofs.WrittenLemmas.{works_wider}
@@ -47,11 +47,11 @@ graph_reads graph state short =
 
 whole_size : (image : List ℕ) (gate end : ℕ) (records : List (List ℕ)) → AreRecords image gate records end → end ≡ gate + records_size records
 whole_size image gate end [] whole = omega arith
-whole_size image gate end (payload ∷ records) whole = omega (arith, whole_size image (behind gate payload) end records whole.1)
+whole_size image gate end (payload ∷ records) whole = omega (arith, whole_size image (gate_after gate payload) end records whole.1)
 
 gate_size : (gate : ℕ) (records : List (List ℕ)) → gate_behind gate records ≡ gate + records_size records
 gate_size gate [] = omega arith
-gate_size gate (payload ∷ records) = omega (arith, gate_size (behind gate payload) records)
+gate_size gate (payload ∷ records) = omega (arith, gate_size (gate_after gate payload) records)
 
 -- ---- what a crash leaves
 
@@ -60,7 +60,7 @@ pub records_stay : (graph : Text) (old new : Telling) → KeepsRecords old new �
 records_stay graph old new keeps records quiet stored = weaker old new (Stored records) (HasOpening graph records) (keeps records quiet stored) (λ image there. inl there)
 
 -- and the adding of a graph after it leaves them with it or without
-pub graph_added : (graph : Text) (old mid new : Telling) (records : List (List ℕ)) (end : ℕ) (state : State) → ReadsAll nothing records state → state.graph ≢ Some graph → KeepsRecords old mid → (IsQuiet old → Opens old mid records end)
+pub graph_added : (graph : Text) (old mid new : Telling) (records : List (List ℕ)) (end : ℕ) (state : State) → ReadsAll nothing records state → state.graph ≢ Some graph → KeepsRecords old mid → (IsQuiet old → OpensJournal old mid records end)
     → KeepsOrAdds end (graph_record graph) mid new → LeavesOpening graph old new
 graph_added graph old mid new records end state read other keeps opens adds found quiet stored =
     let opened = opens quiet in
@@ -85,19 +85,19 @@ opening_keeps_held graph old new short leaves state quiet stands =
         (after, record { records = stands.records ++ graph_record graph ∷ []; stored = added.1; read = reads_on stands.records (graph_record graph) nothing state after stands.read (graph_reads graph state short) }, refl)
 
 -- an opening of the journal wrote the front of a new file at most
-made_at_most : (old mid : Telling) (records : List (List ℕ)) (end : ℕ) → OnlyReads old mid → (IsQuiet old → Opens old mid records end) → IsQuiet old → Untouched old mid ⊎ IsMadeNew old mid
+made_at_most : (old mid : Telling) (records : List (List ℕ)) (end : ℕ) → OnlyReads old mid → (IsQuiet old → OpensJournal old mid records end) → IsQuiet old → Untouched old mid ⊎ IsMadeNew old mid
 made_at_most old mid records end reads opens quiet = let opened = opens quiet in by opened opened.stored
   where
-    by : Opens old mid records end → Stored records old.seen → Untouched old mid ⊎ IsMadeNew old mid
+    by : OpensJournal old mid records end → Stored records old.seen → Untouched old mid ⊎ IsMadeNew old mid
     by opened (inl new) = inr (record { is_new = new.0; quiet = opened.rests.quiet; bytes = opened.made new.0 })
     by opened (inr store) = inl (reads quiet (λ is_new. new_or_written old.seen is_new store.1.written))
 
-pub memory_fault : (graph : Text) (old mid : Telling) (records : List (List ℕ)) (end : ℕ) → OnlyReads old mid → (IsQuiet old → Opens old mid records end) → IsOpenFault graph old mid fault.Memory
+pub memory_fault : (graph : Text) (old mid : Telling) (records : List (List ℕ)) (end : ℕ) → OnlyReads old mid → (IsQuiet old → OpensJournal old mid records end) → IsStoreOpenFault graph old mid fault.Memory
 memory_fault graph old mid records end reads opens = made_at_most old mid records end reads opens
 
 -- ---- faults
 
-pub journal_fault : (graph : Text) (old new : Telling) (e : JournalFault) → OnlyReads old new → journal.IsOpenFault old new e → IsOpenFault graph old new e
+pub journal_fault : (graph : Text) (old new : Telling) (e : JournalFault) → OnlyReads old new → journal.IsOpenFault old new e → IsStoreOpenFault graph old new e
 journal_fault graph old new fault.Disk reads told = tt
 journal_fault graph old new (fault.NotOurs at) reads told =
     λ quiet. (reads quiet (λ is_new. no_records old.seen at [] (told quiet) (inl (is_new, refl))), inl (told quiet))
@@ -105,7 +105,7 @@ journal_fault graph old new (fault.Full end count) reads told = absurd told
 journal_fault graph old new fault.Memory reads told = λ quiet. inl (told quiet)
 
 -- a file that holds records isn't new
-written : (old mid : Telling) (records : List (List ℕ)) (end : ℕ) → Opens old mid records end → (IsNew old.seen → ⊥) → OnlyReads old mid → IsQuiet old → IsStore old.seen records end
+written : (old mid : Telling) (records : List (List ℕ)) (end : ℕ) → OpensJournal old mid records end → (IsNew old.seen → ⊥) → OnlyReads old mid → IsQuiet old → IsStore old.seen records end
 written old mid records end opened none reads quiet = subst (λ image. IsStore image records end) (reads quiet none).same opened.rests.store
 
 not_empty : (before : List (List ℕ)) (payload : List ℕ) (rest : List (List ℕ)) → before ++ payload ∷ rest ≡ [] → ⊥
@@ -116,7 +116,7 @@ none_new : (image : List ℕ) (records : List (List ℕ)) → Stored records ima
 none_new image records (inl new) some is_new = some new.1
 none_new image records (inr store) some is_new = new_or_written image is_new store.1.written
 
-bad_record : (old mid : Telling) (records : List (List ℕ)) (end at : ℕ) → OnlyReads old mid → (IsQuiet old → Opens old mid records end) → BreaksAt records end at → IsQuiet old → Untouched old mid × StandsNot old.seen at
+bad_record : (old mid : Telling) (records : List (List ℕ)) (end at : ℕ) → OnlyReads old mid → (IsQuiet old → OpensJournal old mid records end) → RecordBreaksAt records end at → IsQuiet old → Untouched old mid × StandsNot old.seen at
 bad_record old mid records end at reads opens breaks quiet =
     let opened = opens quiet in
     let none : IsNew old.seen → ⊥ = none_new old.seen records opened.stored (λ empty. not_empty breaks.before breaks.payload breaks.rest (sym breaks.whole ∙ empty)) in
@@ -144,7 +144,7 @@ bad_record old mid records end at reads opens breaks quiet =
     gate_place : (at end start first last gate : ℕ) → at ≡ end - last → end ≡ start + (first + last) → gate ≡ start + first → at ≡ gate
     gate_place at end start first last gate is size front = omega arith
 
-pub load_fault : (graph : Text) (old mid : Telling) (records : List (List ℕ)) (end : ℕ) (e : JournalFault) → OnlyReads old mid → (IsQuiet old → Opens old mid records end) → IsLoadFault records end e → IsOpenFault graph old mid e
+pub load_fault : (graph : Text) (old mid : Telling) (records : List (List ℕ)) (end : ℕ) (e : JournalFault) → OnlyReads old mid → (IsQuiet old → OpensJournal old mid records end) → IsRecordLoadFault records end e → IsStoreOpenFault graph old mid e
 load_fault graph old mid records end fault.Disk reads opens told = tt
 load_fault graph old mid records end (fault.NotOurs at) reads opens told = bad_record old mid records end at reads opens told
 load_fault graph old mid records end (fault.Full place count) reads opens told = absurd told
@@ -154,7 +154,7 @@ new_start : (image : List ℕ) → start_of (new_store image) ≡ 64
 new_start image = refl
 
 -- no graph is too long for a new store
-new_fits : (graph : Text) (old mid : Telling) (records : List (List ℕ)) (end : ℕ) → length graph ≤ 1048576 → Opens old mid records end → IsNew old.seen → records ≡ [] → 1073741824 < end + 6 + length (graph_record graph) → ⊥
+new_fits : (graph : Text) (old mid : Telling) (records : List (List ℕ)) (end : ℕ) → length graph ≤ 1048576 → OpensJournal old mid records end → IsNew old.seen → records ≡ [] → 1073741824 < end + 6 + length (graph_record graph) → ⊥
 new_fits graph old mid records end short opened is_new none over =
     let whole : AreRecords mid.seen (start_of mid.seen) [] end = subst (λ r. AreRecords mid.seen (start_of mid.seen) r end) none opened.rests.store.whole in
     let start : start_of mid.seen ≡ 64 = ap start_of (opened.made is_new) ∙ new_start old.seen in
@@ -165,8 +165,8 @@ new_fits graph old mid records end short opened is_new none over =
     record_long : (text : Text) → length (graph_record text) ≡ 5 + length text
     record_long text = omega (arith, length-append text [])
 
-full_graph : (graph : Text) (old mid : Telling) (records : List (List ℕ)) (end at count : ℕ) (state : State) → ReadsAll nothing records state → state.graph ≢ Some graph → length graph ≤ 1048576 → OnlyReads old mid → Opens old mid records end → IsQuiet old
-    → (1073741824 < end + 6 + length (graph_record graph)) × (at ≡ end) × (count ≡ length (graph_record graph)) → Stored records old.seen → Untouched old mid × IsFull graph old at count
+full_graph : (graph : Text) (old mid : Telling) (records : List (List ℕ)) (end at count : ℕ) (state : State) → ReadsAll nothing records state → state.graph ≢ Some graph → length graph ≤ 1048576 → OnlyReads old mid → OpensJournal old mid records end → IsQuiet old
+    → (1073741824 < end + 6 + length (graph_record graph)) × (at ≡ end) × (count ≡ length (graph_record graph)) → Stored records old.seen → Untouched old mid × HasNoRoomForGraph graph old at count
 full_graph graph old mid records end at count state read other short reads opened quiet told (inl new) = absurd (new_fits graph old mid records end short opened new.0 new.1 told.0)
 full_graph graph old mid records end at count state read other short reads opened quiet told (inr store) =
     let none : IsNew old.seen → ⊥ = λ is_new. new_or_written old.seen is_new store.1.written in
@@ -194,9 +194,9 @@ refused_of T (fault.Full end count) other = tt
 refused_of T fault.Memory other = tt
 
 -- the disk is as it was before the adding, but where it failed
-pub add_fault : (graph : Text) (old mid new : Telling) (records : List (List ℕ)) (end : ℕ) (e : JournalFault) (state : State) → ReadsAll nothing records state → state.graph ≢ Some graph → length graph ≤ 1048576 → OnlyReads old mid → (IsQuiet old → Opens old mid records end)
-    → (NotDisk e → IsOpenFault graph old mid e → IsOpenFault graph old new e)
-    → journal.IsAddFault end (length (graph_record graph)) e → IsOpenFault graph old new e
+pub add_fault : (graph : Text) (old mid new : Telling) (records : List (List ℕ)) (end : ℕ) (e : JournalFault) (state : State) → ReadsAll nothing records state → state.graph ≢ Some graph → length graph ≤ 1048576 → OnlyReads old mid → (IsQuiet old → OpensJournal old mid records end)
+    → (NotDisk e → IsStoreOpenFault graph old mid e → IsStoreOpenFault graph old new e)
+    → journal.IsAddFault end (length (graph_record graph)) e → IsStoreOpenFault graph old new e
 add_fault graph old mid new records end fault.Disk state read other short reads opens same told = tt
 add_fault graph old mid new records end (fault.NotOurs at) state read other short reads opens same told = absurd told
 add_fault graph old mid new records end (fault.Full at count) state read other short reads opens same told =
@@ -206,16 +206,16 @@ add_fault graph old mid new records end fault.Memory state read other short read
 -- ---- an opened store
 
 -- a new file was made a store, and any other was only read
-made_of : (old mid : Telling) (records : List (List ℕ)) (end : ℕ) → OnlyReads old mid → IsQuiet old → Opens old mid records end → IsMade old.seen mid.seen
+made_of : (old mid : Telling) (records : List (List ℕ)) (end : ℕ) → OnlyReads old mid → IsQuiet old → OpensJournal old mid records end → StoreIsMade old.seen mid.seen
 made_of old mid records end reads quiet opened = by opened.stored
   where
-    by : Stored records old.seen → IsMade old.seen mid.seen
+    by : Stored records old.seen → StoreIsMade old.seen mid.seen
     by (inl new) = inl (new.0, opened.made new.0)
     by (inr store) = inr (store.1.written, (reads quiet (λ is_new. new_or_written old.seen is_new store.1.written)).same)
 
 -- the file's last graph is this one
-pub opens_known : (graph : Text) (old mid : Telling) (store_ : Store) (records : List (List ℕ)) (end : ℕ) (state : State) → OnlyReads old mid → (IsQuiet old → Opens old mid records end) → ReadsAll nothing records state
-    → Works 66 (16 + 2 * length records) old mid → store_.journal.end ≡ end → state_in store_ state.graph ≡ state → state.graph ≡ Some graph → store.OpensQuiet graph old mid store_
+pub opens_known : (graph : Text) (old mid : Telling) (store_ : Store) (records : List (List ℕ)) (end : ℕ) (state : State) → OnlyReads old mid → (IsQuiet old → OpensJournal old mid records end) → ReadsAll nothing records state
+    → Works 66 (16 + 2 * length records) old mid → store_.journal.end ≡ end → state_in store_ state.graph ≡ state → state.graph ≡ Some graph → store.OpensQuietStore graph old mid store_
 opens_known graph old mid store_ records end state reads opens read works place holds known quiet =
     let opened = opens quiet in
     record {
@@ -244,9 +244,9 @@ opens_known graph old mid store_ records end state reads opens read works place 
     nothing_behind (x ∷ xs) = ap (λ l. x ∷ l) (nothing_behind xs)
 
 -- or it was added
-pub opens_added : (graph : Text) (old mid new : Telling) (store_ : Store) (records : List (List ℕ)) (end : ℕ) (state : State) → length graph ≤ 1048576 → OnlyReads old mid → (IsQuiet old → Opens old mid records end) → ReadsAll nothing records state
+pub opens_added : (graph : Text) (old mid new : Telling) (store_ : Store) (records : List (List ℕ)) (end : ℕ) (state : State) → length graph ≤ 1048576 → OnlyReads old mid → (IsQuiet old → OpensJournal old mid records end) → ReadsAll nothing records state
     → Works 66 (16 + 2 * length records) old mid → Works (length (graph_record graph) + 6) 4 mid new
-    → Adds end store_.journal.end (graph_record graph) mid new → state_in store_ state.graph ≡ state → state.graph ≢ Some graph → store.OpensQuiet graph old new store_
+    → AddsRecord end store_.journal.end (graph_record graph) mid new → state_in store_ state.graph ≡ state → state.graph ≢ Some graph → store.OpensQuietStore graph old new store_
 opens_added graph old mid new store_ records end state short reads opens read works added adds holds other quiet =
     let opened = opens quiet in
     let after : State = record { tables = state.tables; sources = state.sources; graph = Some graph } in

@@ -3,7 +3,7 @@ use Rattle.std.proofs.Common.{◌≡◌, ℕ, ◌+◌, ◌-◌, ◌<◌, List, [
 use mathlib.Core.List.{reverse}
 use Rattle.std.proofs.lemmas.List.{take_more, reverse-append, reverse-reverse}
 use Rattle.meaning_records.specs.States.{State, nothing, Reads, ReadsAll}
-use Rattle.odin_store.specs.Loading.{ReadsNot, records_size, BreaksAt}
+use Rattle.odin_store.specs.Loading.{ReadsNot, records_size, RecordBreaksAt}
 use Rattle.odin_store.proofs.LoadLemmas.{reads_on}
 
 nothing_behind : (xs : List (List ℕ)) → xs ++ [] ≡ xs
@@ -48,7 +48,7 @@ pub all_loaded : (records left : List (List ℕ)) (now : State) → HasLoaded re
 all_loaded records left now loaded none = subst (λ l. ReadsAll nothing l now) (sym (loaded.whole ∙ ap (λ l. loaded.before ++ reverse l) none ∙ nothing_behind loaded.before)) loaded.read
 
 pub breaks_there : (records left rest : List (List ℕ)) (payload : List ℕ) (now : State) (end at : ℕ) → HasLoaded records left now → left ≡ rest ++ payload ∷ [] → ReadsNot now payload
-    → at ≡ end - records_size (payload ∷ rest) → BreaksAt records end at
+    → at ≡ end - records_size (payload ∷ rest) → RecordBreaksAt records end at
 breaks_there records left rest payload now end at loaded is unread place = record {
   before = loaded.before;
   payload = payload;

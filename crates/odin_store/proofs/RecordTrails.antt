@@ -16,7 +16,7 @@ nothing_behind [] = refl
 nothing_behind (x ∷ xs) = ap (λ l. x ∷ l) (nothing_behind xs)
 
 -- what is kept after some payloads are the records with them
-pub after_records : (payloads records : List (List ℕ)) → trails.after record_keeping payloads records ≡ records ++ payloads
+pub after_records : (payloads records : List (List ℕ)) → trails.after_changes record_keeping payloads records ≡ records ++ payloads
 after_records [] records = sym (nothing_behind records)
 after_records (payload ∷ payloads) records = after_records payloads (records ++ payload ∷ []) ∙ append_assoc records (payload ∷ []) payloads
 
@@ -48,7 +48,7 @@ stops_record store payload old new leaves records rests =
     weaker old new (trails.IsPrefix record_keeping records 0 (payload ∷ [])) (λ image. Stored records image ⊎ Stored (records ++ payload ∷ []) image) (leaves records rests)
     (λ image some. by image some.k some.at_most some.stands)
   where
-    by : (image : List ℕ) (k : ℕ) → k ≤ length (payload ∷ []) → Stored (trails.after record_keeping (take k (payload ∷ [])) records) image → Stored records image ⊎ Stored (records ++ payload ∷ []) image
+    by : (image : List ℕ) (k : ℕ) → k ≤ length (payload ∷ []) → Stored (trails.after_changes record_keeping (take k (payload ∷ [])) records) image → Stored records image ⊎ Stored (records ++ payload ∷ []) image
     by image zero few stored = inl stored
     by image (suc zero) few stored = inr stored
     by image (suc (suc k)) few stored = absurd (omega (arith, few))
@@ -64,11 +64,11 @@ module _ (first before payloads : List (List ℕ)) where
         k = some.k;
         at_least = some.at_least;
         at_most = omega (arith, most, length-append before payloads);
-        stands = subst (λ l. Stored (trails.after record_keeping l first) image) (sym (take-append-le some.k before payloads some.at_most)) some.stands;
+        stands = subst (λ l. Stored (trails.after_changes record_keeping l first) image) (sym (take-append-le some.k before payloads some.at_most)) some.stands;
       }
 
   -- all of it, and some first ones of these
-  prefix_on : (image : List ℕ) → trails.IsPrefix record_keeping (trails.after record_keeping before first) 0 payloads image → trails.IsPrefix record_keeping first (length before) (before ++ payloads) image
+  prefix_on : (image : List ℕ) → trails.IsPrefix record_keeping (trails.after_changes record_keeping before first) 0 payloads image → trails.IsPrefix record_keeping first (length before) (before ++ payloads) image
   prefix_on image some =
       let most = some.at_most in
       record {
@@ -76,7 +76,7 @@ module _ (first before payloads : List (List ℕ)) where
         at_least = omega arith;
         at_most = omega (arith, most, length-append before payloads);
         stands =
-            subst (λ l. Stored (trails.after record_keeping l first) image) (sym (take-append-add before payloads some.k))
+            subst (λ l. Stored (trails.after_changes record_keeping l first) image) (sym (take-append-add before payloads some.k))
             (subst (λ r. Stored r image) (sym (after-append record_keeping before (take some.k payloads) first)) some.stands);
       }
 
@@ -84,11 +84,11 @@ module _ (first before payloads : List (List ℕ)) where
   prefix_less image some = record { k = some.k; at_least = omega arith; at_most = some.at_most; stands = some.stands }
 
   -- a call that begins them leaves all that came before
-  pub first_leaves : (store : Store) (start old new : Telling) → LeavesFirst store payloads old new → trails.Trail record_keeping first start before store old → trails.Leaves record_keeping first start before (before ++ payloads) new
+  pub first_leaves : (store : Store) (start old new : Telling) → LeavesFirst store payloads old new → trails.Trail record_keeping first start before store old → trails.LeavesPrefix record_keeping first start before (before ++ payloads) new
   first_leaves store start old new leaves trail =
-      let mine = leaves (trails.after record_keeping before first) trail.rests in
+      let mine = leaves (trails.after_changes record_keeping before first) trail.rests in
       record {
-        crash = then start old new (trails.IsPrefix record_keeping first 0 before) (trails.IsPrefix record_keeping (trails.after record_keeping before first) 0 payloads)
+        crash = then start old new (trails.IsPrefix record_keeping first 0 before) (trails.IsPrefix record_keeping (trails.after_changes record_keeping before first) 0 payloads)
             (trails.IsPrefix record_keeping first 0 (before ++ payloads)) trail.crash mine prefix_longer (λ image some. prefix_less image (prefix_on image some));
         durable = λ image left. prefix_on image (mine.now image left);
       }

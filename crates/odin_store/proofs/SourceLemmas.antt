@@ -15,7 +15,7 @@ use Rattle.meaning_derive.specs.Given.{IsSource, AreSources}
 use Rattle.meaning_records.specs.declared.items.Item.{Item}
 use Rattle.meaning_records.specs.declared.items.Item.TheVariants.{Graph, Content, Put, Dropped, Kept}
 use Rattle.meaning_records.specs.Tables.{Tables, IsShort, IsText}
-use Rattle.meaning_records.specs.States.{State, nothing, Takes, TakesAll, ReadsAll}
+use Rattle.meaning_records.specs.States.{State, nothing, TakesOne, TakesAll, ReadsAll}
 
 -- ---- edits
 
@@ -66,7 +66,7 @@ both_stay old new kept tables sources = record {
   sources = subst AreSources (sym sources) kept.sources;
 }
 
-one_kept : (old : State) (it : Item) (new : State) → AreKept old → Takes old it new → AreKept new
+one_kept : (old : State) (it : Item) (new : State) → AreKept old → TakesOne old it new → AreKept new
 one_kept old (Graph text) new kept takes = both_stay old new kept takes.loads takes.edits
 one_kept old (Content value) new kept takes = record {
   contents = subst (λ (t : Tables). All IsShort t.contents) (sym takes.loads.1) (All-push IsShort old.tables.contents value kept.contents takes.loads.0);

@@ -7,7 +7,7 @@ use Rattle.meaning_store.specs.Front.{file_limit}
 use Rattle.meaning_store.specs.Images.{IsStore}
 use Rattle.odin_journal.specs.Faults.{IsAddFault}
 use Rattle.odin_journal.specs.Moments.{Works}
-use Rattle.odin_journal.specs.Rest.{BeforeOrAfter, Adds, KeepsOrAdds}
+use Rattle.odin_journal.specs.Rest.{BeforeOrAfter, AddsRecord, KeepsOrAdds}
 use Rattle.odin_journal.specs.declared.fault.JournalFault.{JournalFault}
 use Rattle.odin_journal.specs.declared.fault.JournalFault.TheVariants as fault
 use Rattle.meaning_records.specs.declared.items.Item.{Item}
@@ -60,10 +60,10 @@ leaves_same change store disk only_now records graph on =
 pub appends : (change : Change) (items : List Item) (store next : Store) (old new : Telling) (payload : List ℕ)
     → payload ≡ spell_batch items
     → Makes change store.kept.tables store.sources.texts (spell_batch items) next.kept.tables next.sources.texts
-    → Adds store.journal.end next.journal.end payload old new → store.journal.end + 6 + length payload ≤ file_limit → KeepsOrAdds store.journal.end payload old new → Works (length payload + 6) 4 old new → Appends items store next old new
+    → AddsRecord store.journal.end next.journal.end payload old new → store.journal.end + 6 + length payload ≤ file_limit → KeepsOrAdds store.journal.end payload old new → Works (length payload + 6) 4 old new → Appends items store next old new
 appends change items store next old new payload is makes adds room leaves works =
     let bytes = spell_batch items in
-    let added : Adds store.journal.end next.journal.end bytes old new = subst (λ p. Adds store.journal.end next.journal.end p old new) is adds in
+    let added : AddsRecord store.journal.end next.journal.end bytes old new = subst (λ p. AddsRecord store.journal.end next.journal.end p old new) is adds in
     let fits : store.journal.end + 6 + length bytes ≤ 1073741824 = subst (λ p. store.journal.end + 6 + length p ≤ 1073741824) is room in
     let place : next.journal.end ≡ store.journal.end + 5 + length bytes = added.next_is in
     record {

@@ -2,7 +2,7 @@
 use Rattle.std.proofs.Common.{◌≡◌, ℕ, ◌+◌, ◌*◌, List, [], ◌∷◌, ◌++◌, length, length-append, refl, arith}
 use Rattle.odin_outside.specs.Disk.{Telling}
 use Rattle.disk_trails.specs.WorkLemmas.{more_work, add_work}
-use Rattle.meaning_store.specs.Images.{behind, with_record}
+use Rattle.meaning_store.specs.Images.{gate_after, with_record}
 use Rattle.meaning_records.specs.Stands.{gate_behind}
 use Rattle.odin_journal.specs.Moments.{Works}
 use Rattle.odin_store.specs.Written.{written_in, WorksFor, with_records}
@@ -13,11 +13,11 @@ written-append (payload ∷ some) more = omega (arith, written-append some more)
 
 pub gate-append : (gate : ℕ) (some more : List (List ℕ)) → gate_behind gate (some ++ more) ≡ gate_behind (gate_behind gate some) more
 gate-append gate [] more = refl
-gate-append gate (payload ∷ some) more = gate-append (behind gate payload) some more
+gate-append gate (payload ∷ some) more = gate-append (gate_after gate payload) some more
 
 pub records-append : (gate : ℕ) (some more : List (List ℕ)) (image : List ℕ) → with_records gate (some ++ more) image ≡ with_records (gate_behind gate some) more (with_records gate some image)
 records-append gate [] more image = refl
-records-append gate (payload ∷ some) more image = records-append (behind gate payload) some more (with_record gate payload image)
+records-append gate (payload ∷ some) more image = records-append (gate_after gate payload) some more (with_record gate payload image)
 
 -- one record
 pub works_for_one : (payload : List ℕ) (old new : Telling) → Works (length payload + 6) 4 old new → WorksFor (payload ∷ []) old new

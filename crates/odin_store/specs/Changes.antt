@@ -12,7 +12,7 @@ use Rattle.kept_tables.specs.Holdings as kept
 use Rattle.odin_journal.specs.Rest.{IsReady}
 use Rattle.odin_store.specs.declared.store.Store.{Store}
 use Rattle.odin_store.specs.Held.{Change, puts, drops, keeps, apply}
-use Rattle.odin_store.specs.OnDisk.{held_in, IsOpen, AddsBatch, IsSame}
+use Rattle.odin_store.specs.OnDisk.{held_in, StoreIsOpen, AddsBatch, IsSame}
 
 -- ---- the batches
 
@@ -29,7 +29,7 @@ CallBatch store call outcome = IsCallBatch store.kept.tables.contents call outco
 
 -- a text that may be put
 pub record MayPut (store : Store) (size : ℕ) (text : Text) : Type 0 where
-  pub ready : IsOpen store size
+  pub ready : StoreIsOpen store size
   pub short : length text ≤ body_limit
 
 -- A change of the sources: the batch is added, what is held changes so, and the epoch rises.
@@ -55,7 +55,7 @@ DropsSource told name store = EditsWhere told (IsSome (map.get store.sources.tex
 -- ---- calls
 
 -- a call that may be kept
-pub record MayKeep (store : Store) (size : ℕ) (call : Call) (outcome : Outcome) : Type 0 where
+pub record StoreMayKeep (store : Store) (size : ℕ) (call : Call) (outcome : Outcome) : Type 0 where
   pub journal : IsReady store.journal size
   pub new : kept.MayKeep store.kept.tables call outcome
 

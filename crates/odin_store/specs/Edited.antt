@@ -10,12 +10,12 @@ use Rattle.odin_store.specs.declared.store.Store.{Store}
 use Rattle.odin_store.specs.Held.{Change, puts, drops, IsDue}
 use Rattle.odin_store.specs.OnDisk.{held_in, IsChangeFault, IsOver, IsSame, LeavesChange, BeginsOnce}
 use Rattle.odin_store.specs.Changes.{DropsSource, PutsText}
-use Rattle.odin_store.specs.Going.{IsBatchOf, Goes, Stops}
+use Rattle.odin_store.specs.Going.{IsBatchOf, Performs, StopsPerforming}
 
 -- The sources change exactly where this is so, by the one change, and the epoch rises by one; else nothing is written, and all is as it was.
 pub record HasEdited {Disk : Type 0} (told : Disk → Telling) (Changes : Type 0) (change : Change) (store next : Store) (disk after : Disk) (changed : Bool) : Type 0 where
   pub exact : IsTrue changed ↔ Changes
-  pub goes : Goes told (cond changed (change ∷ []) []) store next disk after
+  pub goes : Performs told (cond changed (change ∷ []) []) store next disk after
   pub same : IsFalse changed → IsSame store next disk after
   pub epoch : next.epoch ≡ store.epoch + cond changed 1 0
 
@@ -29,7 +29,7 @@ HasDropped told name store = HasEdited told (IsSome (map.get store.sources.texts
 
 -- A change that was due and was not made, or that the disk failed. Where memory was wanting it may not have been due.
 abbrev pub HasFailed : {Disk : Type 0} → (Disk → Telling) → Change → Store → Store → Disk → Disk → JournalFault → Type 0
-HasFailed told change store next disk after fault.Disk = IsDue change (held_in store) × Stops told (change ∷ []) store disk after
+HasFailed told change store next disk after fault.Disk = IsDue change (held_in store) × StopsPerforming told (change ∷ []) store disk after
 HasFailed told change store next disk after (fault.Full at some) =
     IsDue change (held_in store) × (IsSame store next disk after × ((items : List Item) × IsBatchOf store.kept.tables.contents change items × IsOver items store.journal.end at some))
 HasFailed told change store next disk after (fault.NotOurs at) = ⊥

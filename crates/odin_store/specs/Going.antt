@@ -38,30 +38,30 @@ pub record HasBatches {Disk : Type 0} (told : Disk → Telling) (changes : List 
   pub on : IsOn (told after) next (records ++ payloads) graph
   pub end : next.journal.end ≡ gate_behind store.journal.end payloads
   pub bytes : (told after).seen ≡ with_records store.journal.end payloads (told disk).seen
-  pub grows : trails.Grows record_keeping told payloads disk store after next
+  pub grows : trails.ExtendsTrail record_keeping told payloads disk store after next
   pub works : WorksFor payloads (told disk) (told after)
 
 -- These changes were made, one after another, and nothing else.
-pub record Goes {Disk : Type 0} (told : Disk → Telling) (changes : List Change) (store next : Store) (disk after : Disk) : Type 0 where
-  pub holds : held_in next ≡ trails.after store_keeping changes (held_in store)
-  pub grows : trails.Grows store_keeping told changes disk store after next
+pub record Performs {Disk : Type 0} (told : Disk → Telling) (changes : List Change) (store next : Store) (disk after : Disk) : Type 0 where
+  pub holds : held_in next ≡ trails.after_changes store_keeping changes (held_in store)
+  pub grows : trails.ExtendsTrail store_keeping told changes disk store after next
   pub batches : (records : List (List ℕ)) (graph : Option Text) → IsOn (told disk) store records graph → HasBatches told changes store next disk after records graph
 
 -- The batch that was begun after these contents: that of the first of these changes, or none.
-pub data IsBegun (contents : List Value) : List Change → List (List ℕ) → Type 0 where
-  none_begun : (changes : List Change) → IsBegun contents changes []
-  one_begun : (change : Change) (more : List Change) (items : List Item) → IsBatchOf contents change items → IsBegun contents (change ∷ more) (spell_batch items ∷ [])
+pub data IsPartialBatch (contents : List Value) : List Change → List (List ℕ) → Type 0 where
+  none_begun : (changes : List Change) → IsPartialBatch contents changes []
+  one_begun : (change : Change) (more : List Change) (items : List Item) → IsBatchOf contents change items → IsPartialBatch contents (change ∷ more) (spell_batch items ∷ [])
 
 -- After whatever came before, a crash leaves that and some first ones of these payloads and of what was begun after them; and one that comes
 -- now leaves all but what was begun.
 abbrev pub LeavesBegun : {Disk : Type 0} → (Disk → Telling) → List (List ℕ) → List (List ℕ) → Store → Disk → Disk → Type 0
 LeavesBegun {Disk} told payloads begun store disk after =
     (first : List (List ℕ)) (start : Disk) (before : List (List ℕ)) → trails.Trail record_keeping first (told start) before store (told disk)
-    → trails.Leaves record_keeping first (told start) (before ++ payloads) (before ++ (payloads ++ begun)) (told after)
+    → trails.LeavesPrefix record_keeping first (told start) (before ++ payloads) (before ++ (payloads ++ begun)) (told after)
 
 -- Some first ones of these changes have their batches, and one more was begun at most. The work is no more than for them, and a crash
 -- leaves no others.
-pub record HasBegun {Disk : Type 0} (told : Disk → Telling) (changes : List Change) (store : Store) (disk after : Disk) (graph : Option Text) : Type 0 where
+pub record HasPartialBatches {Disk : Type 0} (told : Disk → Telling) (changes : List Change) (store : Store) (disk after : Disk) (graph : Option Text) : Type 0 where
   pub made : List Change
   pub rest : List Change
   pub whole : changes ≡ made ++ rest
@@ -69,35 +69,35 @@ pub record HasBegun {Disk : Type 0} (told : Disk → Telling) (changes : List Ch
   pub last : State
   pub are : AreBatches (state_in store graph) made payloads last
   pub begun : List (List ℕ)
-  pub next : IsBegun last.tables.contents rest begun
+  pub next : IsPartialBatch last.tables.contents rest begun
   pub leaves : LeavesBegun told payloads begun store disk after
   pub works : WorksFor (payloads ++ begun) (told disk) (told after)
 
 -- Of these changes some first ones were made, and none that came before is lost.
-pub record Stops {Disk : Type 0} (told : Disk → Telling) (changes : List Change) (store : Store) (disk after : Disk) : Type 0 where
+pub record StopsPerforming {Disk : Type 0} (told : Disk → Telling) (changes : List Change) (store : Store) (disk after : Disk) : Type 0 where
   pub within : trails.StopsWithin store_keeping told changes disk store after
-  pub begun : (records : List (List ℕ)) (graph : Option Text) → IsOn (told disk) store records graph → HasBegun told changes store disk after graph
+  pub begun : (records : List (List ℕ)) (graph : Option Text) → IsOn (told disk) store records graph → HasPartialBatches told changes store disk after graph
 
 -- ---- what the calls do, as changes one after another
 
 module _ {Disk : Type 0} (told : Disk → Telling) where
   -- The clauses of the calls make these changes; none where all is as it was; and changes follow changes.
   pub record ChangesFollow : Type 0 where
-    pub none : (store next : Store) (disk after : Disk) → IsSame store next disk after → Goes told [] store next disk after
+    pub none : (store next : Store) (disk after : Disk) → IsSame store next disk after → Performs told [] store next disk after
     pub put : (name text : Text) (store next : Store) (disk after : Disk) → Edits (PutBatch store name text) (puts name text) store next (told disk) (told after)
-        → LeavesChange (puts name text) store (told disk) (told after) → Goes told (puts name text ∷ []) store next disk after
+        → LeavesChange (puts name text) store (told disk) (told after) → Performs told (puts name text ∷ []) store next disk after
     pub drop : (name : Text) (store next : Store) (disk after : Disk) → Edits (DropBatch name) (drops name) store next (told disk) (told after)
-        → LeavesChange (drops name) store (told disk) (told after) → Goes told (drops name ∷ []) store next disk after
+        → LeavesChange (drops name) store (told disk) (told after) → Performs told (drops name ∷ []) store next disk after
     pub keep : (call : Call) (outcome : Outcome) (store next : Store) (disk after : Disk) → KeepsCall call outcome store next (told disk) (told after)
-        → LeavesChange (keeps call outcome) store (told disk) (told after) → Goes told (keeps call outcome ∷ []) store next disk after
+        → LeavesChange (keeps call outcome) store (told disk) (told after) → Performs told (keeps call outcome ∷ []) store next disk after
     pub behind : (some more : List Change) (store mid next : Store) (disk between after : Disk)
-        → Goes told some store mid disk between → Goes told more mid next between after → Goes told (some ++ more) store next disk after
+        → Performs told some store mid disk between → Performs told more mid next between after → Performs told (some ++ more) store next disk after
 
   -- Where changes stop: within one that failed, behind others, or at any moment; and more of them may have been meant.
   pub record ChangesStop : Type 0 where
     pub failed : (change : Change) (store : Store) (disk after : Disk) → LeavesChange change store (told disk) (told after)
-        → BeginsOnce (IsBatchOf store.kept.tables.contents change) store (told disk) (told after) → Stops told (change ∷ []) store disk after
+        → BeginsOnce (IsBatchOf store.kept.tables.contents change) store (told disk) (told after) → StopsPerforming told (change ∷ []) store disk after
     pub behind : (some more : List Change) (store mid : Store) (disk between after : Disk)
-        → Goes told some store mid disk between → Stops told more mid between after → Stops told (some ++ more) store disk after
-    pub left : (changes : List Change) (store next : Store) (disk after : Disk) → Goes told changes store next disk after → Stops told changes store disk after
-    pub longer : (changes more : List Change) (store : Store) (disk after : Disk) → Stops told changes store disk after → Stops told (changes ++ more) store disk after
+        → Performs told some store mid disk between → StopsPerforming told more mid between after → StopsPerforming told (some ++ more) store disk after
+    pub left : (changes : List Change) (store next : Store) (disk after : Disk) → Performs told changes store next disk after → StopsPerforming told changes store disk after
+    pub longer : (changes more : List Change) (store : Store) (disk after : Disk) → StopsPerforming told changes store disk after → StopsPerforming told (changes ++ more) store disk after

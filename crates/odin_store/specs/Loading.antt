@@ -3,9 +3,9 @@ use Rattle.std.specs.Prelude.{◌≡◌, ⊤, ℕ, ◌+◌, ◌-◌, List, [], �
 use Rattle.odin_journal.specs.declared.fault.JournalFault.{JournalFault}
 use Rattle.odin_journal.specs.declared.fault.JournalFault.TheVariants as fault
 use Rattle.meaning_records.specs.declared.items.Item.{Item}
-use Rattle.meaning_records.specs.Forms.{StandsAt}
+use Rattle.meaning_records.specs.Forms.{ParsesAt}
 use Rattle.meaning_records.specs.Records.{item}
-use Rattle.meaning_records.specs.States.{State, nothing, Takes, Reads, ReadsAll}
+use Rattle.meaning_records.specs.States.{State, nothing, TakesOne, Reads, ReadsAll}
 use Rattle.odin_store.specs.declared.loading.Loading.{Loading}
 
 -- what was loaded so far
@@ -15,12 +15,12 @@ state_of loading = record { tables = loading.kept.tables; sources = loading.sour
 -- an item stands at a place of a payload, and makes this of what is kept
 pub record TakesItem (payload : List ℕ) (at end : ℕ) (old new : State) : Type 0 where
   pub it : Item
-  pub stands : StandsAt item payload at end it
-  pub takes : Takes old it new
+  pub stands : ParsesAt item payload at end it
+  pub takes : TakesOne old it new
 
 -- no item stands there that may come behind what is kept
 abbrev pub TakesNone : List ℕ → ℕ → State → Type 0
-TakesNone payload at old = (it : Item) (end : ℕ) (new : State) → StandsAt item payload at end it → ¬ Takes old it new
+TakesNone payload at old = (it : Item) (end : ℕ) (new : State) → ParsesAt item payload at end it → ¬ TakesOne old it new
 
 -- the payload doesn't read behind what is kept
 abbrev pub ReadsNot : State → List ℕ → Type 0
@@ -32,7 +32,7 @@ records_size [] = 0
 records_size (payload ∷ payloads) = 5 + length payload + records_size payloads
 
 -- the first of these records that doesn't read, and its gate, where the closed gate behind them all stands at this end
-pub record BreaksAt (records : List (List ℕ)) (end at : ℕ) : Type 0 where
+pub record RecordBreaksAt (records : List (List ℕ)) (end at : ℕ) : Type 0 where
   pub before : List (List ℕ)
   pub payload : List ℕ
   pub rest : List (List ℕ)
@@ -43,7 +43,7 @@ pub record BreaksAt (records : List (List ℕ)) (end at : ℕ) : Type 0 where
   pub place : at ≡ end - records_size (payload ∷ rest)
 
 -- a fault of the loading of records
-abbrev pub IsLoadFault : List (List ℕ) → ℕ → JournalFault → Type 0
-IsLoadFault records end (fault.NotOurs at) = BreaksAt records end at
-IsLoadFault records end fault.Memory = ⊤
-IsLoadFault records end other = ⊥
+abbrev pub IsRecordLoadFault : List (List ℕ) → ℕ → JournalFault → Type 0
+IsRecordLoadFault records end (fault.NotOurs at) = RecordBreaksAt records end at
+IsRecordLoadFault records end fault.Memory = ⊤
+IsRecordLoadFault records end other = ⊥

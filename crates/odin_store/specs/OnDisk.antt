@@ -3,7 +3,7 @@ use Rattle.std.specs.Prelude.{◌≡◌, ◌⊎◌, ⊤, ℕ, ◌+◌, ◌^◌, 
 use Rattle.odin_outside.specs.Disk.{Telling, IsQuiet, LeavesOnly}
 use Rattle.object_sources.specs.Texts.{Text}
 use Rattle.meaning_store.specs.Front.{file_limit}
-use Rattle.meaning_store.specs.Images.{behind, with_record}
+use Rattle.meaning_store.specs.Images.{gate_after, with_record}
 use Rattle.odin_journal.specs.Moments.{Works}
 use Rattle.odin_journal.specs.Rest.{AtRest, IsReady}
 use Rattle.odin_journal.specs.declared.fault.JournalFault.{JournalFault}
@@ -27,7 +27,7 @@ pub record IsOn (disk : Telling) (store : Store) (records : List (List ℕ)) (gr
   pub read : ReadsAll nothing records (state_in store graph)
 
 -- a store that can be changed, on a disk of this size
-pub record IsOpen (store : Store) (size : ℕ) : Type 0 where
+pub record StoreIsOpen (store : Store) (size : ℕ) : Type 0 where
   pub journal : IsReady store.journal size
   pub early : store.epoch < 2 ^ 63
 
@@ -39,7 +39,7 @@ LeavesChange change store old new =
 
 -- A batch of these items was added to the records, where it fitted, and nothing else was written.
 pub record Appends (items : List Item) (store next : Store) (old new : Telling) : Type 0 where
-  pub end : next.journal.end ≡ behind store.journal.end (spell_batch items)
+  pub end : next.journal.end ≡ gate_after store.journal.end (spell_batch items)
   pub room : next.journal.end < file_limit
   pub on : (records : List (List ℕ)) (graph : Option Text) → IsOn old store records graph → IsOn new next (records ++ spell_batch items ∷ []) graph
   pub bytes : IsQuiet old → new.seen ≡ with_record store.journal.end (spell_batch items) old.seen
@@ -65,7 +65,7 @@ IsChangeFault IsBatch change store (fault.Full at some) =
 IsChangeFault IsBatch change store (fault.NotOurs at) = ⊥
 
 -- what a store is after a change: it can be changed on, or is spent
-pub record IsLeft {T : Type 0} (store : Store) (size : ℕ) (result : Result T JournalFault) : Type 0 where
+pub record StoreAfter {T : Type 0} (store : Store) (size : ℕ) (result : Result T JournalFault) : Type 0 where
   pub ready : OnOk result (IsReady store.journal size)
   pub spent : IsErrOf result fault.Disk → IsTrue store.journal.spent
 

@@ -13,7 +13,7 @@ use Rattle.meaning_records.specs.Batches.{graph_batch}
 use Rattle.meaning_records.specs.States.{State, nothing, ReadsAll, spell_batch}
 use Rattle.meaning_records.specs.Stands.{Stands, StandsNot, gate_behind}
 use Rattle.odin_store.specs.declared.store.Store.{Store}
-use Rattle.odin_store.specs.Written.{written_in, with_records, IsMade}
+use Rattle.odin_store.specs.Written.{written_in, with_records, StoreIsMade}
 use Rattle.odin_store.specs.Held.{held_of, StandsFor}
 use Rattle.odin_store.specs.OnDisk.{IsOn, held_in}
 
@@ -27,7 +27,7 @@ IsOpening text last batches = ((last ≡ Some text) × (batches ≡ [])) ⊎ ((l
 
 -- The file stood for what the store holds. After its records the batch of the opening was added, and nothing else was written but the front
 -- of a new file. The work is that of reading them, of making it, and of that batch at most.
-pub record Opens (graph : Text) (old new : Telling) (store : Store) : Type 0 where
+pub record OpensStore (graph : Text) (old new : Telling) (store : Store) : Type 0 where
   pub records : List (List ℕ)
   pub state : State
   pub stored : Stored records old.seen
@@ -37,7 +37,7 @@ pub record Opens (graph : Text) (old new : Telling) (store : Store) : Type 0 whe
   pub opens : IsOpening graph state.graph opening
   pub on : IsOn new store (records ++ opening) (Some graph)
   pub made : List ℕ
-  pub is_made : IsMade old.seen made
+  pub is_made : StoreIsMade old.seen made
   pub gate : ℕ
   pub whole : IsStore made records gate
   pub end : store.journal.end ≡ gate_behind gate opening
@@ -45,8 +45,8 @@ pub record Opens (graph : Text) (old new : Telling) (store : Store) : Type 0 whe
   pub works : Works (66 + written_in opening) (16 + 2 * length records + 4 * length opening) old new
 
 -- of a disk on which nothing is pending
-abbrev pub OpensQuiet : Text → Telling → Telling → Store → Type 0
-OpensQuiet graph old new store = IsQuiet old → Opens graph old new store
+abbrev pub OpensQuietStore : Text → Telling → Telling → Store → Type 0
+OpensQuietStore graph old new store = IsQuiet old → OpensStore graph old new store
 
 -- no edit was counted yet
 abbrev pub IsAtFirst : Store → Type 0
@@ -74,7 +74,7 @@ OpeningsKeepHeld {Disk} told =
     (graph : Text) (old new : Disk) → length graph ≤ graph_limit → LeavesOpening graph (told old) (told new) → LeavesHeld (told old) (told new)
 
 -- The file is a store whose last graph is another, if it has one, and whose next batch, that of this graph, doesn't fit behind its end.
-pub record IsFull (graph : Text) (image : Telling) (end count : ℕ) : Type 0 where
+pub record HasNoRoomForGraph (graph : Text) (image : Telling) (end count : ℕ) : Type 0 where
   pub records : List (List ℕ)
   pub rests : AtRest image records end
   pub state : State
@@ -91,8 +91,8 @@ pub record IsMadeNew (old new : Telling) : Type 0 where
 
 -- A fault of an opening. `NotOurs` is exact: what stands for something has no such offset, and no file has two. Where memory was wanting
 -- no batch was begun; where the disk failed that of the opening may have been, and what a crash leaves then is said for any answer.
-abbrev pub IsOpenFault : Text → Telling → Telling → JournalFault → Type 0
-IsOpenFault graph old new (fault.NotOurs at) = IsQuiet old → Untouched old new × StandsNot old.seen at
-IsOpenFault graph old new (fault.Full end count) = IsQuiet old → Untouched old new × IsFull graph old end count
-IsOpenFault graph old new fault.Memory = IsQuiet old → Untouched old new ⊎ IsMadeNew old new
-IsOpenFault graph old new fault.Disk = ⊤
+abbrev pub IsStoreOpenFault : Text → Telling → Telling → JournalFault → Type 0
+IsStoreOpenFault graph old new (fault.NotOurs at) = IsQuiet old → Untouched old new × StandsNot old.seen at
+IsStoreOpenFault graph old new (fault.Full end count) = IsQuiet old → Untouched old new × HasNoRoomForGraph graph old end count
+IsStoreOpenFault graph old new fault.Memory = IsQuiet old → Untouched old new ⊎ IsMadeNew old new
+IsStoreOpenFault graph old new fault.Disk = ⊤

@@ -3,7 +3,7 @@ use Rattle.std.specs.Prelude.{◌≡◌, ◌⊎◌, ℕ, ◌+◌, ◌*◌, List,
 use Rattle.odin_outside.specs.Disk.{Telling, LeavesOnly}
 use Rattle.disk_trails.specs.Trails as trails
 use Rattle.meaning_store.specs.Front.{new_store}
-use Rattle.meaning_store.specs.Images.{behind, with_record, IsNew, IsWritten, Stored}
+use Rattle.meaning_store.specs.Images.{gate_after, with_record, IsNew, IsWritten, Stored}
 use Rattle.odin_journal.specs.Moments.{Works}
 use Rattle.odin_journal.specs.Rest.{AtRest}
 use Rattle.odin_store.specs.declared.store.Store.{Store}
@@ -20,11 +20,11 @@ WorksFor payloads old new = Works (written_in payloads) (4 * length payloads) ol
 -- the file once these records stand at the closed gate of this place, one after another, and nothing else was written
 abbrev pub with_records : ℕ → List (List ℕ) → List ℕ → List ℕ
 with_records gate [] image = image
-with_records gate (payload ∷ payloads) image = with_records (behind gate payload) payloads (with_record gate payload image)
+with_records gate (payload ∷ payloads) image = with_records (gate_after gate payload) payloads (with_record gate payload image)
 
 -- what a file is as the journal of a store is opened in it: a new one is made a store, and any other stays
-abbrev pub IsMade : List ℕ → List ℕ → Type 0
-IsMade image made = (IsNew image × (made ≡ new_store image)) ⊎ (IsWritten image × (made ≡ image))
+abbrev pub StoreIsMade : List ℕ → List ℕ → Type 0
+StoreIsMade image made = (IsNew image × (made ≡ new_store image)) ⊎ (IsWritten image × (made ≡ image))
 
 -- ---- records as what a trail keeps
 

@@ -1,7 +1,7 @@
 // The loading of a store's records, one after another.
 ghost use Rattle.std.specs.Prelude.{◌≡◌, ◌-◌, ◌∷◌, IfOk, IfErr, IfSome, IfNone, IsTrue, IsFalse, Some};
 ghost use Rattle.meaning_records.specs.States.{nothing, Reads, ReadsAll};
-ghost use Rattle.odin_store.specs.Loading.{state_of, TakesItem, TakesNone, ReadsNot, records_size, IsLoadFault};
+ghost use Rattle.odin_store.specs.Loading.{state_of, TakesItem, TakesNone, ReadsNot, records_size, IsRecordLoadFault};
 
 use kept_tables::{Kept, Loaded};
 use meaning_records::laws::reads_in_one_way;
@@ -120,7 +120,7 @@ impl Loading {
 /// What these records make of nothing, the first one first. Each is let go once it is loaded. The closed gate behind them stands at `end`.
 pub fn load_records(alloc: Global, records: Seq<Bytes>, end: u64) -> Result<Loading, JournalFault>
     ensures read { IfOk result (λ loading. ReadsAll nothing records (state_of loading)) }
-    ensures fault { IfErr result (IsLoadFault records end) }
+    ensures fault { IfErr result (IsRecordLoadFault records end) }
 {
     let mut loading = Loading::new(alloc);
     // Taken from the end, each record is let go once it is loaded, so that no two forms of the whole file are held.

@@ -1,7 +1,7 @@
 // The store, over a disk that it is lent call by call.
 ghost use Rattle.std.specs.Prelude.{◌≡◌, ◌≢◌, ◌+◌, ◌≤◌, length, Some, IsSome, IfOk, IfErr, OnOk, IsTrue, IsFalse};
 ghost use Rattle.std.specs.FinMap as map;
-ghost use Rattle.odin_journal.specs.Faults.{IsCause, IsRefused};
+ghost use Rattle.odin_journal.specs.Faults.{JournalFaultIsCounted, IsRefused};
 ghost use Rattle.odin_journal.specs.Moments.{Works};
 ghost use Rattle.odin_journal.specs.Rest.{IsReady};
 ghost use Rattle.meaning_texts.specs.Classes.{IsName};
@@ -47,22 +47,23 @@ impl Drop for Store {
 }
 
 impl Store {
-    ghost use Rattle.odin_store.specs.OnDisk.{BeginsOnce, IsChangeFault, IsLeft, IsOpen, IsSame, IsUnchanged, LeavesChange};
-    ghost use Rattle.odin_store.specs.Opening.{graph_record, IsAtFirst, IsOpenFault, LeavesOpening, OpensQuiet};
-    ghost use Rattle.odin_store.specs.Changes.{CallBatch, DropBatch, DropsSource, KeepsCall, MayKeep, MayPut, PutBatch, PutsText};
+    ghost use Rattle.odin_store.specs.OnDisk.{BeginsOnce, IsChangeFault, StoreAfter, StoreIsOpen, IsSame, IsUnchanged, LeavesChange};
+    ghost use Rattle.odin_store.specs.Opening.{graph_record, IsAtFirst, IsStoreOpenFault, LeavesOpening, OpensQuietStore};
+    ghost use Rattle.odin_store.specs.Changes.{CallBatch, DropBatch, DropsSource, KeepsCall, StoreMayKeep, MayPut, PutBatch, PutsText};
 
     /// Opens the store in a file for a graph of this text. Where the last graph text in the file is another, this one is added.
     pub fn open<D: Disk>(alloc: Global, disk: &mut D, graph: &[u8]) -> Result<Store, JournalFault>
         requires { length graph.now ≤ graph_limit }
-        ensures opened { IfOk result (OpensQuiet graph.now (D.told disk.old) (D.told disk.new)) }
+        ensures opened { IfOk result
+            (OpensQuietStore graph.now (D.told disk.old) (D.told disk.new)) }
         ensures any_moment { LeavesOpening graph.now (D.told disk.old) (D.told disk.new) }
         ensures refused { IfErr result
-            (IsOpenFault graph.now (D.told disk.old) (D.told disk.new)) }
+            (IsStoreOpenFault graph.now (D.told disk.old) (D.told disk.new)) }
         ensures first { IfOk result IsAtFirst }
         ensures ready { IfOk result (λ store. IsReady store.journal (D.size_of disk.new)) }
         ensures works { D.size_of disk.old ≡ 0
             → Works (72 + length (graph_record graph.now)) 20 (D.told disk.old) (D.told disk.new) }
-        ensures cause { IsCause (D.faults disk.old) (D.faults disk.new) result }
+        ensures cause { JournalFaultIsCounted (D.faults disk.old) (D.faults disk.new) result }
     {
         let (mut journal, records) = Journal::open(alloc, disk)?;
         let loading = load_records(alloc, records, journal.end())?;
@@ -109,10 +110,10 @@ impl Store {
         ensures fault { IfErr result (IsChangeFault (PutBatch self.old name.now text.now)
             (puts name.now text.now) self.old) }
         ensures same { IsRefused result → IsSame self.old self.new disk.old disk.new }
-        ensures left { IsLeft self.new (D.size_of disk.new) result }
+        ensures left { StoreAfter self.new (D.size_of disk.new) result }
         ensures begins { BeginsOnce (PutBatch self.old name.now text.now) self.old
             (D.told disk.old) (D.told disk.new) }
-        ensures cause { IsCause (D.faults disk.old) (D.faults disk.new) result }
+        ensures cause { JournalFaultIsCounted (D.faults disk.old) (D.faults disk.new) result }
     {
         self.before_put(disk, name, text);
         if self.has_text(name, text) {
@@ -133,7 +134,7 @@ impl Store {
         disk: &mut D,
         name: &Name,
     ) -> Result<bool, JournalFault>
-        requires { IsOpen self.old (D.size_of disk.old) }
+        requires { StoreIsOpen self.old (D.size_of disk.old) }
         ensures drops { IfOk result
             (DropsSource D.told name.now self.old self.new disk.old disk.new) }
         ensures any_moment { LeavesChange (drops name.now) self.old
@@ -141,10 +142,10 @@ impl Store {
         ensures fault { IfErr result
             (IsChangeFault (DropBatch name.now) (drops name.now) self.old) }
         ensures same { IsRefused result → IsSame self.old self.new disk.old disk.new }
-        ensures left { IsLeft self.new (D.size_of disk.new) result }
+        ensures left { StoreAfter self.new (D.size_of disk.new) result }
         ensures begins { BeginsOnce (DropBatch name.now) self.old
             (D.told disk.old) (D.told disk.new) }
-        ensures cause { IsCause (D.faults disk.old) (D.faults disk.new) result }
+        ensures cause { JournalFaultIsCounted (D.faults disk.old) (D.faults disk.new) result }
     {
         self.before_drop(disk, name);
         if !self.has_source(name) {
@@ -165,7 +166,7 @@ impl Store {
         call: &Call,
         outcome: &Outcome,
     ) -> Result<(), JournalFault>
-        requires { MayKeep self.old (D.size_of disk.old) call.now outcome.now }
+        requires { StoreMayKeep self.old (D.size_of disk.old) call.now outcome.now }
         ensures keeps { OnOk result (KeepsCall call.now outcome.now self.old self.new
             (D.told disk.old) (D.told disk.new)) }
         ensures any_moment { LeavesChange (keeps call.now outcome.now) self.old
@@ -173,10 +174,10 @@ impl Store {
         ensures fault { IfErr result (IsChangeFault (CallBatch self.old call.now outcome.now)
             (keeps call.now outcome.now) self.old) }
         ensures same { IsRefused result → IsSame self.old self.new disk.old disk.new }
-        ensures left { IsLeft self.new (D.size_of disk.new) result }
+        ensures left { StoreAfter self.new (D.size_of disk.new) result }
         ensures begins { BeginsOnce (CallBatch self.old call.now outcome.now) self.old
             (D.told disk.old) (D.told disk.new) }
-        ensures cause { IsCause (D.faults disk.old) (D.faults disk.new) result }
+        ensures cause { JournalFaultIsCounted (D.faults disk.old) (D.faults disk.new) result }
     {
         reads_in_one_way();
         let prepared = self.kept.prepare_call(alloc, call, outcome)?;

@@ -13,8 +13,8 @@ load = record (new_rule (codes "load")) { long = Some (codes "load"); action = S
 abbrev pub graph : Rule
 graph = record (new_rule (codes "graph")) { action = Some Set }
 
-abbrev pub bare : App
-bare = let app = new_app (codes "odin") in record app { top = record app.top { disable_help_flag = true } }
+abbrev pub bare_odin : App
+bare_odin = let app = new_app (codes "odin") in record app { top = record app.top { disable_help_flag = true } }
 
 abbrev pub command : App
-command = with_rule (with_rule (with_rule bare jobs) load) graph
+command = with_rule (with_rule (with_rule bare_odin jobs) load) graph

@@ -5,7 +5,7 @@ ghost use Rattle.std.specs.Prelude.{◌≡◌, ◌≢◌, IfOk, IfErr, IfSome, I
 ghost use Rattle.std.specs.Option.{option_copied};
 ghost use Rattle.clap.specs.Words.{fault_of, matches_of, first_of, rows_of, found_of, kind_of};
 ghost use Rattle.odin_words.specs.Command.{command};
-ghost use Rattle.odin_words.specs.Asked.{IsNumber, IsNoNumber, IsJobs, IsNoJobs, IsWork, IsNoWork, HasAsked, HasNone, AsksFor, IsNotAccepted, work_of};
+ghost use Rattle.odin_words.specs.Asked.{IsNumberUpTo, IsNoNumberUpTo, IsJobs, IsNoJobs, IsWork, IsNoWork, RowsAskFor, RowsAskForNothing, AsksFor, IsNotAccepted, work_of};
 
 use clap::error::ErrorKind;
 use clap::{Arg, ArgAction, ArgMatches, Command, Error};
@@ -66,8 +66,8 @@ fn value_of<'a>(found: &ArgMatches<'a>, id: &str) -> Option<&'a str>
 
 /// The number up to `most` that a word spells.
 fn read_up_to(most: u64, word: &str) -> Option<u64>
-    ensures some { IfSome result (IsNumber most word.now) }
-    ensures none { IfNone result (IsNoNumber most word.now) }
+    ensures some { IfSome result (IsNumberUpTo most word.now) }
+    ensures none { IfNone result (IsNoNumberUpTo most word.now) }
 {
     let number = read_number(word.as_bytes())?;
     if number < LEAST || number > most {
@@ -106,8 +106,8 @@ fn work_by<'a>(graph: Option<&'a str>, load: Option<&'a str>) -> Option<Work<'a>
 /// What the values ask for, where the words were taken.
 fn asked_of<'a>(found: &ArgMatches<'a>) -> Option<Asked<'a>>
     ensures some { IfSome result (λ asked.
-        HasAsked (rows_of (found_of found.now)) (work_of asked.work) asked.jobs) }
-    ensures none { IfNone result (HasNone (rows_of (found_of found.now))) }
+        RowsAskFor (rows_of (found_of found.now)) (work_of asked.work) asked.jobs) }
+    ensures none { IfNone result (RowsAskForNothing (rows_of (found_of found.now))) }
 {
     let work = work_by(value_of(found, "graph"), value_of(found, "load"))?;
     let jobs = jobs_by(value_of(found, "jobs"))?;

@@ -8,7 +8,7 @@ use Rattle.meaning_graph.specs.Types.{IsA, itself, by_super, is_a}
 use Rattle.meaning_graph.specs.Paths.{Makes, Path, maker_edges}
 use Rattle.meaning_texts.proofs.Lemmas.{same_some, some_is_none, in_left, in_right, in_either}
 use Rattle.meaning_graph.proofs.Lemmas.{Route, short_route, numbers, in_below, length-below, super_numbered, is_a_so, so_is_a, named_below, edge_makes, makes_edge}
-use Rattle.path_planner.specs.Near.{near_at, AddsBelow, IsNear, IsAt, IsBetween, IsAllNear, LeadTo, Reaches}
+use Rattle.path_planner.specs.Near.{near_at, AddsBelow, IsNear, IsAtLevel, IsBetween, IsAllNear, LeadTo, Reaches}
 use Rattle.path_planner.proofs.EndLemmas.{of_makes}
 use Rattle.path_planner.proofs.RouteLemmas.{three_ways}
 
@@ -154,7 +154,7 @@ module _ (g : Graph) (to : ℕ) (first : List ℕ) (added : AddsBelow g to (leng
   by_path a [] below path few = r.all a ((added a).1 (inr (below, so_is_a g a to path)))
   by_path a (k ∷ p) below path few = absurd (omega (arith, few))
 
-  pub first_level : IsAt g to 0 near front
+  pub first_level : IsAtLevel g to 0 near front
   first_level = (
     record {
       sized = r.sized ∙ length-replicate (length (types g)) None;
@@ -174,11 +174,11 @@ first_within g to first added a h = elim ((added a).0 h) [ inl bad ↦ absurd ba
 
 -- ---- from one level to the next
 
-pub front_within : (g : Graph) (to level : ℕ) (near : List (Option ℕ)) (front : List ℕ) → IsAt g to level near front → (b : ℕ) → IsIn b front → b < length (types g)
+pub front_within : (g : Graph) (to level : ℕ) (near : List (Option ℕ)) (front : List ℕ) → IsAtLevel g to level near front → (b : ℕ) → IsIn b front → b < length (types g)
 front_within g to level near front w b h = let lt = near_within near b level (w.1.at b h) in omega (arith, lt, w.0.sized)
 
 module _ (g : Graph) (to level : ℕ) (front : List ℕ) where
-  pub begins : (near : List (Option ℕ)) → IsAt g to level near front → IsBetween g to level front [] near []
+  pub begins : (near : List (Option ℕ)) → IsAtLevel g to level near front → IsBetween g to level front [] near []
   begins near w = record {
     sized = w.0.sized;
     sound = w.0.sound;
@@ -246,7 +246,7 @@ module _ (g : Graph) (to level : ℕ) (front : List ℕ) where
           | inr e ↦ w.spread r.0 a k (w.here.has r.0 (n.1 ∙ ap Some e)) r.1 below
         ]
 
-    pub ends_level : IsAt g to (level + 1) near next
+    pub ends_level : IsAtLevel g to (level + 1) near next
     ends_level = (record { sized = w.sized; sound = w.sound; least = w.least; bounded = w.bounded; complete = next_level }, w.after)
 
 -- ---- all levels

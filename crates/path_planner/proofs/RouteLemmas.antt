@@ -10,7 +10,7 @@ use Rattle.meaning_graph.specs.Routes.{ComesBefore}
 use Rattle.meaning_graph.specs.Paths.{Makes, Path, Chosen, HasNoPath, chosen_path}
 use Rattle.meaning_texts.proofs.Lemmas.{same_some, some_is_none}
 use Rattle.meaning_graph.proofs.Lemmas.{AtMost, at_most_behind, path_chosen, one_chosen, named_below}
-use Rattle.path_planner.specs.Near.{near_at, IsAllNear, Leads}
+use Rattle.path_planner.specs.Near.{near_at, IsAllNear, MakesAtDistance}
 
 module _ (g : Graph) (a b : ℕ) where
   chosen_by : (p : List ℕ) → Chosen g a b p → (o : Option (List ℕ)) → MatchOption o (HasNoPath g a b) (Chosen g a b) → Some p ≡ o
@@ -70,7 +70,7 @@ module _ (g : Graph) (to : ℕ) (near : List (Option ℕ)) (w : IsAllNear g to n
   pub chosen_length : (a n : ℕ) (p : List ℕ) → near_at near a ≡ Some n → Chosen g a to p → length p ≡ n
   chosen_length a n p h c = let q = w.sound a n h in omega (arith, w.least a n p h c.path, not_longer p q.0 (c.least q.0 q.1), q.2)
 
-  module _ (at left k next : ℕ) (here : near_at near at ≡ Some (left + 1)) (below : at < length (types g)) (leads : Leads g near at left k next) (first : (j other : ℕ) → Leads g near at left j other → k ≤ j) where
+  module _ (at left k next : ℕ) (here : near_at near at ≡ Some (left + 1)) (below : at < length (types g)) (leads : MakesAtDistance g near at left k next) (first : (j other : ℕ) → MakesAtDistance g near at left j other → k ≤ j) where
     -- a path whose first maker is another one
     by_first : (p : List ℕ) → Chosen g next to p → (j other : ℕ) (q : List ℕ) → Makes g at j other → Path g other to q → length q ≡ left → AtMost (k ∷ p) (j ∷ q)
     by_first p c j other q makes rest size =
@@ -106,7 +106,7 @@ module _ (g : Graph) (to : ℕ) (near : List (Option ℕ)) (w : IsAllNear g to n
     one_step p c = record { path = (next, leads.0, c.path); least = λ q r. by_length p c q r }
 
   -- there is such a maker
-  some_leads : (at left : ℕ) → near_at near at ≡ Some (left + 1) → (q : List ℕ) → Path g at to q → length q ≡ left + 1 → (k : ℕ) × (next : ℕ) × Leads g near at left k next
+  some_leads : (at left : ℕ) → near_at near at ≡ Some (left + 1) → (q : List ℕ) → Path g at to q → length q ≡ left + 1 → (k : ℕ) × (next : ℕ) × MakesAtDistance g near at left k next
   some_leads at left here [] r e = absurd (omega (arith, e))
   some_leads at left here (k ∷ q) r e =
       let within : r.0 < length (types g) = named_below g r.1.maker.to r.0 r.1.makes in
@@ -116,7 +116,7 @@ module _ (g : Graph) (to : ℕ) (near : List (Option ℕ)) (w : IsAllNear g to n
       let same : n.0 ≡ left = omega (arith, longest, s.2, w.least r.0 n.0 q n.1 r.2, e) in
       (k, r.0, (r.1, n.1 ∙ ap Some same))
 
-  pub one_leads : (at left : ℕ) → near_at near at ≡ Some (left + 1) → ((k next : ℕ) → Leads g near at left k next → ⊥) → ⊥
+  pub one_leads : (at left : ℕ) → near_at near at ≡ Some (left + 1) → ((k next : ℕ) → MakesAtDistance g near at left k next → ⊥) → ⊥
   one_leads at left here none = let p = w.sound at (left + 1) here in let k = some_leads at left here p.0 p.1 p.2 in none k.0 k.1 k.2
 
 -- The makers so far, and then a chosen path from the type that they led to, are a chosen path.
@@ -129,7 +129,7 @@ pub sets_out : (g : Graph) (to : ℕ) (near : List (Option ℕ)) (from left : �
 sets_out g to near from left below h = record { within = below; distance = h; rest = λ p c. c }
 
 module _ (g : Graph) (to : ℕ) (near : List (Option ℕ)) (all : IsAllNear g to near) (from at left : ℕ) (path : List ℕ) where
-  pub goes_on : IsOnWay g to near from at (left + 1) path → (k next : ℕ) → Leads g near at left k next → ((j other : ℕ) → Leads g near at left j other → k ≤ j) → IsOnWay g to near from next left (path ++ k ∷ [])
+  pub goes_on : IsOnWay g to near from at (left + 1) path → (k next : ℕ) → MakesAtDistance g near at left k next → ((j other : ℕ) → MakesAtDistance g near at left j other → k ≤ j) → IsOnWay g to near from next left (path ++ k ∷ [])
   goes_on w k next leads first = record {
     within = named_below g leads.0.maker.to next leads.0.makes;
     distance = leads.1;

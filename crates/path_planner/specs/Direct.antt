@@ -7,9 +7,9 @@ use Rattle.path_planner.specs.declared.route.Ends.{Ends}
 use Rattle.path_planner.specs.Ends.{from_to}
 
 -- What a maker of these ends makes of the one type, where that is the other.
-abbrev pub IsLed : Graph → Ends → ℕ → ℕ → Option ℕ → Type 0
-IsLed g ends at to None = (from next : ℕ) → ends ≡ from_to from next → is_a g at from ≡ true → is_a g next to ≡ true → ⊥
-IsLed g ends at to (Some next) = (from : ℕ) × (ends ≡ from_to from next) × (is_a g at from ≡ true) × (is_a g next to ≡ true)
+abbrev pub IsLedByMaker : Graph → Ends → ℕ → ℕ → Option ℕ → Type 0
+IsLedByMaker g ends at to None = (from next : ℕ) → ends ≡ from_to from next → is_a g at from ≡ true → is_a g next to ≡ true → ⊥
+IsLedByMaker g ends at to (Some next) = (from : ℕ) × (ends ≡ from_to from next) × (is_a g at from ≡ true) × (is_a g next to ≡ true)
 
 -- The maker takes the one type, and what it makes is the other.
 abbrev pub LeadsTo : Graph → ℕ → ℕ → ℕ → ℕ → Type 0

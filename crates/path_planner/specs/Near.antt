@@ -20,13 +20,13 @@ pub record IsNear (g : Graph) (to level : ℕ) (near : List (Option ℕ)) : Type
   pub complete : (a : ℕ) (path : List ℕ) → a < length (types g) → Path g a to path → length path ≤ level → (n : ℕ) × (near_at near a ≡ Some n)
 
 -- just the types at the level stand in front
-pub record IsFront (near : List (Option ℕ)) (level : ℕ) (front : List ℕ) : Type 0 where
+pub record IsFrontOfLevel (near : List (Option ℕ)) (level : ℕ) (front : List ℕ) : Type 0 where
   pub at : (a : ℕ) → IsIn a front → near_at near a ≡ Some level
   pub has : (a : ℕ) → near_at near a ≡ Some level → IsIn a front
 
 -- The distances are right up to the level, whose types stand in front.
-abbrev pub IsAt : Graph → ℕ → ℕ → List (Option ℕ) → List ℕ → Type 0
-IsAt g to level near front = IsNear g to level near × IsFront near level front
+abbrev pub IsAtLevel : Graph → ℕ → ℕ → List (Option ℕ) → List ℕ → Type 0
+IsAtLevel g to level near front = IsNear g to level near × IsFrontOfLevel near level front
 
 -- The types of a list that had no distance have this one, and stand in front now. The others are as they were.
 pub record Reaches (distance : ℕ) (numbers : List ℕ) (old : List (Option ℕ)) (front : List ℕ) (new : List (Option ℕ)) (next : List ℕ) : Type 0 where
@@ -60,8 +60,8 @@ pub record AreSourcesTo (g : Graph) (count : ℕ) (lists : List (List ℕ)) : Ty
   pub sized : length lists ≡ count
   pub lead : (to : ℕ) → to < count → LeadTo g to (slice_index_or lists to [])
 
-abbrev pub AreSources : Graph → List (List ℕ) → Type 0
-AreSources g lists = AreSourcesTo g (length (types g)) lists
+abbrev pub AreSourceLists : Graph → List (List ℕ) → Type 0
+AreSourceLists g lists = AreSourcesTo g (length (types g)) lists
 
 -- So many types in front are looked at on the way to the next level.
 pub record IsBetween (g : Graph) (to level : ℕ) (front looked : List ℕ) (near : List (Option ℕ)) (next : List ℕ) : Type 0 where
@@ -71,8 +71,8 @@ pub record IsBetween (g : Graph) (to level : ℕ) (front looked : List ℕ) (nea
   pub bounded : (a n : ℕ) → near_at near a ≡ Some n → n ≤ level + 1
   pub complete : (a : ℕ) (path : List ℕ) → a < length (types g) → Path g a to path → length path ≤ level → (n : ℕ) × (near_at near a ≡ Some n)
   pub spread : (b a k : ℕ) → IsIn b looked → Makes g a k b → a < length (types g) → (n : ℕ) × (near_at near a ≡ Some n)
-  pub here : IsFront near level front
-  pub after : IsFront near (level + 1) next
+  pub here : IsFrontOfLevel near level front
+  pub after : IsFrontOfLevel near (level + 1) next
 
 -- The distances are those of the shortest paths, where there are any.
 pub record IsAllNear (g : Graph) (to : ℕ) (near : List (Option ℕ)) : Type 0 where
@@ -87,10 +87,10 @@ IsLead g ends near at distance None = (from next : ℕ) → ends ≡ from_to fro
 IsLead g ends near at distance (Some next) = (from : ℕ) × (ends ≡ from_to from next) × (is_a g at from ≡ true) × (near_at near next ≡ Some distance)
 
 -- The maker takes the type, and what it makes is at the distance.
-abbrev pub Leads : Graph → List (Option ℕ) → ℕ → ℕ → ℕ → ℕ → Type 0
-Leads g near at distance number next = Makes g at number next × (near_at near next ≡ Some distance)
+abbrev pub MakesAtDistance : Graph → List (Option ℕ) → ℕ → ℕ → ℕ → ℕ → Type 0
+MakesAtDistance g near at distance number next = Makes g at number next × (near_at near next ≡ Some distance)
 
 -- The least of such makers with what it makes, where there is any.
 abbrev pub IsNearer : Graph → List (Option ℕ) → ℕ → ℕ → Option (ℕ × ℕ) → Type 0
-IsNearer g near at distance None = (number next : ℕ) → Leads g near at distance number next → ⊥
-IsNearer g near at distance (Some found) = Leads g near at distance found.0 found.1 × ((number next : ℕ) → Leads g near at distance number next → found.0 ≤ number)
+IsNearer g near at distance None = (number next : ℕ) → MakesAtDistance g near at distance number next → ⊥
+IsNearer g near at distance (Some found) = MakesAtDistance g near at distance found.0 found.1 × ((number next : ℕ) → MakesAtDistance g near at distance number next → found.0 ≤ number)

@@ -2,7 +2,7 @@
 ghost use Rattle.std.specs.Prelude.{◌≡◌, ◌<◌, length};
 ghost use Rattle.meaning_graph.specs.Graphs.{types};
 ghost use Rattle.path_planner.specs.Ends.{ends_in, AreTypes};
-ghost use Rattle.path_planner.specs.Direct.{IsLed, IsDirect};
+ghost use Rattle.path_planner.specs.Direct.{IsLedByMaker, IsDirect};
 
 use crate::route::Ends;
 use type_graph::Graph;
@@ -27,7 +27,7 @@ fn led(graph: &Graph, maker: Ends, at: u32, to: u32) -> Option<u32>
     requires ends { AreTypes graph.now maker }
     requires at { at < length (types graph.now) }
     requires to { to < length (types graph.now) }
-    ensures { IsLed graph.now maker at to result }
+    ensures { IsLedByMaker graph.now maker at to result }
 {
     let from = maker.from?;
     let next = maker.to?;

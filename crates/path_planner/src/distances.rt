@@ -2,7 +2,7 @@
 ghost use Rattle.std.specs.Prelude.{◌≡◌, ◌<◌, ◌+◌, ◌^◌, ℕ, IfOk, OnOk, length};
 ghost use Rattle.meaning_graph.specs.Graphs.{types};
 ghost use Rattle.type_graph.specs.Walks.{AreBelow};
-ghost use Rattle.path_planner.specs.Near.{AreSources, IsAllNear, IsAt, Reaches};
+ghost use Rattle.path_planner.specs.Near.{AreSourceLists, IsAllNear, IsAtLevel, Reaches};
 
 use crate::sources::add_below;
 use object_values::{Memory, Seq};
@@ -48,12 +48,14 @@ impl Search {
         sources: &[Seq<u32>],
         level: u32,
     ) -> Result<(), Memory>
-        requires sources { AreSources graph.now sources.now }
+        requires sources { AreSourceLists graph.now sources.now }
         requires sized { length self.old.near.items ≡ length (types graph.now) }
         requires small { level + 1 < 2 ^ 32 }
-        requires at { (to : ℕ) × IsAt graph.now to level self.old.near.items self.old.front.items }
-        ensures { (to : ℕ) → IsAt graph.now to level self.old.near.items self.old.front.items
-            → OnOk result (IsAt graph.now to (level + 1) self.new.near.items self.new.front.items) }
+        requires at { (to : ℕ) × IsAtLevel graph.now to level self.old.near.items
+            self.old.front.items }
+        ensures { (to : ℕ) → IsAtLevel graph.now to level self.old.near.items self.old.front.items
+            → OnOk result (IsAtLevel graph.now to (level + 1) self.new.near.items
+            self.new.front.items) }
     {
         let front = mem::replace(&mut self.front, Vec::new(alloc));
         for number in &front {
@@ -78,7 +80,7 @@ pub(crate) fn distances(
     sources: &[Seq<u32>],
     to: u32,
 ) -> Result<Seq<Option<u32>>, Memory>
-    requires sources { AreSources graph.now sources.now }
+    requires sources { AreSourceLists graph.now sources.now }
     requires to { to < length (types graph.now) }
     ensures { IfOk result (λ near. IsAllNear graph.now to near) }
 {

@@ -2,7 +2,7 @@
 ghost use Rattle.std.specs.Prelude.{◌≡◌, ◌<◌, ℕ, IfOk, IfNone, IfSome, OnOk, length};
 ghost use Rattle.meaning_graph.specs.Graphs.{types};
 ghost use Rattle.path_planner.specs.Ends.{ends_in, from_to, AreTypes};
-ghost use Rattle.path_planner.specs.Near.{AddsAllBelow, AreSources, LeadTo};
+ghost use Rattle.path_planner.specs.Near.{AddsAllBelow, AreSourceLists, LeadTo};
 
 use crate::route::Ends;
 use object_values::{Memory, Seq};
@@ -16,7 +16,7 @@ pub(crate) fn sources(
     makers: &[Ends],
 ) -> Result<Seq<Seq<u32>>, Memory>
     requires made { makers.now ≡ ends_in graph.now }
-    ensures { IfOk result (AreSources graph.now) }
+    ensures { IfOk result (AreSourceLists graph.now) }
 {
     let mut sources = Seq::new(alloc);
     for to in 0..graph.type_count() {

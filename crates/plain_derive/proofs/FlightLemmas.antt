@@ -13,14 +13,14 @@ use Rattle.meaning_graph.specs.Graphs.{Graph}
 use Rattle.meaning_derive.specs.Derive.{Sources, Outcomes, IsFounded}
 use Rattle.meaning_derive.specs.Calls.{IsFrontier}
 use Rattle.meaning_derive.proofs.Lemmas.{kept as chains_stay, known}
-use Rattle.walk_tables.specs.Calls.{Outcomes as Listed}
+use Rattle.walk_tables.specs.Calls.{GivenOutcomes as Listed}
 use Rattle.derive_walk.specs.Outcomes.{after}
 use Rattle.job_runner.specs.declared.jobs.Flying.{Flying}
-use Rattle.job_runner.specs.Made.{IsOutcomeOf}
+use Rattle.job_runner.specs.Made.{IsOutcomeOfCall}
 use Rattle.job_runner.specs.Flights.{flying, calls_in, tool_of, AreTold}
 use Rattle.job_runner.proofs.Lemmas.{no_more, told_one_more, call_there}
 use Rattle.plain_derive.specs.Given.{AreGiven, HaveCome, IsRefusedBy}
-use Rattle.plain_derive.specs.Flights.{Flight, Waits, IsCalled, IsFull, Course, on_course, off_course, for_chain, for_spawn, Flies}
+use Rattle.plain_derive.specs.Flights.{Flight, WaitsForCall, IsCalled, IsFull, Course, on_course, off_course, for_chain, for_spawn, Flies}
 use Rattle.plain_derive.specs.FlightLaws.{FullIsLesser, FlightsAreFew, FlightsAreGiven, FlightsAreCounted, IsUnflown, RefusedFlyNone, KnownFlyNone}
 use Rattle.plain_derive.proofs.KeptLemmas.{one_more_known}
 
@@ -32,10 +32,10 @@ front_is_none : (front back : Listed) → [] ≡ front ++ back → front ≡ []
 front_is_none [] back e = refl
 front_is_none (x ∷ front) back e = cc
 
-came_more : (answer : Option Table) (given : Listed) (call : Call) (outcome : Outcome) → HaveCome answer given → IsOutcomeOf answer call outcome → HaveCome answer (given ++ (call, outcome) ∷ [])
+came_more : (answer : Option Table) (given : Listed) (call : Call) (outcome : Outcome) → HaveCome answer given → IsOutcomeOfCall answer call outcome → HaveCome answer (given ++ (call, outcome) ∷ [])
 came_more answer given call outcome came last c o i = elim (in_either (c, o) given ((call, outcome) ∷ []) i) [
   | inl j ↦ came c o j
-  | inr (inl e) ↦ subst (λ (z : Call × Outcome). IsOutcomeOf answer z.0 z.1) (sym e) last
+  | inr (inl e) ↦ subst (λ (z : Call × Outcome). IsOutcomeOfCall answer z.0 z.1) (sym e) last
   | inr (inr none) ↦ absurd none
 ]
 
@@ -44,7 +44,7 @@ fewer front back x all is few = omega (arith, few, ap length is, length-append f
 
 module _ (g : Graph) (s : Sources) (kept : Outcomes) (n : Node) (limit : ℕ) (before : Spawned) where
   -- a call that runs is one at which the derivation stops, where as many run as may
-  pub full_waits : (f : Flight) (front back : List Flying) (slot : ℕ) (call : Call) → f.running ≡ front ++ flying slot call ∷ back → IsFull (Waits g s kept n f.given) limit (calls_in f.running) → Waits g s kept n f.given call
+  pub full_waits : (f : Flight) (front back : List Flying) (slot : ℕ) (call : Call) → f.running ≡ front ++ flying slot call ∷ back → IsFull (WaitsForCall g s kept n f.given) limit (calls_in f.running) → WaitsForCall g s kept n f.given call
   full_waits f front back slot call is full = full.only call (subst (λ l. IsIn call (calls_in l)) (sym is) (call_there slot call front back))
 
   -- ---- what came, and what is told
@@ -178,7 +178,7 @@ refused_fly_none g s kept n limit before course f flown refused =
 
 pub known_fly_none : KnownFlyNone
 known_fly_none g s kept n limit before course f flown never =
-    none_flies g s kept n limit before (λ call called. never call (subst (λ l. Waits g s kept n l call) (front_is_none called.seen called.since called.is) called.stops)) course f flown
+    none_flies g s kept n limit before (λ call called. never call (subst (λ l. WaitsForCall g s kept n l call) (front_is_none called.seen called.since called.is) called.stops)) course f flown
 
 -- ---- how many run
 

@@ -17,9 +17,9 @@ use Rattle.meaning_derive.specs.Derive.{Sources, Outcomes}
 use Rattle.meaning_derive.specs.Calls.{IsFrontier}
 use Rattle.meaning_derive.specs.Given.{table_outcomes}
 use Rattle.meaning_derive.specs.Laws.{HasMore}
-use Rattle.walk_tables.specs.Calls.{Outcomes as Listed, outcome_in, call_in}
+use Rattle.walk_tables.specs.Calls.{GivenOutcomes as Listed, outcome_in, call_in}
 use Rattle.derive_walk.specs.Outcomes.{nothing_known, given_or, after}
-use Rattle.job_runner.specs.Made.{IsOutcomeOf}
+use Rattle.job_runner.specs.Made.{IsOutcomeOfCall}
 use Rattle.plain_derive.specs.Logs.{among, AreMade}
 use Rattle.plain_derive.specs.Made.{AreGivenBy}
 use Rattle.plain_derive.specs.Given.{calls_of, AreGiven}
@@ -115,7 +115,7 @@ pub record GoesBy (answer : Option Table) (given : Listed) : Type 0 where
   pub by : AreGivenBy answer outcomes
   pub has : HasMore (after nothing_known given) outcomes
 
-pub go_by : (answer : Option Table) (given : Listed) → ((call : Call) (outcome : Outcome) → IsIn (call, outcome) given → IsOutcomeOf answer call outcome) → GoesBy answer given
+pub go_by : (answer : Option Table) (given : Listed) → ((call : Call) (outcome : Outcome) → IsIn (call, outcome) given → IsOutcomeOfCall answer call outcome) → GoesBy answer given
 go_by None given each = record {
   outcomes = after nothing_known given;
   by = record {

@@ -13,7 +13,7 @@ use Rattle.walk_tables.specs.declared.found.Found.{Found}
 use Rattle.plain_derive.specs.declared.fault.PlainFault.{PlainFault}
 use Rattle.plain_derive.specs.declared.fault.PlainFault.TheVariants.{Spawn, Memory}
 use Rattle.plain_derive.specs.Laws.{CountedFor}
-use Rattle.plain_derive.specs.Logs.{closed, IsCut, after_calls, HasMade, HasBegun, HasDerived, HasGivenUp, ComeToRest}
+use Rattle.plain_derive.specs.Logs.{closed, IsCut, after_calls, HasMade, IsPartialRun, HasDerived, HasGivenUp, ComeToRest}
 
 -- ---- after calls
 
@@ -53,7 +53,7 @@ moved : (fault : PlainFault) (before mid now : Spawned) → mid.faults ≡ befor
 moved Memory before mid now same counted = counted ∙ same
 moved Spawn before mid now same counted = subst (λ k. IsCounted k now.faults) same counted
 
-pub given_up_counted : (g : Graph) (s : Sources) (outcomes : Outcomes) (n : Node) (fault : PlainFault) (before now : Spawned) → HasBegun g s outcomes n fault before now → CountedFor fault before now
+pub given_up_counted : (g : Graph) (s : Sources) (outcomes : Outcomes) (n : Node) (fault : PlainFault) (before now : Spawned) → IsPartialRun g s outcomes n fault before now → CountedFor fault before now
 given_up_counted g s outcomes n fault before now begun = moved fault before (after_calls before begun.calls) now (same_faults before begun.calls) (elim begun.cut [
   | inl wanted ↦ subst (λ f. CountedFor f (after_calls before begun.calls) now) (sym wanted.memory) (ap (λ (z : Spawned). z.faults) wanted.same)
   | inr next ↦ cut_counted next.call fault (after_calls before begun.calls) now next.cut

@@ -13,19 +13,19 @@ use Rattle.meaning_nodes.specs.Nodes.{Fits}
 use Rattle.meaning_derive.specs.Derive.{Sources, Outcomes}
 use Rattle.meaning_derive.specs.Given.{OutcomesFit}
 use Rattle.meaning_derive.specs.Calls.{IsFrontier}
-use Rattle.walk_tables.specs.Calls.{Outcomes as Listed}
+use Rattle.walk_tables.specs.Calls.{GivenOutcomes as Listed}
 use Rattle.walk_tables.specs.declared.found.Found.{Found}
 use Rattle.derive_walk.specs.Founds.{IsFound}
 use Rattle.derive_walk.specs.Outcomes.{nothing_known, after}
 use Rattle.derive_walk.specs.NothingFits.{nothing_fits}
-use Rattle.derive_walk.specs.Walks.{Walked, new_walk, IsRight, IsGiven, IsAdvanced, EndsWith, GoesOn as WalkGoesOn}
+use Rattle.derive_walk.specs.Walks.{Walked, new_walk, IsRight, OutcomeIsGiven, IsAdvanced, FindsOrWants, ExtendsWalk as WalkGoesOn}
 use Rattle.derive_walk.specs.Worlds.{World, world}
-use Rattle.job_runner.specs.Made.{IsOutcomeOf}
+use Rattle.job_runner.specs.Made.{IsOutcomeOfCall}
 use Rattle.plain_derive.specs.declared.fault.PlainFault.{PlainFault}
 use Rattle.plain_derive.specs.declared.fault.PlainFault.TheVariants.{Memory}
-use Rattle.plain_derive.specs.Logs.{closed, IsCut, IsWanted, after_calls, IsRefusedAtOnce, HasDerived, HasGivenUp}
+use Rattle.plain_derive.specs.Logs.{closed, IsCut, IsOutOfMemory, after_calls, IsRefusedAtOnce, HasDerived, HasGivenUp}
 use Rattle.plain_derive.specs.Given.{calls_of, AreGiven}
-use Rattle.plain_derive.specs.Ways.{IsSoFar, Stops}
+use Rattle.plain_derive.specs.Ways.{IsSoFar, StopsWalk}
 use Rattle.plain_derive.proofs.GivenLemmas.{among_is, frontier_among, are_made, go_by}
 use Rattle.plain_derive.proofs.LogLemmas.{same_answer}
 
@@ -66,14 +66,14 @@ module _ (g : Graph) (s : Sources) (n : Node) (before : Spawned) (walked : Walke
     right = right;
   }
 
-  pub goes_on : (walked' : Walked) (now : Spawned) (call : Call) (outcome : Outcome) → IsIn call walked.wanted → IsOutcomeOf mid.answer call outcome → now ≡ closed mid call (Ended 0) → IsGiven call outcome walked walked'
+  pub goes_on : (walked' : Walked) (now : Spawned) (call : Call) (outcome : Outcome) → IsIn call walked.wanted → IsOutcomeOfCall mid.answer call outcome → now ≡ closed mid call (Ended 0) → OutcomeIsGiven call outcome walked walked'
       → IsRight (world g s (after nothing_known walked'.given)) walked' → IsSoFar g s n before walked' now
   goes_on walked' now call outcome i of made is right = record {
     root = is.root ∙ so.root;
     are = subst (AreGiven g s nothing_known n) (sym is.given) (AreGiven.one_more walked.given call outcome so.are (stops_at call i));
     came = λ c o j. elim (in_either (c, o) walked.given ((call, outcome) ∷ []) (subst (IsIn (c, o)) is.given j)) [
       | inl k ↦ so.came c o k
-      | inr (inl e) ↦ subst (λ (z : Call × Outcome). IsOutcomeOf before.answer z.0 z.1) (sym e) (subst (λ a. IsOutcomeOf a call outcome) (ap (λ (z : Spawned). z.answer) so.now_is ∙ same_answer before (calls_of walked.given)) of)
+      | inr (inl e) ↦ subst (λ (z : Call × Outcome). IsOutcomeOfCall before.answer z.0 z.1) (sym e) (subst (λ a. IsOutcomeOfCall a call outcome) (ap (λ (z : Spawned). z.answer) so.now_is ∙ same_answer before (calls_of walked.given)) of)
       | inr (inr none) ↦ absurd none
     ];
     now_is = made ∙ ap (λ z. closed z call (Ended 0)) so.now_is ∙ sym (one_more_made before walked.given call outcome) ∙ ap (λ l. after_calls before (calls_of l)) (sym is.given);
@@ -84,7 +84,7 @@ module _ (g : Graph) (s : Sources) (n : Node) (before : Spawned) (walked : Walke
 
   -- Memory was wanting, or a wanted call was given up.
   abbrev pub IsStop : PlainFault → Spawned → Type 0
-  IsStop fault now = IsWanted fault mid now ⊎ ((call : Call) × IsIn call walked.wanted × IsCut fault call mid now)
+  IsStop fault now = IsOutOfMemory fault mid now ⊎ ((call : Call) × IsIn call walked.wanted × IsCut fault call mid now)
 
   pub given_up : (fault : PlainFault) (now : Spawned) → IsStop fault now → (IsRefusedAtOnce g s n → now ≡ before) → HasGivenUp g s n before now fault
   given_up fault now stop untouched =
@@ -96,7 +96,7 @@ module _ (g : Graph) (s : Sources) (n : Node) (before : Spawned) (walked : Walke
           calls = calls_of walked.given;
           are = are_made g s n walked.given so.are way.outcomes way.has;
           cut = elim stop [
-            | inl wanted ↦ inl (subst (λ z. IsWanted fault z now) so.now_is wanted)
+            | inl wanted ↦ inl (subst (λ z. IsOutOfMemory fault z now) so.now_is wanted)
             | inr c ↦ inr (record {
               call = c.0;
               stops = frontier_among g s n walked.given way.outcomes way.has c.0 (stops_at c.0 c.1);
@@ -125,9 +125,9 @@ module _ (g : Graph) (s : Sources) (n : Node) (before : Spawned) (walked : Walke
   -- Where nothing was given and nothing is found the node is not refused at once.
   pub not_refused : walked.given ≡ [] → IsAdvanced (world g s (after nothing_known walked.given)) walked → walked.result ≡ None → IsRefusedAtOnce g s n → ⊥
   not_refused none ended still r =
-      let there = subst (λ z. EndsWith (world g s (after nothing_known walked.given)) walked.root walked.wanted z) still ended in
-      let first = subst (λ l. EndsWith (world g s (after nothing_known l)) walked.root walked.wanted None) none there in
-      let at_node = subst (λ z. EndsWith (world g s nothing_known) z walked.wanted None) so.root first in
+      let there = subst (λ z. FindsOrWants (world g s (after nothing_known walked.given)) walked.root walked.wanted z) still ended in
+      let first = subst (λ l. FindsOrWants (world g s (after nothing_known l)) walked.root walked.wanted None) none there in
+      let at_node = subst (λ z. FindsOrWants (world g s nothing_known) z walked.wanted None) so.root first in
       at_node.calm r.chain r.is
 
 -- ---- the whole derivation
@@ -158,14 +158,14 @@ module _ (g : Graph) (s : Sources) (n : Node) (before : Spawned) (walked : Walke
 
 -- ---- as the answers say it
 
-pub stopped_at : {T : Type 0} (r : Result T PlainFault) (walked : Walked) (before now : Spawned) (fault : PlainFault) → r ≡ Err fault → Stops walked before now fault → IfErr r (Stops walked before now)
-stopped_at r walked before now fault is stops = subst (λ x. IfErr x (Stops walked before now)) (sym is) stops
+pub stopped_at : {T : Type 0} (r : Result T PlainFault) (walked : Walked) (before now : Spawned) (fault : PlainFault) → r ≡ Err fault → StopsWalk walked before now fault → IfErr r (StopsWalk walked before now)
+stopped_at r walked before now fault is stops = subst (λ x. IfErr x (StopsWalk walked before now)) (sym is) stops
 
 pub given_up_at : {T : Type 0} (r : Result T PlainFault) (g : Graph) (s : Sources) (n : Node) (before now : Spawned) (fault : PlainFault) → r ≡ Err fault → HasGivenUp g s n before now fault → IfErr r (HasGivenUp g s n before now)
 given_up_at r g s n before now fault is cut = subst (λ x. IfErr x (HasGivenUp g s n before now)) (sym is) cut
 
 -- what stops each derivation on its way
-pub stops : (walked : Walked) (mid now : Spawned) (fault : PlainFault) → IsWanted fault mid now ⊎ ((call : Call) × IsIn call walked.wanted × IsCut fault call mid now) → Stops walked mid now fault
+pub stops : (walked : Walked) (mid now : Spawned) (fault : PlainFault) → IsOutOfMemory fault mid now ⊎ ((call : Call) × IsIn call walked.wanted × IsCut fault call mid now) → StopsWalk walked mid now fault
 stops walked mid now fault stop = λ g s n first calm so. given_up g s n first walked mid so fault now stop (λ r. absurd (calm r))
 
 -- it is given up before anything is done

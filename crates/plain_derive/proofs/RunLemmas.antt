@@ -15,9 +15,9 @@ use Rattle.meaning_calls.specs.Outcomes.{outcome_of}
 use Rattle.meaning_derive.specs.Given.{table_outcomes}
 use Rattle.plain_derive.specs.declared.fault.PlainFault.{PlainFault}
 use Rattle.plain_derive.specs.Faults.{of_finish}
-use Rattle.plain_derive.specs.Logs.{started, closed, HasLost, IsCut}
+use Rattle.plain_derive.specs.Logs.{spawned_after_start, closed, HasLostEnd, IsCut}
 use Rattle.odin_outside.specs.Causes.{IsCounted}
-use Rattle.odin_outside.specs.Spawned.{Table, Spawned, IsRunning, IsLeastFree, begun, noted, Stops, Ends, Loses, Leaves}
+use Rattle.odin_outside.specs.Spawned.{Table, Spawned, IsRunning, IsLeastFree, begun, noted, StopsJob, Ends, Loses, IsAnswerToJob}
 
 record IsAlone {A : Type 0} (x y : A) (before after : List A) : Type 0 where
   same : x ≡ y
@@ -36,7 +36,7 @@ pub record IsStopped (old : Spawned) (slot ended : ℕ) (job ran : Job) (new : S
   pub idle : new.running ≡ []
   pub answer : new.answer ≡ old.answer
 
-pub stopped : (old mid new : Spawned) (slot ended : ℕ) (job ran : Job) (event : ToolEvent) (faults : ℕ) → old.running ≡ [] → mid ≡ begun old slot job → Stops mid ended ran event faults new → IsStopped old slot ended job ran new
+pub stopped : (old mid new : Spawned) (slot ended : ℕ) (job ran : Job) (event : ToolEvent) (faults : ℕ) → old.running ≡ [] → mid ≡ begun old slot job → StopsJob mid ended ran event faults new → IsStopped old slot ended job ran new
 stopped old mid new slot ended job ran event faults idle start stops =
     let tool : Running = record { slot = slot; job = job } in
     let other : Running = record { slot = ended; job = ran } in
@@ -54,7 +54,7 @@ pub left : (old mid new : Spawned) (slot ended : ℕ) (job : Job) (raw : Raw) �
 left old mid new slot ended job raw idle start ends table told =
     let s = stopped old mid new slot ended job ends.job (Ended ended) mid.faults idle start ends.stops in
     let answer : mid.answer ≡ Some table = ap (λ (z : Spawned). z.answer) start ∙ told in
-    subst (λ o. Leaves o ends.job raw) answer ends.leaves ∙ ap table (sym s.same)
+    subst (λ o. IsAnswerToJob o ends.job raw) answer ends.leaves ∙ ap table (sym s.same)
 
 -- the outcome is that of the table
 pub outcome_told : (old mid new : Spawned) (slot ended : ℕ) (call : Call) (job : Job) (raw : Raw) (outcome : Outcome) → old.running ≡ [] → mid ≡ begun old slot job → Ends mid ended raw new → job ≡ job_of call → outcome ≡ outcome_of call raw
@@ -77,17 +77,17 @@ abbrev pub IsEnd : FinishFault → FinishFault → Type 0
 IsEnd fault other = ◌≡◌ {A = Result (ℕ × Raw) FinishFault} (Err fault) (Err other)
 
 module _ (old mid new : Spawned) (slot : ℕ) (job : Job) (call : Call) (idle : old.running ≡ []) (free : IsLeastFree old.running slot) (start : mid ≡ begun old slot job) (job_is : job ≡ job_of call) where
-  started_is : mid ≡ started old call
+  started_is : mid ≡ spawned_after_start old call
   started_is = let first = first_slot old.running slot idle free in start ∙ (λ i. begun old (first i) (job_is i))
 
   -- When it stops, nothing else happens.
-  closed_is : (ended : ℕ) (ran : Job) (event : ToolEvent) (faults : ℕ) → Stops mid ended ran event faults new → new ≡ record (closed old call event) { faults = faults }
+  closed_is : (ended : ℕ) (ran : Job) (event : ToolEvent) (faults : ℕ) → StopsJob mid ended ran event faults new → new ≡ record (closed old call event) { faults = faults }
   closed_is ended ran event faults stops =
       let s = stopped old mid new slot ended job ran event faults idle start stops in
       let none : stops.before ++ stops.after ≡ [] = sym (ap (λ (z : Spawned). z.running) stops.is) ∙ s.idle in
       stops.is ∙ ap (λ l. record mid { running = l; log = noted mid.log event; faults = faults }) none ∙ ap (λ (z : Spawned). record z { running = []; log = noted z.log event; faults = faults }) started_is
 
-  ended_first : (ended : ℕ) (ran : Job) (event : ToolEvent) (faults : ℕ) → Stops mid ended ran event faults new → ended ≡ 0
+  ended_first : (ended : ℕ) (ran : Job) (event : ToolEvent) (faults : ℕ) → StopsJob mid ended ran event faults new → ended ≡ 0
   ended_first ended ran event faults stops = let s = stopped old mid new slot ended job ran event faults idle start stops in sym s.here ∙ first_slot old.running slot idle free
 
   same_faults : mid.faults ≡ old.faults
@@ -98,7 +98,7 @@ module _ (old mid new : Spawned) (slot : ℕ) (job : Job) (call : Call) (idle : 
       let first = ended_first ended ends.job (Ended ended) mid.faults ends.stops in
       closed_is ended ends.job (Ended ended) mid.faults ends.stops ∙ (λ i. record (closed old call (Ended (first i))) { faults = same_faults i })
 
-  lost_told : (ended : ℕ) → Loses mid ended new → HasLost call old new
+  lost_told : (ended : ℕ) → Loses mid ended new → HasLostEnd call old new
   lost_told ended l =
       let first = ended_first ended l.job (Lost ended) new.faults l.stops in
       record {

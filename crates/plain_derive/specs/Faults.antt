@@ -6,9 +6,9 @@ use Rattle.odin_outside.specs.declared.spawner.FinishFault.TheVariants as finish
 use Rattle.plain_derive.specs.declared.fault.PlainFault.{PlainFault}
 use Rattle.plain_derive.specs.declared.fault.PlainFault.TheVariants.{Spawn, Memory}
 
-abbrev pub of_start : StartFault → PlainFault
-of_start start.Failed = Spawn
-of_start start.Memory = Memory
+abbrev pub plain_fault_of_start : StartFault → PlainFault
+plain_fault_of_start start.Failed = Spawn
+plain_fault_of_start start.Memory = Memory
 
 abbrev pub of_finish : FinishFault → PlainFault
 of_finish (finish.Failed slot) = Spawn

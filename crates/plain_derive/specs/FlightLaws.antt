@@ -17,7 +17,7 @@ use Rattle.walk_tables.specs.Calls.{AreOnce}
 use Rattle.derive_walk.specs.Outcomes.{after}
 use Rattle.job_runner.specs.Flights.{tool_of, AreDistinct, AreTold}
 use Rattle.plain_derive.specs.Given.{calls_of, AreGiven, HaveCome, IsRefusedBy}
-use Rattle.plain_derive.specs.Flights.{Flight, Waits, IsFull, Course, on_course, off_course, for_chain, for_spawn, Flies}
+use Rattle.plain_derive.specs.Flights.{Flight, WaitsForCall, IsFull, Course, on_course, off_course, for_chain, for_spawn, Flies}
 use Rattle.plain_derive.specs.Followed.{LogLeadsTo}
 
 -- ---- how many run
@@ -121,4 +121,4 @@ abbrev pub KnownFlyNone : Type 0
 KnownFlyNone =
     (g : Graph) (s : Sources) (kept : Outcomes) (n : Node) (limit : ℕ) (before : Spawned)
     (course : Course) (f : Flight) → Flies g s kept n limit before course f
-    → ((call : Call) → Waits g s kept n [] call → ⊥) → IsUnflown before course f
+    → ((call : Call) → WaitsForCall g s kept n [] call → ⊥) → IsUnflown before course f

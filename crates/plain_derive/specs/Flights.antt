@@ -15,10 +15,10 @@ use Rattle.meaning_calls.specs.Jobs.{job_of}
 use Rattle.meaning_graph.specs.Graphs.{Graph}
 use Rattle.meaning_derive.specs.Derive.{Sources, Outcomes}
 use Rattle.meaning_derive.specs.Calls.{IsFrontier}
-use Rattle.walk_tables.specs.Calls.{Outcomes as Listed}
+use Rattle.walk_tables.specs.Calls.{GivenOutcomes as Listed}
 use Rattle.derive_walk.specs.Outcomes.{after}
 use Rattle.job_runner.specs.declared.jobs.Flying.{Flying}
-use Rattle.job_runner.specs.Made.{IsOutcomeOf}
+use Rattle.job_runner.specs.Made.{IsOutcomeOfCall}
 use Rattle.job_runner.specs.Flights.{flying, calls_in, slots_in, AreDistinct, landed}
 use Rattle.plain_derive.specs.Given.{IsRefusedBy}
 
@@ -38,8 +38,8 @@ abbrev pub at_rest : Listed → Spawned → Flight
 at_rest given tools = record { running = []; given = given; tools = tools }
 
 -- the call was started in the slot
-abbrev pub begins : Flight → ℕ → Call → Flight
-begins f slot call = record { running = f.running ++ flying slot call ∷ []; given = f.given; tools = begun f.tools slot (job_of call) }
+abbrev pub flight_after_start : Flight → ℕ → Call → Flight
+flight_after_start f slot call = record { running = f.running ++ flying slot call ∷ []; given = f.given; tools = begun f.tools slot (job_of call) }
 
 -- the call of the slot has ended with the outcome, and just these run still
 abbrev pub ends : Flight → List Flying → ℕ → Call → Outcome → Flight
@@ -52,30 +52,30 @@ loses f rest slot faults = record { running = rest; given = f.given; tools = lan
 -- ---- what an event stands on
 
 -- The derivation stops at the call, by what is kept and by what came.
-abbrev pub Waits : Graph → Sources → Outcomes → Node → Listed → Call → Type 0
-Waits g s kept n given call = IsFrontier g s (after kept given) n call
+abbrev pub WaitsForCall : Graph → Sources → Outcomes → Node → Listed → Call → Type 0
+WaitsForCall g s kept n given call = IsFrontier g s (after kept given) n call
 
 -- It stopped there at a moment up to now at which the node had no chain for which it is refused.
 pub record IsCalled (g : Graph) (s : Sources) (kept : Outcomes) (n : Node) (given : Listed) (call : Call) : Type 0 where
   pub seen : Listed
   pub since : Listed
   pub is : given ≡ seen ++ since
-  pub stops : Waits g s kept n seen call
+  pub stops : WaitsForCall g s kept n seen call
   pub calm : ¬ IsRefusedBy g s (after kept seen) n
 
 -- It may be started then: the derivation stops at it, it doesn't run, and a slot is free.
 pub record MayBegin (g : Graph) (s : Sources) (kept : Outcomes) (n : Node) (limit : ℕ) (f : Flight) (call : Call) : Type 0 where
-  pub waits : Waits g s kept n f.given call
+  pub waits : WaitsForCall g s kept n f.given call
   pub called : IsCalled g s kept n f.given call
   pub new : IsIn call (calls_in f.running) → ⊥
   pub room : length f.running < limit
 
 -- As many run as may: the limit, or all calls at which the derivation stops; each is one of these, and none runs twice.
-pub record IsFull (Waits : Call → Type 0) (limit : ℕ) (running : List Call) : Type 0 where
-  pub only : (call : Call) → IsIn call running → Waits call
+pub record IsFull (WaitsForCall : Call → Type 0) (limit : ℕ) (running : List Call) : Type 0 where
+  pub only : (call : Call) → IsIn call running → WaitsForCall call
   pub once : AreDistinct running
   pub few : length running ≤ limit
-  pub full : (length running ≡ limit) ⊎ ((call : Call) → Waits call → IsIn call running)
+  pub full : (length running ≡ limit) ⊎ ((call : Call) → WaitsForCall call → IsIn call running)
 
 -- Where a slot is free the node has no chain for which it is refused: a chain is found before an end is waited for.
 abbrev pub IsClear : Graph → Sources → Outcomes → Node → ℕ → Flight → Type 0
@@ -99,21 +99,21 @@ pub data Course : Type 0 where
 pub data Flies (g : Graph) (s : Sources) (kept : Outcomes) (n : Node) (limit : ℕ) (before : Spawned) : Course → Flight → Type 0 where
   none_flown : Flies g s kept n limit before on_course (none_flown_yet before)
   one_began : (f : Flight) (slot : ℕ) (call : Call) → Flies g s kept n limit before on_course f → MayBegin g s kept n limit f call → (IsIn slot (slots_in f.running) → ⊥)
-      → Flies g s kept n limit before on_course (begins f slot call)
+      → Flies g s kept n limit before on_course (flight_after_start f slot call)
   one_ended : (f : Flight) (front back : List Flying) (slot : ℕ) (call : Call) (outcome : Outcome) → Flies g s kept n limit before on_course f
-      → f.running ≡ front ++ flying slot call ∷ back → IsFull (Waits g s kept n f.given) limit (calls_in f.running) → IsClear g s kept n limit f
-      → IsOutcomeOf before.answer call outcome
+      → f.running ≡ front ++ flying slot call ∷ back → IsFull (WaitsForCall g s kept n f.given) limit (calls_in f.running) → IsClear g s kept n limit f
+      → IsOutcomeOfCall before.answer call outcome
       → Flies g s kept n limit before on_course (ends f (front ++ back) slot call outcome)
   chain_found : (f : Flight) → Flies g s kept n limit before on_course f → IsRefusedBy g s (after kept f.given) n
       → Flies g s kept n limit before (off_course for_chain) f
   start_refused : (f : Flight) (call : Call) (tools : Spawned) → Flies g s kept n limit before on_course f → MayBegin g s kept n limit f call → Fails f.tools tools
       → Flies g s kept n limit before (off_course for_spawn) (record f { tools = tools })
   end_lost : (f : Flight) (front back : List Flying) (slot : ℕ) (call : Call) (faults : ℕ) → Flies g s kept n limit before on_course f
-      → f.running ≡ front ++ flying slot call ∷ back → IsFull (Waits g s kept n f.given) limit (calls_in f.running) → IsClear g s kept n limit f
+      → f.running ≡ front ++ flying slot call ∷ back → IsFull (WaitsForCall g s kept n f.given) limit (calls_in f.running) → IsClear g s kept n limit f
       → IsCounted f.tools.faults faults
       → Flies g s kept n limit before (off_course for_spawn) (loses f (front ++ back) slot faults)
   one_drained : (why : Why) (f : Flight) (front back : List Flying) (slot : ℕ) (call : Call) (outcome : Outcome) → Flies g s kept n limit before (off_course why) f
-      → f.running ≡ front ++ flying slot call ∷ back → Waits g s kept n f.given call → IsOutcomeOf before.answer call outcome
+      → f.running ≡ front ++ flying slot call ∷ back → WaitsForCall g s kept n f.given call → IsOutcomeOfCall before.answer call outcome
       → Flies g s kept n limit before (off_course why) (ends f (front ++ back) slot call outcome)
   drain_lost : (why : Why) (f : Flight) (front back : List Flying) (slot : ℕ) (call : Call) (faults : ℕ) → Flies g s kept n limit before (off_course why) f
       → f.running ≡ front ++ flying slot call ∷ back → IsCounted f.tools.faults faults

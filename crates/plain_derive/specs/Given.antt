@@ -9,9 +9,9 @@ use Rattle.meaning_graph.specs.Graphs.{Graph}
 use Rattle.meaning_derive.specs.Derive.{Sources, Outcomes, derived}
 use Rattle.meaning_derive.specs.Chains.{IsRefusal}
 use Rattle.meaning_derive.specs.Calls.{IsFrontier}
-use Rattle.walk_tables.specs.Calls.{Outcomes as Listed}
+use Rattle.walk_tables.specs.Calls.{GivenOutcomes as Listed}
 use Rattle.derive_walk.specs.Outcomes.{after}
-use Rattle.job_runner.specs.Made.{IsOutcomeOf}
+use Rattle.job_runner.specs.Made.{IsOutcomeOfCall}
 
 abbrev pub calls_of : Listed → List Call
 calls_of given = map (λ (x : Call × Outcome). x.0) given
@@ -27,7 +27,7 @@ pub data AreGiven (g : Graph) (s : Sources) (kept : Outcomes) (n : Node) : Liste
 -- each outcome came of its call
 abbrev pub HaveCome : Option Table → Listed → Type 0
 HaveCome answer given =
-    (call : Call) (outcome : Outcome) → IsIn (call, outcome) given → IsOutcomeOf answer call outcome
+    (call : Call) (outcome : Outcome) → IsIn (call, outcome) given → IsOutcomeOfCall answer call outcome
 
 -- By what is kept the node has a chain for which it is refused.
 pub record IsRefusedBy (g : Graph) (s : Sources) (kept : Outcomes) (n : Node) : Type 0 where

@@ -13,7 +13,7 @@ use Rattle.walk_tables.specs.declared.found.Found.{Found}
 use Rattle.derive_walk.specs.Founds.{IsFound}
 use Rattle.plain_derive.specs.declared.fault.PlainFault.{PlainFault}
 use Rattle.plain_derive.specs.declared.fault.PlainFault.TheVariants.{Spawn, Memory}
-use Rattle.plain_derive.specs.Logs.{among, AreMade, HasMade, HasBegun}
+use Rattle.plain_derive.specs.Logs.{among, AreMade, HasMade, IsPartialRun}
 
 -- What is found by the calls that were made is found by all outcomes.
 abbrev pub FoundByAll : Type 0
@@ -56,4 +56,4 @@ CountedFor Spawn before now = IsCounted before.faults now.faults
 abbrev pub GivenUpIsCounted : Type 0
 GivenUpIsCounted =
     (g : Graph) (s : Sources) (outcomes : Outcomes) (n : Node) (fault : PlainFault)
-    (before now : Spawned) → HasBegun g s outcomes n fault before now → CountedFor fault before now
+    (before now : Spawned) → IsPartialRun g s outcomes n fault before now → CountedFor fault before now

@@ -22,18 +22,18 @@ use Rattle.plain_derive.specs.Made.{AreGivenBy}
 -- ---- one call, made while nothing else runs
 
 -- its job has started in slot 0
-abbrev pub started : Spawned → Call → Spawned
-started before call = begun before 0 (job_of call)
+abbrev pub spawned_after_start : Spawned → Call → Spawned
+spawned_after_start before call = begun before 0 (job_of call)
 
 -- it has stopped there, by this event
 abbrev pub closed : Spawned → Call → ToolEvent → Spawned
-closed before call event = record (started before call) {
+closed before call event = record (spawned_after_start before call) {
   running = [];
   log = noted (noted before.log (Began 0 (job_of call))) event;
 }
 
 -- Its end was lost: a fault, which was counted.
-pub record HasLost (call : Call) (before now : Spawned) : Type 0 where
+pub record HasLostEnd (call : Call) (before now : Spawned) : Type 0 where
   pub counted : IsCounted before.faults now.faults
   pub is : now ≡ record (closed before call (Lost 0)) { faults = now.faults }
 
@@ -42,11 +42,11 @@ pub record HasLost (call : Call) (before now : Spawned) : Type 0 where
 -- fault was counted.
 abbrev pub IsCut : PlainFault → Call → Spawned → Spawned → Type 0
 IsCut Memory call before now =
-    (now ≡ before) ⊎ ((now ≡ started before call) ⊎ (now ≡ closed before call (Ended 0)))
-IsCut Spawn call before now = Fails before now ⊎ HasLost call before now
+    (now ≡ before) ⊎ ((now ≡ spawned_after_start before call) ⊎ (now ≡ closed before call (Ended 0)))
+IsCut Spawn call before now = Fails before now ⊎ HasLostEnd call before now
 
 -- Memory was wanting, and nothing happened.
-pub record IsWanted (fault : PlainFault) (before now : Spawned) : Type 0 where
+pub record IsOutOfMemory (fault : PlainFault) (before now : Spawned) : Type 0 where
   pub memory : fault ≡ Memory
   pub same : now ≡ before
 
@@ -90,11 +90,11 @@ pub record NextIsCut (g : Graph) (s : Sources) (outcomes : Outcomes) (n : Node) 
   pub cut : IsCut fault call before now
 
 -- Calls of the derivation were made, and then memory was wanting, or the next one was given up.
-pub record HasBegun (g : Graph) (s : Sources) (outcomes : Outcomes) (n : Node) (fault : PlainFault)
+pub record IsPartialRun (g : Graph) (s : Sources) (outcomes : Outcomes) (n : Node) (fault : PlainFault)
     (before now : Spawned) : Type 0 where
   pub calls : List Call
   pub are : AreMade g s outcomes n calls
-  pub cut : IsWanted fault (after_calls before calls) now
+  pub cut : IsOutOfMemory fault (after_calls before calls) now
       ⊎ NextIsCut g s outcomes n calls fault (after_calls before calls) now
   pub untouched : IsRefusedAtOnce g s n → now ≡ before
 
@@ -115,7 +115,7 @@ pub record HasGivenUp (g : Graph) (s : Sources) (n : Node) (before now : Spawned
     (fault : PlainFault) : Type 0 where
   pub outcomes : Outcomes
   pub given : AreGivenBy before.answer outcomes
-  pub begun : HasBegun g s outcomes n fault before now
+  pub begun : IsPartialRun g s outcomes n fault before now
 
 -- The tools answer as before, at most one of them runs, and none unless memory was wanting.
 pub record ComeToRest (before now : Spawned) (result : Result Found PlainFault) : Type 0 where

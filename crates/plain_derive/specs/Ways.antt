@@ -22,12 +22,12 @@ pub record IsSoFar (g : Graph) (s : Sources) (n : Node) (before : Spawned) (walk
   pub right : IsRight (world g s (after nothing_known walked.given)) walked
 
 -- what goes on from every derivation on its way, and what stops each
-abbrev pub GoesOn : Walked → Spawned → Walked → Spawned → Type 0
-GoesOn old before new now =
+abbrev pub ExtendsDerivation : Walked → Spawned → Walked → Spawned → Type 0
+ExtendsDerivation old before new now =
     (g : Graph) (s : Sources) (n : Node) (first : Spawned)
     → IsSoFar g s n first old before → IsSoFar g s n first new now
 
-abbrev pub Stops : Walked → Spawned → Spawned → PlainFault → Type 0
-Stops old before now fault =
+abbrev pub StopsWalk : Walked → Spawned → Spawned → PlainFault → Type 0
+StopsWalk old before now fault =
     (g : Graph) (s : Sources) (n : Node) (first : Spawned) → ¬ IsRefusedAtOnce g s n
     → IsSoFar g s n first old before → HasGivenUp g s n first now fault

@@ -21,10 +21,10 @@ impl From<Memory> for PlainFault {
 }
 
 impl From<StartFault> for PlainFault {
-    ghost use Rattle.plain_derive.specs.Faults.{of_start};
+    ghost use Rattle.plain_derive.specs.Faults.{plain_fault_of_start};
     ghost use Rattle.std.specs.Prelude.{◌≡◌};
 
-    ghost from_gives = { λ given fault. fault ≡ of_start given };
+    ghost from_gives = { λ given fault. fault ≡ plain_fault_of_start given };
 
     fn from(fault: StartFault) -> Self {
         match fault {

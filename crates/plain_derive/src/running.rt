@@ -1,9 +1,9 @@
 // Wanted calls, run one after another.
 ghost use Rattle.std.specs.Prelude.{◌≡◌, [], None, OnOk, IfOk, IfErr};
 ghost use Rattle.odin_outside.specs.declared.events.ToolEvent.TheVariants.{Ended};
-ghost use Rattle.job_runner.specs.Made.{IsOutcomeOf};
+ghost use Rattle.job_runner.specs.Made.{IsOutcomeOfCall};
 ghost use Rattle.plain_derive.specs.Logs.{closed, IsCut};
-ghost use Rattle.plain_derive.specs.Ways.{GoesOn, Stops};
+ghost use Rattle.plain_derive.specs.Ways.{ExtendsDerivation, StopsWalk};
 
 use crate::fault::PlainFault;
 use derive_walk::Walker;
@@ -20,8 +20,9 @@ pub(crate) fn run_wanted<S: Spawner>(
 ) -> Result<(), PlainFault>
     requires idle { (S.told tools.old).running ≡ [] }
     requires none { walker.old.result ≡ None }
-    ensures on { OnOk result (GoesOn walker.old (S.told tools.old) walker.new (S.told tools.new)) }
-    ensures stops { IfErr result (Stops walker.old (S.told tools.old) (S.told tools.new)) }
+    ensures on { OnOk result
+        (ExtendsDerivation walker.old (S.told tools.old) walker.new (S.told tools.new)) }
+    ensures stops { IfErr result (StopsWalk walker.old (S.told tools.old) (S.told tools.new)) }
     ensures none { walker.new.result ≡ None }
     ensures idle { OnOk result ((S.told tools.new).running ≡ []) }
 {
@@ -40,8 +41,9 @@ fn run_first<S: Spawner>(
 ) -> Result<(), PlainFault>
     requires idle { (S.told tools.old).running ≡ [] }
     requires none { walker.old.result ≡ None }
-    ensures on { OnOk result (GoesOn walker.old (S.told tools.old) walker.new (S.told tools.new)) }
-    ensures stops { IfErr result (Stops walker.old (S.told tools.old) (S.told tools.new)) }
+    ensures on { OnOk result
+        (ExtendsDerivation walker.old (S.told tools.old) walker.new (S.told tools.new)) }
+    ensures stops { IfErr result (StopsWalk walker.old (S.told tools.old) (S.told tools.new)) }
     ensures none { walker.new.result ≡ None }
     ensures idle { OnOk result ((S.told tools.new).running ≡ []) }
 {
@@ -61,7 +63,7 @@ pub fn run_call<S: Spawner>(
     tools: &mut S,
 ) -> Result<Outcome, PlainFault>
     requires { (S.told tools.old).running ≡ [] }
-    ensures outcome { IfOk result (IsOutcomeOf (S.told tools.old).answer call.now) }
+    ensures outcome { IfOk result (IsOutcomeOfCall (S.told tools.old).answer call.now) }
     ensures made { OnOk result (S.told tools.new ≡ closed (S.told tools.old) call.now (Ended 0)) }
     ensures cut { IfErr result (λ fault. IsCut fault call.now
         (S.told tools.old) (S.told tools.new)) }

@@ -8,7 +8,7 @@ use Rattle.object_values.specs.declared.messages.Status.{Status}
 use Rattle.object_values.specs.declared.messages.Status.TheVariants.{Ok, Warning, Error, Abort}
 use Rattle.meaning_commands.specs.declared.replies.Reply.{Reply}
 use Rattle.meaning_commands.specs.declared.replies.Reply.TheVariants as reply
-use Rattle.reply_objects.specs.Answers.{answers_ask, answer_of, later, last_answer, status_of, exit_status}
+use Rattle.reply_objects.specs.Answers.{answers_ask, reply_to_ask, later, last_answer, object_exit_status, exit_status}
 
 later_some : (o : Option Reply) → later None o ≡ o
 later_some None = refl
@@ -18,12 +18,12 @@ later_later : (a b c : Option Reply) → later a (later b c) ≡ later (later a 
 later_later a b None = refl
 later_later a b (Some reply) = refl
 
-pub last_more : (replies : List Reply) (reply : Reply) → last_answer (replies ++ reply ∷ []) ≡ later (last_answer replies) (answer_of reply)
-last_more [] reply = sym (later_some (answer_of reply))
-last_more (first ∷ rest) reply = ap (later (answer_of first)) (last_more rest reply) ∙ later_later (answer_of first) (last_answer rest) (answer_of reply)
+pub last_more : (replies : List Reply) (reply : Reply) → last_answer (replies ++ reply ∷ []) ≡ later (last_answer replies) (reply_to_ask reply)
+last_more [] reply = sym (later_some (reply_to_ask reply))
+last_more (first ∷ rest) reply = ap (later (reply_to_ask first)) (last_more rest reply) ∙ later_later (reply_to_ask first) (last_answer rest) (reply_to_ask reply)
 
 -- It is one of the replies, so it is as well formed as they are.
-answer_is : (reply other : Reply) → answer_of reply ≡ Some other → reply ≡ other
+answer_is : (reply other : Reply) → reply_to_ask reply ≡ Some other → reply ≡ other
 answer_is reply other is = by (answers_ask reply) is
   where
     by : (b : Bool) → cond b (Some reply) None ≡ Some other → reply ≡ other
@@ -35,13 +35,13 @@ last_formed [] formed reply is = cc
 last_formed (first ∷ rest) formed reply is =
     by (last_answer rest) (λ there. last_formed rest (All-tail IsFormed first rest formed) reply there) is
   where
-    by : (o : Option Reply) → (o ≡ Some reply → IsFormed reply) → later (answer_of first) o ≡ Some reply → IsFormed reply
+    by : (o : Option Reply) → (o ≡ Some reply → IsFormed reply) → later (reply_to_ask first) o ≡ Some reply → IsFormed reply
     by (Some other) rest_formed is = rest_formed is
     by None rest_formed is = subst IsFormed (answer_is first reply is) (All-head IsFormed first rest formed)
 
 -- ---- the exit status
 
-small : (status : Status) → status_of status ≤ 2
+small : (status : Status) → object_exit_status status ≤ 2
 small Ok = omega arith
 small Warning = omega arith
 small Error = omega arith

@@ -7,7 +7,7 @@ use Rattle.std.proofs.lemmas.Fmt.{decimal_nonempty}
 use Rattle.std.proofs.lemmas.List.Elements.{All-nil, All-cons}
 use Rattle.object_values.specs.declared.views.Part.{Part}
 use Rattle.meaning_commands.specs.Formed.{IsFormedPart}
-use Rattle.reply_objects.specs.Files.{numbered_files, IsFileName}
+use Rattle.reply_objects.specs.Files.{numbered_files, IsSafeFileName}
 use Rattle.reply_reader.proofs.Lemmas.{decimal_has_no, id_has_no}
 
 pub numbered_more : (k : ℕ) (lines : List (List ℕ)) (line : List ℕ) → numbered_files k (lines ++ line ∷ []) ≡ numbered_files k lines ++ numbered_files (k + length lines) (line ∷ [])
@@ -29,23 +29,23 @@ no_name : (name : List ℕ) → 0 < length name → name ≢ []
 no_name [] some = absurd (omega (arith, some))
 no_name (b ∷ name) some = λ e. cc
 
-number_name : (number : ℕ) → number < 2 ^ 64 → IsFileName (decimal number)
+number_name : (number : ℕ) → number < 2 ^ 64 → IsSafeFileName (decimal number)
 number_name number small = record {
   some = no_name (decimal number) (decimal_nonempty number small);
   slashless = decimal_has_no 47 number (omega arith) small;
   dotless = decimal_has_no 46 number (omega arith) small;
 }
 
-pub numbered_within : (k : ℕ) (lines : List (List ℕ)) → k + length lines ≤ 2 ^ 64 → All (λ (part : Part). IsFileName part.name) (numbered_files k lines)
-numbered_within k [] few = All-nil (λ (part : Part). IsFileName part.name)
+pub numbered_within : (k : ℕ) (lines : List (List ℕ)) → k + length lines ≤ 2 ^ 64 → All (λ (part : Part). IsSafeFileName part.name) (numbered_files k lines)
+numbered_within k [] few = All-nil (λ (part : Part). IsSafeFileName part.name)
 numbered_within k (line ∷ lines) few =
-    All-cons (λ (part : Part). IsFileName part.name) _ (numbered_files (k + 1) lines) (number_name k (omega (arith, few))) (numbered_within (k + 1) lines (omega (arith, few)))
+    All-cons (λ (part : Part). IsSafeFileName part.name) _ (numbered_files (k + 1) lines) (number_name k (omega (arith, few))) (numbered_within (k + 1) lines (omega (arith, few)))
 
-part_name : (part : Part) → IsFormedPart part → IsFileName part.name
+part_name : (part : Part) → IsFormedPart part → IsSafeFileName part.name
 part_name part formed =
     let id = formed.named in
     let some : 0 < length part.name = id.key.some in
     record { some = no_name part.name some; slashless = id_has_no 47 refl part.name id; dotless = id_has_no 46 refl part.name id }
 
-pub parts_within : (parts : List Part) → All IsFormedPart parts → All (λ (part : Part). IsFileName part.name) parts
+pub parts_within : (parts : List Part) → All IsFormedPart parts → All (λ (part : Part). IsSafeFileName part.name) parts
 parts_within parts formed = λ k part below. part_name _ (formed k part below)

@@ -18,8 +18,8 @@ answers_ask reply.RefusedToolStart = true
 answers_ask other = false
 
 -- the reply, where it does
-abbrev pub answer_of : Reply → Option Reply
-answer_of reply = if answers_ask reply then Some reply else None
+abbrev pub reply_to_ask : Reply → Option Reply
+reply_to_ask reply = if answers_ask reply then Some reply else None
 
 -- the later of two
 abbrev pub later : Option Reply → Option Reply → Option Reply
@@ -29,16 +29,16 @@ later first (Some reply) = Some reply
 -- the last of the replies that answers an ask
 abbrev pub last_answer : List Reply → Option Reply
 last_answer [] = None
-last_answer (reply ∷ rest) = later (answer_of reply) (last_answer rest)
+last_answer (reply ∷ rest) = later (reply_to_ask reply) (last_answer rest)
 
 -- how an object is
-abbrev pub status_of : Status → ℕ
-status_of Ok = 0
-status_of Warning = 1
-status_of Error = 2
-status_of Abort = 2
+abbrev pub object_exit_status : Status → ℕ
+object_exit_status Ok = 0
+object_exit_status Warning = 1
+object_exit_status Error = 2
+object_exit_status Abort = 2
 
 -- the exit status: how the object is, or 2 where there is none
 abbrev pub exit_status : Option Reply → ℕ
-exit_status (Some (reply.Shown status body messages)) = status_of status
+exit_status (Some (reply.Shown status body messages)) = object_exit_status status
 exit_status other = 2

@@ -10,16 +10,16 @@ file = record (new_rule (codes "file")) { short = Some 111; action = Some Set }
 abbrev pub messages : Rule
 messages = record (new_rule (codes "messages")) { short = Some 109; action = Some SetTrue }
 
-abbrev pub bare : App
-bare =
+abbrev pub bare_odin_get : App
+bare_odin_get =
     let app = new_app (codes "odin_get") in
     record app { top = record app.top { disable_help_flag = true } }
 
 abbrev pub command : App
-command = with_rule (with_rule bare file) messages
+command = with_rule (with_rule bare_odin_get file) messages
 
 -- The command takes the words, which name this file and ask for the messages or don't.
-pub record AsksFor (words : List (List ℕ)) (name : Option (List ℕ)) (wanted : Bool) : Type 0 where
+pub record AsksForFile (words : List (List ℕ)) (name : Option (List ℕ)) (wanted : Bool) : Type 0 where
   pub taken : fault_of command words ≡ []
   pub named : first_of (codes "file") (matches_of command words) ≡ name
   pub flag : IsTrue wanted

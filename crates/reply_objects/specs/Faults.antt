@@ -3,8 +3,8 @@ use Rattle.std.specs.Prelude.{ℕ}
 use Rattle.reply_objects.specs.declared.run.Fault.{Fault}
 use Rattle.reply_objects.specs.declared.run.Fault.TheVariants.{Replies, System, Memory, Words}
 
-abbrev pub status_of : Fault → ℕ
-status_of Replies = 2
-status_of System = 3
-status_of Memory = 4
-status_of Words = 9
+abbrev pub get_fault_status : Fault → ℕ
+get_fault_status Replies = 2
+get_fault_status System = 3
+get_fault_status Memory = 4
+get_fault_status Words = 9

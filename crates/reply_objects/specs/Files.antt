@@ -22,12 +22,12 @@ files_of (Listed lines) = files.Folder (numbered_files 1 lines)
 files_of (Compound parts) = files.Folder parts
 
 -- A name with no slash and no dot, so that it leads nowhere but to a file of the folder.
-pub record IsFileName (name : List ℕ) : Type 0 where
+pub record IsSafeFileName (name : List ℕ) : Type 0 where
   pub some : name ≢ []
   pub slashless : HasNo 47 name
   pub dotless : HasNo 46 name
 
 -- The files of a folder have such names.
-abbrev pub AreWithin : Files → Type 0
-AreWithin (files.Folder parts) = All (λ part. IsFileName part.name) parts
-AreWithin other = ⊤
+abbrev pub HaveSafeFileNames : Files → Type 0
+HaveSafeFileNames (files.Folder parts) = All (λ part. IsSafeFileName part.name) parts
+HaveSafeFileNames other = ⊤

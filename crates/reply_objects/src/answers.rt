@@ -26,7 +26,7 @@ fn answers_ask(reply: &Reply) -> bool
 /// The later of two answers, of which the second is one only if it answers an ask.
 fn later<'a>(last: Option<&'a Reply>, reply: &'a Reply) -> Option<&'a Reply>
     ensures { option_copied result ≡
-        meaning.later (option_copied last.entry) (meaning.answer_of reply.now) }
+        meaning.later (option_copied last.entry) (meaning.reply_to_ask reply.now) }
 {
     if answers_ask(reply) {
         Some(reply)
@@ -47,7 +47,7 @@ pub fn last_answer(replies: &[Reply]) -> Option<&Reply>
 }
 
 fn status_of(status: Status) -> u8
-    ensures { result ≡ meaning.status_of status }
+    ensures { result ≡ meaning.object_exit_status status }
 {
     match status {
         Status::Ok => 0,

@@ -56,7 +56,7 @@ fn numbered_files(alloc: Global, lines: &[Bytes]) -> Result<Seq<Part>, Memory>
 pub fn files_of(alloc: Global, body: &ShownBody) -> Result<Files, Memory>
     requires { IsFormedBody body.now }
     ensures files { IfOk result (λ files. files ≡ meaning.files_of body.now) }
-    ensures within { IfOk result meaning.AreWithin }
+    ensures within { IfOk result meaning.HaveSafeFileNames }
 {
     match body {
         ShownBody::Nothing => Ok(Files::Nothing),

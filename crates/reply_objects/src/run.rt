@@ -47,7 +47,7 @@ impl From<io::Error> for Fault {
 
 impl Fault {
     pub fn status(&self) -> u8
-        ensures { result ≡ faults.status_of self.now }
+        ensures { result ≡ faults.get_fault_status self.now }
     {
         match self {
             Fault::Replies => 2,

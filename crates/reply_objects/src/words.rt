@@ -2,7 +2,7 @@
 ghost use Rattle.std.specs.Prelude.{◌≡◌, ◌≢◌, ◌↔◌, IsTrue, codes, Some, IfOk, IfErr, IfSome, IfNone, [], map, string_bytes};
 ghost use Rattle.std.specs.Option.{option_copied};
 ghost use Rattle.clap.specs.Words.{fault_of, matches_of, first_of, rows_of, found_of, kind_of};
-ghost use Rattle.reply_objects.specs.Command.{command, AsksFor};
+ghost use Rattle.reply_objects.specs.Command.{command, AsksForFile};
 
 use clap::error::ErrorKind;
 use clap::{Arg, ArgAction, ArgMatches, Command, Error};
@@ -57,7 +57,7 @@ fn wants_messages(found: &ArgMatches<'_>) -> bool
 /// What the words ask for, of which the first is the program's name. `None` is said where they are not accepted.
 pub fn read_words<'a>(alloc: Global, words: &'a [String]) -> Result<Option<Asked<'a>>, Memory>
     ensures asked { IfOk result (λ found. IfSome found (λ asked.
-        AsksFor (map string_bytes words.entry.now) (option_copied asked.file) asked.messages)) }
+        AsksForFile (map string_bytes words.entry.now) (option_copied asked.file) asked.messages)) }
     ensures none { IfOk result (λ found. IfNone found
         (fault_of command (map string_bytes words.entry.now) ≢ [])) }
 {

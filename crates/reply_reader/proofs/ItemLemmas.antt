@@ -6,7 +6,7 @@ use Rattle.std.proofs.lemmas.Bool.{cases_lt}
 use Rattle.std.proofs.lemmas.List.Elements.{All-head, All-tail, All-cons, All-nil, All-append}
 use Rattle.meaning_texts.specs.Lines.{with_lf}
 use Rattle.meaning_commands.specs.Formed.{IsSmall, AreFormed, IsTold}
-use Rattle.reply_reader.specs.Reading.{AreSoMany, Reads, ReadsAll, counted_items}
+use Rattle.reply_reader.specs.Reading.{AreSoMany, ReadsFront, ReadsFrontItems, counted_items}
 use Rattle.reply_reader.proofs.TextLemmas.{numbers_told}
 
 -- as many items are told by their texts
@@ -69,7 +69,7 @@ counted_told spelled IsGood told xs ys behind rest good also is =
 
 -- what is read of the items behind their count
 pub counted_reads : {A : Type 0} (spelled : A → List ℕ) (IsGood : A → Type 0) (text rest : List ℕ) (count : ℕ) → text ≡ with_lf (decimal count) ++ rest → IsSmall count
-    → (read : Option (List A × Bor (List ℕ))) → ReadsAll spelled IsGood count rest read → Reads (counted_items spelled) (AreFormed IsGood) text read
+    → (read : Option (List A × Bor (List ℕ))) → ReadsFrontItems spelled IsGood count rest read → ReadsFront (counted_items spelled) (AreFormed IsGood) text read
 counted_reads spelled IsGood text rest count is small (Some read) (rest_is, good) = (
   is ∙ ap (λ n. with_lf (decimal n) ++ rest) (sym good.many) ∙ ap (λ l. with_lf (decimal (length read.0)) ++ l) rest_is ∙ sym (append_assoc (with_lf (decimal (length read.0))) (flat_map spelled read.0) read.1.now),
   record { each = good.each; few = subst IsSmall (sym good.many) small },

@@ -18,7 +18,7 @@ use Rattle.meaning_texts.specs.Tests.{is_id}
 use Rattle.odin_bytes.specs.Laws.{EscapesReadBack}
 use Rattle.meaning_commands.specs.declared.replies.ShownBody.{ShownBody}
 use Rattle.meaning_commands.specs.declared.replies.ShownBody.TheVariants.{Nothing, Simple, List as Listed, Compound}
-use Rattle.meaning_commands.specs.Replies.{counted, status_word, part_text, body_text, message_text, messages_text}
+use Rattle.meaning_commands.specs.Replies.{word_and_number, status_word, part_text, body_text, message_text, messages_text}
 use Rattle.meaning_commands.specs.Formed.{IsSmall, AreFormed, IsFormedPart, IsFormedMessage, IsFormedBody, IsShownAt, IsFormedObject, IsTold}
 use Rattle.reply_reader.specs.Reading.{counted_items}
 use Rattle.reply_reader.proofs.TextLemmas.{HasNo-front, HasNo-back, id_has_no, first_is, no_line, same_line, lines_told, counted_is, sized, bodies_told}
@@ -150,7 +150,7 @@ no_message text line rest is one_line none m behind good reads =
 
 pub part_is : (p : Part) (behind : List ℕ) → part_text p ++ behind ≡ p.name ++ 32 ∷ (sized p.body ++ behind)
 part_is p behind =
-    append_assoc (with_lf (counted p.name (length p.body))) (with_lf p.body) behind ∙ counted_is p.name (length p.body) (with_lf p.body ++ behind)
+    append_assoc (with_lf (word_and_number p.name (length p.body))) (with_lf p.body) behind ∙ counted_is p.name (length p.body) (with_lf p.body ++ behind)
     ∙ ap (λ l. p.name ++ 32 ∷ l) (sym (append_assoc (with_lf (decimal (length p.body))) (with_lf p.body) behind))
 
 -- a part, cut at its first space

@@ -9,7 +9,7 @@ use Rattle.meaning_texts.specs.Tests.{is_name, is_id}
 use Rattle.meaning_texts.specs.Lists.{HasNo}
 use Rattle.meaning_texts.specs.Lines.{HasNoLf, with_lf}
 use Rattle.meaning_texts.proofs.Lemmas.{never_both, word_decides, id_decides, HasNo-pass, HasNo-split, same_cut}
-use Rattle.meaning_commands.specs.Replies.{counted}
+use Rattle.meaning_commands.specs.Replies.{word_and_number}
 use Rattle.meaning_commands.specs.Formed.{IsSmall, IsMeasured, IsTold}
 use Rattle.odin_bytes.proofs.Lemmas.{has_no}
 
@@ -67,7 +67,7 @@ no_line text line behind none is = HasNo-split 10 line behind (subst HasNoLf (is
 
 -- ---- words behind a space
 
-pub counted_is : (word : List ℕ) (number : ℕ) (behind : List ℕ) → with_lf (counted word number) ++ behind ≡ word ++ 32 ∷ (with_lf (decimal number) ++ behind)
+pub counted_is : (word : List ℕ) (number : ℕ) (behind : List ℕ) → with_lf (word_and_number word number) ++ behind ≡ word ++ 32 ∷ (with_lf (decimal number) ++ behind)
 counted_is word number behind =
     ap (λ l. l ++ behind) (append_assoc (word ++ 32 ∷ []) (decimal number) (10 ∷ []))
     ∙ append_assoc (word ++ 32 ∷ []) (with_lf (decimal number)) behind
@@ -133,23 +133,23 @@ sized_read text rest body behind size is long rest_is =
 
 -- ---- a name and a number
 
-pub no_measure_space : (text : List ℕ) → HasNo 32 text → (said : List ℕ × ℕ) (behind : List ℕ) → IsMeasured said.0 said.1 → text ≢ with_lf (counted said.0 said.1) ++ behind
+pub no_measure_space : (text : List ℕ) → HasNo 32 text → (said : List ℕ × ℕ) (behind : List ℕ) → IsMeasured said.0 said.1 → text ≢ with_lf (word_and_number said.0 said.1) ++ behind
 no_measure_space text none said behind good reads = HasNo-split 32 said.0 _ (subst (HasNo 32) (reads ∙ counted_is said.0 said.1 behind) none)
 
-measure_cut : (text name rest : List ℕ) → text ≡ name ++ 32 ∷ rest → HasNo 32 name → (said : List ℕ × ℕ) (behind : List ℕ) → IsMeasured said.0 said.1 → text ≡ with_lf (counted said.0 said.1) ++ behind
+measure_cut : (text name rest : List ℕ) → text ≡ name ++ 32 ∷ rest → HasNo 32 name → (said : List ℕ × ℕ) (behind : List ℕ) → IsMeasured said.0 said.1 → text ≡ with_lf (word_and_number said.0 said.1) ++ behind
     → (name ≡ said.0) × (rest ≡ with_lf (decimal said.1) ++ behind)
 measure_cut text name rest is spaceless said behind good reads =
     same_cut 32 name said.0 rest (with_lf (decimal said.1) ++ behind) spaceless (has_no 32 refl said.0 good.named) (sym is ∙ reads ∙ counted_is said.0 said.1 behind)
 
-pub no_measure_name : (text name rest : List ℕ) → text ≡ name ++ 32 ∷ rest → HasNo 32 name → is_name name ≡ false → (said : List ℕ × ℕ) (behind : List ℕ) → IsMeasured said.0 said.1 → text ≢ with_lf (counted said.0 said.1) ++ behind
+pub no_measure_name : (text name rest : List ℕ) → text ≡ name ++ 32 ∷ rest → HasNo 32 name → is_name name ≡ false → (said : List ℕ × ℕ) (behind : List ℕ) → IsMeasured said.0 said.1 → text ≢ with_lf (word_and_number said.0 said.1) ++ behind
 no_measure_name text name rest is spaceless wrong said behind good reads =
     let both = measure_cut text name rest is spaceless said behind good reads in
     never_both (is_name name) (ap is_name both.0 ∙ (word_decides is_name_byte said.0).1 good.named) wrong
 
 pub no_measure : (text name rest : List ℕ) → text ≡ name ++ 32 ∷ rest → HasNo 32 name → ((number : ℕ) (behind : List ℕ) → IsSmall number → rest ≢ with_lf (decimal number) ++ behind)
-    → (said : List ℕ × ℕ) (behind : List ℕ) → IsMeasured said.0 said.1 → text ≢ with_lf (counted said.0 said.1) ++ behind
+    → (said : List ℕ × ℕ) (behind : List ℕ) → IsMeasured said.0 said.1 → text ≢ with_lf (word_and_number said.0 said.1) ++ behind
 no_measure text name rest is spaceless none said behind good reads =
     let both = measure_cut text name rest is spaceless said behind good reads in none said.1 behind good.small both.1
 
-pub measure_read : (text name rest behind : List ℕ) (count : ℕ) → text ≡ name ++ 32 ∷ rest → rest ≡ with_lf (decimal count) ++ behind → text ≡ with_lf (counted name count) ++ behind
+pub measure_read : (text name rest behind : List ℕ) (count : ℕ) → text ≡ name ++ 32 ∷ rest → rest ≡ with_lf (decimal count) ++ behind → text ≡ with_lf (word_and_number name count) ++ behind
 measure_read text name rest behind count is rest_is = is ∙ ap (λ l. name ++ 32 ∷ l) rest_is ∙ sym (counted_is name count behind)

@@ -9,7 +9,7 @@ use Rattle.odin_bytes.proofs.Lemmas.{has_no}
 use Rattle.meaning_commands.specs.declared.replies.Reply.{Reply}
 use Rattle.meaning_commands.specs.declared.replies.Reply.TheVariants as reply
 use Rattle.meaning_commands.specs.Reading.{behind}
-use Rattle.meaning_commands.specs.Replies.{counted, status_word, body_text, messages_text, reply_text}
+use Rattle.meaning_commands.specs.Replies.{word_and_number, status_word, body_text, messages_text, reply_text}
 use Rattle.meaning_commands.specs.Formed.{IsSmall, IsMeasured, AreFormed, IsFormed, IsTold}
 use Rattle.reply_reader.specs.declared.verbs.Alone.TheVariants.{Bye, RefusedCommand, RefusedName, RefusedSize, RefusedRead, RefusedToolStart}
 use Rattle.reply_reader.specs.declared.verbs.Numbered.TheVariants.{Kept, RefusedExpression, RefusedPath}
@@ -19,7 +19,7 @@ use Rattle.reply_reader.specs.declared.verbs.Measured.TheVariants.{Put, Took}
 use Rattle.reply_reader.specs.declared.verbs.Listed.TheVariants.{Sources, Plan, RefusedCircular, RefusedDeep}
 use Rattle.reply_reader.specs.declared.verbs.Verb.{Verb}
 use Rattle.reply_reader.specs.declared.verbs.Verb.TheVariants as verb
-use Rattle.reply_reader.specs.Verbs.{word_of, alone, numbered, named, identified, measured, listed}
+use Rattle.reply_reader.specs.Verbs.{word_of, alone_reply, numbered_reply, named, identified, measured, listed}
 use Rattle.reply_reader.specs.Reading.{counted_items}
 use Rattle.reply_reader.proofs.TextLemmas.{id_has_no, same_line, lines_told, numbers_told, counted_is}
 use Rattle.reply_reader.proofs.ItemLemmas.{counted_told}
@@ -110,8 +110,8 @@ Said (verb.Listed v) = List (List ℕ)
 Said verb.Object = Object
 
 abbrev pub reply_of : (v : Verb) → Said v → Reply
-reply_of (verb.Alone v) said = alone v
-reply_of (verb.Numbered v) number = numbered v number
+reply_of (verb.Alone v) said = alone_reply v
+reply_of (verb.Numbered v) number = numbered_reply v number
 reply_of (verb.Named v) name = named v name
 reply_of (verb.Identified v) name = identified v name
 reply_of (verb.Measured v) said = measured v said.0 said.1
@@ -132,7 +132,7 @@ said_text (verb.Alone v) said = with_lf []
 said_text (verb.Numbered v) number = with_lf (decimal number)
 said_text (verb.Named v) name = with_lf name
 said_text (verb.Identified v) name = with_lf name
-said_text (verb.Measured v) said = with_lf (counted said.0 said.1)
+said_text (verb.Measured v) said = with_lf (word_and_number said.0 said.1)
 said_text (verb.Listed v) lines = counted_items with_lf lines
 said_text verb.Object o = object_said o
 
@@ -246,7 +246,7 @@ some_words text none r behind formed is = by_parts (parts r)
 
 -- ---- the law
 
-pub measures_told : IsTold (λ (said : List ℕ × ℕ). with_lf (counted said.0 said.1)) (λ said. IsMeasured said.0 said.1)
+pub measures_told : IsTold (λ (said : List ℕ × ℕ). with_lf (word_and_number said.0 said.1)) (λ said. IsMeasured said.0 said.1)
 measures_told a b behind rest good also is =
     let names = same_cut 32 a.0 b.0 _ _ (has_no 32 refl a.0 good.named) (has_no 32 refl b.0 also.named) (sym (counted_is a.0 a.1 behind) ∙ is ∙ counted_is b.0 b.1 rest) in
     let counts = numbers_told a.1 b.1 behind rest good.small also.small names.1 in
@@ -291,7 +291,7 @@ some_said (verb.Alone v) said = some_behind [] 10 []
 some_said (verb.Numbered v) number = some_behind (decimal number) 10 []
 some_said (verb.Named v) name = some_behind name 10 []
 some_said (verb.Identified v) name = some_behind name 10 []
-some_said (verb.Measured v) said = some_behind (counted said.0 said.1) 10 []
+some_said (verb.Measured v) said = some_behind (word_and_number said.0 said.1) 10 []
 some_said (verb.Listed v) lines = some_front (with_lf (decimal (length lines))) (flat_map with_lf lines) (some_behind (decimal (length lines)) 10 [])
 some_said verb.Object o = some_front (status_word o.status ++ codes " ") (body_text o.body ++ messages_text o.messages) (some_behind (status_word o.status) 32 [])
 

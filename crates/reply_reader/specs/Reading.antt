@@ -8,10 +8,10 @@ use Rattle.meaning_commands.specs.Replies.{message_text, reply_text}
 use Rattle.meaning_commands.specs.Formed.{IsFormedMessage, IsFormed}
 
 -- The text begins with the spelling of this good value, and this is behind it; or it begins with the spelling of none.
-abbrev pub Reads : {A : Type 0} → (A → List ℕ) → (A → Type 0)
+abbrev pub ReadsFront : {A : Type 0} → (A → List ℕ) → (A → Type 0)
     → List ℕ → Option (A × Bor (List ℕ)) → Type 0
-Reads spelled IsGood text (Some read) = (text ≡ spelled read.0 ++ read.1.now) × IsGood read.0
-Reads {A} spelled IsGood text None =
+ReadsFront spelled IsGood text (Some read) = (text ≡ spelled read.0 ++ read.1.now) × IsGood read.0
+ReadsFront {A} spelled IsGood text None =
     (value : A) (behind : List ℕ) → IsGood value → text ≢ spelled value ++ behind
 
 -- so many good items
@@ -20,9 +20,9 @@ pub record AreSoMany {A : Type 0} (IsGood : A → Type 0) (count : ℕ) (items :
   pub each : All IsGood items
 
 -- The text begins with the spellings of so many good items, one behind another.
-abbrev pub ReadsAll : {A : Type 0} → (A → List ℕ) → (A → Type 0) → ℕ
+abbrev pub ReadsFrontItems : {A : Type 0} → (A → List ℕ) → (A → Type 0) → ℕ
     → List ℕ → Option (List A × Bor (List ℕ)) → Type 0
-ReadsAll spelled IsGood count = Reads (flat_map spelled) (AreSoMany IsGood count)
+ReadsFrontItems spelled IsGood count = ReadsFront (flat_map spelled) (AreSoMany IsGood count)
 
 -- the line of a count, and so many items
 abbrev pub counted_items : {A : Type 0} → (A → List ℕ) → List A → List ℕ
@@ -35,15 +35,15 @@ SpellsMessage line None =
     (message : Message) → IsFormedMessage message → with_lf line ≢ message_text message
 
 -- From a place to an end of the text stands the text of this well formed reply.
-pub record Stands (text : List ℕ) (at : ℕ) (reply : Reply) (end : ℕ) : Type 0 where
+pub record IsReplyAt (text : List ℕ) (at : ℕ) (reply : Reply) (end : ℕ) : Type 0 where
   pub in_range : (at ≤ end) × (end ≤ length text)
   pub is : slice_range text at end ≡ reply_text reply
   pub formed : IsFormed reply
 
 -- At a place stands this reply, up to its end; or none stands there.
-abbrev pub StandsAt : List ℕ → ℕ → Option (Reply × ℕ) → Type 0
-StandsAt text at (Some read) = Stands text at read.0 read.1
-StandsAt text at None = (reply : Reply) (end : ℕ) → ¬ Stands text at reply end
+abbrev pub ParsesReplyAt : List ℕ → ℕ → Option (Reply × ℕ) → Type 0
+ParsesReplyAt text at (Some read) = IsReplyAt text at read.0 read.1
+ParsesReplyAt text at None = (reply : Reply) (end : ℕ) → ¬ IsReplyAt text at reply end
 
 -- The text is the texts of these well formed replies, one behind another; or it is those of none.
 abbrev pub AreReplies : List ℕ → Option (List Reply) → Type 0

@@ -70,19 +70,19 @@ word_of verb.Object = codes "object "
 -- ---- the replies
 
 -- with nothing more
-abbrev pub alone : Alone → Reply
-alone Bye = reply.Bye
-alone RefusedCommand = reply.RefusedCommand
-alone RefusedName = reply.RefusedName
-alone RefusedSize = reply.RefusedSize
-alone RefusedRead = reply.RefusedRead
-alone RefusedToolStart = reply.RefusedToolStart
+abbrev pub alone_reply : Alone → Reply
+alone_reply Bye = reply.Bye
+alone_reply RefusedCommand = reply.RefusedCommand
+alone_reply RefusedName = reply.RefusedName
+alone_reply RefusedSize = reply.RefusedSize
+alone_reply RefusedRead = reply.RefusedRead
+alone_reply RefusedToolStart = reply.RefusedToolStart
 
 -- with this number
-abbrev pub numbered : Numbered → ℕ → Reply
-numbered Kept = reply.Kept
-numbered RefusedExpression = reply.RefusedExpression
-numbered RefusedPath = reply.RefusedPath
+abbrev pub numbered_reply : Numbered → ℕ → Reply
+numbered_reply Kept = reply.Kept
+numbered_reply RefusedExpression = reply.RefusedExpression
+numbered_reply RefusedPath = reply.RefusedPath
 
 -- with this name
 abbrev pub named : Named → List ℕ → Reply

@@ -5,7 +5,7 @@ ghost use Rattle.odin_bytes.specs.Spellings.{AreBytes};
 ghost use Rattle.meaning_texts.specs.Lines.{HasNoLf, with_lf};
 ghost use Rattle.meaning_commands.specs.Replies.{status_word, part_text, message_text};
 ghost use Rattle.meaning_commands.specs.Formed.{AreFormed, IsFormedPart, IsFormedMessage, IsTold};
-ghost use Rattle.reply_reader.specs.Reading.{Reads, ReadsAll, counted_items, SpellsMessage};
+ghost use Rattle.reply_reader.specs.Reading.{ReadsFront, ReadsFrontItems, counted_items, SpellsMessage};
 
 use crate::sizes::{cut_body, cut_number};
 use object_values::{Bytes, Memory, Message, Part, Seq, Status, Text};
@@ -20,7 +20,7 @@ pub(crate) trait Item: Sized + Drop {
 
     /// The first item of a text, and what stands behind it.
     fn read(alloc: Global, text: &[u8]) -> Result<Option<(Self, &[u8])>, Memory>
-        ensures { IfOk result (Reads spelled IsGood text.now) };
+        ensures { IfOk result (ReadsFront spelled IsGood text.now) };
 }
 
 fn read_items<T: Item>(
@@ -29,7 +29,7 @@ fn read_items<T: Item>(
     count: u64,
 ) -> Result<Option<(Seq<T>, &[u8])>, Memory>
     requires { IsTold T.spelled T.IsGood }
-    ensures { IfOk result (ReadsAll T.spelled T.IsGood count text.now) }
+    ensures { IfOk result (ReadsFrontItems T.spelled T.IsGood count text.now) }
 {
     let mut items = Seq::new(alloc);
     let mut rest = text;
@@ -49,7 +49,7 @@ pub(crate) fn read_counted<T: Item>(
     text: &[u8],
 ) -> Result<Option<(Seq<T>, &[u8])>, Memory>
     requires { IsTold T.spelled T.IsGood }
-    ensures { IfOk result (Reads (counted_items T.spelled) (AreFormed T.IsGood) text.now) }
+    ensures { IfOk result (ReadsFront (counted_items T.spelled) (AreFormed T.IsGood) text.now) }
 {
     let Some((count, rest)) = cut_number(text) else {
         return Ok(None);

@@ -2,7 +2,7 @@
 ghost use Rattle.std.specs.Prelude.{◌++◌, ◌↔◌, IfOk, IsTrue, codes};
 ghost use Rattle.meaning_commands.specs.Replies.{body_text, messages_text, reply_text};
 ghost use Rattle.meaning_commands.specs.Formed.{AreFormed, IsFormedMessage, IsFormedBody, IsShownAt, IsFormed};
-ghost use Rattle.reply_reader.specs.Reading.{Reads};
+ghost use Rattle.reply_reader.specs.Reading.{ReadsFront};
 
 use crate::items::{read_counted, status_of};
 use crate::sizes::{cut_body, cut_number};
@@ -14,7 +14,7 @@ use std::alloc::Global;
 
 // Behind the word.
 fn read_simple(alloc: Global, text: &[u8]) -> Result<Option<(ShownBody, &[u8])>, Memory>
-    ensures { IfOk result (Reads body_text IsFormedBody (codes "simple " ++ text.now)) }
+    ensures { IfOk result (ReadsFront body_text IsFormedBody (codes "simple " ++ text.now)) }
 {
     let Some((size, rest)) = cut_number(text) else {
         return Ok(None);
@@ -27,7 +27,7 @@ fn read_simple(alloc: Global, text: &[u8]) -> Result<Option<(ShownBody, &[u8])>,
 }
 
 fn read_list(alloc: Global, text: &[u8]) -> Result<Option<(ShownBody, &[u8])>, Memory>
-    ensures { IfOk result (Reads body_text IsFormedBody (codes "list " ++ text.now)) }
+    ensures { IfOk result (ReadsFront body_text IsFormedBody (codes "list " ++ text.now)) }
 {
     match read_counted(alloc, text)? {
         Some((lines, behind)) => Ok(Some((ShownBody::List(lines), behind))),
@@ -36,7 +36,7 @@ fn read_list(alloc: Global, text: &[u8]) -> Result<Option<(ShownBody, &[u8])>, M
 }
 
 fn read_compound(alloc: Global, text: &[u8]) -> Result<Option<(ShownBody, &[u8])>, Memory>
-    ensures { IfOk result (Reads body_text IsFormedBody (codes "compound " ++ text.now)) }
+    ensures { IfOk result (ReadsFront body_text IsFormedBody (codes "compound " ++ text.now)) }
 {
     match read_counted(alloc, text)? {
         Some((parts, behind)) => Ok(Some((ShownBody::Compound(parts), behind))),
@@ -45,7 +45,7 @@ fn read_compound(alloc: Global, text: &[u8]) -> Result<Option<(ShownBody, &[u8])
 }
 
 fn read_body(alloc: Global, text: &[u8]) -> Result<Option<(ShownBody, &[u8])>, Memory>
-    ensures { IfOk result (Reads body_text IsFormedBody text.now) }
+    ensures { IfOk result (ReadsFront body_text IsFormedBody text.now) }
 {
     if let Some(behind) = text.strip_prefix(b"none 0\n") {
         return Ok(Some((ShownBody::Nothing, behind)));
@@ -63,7 +63,7 @@ fn read_body(alloc: Global, text: &[u8]) -> Result<Option<(ShownBody, &[u8])>, M
 }
 
 fn read_messages(alloc: Global, text: &[u8]) -> Result<Option<(SharedSeq<Message>, &[u8])>, Memory>
-    ensures { IfOk result (Reads messages_text (AreFormed IsFormedMessage) text.now) }
+    ensures { IfOk result (ReadsFront messages_text (AreFormed IsFormedMessage) text.now) }
 {
     let Some(rest) = text.strip_prefix(b"messages ") else {
         return Ok(None);
@@ -89,7 +89,7 @@ fn is_shown_at(status: Status, body: &ShownBody) -> bool
 
 /// Behind the word `object`.
 pub(crate) fn read_object(alloc: Global, text: &[u8]) -> Result<Option<(Reply, &[u8])>, Memory>
-    ensures { IfOk result (Reads reply_text IsFormed (codes "object " ++ text.now)) }
+    ensures { IfOk result (ReadsFront reply_text IsFormed (codes "object " ++ text.now)) }
 {
     let Some((word, rest)) = cut_at(b' ', text) else {
         return Ok(None);

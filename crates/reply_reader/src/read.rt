@@ -2,7 +2,7 @@
 ghost use Rattle.std.specs.Prelude.{IfOk};
 ghost use Rattle.meaning_commands.specs.Replies.{reply_text};
 ghost use Rattle.meaning_commands.specs.Formed.{IsFormed};
-ghost use Rattle.reply_reader.specs.Reading.{Reads, StandsAt, AreReplies};
+ghost use Rattle.reply_reader.specs.Reading.{ReadsFront, ParsesReplyAt, AreReplies};
 
 use crate::laws::replies_read_back;
 use crate::said::read_said;
@@ -13,7 +13,7 @@ use std::alloc::Global;
 
 // The reply that a text begins with, and what stands behind it.
 fn read_first(alloc: Global, text: &[u8]) -> Result<Option<(Reply, &[u8])>, Memory>
-    ensures { IfOk result (Reads reply_text IsFormed text.now) }
+    ensures { IfOk result (ReadsFront reply_text IsFormed text.now) }
 {
     match cut_verb(text) {
         Some((verb, said)) => read_said(alloc, verb, said),
@@ -23,7 +23,7 @@ fn read_first(alloc: Global, text: &[u8]) -> Result<Option<(Reply, &[u8])>, Memo
 
 /// The well formed reply whose text begins at a place, and the place behind it. There is at most one.
 pub fn read_reply(alloc: Global, text: &[u8], at: usize) -> Result<Option<(Reply, usize)>, Memory>
-    ensures { IfOk result (StandsAt text.now at) }
+    ensures { IfOk result (ParsesReplyAt text.now at) }
 {
     let Some(rest) = text.get(at..) else {
         return Ok(None);

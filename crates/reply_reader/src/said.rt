@@ -2,7 +2,7 @@
 ghost use Rattle.std.specs.Prelude.{◌++◌, IfOk};
 ghost use Rattle.meaning_commands.specs.Replies.{reply_text};
 ghost use Rattle.meaning_commands.specs.Formed.{IsFormed};
-ghost use Rattle.reply_reader.specs.Reading.{Reads};
+ghost use Rattle.reply_reader.specs.Reading.{ReadsFront};
 ghost use Rattle.reply_reader.specs.Verbs.{alone_word, numbered_word, named_word, identified_word, measured_word, listed_word, word_of};
 
 use crate::items::read_counted;
@@ -15,21 +15,21 @@ use odin_bytes::{cut_at, is_id, is_name};
 use std::alloc::Global;
 
 fn read_alone(verb: Alone, text: &[u8]) -> Option<(Reply, &[u8])>
-    ensures { Reads reply_text IsFormed (alone_word verb ++ text.now) result }
+    ensures { ReadsFront reply_text IsFormed (alone_word verb ++ text.now) result }
 {
     let behind = text.strip_prefix(b"\n")?;
     Some((verb.reply(), behind))
 }
 
 fn read_numbered(verb: Numbered, text: &[u8]) -> Option<(Reply, &[u8])>
-    ensures { Reads reply_text IsFormed (numbered_word verb ++ text.now) result }
+    ensures { ReadsFront reply_text IsFormed (numbered_word verb ++ text.now) result }
 {
     let (number, behind) = cut_number(text)?;
     Some((verb.reply(number), behind))
 }
 
 fn read_named(alloc: Global, verb: Named, text: &[u8]) -> Result<Option<(Reply, &[u8])>, Memory>
-    ensures { IfOk result (Reads reply_text IsFormed (named_word verb ++ text.now)) }
+    ensures { IfOk result (ReadsFront reply_text IsFormed (named_word verb ++ text.now)) }
 {
     let Some((name, behind)) = cut_at(b'\n', text) else {
         return Ok(None);
@@ -45,7 +45,7 @@ fn read_identified(
     verb: Identified,
     text: &[u8],
 ) -> Result<Option<(Reply, &[u8])>, Memory>
-    ensures { IfOk result (Reads reply_text IsFormed (identified_word verb ++ text.now)) }
+    ensures { IfOk result (ReadsFront reply_text IsFormed (identified_word verb ++ text.now)) }
 {
     let Some((name, behind)) = cut_at(b'\n', text) else {
         return Ok(None);
@@ -61,7 +61,7 @@ fn read_measured(
     verb: Measured,
     text: &[u8],
 ) -> Result<Option<(Reply, &[u8])>, Memory>
-    ensures { IfOk result (Reads reply_text IsFormed (measured_word verb ++ text.now)) }
+    ensures { IfOk result (ReadsFront reply_text IsFormed (measured_word verb ++ text.now)) }
 {
     let Some((name, rest)) = cut_at(b' ', text) else {
         return Ok(None);
@@ -76,7 +76,7 @@ fn read_measured(
 }
 
 fn read_listed(alloc: Global, verb: Listed, text: &[u8]) -> Result<Option<(Reply, &[u8])>, Memory>
-    ensures { IfOk result (Reads reply_text IsFormed (listed_word verb ++ text.now)) }
+    ensures { IfOk result (ReadsFront reply_text IsFormed (listed_word verb ++ text.now)) }
 {
     match read_counted(alloc, text)? {
         Some((lines, behind)) => Ok(Some((verb.reply(lines), behind))),
@@ -90,7 +90,7 @@ pub(crate) fn read_said(
     verb: Verb,
     text: &[u8],
 ) -> Result<Option<(Reply, &[u8])>, Memory>
-    ensures { IfOk result (Reads reply_text IsFormed (word_of verb ++ text.now)) }
+    ensures { IfOk result (ReadsFront reply_text IsFormed (word_of verb ++ text.now)) }
 {
     match verb {
         Verb::Alone(verb) => Ok(read_alone(verb, text)),

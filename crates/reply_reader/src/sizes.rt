@@ -2,13 +2,13 @@
 ghost use Rattle.std.specs.Prelude.{◌≡◌, ℕ, List, ◌++◌, ◌≢◌, length, decimal, IfSome, IfNone};
 ghost use Rattle.meaning_texts.specs.Lines.{with_lf};
 ghost use Rattle.meaning_commands.specs.Formed.{IsSmall};
-ghost use Rattle.reply_reader.specs.Reading.{Reads};
+ghost use Rattle.reply_reader.specs.Reading.{ReadsFront};
 
 use odin_bytes::{cut_at, read_number};
 
 /// The number on the first line.
 pub(crate) fn cut_number(text: &[u8]) -> Option<(u64, &[u8])>
-    ensures { Reads (λ number. with_lf (decimal number)) IsSmall text.now result }
+    ensures { ReadsFront (λ number. with_lf (decimal number)) IsSmall text.now result }
 {
     let (digits, behind) = cut_at(b'\n', text)?;
     Some((read_number(digits)?, behind))

@@ -1,7 +1,7 @@
 // The first words of replies, grouped by what is said behind them.
 ghost use Rattle.std.specs.Prelude.{◌≡◌, ◌≢◌, ◌++◌, ℕ, List, IfSome, IfNone};
 ghost use Rattle.reply_reader.specs.declared.verbs.Verb.{Verb};
-ghost use Rattle.reply_reader.specs.Verbs.{alone_word, numbered_word, named_word, identified_word, measured_word, listed_word, word_of, alone, numbered, named, identified, measured, listed};
+ghost use Rattle.reply_reader.specs.Verbs.{alone_word, numbered_word, named_word, identified_word, measured_word, listed_word, word_of, alone_reply, numbered_reply, named, identified, measured, listed};
 
 use meaning_commands::Reply;
 use object_values::{Bytes, Seq};
@@ -109,7 +109,7 @@ impl Alone {
     }
 
     pub(crate) fn reply(self) -> Reply
-        ensures { result ≡ alone self }
+        ensures { result ≡ alone_reply self }
     {
         match self {
             Alone::Bye => Reply::Bye,
@@ -134,7 +134,7 @@ impl Numbered {
     }
 
     pub(crate) fn reply(self, number: u64) -> Reply
-        ensures { result ≡ numbered self number }
+        ensures { result ≡ numbered_reply self number }
     {
         match self {
             Numbered::Kept => Reply::Kept(number),

@@ -10,7 +10,7 @@ use Rattle.std.proofs.lemmas.Slice.Eq.{bytes_eq-Decides}
 use Rattle.std.proofs.lemmas.List.Sums.{fails_before_first}
 use Rattle.object_values.specs.declared.nodes.ParamValue.{ParamValue}
 use Rattle.meaning_texts.specs.Lists.{once}
-use Rattle.meaning_texts.specs.Expressions.{name_cmp, values_of, AreKeptAs}
+use Rattle.meaning_texts.specs.Expressions.{name_cmp, values_of_param, AreKeptAs}
 use Rattle.meaning_texts.specs.Reading.{same_param}
 use Rattle.request_parser.specs.Kept.{KeepsOne, is_below, BeginsAbove, IsPlaceOf}
 
@@ -112,7 +112,7 @@ up_behind (x ∷ a) b up = up_behind a b up.1
 
 -- ---- the values of a name
 
-values_append : (name : List ℕ) (a b : List ParamValue) → values_of name (a ++ b) ≡ values_of name a ++ values_of name b
+values_append : (name : List ℕ) (a b : List ParamValue) → values_of_param name (a ++ b) ≡ values_of_param name a ++ values_of_param name b
 values_append name [] b = refl
 values_append name (x ∷ a) b = elim (cases_Bool (bytes_eq x.param name)) [
   | inl e ↦ rw e (ap (λ t. x.value ∷ t) (values_append name a b))
@@ -120,23 +120,23 @@ values_append name (x ∷ a) b = elim (cases_Bool (bytes_eq x.param name)) [
 ]
 
 -- what stands above a parameter has no value of its name
-none_above : (p : ParamValue) (b : List ParamValue) → Up b → BeginsAbove p b → values_of p.param b ≡ []
+none_above : (p : ParamValue) (b : List ParamValue) → Up b → BeginsAbove p b → values_of_param p.param b ≡ []
 none_above p [] up there = refl
 none_above p (y ∷ []) up there = rw (below_other p y there) refl
 none_above p (y ∷ z ∷ b) up there = rw (below_other p y there) (none_above p (z ∷ b) up.1 (below_on p y z there up.0))
 
 -- a parameter more stands behind those of its name
-values_insert : (name : List ℕ) (p : ParamValue) (a b : List ParamValue) → Up b → BeginsAbove p b → values_of name (a ++ p ∷ b) ≡ values_of name (a ++ b) ++ values_of name (p ∷ [])
+values_insert : (name : List ℕ) (p : ParamValue) (a b : List ParamValue) → Up b → BeginsAbove p b → values_of_param name (a ++ p ∷ b) ≡ values_of_param name (a ++ b) ++ values_of_param name (p ∷ [])
 values_insert name p a b up there = elim (cases_Bool (bytes_eq p.param name)) [
   | inl e ↦
       let s : p.param ≡ name = same_text p.param name e in
-      let none : values_of name b ≡ [] = subst (λ n. values_of n b ≡ []) s (none_above p b up there) in
-      let left : values_of name (a ++ p ∷ b) ≡ values_of name a ++ p.value ∷ [] = values_append name a (p ∷ b) ∙ (rw (e, none) refl) in
-      let right : values_of name (a ++ b) ≡ values_of name a = values_append name a b ∙ (rw (none, append-nil (values_of name a)) refl) in
+      let none : values_of_param name b ≡ [] = subst (λ n. values_of_param n b ≡ []) s (none_above p b up there) in
+      let left : values_of_param name (a ++ p ∷ b) ≡ values_of_param name a ++ p.value ∷ [] = values_append name a (p ∷ b) ∙ (rw (e, none) refl) in
+      let right : values_of_param name (a ++ b) ≡ values_of_param name a = values_append name a b ∙ (rw (none, append-nil (values_of_param name a)) refl) in
       rw (left, right, e) refl
   | inr e ↦
-      let left : values_of name (a ++ p ∷ b) ≡ values_of name a ++ values_of name b = values_append name a (p ∷ b) ∙ (rw e refl) in
-      rw (left, values_append name a b, e, append-nil (values_of name a ++ values_of name b)) refl
+      let left : values_of_param name (a ++ p ∷ b) ≡ values_of_param name a ++ values_of_param name b = values_append name a (p ∷ b) ∙ (rw e refl) in
+      rw (left, values_append name a b, e, append-nil (values_of_param name a ++ values_of_param name b)) refl
 ]
 
 -- ---- doubles
@@ -187,7 +187,7 @@ once_more (x ∷ xs) v = elim (cases_Bool (bytes_eq x v)) [
     other_left false ys e = let s : bytes_eq v x ≡ false = other_back x v e in ap (λ t. x ∷ t) (others_append x ys (v ∷ []) ∙ (rw s refl))
 
 -- a parameter is there where its value is one of its name's
-has_value : (p : ParamValue) (qs : List ParamValue) → list_any (λ q. same_param q p) qs ≡ has_text p.value (values_of p.param qs)
+has_value : (p : ParamValue) (qs : List ParamValue) → list_any (λ q. same_param q p) qs ≡ has_text p.value (values_of_param p.param qs)
 has_value p [] = refl
 has_value p (q ∷ qs) = elim (cases_Bool (bytes_eq q.param p.param)) [
   | inl e ↦ rw e (ap (λ t. bytes_eq q.value p.value || t) (has_value p qs))
@@ -196,19 +196,19 @@ has_value p (q ∷ qs) = elim (cases_Bool (bytes_eq q.param p.param)) [
 
 -- ---- one parameter more
 
-values_more : (name : List ℕ) (p : ParamValue) (written old new : List ParamValue) → AreKeptAs written old → (bytes_eq p.param name ≡ true → values_of name new ≡ cond (list_any (λ q. same_param q p) old) (values_of name old) (values_of name old ++ p.value ∷ [])) → (bytes_eq p.param name ≡ false → values_of name new ≡ values_of name old)
-    → values_of name new ≡ once bytes_eq (values_of name (written ++ p ∷ []))
+values_more : (name : List ℕ) (p : ParamValue) (written old new : List ParamValue) → AreKeptAs written old → (bytes_eq p.param name ≡ true → values_of_param name new ≡ cond (list_any (λ q. same_param q p) old) (values_of_param name old) (values_of_param name old ++ p.value ∷ [])) → (bytes_eq p.param name ≡ false → values_of_param name new ≡ values_of_param name old)
+    → values_of_param name new ≡ once bytes_eq (values_of_param name (written ++ p ∷ []))
 values_more name p written old new k here elsewhere = elim (cases_Bool (bytes_eq p.param name)) [
   | inl e ↦
       let s : p.param ≡ name = same_text p.param name e in
-      let more : values_of name (written ++ p ∷ []) ≡ values_of name written ++ p.value ∷ [] = values_append name written (p ∷ []) ∙ (rw e refl) in
-      let old_is : once bytes_eq (values_of name written) ≡ values_of name old = sym (k.values name) in
-      let has : list_any (λ q. same_param q p) old ≡ has_text p.value (values_of name old) = has_value p old ∙ ap (λ n. has_text p.value (values_of n old)) s in
-      let right : once bytes_eq (values_of name (written ++ p ∷ [])) ≡ cond (has_text p.value (values_of name old)) (values_of name old) (values_of name old ++ p.value ∷ [])
-      = ap (once bytes_eq) more ∙ once_more (values_of name written) p.value ∙ ap (λ ys. cond (has_text p.value ys) ys (ys ++ p.value ∷ [])) old_is in
-      here e ∙ ap (λ t. cond t (values_of name old) (values_of name old ++ p.value ∷ [])) has ∙ sym right
+      let more : values_of_param name (written ++ p ∷ []) ≡ values_of_param name written ++ p.value ∷ [] = values_append name written (p ∷ []) ∙ (rw e refl) in
+      let old_is : once bytes_eq (values_of_param name written) ≡ values_of_param name old = sym (k.values name) in
+      let has : list_any (λ q. same_param q p) old ≡ has_text p.value (values_of_param name old) = has_value p old ∙ ap (λ n. has_text p.value (values_of_param n old)) s in
+      let right : once bytes_eq (values_of_param name (written ++ p ∷ [])) ≡ cond (has_text p.value (values_of_param name old)) (values_of_param name old) (values_of_param name old ++ p.value ∷ [])
+      = ap (once bytes_eq) more ∙ once_more (values_of_param name written) p.value ∙ ap (λ ys. cond (has_text p.value ys) ys (ys ++ p.value ∷ [])) old_is in
+      here e ∙ ap (λ t. cond t (values_of_param name old) (values_of_param name old ++ p.value ∷ [])) has ∙ sym right
   | inr e ↦
-      let more : values_of name (written ++ p ∷ []) ≡ values_of name written = values_append name written (p ∷ []) ∙ (rw (e, append-nil (values_of name written)) refl) in
+      let more : values_of_param name (written ++ p ∷ []) ≡ values_of_param name written = values_append name written (p ∷ []) ∙ (rw (e, append-nil (values_of_param name written)) refl) in
       elsewhere e ∙ k.values name ∙ sym (ap (once bytes_eq) more)
 ]
 
@@ -223,7 +223,7 @@ keeps_at p a b none before there written k =
       sorted = sorted_from (a ++ p ∷ b) (up_insert p a b up before there);
       values = λ name. values_more name p written (a ++ b) (a ++ p ∷ b) k
           (λ e. rw none (values_insert name p a b up_b there ∙ (rw e refl)))
-          (λ e. values_insert name p a b up_b there ∙ (rw (e, append-nil (values_of name (a ++ b))) refl));
+          (λ e. values_insert name p a b up_b there ∙ (rw (e, append-nil (values_of_param name (a ++ b))) refl));
     }
 
 pub keeps_new : (p : ParamValue) (old : List ParamValue) (place : ℕ) → list_any (λ q. same_param q p) old ≡ false → IsPlaceOf p old place → KeepsOne p old (insert old place p)

@@ -11,8 +11,8 @@ use Rattle.request_parser.specs.declared.items.Item.{Item}
 use Rattle.request_parser.specs.declared.items.Item.TheVariants.{Param, Step}
 use Rattle.request_parser.specs.declared.items.Found.{Found}
 use Rattle.request_parser.specs.Runs.{has, next, IsPast, TakesRun}
-use Rattle.request_parser.specs.Reads.{HaltsAt, AreItems, ReadsItem, AreRead}
-use Rattle.request_parser.specs.Found.{Puts}
+use Rattle.request_parser.specs.Reads.{HaltsAt, AreItems, ReadsItem, ReadsItems}
+use Rattle.request_parser.specs.Found.{PutsItem}
 use Rattle.request_parser.proofs.ReadLemmas.{halts_behind, behind_space}
 
 -- ---- spaces
@@ -47,7 +47,7 @@ no_space (b ∷ rest) p e = let is : b ≡ 32 = cc in let n : nat_eq 32 32 ≡ f
 pub none_kept : AreKeptAs [] []
 none_kept = record { sorted = λ k d low high. absurd (omega arith); values = λ name. refl }
 
-pub none_read : (run text rest : List ℕ) → TakesRun (has class.Space) run text rest → AreRead text rest [] []
+pub none_read : (run text rest : List ℕ) → TakesRun (has class.Space) run text rest → ReadsItems text rest [] []
 none_read run text rest t = record {
   written = [];
   are_kept = none_kept;
@@ -55,7 +55,7 @@ none_read run text rest t = record {
   halts = λ place h. spaces_halt run text rest place t h;
 }
 
-pub spaces_read : (text rest run behind : List ℕ) (kept : List ParamValue) (steps : List ExprStep) → AreRead text rest kept steps → TakesRun (has class.Space) run rest behind → AreRead text behind kept steps
+pub spaces_read : (text rest run behind : List ℕ) (kept : List ParamValue) (steps : List ExprStep) → ReadsItems text rest kept steps → TakesRun (has class.Space) run rest behind → ReadsItems text behind kept steps
 spaces_read text rest run behind kept steps a t = record {
   written = a.written;
   are_kept = a.are_kept;
@@ -63,7 +63,7 @@ spaces_read text rest run behind kept steps a t = record {
   halts = λ place h. a.halts place (spaces_halt run rest behind place t h);
 }
 
-pub item_read : (item : Item) (text rest behind : List ℕ) (old new : Found) → AreRead text rest old.params.items old.steps → ReadsItem item rest behind → Puts item old new → AreRead text behind new.params.items new.steps
+pub item_read : (item : Item) (text rest behind : List ℕ) (old new : Found) → ReadsItems text rest old.params.items old.steps → ReadsItem item rest behind → PutsItem item old new → ReadsItems text behind new.params.items new.steps
 item_read (Param p) text rest behind old new a r put =
     let written : List ParamValue = a.written in
     record {

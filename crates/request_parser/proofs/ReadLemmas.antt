@@ -12,7 +12,7 @@ use Rattle.meaning_texts.specs.Expressions.{Items, no_more, space, param_value, 
 use Rattle.request_parser.specs.declared.bytes.Wanted.{Wanted}
 use Rattle.request_parser.specs.declared.bytes.Wanted.TheVariants as wanted
 use Rattle.request_parser.specs.declared.items.Item.TheVariants.{Param, Step}
-use Rattle.request_parser.specs.Runs.{has, class_of, IsOf, next, IsPast, TakesWord, HaltsInWord}
+use Rattle.request_parser.specs.Runs.{has, word_class_of, IsWantedWord, next, IsPast, TakesWord, HaltsInWord}
 use Rattle.request_parser.specs.Reads.{HaltsAt, AreItems, AreItemsBehind, HasValue, TakesValue, ReadsItem}
 use Rattle.request_parser.proofs.RunLemmas.{past_alike, next_behind, SameRun, same_run}
 
@@ -40,10 +40,10 @@ pub record BeginsWithWord (w : Wanted) (text : List ℕ) : Type 0 where
   pub word : List ℕ
   pub rest : List ℕ
   pub is : text ≡ word ++ rest
-  pub of : IsOf w word
-  pub past : IsPast (has (class_of w)) rest
+  pub of : IsWantedWord w word
+  pub past : IsPast (has (word_class_of w)) rest
 
-pub halts_in_word : (is_text : List ℕ → Type 0) (w : Wanted) (text place : List ℕ) → ((word : List ℕ) → IsOf w word → is_text word) → ((t : List ℕ) → is_text t → BeginsWithWord w t) → HaltsInWord w text place → HaltsAt is_text text place
+pub halts_in_word : (is_text : List ℕ → Type 0) (w : Wanted) (text place : List ℕ) → ((word : List ℕ) → IsWantedWord w word → is_text word) → ((t : List ℕ) → is_text t → BeginsWithWord w t) → HaltsInWord w text place → HaltsAt is_text text place
 halts_in_word is_text w text place up down h = record {
   done = h.done;
   more = h.more;
@@ -84,7 +84,7 @@ pub record IsWordThenItems (w : Wanted) (text : List ℕ) : Type 0 where
   pub word : List ℕ
   pub rest : List ℕ
   pub is : text ≡ word ++ rest
-  pub of : IsOf w word
+  pub of : IsWantedWord w word
   pub items : AreItems rest
 
 pub behind_space : (text : List ℕ) (ps : List ParamValue) (ss : List ExprStep) (u : List ℕ) → Items text ps ss → text ≡ 32 ∷ u → AreItems u

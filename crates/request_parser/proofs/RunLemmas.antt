@@ -8,7 +8,7 @@ use Rattle.meaning_texts.specs.Classes.{is_name_byte, is_key_byte, begins_with_l
 use Rattle.meaning_texts.specs.Limits.{word_limit}
 use Rattle.request_parser.specs.declared.bytes.Wanted.{Wanted}
 use Rattle.request_parser.specs.declared.bytes.Wanted.TheVariants as wanted
-use Rattle.request_parser.specs.Runs.{has, class_of, begins, IsOf, next, IsPast, TakesRun, TakesWord, HaltsInWord}
+use Rattle.request_parser.specs.Runs.{has, word_class_of, begins, IsWantedWord, next, IsPast, TakesRun, TakesWord, HaltsInWord}
 
 -- ---- where a run ends
 
@@ -93,7 +93,7 @@ run_longer test (d ∷ done) behind (c ∷ word) rest p more g e =
 pub record IsWordLike (w : Wanted) (word : List ℕ) : Type 0 where
   pub begins : begins w word ≡ true
   pub short : length word ≤ word_limit
-  pub each : list_all (has (class_of w)) word ≡ true
+  pub each : list_all (has (word_class_of w)) word ≡ true
 
 begins_not_empty : (w : Wanted) → begins w [] ≡ false
 begins_not_empty wanted.Name = refl
@@ -104,7 +104,7 @@ some_byte : (w : Wanted) (word : List ℕ) → begins w word ≡ true → 0 < le
 some_byte w [] e = absurd (both_ways (begins w []) (begins_not_empty w) e)
 some_byte w (b ∷ word) e = omega arith
 
-pub word_from : (w : Wanted) (word : List ℕ) → IsWordLike w word → IsOf w word
+pub word_from : (w : Wanted) (word : List ℕ) → IsWordLike w word → IsWantedWord w word
 word_from wanted.Name word l = record { some = some_byte wanted.Name word l.begins; short = l.short; each = AllPass-from_list_all is_name_byte word l.each }
 word_from wanted.Id word l = record { key = record { some = some_byte wanted.Id word l.begins; short = l.short; each = AllPass-from_list_all is_key_byte word l.each }; letter = letters word l.begins }
   where
@@ -113,7 +113,7 @@ word_from wanted.Id word l = record { key = record { some = some_byte wanted.Id 
     letters (b ∷ word) e = e
 word_from wanted.Key word l = record { some = some_byte wanted.Key word l.begins; short = l.short; each = AllPass-from_list_all is_key_byte word l.each }
 
-pub word_parts : (w : Wanted) (word : List ℕ) → IsOf w word → IsWordLike w word
+pub word_parts : (w : Wanted) (word : List ℕ) → IsWantedWord w word → IsWordLike w word
 word_parts wanted.Name [] i = let s : 0 < length {A = ℕ} [] = i.some in absurd (omega arith)
 word_parts wanted.Name (b ∷ word) i = record { begins = refl; short = i.short; each = list_all-from_AllPass is_name_byte (b ∷ word) i.each }
 word_parts wanted.Id [] i = let s : 0 < length {A = ℕ} [] = i.key.some in absurd (omega arith)
@@ -128,27 +128,27 @@ begins_alike wanted.Name b x y = refl
 begins_alike wanted.Id b x y = refl
 begins_alike wanted.Key b x y = refl
 
-one_letter : (w : Wanted) → IsOf w (97 ∷ [])
+one_letter : (w : Wanted) → IsWantedWord w (97 ∷ [])
 one_letter wanted.Name = word_from wanted.Name (97 ∷ []) (record { begins = refl; short = omega arith; each = refl })
 one_letter wanted.Id = word_from wanted.Id (97 ∷ []) (record { begins = refl; short = omega arith; each = refl })
 one_letter wanted.Key = word_from wanted.Key (97 ∷ []) (record { begins = refl; short = omega arith; each = refl })
 
 -- the first byte of a word isn't that of a run that begins none
-none_begins : (w : Wanted) (run rest behind word more : List ℕ) → IsPast (has (class_of w)) rest → begins w run ≡ false → IsWordLike w word → next behind ≡ next (run ++ rest) → behind ≡ word ++ more → ⊥
+none_begins : (w : Wanted) (run rest behind word more : List ℕ) → IsPast (has (word_class_of w)) rest → begins w run ≡ false → IsWordLike w word → next behind ≡ next (run ++ rest) → behind ≡ word ++ more → ⊥
 none_begins w run rest behind [] more past none l n e = both_ways (begins w []) (begins_not_empty w) l.begins
 none_begins w [] [] behind (c ∷ word) more past none l n e = let f : ◌≡◌ {A = Option ℕ} (Some c) None = ap next (sym e) ∙ n in cc
 none_begins w [] (d ∷ rest) behind (c ∷ word) more past none l n e =
     let f : ◌≡◌ {A = Option ℕ} (Some c) (Some d) = ap next (sym e) ∙ n in
     let same : c ≡ d = cc in
-    let h = and_parts (has (class_of w) c) (list_all (has (class_of w)) word) l.each in
-    both_ways (has (class_of w) c) (rw same past) h.0
+    let h = and_parts (has (word_class_of w) c) (list_all (has (word_class_of w)) word) l.each in
+    both_ways (has (word_class_of w) c) (rw same past) h.0
 none_begins w (d ∷ run) rest behind (c ∷ word) more past none l n e =
     let f : ◌≡◌ {A = Option ℕ} (Some c) (Some d) = ap next (sym e) ∙ n in
     let same : c ≡ d = cc in
     let t : begins w (d ∷ run) ≡ true = subst (λ b. begins w (b ∷ run) ≡ true) same (begins_alike w c run word ∙ l.begins) in
     both_ways (begins w (d ∷ run)) none t
 
-pub no_word : (w : Wanted) (run text rest : List ℕ) → TakesRun (has (class_of w)) run text rest → begins w run ≡ false → HaltsInWord w text text
+pub no_word : (w : Wanted) (run text rest : List ℕ) → TakesRun (has (word_class_of w)) run text rest → begins w run ≡ false → HaltsInWord w text text
 no_word w run text rest t none = record {
   done = [];
   more = 97 ∷ [];
@@ -157,7 +157,7 @@ no_word w run text rest t none = record {
   stops = λ behind word more n e i p. none_begins w run rest behind word more t.past none (word_parts w word i) (n ∙ ap next t.is) e;
 }
 
-pub a_word : (w : Wanted) (run text rest : List ℕ) → TakesRun (has (class_of w)) run text rest → begins w run ≡ true → length run ≤ word_limit → TakesWord w run text rest
+pub a_word : (w : Wanted) (run text rest : List ℕ) → TakesRun (has (word_class_of w)) run text rest → begins w run ≡ true → length run ≤ word_limit → TakesWord w run text rest
 a_word w run text rest t b short = record { is = t.is; of = word_from w run (record { begins = b; short = short; each = t.each }); past = t.past }
 
 -- ---- a word that is too long
@@ -191,13 +191,13 @@ longer : (run rest : List ℕ) → length run ≤ length (run ++ rest)
 longer [] rest = omega arith
 longer (b ∷ run) rest = let l : length run ≤ length (run ++ rest) = longer run rest in omega arith
 
-long_word : (w : Wanted) (run rest : List ℕ) → list_all (has (class_of w)) run ≡ true → begins w run ≡ true → word_limit < length run → HaltsInWord w (run ++ rest) (drop word_limit (run ++ rest))
+long_word : (w : Wanted) (run rest : List ℕ) → list_all (has (word_class_of w)) run ≡ true → begins w run ≡ true → word_limit < length run → HaltsInWord w (run ++ rest) (drop word_limit (run ++ rest))
 long_word w run rest each b long =
-    let all : list_all (has (class_of w)) (take word_limit (run ++ rest)) ≡ true = all_front (has (class_of w)) run rest word_limit each (omega arith) in
+    let all : list_all (has (word_class_of w)) (take word_limit (run ++ rest)) ≡ true = all_front (has (word_class_of w)) run rest word_limit each (omega arith) in
     let le : length run ≤ length (run ++ rest) = longer run rest in
     let l : length (take word_limit (run ++ rest)) ≡ word_limit = length_front word_limit (run ++ rest) (omega arith) in
     let b2 : begins w (take word_limit (run ++ rest)) ≡ true = begins_front w run rest 254 b in
-    let word : IsOf w (take word_limit (run ++ rest)) = word_from w (take word_limit (run ++ rest)) (record { begins = b2; short = omega arith; each = all }) in
+    let word : IsWantedWord w (take word_limit (run ++ rest)) = word_from w (take word_limit (run ++ rest)) (record { begins = b2; short = omega arith; each = all }) in
     record {
       done = take word_limit (run ++ rest);
       more = [];
@@ -206,10 +206,10 @@ long_word w run rest each b long =
       stops = λ behind other more n e i p.
           let like : IsWordLike w other = word_parts w other i in
           let short : length other ≤ word_limit = like.short in
-          let more_there : IsPast (has (class_of w)) behind → ⊥ = λ q. still_there (has (class_of w)) run rest word_limit each (omega arith) (past_alike (has (class_of w)) (drop word_limit (run ++ rest)) behind (sym n) q) in
-          let less : length (take word_limit (run ++ rest)) < length other = run_longer (has (class_of w)) (take word_limit (run ++ rest)) behind other more all more_there p e in
+          let more_there : IsPast (has (word_class_of w)) behind → ⊥ = λ q. still_there (has (word_class_of w)) run rest word_limit each (omega arith) (past_alike (has (word_class_of w)) (drop word_limit (run ++ rest)) behind (sym n) q) in
+          let less : length (take word_limit (run ++ rest)) < length other = run_longer (has (word_class_of w)) (take word_limit (run ++ rest)) behind other more all more_there p e in
           omega arith;
     }
 
-pub too_long : (w : Wanted) (run text rest : List ℕ) → TakesRun (has (class_of w)) run text rest → begins w run ≡ true → word_limit < length run → HaltsInWord w text (drop word_limit text)
+pub too_long : (w : Wanted) (run text rest : List ℕ) → TakesRun (has (word_class_of w)) run text rest → begins w run ≡ true → word_limit < length run → HaltsInWord w text (drop word_limit text)
 too_long w run text rest t b long = rw t.is (long_word w run rest t.each b long)

@@ -10,11 +10,11 @@ use Rattle.object_values.specs.declared.expressions.ExprStep.{ExprStep}
 use Rattle.object_values.specs.declared.expressions.Expression.{Expression}
 use Rattle.meaning_texts.specs.Classes.{is_name_byte, IsName}
 use Rattle.meaning_texts.specs.Limits.{expression_limit}
-use Rattle.meaning_texts.specs.Expressions.{Items, no_more, Written, ExpressionText, IsFront, IsStop, no_front, past_limit, too_short, IsFaultPlace}
+use Rattle.meaning_texts.specs.Expressions.{Items, no_more, SpellsExpression, ExpressionText, IsFront, IsStop, no_front, past_limit, too_short, IsFaultPlace}
 use Rattle.request_parser.specs.declared.bytes.Class.TheVariants as class
 use Rattle.request_parser.specs.declared.bytes.Wanted.TheVariants as wanted
 use Rattle.request_parser.specs.Runs.{has, next, IsPast, TakesRun, TakesWord, HaltsInWord}
-use Rattle.request_parser.specs.Reads.{HaltsAt, AreItems, AreRead, IsText, IsWrittenAs}
+use Rattle.request_parser.specs.Reads.{HaltsAt, AreItems, ReadsItems, IsOfGrammar, IsWrittenAs}
 use Rattle.request_parser.proofs.RunLemmas.{past_alike, SameRun, same_run}
 use Rattle.request_parser.proofs.ReadLemmas.{halts_behind, halts_in_word, items_past}
 
@@ -72,32 +72,32 @@ name_past_space : (source behind : List ℕ) → IsName source → IsPast (has c
 name_past_space [] behind n = let s : 0 < length {A = ℕ} [] = n.some in absurd (omega arith)
 name_past_space (b ∷ source) behind n = let h = and_parts (is_name_byte b) (list_all is_name_byte source) (name_run (b ∷ source) n) in no_space_in b h.0
 
-named_text : (n : ℕ) (text : List ℕ) → IsNamed text → IsText (replicate n 32 ++ text)
+named_text : (n : ℕ) (text : List ℕ) → IsNamed text → IsOfGrammar (replicate n 32 ++ text)
 named_text n text named =
     let a : AreItems named.behind = named.items in
     (named.source, a.0, a.1, record { spaces = n; behind = named.behind; is = ap (λ t. replicate n 32 ++ t) named.is; name = named.name; items = a.2 })
 
-text_named : (run text : List ℕ) → list_all (has class.Space) run ≡ true → IsPast (has class.Space) text → IsText (run ++ text) → IsNamed text
+text_named : (run text : List ℕ) → list_all (has class.Space) run ≡ true → IsPast (has class.Space) text → IsOfGrammar (run ++ text) → IsNamed text
 text_named run text all past t =
-    let w : Written (run ++ text) t.0 t.1 t.2 = t.3 in
+    let w : SpellsExpression (run ++ text) t.0 t.1 t.2 = t.3 in
     let s : SameRun run (replicate w.spaces 32) text (t.0 ++ w.behind) = same_run (has class.Space) run (replicate w.spaces 32) text (t.0 ++ w.behind) all (all_spaces w.spaces) past (name_past_space t.0 w.behind w.name) w.is in
     record { source = t.0; behind = w.behind; is = s.rest; name = w.name; items = (t.1, t.2, w.items) }
 
-named_halts : (run text rest place : List ℕ) → TakesRun (has class.Space) run text rest → HaltsAt IsNamed rest place → HaltsAt IsText text place
-named_halts run text rest place t h = rw t.is (halts_behind IsText IsNamed run rest place
-    (λ u n. subst (λ r. IsText (r ++ u)) (sym (spaces_are run t.each)) (named_text (length run) u n))
+named_halts : (run text rest place : List ℕ) → TakesRun (has class.Space) run text rest → HaltsAt IsNamed rest place → HaltsAt IsOfGrammar text place
+named_halts run text rest place t h = rw t.is (halts_behind IsOfGrammar IsNamed run rest place
+    (λ u n. subst (λ r. IsOfGrammar (r ++ u)) (sym (spaces_are run t.each)) (named_text (length run) u n))
     (λ u n w. text_named run u t.each (past_alike (has class.Space) u rest n t.past) w)
     h)
 
-pub source_halts : (run text rest place : List ℕ) → TakesRun (has class.Space) run text rest → HaltsInWord wanted.Name rest place → HaltsAt IsText text place
+pub source_halts : (run text rest place : List ℕ) → TakesRun (has class.Space) run text rest → HaltsInWord wanted.Name rest place → HaltsAt IsOfGrammar text place
 source_halts run text rest place t h = named_halts run text rest place t (name_halts rest place h)
 
-pub behind_halts : (run source text rest behind place : List ℕ) → TakesRun (has class.Space) run text rest → TakesWord wanted.Name source rest behind → HaltsAt AreItems behind place → HaltsAt IsText text place
+pub behind_halts : (run source text rest behind place : List ℕ) → TakesRun (has class.Space) run text rest → TakesWord wanted.Name source rest behind → HaltsAt AreItems behind place → HaltsAt IsOfGrammar text place
 behind_halts run source text rest behind place t w h = named_halts run text rest place t (items_halt source rest behind place w h)
 
 -- ---- what is read
 
-pub text_read : (run text rest behind : List ℕ) (e : Expression) (kept : List ParamValue) (steps : List ExprStep) → TakesRun (has class.Space) run text rest → TakesWord wanted.Name e.source rest behind → AreRead behind [] kept steps → e.params ≡ kept → e.steps ≡ steps → IsWrittenAs text e
+pub text_read : (run text rest behind : List ℕ) (e : Expression) (kept : List ParamValue) (steps : List ExprStep) → TakesRun (has class.Space) run text rest → TakesWord wanted.Name e.source rest behind → ReadsItems behind [] kept steps → e.params ≡ kept → e.steps ≡ steps → IsWrittenAs text e
 text_read run text rest behind e kept steps t w a params_are steps_are =
     let written : List ParamValue = a.written in
     let items : Items behind written steps = rw (append-nil, append-nil) at (a.reads [] [] no_more) in
@@ -111,7 +111,7 @@ text_read run text rest behind e kept steps t w a params_are steps_are =
 -- ---- the place of a fault
 
 -- fewer bytes of a front are one
-front_of : (done more : List ℕ) (n : ℕ) → IsText (done ++ more) → IsFront (take n done)
+front_of : (done more : List ℕ) (n : ℕ) → IsOfGrammar (done ++ more) → IsFront (take n done)
 front_of done more n t =
     let joined : take n done ++ (drop n done ++ more) ≡ done ++ more = sym (append_assoc (take n done) (drop n done) more) ∙ ap (λ x. x ++ more) (take-append-drop n done) in
     record { more = drop n done ++ more; source = t.0; params = t.1; steps = t.2; written = rw joined t.3 }
@@ -122,12 +122,12 @@ one_more (x ∷ done) b rest =
     let n : length (x ∷ done) + 1 ≡ suc (length done + 1) = omega arith in
     ap (λ k. take k (x ∷ (done ++ b ∷ rest))) n ∙ ap (λ t. x ∷ t) (one_more done b rest)
 
-not_front : (done : List ℕ) (b : ℕ) (rest : List ℕ) → ((behind : List ℕ) → next behind ≡ Some b → IsText (done ++ behind) → ⊥) → IsFront (take (length done + 1) (done ++ b ∷ rest)) → ⊥
+not_front : (done : List ℕ) (b : ℕ) (rest : List ℕ) → ((behind : List ℕ) → next behind ≡ Some b → IsOfGrammar (done ++ behind) → ⊥) → IsFront (take (length done + 1) (done ++ b ∷ rest)) → ⊥
 not_front done b rest stops f =
     let g : IsFront (done ++ b ∷ []) = subst IsFront (one_more done b rest) f in
     stops (b ∷ g.more) refl (g.source, g.params, g.steps, rw append_assoc at g.written)
 
-fault_behind : (done more place tail : List ℕ) → IsText (done ++ more) → ((behind : List ℕ) → next behind ≡ next place → IsText (done ++ behind) → ⊥) → length (done ++ place) ≤ expression_limit → (0 < length tail → length (done ++ place) ≡ expression_limit) → IsFaultPlace (done ++ (place ++ tail)) (length done + 1)
+fault_behind : (done more place tail : List ℕ) → IsOfGrammar (done ++ more) → ((behind : List ℕ) → next behind ≡ next place → IsOfGrammar (done ++ behind) → ⊥) → length (done ++ place) ≤ expression_limit → (0 < length tail → length (done ++ place) ≡ expression_limit) → IsFaultPlace (done ++ (place ++ tail)) (length done + 1)
 fault_behind done more place tail goes stops short full =
     let l : length (done ++ place) ≡ length done + length place = length-append done place in
     record {
@@ -137,7 +137,7 @@ fault_behind done more place tail goes stops short full =
       there = at place tail stops short full;
     }
   where
-    at : (place tail : List ℕ) → ((behind : List ℕ) → next behind ≡ next place → IsText (done ++ behind) → ⊥) → length (done ++ place) ≤ expression_limit → (0 < length tail → length (done ++ place) ≡ expression_limit) → IsStop (done ++ (place ++ tail)) (length done + 1)
+    at : (place tail : List ℕ) → ((behind : List ℕ) → next behind ≡ next place → IsOfGrammar (done ++ behind) → ⊥) → length (done ++ place) ≤ expression_limit → (0 < length tail → length (done ++ place) ≡ expression_limit) → IsStop (done ++ (place ++ tail)) (length done + 1)
     at (b ∷ place) tail stops short full =
         let l : length (done ++ (b ∷ (place ++ tail))) ≡ length done + length (b ∷ (place ++ tail)) = length-append done (b ∷ (place ++ tail)) in
         no_front (omega arith) (not_front done b (place ++ tail) stops)
@@ -148,7 +148,7 @@ fault_behind done more place tail goes stops short full =
         let f : length (done ++ []) ≡ expression_limit = full (omega arith) in
         past_limit (omega arith) (omega arith)
 
-fault_at : (counted tail place : List ℕ) → HaltsAt IsText counted place → length counted ≤ expression_limit → (0 < length tail → length counted ≡ expression_limit) → IsFaultPlace (counted ++ tail) (length counted - length place + 1)
+fault_at : (counted tail place : List ℕ) → HaltsAt IsOfGrammar counted place → length counted ≤ expression_limit → (0 < length tail → length counted ≡ expression_limit) → IsFaultPlace (counted ++ tail) (length counted - length place + 1)
 fault_at counted tail place h short full =
     let done : List ℕ = h.done in
     let is : counted ≡ done ++ place = h.is in
@@ -168,7 +168,7 @@ first_bytes text n is = elim (cases_lt expression_limit (length text)) [
 pub first_read : (text : List ℕ) (n : ℕ) (e : Expression) → n ≡ min (length text) expression_limit → IsWrittenAs (take n text) e → IsWrittenAs (take expression_limit text) e
 first_read text n e is w = subst (λ t. IsWrittenAs t e) (first_bytes text n is) w
 
-pub fault_first : (text place : List ℕ) (n left : ℕ) → n ≡ min (length text) expression_limit → left ≡ length place → HaltsAt IsText (take n text) place → IsFaultPlace text (length (take n text) - left + 1)
+pub fault_first : (text place : List ℕ) (n left : ℕ) → n ≡ min (length text) expression_limit → left ≡ length place → HaltsAt IsOfGrammar (take n text) place → IsFaultPlace text (length (take n text) - left + 1)
 fault_first text place n left is left_is h =
     let taken : length (take n text) ≡ min n (length text) = length-take n text in
     let behind : length (drop n text) ≡ length text - n = length-drop n text in
@@ -194,4 +194,4 @@ goes_on text e w long =
 pub whole_read : (text : List ℕ) (e : Expression) → IsWrittenAs (take expression_limit text) e → length text ≤ expression_limit → ExpressionText text e
 whole_read text e w short =
     let all : take expression_limit text ≡ text = take_all expression_limit text short in
-    record { params = w.params; written = subst (λ t. Written t e.source w.params e.steps) all w.written; kept = w.kept; short = short }
+    record { params = w.params; written = subst (λ t. SpellsExpression t e.source w.params e.steps) all w.written; kept = w.kept; short = short }

@@ -10,6 +10,6 @@ pub record IsEmpty (found : Found) : Type 0 where
   pub no_steps : found.steps ≡ []
 
 -- The item was put behind those before.
-abbrev pub Puts : Item → Found → Found → Type 0
-Puts (Param p) old new = KeepsOne p old.params.items new.params.items × (new.steps ≡ old.steps)
-Puts (Step s) old new = (new.params.items ≡ old.params.items) × (new.steps ≡ old.steps ++ s ∷ [])
+abbrev pub PutsItem : Item → Found → Found → Type 0
+PutsItem (Param p) old new = KeepsOne p old.params.items new.params.items × (new.steps ≡ old.steps)
+PutsItem (Step s) old new = (new.params.items ≡ old.params.items) × (new.steps ≡ old.steps ++ s ∷ [])

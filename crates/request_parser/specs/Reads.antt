@@ -4,7 +4,7 @@ use Rattle.object_values.specs.declared.nodes.ParamValue.{ParamValue}
 use Rattle.object_values.specs.declared.expressions.ExprStep.{ExprStep}
 use Rattle.object_values.specs.declared.expressions.Expression.{Expression}
 use Rattle.meaning_texts.specs.Classes.{is_value_byte, IsParamValue}
-use Rattle.meaning_texts.specs.Expressions.{Items, Written, AreKeptAs}
+use Rattle.meaning_texts.specs.Expressions.{Items, SpellsExpression, AreKeptAs}
 use Rattle.request_parser.specs.Runs.{next, IsPast}
 use Rattle.request_parser.specs.declared.cursor.Stop.{Stop}
 use Rattle.request_parser.specs.declared.cursor.Stop.TheVariants.{Unexpected, Memory}
@@ -67,7 +67,7 @@ pub record ReadsItem (item : Item) (text rest : List ℕ) : Type 0 where
   pub shorter : length rest < length text
 
 -- Items were read up to the rest, and are kept so.
-pub record AreRead (text rest : List ℕ) (kept : List ParamValue) (steps : List ExprStep) : Type 0 where
+pub record ReadsItems (text rest : List ℕ) (kept : List ParamValue) (steps : List ExprStep) : Type 0 where
   pub written : List ParamValue
   pub are_kept : AreKeptAs written kept
   pub reads : (more : List ParamValue) (behind : List ExprStep) → Items rest more behind
@@ -77,13 +77,13 @@ pub record AreRead (text rest : List ℕ) (kept : List ParamValue) (steps : List
 -- ---- texts
 
 -- a text of the grammar, of any length
-abbrev pub IsText : List ℕ → Type 0
-IsText text =
+abbrev pub IsOfGrammar : List ℕ → Type 0
+IsOfGrammar text =
     (source : List ℕ) × (params : List ParamValue) × (steps : List ExprStep)
-    × Written text source params steps
+    × SpellsExpression text source params steps
 
 -- The expression of a text of any length.
 pub record IsWrittenAs (text : List ℕ) (e : Expression) : Type 0 where
   pub params : List ParamValue
-  pub written : Written text e.source params e.steps
+  pub written : SpellsExpression text e.source params e.steps
   pub kept : AreKeptAs params e.params

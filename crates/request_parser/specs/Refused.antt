@@ -5,6 +5,6 @@ use Rattle.request_parser.specs.declared.fault.ExpressionFault.{ExpressionFault}
 use Rattle.request_parser.specs.declared.fault.ExpressionFault.TheVariants.{BadAt, Memory}
 
 -- the place is that of the text's fault; want of memory says nothing of the text
-abbrev pub IsRefusal : List ℕ → ExpressionFault → Type 0
-IsRefusal text (BadAt place) = IsFaultPlace text place
-IsRefusal text Memory = ⊤
+abbrev pub IsExpressionRefusal : List ℕ → ExpressionFault → Type 0
+IsExpressionRefusal text (BadAt place) = IsFaultPlace text place
+IsExpressionRefusal text Memory = ⊤

@@ -18,10 +18,10 @@ has class.Key b = is_key_byte b
 has class.Value b = is_value_byte b
 
 -- the bytes of a word
-abbrev pub class_of : Wanted → Class
-class_of wanted.Name = class.Name
-class_of wanted.Id = class.Key
-class_of wanted.Key = class.Key
+abbrev pub word_class_of : Wanted → Class
+word_class_of wanted.Name = class.Name
+word_class_of wanted.Id = class.Key
+word_class_of wanted.Key = class.Key
 
 -- a run of its bytes begins with one that a word may begin with
 abbrev pub begins : Wanted → List ℕ → Bool
@@ -30,10 +30,10 @@ begins wanted.Name (b ∷ rest) = true
 begins wanted.Id (b ∷ rest) = begins_with_letter (b ∷ rest)
 begins wanted.Key (b ∷ rest) = true
 
-abbrev pub IsOf : Wanted → List ℕ → Type 0
-IsOf wanted.Name = IsName
-IsOf wanted.Id = IsId
-IsOf wanted.Key = IsKey
+abbrev pub IsWantedWord : Wanted → List ℕ → Type 0
+IsWantedWord wanted.Name = IsName
+IsWantedWord wanted.Id = IsId
+IsWantedWord wanted.Key = IsKey
 
 -- ---- what comes next
 
@@ -56,15 +56,15 @@ pub record TakesRun (test : ℕ → Bool) (run text rest : List ℕ) : Type 0 wh
   pub past : IsPast test rest
 
 -- what an answer whether the byte was taken says
-abbrev pub Skips : Bool → ℕ → List ℕ → List ℕ → Type 0
-Skips true b text rest = text ≡ b ∷ rest
-Skips false b text rest = (rest ≡ text) × (next text ≡ Some b → ⊥)
+abbrev pub SkipsByte : Bool → ℕ → List ℕ → List ℕ → Type 0
+SkipsByte true b text rest = text ≡ b ∷ rest
+SkipsByte false b text rest = (rest ≡ text) × (next text ≡ Some b → ⊥)
 
 -- The longest word of the class was taken.
 pub record TakesWord (wanted : Wanted) (word text rest : List ℕ) : Type 0 where
   pub is : text ≡ word ++ rest
-  pub of : IsOf wanted word
-  pub past : IsPast (has (class_of wanted)) rest
+  pub of : IsWantedWord wanted word
+  pub past : IsPast (has (word_class_of wanted)) rest
 
 -- ---- where no word is
 
@@ -74,9 +74,9 @@ pub record HaltsInWord (wanted : Wanted) (text place : List ℕ) : Type 0 where
   pub done : List ℕ
   pub more : List ℕ
   pub is : text ≡ done ++ place
-  pub goes : IsOf wanted (done ++ more)
+  pub goes : IsWantedWord wanted (done ++ more)
   pub stops : (behind word rest : List ℕ) → next behind ≡ next place
-      → done ++ behind ≡ word ++ rest → IsOf wanted word → IsPast (has (class_of wanted)) rest → ⊥
+      → done ++ behind ≡ word ++ rest → IsWantedWord wanted word → IsPast (has (word_class_of wanted)) rest → ⊥
 
 -- what a word that wasn't read says of the place; nothing at want of memory
 abbrev pub InWord : Stop → Wanted → List ℕ → List ℕ → Type 0

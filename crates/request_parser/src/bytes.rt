@@ -1,6 +1,6 @@
 // Classes of bytes, of which runs are taken, and of words.
 ghost use Rattle.std.specs.Prelude.{◌≡◌};
-ghost use Rattle.request_parser.specs.Runs.{has, class_of, begins};
+ghost use Rattle.request_parser.specs.Runs.{has, word_class_of, begins};
 
 use odin_bytes::{is_key_byte, is_name_byte, is_value_byte};
 
@@ -37,7 +37,7 @@ impl Class {
 impl Wanted {
     /// Of which bytes such a word is.
     pub(crate) fn class(self) -> Class
-        ensures { result ≡ class_of self }
+        ensures { result ≡ word_class_of self }
     {
         match self {
             Wanted::Name => Class::Name,

@@ -2,7 +2,7 @@
 ghost use Rattle.std.specs.Prelude.{◌≡◌, ◌↔◌, ◌≤◌, [], length, take, drop, position, not, true, IsTrue, IfOk, IfErr};
 ghost use Rattle.std.specs.List.{list_all};
 ghost use Rattle.meaning_texts.specs.Limits.{word_limit};
-ghost use Rattle.request_parser.specs.Runs.{has, IsPast, TakesRun, Skips, TakesWord, HaltsBefore};
+ghost use Rattle.request_parser.specs.Runs.{has, IsPast, TakesRun, SkipsByte, TakesWord, HaltsBefore};
 
 use crate::bytes::{Class, Wanted};
 use object_values::{Bytes, Memory, WORD_LIMIT};
@@ -63,7 +63,7 @@ impl<'t> Cursor<'t> {
 
     /// Takes this byte, where it comes next.
     pub(crate) fn skip(&mut self, byte: u8) -> bool
-        ensures { Skips result byte self.old self.new }
+        ensures { SkipsByte result byte self.old self.new }
     {
         match self.rest.split_first() {
             Some((first, behind)) if *first == byte => {

@@ -1,8 +1,8 @@
 // The items of an expression: its parameters and its steps.
 ghost use Rattle.std.specs.Prelude.{◌≡◌, ◌≢◌, ◌∷◌, [], Some, IfOk, IfErr, OnOk};
 ghost use Rattle.request_parser.specs.Runs.{next};
-ghost use Rattle.request_parser.specs.Reads.{AreItems, AreItemsBehind, HaltsIn, TakesValue, ReadsItem, AreRead};
-ghost use Rattle.request_parser.specs.Found.{Puts, IsEmpty};
+ghost use Rattle.request_parser.specs.Reads.{AreItems, AreItemsBehind, HaltsIn, TakesValue, ReadsItem, ReadsItems};
+ghost use Rattle.request_parser.specs.Found.{PutsItem, IsEmpty};
 
 use crate::bytes::{Class, Wanted};
 use crate::cursor::{Cursor, Stop};
@@ -47,7 +47,7 @@ impl Found {
     }
 
     fn put(&mut self, item: Item) -> Result<(), Memory>
-        ensures { OnOk result (Puts item self.old self.new) }
+        ensures { OnOk result (PutsItem item self.old self.new) }
     {
         match item {
             Item::Param(param) => keep(&mut self.params, param),
@@ -59,7 +59,7 @@ impl Found {
 impl<'t> Cursor<'t> {
     /// All items up to the end.
     pub(crate) fn items(&mut self, alloc: Global) -> Result<Found, Stop>
-        ensures ok { IfOk result (λ found. AreRead self.old [] found.params.items found.steps) }
+        ensures ok { IfOk result (λ found. ReadsItems self.old [] found.params.items found.steps) }
         ensures err { IfErr result (HaltsIn AreItems self.old self.new) }
     {
         let mut found = Found {
@@ -72,7 +72,7 @@ impl<'t> Cursor<'t> {
 
     fn read_items(&mut self, alloc: Global, found: &mut Found) -> Result<(), Stop>
         requires { IsEmpty found.old }
-        ensures ok { OnOk result (AreRead self.old [] found.new.params.items found.new.steps) }
+        ensures ok { OnOk result (ReadsItems self.old [] found.new.params.items found.new.steps) }
         ensures err { IfErr result (HaltsIn AreItems self.old self.new) }
     {
         self.run(Class::Space);

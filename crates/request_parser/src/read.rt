@@ -2,8 +2,8 @@
 ghost use Rattle.std.specs.Prelude.{◌≡◌, ◌≤◌, ◌+◌, ◌-◌, length, take, IfOk, IfErr};
 ghost use Rattle.meaning_texts.specs.Limits.{expression_limit};
 ghost use Rattle.meaning_texts.specs.Expressions.{ExpressionText};
-ghost use Rattle.request_parser.specs.Reads.{HaltsIn, IsText, IsWrittenAs};
-ghost use Rattle.request_parser.specs.Refused.{IsRefusal};
+ghost use Rattle.request_parser.specs.Reads.{HaltsIn, IsOfGrammar, IsWrittenAs};
+ghost use Rattle.request_parser.specs.Refused.{IsExpressionRefusal};
 
 use crate::bytes::{Class, Wanted};
 use crate::cursor::{Cursor, Stop};
@@ -14,7 +14,7 @@ use std::alloc::Global;
 /// The expression of a text. Of a longer text only the first 1,000 bytes are read.
 pub fn read_expression(alloc: Global, text: &[u8]) -> Result<Expression, ExpressionFault>
     ensures ok { IfOk result (ExpressionText text.now) }
-    ensures err { IfErr result (IsRefusal text.now) }
+    ensures err { IfErr result (IsExpressionRefusal text.now) }
 {
     let counted = &text[..text.len().min(EXPRESSION_LIMIT)];
     let mut cursor = Cursor::new(counted);
@@ -40,7 +40,7 @@ fn place_before(left: usize, counted: &[u8]) -> u32
 fn within_limit(text: &[u8], expression: Expression) -> Result<Expression, ExpressionFault>
     requires { IsWrittenAs (take expression_limit text.now) expression }
     ensures ok { IfOk result (ExpressionText text.now) }
-    ensures err { IfErr result (IsRefusal text.now) }
+    ensures err { IfErr result (IsExpressionRefusal text.now) }
 {
     if text.len() > EXPRESSION_LIMIT {
         return Err(ExpressionFault::BadAt(EXPRESSION_LIMIT as u32 + 1));
@@ -52,7 +52,7 @@ impl<'t> Cursor<'t> {
     /// The expression that all bytes that are left are.
     fn expression(&mut self, alloc: Global) -> Result<Expression, Stop>
         ensures ok { IfOk result (IsWrittenAs self.old) }
-        ensures err { IfErr result (HaltsIn IsText self.old self.new) }
+        ensures err { IfErr result (HaltsIn IsOfGrammar self.old self.new) }
     {
         self.run(Class::Space);
         let source = self.word(alloc, Wanted::Name)?;

@@ -13,7 +13,7 @@ use Rattle.odin_journal.specs.declared.fault.JournalFault.TheVariants as fault
 use Rattle.odin_store.specs.declared.store.Store.{Store}
 use Rattle.odin_store.specs.Held.{Held, Change, puts, drops}
 use Rattle.odin_store.specs.OnDisk.{IsSame}
-use Rattle.odin_store.specs.Going.{Goes, ChangesFollow}
+use Rattle.odin_store.specs.Going.{Performs, ChangesFollow}
 use Rattle.odin_store.specs.Edited.{HasPut, HasDropped}
 use Rattle.source_edits.specs.Changes.{source_changes, edit_changes, EditsSource, PutsSource, HasFailedToPut}
 
@@ -66,8 +66,8 @@ same_store store disk = record { disk_is = refl; store_is = record { journal = r
 
 module _ {Disk : Type 0} (told : Disk → Telling) where
   goes_as : (name : Text) (store next : Store) (disk after : Disk) (changes : List Change) → edit_changes name store.sources.texts next.sources.texts ≡ changes → next.epoch ≡ store.epoch + length changes
-      → Goes told changes store next disk after → EditsSource told name store next disk after
-  goes_as name store next disk after changes are epoch goes = record { goes = subst (λ c. Goes told c store next disk after) (sym are) goes; epoch = subst (λ c. next.epoch ≡ store.epoch + length c) (sym are) epoch }
+      → Performs told changes store next disk after → EditsSource told name store next disk after
+  goes_as name store next disk after changes are epoch goes = record { goes = subst (λ c. Performs told c store next disk after) (sym are) goes; epoch = subst (λ c. next.epoch ≡ store.epoch + length c) (sym are) epoch }
 
   none_edited : ChangesFollow told → (name : Text) (store : Store) (disk : Disk) → EditsSource told name store store disk disk
   none_edited law name store disk =

@@ -10,8 +10,8 @@ use Rattle.odin_journal.specs.declared.fault.JournalFault.{JournalFault}
 use Rattle.odin_journal.specs.declared.fault.JournalFault.TheVariants as fault
 use Rattle.odin_store.specs.declared.store.Store.{Store}
 use Rattle.odin_store.specs.Held.{Change, puts, drops}
-use Rattle.odin_store.specs.OnDisk.{IsOpen, IsSame}
-use Rattle.odin_store.specs.Going.{Goes}
+use Rattle.odin_store.specs.OnDisk.{StoreIsOpen, IsSame}
+use Rattle.odin_store.specs.Going.{Performs}
 use Rattle.odin_store.specs.Edited.{HasFailed}
 
 -- ---- changes
@@ -29,7 +29,7 @@ edit_changes name old new = source_changes name (get old name) (get new name)
 
 -- The store went by the change of this source, where it changed at all, and its epoch rose by as much.
 pub record EditsSource {Disk : Type 0} (told : Disk → Telling) (name : Text) (store next : Store) (disk after : Disk) : Type 0 where
-  pub goes : Goes told (edit_changes name store.sources.texts next.sources.texts) store next disk after
+  pub goes : Performs told (edit_changes name store.sources.texts next.sources.texts) store next disk after
   pub epoch : next.epoch ≡ store.epoch + length (edit_changes name store.sources.texts next.sources.texts)
 
 -- And the source has this text now.
@@ -41,13 +41,13 @@ pub record PutsSource {Disk : Type 0} (told : Disk → Telling) (name text : Tex
 
 -- The store can be changed, and behind a count that a text may have stands no longer text.
 pub record MayPutCounted (store : Store) (size count : ℕ) (text : Text) : Type 0 where
-  pub ready : IsOpen store size
+  pub ready : StoreIsOpen store size
   pub counted : count ≤ body_limit → length text ≤ body_limit
 
 -- ---- faults
 
 -- Memory was wanting, and all is as it was.
-pub record IsWanting {Disk : Type 0} (store next : Store) (disk after : Disk) (given : JournalFault) : Type 0 where
+pub record EditIsOutOfMemory {Disk : Type 0} (store next : Store) (disk after : Disk) (given : JournalFault) : Type 0 where
   pub is : given ≡ fault.Memory
   pub same : IsSame store next disk after
 
@@ -59,17 +59,17 @@ pub record FailsToPut {Disk : Type 0} (told : Disk → Telling) (IsIt : Text →
 
 -- Nothing was done, or such a text was to be put.
 abbrev pub HasFailedToPut : {Disk : Type 0} → (Disk → Telling) → (Text → Type 0) → Text → Store → Store → Disk → Disk → JournalFault → Type 0
-HasFailedToPut told IsIt name store next disk after given = IsWanting store next disk after given ⊎ FailsToPut told IsIt name store next disk after given
+HasFailedToPut told IsIt name store next disk after given = EditIsOutOfMemory store next disk after given ⊎ FailsToPut told IsIt name store next disk after given
 
 -- ---- the texts that an edit puts, which are never too long
 
 -- the bytes behind a `put`, where so many are a text
-abbrev pub IsPut : ℕ → Text → Text → Type 0
-IsPut count text given = (count ≤ body_limit) × (given ≡ text)
+abbrev pub IsPutText : ℕ → Text → Text → Type 0
+IsPutText count text given = (count ≤ body_limit) × (given ≡ text)
 
 -- the text of a file
-abbrev pub IsTaken : Option Text → Text → Type 0
-IsTaken file given = (length given ≤ body_limit) × (file ≡ Some given)
+abbrev pub IsTakenText : Option Text → Text → Type 0
+IsTakenText file given = (length given ≤ body_limit) × (file ≡ Some given)
 
 -- the text of a file that the tree may give
 abbrev pub MayBeTaken : Option Files → Text → Text → Type 0

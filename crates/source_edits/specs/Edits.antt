@@ -7,10 +7,10 @@ use Rattle.odin_outside.specs.Files.{Files, IsGiven}
 use Rattle.meaning_texts.specs.Limits.{body_limit}
 use Rattle.meaning_commands.specs.declared.replies.Reply.{Reply}
 use Rattle.meaning_commands.specs.declared.replies.Reply.TheVariants as reply
-use Rattle.meaning_commands.specs.Replies.{counted, reply_text}
+use Rattle.meaning_commands.specs.Replies.{word_and_number, reply_text}
 
 -- the bytes are those of a reply of which this holds
-pub record Says (P : Reply → Type 0) (bytes : List ℕ) : Type 0 where
+pub record SaysReply (P : Reply → Type 0) (bytes : List ℕ) : Type 0 where
   pub said : Reply
   pub bytes_are : bytes ≡ reply_text said
   pub holds : P said
@@ -24,14 +24,14 @@ pub record IsInserted (old : Texts) (name text : Text) (size : ℕ) (accepted sa
   pub put : new ≡ insert old name text
 
 -- It is longer than a text may be, and nothing changes.
-pub record IsTooLong (old : Texts) (size : ℕ) (said : Reply) (new : Texts) : Type 0 where
+pub record TextIsTooLong (old : Texts) (size : ℕ) (said : Reply) (new : Texts) : Type 0 where
   pub longer : body_limit < size
   pub is : said ≡ reply.RefusedSize
   pub same : new ≡ old
 
 -- the text, of this size, is accepted by this reply or refused by its size
 abbrev pub Inserts : Texts → Text → Text → ℕ → Reply → Reply → Texts → Type 0
-Inserts old name text size accepted said new = IsInserted old name text size accepted said new ⊎ IsTooLong old size said new
+Inserts old name text size accepted said new = IsInserted old name text size accepted said new ⊎ TextIsTooLong old size said new
 
 abbrev pub Puts : Texts → Text → ℕ → Text → Reply → Texts → Type 0
 Puts old name count body said new = Inserts old name body count (reply.Put name count) said new
@@ -53,7 +53,7 @@ pub record TreeStays (start now : TreeTold) : Type 0 where
   pub later : start.faults ≤ now.faults
 
 -- It was asked for one file.
-pub record IsAsked (before now : TreeTold) : Type 0 where
+pub record TreeIsAsked (before now : TreeTold) : Type 0 where
   pub stays : TreeStays before now
   pub once : now.reads ≡ once_more before.reads
 
@@ -92,7 +92,7 @@ Removes old name said new = RemovesText (get old name) old name said new
 
 -- `NAME LEN`
 abbrev pub source_line : Text × Text → List ℕ
-source_line source = counted source.0 (length source.1)
+source_line source = word_and_number source.0 (length source.1)
 
 -- a line for each source, by the bytes of the names
 abbrev pub source_lines : Texts → List (List ℕ)

@@ -1,15 +1,15 @@
 // Commands on sources. The bytes of a reply are made before the change is written.
 ghost use Rattle.std.specs.Prelude.{◌≡◌, IfOk, IfErr, OnOk};
-ghost use Rattle.meaning_commands.specs.Replies.{reply_text, counted};
-ghost use Rattle.odin_journal.specs.Faults.{IsCause};
+ghost use Rattle.meaning_commands.specs.Replies.{reply_text, word_and_number};
+ghost use Rattle.odin_journal.specs.Faults.{JournalFaultIsCounted};
 ghost use Rattle.odin_store.specs.Held.{puts, drops};
-ghost use Rattle.odin_store.specs.OnDisk.{IsLeft, IsOpen};
+ghost use Rattle.odin_store.specs.OnDisk.{StoreAfter, StoreIsOpen};
 ghost use Rattle.odin_store.specs.Changes.{MayPut};
 ghost use Rattle.odin_store.specs.Edited.{HasFailed};
-ghost use Rattle.odin_engine.specs.Engaged.{Stays};
+ghost use Rattle.odin_engine.specs.Engaged.{GraphStays};
 ghost use Rattle.source_edits.specs.Edits as edits;
-ghost use Rattle.source_edits.specs.Changes.{EditsSource, HasFailedToPut, IsPut, IsTaken, MayBeTaken, MayPutCounted, PutsSource};
-ghost use Rattle.source_edits.specs.Edits.{Says, IsAsked, tree_of};
+ghost use Rattle.source_edits.specs.Changes.{EditsSource, HasFailedToPut, IsPutText, IsTakenText, MayBeTaken, MayPutCounted, PutsSource};
+ghost use Rattle.source_edits.specs.Edits.{SaysReply, TreeIsAsked, tree_of};
 
 use object_sources::Sources;
 use object_values::{BODY_LIMIT, Bytes, Memory, Seq, Text};
@@ -45,9 +45,9 @@ fn set_text<D: Disk>(
         engine.old.store engine.new.store disk.old disk.new) }
     ensures err { IfErr result (HasFailed D.told (puts name.now text)
         engine.old.store engine.new.store disk.old disk.new) }
-    ensures stays { Stays engine.old engine.new }
-    ensures left { IsLeft engine.new.store (D.size_of disk.new) result }
-    ensures cause { IsCause (D.faults disk.old) (D.faults disk.new) result }
+    ensures stays { GraphStays engine.old engine.new }
+    ensures left { StoreAfter engine.new.store (D.size_of disk.new) result }
+    ensures cause { JournalFaultIsCounted (D.faults disk.old) (D.faults disk.new) result }
 {
     let text = Text::of(text)?;
     let _ = engine.put(alloc, disk, name, &text)?;
@@ -66,14 +66,14 @@ pub fn put<D: Disk>(
     requires { MayPutCounted engine.old.store (D.size_of disk.old) count text }
     ensures says { let old = engine.old.store.sources.texts in
         let new = engine.new.store.sources.texts in
-        IfOk result (Says (λ said. edits.Puts old name count text said new)) }
+        IfOk result (SaysReply (λ said. edits.Puts old name count text said new)) }
     ensures ok { OnOk result
         (EditsSource D.told name engine.old.store engine.new.store disk.old disk.new) }
-    ensures err { IfErr result (HasFailedToPut D.told (IsPut count text) name
+    ensures err { IfErr result (HasFailedToPut D.told (IsPutText count text) name
         engine.old.store engine.new.store disk.old disk.new) }
-    ensures stays { Stays engine.old engine.new }
-    ensures left { IsLeft engine.new.store (D.size_of disk.new) result }
-    ensures cause { IsCause (D.faults disk.old) (D.faults disk.new) result }
+    ensures stays { GraphStays engine.old engine.new }
+    ensures left { StoreAfter engine.new.store (D.size_of disk.new) result }
+    ensures cause { JournalFaultIsCounted (D.faults disk.old) (D.faults disk.new) result }
 {
     changes_follow::<D>();
     if count > TEXT_LIMIT {
@@ -101,17 +101,17 @@ fn take_file<D: Disk>(
     name: Name,
     file: Option<Bytes>,
 ) -> Result<Bytes, StoreFault>
-    requires { IsOpen engine.old.store (D.size_of disk.old) }
+    requires { StoreIsOpen engine.old.store (D.size_of disk.old) }
     ensures says { let old = engine.old.store.sources.texts in
         let new = engine.new.store.sources.texts in
-        IfOk result (Says (λ said. edits.TakesFile old name file said new)) }
+        IfOk result (SaysReply (λ said. edits.TakesFile old name file said new)) }
     ensures ok { OnOk result
         (EditsSource D.told name engine.old.store engine.new.store disk.old disk.new) }
-    ensures err { IfErr result (HasFailedToPut D.told (IsTaken file) name
+    ensures err { IfErr result (HasFailedToPut D.told (IsTakenText file) name
         engine.old.store engine.new.store disk.old disk.new) }
-    ensures stays { Stays engine.old engine.new }
-    ensures left { IsLeft engine.new.store (D.size_of disk.new) result }
-    ensures cause { IsCause (D.faults disk.old) (D.faults disk.new) result }
+    ensures stays { GraphStays engine.old engine.new }
+    ensures left { StoreAfter engine.new.store (D.size_of disk.new) result }
+    ensures cause { JournalFaultIsCounted (D.faults disk.old) (D.faults disk.new) result }
 {
     changes_follow::<D>();
     let Some(text) = file else {
@@ -136,21 +136,21 @@ pub fn take<D: Disk, T: Tree>(
     name: Name,
     tree: &mut T,
 ) -> Result<Bytes, StoreFault>
-    requires { IsOpen engine.old.store (D.size_of disk.old) }
+    requires { StoreIsOpen engine.old.store (D.size_of disk.old) }
     ensures says { let old = engine.old.store.sources.texts in
         let new = engine.new.store.sources.texts in
         let told = tree_of T.files T.faults T.reads in
-        IfOk result (Says (λ said.
+        IfOk result (SaysReply (λ said.
         edits.Takes old name (told tree.old) said new (told tree.new))) }
     ensures ok { OnOk result
         (EditsSource D.told name engine.old.store engine.new.store disk.old disk.new) }
     ensures err { IfErr result (HasFailedToPut D.told (MayBeTaken (T.files tree.old) name) name
         engine.old.store engine.new.store disk.old disk.new) }
-    ensures stays { Stays engine.old engine.new }
-    ensures left { IsLeft engine.new.store (D.size_of disk.new) result }
-    ensures cause { IsCause (D.faults disk.old) (D.faults disk.new) result }
+    ensures stays { GraphStays engine.old engine.new }
+    ensures left { StoreAfter engine.new.store (D.size_of disk.new) result }
+    ensures cause { JournalFaultIsCounted (D.faults disk.old) (D.faults disk.new) result }
     ensures asked { let told = tree_of T.files T.faults T.reads in
-        IsAsked (told tree.old) (told tree.new) }
+        TreeIsAsked (told tree.old) (told tree.new) }
 {
     changes_follow::<D>();
     match tree.read(alloc, name.as_slice()) {
@@ -167,17 +167,17 @@ pub fn remove<D: Disk>(
     disk: &mut D,
     name: Name,
 ) -> Result<Bytes, StoreFault>
-    requires { IsOpen engine.old.store (D.size_of disk.old) }
+    requires { StoreIsOpen engine.old.store (D.size_of disk.old) }
     ensures says { let old = engine.old.store.sources.texts in
         let new = engine.new.store.sources.texts in
-        IfOk result (Says (λ said. edits.Removes old name said new)) }
+        IfOk result (SaysReply (λ said. edits.Removes old name said new)) }
     ensures ok { OnOk result
         (EditsSource D.told name engine.old.store engine.new.store disk.old disk.new) }
     ensures err { IfErr result (HasFailed D.told (drops name)
         engine.old.store engine.new.store disk.old disk.new) }
-    ensures stays { Stays engine.old engine.new }
-    ensures left { IsLeft engine.new.store (D.size_of disk.new) result }
-    ensures cause { IsCause (D.faults disk.old) (D.faults disk.new) result }
+    ensures stays { GraphStays engine.old engine.new }
+    ensures left { StoreAfter engine.new.store (D.size_of disk.new) result }
+    ensures cause { JournalFaultIsCounted (D.faults disk.old) (D.faults disk.new) result }
 {
     changes_follow::<D>();
     if engine.store().sources().get(name.as_slice()).is_none() {
@@ -191,7 +191,7 @@ pub fn remove<D: Disk>(
 
 // `NAME LEN`.
 fn source_line(alloc: Global, name: &[u8], size: usize) -> Result<Bytes, Memory>
-    ensures { IfOk result (λ line. line ≡ counted name.now size) }
+    ensures { IfOk result (λ line. line ≡ word_and_number name.now size) }
 {
     let mut line = Bytes::from_slice(alloc, name)?;
     line.push(b' ')?;

@@ -1,7 +1,7 @@
 // Contents: the record of a value, as bytes with their length.
 ghost use Rattle.std.specs.Prelude.{◌≡◌, ◌++◌, OnOk, IfOk, IfSome, IfNone};
 ghost use Rattle.object_values.specs.declared.views.Value.TheVariants.{Simple};
-ghost use Rattle.meaning_records.specs.Forms.{StandsAt, StandsNowhere};
+ghost use Rattle.meaning_records.specs.Forms.{ParsesAt, StandsNowhere};
 ghost use Rattle.meaning_records.specs.Records.{content};
 
 use crate::fields::take_body;
@@ -51,7 +51,7 @@ fn put_other(value: &Value, out: &mut Bytes) -> Result<(), Memory>
 }
 
 pub fn take_content(alloc: Global, from: &[u8], at: usize) -> Result<Option<(Value, usize)>, Memory>
-    ensures some { IfOk result (λ taken. IfSome taken (λ t. StandsAt content from.now at t.1 t.0)) }
+    ensures some { IfOk result (λ taken. IfSome taken (λ t. ParsesAt content from.now at t.1 t.0)) }
     ensures none { IfOk result (λ taken. IfNone taken (StandsNowhere content from.now at)) }
 {
     let Some((start, end)) = take_body(from, at) else {

@@ -1,6 +1,6 @@
 // What has a form in store files.
 ghost use Rattle.std.specs.Prelude.{◌≡◌, ◌++◌, OnOk, IfOk, IfSome, IfNone};
-ghost use Rattle.meaning_records.specs.Forms.{Form, IsOfOneThing, StandsAt, StandsNowhere};
+ghost use Rattle.meaning_records.specs.Forms.{Form, IsOfOneThing, ParsesAt, StandsNowhere};
 
 use object_values::{Bytes, Memory};
 use std::alloc::Global;
@@ -18,7 +18,7 @@ pub trait Recorded: Sized + Drop {
     /// The thing at a place, and the place behind it. `None` exactly where none stands there.
     fn take(alloc: Global, from: &[u8], at: usize) -> Result<Option<(Self, usize)>, Memory>
         ensures some { IfOk result
-            (λ taken. IfSome taken (λ t. StandsAt form from.now at t.1 t.0)) }
+            (λ taken. IfSome taken (λ t. ParsesAt form from.now at t.1 t.0)) }
         ensures none { IfOk result (λ taken. IfNone taken (StandsNowhere form from.now at)) };
 
     /// A spelling is of one thing, and says where it ends.

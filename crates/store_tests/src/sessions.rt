@@ -1,6 +1,6 @@
 // A session of edits and kept calls, with the record that each adds.
 ghost use Rattle.odin_journal.specs.Rest.{IsReady};
-ghost use Rattle.odin_store.specs.OnDisk.{IsLeft};
+ghost use Rattle.odin_store.specs.OnDisk.{StoreAfter};
 
 use crate::given::{Given, call_of, outcome_of, text_of};
 use crate::images::{GRAPH, add_record, begun, disk_of, stands};
@@ -154,7 +154,7 @@ fn change<D: Disk>(
     step: &Step,
 ) -> Result<bool, StoreFault>
     requires { IsReady store.old.journal (D.size_of disk.old) }
-    ensures left { IsLeft store.new (D.size_of disk.new) result }
+    ensures left { StoreAfter store.new (D.size_of disk.new) result }
 {
     match step {
         Step::Put(name, text) => {

@@ -1,6 +1,6 @@
 // Changes of a store, where they may be made.
 ghost use Rattle.odin_journal.specs.Rest.{IsReady};
-ghost use Rattle.odin_store.specs.OnDisk.{IsLeft};
+ghost use Rattle.odin_store.specs.OnDisk.{StoreAfter};
 
 use call_classes::{fits, is_well_formed};
 use object_values::{BODY_LIMIT, Call, Memory, Outcome, Text};
@@ -29,7 +29,7 @@ pub fn put_named<D: Disk>(
     text: &Text,
 ) -> Result<bool, StoreFault>
     requires { IsReady store.old.journal (D.size_of disk.old) }
-    ensures left { IsLeft store.new (D.size_of disk.new) result }
+    ensures left { StoreAfter store.new (D.size_of disk.new) result }
 {
     if text.len() > BODY_LIMIT || store.epoch() > EDITS {
         return Err(StoreFault::Memory);
@@ -46,7 +46,7 @@ pub fn drop_named<D: Disk>(
     name: &[u8],
 ) -> Result<bool, StoreFault>
     requires { IsReady store.old.journal (D.size_of disk.old) }
-    ensures left { IsLeft store.new (D.size_of disk.new) result }
+    ensures left { StoreAfter store.new (D.size_of disk.new) result }
 {
     if store.epoch() > EDITS {
         return Err(StoreFault::Memory);
@@ -64,7 +64,7 @@ pub fn keep<D: Disk>(
     outcome: &Outcome,
 ) -> Result<bool, StoreFault>
     requires { IsReady store.old.journal (D.size_of disk.old) }
-    ensures left { IsLeft store.new (D.size_of disk.new) result }
+    ensures left { StoreAfter store.new (D.size_of disk.new) result }
 {
     if !is_well_formed(call) || !fits(call, outcome) {
         return Ok(false);

@@ -7,13 +7,13 @@ use Rattle.object_values.specs.contracts.nodes.NodePartialEq.TheImpl.{ghosts as 
 use Rattle.object_values.specs.Exact.{node_exact}
 use Rattle.meaning_texts.specs.Lists.{IsIn}
 use Rattle.meaning_tasks.specs.Maps.{HasOnly}
-use Rattle.task_tables.specs.Tables.{Entries, results_of, nodes_of}
+use Rattle.task_tables.specs.Tables.{ViewEntries, table_results, table_nodes}
 
-by_test : (n m : Node) (found view : View) (entries : Entries) → (results_of entries n ≡ Some view → IsIn n (nodes_of entries)) → (b : Bool) → node_eq.eq n m ≡ b
-    → cond b (Some found) (results_of entries n) ≡ Some view → IsIn n (m ∷ nodes_of entries)
+by_test : (n m : Node) (found view : View) (entries : ViewEntries) → (table_results entries n ≡ Some view → IsIn n (table_nodes entries)) → (b : Bool) → node_eq.eq n m ≡ b
+    → cond b (Some found) (table_results entries n) ≡ Some view → IsIn n (m ∷ table_nodes entries)
 by_test n m found view entries below true same h = inl ((node_exact n m).0 same)
 by_test n m found view entries below false same h = inr (below h)
 
-pub only_nodes : (entries : Entries) → HasOnly (results_of entries) (nodes_of entries)
-only_nodes [] n view h = cc
-only_nodes ((m, found) ∷ entries) n view h = by_test n m found view entries (only_nodes entries n view) (node_eq.eq n m) refl h
+pub only_table_nodes : (entries : ViewEntries) → HasOnly (table_results entries) (table_nodes entries)
+only_table_nodes [] n view h = cc
+only_table_nodes ((m, found) ∷ entries) n view h = by_test n m found view entries (only_table_nodes entries n view) (node_eq.eq n m) refl h

@@ -2,7 +2,7 @@
 ghost use Rattle.std.specs.Prelude.{◌≡◌, ◌≢◌, [], IfOk, option_map};
 ghost use Rattle.meaning_nodes.specs.Nodes.{Fits};
 ghost use Rattle.meaning_calls.specs.Outcomes.{outcome_of};
-ghost use Rattle.meaning_tasks.specs.Settle.{Settles, Texts};
+ghost use Rattle.meaning_tasks.specs.Settle.{Settles, SourceLookup};
 ghost use Rattle.path_planner.specs.Ends.{plans_of};
 ghost use Rattle.node_tasks.specs.Needed.{IsNeeded};
 
@@ -29,7 +29,7 @@ pub fn settle_after<R: Results>(
     requires needed { IsNeeded graph.now node.now (R.results seen.now) needed.now }
     requires stepped { node.now.steps ≢ [] }
     ensures { let outcome = option_map (λ c. outcome_of c.now left.now) call.entry in
-        IfOk result (λ view. (texts : Texts) →
+        IfOk result (λ view. (texts : SourceLookup) →
         Settles graph.now texts node.now (R.results seen.now) outcome view) }
 {
     let outcome = outcome_after(alloc, call, left)?;

@@ -1,6 +1,6 @@
 // Results in a table.
 ghost use Rattle.std.specs.Prelude.{◌≡◌, [], OnOk};
-ghost use Rattle.task_tables.specs.Tables.{Puts};
+ghost use Rattle.task_tables.specs.Tables.{PutsView};
 
 use indexmap::IndexMap;
 use node_tasks::Results;
@@ -21,9 +21,9 @@ impl Drop for Table {
 }
 
 impl Model for Table {
-    ghost use Rattle.task_tables.specs.Tables.{Entries};
+    ghost use Rattle.task_tables.specs.Tables.{ViewEntries};
 
-    ghost Value = { Entries };
+    ghost Value = { ViewEntries };
 
     ghost view = { λ t. t.views.entries };
 }
@@ -39,7 +39,7 @@ impl Table {
 
     /// Adds the view of a node, in place of one that it has.
     pub fn put(&mut self, node: Node, view: View) -> Result<(), Memory>
-        ensures { OnOk result (Puts node view self.old self.new) }
+        ensures { OnOk result (PutsView node view self.old self.new) }
     {
         self.views.insert(node, view)?;
         Ok(())
@@ -47,14 +47,14 @@ impl Table {
 }
 
 impl Results for Table {
-    ghost use Rattle.task_tables.specs.Tables.{results_of, nodes_of};
-    ghost use Rattle.task_tables.specs.Finite.{only_nodes};
+    ghost use Rattle.task_tables.specs.Tables.{table_results, table_nodes};
+    ghost use Rattle.task_tables.specs.Finite.{only_table_nodes};
 
-    ghost results = { results_of };
+    ghost results = { table_results };
 
-    ghost nodes = { nodes_of };
+    ghost nodes = { table_nodes };
 
-    ghost finite = { only_nodes };
+    ghost finite = { only_table_nodes };
 
     fn find(&self, node: &Node) -> Option<&View> {
         self.views.get(node)

@@ -16,8 +16,8 @@ abbrev pub begins_with : List ℕ → List ℕ → Bool
 begins_with front line = bytes_eq (take (length front) line) front
 
 -- the line without so many bytes at its front
-abbrev pub behind : List ℕ → List ℕ → List ℕ
-behind front line = drop (length front) line
+abbrev pub line_after : List ℕ → List ℕ → List ℕ
+line_after front line = drop (length front) line
 
 -- ---- files
 
@@ -36,8 +36,8 @@ abbrev pub inputs : List FileBody → List (List ℕ)
 inputs files = map (λ (file : FileBody). file.body) (filter (λ (file : FileBody). is_input_name file.name) files)
 
 -- the lines of the first file of that name, none where there is no such file
-abbrev pub lines_in : List ℕ → List FileBody → List (List ℕ)
-lines_in name files = lines (unwrap_or (file_in name files) [])
+abbrev pub lines_of_file : List ℕ → List FileBody → List (List ℕ)
+lines_of_file name files = lines (unwrap_or (file_in name files) [])
 
 abbrev pub first_input : List ℕ
 first_input = codes "i1"

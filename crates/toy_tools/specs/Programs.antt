@@ -5,16 +5,16 @@ use Rattle.object_values.specs.declared.jobs.End.{End}
 use Rattle.object_values.specs.declared.jobs.End.TheVariants.{Exit, Signal}
 use Rattle.object_values.specs.declared.jobs.FileBody.{FileBody}
 use Rattle.meaning_texts.specs.Lines.{with_lf}
-use Rattle.toy_tools.specs.Inputs.{lines, begins_with, behind, inputs, lines_in, first_input}
+use Rattle.toy_tools.specs.Inputs.{lines, begins_with, line_after, inputs, lines_of_file, first_input}
 
 -- ---- scan
 
 -- what an include line names
 abbrev pub included : List ℕ → List ℕ
-included line = if begins_with (codes "include ") line then with_lf (behind (codes "include ") line) else []
+included line = if begins_with (codes "include ") line then with_lf (line_after (codes "include ") line) else []
 
 abbrev pub scan_output : List FileBody → List ℕ
-scan_output files = flat_map included (lines_in first_input files)
+scan_output files = flat_map included (lines_of_file first_input files)
 
 -- ---- ld
 
@@ -28,15 +28,15 @@ abbrev pub debug_line : List (List ℕ) → List ℕ
 debug_line call = if list_any (begins_with (codes "param debug ")) call then with_lf (codes "debug") else []
 
 -- an include line, a comment or a directive
-abbrev pub is_passed_over : List ℕ → Bool
-is_passed_over line = begins_with (codes "include ") line || begins_with (codes "//") line || begins_with (codes "!") line
+abbrev pub is_not_compiled : List ℕ → Bool
+is_not_compiled line = begins_with (codes "include ") line || begins_with (codes "//") line || begins_with (codes "!") line
 
 abbrev pub compiled : List ℕ → List ℕ
-compiled line = if is_passed_over line then [] else with_lf line
+compiled line = if is_not_compiled line then [] else with_lf line
 
 -- what a comment `//!` says
 abbrev pub warned : List ℕ → List ℕ
-warned line = if begins_with (codes "//!") line then with_lf (behind (codes "//!") line) else []
+warned line = if begins_with (codes "//!") line then with_lf (line_after (codes "//!") line) else []
 
 -- what each line of each input gives
 abbrev pub of_all_lines : (List ℕ → List ℕ) → List FileBody → List ℕ
@@ -60,7 +60,7 @@ abbrev pub warned_file : FileBody → List ℕ
 warned_file file = of_all_lines warned (file ∷ [])
 
 abbrev pub debug_of : List FileBody → List ℕ
-debug_of files = debug_line (lines_in (codes "call") files)
+debug_of files = debug_line (lines_of_file (codes "call") files)
 
 abbrev pub cc_output : List FileBody → List ℕ
 cc_output files = debug_of files ++ compiled_files files
@@ -76,7 +76,7 @@ first_directive [] = []
 first_directive (line ∷ rest) = if begins_with (codes "!") line then line else first_directive rest
 
 abbrev pub directive : List FileBody → List ℕ
-directive files = first_directive (lines_in first_input files)
+directive files = first_directive (lines_of_file first_input files)
 
 -- the number below the bound whose digits are the text, or 0 where there is none
 unfoldable pub number_below : ℕ → List ℕ → ℕ
@@ -84,11 +84,11 @@ number_below zero text = 0
 number_below (suc n) text = if bytes_eq (decimal n) text then n else number_below n text
 
 -- any other directive than `!exit` of a status gives 0
-abbrev pub exit_status : List ℕ → ℕ
-exit_status line = if begins_with (codes "!exit ") line then number_below 256 (behind (codes "!exit ") line) else 0
+abbrev pub directive_status : List ℕ → ℕ
+directive_status line = if begins_with (codes "!exit ") line then number_below 256 (line_after (codes "!exit ") line) else 0
 
 abbrev pub end_of : List ℕ → End
-end_of line = if bytes_eq line (codes "!signal") then Signal else Exit (exit_status line)
+end_of line = if bytes_eq line (codes "!signal") then Signal else Exit (directive_status line)
 
 abbrev pub leaves_output : List ℕ → Bool
 leaves_output line = not (bytes_eq line (codes "!none"))

@@ -39,7 +39,7 @@ fn status_of(text: &[u8]) -> u8
 }
 
 fn exit_status(line: &[u8]) -> u8
-    ensures { result ≡ meaning.exit_status line.now }
+    ensures { result ≡ meaning.directive_status line.now }
 {
     match line.strip_prefix(b"!exit ") {
         Some(text) => status_of(text),

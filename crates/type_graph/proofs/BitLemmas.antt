@@ -8,7 +8,7 @@ use Rattle.std.proofs.lemmas.List.{get_or-set_same, get_or-set_other}
 use Rattle.std.proofs.lemmas.Nat.Bits.{bit_at_or, bit_at-zero, bit_at_set_same, bit_at_set_other}
 use Rattle.meaning_texts.specs.Lists.{IsIn}
 use Rattle.meaning_texts.proofs.Lemmas.{in_either}
-use Rattle.type_graph.specs.Rows.{bit, Has, AreFor, IsOwn, AreApart, Ored, AreLed, Grows, HasAbove, Passes, PassesBelow}
+use Rattle.type_graph.specs.Rows.{bit, Has, AreFor, IsOwn, RowsAreApart, Ored, RowsAreLed, RowsGrow, HasAbove, Passes, PassesBelow}
 use Rattle.type_graph.specs.Walks.{Leads, here, over, AreAllBelow}
 use Rattle.type_graph.proofs.WalkLemmas.{in_one}
 
@@ -29,7 +29,7 @@ same_row a c width i j h k e = elim (cases_lt a c) [
   | inr m ↦ elim (cases_lt c a) [ inl l ↦ absurd (omega (arith, row_below c a width l, h, k, e)) | inr n ↦ omega (arith, m, n) ]
 ]
 
-pub rows_apart : (a c width : ℕ) → AreApart width (a * width) (c * width)
+pub rows_apart : (a c width : ℕ) → RowsAreApart width (a * width) (c * width)
 rows_apart a c width = elim (cases_lt a c) [
   | inl l ↦ inr (inl (row_below a c width l))
   | inr m ↦ elim (cases_lt c a) [ inl l ↦ inr (inr (row_below c a width l)) | inr n ↦ let e : a ≡ c = omega (arith, m, n) in inl (ap (λ r. r * width) e) ]
@@ -49,7 +49,7 @@ none_ored into from words = record { sized = refl; ored = λ k h. absurd (omega 
 below_or_at : (a n : ℕ) → a < n + 1 → (a < n) ⊎ (a ≡ n)
 below_or_at a n h = elim (cases_lt a n) [ inl l ↦ inl l | inr m ↦ inr (omega (arith, h, m)) ]
 
-module _ (width into from k : ℕ) (old words new : List ℕ) (so_far : Ored k into from old words) (apart : AreApart width into from) (below : k < width)
+module _ (width into from k : ℕ) (old words new : List ℕ) (so_far : Ored k into from old words) (apart : RowsAreApart width into from) (below : k < width)
     (long : length new ≡ length words)
     (here : get_or new (into + k) 0 ≡ bit_or (get_or words (into + k) 0) (get_or words (from + k) 0))
     (other : (p : ℕ) → (p ≡ into + k → ⊥) → get_or new p 0 ≡ get_or words p 0) where
@@ -74,14 +74,14 @@ module _ (width into from k : ℕ) (old words new : List ℕ) (so_far : Ored k i
   }
 
 -- a word that is written, and one that stays
-pub ored_new : (width into from k : ℕ) (old words : List ℕ) → Ored k into from old words → AreApart width into from → k < width → into + width ≤ length old
+pub ored_new : (width into from k : ℕ) (old words : List ℕ) → Ored k into from old words → RowsAreApart width into from → k < width → into + width ≤ length old
     → Ored (k + 1) into from old (set words (into + k) (bit_or (get_or words (into + k) 0) (get_or words (from + k) 0)))
 ored_new width into from k old words so_far apart below within =
     let word : ℕ = bit_or (get_or words (into + k) 0) (get_or words (from + k) 0) in
     ored_more width into from k old words (set words (into + k) word) so_far apart below (length-set words (into + k) word)
     (get_or-set_same words (into + k) word 0 (omega (arith, so_far.sized, below, within))) (λ p d. get_or-set_other words (into + k) p word 0 d)
 
-pub ored_old : (width into from k : ℕ) (old words : List ℕ) → Ored k into from old words → AreApart width into from → k < width
+pub ored_old : (width into from k : ℕ) (old words : List ℕ) → Ored k into from old words → RowsAreApart width into from → k < width
     → bit_or (get_or words (into + k) 0) (get_or words (from + k) 0) ≡ get_or words (into + k) 0 → Ored (k + 1) into from old words
 ored_old width into from k old words so_far apart below e = ored_more width into from k old words words so_far apart below refl (sym e) (λ p d. refl)
 
@@ -93,10 +93,10 @@ same_or_other a b = elim (cases_lt a b) [
   | inr m ↦ elim (cases_lt b a) [ inl l ↦ inr (λ e. omega (arith, e, l)) | inr n ↦ inl (omega (arith, m, n)) ]
 ]
 
-pub stays : (supers : List (List ℕ)) (width : ℕ) (words : List ℕ) → Grows supers width words words
+pub stays : (supers : List (List ℕ)) (width : ℕ) (words : List ℕ) → RowsGrow supers width words words
 stays supers width words = record { sized = refl; kept = λ a b h k x. x; led = λ l. l }
 
-pub grows_on : (supers : List (List ℕ)) (width : ℕ) (old words new : List ℕ) → Grows supers width old words → Grows supers width words new → Grows supers width old new
+pub grows_on : (supers : List (List ℕ)) (width : ℕ) (old words new : List ℕ) → RowsGrow supers width old words → RowsGrow supers width words new → RowsGrow supers width old new
 grows_on supers width old words new f s = record { sized = s.sized ∙ f.sized; kept = λ a b h k x. s.kept a b h k (f.kept a b h k x); led = λ l. s.led (f.led l) }
 
 module _ (count width : ℕ) (old new : List ℕ) (fits : AreFor count width old) (a s : ℕ) (o : Ored width (a * width) (s * width) old new) where
@@ -122,13 +122,13 @@ module _ (count width : ℕ) (old new : List ℕ) (fits : AreFor count width old
 
 module _ (supers : List (List ℕ)) (width : ℕ) (old new : List ℕ) (fits : AreFor (length supers) width old) (a s : ℕ) (lower : a < length supers) (upper : s < length supers)
     (leads : IsIn s (get_or supers a [])) (o : Ored width (a * width) (s * width) old new) where
-  leads_there : AreLed supers width old → (b : ℕ) → b < length supers → Has width new a b → Leads supers a b
+  leads_there : RowsAreLed supers width old → (b : ℕ) → b < length supers → Has width new a b → Leads supers a b
   leads_there led b h x = elim (cases_eq (bit width old a b) 1) [
     | inl e ↦ led a b lower h e
     | inr d ↦ over a s b leads (led s b upper h (omega (arith, at_row (length supers) width old new fits a s o b h, x, d)))
   ]
 
-  pub row_grows : Grows supers width old new
+  pub row_grows : RowsGrow supers width old new
   row_grows = record {
     sized = o.sized;
     kept = λ c b h k x. keeps (length supers) width old new fits a s o c b k x;
@@ -207,14 +207,14 @@ abbrev pub HasThese : List (List ℕ) → ℕ → ℕ → List ℕ → List ℕ 
 HasThese supers width a these old new = (s b : ℕ) → IsIn s these → b < length supers → Has width old s b → Has width new a b
 
 module _ (supers : List (List ℕ)) (width a : ℕ) (these : List ℕ) (s : ℕ) (old words new : List ℕ) (within : AreAllBelow supers) (lower : a < length supers) (leads : IsIn s (get_or supers a [])) (fits : AreFor (length supers) width old)
-    (so_far : Grows supers width old words) (has : HasThese supers width a these old words) (o : Ored width (a * width) (s * width) words new) where
+    (so_far : RowsGrow supers width old words) (has : HasThese supers width a these old words) (o : Ored width (a * width) (s * width) words new) where
   upper : s < length supers
   upper = within a s leads
 
   fits_now : AreFor (length supers) width words
   fits_now = fits_on (length supers) width old words fits so_far.sized
 
-  pub one_grows : Grows supers width old new
+  pub one_grows : RowsGrow supers width old new
   one_grows = grows_on supers width old words new so_far (row_grows supers width words new fits_now a s lower upper leads o)
 
   pub one_more_has : HasThese supers width a (these ++ s ∷ []) old new
@@ -223,7 +223,7 @@ module _ (supers : List (List ℕ)) (width a : ℕ) (these : List ℕ) (s : ℕ)
     | inr j ↦ adds (length supers) width words new fits_now a s o b h (subst (λ n. Has width words n b) (in_one t s j) (so_far.kept t b (subst (λ n. n < length supers) (sym (in_one t s j)) upper) h x))
   ]
 
-module _ (supers : List (List ℕ)) (width : ℕ) (old words new : List ℕ) (so_far : Grows supers width old words) (grows : Grows supers width words new) where
+module _ (supers : List (List ℕ)) (width : ℕ) (old words new : List ℕ) (so_far : RowsGrow supers width old words) (grows : RowsGrow supers width words new) where
   -- what a row has it keeps
   pub above_kept : (a : ℕ) → a < length supers → HasAbove supers width a old words → HasAbove supers width a old new
   above_kept a h has s b i k x = grows.kept a b h k (has s b i k x)
@@ -289,9 +289,9 @@ pub leads_both : (supers : List (List ℕ)) (a b c : ℕ) → Leads supers a b �
 leads_both supers a b c (here d) r = r
 leads_both supers a b c (over d e f i l) r = over d e c i (leads_both supers e f c l r)
 
-module _ (supers : List (List ℕ)) (width t : ℕ) (old words new : List ℕ) (within : t < length supers) (so_far : Grows supers width old words)
+module _ (supers : List (List ℕ)) (width t : ℕ) (old words new : List ℕ) (within : t < length supers) (so_far : RowsGrow supers width old words)
     (passes : PassesBelow t (length supers) width words) (p : Passes (length supers) width t (length supers) words new) where
-  pub through_grows : Grows supers width old new
+  pub through_grows : RowsGrow supers width old new
   through_grows = grows_on supers width old words new so_far (record {
     sized = p.sized;
     kept = p.kept;

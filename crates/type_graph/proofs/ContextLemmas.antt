@@ -22,9 +22,9 @@ use Rattle.type_graph.specs.declared.spaces.Space.TheVariants.{Types, Suffixes, 
 use Rattle.type_graph.specs.declared.context.Kinds.{Kinds}
 use Rattle.type_graph.specs.Places.{Places, place_of, AreOf}
 use Rattle.type_graph.specs.Spaces.{name_in, names_in}
-use Rattle.type_graph.specs.Shapes.{shapes_of, supers_of, AreKindsBy, AreKinds}
+use Rattle.type_graph.specs.Shapes.{shapes_of, supers_of_all, AreKindsBy, AreKinds}
 use Rattle.type_graph.specs.Tables.{type_names, suffix_names}
-use Rattle.type_graph.specs.Walks.{Leads, here, over, IsReached}
+use Rattle.type_graph.specs.Walks.{Leads, here, over, IsReachedFrom}
 use Rattle.type_graph.proofs.TableLemmas.{type_there, few_types}
 
 -- ---- the names of the spaces
@@ -86,12 +86,12 @@ types_push g i d below is = ap (λ l. text_type ∷ l) (chosen_push as_type g i 
 pub number_within : (g : Graph) (name : Text) (number : ℕ) → type_named g name ≡ Some number → number < length (types g)
 number_within g name number h = (position-Some (λ (t : TypeDecl). bytes_eq t.name name) (types g) number text_type h).0
 
-supers_at : (g : Graph) (ts : List TypeDecl) (a : ℕ) → order.supers_of g (slice_get ts a) ≡ get_or (supers_of (type_named g) ts) a []
+supers_at : (g : Graph) (ts : List TypeDecl) (a : ℕ) → order.supers_of g (slice_get ts a) ≡ get_or (supers_of_all (type_named g) ts) a []
 supers_at g [] a = refl
 supers_at g (t ∷ ts) zero = refl
 supers_at g (t ∷ ts) (suc a) = supers_at g ts a
 
-module _ (g : Graph) (supers : List (List ℕ)) (are : supers ≡ supers_of (type_named g) (types g)) where
+module _ (g : Graph) (supers : List (List ℕ)) (are : supers ≡ supers_of_all (type_named g) (types g)) where
   pub above_of : (a : ℕ) → get_or supers a [] ≡ order.supers g a
   above_of a = ap (λ l. get_or l a []) are ∙ sym (supers_at g (types g) a)
 
@@ -119,7 +119,7 @@ module _ (g : Graph) (supers : List (List ℕ)) (are : supers ≡ supers_of (typ
   alike false false f h = refl
 
   -- a walk's answer is that of the order of types
-  pub above_is : (starts : List ℕ) (row : List Bool) (n : ℕ) → (get_or row n false ≡ true → IsReached supers starts n) → (IsReached supers starts n → get_or row n false ≡ true) → get_or row n false ≡ list_any (λ start. is_a g start n) starts
+  pub above_is : (starts : List ℕ) (row : List Bool) (n : ℕ) → (get_or row n false ≡ true → IsReachedFrom supers starts n) → (IsReachedFrom supers starts n → get_or row n false ≡ true) → get_or row n false ≡ list_any (λ start. is_a g start n) starts
   above_is starts row n to from = alike (get_or row n false) (list_any (λ start. is_a g start n) starts)
       (λ h. let r = to h in passes_one (λ start. is_a g start n) r.0 starts r.1 (so_is_a g r.0 n (leads_up r.0 n r.2)))
       (λ h. let r = one_passes (λ start. is_a g start n) starts h in from (r.0, r.1, up_leads r.0 n (is_a_so g r.0 n r.2)))
@@ -129,7 +129,7 @@ module _ (g : Graph) (supers : List (List ℕ)) (are : supers ≡ supers_of (typ
 pub kinds_of : (g : Graph) (typed : Places) (kinds : Kinds) → AreOf typed (names_in Types g) → AreKindsBy (place_of typed) (types g) kinds → AreKinds g kinds
 kinds_of g typed kinds named k = record {
   shapes_are = k.shapes_are ∙ ap (λ f. shapes_of f (types g)) (numbering g typed named);
-  supers_are = k.supers_are ∙ ap (λ f. supers_of f (types g)) (numbering g typed named);
+  supers_are = k.supers_are ∙ ap (λ f. supers_of_all f (types g)) (numbering g typed named);
 }
 
 -- ---- the tables of types, declaration by declaration

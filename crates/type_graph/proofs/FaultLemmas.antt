@@ -13,7 +13,7 @@ use Rattle.meaning_graph.specs.Graphs.{Graph, types, suffixes, params, makers, a
 use Rattle.meaning_graph_text.specs.Checks.{has_fault, all_faults, at_or_later, first_from, first_fault, Checked, FirstFault}
 use Rattle.meaning_graph_text.proofs.Lemmas.{first_or_checked}
 use Rattle.type_graph.specs.declared.spaces.Counts.{Counts}
-use Rattle.type_graph.specs.Spaces.{counts_of, counted}
+use Rattle.type_graph.specs.Spaces.{counts_of, counts_with}
 use Rattle.type_graph.proofs.TableLemmas.{few_found}
 
 -- No declaration so far has a fault, and the counts are of those so far.
@@ -40,7 +40,7 @@ module _ {B : Type 0} (f : Decl → Option B) (g : Graph) (d : Decl) where
 same_counts : {a b : Counts} → a.types ≡ b.types → a.suffixes ≡ b.suffixes → a.params ≡ b.params → a.makers ≡ b.makers → a ≡ b
 same_counts p q r s = λ j. record { types = p j; suffixes = q j; params = r j; makers = s j }
 
-counts_push : (g : Graph) (d : Decl) → counts_of (g ++ d ∷ []) ≡ counted (counts_of g) d
+counts_push : (g : Graph) (d : Decl) → counts_of (g ++ d ∷ []) ≡ counts_with (counts_of g) d
 counts_push g (ObjectType t) = same_counts (omega (arith, one_count as_type g (ObjectType t) t refl)) (same_count as_suffix g (ObjectType t) refl) (same_count as_param g (ObjectType t) refl) (same_count as_maker g (ObjectType t) refl)
 counts_push g (Suffix s) = same_counts (ap suc (same_count as_type g (Suffix s) refl)) (one_count as_suffix g (Suffix s) s refl) (same_count as_param g (Suffix s) refl) (same_count as_maker g (Suffix s) refl)
 counts_push g (Param p) = same_counts (ap suc (same_count as_type g (Param p) refl)) (same_count as_suffix g (Param p) refl) (one_count as_param g (Param p) p refl) (same_count as_maker g (Param p) refl)
@@ -61,11 +61,11 @@ module _ (g : Graph) (i number : ℕ) (counts : Counts) (clean : IsClean g i num
     fault_here fault h = subst (λ o. MatchOption o (Checked g) (λ at. FirstFault g at.number at.fault)) (answer (Some fault) h) (first_or_checked g)
 
     -- and where there is none the next declaration follows
-    pub clean_here : None ≡ find (has_fault g (number + 1) d) all_faults → number + 1 ≤ declaration_limit → IsClean g (i + 1) (number + 1) (counted counts d)
+    pub clean_here : None ≡ find (has_fault g (number + 1) d) all_faults → number + 1 ≤ declaration_limit → IsClean g (i + 1) (number + 1) (counts_with counts d)
     clean_here h few = record {
       numbered = ap (λ n. n + 1) clean.numbered;
       few = omega (arith, few, clean.numbered);
-      counts_are = ap (λ k. counted k d) clean.counts_are ∙ sym (ap counts_of (take_more g i d below ∙ ap (λ e. take i g ++ e ∷ []) (sym is)) ∙ counts_push (take i g) d);
+      counts_are = ap (λ k. counts_with k d) clean.counts_are ∙ sym (ap counts_of (take_more g i d below ∙ ap (λ e. take i g ++ e ∷ []) (sym is)) ∙ counts_push (take i g) d);
       rest = answer None h;
     }
 

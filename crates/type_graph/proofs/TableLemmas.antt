@@ -16,7 +16,7 @@ use Rattle.object_values.specs.declared.graph.Decl.{Decl}
 use Rattle.object_values.specs.declared.graph.Decl.TheVariants.{ObjectType, Suffix, Param, Maker}
 use Rattle.meaning_graph.specs.Graphs.{Text, Graph, types, params, makers, type_named, has_param, as_type, as_maker, text_type}
 use Rattle.type_graph.specs.Places.{Places, place_of, AreOf}
-use Rattle.type_graph.specs.Tables.{type_names, ArePlaces, maker_at}
+use Rattle.type_graph.specs.Tables.{type_names, ArePlacesOfMakers, maker_at}
 use Rattle.type_graph.proofs.PlaceLemmas.{position-cons}
 
 pub position-map : {A B : Type 0} (p : B → Bool) (f : A → B) (xs : List A) → position p (map f xs) ≡ position (λ x. p (f x)) xs
@@ -69,7 +69,7 @@ module _ (g : Graph) (pairs : Places) where
 
 -- ---- makers
 
-module _ (g : Graph) (places : List ℕ) (are : ArePlaces g places) where
+module _ (g : Graph) (places : List ℕ) (are : ArePlacesOfMakers g places) where
   got : (n : ℕ) → option_map (maker_at g) (slice_get places n) ≡ option_map Some (slice_get (makers g) n)
   got n = sym (slice_get-map (maker_at g) places n) ∙ ap (λ l. slice_get l n) are ∙ slice_get-map Some (makers g) n
 

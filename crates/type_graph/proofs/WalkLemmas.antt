@@ -3,7 +3,7 @@ use Rattle.std.proofs.Common.{◌≡◌, ◌≢◌, ℕ, zero, suc, ◌+◌, ◌
 use Rattle.std.proofs.lemmas.List.{length-replicate, get_or_default, get_or-set_same, get_or-set_other}
 use Rattle.meaning_texts.specs.Lists.{IsIn}
 use Rattle.meaning_texts.proofs.Lemmas.{in_left, in_right, in_either}
-use Rattle.type_graph.specs.Walks.{IsMarked, unmarked, Marks, Leads, here, over, IsReached}
+use Rattle.type_graph.specs.Walks.{IsMarked, unmarked, Marks, Leads, here, over, IsReachedFrom}
 
 same_or_not : (a b : ℕ) → (a ≡ b) ⊎ (a ≢ b)
 same_or_not zero zero = inl refl
@@ -109,7 +109,7 @@ leads_on lists a b c (over d e f j r) i = over d e c j (leads_on lists e f c r i
 pub record IsWalk (lists : List (List ℕ)) (starts : List ℕ) (marked : List Bool) (todo : List ℕ) : Type 0 where
   pub sized : length marked ≡ length lists
   pub started : (n : ℕ) → IsIn n starts → IsMarked marked n
-  pub sound : (n : ℕ) → IsMarked marked n → IsReached lists starts n
+  pub sound : (n : ℕ) → IsMarked marked n → IsReachedFrom lists starts n
   pub closed : (n : ℕ) → IsMarked marked n → IsIn n todo ⊎ ((k : ℕ) → IsIn k (get_or lists n []) → IsMarked marked k)
   pub within : (n : ℕ) → IsIn n todo → IsMarked marked n
 
@@ -155,7 +155,7 @@ module _ (lists : List (List ℕ)) (starts : List ℕ) where
   all_marked marked w a b (here c) h = h
   all_marked marked w a b (over c d e i r) h = elim (w.closed c h) [ inl j ↦ absurd j | inr all ↦ all_marked marked w d e r (all d i) ]
 
-  pub walk_ends : (marked : List Bool) → IsWalk lists starts marked [] → (n : ℕ) → IsReached lists starts n → IsMarked marked n
+  pub walk_ends : (marked : List Bool) → IsWalk lists starts marked [] → (n : ℕ) → IsReachedFrom lists starts n → IsMarked marked n
   walk_ends marked w n r = all_marked marked w r.0 n r.2 (w.started r.0 r.1)
 
   pub todo_within : (marked : List Bool) (t : List ℕ) (b : ℕ) → IsWalk lists starts marked (t ++ b ∷ []) → b < length lists

@@ -8,9 +8,9 @@ use Rattle.type_graph.specs.declared.fault.CheckFault.{CheckFault}
 use Rattle.type_graph.specs.declared.fault.CheckFault.TheVariants as fault
 
 -- by their first fault, or for want of memory
-abbrev pub IsCause : Graph → CheckFault → Type 0
-IsCause g (fault.Graph number found) = FirstFault g number found
-IsCause g fault.Memory = ⊤
+abbrev pub IsCheckFaultOf : Graph → CheckFault → Type 0
+IsCheckFaultOf g (fault.Graph number found) = FirstFault g number found
+IsCheckFaultOf g fault.Memory = ⊤
 
 -- the least fault of a declaration of this number
 abbrev pub least_fault : Graph → ℕ → Decl → Option GraphFault

@@ -5,7 +5,7 @@ use Rattle.meaning_texts.specs.Lists.{IsIn}
 use Rattle.meaning_graph.specs.Graphs.{Graph, types, type_named}
 use Rattle.meaning_graph.specs.Types.{is_a}
 use Rattle.type_graph.specs.declared.rows.Rows.{Rows}
-use Rattle.type_graph.specs.Shapes.{supers_of}
+use Rattle.type_graph.specs.Shapes.{supers_of_all}
 use Rattle.type_graph.specs.Walks.{Leads}
 
 -- the bit of a type in the row of another one
@@ -32,8 +32,8 @@ pub record IsOwn (count width : ℕ) (words : List ℕ) : Type 0 where
   pub only : (a b : ℕ) → a < count → b < count → Has width words a b → a ≡ b
 
 -- two rows are the same, or have no word in common
-abbrev pub AreApart : ℕ → ℕ → ℕ → Type 0
-AreApart width into from = (into ≡ from) ⊎ (into + width ≤ from) ⊎ (from + width ≤ into)
+abbrev pub RowsAreApart : ℕ → ℕ → ℕ → Type 0
+RowsAreApart width into from = (into ≡ from) ⊎ (into + width ≤ from) ⊎ (from + width ≤ into)
 
 -- The words of one row are or-ed into those of another one, and the others stay.
 pub record Ored (width into from : ℕ) (old new : List ℕ) : Type 0 where
@@ -43,14 +43,14 @@ pub record Ored (width into from : ℕ) (old new : List ℕ) : Type 0 where
   pub after : (place : ℕ) → into + width ≤ place → slice_index_or new place 0 ≡ slice_index_or old place 0
 
 -- each row has only types that its own leads to
-abbrev pub AreLed : List (List ℕ) → ℕ → List ℕ → Type 0
-AreLed supers width words = (a b : ℕ) → a < length supers → b < length supers → Has width words a b → Leads supers a b
+abbrev pub RowsAreLed : List (List ℕ) → ℕ → List ℕ → Type 0
+RowsAreLed supers width words = (a b : ℕ) → a < length supers → b < length supers → Has width words a b → Leads supers a b
 
 -- Rows keep what they have, and get only what their types lead to.
-pub record Grows (supers : List (List ℕ)) (width : ℕ) (old new : List ℕ) : Type 0 where
+pub record RowsGrow (supers : List (List ℕ)) (width : ℕ) (old new : List ℕ) : Type 0 where
   pub sized : length new ≡ length old
   pub kept : (a b : ℕ) → a < length supers → b < length supers → Has width old a b → Has width new a b
-  pub led : AreLed supers width old → AreLed supers width new
+  pub led : RowsAreLed supers width old → RowsAreLed supers width new
 
 -- the row of a type has what those of its supertypes had
 abbrev pub HasAbove : List (List ℕ) → ℕ → ℕ → List ℕ → List ℕ → Type 0
@@ -61,8 +61,8 @@ abbrev pub HasAllAbove : List (List ℕ) → ℕ → List ℕ → List ℕ → T
 HasAllAbove supers width old new = (a : ℕ) → a < length supers → HasAbove supers width a old new
 
 -- the supertypes are those that a graph declares
-abbrev pub AreOfGraph : Graph → List (List ℕ) → Type 0
-AreOfGraph g supers = supers ≡ supers_of (type_named g) (types g)
+abbrev pub AreSupersOfGraph : Graph → List (List ℕ) → Type 0
+AreSupersOfGraph g supers = supers ≡ supers_of_all (type_named g) (types g)
 
 -- The row of a type is added to those up to a number that have the type.
 pub record Passes (count width through number : ℕ) (old new : List ℕ) : Type 0 where
@@ -81,11 +81,11 @@ IsTransitive count width words = PassesBelow count count width words
 -- The rows have just what their types lead to.
 pub record IsCloser (supers : List (List ℕ)) (width : ℕ) (words : List ℕ) : Type 0 where
   pub fits : AreFor (length supers) width words
-  pub led : AreLed supers width words
+  pub led : RowsAreLed supers width words
   pub all : (a b : ℕ) → a < length supers → b < length supers → Leads supers a b → Has width words a b
 
 -- The rows answer as the order of types does, at the supertypes of any graph.
-pub record IsClosed (supers : List (List ℕ)) (rows : Rows) : Type 0 where
+pub record RowsAreClosed (supers : List (List ℕ)) (rows : Rows) : Type 0 where
   pub counted : rows.count ≡ length supers
   pub fits : AreFor rows.count rows.width rows.words.items
-  pub right : (g : Graph) → AreOfGraph g supers → (a b : ℕ) → a < length supers → b < length supers → answer rows a b ≡ is_a g a b
+  pub right : (g : Graph) → AreSupersOfGraph g supers → (a b : ℕ) → a < length supers → b < length supers → answer rows a b ≡ is_a g a b

@@ -26,8 +26,8 @@ abbrev pub shapes_of : (Text → Option ℕ) → List TypeDecl → List Shape
 shapes_of number ts = map (λ (t : TypeDecl). shape_of number t.kind) ts
 
 -- the numbers of the supertypes of each type
-abbrev pub supers_of : (Text → Option ℕ) → List TypeDecl → List (List ℕ)
-supers_of number ts = map (λ (t : TypeDecl). filter_map number t.supers) ts
+abbrev pub supers_of_all : (Text → Option ℕ) → List TypeDecl → List (List ℕ)
+supers_of_all number ts = map (λ (t : TypeDecl). filter_map number t.supers) ts
 
 -- whether a supertype is a list whose elements are among the types of the row; elements that are nowhere declared fit
 abbrev pub fits_by : List Bool → Option Shape → Bool
@@ -38,7 +38,7 @@ fits_by row other = false
 -- the objects of each type, and its supertypes, by the numbers of names
 pub record AreKindsBy (number : Text → Option ℕ) (ts : List TypeDecl) (kinds : Kinds) : Type 0 where
   pub shapes_are : kinds.shapes ≡ shapes_of number ts
-  pub supers_are : kinds.supers ≡ supers_of number ts
+  pub supers_are : kinds.supers ≡ supers_of_all number ts
 
 abbrev pub AreKinds : Graph → Kinds → Type 0
 AreKinds g kinds = AreKindsBy (type_named g) (types g) kinds

@@ -38,8 +38,8 @@ abbrev pub counts_of : Graph → Counts
 counts_of g = record { types = length (types g); suffixes = length (suffixes g); params = length (params g); makers = length (makers g) }
 
 -- the counts with one more declaration
-abbrev pub counted : Counts → Decl → Counts
-counted counts (ObjectType t) = record counts { types = counts.types + 1 }
-counted counts (Suffix s) = record counts { suffixes = counts.suffixes + 1 }
-counted counts (Param p) = record counts { params = counts.params + 1 }
-counted counts (Maker m) = record counts { makers = counts.makers + 1 }
+abbrev pub counts_with : Counts → Decl → Counts
+counts_with counts (ObjectType t) = record counts { types = counts.types + 1 }
+counts_with counts (Suffix s) = record counts { suffixes = counts.suffixes + 1 }
+counts_with counts (Param p) = record counts { params = counts.params + 1 }
+counts_with counts (Maker m) = record counts { makers = counts.makers + 1 }

@@ -35,8 +35,8 @@ abbrev pub maker_at : Graph → ℕ → Option MakerDecl
 maker_at g place = option_and_then as_maker (slice_get g place)
 
 -- The places of the makers, in order.
-abbrev pub ArePlaces : Graph → List ℕ → Type 0
-ArePlaces g places = map (maker_at g) places ≡ map Some (makers g)
+abbrev pub ArePlacesOfMakers : Graph → List ℕ → Type 0
+ArePlacesOfMakers g places = map (maker_at g) places ≡ map Some (makers g)
 
 -- The rows answer as the order of types does.
 pub record AreRows (g : Graph) (rows : Rows) : Type 0 where
@@ -47,7 +47,7 @@ pub record AreRows (g : Graph) (rows : Rows) : Type 0 where
 -- The tables by number.
 pub record AreNumbers (g : Graph) (numbers : Numbers) : Type 0 where
   pub ends_are : numbers.suffix_types ≡ suffix_types g
-  pub makers_are : ArePlaces g numbers.maker_places
+  pub makers_are : ArePlacesOfMakers g numbers.maker_places
 
 -- The names that a graph is asked for have their numbers.
 pub record AreNamed (g : Graph) (spaces : Spaces) : Type 0 where

@@ -22,15 +22,15 @@ abbrev pub AreAllBelow : List (List ℕ) → Type 0
 AreAllBelow lists = (number : ℕ) → AreBelow (length lists) (slice_index_or lists number [])
 
 -- What a walk has marked, and what it has yet to look at.
-pub record Seen : Type 0 where
+pub record WalkView : Type 0 where
   pub marked : List Bool
   pub todo : List ℕ
 
-abbrev pub seen : Walk → Seen
-seen walk = record { marked = walk.marked.items; todo = walk.todo.items }
+abbrev pub walk_view : Walk → WalkView
+walk_view walk = record { marked = walk.marked.items; todo = walk.todo.items }
 
 -- The numbers are marked, and those that were not stand in the list of what is to do.
-pub record Marks (old : Seen) (numbers : List ℕ) (new : Seen) : Type 0 where
+pub record Marks (old : WalkView) (numbers : List ℕ) (new : WalkView) : Type 0 where
   pub sized : length new.marked ≡ length old.marked
   pub kept : (n : ℕ) → IsMarked old.marked n → IsMarked new.marked n
   pub added : (n : ℕ) → IsIn n numbers → IsMarked new.marked n
@@ -46,10 +46,10 @@ pub data Leads (lists : List (List ℕ)) : ℕ → ℕ → Type 0 where
   over : (a b c : ℕ) → IsIn b (slice_index_or lists a []) → Leads lists b c → Leads lists a c
 
 -- one of the starts leads to the number
-abbrev pub IsReached : List (List ℕ) → List ℕ → ℕ → Type 0
-IsReached lists starts number = (start : ℕ) × IsIn start starts × Leads lists start number
+abbrev pub IsReachedFrom : List (List ℕ) → List ℕ → ℕ → Type 0
+IsReachedFrom lists starts number = (start : ℕ) × IsIn start starts × Leads lists start number
 
 -- The row marks just the numbers that are reached.
 pub record IsRowReached (lists : List (List ℕ)) (starts : List ℕ) (row : List Bool) : Type 0 where
   pub sized : length row ≡ length lists
-  pub right : (number : ℕ) → IsTrue (slice_index_or row number false) ↔ IsReached lists starts number
+  pub right : (number : ℕ) → IsTrue (slice_index_or row number false) ↔ IsReachedFrom lists starts number

@@ -6,8 +6,8 @@ ghost use Rattle.meaning_graph.specs.Graphs.{types, type_named, has_param};
 ghost use Rattle.meaning_graph.specs.Types.{is_a};
 ghost use Rattle.meaning_graph_text.specs.Checks.{is_known};
 ghost use Rattle.type_graph.specs.Places.{place_of, stands_in};
-ghost use Rattle.type_graph.specs.Rows.{IsClosed};
-ghost use Rattle.type_graph.specs.Shapes.{shape_of, shapes_of, supers_of, shape_named, IsRowAbove, AreKindsBy};
+ghost use Rattle.type_graph.specs.Rows.{RowsAreClosed};
+ghost use Rattle.type_graph.specs.Shapes.{shape_of, shapes_of, supers_of_all, shape_named, IsRowAbove, AreKindsBy};
 ghost use Rattle.type_graph.specs.Spaces.{names_in};
 ghost use Rattle.type_graph.specs.Tables.{AreNamed, AreRows};
 ghost use Rattle.type_graph.specs.Walks.{AreAllBelow, AreBelow};
@@ -199,7 +199,7 @@ fn is_marked(row: &[bool], number: usize) -> bool
 fn rows_if_few(alloc: Global, supers: &[Seq<usize>], count: usize) -> Result<Rows, Memory>
     requires supers { AreAllBelow supers.now }
     requires sized { length supers.now ≤ count + 1 }
-    ensures { count ≤ declaration_limit → IfOk result (IsClosed supers.now) }
+    ensures { count ≤ declaration_limit → IfOk result (RowsAreClosed supers.now) }
 {
     if count > DECLARATION_LIMIT as usize {
         return Rows::closed(alloc, &[]);
@@ -274,7 +274,7 @@ fn fill_supers(
     decls: &[Decl],
 ) -> Result<(), Memory>
     requires { supers.old ≡ [] }
-    ensures { OnOk result (supers.new ≡ supers_of (place_of names.now) (types decls.now)) }
+    ensures { OnOk result (supers.new ≡ supers_of_all (place_of names.now) (types decls.now)) }
 {
     supers.push(Seq::new(alloc))?;
     for decl in decls {

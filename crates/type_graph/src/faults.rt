@@ -1,7 +1,7 @@
 // The first fault of declarations.
 ghost use Rattle.std.specs.Prelude.{◌≡◌, ◌-◌, ◌≤◌, IfOk, IfErr, OnOk, take, None};
 ghost use Rattle.meaning_texts.specs.Limits.{declaration_limit};
-ghost use Rattle.type_graph.specs.Faults.{IsCause, least_fault};
+ghost use Rattle.type_graph.specs.Faults.{IsCheckFaultOf, least_fault};
 ghost use Rattle.type_graph.specs.Spaces.{counts_of};
 ghost use Rattle.type_graph.specs.Tables.{AreChecked};
 
@@ -51,7 +51,7 @@ impl<'a> Context<'a> {
 pub(crate) fn check(alloc: Global, context: &Context, decls: &[Decl]) -> Result<(), CheckFault>
     requires { context.now ≡ decls.now }
     ensures ok { OnOk result (AreChecked decls.now) }
-    ensures err { IfErr result (IsCause decls.now) }
+    ensures err { IfErr result (IsCheckFaultOf decls.now) }
 {
     let mut before = Counts {
         types: 1,

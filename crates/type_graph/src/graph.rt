@@ -4,7 +4,7 @@ ghost use Rattle.meaning_graph.specs.Graphs.{types, makers, type_named, has_para
 ghost use Rattle.meaning_graph.specs.Suffixes.{source_type};
 ghost use Rattle.meaning_graph.specs.Types.{is_a};
 ghost use Rattle.meaning_graph_text.specs.Checks.{Checked};
-ghost use Rattle.type_graph.specs.Faults.{IsCause};
+ghost use Rattle.type_graph.specs.Faults.{IsCheckFaultOf};
 
 use crate::fault::CheckFault;
 use crate::tables::Tables;
@@ -43,7 +43,7 @@ impl Graph {
     pub fn check(alloc: Global, decls: Seq<Decl>) -> Result<Self, CheckFault>
         ensures ok { IfOk result (λ graph. graph ≡ decls) }
         ensures checked { IfOk result (λ graph. Checked decls) }
-        ensures err { IfErr result (IsCause decls) }
+        ensures err { IfErr result (IsCheckFaultOf decls) }
     {
         let tables = Tables::new(alloc, decls.as_slice())?;
         Ok(Graph { decls, tables })

@@ -3,7 +3,7 @@ ghost use Rattle.std.specs.Prelude.{◌≡◌, ℕ, ◌+◌, ◌*◌, ◌<◌, �
 ghost use Rattle.std.specs.List.{list_any};
 ghost use Rattle.meaning_texts.specs.Limits.{declaration_limit};
 ghost use Rattle.type_graph.specs.Walks.{AreAllBelow, AreBelow};
-ghost use Rattle.type_graph.specs.Rows.{AreFor, IsClosed, IsCloser, IsOwn, HasAbove, HasAllAbove, Grows, Ored, AreApart, IsTransitive, Passes, answer, bit};
+ghost use Rattle.type_graph.specs.Rows.{AreFor, RowsAreClosed, IsCloser, IsOwn, HasAbove, HasAllAbove, RowsGrow, Ored, RowsAreApart, IsTransitive, Passes, answer, bit};
 
 use object_values::{Memory, Seq};
 use std::alloc::Global;
@@ -34,7 +34,7 @@ impl Rows {
     pub(crate) fn closed(alloc: Global, supers: &[Seq<usize>]) -> Result<Self, Memory>
         requires supers { AreAllBelow supers.now }
         requires few { length supers.now ≤ declaration_limit + 1 }
-        ensures { IfOk result (IsClosed supers.now) }
+        ensures { IfOk result (RowsAreClosed supers.now) }
     {
         let count = supers.len();
         let width = count / 64 + 1;
@@ -121,7 +121,7 @@ fn close(words: &mut [u64], width: usize, supers: &[Seq<usize>])
 // Adds the row of each type to those that have the type.
 fn add_through_all(words: &mut [u64], width: usize, supers: &[Seq<usize>])
     requires fits { AreFor (length supers.now) width words.old }
-    ensures grows { Grows supers.now width words.old words.new }
+    ensures grows { RowsGrow supers.now width words.old words.new }
     ensures passes { IsTransitive (length supers.now) width words.new }
 {
     for through in 0..supers.len() {
@@ -146,7 +146,7 @@ fn add_through(words: &mut [u64], width: usize, count: usize, through: usize)
 fn go_round(words: &mut [u64], width: usize, supers: &[Seq<usize>]) -> bool
     requires supers { AreAllBelow supers.now }
     requires fits { AreFor (length supers.now) width words.old }
-    ensures grows { Grows supers.now width words.old words.new }
+    ensures grows { RowsGrow supers.now width words.old words.new }
     ensures adds { HasAllAbove supers.now width words.old words.new }
     ensures same { result ≡ false → words.new ≡ words.old }
 {
@@ -169,7 +169,7 @@ fn add_above(words: &mut [u64], width: usize, supers: &[Seq<usize>], number: usi
     requires supers { AreAllBelow supers.now }
     requires number { number < length supers.now }
     requires fits { AreFor (length supers.now) width words.old }
-    ensures grows { Grows supers.now width words.old words.new }
+    ensures grows { RowsGrow supers.now width words.old words.new }
     ensures adds { HasAbove supers.now width number words.old words.new }
     ensures same { result ≡ false → words.new ≡ words.old }
 {
@@ -186,7 +186,7 @@ fn add_above(words: &mut [u64], width: usize, supers: &[Seq<usize>], number: usi
 fn add_row(words: &mut [u64], width: usize, into: usize, from: usize) -> bool
     requires into { into + width ≤ length words.old }
     requires from { from + width ≤ length words.old }
-    requires apart { AreApart width into from }
+    requires apart { RowsAreApart width into from }
     ensures ored { Ored width into from words.old words.new }
     ensures same { result ≡ false → words.new ≡ words.old }
 {

@@ -1,7 +1,7 @@
 // The four spaces of names, apart from each other.
 ghost use Rattle.std.specs.Prelude.{◌≡◌, ◌<◌, ◌^◌, [], IfOk, OnOk, option_map};
 ghost use Rattle.type_graph.specs.Places.{AreOf};
-ghost use Rattle.type_graph.specs.Spaces.{name_in, names_in, AreSpaces, counted};
+ghost use Rattle.type_graph.specs.Spaces.{name_in, names_in, AreSpaces, counts_with};
 
 use crate::names::Names;
 use object_values::{Bytes, Decl, Memory, when_done};
@@ -114,7 +114,7 @@ impl Counts {
         requires suffixes { self.old.suffixes < 2 ^ 63 }
         requires params { self.old.params < 2 ^ 63 }
         requires makers { self.old.makers < 2 ^ 63 }
-        ensures { self.new ≡ counted self.old decl.now }
+        ensures { self.new ≡ counts_with self.old decl.now }
     {
         match decl {
             Decl::ObjectType(_) => self.types += 1,

@@ -1,8 +1,8 @@
 // The tables by number that a checked graph keeps.
 ghost use Rattle.std.specs.Prelude.{◌≡◌, ◌≤◌, [], IfOk, IfErr, OnOk, length};
 ghost use Rattle.meaning_texts.specs.Limits.{declaration_limit};
-ghost use Rattle.type_graph.specs.Faults.{IsCause};
-ghost use Rattle.type_graph.specs.Tables.{suffix_types, ArePlaces, AreNumbers, AreTables};
+ghost use Rattle.type_graph.specs.Faults.{IsCheckFaultOf};
+ghost use Rattle.type_graph.specs.Tables.{suffix_types, ArePlacesOfMakers, AreNumbers, AreTables};
 
 use crate::context::Context;
 use crate::fault::CheckFault;
@@ -53,7 +53,7 @@ impl Tables {
     /// Checks declarations, and makes their tables.
     pub(crate) fn new(alloc: Global, decls: &[Decl]) -> Result<Self, CheckFault>
         ensures ok { IfOk result (AreTables decls.now) }
-        ensures err { IfErr result (IsCause decls.now) }
+        ensures err { IfErr result (IsCheckFaultOf decls.now) }
     {
         let context = Context::new(alloc, decls)?;
         check(alloc, &context, decls)?;
@@ -112,7 +112,7 @@ fn fill_suffix_types(made: &mut Seq<u32>, context: &Context, decls: &[Decl]) -> 
 fn fill_maker_places(places: &mut Seq<u32>, decls: &[Decl]) -> Result<(), Memory>
     requires few { length decls.now ≤ declaration_limit }
     requires empty { places.old ≡ [] }
-    ensures { OnOk result (ArePlaces decls.now places.new) }
+    ensures { OnOk result (ArePlacesOfMakers decls.now places.new) }
 {
     for (place, decl) in decls.iter().enumerate() {
         if let Decl::Maker(_) = decl {

@@ -1,6 +1,6 @@
 // Walks from types to their supertypes.
 ghost use Rattle.std.specs.Prelude.{◌≡◌, OnOk, IfOk, length};
-ghost use Rattle.type_graph.specs.Walks.{AreBelow, AreAllBelow, Marks, IsRowReached, seen};
+ghost use Rattle.type_graph.specs.Walks.{AreBelow, AreAllBelow, Marks, IsRowReached, walk_view};
 
 use object_values::{Memory, Seq};
 use std::alloc::Global;
@@ -23,7 +23,7 @@ impl Walk {
     /// Comes to these types.
     fn mark_all(&mut self, numbers: &[usize]) -> Result<(), Memory>
         requires { AreBelow (length self.old.marked.items) numbers.now }
-        ensures { OnOk result (Marks (seen self.old) numbers.now (seen self.new)) }
+        ensures { OnOk result (Marks (walk_view self.old) numbers.now (walk_view self.new)) }
     {
         for number in numbers {
             if !self.marked[*number] {

@@ -8,10 +8,10 @@ use Rattle.object_values.specs.declared.nodes.Node.{Node}
 use Rattle.meaning_texts.specs.Lists.{IsIn}
 use Rattle.walk_tables.specs.declared.done.Done.{Done}
 use Rattle.walk_tables.specs.declared.survey.Survey.{Survey}
-use Rattle.walk_tables.specs.Tables.{Entries, Waits, done_in, height_in, height_or, heights_of, number_of, top_of, are_done}
-use Rattle.walk_tables.specs.Surveys.{unvisited_in, survey_of, TakesIn}
+use Rattle.walk_tables.specs.Tables.{Entries, Waits, done_in, height_in, height_or, heights_of, height_or_zero, top_of, are_done}
+use Rattle.walk_tables.specs.Surveys.{unvisited_in, survey_of, TakesInNodes}
 
-top_push : (heights : Node → Option ℕ) (before : List Node) (n : Node) → top_of heights (before ++ n ∷ []) ≡ max (top_of heights before) (number_of (heights n))
+top_push : (heights : Node → Option ℕ) (before : List Node) (n : Node) → top_of heights (before ++ n ∷ []) ≡ max (top_of heights before) (height_or_zero (heights n))
 top_push heights [] n = omega arith
 top_push heights (m ∷ before) n = omega (arith, top_push heights before n)
 
@@ -51,12 +51,12 @@ module _ (done : Entries) (waits : Waits) (before : List Node) (n : Node) where
     height_is = λ i. height_or (option_map (λ d. d.height) (found i)) (other i)
 
     pub survey_push : survey_of done waits (before ++ n ∷ []) ≡ record {
-      top = max (top_of heights before) (number_of known);
+      top = max (top_of heights before) (height_or_zero known);
       done = cond (are_done done before) (is_some entry) false;
       unvisited = unvisited_in heights before ++ unvisited_one;
     }
     survey_push =
-        let t = top_push heights before n ∙ ap (λ o. max (top_of heights before) (number_of o)) height_is in
+        let t = top_push heights before n ∙ ap (λ o. max (top_of heights before) (height_or_zero o)) height_is in
         let d = done_push done before n ∙ ap (λ o. cond (are_done done before) (is_some o) false) found in
         let u = unvisited_push heights before n ∙ ap (λ o. unvisited_in heights before ++ cond (is_some o) [] (n ∷ [])) height_is in
         λ i. record { top = t i; done = d i; unvisited = u i }
@@ -93,16 +93,16 @@ module _ (done : Entries) (waits : Waits) (before : List Node) (n : Node) where
 -- ---- nodes that are taken in, one after another
 
 module _ (done : Entries) (waits : Waits) where
-  pub takes_none : (s : Survey) → TakesIn done waits [] s s
+  pub takes_none : (s : Survey) → TakesInNodes done waits [] s s
   takes_none s before e = e ∙ ap (survey_of done waits) (sym (append-nil before))
 
-  pub takes_both : (xs ys : List Node) (a b c : Survey) → TakesIn done waits xs a b → TakesIn done waits ys b c → TakesIn done waits (xs ++ ys) a c
+  pub takes_both : (xs ys : List Node) (a b c : Survey) → TakesInNodes done waits xs a b → TakesInNodes done waits ys b c → TakesInNodes done waits (xs ++ ys) a c
   takes_both xs ys a b c first more before e = more (before ++ xs) (first before e) ∙ ap (survey_of done waits) (append_assoc before xs ys)
 
-  pub takes_as : (xs ys : List Node) → xs ≡ ys → (a b : Survey) → TakesIn done waits xs a b → TakesIn done waits ys a b
-  takes_as xs ys e a b t = subst (λ l. TakesIn done waits l a b) e t
+  pub takes_as : (xs ys : List Node) → xs ≡ ys → (a b : Survey) → TakesInNodes done waits xs a b → TakesInNodes done waits ys a b
+  takes_as xs ys e a b t = subst (λ l. TakesInNodes done waits l a b) e t
 
-  takes_further : (front more all : List Node) → all ≡ front ++ more → (a b c : Survey) → TakesIn done waits front a b → TakesIn done waits more b c → TakesIn done waits all a c
+  takes_further : (front more all : List Node) → all ≡ front ++ more → (a b c : Survey) → TakesInNodes done waits front a b → TakesInNodes done waits more b c → TakesInNodes done waits all a c
   takes_further front more all e a b c first then = takes_as (front ++ more) all (sym e) a c (takes_both front more a b c first then)
 
   module _ {A : Type 0} (xs : List A) (i : ℕ) (x : A) (below : i < length xs) (is : x ≡ get_or xs i x) (a b c : Survey) where
@@ -110,14 +110,14 @@ module _ (done : Entries) (waits : Waits) where
     one_more = take_more xs i x below ∙ ap (λ y. take i xs ++ y ∷ []) (sym is)
 
     -- of lists, one after another
-    pub takes_list : (f : A → List Node) → TakesIn done waits (flat_map f (take i xs)) a b → TakesIn done waits (f x) b c → TakesIn done waits (flat_map f (take (i + 1) xs)) a c
+    pub takes_list : (f : A → List Node) → TakesInNodes done waits (flat_map f (take i xs)) a b → TakesInNodes done waits (f x) b c → TakesInNodes done waits (flat_map f (take (i + 1) xs)) a c
     takes_list f = takes_further (flat_map f (take i xs)) (f x) (flat_map f (take (i + 1) xs)) (ap (flat_map f) one_more ∙ flat_map-append f (take i xs) (x ∷ []) ∙ ap (λ l. flat_map f (take i xs) ++ l) (append-nil (f x))) a b c
 
     -- of nodes, one after another
-    pub takes_node : (f : A → Node) → TakesIn done waits (map f (take i xs)) a b → TakesIn done waits (f x ∷ []) b c → TakesIn done waits (map f (take (i + 1) xs)) a c
+    pub takes_node : (f : A → Node) → TakesInNodes done waits (map f (take i xs)) a b → TakesInNodes done waits (f x ∷ []) b c → TakesInNodes done waits (map f (take (i + 1) xs)) a c
     takes_node f = takes_further (map f (take i xs)) (f x ∷ []) (map f (take (i + 1) xs)) (ap (map f) one_more ∙ map-append f (take i xs) (x ∷ [])) a b c
 
-  pub takes_one_more : (xs : List Node) (i : ℕ) (x : Node) → i < length xs → x ≡ get_or xs i x → (a b c : Survey) → TakesIn done waits (take i xs) a b → TakesIn done waits (x ∷ []) b c → TakesIn done waits (take (i + 1) xs) a c
+  pub takes_one_more : (xs : List Node) (i : ℕ) (x : Node) → i < length xs → x ≡ get_or xs i x → (a b c : Survey) → TakesInNodes done waits (take i xs) a b → TakesInNodes done waits (x ∷ []) b c → TakesInNodes done waits (take (i + 1) xs) a c
   takes_one_more xs i x below is a b c = takes_further (take i xs) (x ∷ []) (take (i + 1) xs) (one_more xs i x below is a b c) a b c
 
 -- ---- nodes that were not visited
@@ -142,5 +142,5 @@ none_unvisited heights (n ∷ nodes) e m i = by (heights n) refl (λ f. none_unv
 
 -- ---- of all needs
 
-pub begun : (done : Entries) (waits : Waits) (nodes : List Node) (new : Survey) → TakesIn done waits nodes (record { top = 0; done = true; unvisited = [] }) new → new ≡ survey_of done waits nodes
+pub begun : (done : Entries) (waits : Waits) (nodes : List Node) (new : Survey) → TakesInNodes done waits nodes (record { top = 0; done = true; unvisited = [] }) new → new ≡ survey_of done waits nodes
 begun done waits nodes new takes = takes [] refl

@@ -9,11 +9,11 @@ use Rattle.meaning_texts.specs.Lists.{IsIn}
 
 -- ---- outcomes
 
-abbrev pub Outcomes : Type 0
-Outcomes = List (Call × Outcome)
+abbrev pub GivenOutcomes : Type 0
+GivenOutcomes = List (Call × Outcome)
 
 -- the outcome of a call
-abbrev pub outcome_in : Outcomes → Call → Option Outcome
+abbrev pub outcome_in : GivenOutcomes → Call → Option Outcome
 outcome_in outcomes call = lookup (call_eq.eq call) outcomes
 
 -- ---- calls

@@ -8,18 +8,18 @@ use Rattle.object_values.specs.declared.views.View.{View}
 use Rattle.meaning_texts.specs.Lists.{IsIn}
 use Rattle.meaning_tasks.specs.Maps.{HasOnly}
 use Rattle.walk_tables.specs.declared.done.Done.{Done}
-use Rattle.walk_tables.specs.Tables.{Entries, done_in, results_of, nodes_of}
+use Rattle.walk_tables.specs.Tables.{Entries, done_in, results_of, done_nodes}
 
-abbrev IsNothing : Option View → Type 0
-IsNothing None = ⊤
-IsNothing (Some view) = ⊥
+abbrev HasNoView : Option View → Type 0
+HasNoView None = ⊤
+HasNoView (Some view) = ⊥
 
-by_test : (entries : Entries) (n m : Node) (d : Done) (view : View) → (results_of entries n ≡ Some view → IsIn n (nodes_of entries)) → (b : Bool) → node_eq.eq n m ≡ b → option_map (λ d. d.view) (cond b (Some d) (done_in entries n)) ≡ Some view → IsIn n (nodes_of ((m, d) ∷ entries))
+by_test : (entries : Entries) (n m : Node) (d : Done) (view : View) → (results_of entries n ≡ Some view → IsIn n (done_nodes entries)) → (b : Bool) → node_eq.eq n m ≡ b → option_map (λ d. d.view) (cond b (Some d) (done_in entries n)) ≡ Some view → IsIn n (done_nodes ((m, d) ∷ entries))
 by_test entries n m d view below true e h = inl ((node_exact n m).0 e)
 by_test entries n m d view below false e h = inr (below h)
 
 -- only nodes of the table have results
-pub only_nodes : (entries : Entries) → HasOnly (results_of entries) (nodes_of entries)
-only_nodes [] n view e = absurd (subst IsNothing e tt)
+pub only_nodes : (entries : Entries) → HasOnly (results_of entries) (done_nodes entries)
+only_nodes [] n view e = absurd (subst HasNoView e tt)
 only_nodes ((m, d) ∷ entries) n view e =
     by_test entries n m d view (only_nodes entries n view) (node_eq.eq n m) refl e

@@ -19,7 +19,7 @@ survey_of done waits nodes = record {
 }
 
 -- Behind any nodes before, these are taken in.
-abbrev pub TakesIn : Entries → Waits → List Node → Survey → Survey → Type 0
-TakesIn done waits nodes old new =
+abbrev pub TakesInNodes : Entries → Waits → List Node → Survey → Survey → Type 0
+TakesInNodes done waits nodes old new =
     (before : List Node) → old ≡ survey_of done waits before
     → new ≡ survey_of done waits (before ++ nodes)

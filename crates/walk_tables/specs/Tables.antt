@@ -18,8 +18,8 @@ done_in entries n = lookup (node_eq.eq n) entries
 abbrev pub results_of : Entries → Results
 results_of entries n = option_map (λ d. d.view) (done_in entries n)
 
-abbrev pub nodes_of : Entries → List Node
-nodes_of entries = map (λ e. e.0) entries
+abbrev pub done_nodes : Entries → List Node
+done_nodes entries = map (λ e. e.0) entries
 
 -- whether each of the nodes has a result
 abbrev pub are_done : Entries → List Node → Bool
@@ -43,14 +43,14 @@ height_or None other = other
 abbrev pub heights_of : Entries → Waits → Node → Option ℕ
 heights_of done waits n = height_or (option_map (λ d. d.height) (done_in done n)) (height_in waits n)
 
-abbrev pub number_of : Option ℕ → ℕ
-number_of None = 0
-number_of (Some h) = h
+abbrev pub height_or_zero : Option ℕ → ℕ
+height_or_zero None = 0
+height_or_zero (Some h) = h
 
 -- the greatest height of the nodes
 abbrev pub top_of : (Node → Option ℕ) → List Node → ℕ
 top_of heights [] = 0
-top_of heights (n ∷ nodes) = max (number_of (heights n)) (top_of heights nodes)
+top_of heights (n ∷ nodes) = max (height_or_zero (heights n)) (top_of heights nodes)
 
 abbrev pub is_height : ℕ → Option ℕ → Bool
 is_height h None = false

@@ -107,12 +107,12 @@ impl Table {
 }
 
 impl Results for Table {
-    ghost use Rattle.walk_tables.specs.Tables.{results_of, nodes_of};
+    ghost use Rattle.walk_tables.specs.Tables.{results_of, done_nodes};
     ghost use Rattle.walk_tables.specs.Finite.{only_nodes};
 
     ghost results = { results_of };
 
-    ghost nodes = { nodes_of };
+    ghost nodes = { done_nodes };
 
     ghost finite = { only_nodes };
 

@@ -23,9 +23,9 @@ impl Drop for Given {
 }
 
 impl Model for Given {
-    ghost use Rattle.walk_tables.specs.Calls.{Outcomes};
+    ghost use Rattle.walk_tables.specs.Calls.{GivenOutcomes};
 
-    ghost Value = { Outcomes };
+    ghost Value = { GivenOutcomes };
 
     ghost view = { λ g. g.outcomes.entries };
 }

@@ -3,7 +3,7 @@ ghost use Rattle.std.specs.Prelude.{◌≡◌, ◌++◌, ◌∷◌, [], true, If
 ghost use Rattle.meaning_nodes.specs.Nodes.{source_node};
 ghost use Rattle.meaning_tasks.specs.Needs.{values_of, with_elements};
 ghost use Rattle.task_needs.specs.Counting.{nodes_in};
-ghost use Rattle.walk_tables.specs.Surveys.{TakesIn, survey_of};
+ghost use Rattle.walk_tables.specs.Surveys.{TakesInNodes, survey_of};
 ghost use Rattle.walk_tables.specs.Tables.{results_of};
 
 use crate::done::Table;
@@ -75,7 +75,7 @@ impl Survey {
     ) -> Result<(), Memory>
         ensures { let known = values_of (results_of done.now) in
             let whole = flat_map (with_elements known) nodes.now in
-            OnOk result (TakesIn done.now waiting.now whole self.old self.new) }
+            OnOk result (TakesInNodes done.now waiting.now whole self.old self.new) }
     {
         for node in nodes {
             self.add_with_elements(alloc, done, waiting, node)?;
@@ -91,7 +91,7 @@ impl Survey {
         node: &Node,
     ) -> Result<(), Memory>
         ensures { let whole = with_elements (values_of (results_of done.now)) node.now in
-            OnOk result (TakesIn done.now waiting.now whole self.old self.new) }
+            OnOk result (TakesInNodes done.now waiting.now whole self.old self.new) }
     {
         self.add(alloc, done, waiting, node)?;
         let elements = elements_of(done, node);
@@ -126,7 +126,7 @@ impl Survey {
         names: &[Name],
     ) -> Result<(), Memory>
         ensures { let sources = map source_node names.now in
-            OnOk result (TakesIn done.now waiting.now sources self.old self.new) }
+            OnOk result (TakesInNodes done.now waiting.now sources self.old self.new) }
     {
         for name in names {
             let source = source_node(alloc, name.as_slice())?;
@@ -142,7 +142,7 @@ impl Survey {
         waiting: &Heights,
         nodes: &[Node],
     ) -> Result<(), Memory>
-        ensures { OnOk result (TakesIn done.now waiting.now nodes.now self.old self.new) }
+        ensures { OnOk result (TakesInNodes done.now waiting.now nodes.now self.old self.new) }
     {
         for node in nodes {
             self.add(alloc, done, waiting, node)?;
@@ -158,7 +158,8 @@ impl Survey {
         waiting: &Heights,
         node: &Node,
     ) -> Result<(), Memory>
-        ensures { OnOk result (TakesIn done.now waiting.now (node.now ∷ []) self.old self.new) }
+        ensures { OnOk result
+            (TakesInNodes done.now waiting.now (node.now ∷ []) self.old self.new) }
     {
         if let Some(entry) = done.entry(node) {
             self.raise(entry.height);

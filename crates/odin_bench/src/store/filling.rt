@@ -2,7 +2,7 @@
 ghost use Rattle.std.specs.Prelude.{length, IfOk, OnOk};
 ghost use Rattle.odin_fakes.specs.File.{image_of};
 ghost use Rattle.odin_journal.specs.Rest.{IsReady};
-ghost use Rattle.odin_store.specs.OnDisk.{IsLeft};
+ghost use Rattle.odin_store.specs.OnDisk.{StoreAfter};
 
 use crate::store::inputs::{call_of, name_of, outcome_of, text_of};
 use object_values::{Bytes, Memory};
@@ -35,7 +35,7 @@ fn put_one<D: Disk>(
     number: u32,
 ) -> Result<bool, StoreFault>
     requires { IsReady store.old.journal (D.size_of disk.old) }
-    ensures left { IsLeft store.new (D.size_of disk.new) result }
+    ensures left { StoreAfter store.new (D.size_of disk.new) result }
 {
     let name = name_of(alloc, number)?;
     let text = text_of(alloc, 1, number)?;
@@ -64,7 +64,7 @@ fn keep_one<D: Disk>(
     number: u32,
 ) -> Result<bool, StoreFault>
     requires { IsReady store.old.journal (D.size_of disk.old) }
-    ensures left { IsLeft store.new (D.size_of disk.new) result }
+    ensures left { StoreAfter store.new (D.size_of disk.new) result }
 {
     let call = call_of(alloc, store.sources(), number)?;
     let outcome = outcome_of(alloc, number)?;

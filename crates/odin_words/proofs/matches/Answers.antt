@@ -5,7 +5,7 @@ use Rattle.clap.specs.declared.error.Error.{Error}
 use Rattle.clap.specs.declared.error.ErrorKind.TheVariants.{OutOfMemory}
 use Rattle.clap.specs.Simple.{app_of_fields}
 use Rattle.clap.proofs.OnLiterals.{clap_on_literals}
-use Rattle.odin_words.specs.Command.{bare, jobs, load, graph, command}
+use Rattle.odin_words.specs.Command.{bare_odin, jobs, load, graph, command}
 use Rattle.odin_words.proofs.matches.Goals as goal
 
 free : is_simple_and_free command ≡ true
@@ -30,7 +30,7 @@ command_is c =
     let jobs_is : rule_of c.action-jobs.result ≡ jobs = search rules in
     let load_is : rule_of c.action-load.result ≡ load = search rules in
     let graph_is : rule_of c.action-graph.result ≡ graph = search rules in
-    let bare_is : app_of c.disable_help_flag.result ≡ bare = ap app_of_fields c.disable_help_flag.ensures ∙ ap no_help c.new-4.ensures.app in
+    let bare_is : app_of c.disable_help_flag.result ≡ bare_odin = ap app_of_fields c.disable_help_flag.ensures ∙ ap no_help c.new-4.ensures.app in
     c.in_ok-command.ensures.shape (search rules)
     ∙ ap₂ with_rule (c.in_ok-arg-2.ensures.shape (search rules) ∙ ap₂ with_rule (c.in_ok-arg.ensures.shape (search rules) ∙ ap₂ with_rule bare_is jobs_is) load_is) graph_is
 

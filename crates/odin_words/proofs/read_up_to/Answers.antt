@@ -1,12 +1,12 @@
 use Rattle.std.proofs.Common.{◌≡◌, ◌∙◌, sym, ℕ, List, ◌<◌, ◌≤◌, ◌^◌, arith}
 use Rattle.std.specs.Fmt.{decimal}
 use Rattle.std.proofs.lemmas.Fmt.{decimal_injective}
-use Rattle.odin_words.specs.Asked.{IsNumber}
+use Rattle.odin_words.specs.Asked.{IsNumberUpTo}
 use Rattle.odin_words.proofs.read_up_to.Goals as goal
 use Rattle.odin_words.proofs.read_up_to.Goals.{then-number-lt-LEAST-via-then-number-lt-LEAST, then-number-lt-LEAST-via-else-number-lt-LEAST+then-number-most}
 
 -- a word spells one number alone
-same_number : (most : ℕ) (word : List ℕ) (read number : ℕ) → most < 2 ^ 64 → word ≡ decimal read → read < 2 ^ 64 → IsNumber most word number → read ≡ number
+same_number : (most : ℕ) (word : List ℕ) (read number : ℕ) → most < 2 ^ 64 → word ≡ decimal read → read < 2 ^ 64 → IsNumberUpTo most word number → read ≡ number
 same_number most word read number fits is small spelled =
     let few : number ≤ most = spelled.few in
     decimal_injective read number small (omega arith) (sym is ∙ spelled.spelled)

@@ -1,6 +1,6 @@
 use Rattle.std.proofs.Common.{◌≡◌, sym, ap, subst, ℕ, List, Option, Some, None}
 use Rattle.std.specs.Option.{option_copied}
-use Rattle.odin_words.specs.Asked.{Serve, Load, IsNumber, IsWork, serves, loads}
+use Rattle.odin_words.specs.Asked.{Serve, Load, IsNumberUpTo, IsWork, serves, loads}
 use Rattle.odin_words.proofs.work_by.Goals as goal
 
 -- a name alone
@@ -9,7 +9,7 @@ name_alone graph load name named none =
     subst (λ g. IsWork g load (Serve name)) (sym named) (subst (λ l. IsWork (Some name) l (Serve name)) (sym none) (serves name))
 
 -- a number alone
-number_alone : (graph load : Option (List ℕ)) (word : List ℕ) (units : ℕ) → graph ≡ None → load ≡ Some word → IsNumber 2000 word units → IsWork graph load (Load units)
+number_alone : (graph load : Option (List ℕ)) (word : List ℕ) (units : ℕ) → graph ≡ None → load ≡ Some word → IsNumberUpTo 2000 word units → IsWork graph load (Load units)
 number_alone graph load word units none given number =
     subst (λ g. IsWork g load (Load units)) (sym none) (subst (λ l. IsWork None l (Load units)) (sym given) (loads word units number))
 

@@ -2,7 +2,7 @@ use Rattle.std.proofs.Common.{refl, sym, subst}
 use Rattle.std.proofs.lemmas.Result.{err_from_is_err_and}
 use Rattle.walk_tables.specs.Tables.{results_of}
 use Rattle.derive_walk.specs.Settings.{world_in}
-use Rattle.derive_walk.specs.Settled.{IsClosed}
+use Rattle.derive_walk.specs.Settled.{NodeIsClosed}
 use Rattle.derive_walk.specs.States.{HoldsIn, GoesOnFrom}
 use Rattle.derive_walk.specs.Worlds.{World}
 use Rattle.derive_walk.proofs.LooksLemmas.{few_at, few_wider, few_settled, few_stops, few_lost}
@@ -39,7 +39,7 @@ returns-in_ok-add-in-Settled-clause-on g c = goes_with_done (world_in g.K.Known.
 pub returns-in_ok-add-in-Settled-clause-holds : goal.returns-in_ok-add-in-Settled-clause-holds
 returns-in_ok-add-in-Settled-clause-holds g c =
     settled_holds (world_in g.K.Known.kept c.args.setting.now) c.args.walk.now c.requires.holds c.args.node c.args.height c.requires.last c.requires.closing c.in-Settled.view
-    (subst (IsClosed (world_in g.K.Known.kept c.args.setting.now) c.args.node (results_of c.args.walk.now.done)) c.in-Settled.is c.in_ok-view.ensures.closed)
+    (subst (NodeIsClosed (world_in g.K.Known.kept c.args.setting.now) c.args.node (results_of c.args.walk.now.done)) c.in-Settled.is c.in_ok-view.ensures.closed)
     c.add.new.self c.in_ok-add-in-Settled.ensures.ok
 
 pub returns-in_ok-add-in-Settled-clause-visited : goal.returns-in_ok-add-in-Settled-clause-visited
@@ -56,7 +56,7 @@ returns-in_err-add-in-Stops-2-clause-on g c = subst (λ z. GoesOnFrom c.args.wal
 pub returns-in_err-add-in-Stops-2-clause-holds : goal.returns-in_err-add-in-Stops-2-clause-holds
 returns-in_err-add-in-Stops-2-clause-holds g c =
     let w : World = world_in g.K.Known.kept c.args.setting.now in
-    let stop = subst (IsClosed w c.args.node (results_of c.args.walk.now.done)) c.in-Stops.is c.in_ok-view.ensures.closed in
+    let stop = subst (NodeIsClosed w c.args.node (results_of c.args.walk.now.done)) c.in-Stops.is c.in_ok-view.ensures.closed in
     subst (λ z. HoldsIn w (record c.args.walk.now { wanted = c.add-in-Stops.new.self; waiting = z })) (sym c.in_err-add-in-Stops-2.ensures.err)
     (wanted_holds w c.args.walk.now c.requires.holds c.args.node c.args.height c.requires.last c.requires.closing c.in-Stops.call stop c.add-in-Stops.new.self c.in_ok-add-in-Stops.ensures.ok)
 
@@ -66,7 +66,7 @@ returns-in_ok-add-in-Stops-2-clause-on g c = goes_with_waiting (world_in g.K.Kno
 pub returns-in_ok-add-in-Stops-2-clause-holds : goal.returns-in_ok-add-in-Stops-2-clause-holds
 returns-in_ok-add-in-Stops-2-clause-holds g c =
     let w : World = world_in g.K.Known.kept c.args.setting.now in
-    let stop = subst (IsClosed w c.args.node (results_of c.args.walk.now.done)) c.in-Stops.is c.in_ok-view.ensures.closed in
+    let stop = subst (NodeIsClosed w c.args.node (results_of c.args.walk.now.done)) c.in-Stops.is c.in_ok-view.ensures.closed in
     stopped_holds w c.args.walk.now c.requires.holds c.args.node c.args.height c.requires.last c.requires.closing c.in-Stops.call stop c.add-in-Stops.new.self c.in_ok-add-in-Stops.ensures.ok c.add-in-Stops-2.new.self c.in_ok-add-in-Stops-2.ensures.ok
 
 pub returns-in_ok-add-in-Stops-2-clause-visited : goal.returns-in_ok-add-in-Stops-2-clause-visited

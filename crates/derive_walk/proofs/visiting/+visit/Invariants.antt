@@ -1,5 +1,5 @@
 use Rattle.std.proofs.Common.{◌≡◌, ◌-◌, length, drop}
-use Rattle.derive_walk.specs.Looks.{AreFew, met_in}
+use Rattle.derive_walk.specs.Looks.{LooksAreFew, met_in}
 use Rattle.derive_walk.specs.Settings.{world_in}
 use Rattle.derive_walk.specs.States.{heights_in}
 use Rattle.derive_walk.specs.Paths.{IsAheadIn}
@@ -17,7 +17,7 @@ invariant-rounds g l = record {
   so : SoFar (world_in g.K.Known.kept l.setting) l.fn.walk l.walk l.node;
   ahead : IsAheadIn (world_in g.K.Known.kept l.setting) l.walk l.node l.ahead;
   length : l.length ≡ length l.fn.walk.path;
-  counted : AreFew (met_in l.fn.walk) (met_in l.walk) l.fn.steps l.steps 0;
+  counted : LooksAreFew (met_in l.fn.walk) (met_in l.walk) l.fn.steps l.steps 0;
 }
 
 abbrev pub decreases-rounds : goal.decreases-rounds
@@ -27,5 +27,5 @@ abbrev pub invariant-loop-need : goal.invariant-loop-need
 invariant-loop-need g l = record {
   round : InRound (world_in g.K.Known.kept l.setting) l.fn.walk l.initial.walk l.walk l.node l.unvisited (drop l.need-index l.unvisited);
   ahead : IsAheadIn (world_in g.K.Known.kept l.setting) l.walk l.node l.ahead;
-  counted : AreFew (met_in l.fn.walk) (met_in l.walk) l.fn.steps l.steps 0;
+  counted : LooksAreFew (met_in l.fn.walk) (met_in l.walk) l.fn.steps l.steps 0;
 }

@@ -1,6 +1,6 @@
 use Rattle.std.proofs.Common.{subst, rules}
 use Rattle.meaning_graph_text.specs.Going.{start}
-use Rattle.dg_reader.specs.Walks.{StopsAt, Halts}
+use Rattle.dg_reader.specs.Walks.{StopsAt, TokensHalt}
 use Rattle.dg_reader.proofs.FaultLemmas.{fault_at}
 use Rattle.dg_reader.proofs.FileLemmas.{none_read, more_read, left_within, decl_shorter}
 use Rattle.dg_reader.proofs.read.read_decls.Goals as goal
@@ -13,12 +13,12 @@ overflow_sub-start c = rw c.left.ensures (left_within c.decls.decls c.decls.star
 
 pub overflow_sub-text : goal.overflow_sub-text
 overflow_sub-text c =
-    let s : StopsAt start c.decls.cursor c.decl.new.self = subst (λ stop. Halts stop start c.decls.cursor c.decl.new.self) c.in-Err-Unexpected.field-0-is c.in-Err-Unexpected.ensures.err in
+    let s : StopsAt start c.decls.cursor c.decl.new.self = subst (λ stop. TokensHalt stop start c.decls.cursor c.decl.new.self) c.in-Err-Unexpected.field-0-is c.in-Err-Unexpected.ensures.err in
     rw c.left-in-Err-Unexpected.ensures (fault_at c.args.text.now c.decls.decls c.decls.cursor c.decl.new.self c.requires c.decls.invariant.spelled c.decls.invariant.tokens c.decls.invariant.past s).0
 
 pub returns-in-Err-Unexpected-clause-err : goal.returns-in-Err-Unexpected-clause-err
 returns-in-Err-Unexpected-clause-err c =
-    let s : StopsAt start c.decls.cursor c.decl.new.self = subst (λ stop. Halts stop start c.decls.cursor c.decl.new.self) c.in-Err-Unexpected.field-0-is c.in-Err-Unexpected.ensures.err in
+    let s : StopsAt start c.decls.cursor c.decl.new.self = subst (λ stop. TokensHalt stop start c.decls.cursor c.decl.new.self) c.in-Err-Unexpected.field-0-is c.in-Err-Unexpected.ensures.err in
     let fault = fault_at c.args.text.now c.decls.decls c.decls.cursor c.decl.new.self c.requires c.decls.invariant.spelled c.decls.invariant.tokens c.decls.invariant.past s in
     rw (c.syntax_fault.ensures, c.left-in-Err-Unexpected.ensures) (c.requires, search (rules, fault.1))
 

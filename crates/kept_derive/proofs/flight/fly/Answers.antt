@@ -4,8 +4,8 @@ use Rattle.std.proofs.lemmas.Result.{err_from_is_err_and}
 use Rattle.derive_walk.specs.Walks.{Walked}
 use Rattle.job_runner.specs.Flights.{InFlight}
 use Rattle.kept_derive.specs.declared.fault.KeptFault.TheVariants.{Memory}
-use Rattle.kept_derive.specs.Runs.{at, known_in, world_in}
-use Rattle.kept_derive.specs.Ways.{IsStartable, IsNext}
+use Rattle.kept_derive.specs.Runs.{at, known_in, store_world}
+use Rattle.kept_derive.specs.Ways.{IsStartable, IsNextStart}
 use Rattle.kept_derive.proofs.HeldLemmas.{kept_fit}
 use Rattle.kept_derive.proofs.CallLemmas.{kept_is, lost_is}
 use Rattle.kept_derive.proofs.WayLemmas.{IsFresh, start, right_now, told_now, may_drain, may_wait, one_runs}
@@ -48,8 +48,8 @@ returns-in-Err-Memory-clause-counted g c = gives_up_looked g.D.Disk.told _ _ _ _
 
 pub land-requires : goal.land-requires
 land-requires g c =
-    let next = subst (λ l. IsNext l c.loop.jobs None) c.wanted.ensures c.in_default.ensures in
-    let fresh : IsFresh (world_in c.args.graph.now c.loop.store c.loop.core.given) c.loop.core c.loop.jobs =
+    let next = subst (λ l. IsNextStart l c.loop.jobs None) c.wanted.ensures c.in_default.ensures in
+    let fresh : IsFresh (store_world c.args.graph.now c.loop.store c.loop.core.given) c.loop.core c.loop.jobs =
     elim c.if-fresh.branch [ then-fresh w ↦ inr (c.loop.invariant.fresh w.if-fresh.true) | else-fresh w ↦ inl (w.is_full.ensures.0 (sym w.value-is ∙ c.if-is_full.true)) ] in
     record {
       may = may_drain g.D.Disk.told _ _ _ _ _ _ _ c.loop.invariant.way c.requires.derivable.spellable c.checked.ensures c.loop.store.are c.requires.idle.none _ c.loop.invariant.ready;
@@ -59,8 +59,8 @@ land-requires g c =
 pub returns-in_err-land-clause-stopped : goal.returns-in_err-land-clause-stopped
 returns-in_err-land-clause-stopped g c =
     let given = err_from_is_err_and _ c.from_residual.ensures.1 in
-    let next = subst (λ l. IsNext l c.loop.jobs None) c.wanted.ensures c.in_default.ensures in
-    let fresh : IsFresh (world_in c.args.graph.now c.loop.store c.loop.core.given) c.loop.core c.loop.jobs =
+    let next = subst (λ l. IsNextStart l c.loop.jobs None) c.wanted.ensures c.in_default.ensures in
+    let fresh : IsFresh (store_world c.args.graph.now c.loop.store c.loop.core.given) c.loop.core c.loop.jobs =
     elim c.if-fresh.branch [ then-fresh w ↦ inr (c.loop.invariant.fresh w.if-fresh.true) | else-fresh w ↦ inl (w.is_full.ensures.0 (sym w.value-is ∙ c.if-is_full.true)) ] in
     let may = may_wait g.D.Disk.told _ _ _ _ _ _ _ c.loop.invariant.way c.loop.invariant.still next fresh in
     stopped_at _ _ _ _ _ _ _ _ _ (given.1 ∙ ap (λ f. Err f) given.2) c.loop.invariant.limit (fails g.D.Disk.told _ _ _ _ _ _ _ c.loop.invariant.way may c.changes_follow.ensures _ _ _ _ c.in_err-land.ensures.fails)
@@ -68,16 +68,16 @@ returns-in_err-land-clause-stopped g c =
 pub returns-in_err-land-clause-counted : goal.returns-in_err-land-clause-counted
 returns-in_err-land-clause-counted g c =
     let given = err_from_is_err_and _ c.from_residual.ensures.1 in
-    let next = subst (λ l. IsNext l c.loop.jobs None) c.wanted.ensures c.in_default.ensures in
-    let fresh : IsFresh (world_in c.args.graph.now c.loop.store c.loop.core.given) c.loop.core c.loop.jobs =
+    let next = subst (λ l. IsNextStart l c.loop.jobs None) c.wanted.ensures c.in_default.ensures in
+    let fresh : IsFresh (store_world c.args.graph.now c.loop.store c.loop.core.given) c.loop.core c.loop.jobs =
     elim c.if-fresh.branch [ then-fresh w ↦ inr (c.loop.invariant.fresh w.if-fresh.true) | else-fresh w ↦ inl (w.is_full.ensures.0 (sym w.value-is ∙ c.if-is_full.true)) ] in
     let may = may_wait g.D.Disk.told _ _ _ _ _ _ _ c.loop.invariant.way c.loop.invariant.still next fresh in
     flight_looks_at _ _ _ _ _ _ _ _ _ _ _ _ (given.1 ∙ ap (λ f. Err f) given.2) c.loop.invariant.limit (fails_looked g.D.Disk.told _ _ _ _ _ _ _ c.loop.invariant.way may _ _ _ _ _ _ c.in_err-land.ensures.fails c.loop.invariant.counted)
 
 pub returns-in-Lost-clause-flown : goal.returns-in-Lost-clause-flown
 returns-in-Lost-clause-flown g c =
-    let next = subst (λ l. IsNext l c.loop.jobs None) c.wanted.ensures c.in_default.ensures in
-    let fresh : IsFresh (world_in c.args.graph.now c.loop.store c.loop.core.given) c.loop.core c.loop.jobs =
+    let next = subst (λ l. IsNextStart l c.loop.jobs None) c.wanted.ensures c.in_default.ensures in
+    let fresh : IsFresh (store_world c.args.graph.now c.loop.store c.loop.core.given) c.loop.core c.loop.jobs =
     elim c.if-fresh.branch [ then-fresh w ↦ inr (c.loop.invariant.fresh w.if-fresh.true) | else-fresh w ↦ inl (w.is_full.ensures.0 (sym w.value-is ∙ c.if-is_full.true)) ] in
     let may = may_wait g.D.Disk.told _ _ _ _ _ _ _ c.loop.invariant.way c.loop.invariant.still next fresh in
     record {
@@ -130,8 +130,8 @@ loop-preserved g c =
             counted = c.loop.invariant.counted;
           })
       | in_default+then-is_full+in_ok-land+in-Kept w ↦
-          let next = subst (λ l. IsNext l c.loop.jobs None) c.wanted.ensures w.in_default.ensures in
-          let fresh : IsFresh (world_in c.args.graph.now c.loop.store c.loop.core.given) c.loop.core c.loop.jobs =
+          let next = subst (λ l. IsNextStart l c.loop.jobs None) c.wanted.ensures w.in_default.ensures in
+          let fresh : IsFresh (store_world c.args.graph.now c.loop.store c.loop.core.given) c.loop.core c.loop.jobs =
           elim w.if-fresh.branch [ then-fresh v ↦ inr (c.loop.invariant.fresh v.if-fresh.true) | else-fresh v ↦ inl (v.is_full.ensures.0 (sym v.value-is ∙ w.if-is_full.true)) ] in
           let may = may_wait g.D.Disk.told _ _ _ _ _ _ _ c.loop.invariant.way c.loop.invariant.still next fresh in
           let drain = may_drain g.D.Disk.told _ _ _ _ _ _ _ c.loop.invariant.way c.requires.derivable.spellable c.checked.ensures c.loop.store.are c.requires.idle.none _ c.loop.invariant.ready in

@@ -3,8 +3,8 @@ use Rattle.std.proofs.lemmas.List.Elements.{All-nil, All-cons, All-head}
 use Rattle.object_sources.specs.Texts.{Text}
 use Rattle.meaning_texts.specs.Lists.{IsIn}
 use Rattle.meaning_records.specs.Tables.{IsNoText}
-use Rattle.meaning_records.specs.Batches.{AreOnce, needed_texts}
-use Rattle.meaning_records.specs.ItemExamples.{stored_call, call, made, made_outcome}
+use Rattle.meaning_records.specs.Batches.{EachTextOnce, needed_texts}
+use Rattle.meaning_records.specs.ItemExamples.{stored_call, call, ex_made_outcome, made_outcome}
 use Rattle.meaning_records.specs.BatchExamples.{contents, known, fresh, unneeded}
 use Rattle.meaning_records.proofs.NewTexts.{fresh_is_none, one_added, two_added}
 use Rattle.meaning_records.proofs.examples.batches_of_calls.Goals as goal
@@ -29,7 +29,7 @@ returns c = record {
     needed = All-nil (Needs known);
     new = All-nil (IsNoText contents);
     stored = stored_call (codes "cc") (Some 0);
-    given = made;
+    given = ex_made_outcome;
     called = record { tool = refl; version = refl; words = refl; params = refl; parts = (record { slot = refl; label = refl; body = refl }, tt); outs = refl };
     came = record { status = refl; lines = refl; outputs = (record { name = refl; body = refl }, (record { name = refl; body = refl }, tt)) };
     items_are = refl;
@@ -40,18 +40,18 @@ returns c = record {
     needed = All-cons (Needs fresh) fresh [] (inl refl) (All-nil (Needs fresh));
     new = All-cons (IsNoText contents) fresh [] fresh_is_none (All-nil (IsNoText contents));
     stored = stored_call (codes "cc") (Some 2);
-    given = made;
+    given = ex_made_outcome;
     called = record { tool = refl; version = refl; words = refl; params = refl; parts = (record { slot = refl; label = refl; body = refl }, tt); outs = refl };
     came = record { status = refl; lines = refl; outputs = (record { name = refl; body = refl }, (record { name = refl; body = refl }, tt)) };
     items_are = refl;
   };
   known_again = λ b.
-      let added : b.added ≡ known ∷ [] = one_added known (stored_call (codes "cc") (Some 0)) b.stored made b.given b.added b.items_are in
+      let added : b.added ≡ known ∷ [] = one_added known (stored_call (codes "cc") (Some 0)) b.stored ex_made_outcome b.given b.added b.items_are in
       All-head (IsNoText contents) known [] (subst (λ (l : List Text). All (IsNoText contents) l) added b.new) 0 refl;
   not_needed = λ b.
-      let added : b.added ≡ unneeded ∷ [] = one_added unneeded (stored_call (codes "cc") (Some 0)) b.stored made b.given b.added b.items_are in
+      let added : b.added ≡ unneeded ∷ [] = one_added unneeded (stored_call (codes "cc") (Some 0)) b.stored ex_made_outcome b.given b.added b.items_are in
       not_needed (All-head (Needs known) unneeded [] (subst (λ (l : List Text). All (Needs known) l) added b.needed));
   twice = λ b.
-      let added : b.added ≡ fresh ∷ fresh ∷ [] = two_added fresh fresh (stored_call (codes "cc") (Some 2)) b.stored made b.given b.added b.items_are in
-      (subst AreOnce added b.once).0 (inl refl);
+      let added : b.added ≡ fresh ∷ fresh ∷ [] = two_added fresh fresh (stored_call (codes "cc") (Some 2)) b.stored ex_made_outcome b.given b.added b.items_are in
+      (subst EachTextOnce added b.once).0 (inl refl);
 }

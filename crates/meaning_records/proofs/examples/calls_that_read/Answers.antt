@@ -2,14 +2,14 @@ use Rattle.std.proofs.Common.{refl, codes, Some, None, [], ◌∷◌}
 use Rattle.meaning_calls.specs.Tests.{is_well_formed, outcome_fits}
 use Rattle.meaning_calls.proofs.Lemmas.{well_formed_decides, fits_decides}
 use Rattle.meaning_records.specs.declared.items.Item.TheVariants.{Kept}
-use Rattle.meaning_records.specs.ItemExamples.{old, with_calls, with_kept, stored_call, call, made, made_outcome, aborted, aborted_outcome}
+use Rattle.meaning_records.specs.ItemExamples.{old, ex_with_calls, with_kept, stored_call, call, ex_made_outcome, made_outcome, ex_aborted_outcome, aborted_outcome}
 use Rattle.meaning_records.proofs.Alone.{alone}
 use Rattle.meaning_records.proofs.examples.calls_that_read.Goals as goal
 
 pub returns : goal.returns
 unfolding is_well_formed outcome_fits
 returns c = record {
-  with_outputs = alone old (Kept (stored_call (codes "cc") (Some 0)) made) with_kept (record {
+  with_outputs = alone old (Kept (stored_call (codes "cc") (Some 0)) ex_made_outcome) with_kept (record {
     loads = (
       call (Some (codes "x=1")),
       made_outcome,
@@ -25,7 +25,7 @@ returns c = record {
     edits = refl;
     graph = refl;
   });
-  without = alone old (Kept (stored_call (codes "cc") (Some 0)) aborted) (with_calls ((call (Some (codes "x=1")), aborted_outcome) ∷ [])) (record {
+  without = alone old (Kept (stored_call (codes "cc") (Some 0)) ex_aborted_outcome) (ex_with_calls ((call (Some (codes "x=1")), aborted_outcome) ∷ [])) (record {
     loads = (
       call (Some (codes "x=1")),
       aborted_outcome,
@@ -41,7 +41,7 @@ returns c = record {
     edits = refl;
     graph = refl;
   });
-  absent = alone with_kept (Kept (stored_call (codes "cc") None) aborted) (with_calls ((call (Some (codes "x=1")), made_outcome) ∷ (call None, aborted_outcome) ∷ [])) (record {
+  absent = alone with_kept (Kept (stored_call (codes "cc") None) ex_aborted_outcome) (ex_with_calls ((call (Some (codes "x=1")), made_outcome) ∷ (call None, aborted_outcome) ∷ [])) (record {
     loads = (
       call None,
       aborted_outcome,

@@ -2,7 +2,7 @@ use Rattle.std.proofs.Common.{◌∙◌, ap, subst}
 use Rattle.std.proofs.lemmas.Result.{IfOk-weaker, IfErr-weaker}
 use Rattle.meaning_answers.specs.Replies.{shown}
 use Rattle.walk_tables.specs.declared.found.Found.TheVariants as found
-use Rattle.odin_answers.specs.Faults.{Refuses}
+use Rattle.odin_answers.specs.Faults.{IsReplyToFault}
 use Rattle.odin_answers.proofs.AnswerLemmas.{replied, unreplied, refused, stopped}
 use Rattle.odin_answers.proofs.FaultLemmas.{at_want, refused_rests, refused_left, refused_cause}
 use Rattle.odin_answers.proofs.answer.answer_counted.Goals as goal
@@ -22,7 +22,7 @@ returns-in-Ok-clause-ok g c =
 pub returns-clause-ok : goal.returns-clause-ok
 returns-clause-ok g c =
     IfOk-weaker c.refused.result _ _
-    (λ reply says. refused g.D.Disk.told _ _ _ _ _ c.in-Err.fault reply c.in-Err.ensures.err (subst (λ on. Refuses on c.in-Err.fault reply) (c.graph-in-Err.ensures ∙ c.in-Err.ensures.stays.graph) says)) c.refused.ensures.ok
+    (λ reply says. refused g.D.Disk.told _ _ _ _ _ c.in-Err.fault reply c.in-Err.ensures.err (subst (λ on. IsReplyToFault on c.in-Err.fault reply) (c.graph-in-Err.ensures ∙ c.in-Err.ensures.stays.graph) says)) c.refused.ensures.ok
 
 pub returns-clause-err : goal.returns-clause-err
 returns-clause-err g c = IfErr-weaker c.refused.result _ _ (λ why says. stopped g.D.Disk.told _ _ _ _ _ c.in-Err.fault why c.in-Err.ensures.err says) c.refused.ensures.err

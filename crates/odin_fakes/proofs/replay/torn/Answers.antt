@@ -6,7 +6,7 @@ use Rattle.odin_fakes.specs.declared.disk.Entry.{Entry}
 use Rattle.odin_fakes.specs.declared.disk.Entry.TheVariants as entry
 use Rattle.odin_fakes.specs.Calls.{image_after, pending_after}
 use Rattle.odin_fakes.specs.Choices.{IsWhole}
-use Rattle.odin_fakes.specs.Entries.{calls_of, bytes_left}
+use Rattle.odin_fakes.specs.Entries.{calls_from_entries, bytes_left}
 use Rattle.odin_fakes.proofs.Replaying.{Turn, turn_torn, turn_whole, turn_left, whole_left, pending_at}
 use Rattle.odin_fakes.proofs.Undoing.{UndoesSoFar, undoes_all, undoes_early, undoes_late, whole_past, whole_tells}
 use Rattle.odin_fakes.proofs.replay.torn.Goals as goal
@@ -34,25 +34,25 @@ loop-place-preserved c = elim c.if-place-pending.branch [
   | then-place-pending+in_ok-tear w ↦
       let early : c.loop-place.place ≤ c.args.pending = omega arith in
       let next : c.loop-place.place + 1 ≤ c.args.pending = omega arith in
-      let whole : w.tear.new.image.items ≡ image_after c.args.first.now (calls_of (take (c.loop-place.place + 1) c.args.entries.now) c.args.written.now) =
+      let whole : w.tear.new.image.items ≡ image_after c.args.first.now (calls_from_entries (take (c.loop-place.place + 1) c.args.entries.now) c.args.written.now) =
       turn_whole _ _ _ _ _ _ _ _ _ (turn c) (c.loop-place.invariant.4 (inl early)) (w.in_ok-tear.ensures.whole (whole_tells c.loop-place.whole (kept c) c.loop-place.invariant.1)) in
       let stays : IsWhole w.tear.new.choice = subst IsWhole (sym (w.tear.ensures.past (whole_tells c.loop-place.whole (kept c) c.loop-place.invariant.1))) (whole_past c.loop-place.whole (kept c) c.loop-place.invariant.1) in (
         ap (λ bytes. bytes.now) w.bytes-is ∙ left c,
         subst IsWhole (sym w.whole-is) stays,
         (λ is. subst IsWhole (sym w.choice-is) (c.loop-place.invariant.2 is)),
-        whole_left c.args.first.now (calls_of (take (c.loop-place.place + 1) c.args.entries.now) c.args.written.now) _ (ap (λ image. image.items) w.image-is ∙ whole),
+        whole_left c.args.first.now (calls_from_entries (take (c.loop-place.place + 1) c.args.entries.now) c.args.written.now) _ (ap (λ image. image.items) w.image-is ∙ whole),
         (λ _. ap (λ image. image.items) w.image-is ∙ whole),
         (λ _. w.choice-is ∙ c.loop-place.invariant.5 early),
         (λ undoes. undoes_early _ _ _ _ _ _ _ _ undoes (w.choice-is ∙ c.loop-place.invariant.5 early) next (ap (λ image. image.items) w.image-is ∙ whole)),
       )
   | else-place-pending+in_ok-tear-2 w ↦
       let late : c.args.pending ≤ c.loop-place.place = omega arith in
-      let torn : IsCrashImage (pending_after c.args.first.now (calls_of (take (c.loop-place.place + 1) c.args.entries.now) c.args.written.now)) w.tear-else-place-pending.new.image.items =
+      let torn : IsCrashImage (pending_after c.args.first.now (calls_from_entries (take (c.loop-place.place + 1) c.args.entries.now) c.args.written.now)) w.tear-else-place-pending.new.image.items =
       turn_torn _ _ _ _ _ _ _ _ _ (turn c) (pending_at c.args.entries.now c.args.pending c.loop-place.place (kept c) c.requires.unsynced late (turn c).inside (turn c).is) c.loop-place.invariant.3 w.in_ok-tear-2.ensures.torn in (
         ap (λ bytes. bytes.now) w.bytes-is ∙ left c,
         subst IsWhole (sym w.whole-is) c.loop-place.invariant.1,
         (λ is. subst IsWhole (sym (w.choice-is ∙ w.tear-else-place-pending.ensures.past (whole_tells c.loop-place.choice (kept c) (c.loop-place.invariant.2 is)))) (whole_past c.loop-place.choice (kept c) (c.loop-place.invariant.2 is))),
-        subst (λ (bytes : List ℕ). IsCrashImage (pending_after c.args.first.now (calls_of (take (c.loop-place.place + 1) c.args.entries.now) c.args.written.now)) bytes) (sym (ap (λ image. image.items) w.image-is)) torn,
+        subst (λ (bytes : List ℕ). IsCrashImage (pending_after c.args.first.now (calls_from_entries (take (c.loop-place.place + 1) c.args.entries.now) c.args.written.now)) bytes) (sym (ap (λ image. image.items) w.image-is)) torn,
         (λ when. elim when [
           | inl before ↦ absurd (omega arith)
           | inr is ↦ ap (λ image. image.items) w.image-is ∙ turn_whole _ _ _ _ _ _ _ _ _ (turn c) (c.loop-place.invariant.4 (inr is)) (w.in_ok-tear-2.ensures.whole (whole_tells c.loop-place.choice (kept c) (c.loop-place.invariant.2 is)))

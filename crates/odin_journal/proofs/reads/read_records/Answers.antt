@@ -1,6 +1,6 @@
 use Rattle.std.proofs.Common.{◌≡◌, ◌++◌, ◌∷◌, ◌+◌, ◌*◌, [], length, length-append, ap, sym, subst, ◌∙◌, arith}
 use Rattle.disk_trails.specs.WorkLemmas.{more_work, add_work}
-use Rattle.meaning_store.specs.Images.{behind, IsRecord, AreRecords}
+use Rattle.meaning_store.specs.Images.{gate_after, IsRecord, AreRecords}
 use Rattle.odin_journal.proofs.MomentLemmas.{untouched_on}
 use Rattle.odin_journal.proofs.AppendLemmas.{one_more}
 use Rattle.odin_journal.proofs.reads.read_records.Goals as goal
@@ -12,7 +12,7 @@ gates-preserved g c =
     let payload = c.in-Some.payload in
     let room = rw c.in-Some.is at c.in_ok-payload.ensures.room in
     let some = rw c.in-Some.is at c.in_ok-payload.ensures.some in
-    let gate_is : behind c.gates.gate payload ≡ c.gates.gate + (5 + c.len.result) = omega (arith, c.len.ensures) in
+    let gate_is : gate_after c.gates.gate payload ≡ c.gates.gate + (5 + c.len.result) = omega (arith, c.len.ensures) in
     let records_are : c.push.new.self ≡ c.gates.records ++ payload ∷ [] = c.in_ok-push.ensures.ok in
     let size_is = c.in_ok-payload.ensures.left.size in
     record {

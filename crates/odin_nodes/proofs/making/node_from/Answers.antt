@@ -5,7 +5,7 @@ use Rattle.std.proofs.lemmas.Result.{IfOk-weaker}
 use Rattle.object_values.specs.declared.nodes.Node.{Node}
 use Rattle.meaning_nodes.specs.NodeOf.{NodeAnswer, is_node, unknown_param, node_of, steps_on, unknown_in}
 use Rattle.meaning_nodes.proofs.Lemmas.{made_fits}
-use Rattle.odin_nodes.specs.Refusals.{IsRefusal, IsNodeRefusal}
+use Rattle.odin_nodes.specs.Refusals.{IsFaultOfAnswer, IsNodeRefusal}
 use Rattle.odin_nodes.proofs.MakeLemmas.{param_unknown, params_known, when_ok, when_err}
 use Rattle.odin_nodes.proofs.making.node_from.Goals as goal
 
@@ -35,4 +35,4 @@ returns-clause-fits c = IfOk-weaker c.when_done.result _ _ (λ node is canonical
 pub returns-clause-err : goal.returns-clause-err
 returns-clause-err c =
     when_err c.when_done.result c.add_steps-done.result (IsNodeRefusal c.args.graph.now c.args.expression) c.when_done.ensures.err
-    (subst (λ (answer : NodeAnswer). IfErr c.add_steps-done.result (IsRefusal answer)) (sym (by_steps c)) c.add_steps-done.ensures.err)
+    (subst (λ (answer : NodeAnswer). IfErr c.add_steps-done.result (IsFaultOfAnswer answer)) (sym (by_steps c)) c.add_steps-done.ensures.err)

@@ -4,7 +4,7 @@ use Rattle.meaning_commands.specs.Replies.{reply_text}
 use Rattle.meaning_commands.specs.declared.commands.Command.TheVariants as command
 use Rattle.meaning_answers.specs.Answers as answers
 use Rattle.odin_journal.specs.declared.fault.JournalFault.TheVariants as fault
-use Rattle.source_edits.specs.Edits.{Says}
+use Rattle.source_edits.specs.Edits.{SaysReply}
 use Rattle.odin_shell.proofs.AnswerLemmas.{at_stop, same_answers}
 use Rattle.odin_shell.proofs.CommandLemmas.{edit_onward, put_said, put_unsaid, remove_said, remove_unsaid, take_said, take_unsaid, ask_said, ask_unsaid, shown, unshown}
 use Rattle.odin_shell.proofs.ShowLemmas.{plan_answers, sources_answers, kept_answers}
@@ -60,7 +60,7 @@ returns-in-Ask-clause-err g c = ask_unsaid _ _ c.args.engine.now _ _ _ _ _ _ _ c
 pub returns-in_ok-plan-in-Plan-clause-ok : goal.returns-in_ok-plan-in-Plan-clause-ok
 returns-in_ok-plan-in-Plan-clause-ok g c =
     shown _ _ _ (command.Plan c.in-Plan.text) _ _ _ _ (sym c.into_parts-command.ensures.command ∙ c.in-Plan.is) _
-    (λ told. plan_answers _ _ told _ _ c.in-Plan.text (subst (λ t. Says (answers.Plan c.args.engine.now.graph t) c.in_ok-plan-in-Plan.field-0) c.as_slice-in-Plan.ensures c.in_ok-plan-in-Plan.ensures))
+    (λ told. plan_answers _ _ told _ _ c.in-Plan.text (subst (λ t. SaysReply (answers.Plan c.args.engine.now.graph t) c.in_ok-plan-in-Plan.field-0) c.as_slice-in-Plan.ensures c.in_ok-plan-in-Plan.ensures))
 
 pub returns-in_err-plan-in-Plan-clause-err : goal.returns-in_err-plan-in-Plan-clause-err
 returns-in_err-plan-in-Plan-clause-err g c =

@@ -1,10 +1,10 @@
 use Rattle.std.proofs.Common.{◌≡◌, ◌∙◌, sym, refl, ap, subst, ℕ, List, ◌<◌, ◌≤◌, ◌^◌, Option, Some, None, arith, lit<}
 use Rattle.std.proofs.lemmas.Fmt.{decimal_injective}
-use Rattle.odin_words.specs.Asked.{AskedWork, Serve, Load, IsNumber, IsJobs, IsWork, serves, loads}
+use Rattle.odin_words.specs.Asked.{AskedWork, Serve, Load, IsNumberUpTo, IsJobs, IsWork, serves, loads}
 use Rattle.odin_words.proofs.laws.asked_is_one.Goals as goal
 
 -- a word spells one number
-one_number : (most : ℕ) (word : List ℕ) (number other : ℕ) → most < 2 ^ 64 → IsNumber most word number → IsNumber most word other → other ≡ number
+one_number : (most : ℕ) (word : List ℕ) (number other : ℕ) → most < 2 ^ 64 → IsNumberUpTo most word number → IsNumberUpTo most word other → other ≡ number
 one_number most word number other small one same =
     let few : number ≤ most = one.few in
     let also : other ≤ most = same.few in
@@ -24,7 +24,7 @@ one_work graph load work (serves name) graph' load' other g l (loads word units 
 one_work graph load work (loads word units number) graph' load' other g l (serves name) = absurd cc
 one_work graph load work (loads word units number) graph' load' other g l (loads same count counted) =
     let is : same ≡ word = cc in
-    ap Load (one_number 2000 word units count (lit< tt) number (subst (λ (t : List ℕ). IsNumber 2000 t count) is counted))
+    ap Load (one_number 2000 word units count (lit< tt) number (subst (λ (t : List ℕ). IsNumberUpTo 2000 t count) is counted))
 
 pub returns : goal.returns
 returns c = λ words work other jobs count one two.

@@ -7,7 +7,7 @@ use Rattle.std.proofs.Math.Nat.{le_refl}
 use Rattle.std.specs.Prelude.{codes}
 use Rattle.clap.specs.Words.{fault_of, matches_of, first_of}
 use Rattle.odin_words.specs.Command.{command}
-use Rattle.odin_words.specs.Asked.{AskedWork, Serve, Load, IsNumber, IsNoNumber, IsJobs, IsNoJobs, IsWork, serves, loads, IsNoWork, IsNotAccepted}
+use Rattle.odin_words.specs.Asked.{AskedWork, Serve, Load, IsNumberUpTo, IsNoNumberUpTo, IsJobs, IsNoJobs, IsWork, serves, loads, IsNoWork, IsNotAccepted}
 use Rattle.odin_words.specs.Laws.{IsAccepted}
 use Rattle.odin_words.proofs.laws.each_is_accepted_or_not.Goals as goal
 
@@ -15,7 +15,7 @@ use Rattle.odin_words.proofs.laws.each_is_accepted_or_not.Goals as goal
 
 -- the word spells a number, or none of these first ones
 abbrev Spells : ℕ → List ℕ → ℕ → Type 0
-Spells most word bound = ((number : ℕ) × IsNumber most word number) ⊎ ((number : ℕ) → number ≤ bound → ¬ IsNumber most word number)
+Spells most word bound = ((number : ℕ) × IsNumberUpTo most word number) ⊎ ((number : ℕ) → number ≤ bound → ¬ IsNumberUpTo most word number)
 
 one_more : (most : ℕ) (word : List ℕ) (bound : ℕ) → bound < most → Spells most word bound → (b : Bool) → bytes_eq word (decimal (suc bound)) ≡ b → Spells most word (suc bound)
 one_more most word bound small (inl found) b is = inl found
@@ -34,7 +34,7 @@ up_to : (most : ℕ) (word : List ℕ) (bound : ℕ) → bound ≤ most → Spel
 up_to most word zero small = inr (λ number few spelled. let some : 1 ≤ number = spelled.some in absurd (omega arith))
 up_to most word (suc bound) small = one_more most word bound (omega arith) (up_to most word bound (omega arith)) _ refl
 
-number_or_none : (most : ℕ) (word : List ℕ) → ((number : ℕ) × IsNumber most word number) ⊎ IsNoNumber most word
+number_or_none : (most : ℕ) (word : List ℕ) → ((number : ℕ) × IsNumberUpTo most word number) ⊎ IsNoNumberUpTo most word
 number_or_none most word = elim (up_to most word most (le_refl most)) [
   | inl found ↦ inl found
   | inr none ↦ inr (λ number spelled. none number spelled.few spelled)
@@ -55,11 +55,11 @@ both : (name word : List ℕ) (graph load : Option (List ℕ)) (work : AskedWork
 both name word graph load work g l (serves same) = cc
 both name word graph load work g l (loads same units number) = cc
 
-unspelled : (word : List ℕ) (graph load : Option (List ℕ)) (work : AskedWork) → IsNoNumber 2000 word → graph ≡ None → load ≡ Some word → IsWork graph load work → ⊥
+unspelled : (word : List ℕ) (graph load : Option (List ℕ)) (work : AskedWork) → IsNoNumberUpTo 2000 word → graph ≡ None → load ≡ Some word → IsWork graph load work → ⊥
 unspelled word graph load work none g l (serves name) = cc
 unspelled word graph load work none g l (loads same units number) =
     let is : same ≡ word = cc in
-    none units (subst (λ (t : List ℕ). IsNumber 2000 t units) is number)
+    none units (subst (λ (t : List ℕ). IsNumberUpTo 2000 t units) is number)
 
 -- The word GRAPH and the value of `--load` are of a work, or of none.
 work_or_none : (graph load : Option (List ℕ)) → ((work : AskedWork) × IsWork graph load work) ⊎ IsNoWork graph load

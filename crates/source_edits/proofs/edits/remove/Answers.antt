@@ -2,7 +2,7 @@
 use Rattle.std.proofs.Common.{refl, ap, ◌∙◌, rules}
 use Rattle.std.proofs.lemmas.Result.{IfOk-weaker}
 use Rattle.std.specs.FinMap.{get}
-use Rattle.object_sources.specs.Texts.{Stock}
+use Rattle.object_sources.specs.Texts.{SourceStock}
 use Rattle.odin_store.specs.declared.store.Store.{Store}
 use Rattle.source_edits.proofs.ChangeLemmas.{none_changed, drop_removes, drop_edited}
 use Rattle.source_edits.proofs.EditLemmas.{no_source, dropped, is_source}
@@ -12,7 +12,7 @@ pub returns-then-is_none-clause-says : goal.returns-then-is_none-clause-says
 returns-then-is_none-clause-says g c =
     let texts = c.args.engine.now.store.sources.texts in
     let asked = c.as_slice.result.now in
-    let there = c.get.ensures ∙ ap (λ (s : Stock). get s.texts asked) (c.sources.ensures ∙ ap (λ (s : Store). s.sources) c.store.ensures) in
+    let there = c.get.ensures ∙ ap (λ (s : SourceStock). get s.texts asked) (c.sources.ensures ∙ ap (λ (s : Store). s.sources) c.store.ensures) in
     let word = c.into_bytes.ensures.bytes in
     IfOk-weaker c.say.result _ _ (λ bytes is. no_source _ c.get.result texts texts c.args.name asked bytes refl there c.as_slice.ensures.bytes (search rules) cc) c.say.ensures.ok
 
@@ -23,7 +23,7 @@ pub returns-clause-says : goal.returns-clause-says
 returns-clause-says g c =
     let store = c.args.engine.now.store in
     let asked = c.as_slice.result.now in
-    let there = c.get.ensures ∙ ap (λ (s : Stock). get s.texts asked) (c.sources.ensures ∙ ap (λ (s : Store). s.sources) c.store.ensures) in
+    let there = c.get.ensures ∙ ap (λ (s : SourceStock). get s.texts asked) (c.sources.ensures ∙ ap (λ (s : Store). s.sources) c.store.ensures) in
     let some = is_source _ c.get.result store.sources.texts c.args.name asked there c.as_slice.ensures.bytes (search rules) in
     let word = c.in_ok-said.ensures ∙ c.as_slice-2.ensures.bytes in
     let is = c.in_ok-reply.ensures.ok in
@@ -34,6 +34,6 @@ pub returns-clause-ok : goal.returns-clause-ok
 returns-clause-ok g c =
     let store = c.args.engine.now.store in
     let asked = c.as_slice.result.now in
-    let there = c.get.ensures ∙ ap (λ (s : Stock). get s.texts asked) (c.sources.ensures ∙ ap (λ (s : Store). s.sources) c.store.ensures) in
+    let there = c.get.ensures ∙ ap (λ (s : SourceStock). get s.texts asked) (c.sources.ensures ∙ ap (λ (s : Store). s.sources) c.store.ensures) in
     let some = is_source _ c.get.result store.sources.texts c.args.name asked there c.as_slice.ensures.bytes (search rules) in
     drop_edited g.D.Disk.told c.args.name store c.remove.new.self.store c.args.disk.now c.remove.new.disk c.in_ok-remove.field-0 some c.in_ok-remove.ensures.ok

@@ -2,7 +2,7 @@ use Rattle.std.proofs.Common.{◌≡◌, ◌++◌, ◌∷◌, [], length, ap, su
 use Rattle.std.specs.Prelude.{None, nat_eq}
 use Rattle.std.specs.Cmp.Lexicographic.{pointwise}
 use Rattle.std.specs.HashMap.{get}
-use Rattle.content_store.specs.Bodies.{Bodies, place_of}
+use Rattle.content_store.specs.Bodies.{Bodies, place_of_body}
 use Rattle.content_store.specs.Index.{hash_of}
 use Rattle.content_store.proofs.IndexLemmas.{more_first, more_keyed, more_clashing, none_there, some_there}
 use Rattle.content_store.proofs.contents.Contents.add.Goals as goal
@@ -16,7 +16,7 @@ invariant_of-self-2 g c =
     let keyed = get (pointwise nat_eq) c.self.inside.keyed in
     let clashing = c.self.inside.clashing.items in
     let body = c.args.body in
-    let fresh = subst (λ (all : Bodies). place_of body all ≡ None) (sym c.self.view_is) c.requires.fresh in
+    let fresh = subst (λ (all : Bodies). place_of_body body all ≡ None) (sym c.self.view_is) c.requires.fresh in
     elim c.if-contains_key.branch [
       | then-contains_key+then-contains_key-2+in_ok-push w ↦
           let now : c.push-2.new.self.items ≡ bodies ++ body ∷ [] = rw (c.in_ok-push-2.ensures.items, w.self-inside-is, c.reserve.ensures.items) refl in

@@ -2,13 +2,13 @@ use Rattle.std.proofs.Common.{◌≡◌, ◌≢◌, ◌↔◌, List, [], ◌∷�
 use Rattle.object_values.specs.declared.calls.Call.{Call}
 use Rattle.object_values.specs.declared.calls.Outcome.{Outcome}
 use Rattle.meaning_texts.specs.Lists.{IsIn}
-use Rattle.walk_tables.specs.Calls.{AreOnce, Outcomes as Listed}
-use Rattle.derive_walk.specs.Walks.{Walked, AreApart, IsGiven}
+use Rattle.walk_tables.specs.Calls.{AreOnce, GivenOutcomes as Listed}
+use Rattle.derive_walk.specs.Walks.{Walked, AreApart, OutcomeIsGiven}
 use Rattle.derive_walk.proofs.GiveLemmas.{apart_after, right_after}
 use Rattle.derive_walk.proofs.walker.Walker.give.Goals as goal
 
-given_so : (call : Call) (o : Outcome) (inside old : Walked) (given : Listed) (wanted : List Call) → inside ≡ old → given ≡ inside.given ++ (call, o) ∷ [] → ((q : Call) → IsIn q wanted ↔ (IsIn q inside.wanted × (q ≢ call))) → AreOnce wanted → IsGiven call o old (record inside { given = given; wanted = wanted })
-given_so call o inside old given wanted same added fewer once = subst (λ (z : Walked). IsGiven call o z (record inside { given = given; wanted = wanted })) same (record { root = refl; done = refl; given = added; wanted = fewer; once = once; result = refl })
+given_so : (call : Call) (o : Outcome) (inside old : Walked) (given : Listed) (wanted : List Call) → inside ≡ old → given ≡ inside.given ++ (call, o) ∷ [] → ((q : Call) → IsIn q wanted ↔ (IsIn q inside.wanted × (q ≢ call))) → AreOnce wanted → OutcomeIsGiven call o old (record inside { given = given; wanted = wanted })
+given_so call o inside old given wanted same added fewer once = subst (λ (z : Walked). OutcomeIsGiven call o z (record inside { given = given; wanted = wanted })) same (record { root = refl; done = refl; given = added; wanted = fewer; once = once; result = refl })
 
 pub invariant_of-self-2 : goal.invariant_of-self-2
 invariant_of-self-2 c =

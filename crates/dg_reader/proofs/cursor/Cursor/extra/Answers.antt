@@ -1,7 +1,7 @@
 use Rattle.std.proofs.Common.{[], ◌∷◌, arith, codes}
 use Rattle.meaning_graph_text.specs.Tokens.{word, string}
 use Rattle.meaning_graph_text.specs.Going.{identifier, name_string, extras, expect}
-use Rattle.dg_reader.specs.Walks.{Takes}
+use Rattle.dg_reader.specs.Walks.{TakesToken}
 use Rattle.dg_reader.proofs.TokenLemmas.{takes_shorter}
 use Rattle.dg_reader.proofs.WalkLemmas.{at_stop, halts_behind, taken_at}
 use Rattle.dg_reader.proofs.ListLemmas.{also_leads, with_leads, extras_also, extras_with}
@@ -23,7 +23,7 @@ returns-in_err-take-2-clause-err c =
 
 pub returns-then-skip-2-clause-ok : goal.returns-then-skip-2-clause-ok
 returns-then-skip-2-clause-ok c =
-    let k : Takes c.args.self.now (word (codes "with")) c.skip-2.new.self = taken_at (word (codes "with")) c.skip.new.self c.args.self.now c.skip-2.new.self c.if-skip.ensures.0 c.if-skip-2.ensures in
+    let k : TakesToken c.args.self.now (word (codes "with")) c.skip-2.new.self = taken_at (word (codes "with")) c.skip.new.self c.args.self.now c.skip-2.new.self c.if-skip.ensures.0 c.if-skip-2.ensures in
     let a = takes_shorter c.args.self.now (word (codes "with")) c.skip-2.new.self k in
     let b = takes_shorter c.skip-2.new.self (string c.in_ok-take-2.field-0) c.take-then-skip-2.new.self c.in_ok-take-2.ensures.ok.taken in
     (extras_with c.in_ok-take-2.field-0 c.args.self.now c.skip-2.new.self c.take-then-skip-2.new.self k c.in_ok-take-2.ensures.ok, omega arith)

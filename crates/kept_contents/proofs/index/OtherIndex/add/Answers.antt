@@ -4,14 +4,14 @@ use Rattle.std.specs.Cmp.Lexicographic.{pointwise}
 use Rattle.std.specs.HashMap.{get}
 use Rattle.meaning_records.specs.Numbers.{number_of}
 use Rattle.kept_contents.specs.Index.{IsIndexOf, digest_of}
-use Rattle.kept_contents.specs.Stocks.{values_of}
+use Rattle.kept_contents.specs.Stocks.{values_of_contents}
 use Rattle.kept_contents.proofs.Contents.{values_long}
 use Rattle.kept_contents.proofs.IndexLemmas.{index_stays, more_clashing, more_first, none_there, on_err, some_there}
 use Rattle.kept_contents.proofs.index.OtherIndex.add.Goals as goal
 
 pub returns-then-is_some-clause-ok : goal.returns-then-is_some-clause-ok
 returns-then-is_some-clause-ok c =
-    let values = values_of c.args.contents.now in
+    let values = values_of_contents c.args.contents.now in
     let value = c.args.value.now in
     let known : is_some (number_of value values) ≡ true = ap is_some (sym c.find_digested.ensures) ∙ sym c.is_some.ensures ∙ c.if-is_some.true in
     index_stays values (get (pointwise nat_eq) c.args.self.now.first) c.args.self.now.clashing.items c.requires.index value (λ other. some_there (number_of value values) known)
@@ -19,13 +19,13 @@ returns-then-is_some-clause-ok c =
 pub returns-in_err-insert-clause-err : goal.returns-in_err-insert-clause-err
 returns-in_err-insert-clause-err c =
     let same : c.insert.new.self.entries ≡ c.args.self.now.first.entries = c.in_err-insert.ensures.err in
-    let still : IsIndexOf (values_of c.args.contents.now) (get (pointwise nat_eq) c.insert.new.self) c.args.self.now.clashing.items = rw same c.requires.index in
+    let still : IsIndexOf (values_of_contents c.args.contents.now) (get (pointwise nat_eq) c.insert.new.self) c.args.self.now.clashing.items = rw same c.requires.index in
     on_err c.from_residual-in_err-insert.result still
 
 pub returns-in_ok-push-clause-ok : goal.returns-in_ok-push-clause-ok
 returns-in_ok-push-clause-ok c =
     let items = c.args.contents.now in
-    let values = values_of items in
+    let values = values_of_contents items in
     let value = c.args.value.now in
     let first = get (pointwise nat_eq) c.args.self.now.first in
     let fresh = none_there (number_of value values) (ap is_some (sym c.find_digested.ensures) ∙ sym c.is_some.ensures ∙ c.if-is_some.false) in
@@ -35,7 +35,7 @@ returns-in_ok-push-clause-ok c =
 pub returns-in_ok-insert-clause-ok : goal.returns-in_ok-insert-clause-ok
 returns-in_ok-insert-clause-ok c =
     let items = c.args.contents.now in
-    let values = values_of items in
+    let values = values_of_contents items in
     let value = c.args.value.now in
     let first = get (pointwise nat_eq) c.args.self.now.first in
     let fresh = none_there (number_of value values) (ap is_some (sym c.find_digested.ensures) ∙ sym c.is_some.ensures ∙ c.if-is_some.false) in

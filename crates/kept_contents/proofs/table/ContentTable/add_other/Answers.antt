@@ -1,7 +1,7 @@
 use Rattle.std.proofs.Common.{◌≡◌, ◌++◌, ◌∷◌, [], refl}
 use Rattle.kept_contents.specs.declared.shared.Content.TheVariants.{Other}
 use Rattle.kept_contents.specs.Index.{IsIndexed}
-use Rattle.kept_contents.specs.Stocks.{values_of}
+use Rattle.kept_contents.specs.Stocks.{values_of_contents}
 use Rattle.kept_contents.proofs.Contents.{held_push, values_push}
 use Rattle.kept_contents.proofs.Numbers.{pushed_other}
 use Rattle.kept_contents.proofs.table.ContentTable.add_other.Goals as goal
@@ -12,8 +12,8 @@ invariant_of-self-2 c =
     let texts = c.self.inside.texts in
     let value = c.args.value in
     let now : c.push_within.new.items.items ≡ items ++ Other value ∷ [] = rw (c.push_within.ensures.items, c.reserve.ensures.items) refl in
-    let indexed : IsIndexed (values_of items ++ value ∷ []) c.add.new.self = rw (c.as_slice.ensures.value, c.reserve.ensures.items) at c.in_ok-add.ensures.ok in (
-      rw (now, values_push items (Other value)) (pushed_other (values_of items) texts c.self.inside.numbers.items c.self.invariant.0 value c.requires),
+    let indexed : IsIndexed (values_of_contents items ++ value ∷ []) c.add.new.self = rw (c.as_slice.ensures.value, c.reserve.ensures.items) at c.in_ok-add.ensures.ok in (
+      rw (now, values_push items (Other value)) (pushed_other (values_of_contents items) texts c.self.inside.numbers.items c.self.invariant.0 value c.requires),
       rw now (held_push texts items (Other value) c.self.invariant.1 c.requires),
       rw (now, values_push items (Other value)) indexed,
     )

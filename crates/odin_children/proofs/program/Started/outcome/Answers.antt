@@ -6,7 +6,7 @@ use Rattle.odin_files.specs.declared.fault.SystemFault.TheVariants.{Memory}
 use Rattle.std.proofs.lemmas.Bool.{false≢true}
 use Rattle.odin_children.specs.Ends.{no_outcome}
 use Rattle.odin_children.specs.Folders.{IsFileName, IsToldOf}
-use Rattle.odin_children.specs.Logs.{noted}
+use Rattle.odin_children.specs.Logs.{log_with_launch}
 use Rattle.odin_children.proofs.FaultLemmas.{carry, told_none}
 use Rattle.odin_children.proofs.program.Started.outcome.Goals as goal
 
@@ -27,5 +27,5 @@ returns-in_err-files-clause-counts g c =
       failed = λ can.
           let names = carry _ c.left_in.result c.from_residual-in_err-files.result c.in_err-files.field-0.0 (search rules) (passed.1 ∙ ap (λ fault. Err fault) passed.2)
           (c.left_in.ensures.counts.failed (subst (All IsFileName) (search rules) can.names)) in
-          subst (λ log. IfErr c.from_residual-in_err-files.result (λ fault. fault ≢ Memory → g.S.System.log c.left_in.new.system ≡ noted log None)) (search rules) names;
+          subst (λ log. IfErr c.from_residual-in_err-files.result (λ fault. fault ≢ Memory → g.S.System.log c.left_in.new.system ≡ log_with_launch log None)) (search rules) names;
     }

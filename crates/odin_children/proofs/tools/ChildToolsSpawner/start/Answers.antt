@@ -1,7 +1,7 @@
 use Rattle.std.proofs.Common.{rules, ◌≡◌, ◌∙◌, ◌++◌, ◌∷◌, [], None, string_bytes, map, ap}
 use Rattle.std.specs.Process.{child_status}
 use Rattle.object_values.specs.declared.jobs.Job.{Job}
-use Rattle.odin_children.specs.Logs.{noted}
+use Rattle.odin_children.specs.Logs.{log_with_launch}
 use Rattle.odin_children.specs.Seen.{seen_of}
 use Rattle.odin_children.proofs.FaultLemmas.{on_failed, start_failed, one_more_seen}
 use Rattle.odin_children.proofs.tools.ChildToolsSpawner.start.Goals as goal
@@ -27,6 +27,6 @@ pub returns-clause-fails : goal.returns-clause-fails
 returns-clause-fails g c = record {
   wanted = search rules;
   failed = λ can.
-      let happened : g.S.System.log c.begin.new.self.system ≡ noted (g.S.System.log c.args.self.now.system) None = search (rules, on_failed c.begin.result (search rules) (c.begin.ensures.fails.failed can.fits)) in
+      let happened : g.S.System.log c.begin.new.self.system ≡ log_with_launch (g.S.System.log c.args.self.now.system) None = search (rules, on_failed c.begin.result (search rules) (c.begin.ensures.fails.failed can.fits)) in
       start_failed _ c.refuse-in-Err-Failed.ensures.result (search rules);
 }

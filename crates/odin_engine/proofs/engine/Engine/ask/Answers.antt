@@ -3,7 +3,7 @@ use Rattle.std.specs.Prelude.{Err, IfOk, IfErr}
 use Rattle.std.proofs.lemmas.Result.{err_from_is_err_and}
 use Rattle.kept_derive.specs.Rests.{ComesToRest}
 use Rattle.kept_derive.specs.Runs.{at}
-use Rattle.odin_engine.specs.Asking.{IsAnswered, IsAskFault, IsCause, IsLeft, LeavesTools}
+use Rattle.odin_engine.specs.Asking.{IsAnswered, IsAskFault, AskFaultIsCounted, StoreAfterAsk, AskLeavesTools}
 use Rattle.odin_engine.specs.Looking.{AreAskLooks}
 use Rattle.odin_engine.proofs.AskLemmas.{answered, faulted, left_so, cause_so, rests_so, refused_at, refused_leaves, refused_counts, refused_rests}
 use Rattle.odin_engine.proofs.LookingLemmas.{looks_so, refused_looks}
@@ -52,13 +52,13 @@ returns-clause-err g c =
     (faulted g.D.Disk.told c.args.self.now.graph c.args.self.now.jobs c.args.text.now c.in_ok-node.node c.in_ok-node.ensures.ok old new c.derive-derived.result c.derive-derived.ensures.derived.found c.derive-derived.ensures.derived.stopped)
 
 pub returns-clause-rest : goal.returns-clause-rest
-returns-clause-rest g c = subst (ComesToRest LeavesTools _ _ _) (sym c.answer_of.ensures) (rests_so _ _ _ c.derive-derived.result c.derive-derived.ensures.rest)
+returns-clause-rest g c = subst (ComesToRest AskLeavesTools _ _ _) (sym c.answer_of.ensures) (rests_so _ _ _ c.derive-derived.result c.derive-derived.ensures.rest)
 
 pub returns-clause-left : goal.returns-clause-left
-returns-clause-left g c = subst (IsLeft _ _) (sym c.answer_of.ensures) (left_so c.derive-derived.new.self.store _ c.derive-derived.result c.derive-derived.ensures.left)
+returns-clause-left g c = subst (StoreAfterAsk _ _) (sym c.answer_of.ensures) (left_so c.derive-derived.new.self.store _ c.derive-derived.result c.derive-derived.ensures.left)
 
 pub returns-clause-cause : goal.returns-clause-cause
-returns-clause-cause g c = subst (IsCause _ _) (sym c.answer_of.ensures) (cause_so _ _ c.derive-derived.result c.derive-derived.ensures.cause)
+returns-clause-cause g c = subst (AskFaultIsCounted _ _) (sym c.answer_of.ensures) (cause_so _ _ c.derive-derived.result c.derive-derived.ensures.cause)
 
 pub returns-clause-counted : goal.returns-clause-counted
 returns-clause-counted g c =

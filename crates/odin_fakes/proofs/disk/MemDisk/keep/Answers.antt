@@ -1,6 +1,6 @@
 use Rattle.std.proofs.Common.{◌≡◌, ◌-◌, [], ◌∷◌, ◌++◌, ap, sym, ◌∙◌, subst, arith, List, ℕ}
 use Rattle.odin_fakes.specs.Calls.{Call, image_after, changed, AreWithin, FitsIn}
-use Rattle.odin_fakes.specs.Entries.{call_of, calls_of}
+use Rattle.odin_fakes.specs.Entries.{call_from_entry, calls_from_entries}
 use Rattle.odin_fakes.proofs.Replaying.{Keeps, KeepsAll, keeps_none, plain_keeps}
 use Rattle.odin_fakes.proofs.disk.MemDisk.keep.Goals as goal
 
@@ -14,19 +14,19 @@ keeps c =
 
 pub invariant_of-self-2 : goal.invariant_of-self-2
 invariant_of-self-2 c =
-    let calls : calls_of c.push.new.self.items c.self.inside.written.items ≡ call_of c.args.entry [] ∷ calls_of c.self.inside.entries.items c.self.inside.written.items = (keeps c).calls in (
+    let calls : calls_from_entries c.push.new.self.items c.self.inside.written.items ≡ call_from_entry c.args.entry [] ∷ calls_from_entries c.self.inside.entries.items c.self.inside.written.items = (keeps c).calls in (
       sym (plain c).same
-          ∙ ap (λ (xs : List ℕ). changed (call_of c.args.entry []) xs) c.self.invariant.0
+          ∙ ap (λ (xs : List ℕ). changed (call_from_entry c.args.entry []) xs) c.self.invariant.0
           ∙ ap (λ (cs : List Call). image_after c.self.inside.first cs) (sym calls),
       c.self.invariant.1,
       c.self.invariant.2,
       grind arith,
       (keeps c).size,
-      subst (λ (cs : List Call). AreWithin c.self.inside.first cs) (sym calls) (subst (λ (xs : List ℕ). FitsIn (call_of c.args.entry []) xs) c.self.invariant.0 (plain c).fits, c.self.invariant.5),
+      subst (λ (cs : List Call). AreWithin c.self.inside.first cs) (sym calls) (subst (λ (xs : List ℕ). FitsIn (call_from_entry c.args.entry []) xs) c.self.invariant.0 (plain c).fits, c.self.invariant.5),
     )
 
 pub returns-clause-ok : goal.returns-clause-ok
 returns-clause-ok c =
-    let calls : calls_of c.push.new.self.items c.self.inside.written.items ≡ call_of c.args.entry [] ∷ calls_of c.self.inside.entries.items c.self.inside.written.items = (keeps c).calls in
+    let calls : calls_from_entries c.push.new.self.items c.self.inside.written.items ≡ call_from_entry c.args.entry [] ∷ calls_from_entries c.self.inside.entries.items c.self.inside.written.items = (keeps c).calls in
     let bytes : c.self.inside.bytes - 0 ≡ c.self.inside.bytes = omega arith in
     rw (← c.self.view_is) (cc)

@@ -1,7 +1,7 @@
 use Rattle.std.proofs.Common.{◌≡◌, ◌-◌, ◌≤◌, [], ◌∷◌, ◌++◌, take, ap, sym, ◌∙◌, subst, arith, List, ℕ, length, refl}
 use Rattle.odin_fakes.specs.declared.disk.Entry.TheVariants as entry
 use Rattle.odin_fakes.specs.Calls.{Call, WasCut, image_after, AreWithin}
-use Rattle.odin_fakes.specs.Entries.{calls_of}
+use Rattle.odin_fakes.specs.Entries.{calls_from_entries}
 use Rattle.odin_fakes.specs.File.{File, image_of}
 use Rattle.odin_fakes.proofs.Replaying.{Keeps, keeps_none}
 use Rattle.odin_fakes.proofs.disk.MemDiskDisk.cut.Goals as goal
@@ -13,7 +13,7 @@ keeps c =
 
 pub invariant_of-self-2 : goal.invariant_of-self-2
 invariant_of-self-2 c =
-    let calls : calls_of c.push.new.self.items c.self.inside.written.items ≡ WasCut c.args.size ∷ calls_of c.self.inside.entries.items c.self.inside.written.items = (keeps c).calls in
+    let calls : calls_from_entries c.push.new.self.items c.self.inside.written.items ≡ WasCut c.args.size ∷ calls_from_entries c.self.inside.entries.items c.self.inside.written.items = (keeps c).calls in
     let image : c.truncate.new.self.items ≡ take c.args.size c.self.inside.image.items = grind arith in
     let seen : image_of c.args.self.now ≡ c.self.inside.image.items = ap (λ (file : File). image_of file) (sym c.self.view_is) ∙ sym c.self.invariant.0 in
     let fits : c.args.size ≤ length c.self.inside.image.items = subst (λ (xs : List ℕ). c.args.size ≤ length xs) seen c.requires in (
@@ -29,6 +29,6 @@ invariant_of-self-2 c =
 
 pub returns-clause-ok : goal.returns-clause-ok
 returns-clause-ok c =
-    let calls : calls_of c.push.new.self.items c.self.inside.written.items ≡ WasCut c.args.size ∷ calls_of c.self.inside.entries.items c.self.inside.written.items = (keeps c).calls in
+    let calls : calls_from_entries c.push.new.self.items c.self.inside.written.items ≡ WasCut c.args.size ∷ calls_from_entries c.self.inside.entries.items c.self.inside.written.items = (keeps c).calls in
     let bytes : c.self.inside.bytes - 0 ≡ c.self.inside.bytes = omega arith in
     rw (← c.self.view_is) (cc)

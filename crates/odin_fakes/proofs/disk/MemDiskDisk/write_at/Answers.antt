@@ -2,7 +2,7 @@ use Rattle.std.proofs.Common.{◌≡◌, ◌+◌, ◌≤◌, [], ◌∷◌, ◌+
 use Rattle.odin_fakes.specs.declared.disk.Entry.TheVariants as entry
 use Rattle.odin_fakes.specs.Calls.{Call, Wrote, written, image_after, AreWithin}
 use Rattle.odin_fakes.specs.DiskLaws.{written-torn}
-use Rattle.odin_fakes.specs.Entries.{calls_of}
+use Rattle.odin_fakes.specs.Entries.{calls_from_entries}
 use Rattle.odin_fakes.specs.File.{File, image_of}
 use Rattle.odin_fakes.proofs.Replaying.{Keeps, keeps_bytes}
 use Rattle.odin_fakes.proofs.disk.MemDiskDisk.write_at.Goals as goal
@@ -15,7 +15,7 @@ keeps c =
 
 pub invariant_of-self-2 : goal.invariant_of-self-2
 invariant_of-self-2 c =
-    let calls : calls_of c.push.new.self.items c.extend_from_slice.new.self.items ≡ Wrote c.args.at c.args.bytes.now ∷ calls_of c.self-2.inside.entries.items c.self-2.inside.written.items = (keeps c).calls in
+    let calls : calls_from_entries c.push.new.self.items c.extend_from_slice.new.self.items ≡ Wrote c.args.at c.args.bytes.now ∷ calls_from_entries c.self-2.inside.entries.items c.self-2.inside.written.items = (keeps c).calls in
     let seen : image_of c.args.self.now ≡ c.self-2.inside.image.items = ap (λ (file : File). image_of file) (sym c.self-2.view_is) ∙ sym c.self-2.invariant.0 in
     let fits : c.args.at ≤ length c.self-2.inside.image.items = subst (λ (xs : List ℕ). c.args.at ≤ length xs) seen c.requires.inside in
     let image : c.overwrite.new.image.items ≡ written c.self-2.inside.image.items c.args.at c.args.bytes.now = grind arith in
@@ -34,5 +34,5 @@ invariant_of-self-2 c =
 
 pub returns-clause-ok : goal.returns-clause-ok
 returns-clause-ok c =
-    let calls : calls_of c.push.new.self.items c.extend_from_slice.new.self.items ≡ Wrote c.args.at c.args.bytes.now ∷ calls_of c.self-2.inside.entries.items c.self-2.inside.written.items = (keeps c).calls in
+    let calls : calls_from_entries c.push.new.self.items c.extend_from_slice.new.self.items ≡ Wrote c.args.at c.args.bytes.now ∷ calls_from_entries c.self-2.inside.entries.items c.self-2.inside.written.items = (keeps c).calls in
     rw (← c.self-2.view_is) (cc)

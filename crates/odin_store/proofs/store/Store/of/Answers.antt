@@ -1,7 +1,7 @@
 use Rattle.std.proofs.Common.{sym, subst}
-use Rattle.object_sources.specs.Texts.{Stock}
+use Rattle.object_sources.specs.Texts.{SourceStock}
 use Rattle.meaning_derive.specs.Given.{AreSources}
 use Rattle.odin_store.proofs.store.Store.of.Goals as goal
 
 pub invariant_of-result : goal.invariant_of-result
-invariant_of-result c = record { are = subst (λ (s : Stock). AreSources s.texts) (sym c.into_parts-kept.ensures.sources) c.requires }
+invariant_of-result c = record { are = subst (λ (s : SourceStock). AreSources s.texts) (sym c.into_parts-kept.ensures.sources) c.requires }

@@ -1,16 +1,16 @@
 use Rattle.std.proofs.Common.{◌≡◌, ℕ, ◌+◌, length, IsTrue, IsFalse, sym, ap, ap₂, subst, ◌∙◌, arith, rules}
-use Rattle.object_sources.specs.Texts.{Stock}
+use Rattle.object_sources.specs.Texts.{SourceStock}
 use Rattle.disk_trails.specs.WorkLemmas.{more_work, add_work}
 use Rattle.odin_journal.specs.Faults.{IsAddFault}
 use Rattle.odin_journal.specs.Moments.{Works}
-use Rattle.odin_journal.specs.Rest.{Adds, KeepsOrAdds}
+use Rattle.odin_journal.specs.Rest.{AddsRecord, KeepsOrAdds}
 use Rattle.odin_journal.specs.declared.journal.Journal.{Journal}
 use Rattle.odin_journal.specs.declared.fault.JournalFault.TheVariants as fault
 use Rattle.meaning_records.specs.States.{State}
 use Rattle.kept_tables.specs.Holdings.{Holding}
-use Rattle.odin_store.specs.Loading.{state_of, IsLoadFault}
+use Rattle.odin_store.specs.Loading.{state_of, IsRecordLoadFault}
 use Rattle.odin_store.specs.OnDisk.{state_in}
-use Rattle.odin_store.specs.Opening.{graph_record, IsOpenFault}
+use Rattle.odin_store.specs.Opening.{graph_record, IsStoreOpenFault}
 use Rattle.odin_store.proofs.StoreLemmas.{handed}
 use Rattle.odin_store.proofs.SourceLemmas.{sources_read}
 use Rattle.odin_store.proofs.OpenLemmas.{records_stay, graph_added, journal_fault, load_fault, memory_fault, add_fault, refused_of, opens_known, opens_added}
@@ -29,8 +29,8 @@ returns-in_err-loading-clause-refused g c =
     let e = c.in_err-loading.field-0.0 in
     let records = c.in_ok-journal.records in
     let end = c.in_ok-journal.journal.end in
-    handed (IsOpenFault c.args.graph.now old mid) c.from_residual-in_err-loading.result e c.from_residual-in_err-loading.ensures.1
-    (load_fault c.args.graph.now old mid records end e c.open.ensures.untouched c.in_ok-journal.ensures.opened (subst (λ n. IsLoadFault records n e) c.end.ensures c.in_err-loading.ensures.fault))
+    handed (IsStoreOpenFault c.args.graph.now old mid) c.from_residual-in_err-loading.result e c.from_residual-in_err-loading.ensures.1
+    (load_fault c.args.graph.now old mid records end e c.open.ensures.untouched c.in_ok-journal.ensures.opened (subst (λ n. IsRecordLoadFault records n e) c.end.ensures c.in_err-loading.ensures.fault))
 
 pub returns-then-has_graph-clause-any_moment : goal.returns-then-has_graph-clause-any_moment
 returns-then-has_graph-clause-any_moment g c = records_stay c.args.graph.now (g.D.Disk.told c.args.disk.now) (g.D.Disk.told c.open.new.disk) c.open.ensures.any_moment
@@ -42,7 +42,7 @@ returns-then-has_graph-clause-opened g c =
     let state : State = state_of c.in_ok-loading.loading in
     let answered : IsTrue c.has_graph.result = search rules in
     let store = c.of-known.result in
-    let holds : state_in store state.graph ≡ state = ap₂ (λ (k : Holding) (s : Stock). record { tables = k.tables; sources = s.texts; graph = state.graph }) c.of-known.ensures.kept c.of-known.ensures.sources in
+    let holds : state_in store state.graph ≡ state = ap₂ (λ (k : Holding) (s : SourceStock). record { tables = k.tables; sources = s.texts; graph = state.graph }) c.of-known.ensures.kept c.of-known.ensures.sources in
     opens_known c.args.graph.now old mid store c.in_ok-journal.records c.in_ok-journal.journal.end state c.open.ensures.untouched c.in_ok-journal.ensures.opened c.in_ok-loading.ensures.read c.in_ok-journal.ensures.reads
     (ap (λ (j : Journal). j.end) c.of-known.ensures.journal) holds (c.has_graph.ensures.yes answered)
 
@@ -51,7 +51,7 @@ returns-in_err-payload-clause-any_moment g c = records_stay c.args.graph.now (g.
 
 pub returns-in_err-payload-clause-refused : goal.returns-in_err-payload-clause-refused
 returns-in_err-payload-clause-refused g c =
-    handed (IsOpenFault c.args.graph.now (g.D.Disk.told c.args.disk.now) (g.D.Disk.told c.open.new.disk)) c.from_residual-in_err-payload.result fault.Memory c.from_residual-in_err-payload.ensures.1
+    handed (IsStoreOpenFault c.args.graph.now (g.D.Disk.told c.args.disk.now) (g.D.Disk.told c.open.new.disk)) c.from_residual-in_err-payload.result fault.Memory c.from_residual-in_err-payload.ensures.1
     (memory_fault c.args.graph.now (g.D.Disk.told c.args.disk.now) (g.D.Disk.told c.open.new.disk) c.in_ok-journal.records c.in_ok-journal.journal.end c.open.ensures.untouched c.in_ok-journal.ensures.opened)
 
 pub returns-in_err-append-clause-any_moment : goal.returns-in_err-append-clause-any_moment
@@ -85,9 +85,9 @@ returns-in_err-append-clause-refused g c =
     let graph = c.args.graph.now in
     let answered : IsFalse c.has_graph.result = search rules in
     let told : IsAddFault end (length (graph_record graph)) e = subst (λ b. IsAddFault end (length b) e) (c.as_slice.ensures ∙ c.in_ok-payload.ensures) c.in_err-append.ensures.full.err in
-    handed (IsOpenFault graph old new) c.from_residual-in_err-append.result e c.from_residual-in_err-append.ensures.1
+    handed (IsStoreOpenFault graph old new) c.from_residual-in_err-append.result e c.from_residual-in_err-append.ensures.1
     (add_fault graph old mid new records end e (state_of c.in_ok-loading.loading) c.in_ok-loading.ensures.read (c.has_graph.ensures.no answered) c.requires c.open.ensures.untouched c.in_ok-journal.ensures.opened
-    (λ other there. subst (λ d. IsOpenFault graph old (g.D.Disk.told d) e) (sym (c.in_err-append.ensures.same (refused_of ℕ e other)).0) there) told)
+    (λ other there. subst (λ d. IsStoreOpenFault graph old (g.D.Disk.told d) e) (sym (c.in_err-append.ensures.same (refused_of ℕ e other)).0) there) told)
 
 pub returns-clause-opened : goal.returns-clause-opened
 returns-clause-opened g c =
@@ -99,10 +99,10 @@ returns-clause-opened g c =
     let state : State = state_of c.in_ok-loading.loading in
     let answered : IsFalse c.has_graph.result = search rules in
     let store = c.of-added.result in
-    let holds : state_in store state.graph ≡ state = ap₂ (λ (k : Holding) (s : Stock). record { tables = k.tables; sources = s.texts; graph = state.graph }) c.of-added.ensures.kept c.of-added.ensures.sources in
-    let adds : Adds end store.journal.end (graph_record graph) mid new =
-    subst (λ (j : Journal). Adds end j.end (graph_record graph) mid new) (sym c.of-added.ensures.journal)
-    (subst (λ b. Adds end c.append.new.self.end b mid new) (c.as_slice.ensures ∙ c.in_ok-payload.ensures) c.in_ok-append.ensures.added) in
+    let holds : state_in store state.graph ≡ state = ap₂ (λ (k : Holding) (s : SourceStock). record { tables = k.tables; sources = s.texts; graph = state.graph }) c.of-added.ensures.kept c.of-added.ensures.sources in
+    let adds : AddsRecord end store.journal.end (graph_record graph) mid new =
+    subst (λ (j : Journal). AddsRecord end j.end (graph_record graph) mid new) (sym c.of-added.ensures.journal)
+    (subst (λ b. AddsRecord end c.append.new.self.end b mid new) (c.as_slice.ensures ∙ c.in_ok-payload.ensures) c.in_ok-append.ensures.added) in
     let work : Works (length (graph_record graph) + 6) 4 mid new = subst (λ b. Works (length b + 6) 4 mid new) (c.as_slice.ensures ∙ c.in_ok-payload.ensures) c.in_ok-append.ensures.works in
     opens_added graph old mid new store c.in_ok-journal.records end state c.requires c.open.ensures.untouched c.in_ok-journal.ensures.opened c.in_ok-loading.ensures.read c.in_ok-journal.ensures.reads work adds holds (c.has_graph.ensures.no answered)
 
@@ -110,7 +110,7 @@ pub returns-in_err-journal-clause-refused : goal.returns-in_err-journal-clause-r
 returns-in_err-journal-clause-refused g c =
     let old = g.D.Disk.told c.args.disk.now in
     let new = g.D.Disk.told c.open.new.disk in
-    handed (IsOpenFault c.args.graph.now old new) c.from_residual.result c.in_err-journal.field-0.0 c.from_residual.ensures.1
+    handed (IsStoreOpenFault c.args.graph.now old new) c.from_residual.result c.in_err-journal.field-0.0 c.from_residual.ensures.1
     (journal_fault c.args.graph.now old new c.in_err-journal.field-0.0 c.open.ensures.untouched c.in_err-journal.ensures.refused)
 
 pub of-known-requires : goal.of-known-requires

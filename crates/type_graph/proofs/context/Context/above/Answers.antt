@@ -4,7 +4,7 @@ use Rattle.std.specs.List.{list_any}
 use Rattle.std.proofs.lemmas.Result.{IfOk-weaker}
 use Rattle.meaning_texts.specs.Lists.{IsIn}
 use Rattle.meaning_graph.specs.Graphs.{types}
-use Rattle.type_graph.specs.Walks.{IsReached}
+use Rattle.type_graph.specs.Walks.{IsReachedFrom}
 use Rattle.meaning_graph.specs.Types.{is_a}
 use Rattle.type_graph.proofs.ContextLemmas.{each_type, supers_within, above_is}
 use Rattle.type_graph.proofs.context.Context.above.Goals as goal
@@ -22,7 +22,7 @@ returns c = IfOk-weaker c.reached.result _ _ (λ row reached. record {
   sized = reached.sized ∙ ap length c.as_slice.ensures ∙ each_type c.self.inside.decls.now c.self.inside.kinds.supers c.self.invariant.kinds_are.supers_are ∙ ap (λ g. length (types g)) c.self.view_is;
   right = λ number.
       above_is c.self.inside.decls.now c.self.inside.kinds.supers c.self.invariant.kinds_are.supers_are c.args.starts.now row number
-      (λ h. subst (λ l. IsReached l c.args.starts.now number) c.as_slice.ensures ((reached.right number).0 h))
-      (λ r. (reached.right number).1 (subst (λ l. IsReached l c.args.starts.now number) (sym c.as_slice.ensures) r))
+      (λ h. subst (λ l. IsReachedFrom l c.args.starts.now number) c.as_slice.ensures ((reached.right number).0 h))
+      (λ r. (reached.right number).1 (subst (λ l. IsReachedFrom l c.args.starts.now number) (sym c.as_slice.ensures) r))
       ∙ ap (λ g. list_any (λ start. is_a g start number) c.args.starts.now) c.self.view_is;
 }) c.reached.ensures

@@ -1,7 +1,7 @@
 -- The tables are made of the declarations.
 use Rattle.std.proofs.Common.{◌+◌, ◌<◌, ◌≤◌, [], get_or, length, sym, subst}
 use Rattle.meaning_texts.specs.Lists.{IsIn}
-use Rattle.type_graph.specs.Rows.{IsClosed}
+use Rattle.type_graph.specs.Rows.{RowsAreClosed}
 use Rattle.type_graph.proofs.ContextLemmas.{kinds_of, supers_within}
 use Rattle.type_graph.proofs.ClosingLemmas.{few_supers, ordered_rows}
 use Rattle.type_graph.proofs.context.Context.new.Goals as goal
@@ -23,5 +23,5 @@ invariant_of-result c =
     record {
       spaces_are = c.in_ok-spaces.ensures;
       kinds_are = kinds;
-      rows_are = λ few. ordered_rows c.args.decls.now c.in_ok-kinds.kinds.supers kinds.supers_are c.in_ok-rows.rows (subst (λ l. IsClosed l c.in_ok-rows.rows) c.as_slice.ensures (c.in_ok-rows.ensures few));
+      rows_are = λ few. ordered_rows c.args.decls.now c.in_ok-kinds.kinds.supers kinds.supers_are c.in_ok-rows.rows (subst (λ l. RowsAreClosed l c.in_ok-rows.rows) c.as_slice.ensures (c.in_ok-rows.ensures few));
     }

@@ -4,7 +4,7 @@ use Rattle.meaning_nodes.specs.Nodes.{source_node}
 use Rattle.meaning_tasks.specs.Needs.{values_of, with_elements}
 use Rattle.walk_tables.specs.declared.survey.Survey.{Survey}
 use Rattle.walk_tables.specs.Tables.{results_of}
-use Rattle.walk_tables.specs.Surveys.{TakesIn}
+use Rattle.walk_tables.specs.Surveys.{TakesInNodes}
 use Rattle.walk_tables.proofs.SurveyLemmas.{begun, takes_both}
 use Rattle.walk_tables.proofs.survey.Survey.of_needs.Goals as goal
 
@@ -15,10 +15,10 @@ returns c =
     let elements = with_elements (values_of (results_of done)) in
     let counted = c.args.counted.now in
     let empty : Survey = record { top = 0; done = true; unvisited = [] } in
-    let whole : TakesIn done waits (flat_map elements counted.whole) empty c.add_whole.new.self =
-    subst (λ (s : Survey). TakesIn done waits (flat_map elements counted.whole) s c.add_whole.new.self) c.new-survey.ensures (subst (λ (l : List Node). TakesIn done waits (flat_map elements l) c.new-survey.result c.add_whole.new.self) c.as_slice.ensures c.in_ok-add_whole.ensures) in
-    let alone : TakesIn done waits counted.alone c.add_whole.new.self c.add_all.new.self =
-    subst (λ (l : List Node). TakesIn done waits l c.add_whole.new.self c.add_all.new.self) c.as_slice-2.ensures c.in_ok-add_all.ensures in
+    let whole : TakesInNodes done waits (flat_map elements counted.whole) empty c.add_whole.new.self =
+    subst (λ (s : Survey). TakesInNodes done waits (flat_map elements counted.whole) s c.add_whole.new.self) c.new-survey.ensures (subst (λ (l : List Node). TakesInNodes done waits (flat_map elements l) c.new-survey.result c.add_whole.new.self) c.as_slice.ensures c.in_ok-add_whole.ensures) in
+    let alone : TakesInNodes done waits counted.alone c.add_whole.new.self c.add_all.new.self =
+    subst (λ (l : List Node). TakesInNodes done waits l c.add_whole.new.self c.add_all.new.self) c.as_slice-2.ensures c.in_ok-add_all.ensures in
     begun done waits ((flat_map elements counted.whole ++ counted.alone) ++ map source_node c.args.names.now) c.add_sources.new.self
     (takes_both done waits (flat_map elements counted.whole ++ counted.alone) (map source_node c.args.names.now) empty c.add_all.new.self c.add_sources.new.self
     (takes_both done waits (flat_map elements counted.whole) counted.alone empty c.add_whole.new.self c.add_all.new.self whole alone) c.in_ok-add_sources.ensures)
