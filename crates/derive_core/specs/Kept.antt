@@ -2,7 +2,7 @@
 use Rattle.meaning_graph.specs.Graphs.{Graph}
 use Rattle.meaning_derive.specs.Derive.{Sources}
 use Rattle.meaning_records.specs.Tables.{Calls, kept_outcome}
-use Rattle.walk_tables.specs.Calls.{GivenOutcomes as Listed}
+use Rattle.derive_walk.specs.Calls.{GivenOutcomes as Listed}
 use Rattle.derive_walk.specs.Outcomes.{after}
 use Rattle.derive_walk.specs.Worlds.{World, world}
 

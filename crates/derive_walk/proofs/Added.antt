@@ -6,10 +6,10 @@ use Rattle.object_values.specs.declared.calls.Call.{Call}
 use Rattle.meaning_texts.specs.Lists.{IsIn}
 use Rattle.meaning_texts.proofs.Lemmas.{value_of_some}
 use Rattle.meaning_derive.specs.Chains.{AreDifferent, IsMet}
-use Rattle.walk_tables.specs.declared.done.Done.{Done}
-use Rattle.walk_tables.specs.Tables.{Entries, Waits, done_in, done_nodes}
-use Rattle.walk_tables.specs.Calls.{AreOnce, put_in}
-use Rattle.walk_tables.proofs.Lemmas.{put_keeps, from_put}
+use Rattle.derive_walk.specs.declared.done.Done.{Done}
+use Rattle.derive_walk.specs.Tables.{Entries, Waits, done_in, done_nodes}
+use Rattle.derive_walk.specs.Calls.{AreOnce, put_in}
+use Rattle.derive_walk.proofs.CallLemmas.{put_keeps, from_put}
 use Rattle.derive_walk.specs.declared.walk.Walk.{Walk}
 use Rattle.derive_walk.specs.States.{heights_in, IsWaiting, HoldsIn}
 use Rattle.derive_walk.specs.Walks.{IsDone, AreDone, AreMet}

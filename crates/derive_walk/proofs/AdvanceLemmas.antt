@@ -1,9 +1,9 @@
 -- What an advance makes of a walk that has no result.
 use Rattle.std.proofs.Common.{◌≡◌, false, sym, subst, is_some, ◌∙◌, true≢false}
 use Rattle.std.specs.Prelude.{Option, IfSome}
-use Rattle.meaning_nodes.specs.Nodes.{Fits}
-use Rattle.walk_tables.specs.declared.found.Found.{Found}
-use Rattle.walk_tables.specs.Calls.{GivenOutcomes}
+use Rattle.meaning_tasks.specs.Nodes.{Fits}
+use Rattle.derive_walk.specs.declared.found.Found.{Found}
+use Rattle.derive_walk.specs.Calls.{GivenOutcomes}
 use Rattle.derive_walk.specs.declared.walk.Walk.{Walk}
 use Rattle.derive_walk.specs.Founds.{IsFound}
 use Rattle.derive_walk.specs.States.{HoldsIn, GoesOnFrom}

@@ -10,11 +10,11 @@ use Rattle.meaning_tasks.proofs.Lemmas.{finite_has_needs}
 use Rattle.node_tasks.specs.declared.ahead.Ahead.{Ahead}
 use Rattle.node_tasks.specs.Ahead.{IsInSight, IsLevel}
 use Rattle.node_tasks.proofs.Lemmas.{ahead_stays}
-use Rattle.walk_tables.specs.declared.done.Done.{Done}
-use Rattle.walk_tables.specs.declared.survey.Survey.{Survey}
-use Rattle.walk_tables.proofs.Lemmas.{is_unvisited}
-use Rattle.walk_tables.specs.Tables.{done_in, results_of, done_nodes}
-use Rattle.walk_tables.specs.Finite.{only_nodes}
+use Rattle.derive_walk.specs.declared.done.Done.{Done}
+use Rattle.derive_walk.specs.declared.survey.Survey.{Survey}
+use Rattle.derive_walk.proofs.SurveyLemmas.{is_unvisited}
+use Rattle.derive_walk.specs.Tables.{done_in, results_of, done_nodes}
+use Rattle.derive_walk.specs.Finite.{only_nodes}
 use Rattle.derive_walk.specs.declared.walk.Walk.{Walk}
 use Rattle.derive_walk.specs.Worlds.{World}
 use Rattle.derive_walk.specs.States.{heights_in, HoldsIn, GoesOnFrom}

@@ -7,9 +7,9 @@ use Rattle.meaning_texts.specs.Lists.{IsIn}
 use Rattle.meaning_texts.proofs.Lemmas.{value_of_some}
 use Rattle.node_tasks.specs.declared.needed.Needed.{Needed}
 use Rattle.node_tasks.specs.Needed.{IsNeeded}
-use Rattle.walk_tables.specs.declared.survey.Survey.{Survey}
-use Rattle.walk_tables.proofs.Lemmas.{none_unvisited}
-use Rattle.walk_tables.specs.Tables.{Waits, done_in, height_in, results_of, are_done, top_of}
+use Rattle.derive_walk.specs.declared.survey.Survey.{Survey}
+use Rattle.derive_walk.proofs.SurveyLemmas.{none_unvisited}
+use Rattle.derive_walk.specs.Tables.{Waits, done_in, height_in, results_of, are_done, top_of}
 use Rattle.derive_walk.specs.declared.walk.Walk.{Walk}
 use Rattle.derive_walk.specs.Paths.{IsLast, IsClosing, IsTall, IsWholeRound, AreVisited}
 use Rattle.derive_walk.specs.States.{heights_in, IsWaiting, HoldsIn}

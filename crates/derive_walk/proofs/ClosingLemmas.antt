@@ -7,15 +7,15 @@ use Rattle.object_values.specs.declared.calls.Call.{Call}
 use Rattle.meaning_texts.specs.Limits.{height_limit}
 use Rattle.meaning_texts.specs.Lists.{IsIn}
 use Rattle.meaning_texts.proofs.Lemmas.{same_some, in_right}
-use Rattle.meaning_nodes.specs.Nodes.{Fits}
+use Rattle.meaning_tasks.specs.Nodes.{Fits}
 use Rattle.meaning_tasks.specs.Laws.{AgreeAt}
 use Rattle.meaning_derive.specs.Chains.{Chain, IsNeed, IsMet}
 use Rattle.meaning_derive.specs.Derive.{derive, HasHeight}
 use Rattle.meaning_derive.specs.Calls.{Runs}
 use Rattle.meaning_derive.proofs.Lemmas.{grows_to, settles_to, height_above, none_by_call, one_run}
 use Rattle.node_tasks.specs.declared.needed.Needed.{Needed}
-use Rattle.walk_tables.specs.declared.done.Done.{Done}
-use Rattle.walk_tables.specs.Tables.{done_in, results_of, top_of}
+use Rattle.derive_walk.specs.declared.done.Done.{Done}
+use Rattle.derive_walk.specs.Tables.{done_in, results_of, top_of}
 use Rattle.derive_walk.specs.declared.walk.Walk.{Walk}
 use Rattle.derive_walk.specs.Paths.{IsLast, IsClosing, AreVisited}
 use Rattle.derive_walk.specs.Settled.{HasSettled, NodeHasStopped}

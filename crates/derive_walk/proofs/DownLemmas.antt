@@ -9,7 +9,7 @@ use Rattle.meaning_tasks.specs.Needs.{Needs}
 use Rattle.meaning_tasks.proofs.Lemmas.{one_list_of_needs}
 use Rattle.meaning_derive.specs.Chains.{Chain, AreDifferent, IsDeep}
 use Rattle.meaning_derive.proofs.Lemmas.{chain_on}
-use Rattle.walk_tables.specs.Tables.{results_of, of_height}
+use Rattle.derive_walk.specs.Tables.{results_of, of_height}
 use Rattle.derive_walk.specs.declared.walk.Walk.{Walk}
 use Rattle.derive_walk.specs.Worlds.{World, IsWorld, seen_in, IsNeedIn}
 use Rattle.derive_walk.specs.States.{heights_in, HoldsIn}

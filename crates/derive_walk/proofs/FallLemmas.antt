@@ -7,16 +7,16 @@ use Rattle.meaning_texts.specs.Limits.{height_limit}
 use Rattle.meaning_texts.specs.Lists.{IsIn}
 use Rattle.meaning_texts.proofs.Lemmas.{value_of_some}
 use Rattle.meaning_graph.specs.Graphs.{Graph}
-use Rattle.meaning_nodes.specs.Nodes.{Fits}
+use Rattle.meaning_tasks.specs.Nodes.{Fits}
 use Rattle.meaning_tasks.specs.Needs.{Results, Needs}
 use Rattle.meaning_tasks.proofs.Lemmas.{carry, need_stays, one_list_of_needs}
 use Rattle.meaning_derive.specs.Derive.{Sources, Outcomes, text_of, derive, HasHeight}
 use Rattle.meaning_derive.specs.Chains.{IsNeed}
 use Rattle.meaning_derive.specs.WalkLaws.{AreFalling}
 use Rattle.meaning_derive.proofs.Lemmas.{needs_at, needs_listed, nothing_at_zero, one_above}
-use Rattle.meaning_checked.proofs.Lemmas.{needs_fit, map_at}
-use Rattle.walk_tables.specs.declared.done.Done.{Done}
-use Rattle.walk_tables.specs.Tables.{done_in, results_of}
+use Rattle.meaning_derive.proofs.Lemmas.{needs_fit, map_at}
+use Rattle.derive_walk.specs.declared.done.Done.{Done}
+use Rattle.derive_walk.specs.Tables.{done_in, results_of}
 use Rattle.derive_walk.specs.declared.walk.Walk.{Walk}
 use Rattle.derive_walk.specs.Worlds.{World, IsWorld, seen_in, IsNeedIn}
 use Rattle.derive_walk.specs.Walks.{IsDone}

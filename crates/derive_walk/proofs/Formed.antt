@@ -5,12 +5,12 @@ use Rattle.object_values.specs.declared.calls.Call.{Call}
 use Rattle.meaning_texts.specs.Limits.{height_limit}
 use Rattle.meaning_texts.specs.Lists.{IsIn}
 use Rattle.meaning_calls.specs.Jobs.{IsWellFormed}
-use Rattle.meaning_nodes.specs.Nodes.{Fits}
+use Rattle.meaning_tasks.specs.Nodes.{Fits}
 use Rattle.meaning_derive.specs.Chains.{LeadsOn, Chain}
-use Rattle.meaning_checked.specs.Premises.{IsMapOverFitting}
-use Rattle.meaning_checked.proofs.Lemmas.{needs_fit, map_at, calls_formed, elements_at}
-use Rattle.walk_tables.specs.declared.found.Found.{Found}
-use Rattle.walk_tables.specs.declared.found.Found.TheVariants.{Answer, Circular, Deep}
+use Rattle.meaning_derive.specs.Premises.{IsMapOverFitting}
+use Rattle.meaning_derive.proofs.Lemmas.{needs_fit, map_at, calls_formed, elements_at}
+use Rattle.derive_walk.specs.declared.found.Found.{Found}
+use Rattle.derive_walk.specs.declared.found.Found.TheVariants.{Answer, Circular, Deep}
 use Rattle.derive_walk.specs.Founds.{IsFound}
 use Rattle.derive_walk.specs.Laws.{NodesFit}
 use Rattle.derive_walk.specs.Walks.{Walked, IsRight}

@@ -8,12 +8,12 @@ use Rattle.object_values.specs.Exact.{call_exact}
 use Rattle.meaning_texts.specs.Lists.{IsIn}
 use Rattle.meaning_texts.proofs.Lemmas.{some_or_none, some_is_none, same_some}
 use Rattle.meaning_graph.specs.Graphs.{Graph}
-use Rattle.meaning_nodes.specs.Nodes.{Fits}
+use Rattle.meaning_tasks.specs.Nodes.{Fits}
 use Rattle.meaning_calls.specs.Outcomes.{OutcomeFits}
 use Rattle.meaning_derive.specs.Derive.{Sources, Outcomes}
 use Rattle.meaning_derive.specs.Given.{OutcomesFit}
 use Rattle.meaning_derive.specs.Laws.{HasMore}
-use Rattle.walk_tables.specs.Calls.{outcome_in, GivenOutcomes as Listed}
+use Rattle.derive_walk.specs.Calls.{outcome_in, GivenOutcomes as Listed}
 use Rattle.derive_walk.specs.Outcomes.{given_or, after}
 use Rattle.derive_walk.specs.Founds.{IsFound}
 use Rattle.derive_walk.specs.Walks.{Walked, AreDone, AreMet, IsRight, AreApart, OutcomeIsGiven}

@@ -5,7 +5,7 @@ use Rattle.std.proofs.lemmas.Bool.Decides.{Decides-eqb}
 use Rattle.object_values.specs.declared.nodes.Node.{Node}
 use Rattle.meaning_texts.specs.Lists.{IsIn}
 use Rattle.meaning_texts.proofs.Lemmas.{some_or_none, same_some}
-use Rattle.walk_tables.specs.Tables.{is_height, of_height}
+use Rattle.derive_walk.specs.Tables.{is_height, of_height}
 use Rattle.derive_walk.proofs.Added.{KeepHeights}
 
 -- ---- one of a height

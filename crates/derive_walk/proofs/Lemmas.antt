@@ -1,4 +1,8 @@
 -- The lemmas that other crates may cite.
+-- Calls of a list, each once, and one more or less.
+pub use Rattle.derive_walk.proofs.CallLemmas.{found_in, in_found, once, taken_out, put_keeps, put_there, from_put, put_once}
+-- What was found of nodes.
+pub use Rattle.derive_walk.proofs.SurveyLemmas.{is_unvisited, none_unvisited}
 -- What stays as more outcomes come.
 pub use Rattle.derive_walk.proofs.Stays.{found_stays, right_stays, met_stays}
 -- What is formed.

@@ -1,3 +1,7 @@
+mod FoundAdded
+mod CallLemmas
+mod ListLemmas
+mod SurveyLemmas
 mod Tables
 mod Added
 mod TopLemmas

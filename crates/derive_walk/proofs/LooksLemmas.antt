@@ -6,11 +6,11 @@ use Rattle.object_values.specs.declared.nodes.Step.{Step}
 use Rattle.object_values.specs.declared.nodes.Node.{Node}
 use Rattle.object_values.specs.declared.calls.Call.{Call}
 use Rattle.meaning_texts.specs.Lists.{IsIn}
-use Rattle.walk_tables.specs.declared.done.Done.{Done}
-use Rattle.walk_tables.specs.Tables.{Entries, done_nodes}
-use Rattle.walk_tables.specs.Calls.{GivenOutcomes, call_in, put_in}
-use Rattle.walk_tables.specs.declared.found.Found.{Found}
-use Rattle.walk_tables.proofs.Lemmas.{found_in}
+use Rattle.derive_walk.specs.declared.done.Done.{Done}
+use Rattle.derive_walk.specs.Tables.{Entries, done_nodes}
+use Rattle.derive_walk.specs.Calls.{GivenOutcomes, call_in, put_in}
+use Rattle.derive_walk.specs.declared.found.Found.{Found}
+use Rattle.derive_walk.proofs.CallLemmas.{found_in}
 use Rattle.derive_walk.specs.declared.settling.Closed.{Closed}
 use Rattle.derive_walk.specs.declared.settling.Closed.TheVariants.{Settled, Stops}
 use Rattle.derive_walk.specs.declared.walk.Walk.{Walk}

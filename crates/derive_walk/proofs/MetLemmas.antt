@@ -9,8 +9,8 @@ use Rattle.meaning_texts.proofs.Lemmas.{in_either, some_is_none, value_of_some}
 use Rattle.meaning_derive.specs.Chains.{AreDifferent, IsMet}
 use Rattle.meaning_derive.specs.Calls.{Runs}
 use Rattle.meaning_derive.proofs.Lemmas.{none_by_call, one_run}
-use Rattle.walk_tables.specs.Tables.{done_nodes}
-use Rattle.walk_tables.specs.Calls.{AreOnce}
+use Rattle.derive_walk.specs.Tables.{done_nodes}
+use Rattle.derive_walk.specs.Calls.{AreOnce}
 use Rattle.derive_walk.specs.Looks.{HasMet, one_if, count_with_steps}
 use Rattle.derive_walk.specs.Walks.{Walked, IsRight}
 use Rattle.derive_walk.specs.Worlds.{World, seen_in}

@@ -6,15 +6,15 @@ use Rattle.object_values.specs.declared.calls.Call.{Call}
 use Rattle.meaning_texts.specs.Limits.{height_limit}
 use Rattle.meaning_texts.specs.Lists.{IsIn}
 use Rattle.meaning_texts.proofs.Lemmas.{some_or_none, value_of_some, some_is_none}
-use Rattle.meaning_nodes.specs.Nodes.{Fits}
+use Rattle.meaning_tasks.specs.Nodes.{Fits}
 use Rattle.meaning_tasks.specs.Needs.{Grows}
 use Rattle.meaning_tasks.specs.Laws.{AgreeAt, IsCarried}
 use Rattle.meaning_tasks.proofs.Lemmas.{carry, one_list_of_needs}
 use Rattle.meaning_derive.specs.Derive.{text_of, derive}
 use Rattle.meaning_derive.specs.Calls.{Runs}
 use Rattle.meaning_derive.proofs.Lemmas.{grows_to, none_by_need}
-use Rattle.walk_tables.specs.declared.done.Done.{Done}
-use Rattle.walk_tables.specs.Tables.{done_in, results_of, top_of}
+use Rattle.derive_walk.specs.declared.done.Done.{Done}
+use Rattle.derive_walk.specs.Tables.{done_in, results_of, top_of}
 use Rattle.derive_walk.specs.declared.walk.Walk.{Walk}
 use Rattle.derive_walk.specs.Paths.{AreVisited}
 use Rattle.derive_walk.specs.States.{heights_in, IsLowerNeed, NeedBelow, IsWaiting, HoldsIn}

@@ -6,15 +6,15 @@ use Rattle.object_values.specs.declared.views.View.{View}
 use Rattle.object_values.specs.declared.calls.Call.{Call}
 use Rattle.meaning_texts.specs.Lists.{IsIn}
 use Rattle.meaning_texts.proofs.Lemmas.{some_is_none, value_of_some}
-use Rattle.meaning_nodes.specs.Nodes.{Fits}
+use Rattle.meaning_tasks.specs.Nodes.{Fits}
 use Rattle.meaning_derive.specs.Given.{OutcomesFit}
 use Rattle.meaning_derive.specs.Chains.{LeadsOn, Chain}
 use Rattle.meaning_derive.proofs.Lemmas.{none_by_call, none_refused}
-use Rattle.walk_tables.specs.declared.done.Done.{Done}
-use Rattle.walk_tables.specs.declared.found.Found.{Found}
-use Rattle.walk_tables.specs.declared.found.Found.TheVariants.{Answer}
-use Rattle.walk_tables.specs.Tables.{done_in, height_in}
-use Rattle.walk_tables.specs.Calls.{GivenOutcomes, AreOnce}
+use Rattle.derive_walk.specs.declared.done.Done.{Done}
+use Rattle.derive_walk.specs.declared.found.Found.{Found}
+use Rattle.derive_walk.specs.declared.found.Found.TheVariants.{Answer}
+use Rattle.derive_walk.specs.Tables.{done_in, height_in}
+use Rattle.derive_walk.specs.Calls.{GivenOutcomes, AreOnce}
 use Rattle.derive_walk.specs.declared.walk.Walk.{Walk}
 use Rattle.derive_walk.specs.Worlds.{World, seen_in, StopsAtCall}
 use Rattle.derive_walk.specs.Founds.{IsFound}

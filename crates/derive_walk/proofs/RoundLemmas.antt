@@ -7,7 +7,7 @@ use Rattle.derive_walk.specs.declared.walk.Walk.{Walk}
 use Rattle.derive_walk.specs.Worlds.{World, IsWorld, IsNeedIn}
 use Rattle.derive_walk.specs.States.{heights_in, HoldsIn, GoesOnFrom, Visited}
 use Rattle.derive_walk.specs.Paths.{IsUnvisited, AreToVisit}
-use Rattle.walk_tables.specs.Tables.{node_in}
+use Rattle.derive_walk.specs.Tables.{node_in}
 use Rattle.derive_walk.proofs.HeightLemmas.{unseen_count}
 use Rattle.derive_walk.proofs.FallLemmas.{needs_in}
 use Rattle.derive_walk.proofs.VisitLemmas.{SoFar, go_on, smaller}

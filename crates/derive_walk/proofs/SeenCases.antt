@@ -5,10 +5,10 @@ use Rattle.object_values.specs.declared.views.View.{View}
 use Rattle.object_values.specs.declared.calls.Call.{Call}
 use Rattle.meaning_texts.specs.Lists.{IsIn}
 use Rattle.node_tasks.specs.declared.needed.Needed.{Needed}
-use Rattle.walk_tables.specs.declared.done.Done.{Done}
-use Rattle.walk_tables.specs.Tables.{Entries, Waits, results_of}
-use Rattle.walk_tables.specs.Calls.{put_in, AreOnce}
-use Rattle.walk_tables.proofs.Lemmas.{put_keeps, put_there, put_once}
+use Rattle.derive_walk.specs.declared.done.Done.{Done}
+use Rattle.derive_walk.specs.Tables.{Entries, Waits, results_of}
+use Rattle.derive_walk.specs.Calls.{put_in, AreOnce}
+use Rattle.derive_walk.proofs.CallLemmas.{put_keeps, put_there, put_once}
 use Rattle.derive_walk.specs.declared.walk.Walk.{Walk}
 use Rattle.derive_walk.specs.Paths.{IsLast, IsClosing}
 use Rattle.derive_walk.specs.Settled.{HasSettled, NodeHasStopped}

@@ -5,8 +5,8 @@ use Rattle.object_values.specs.declared.nodes.Node.{Node}
 use Rattle.object_values.specs.declared.views.View.{View}
 use Rattle.object_values.specs.declared.calls.Call.{Call}
 use Rattle.meaning_graph.specs.Graphs.{Text, Graph}
-use Rattle.meaning_nodes.specs.Labels.{label_of}
-use Rattle.meaning_nodes.specs.Values.{inherit}
+use Rattle.meaning_tasks.specs.Labels.{label_of}
+use Rattle.meaning_tasks.specs.Values.{inherit}
 use Rattle.meaning_tasks.specs.Tasks.{task_of}
 use Rattle.meaning_tasks.specs.Needs.{Results, ReachedNames}
 use Rattle.meaning_tasks.specs.Calls.{CallOf}

@@ -14,10 +14,10 @@ use Rattle.meaning_derive.specs.Chains.{LeadsOn, Chain, IsMet}
 use Rattle.meaning_derive.specs.Given.{OutcomesFit}
 use Rattle.meaning_derive.specs.Laws.{HasMore}
 use Rattle.meaning_derive.proofs.Lemmas.{derive_more, grows_to, kept, needs_at, needs_listed, same_height, frontier_stays}
-use Rattle.walk_tables.specs.declared.done.Done.{Done}
-use Rattle.walk_tables.specs.Tables.{Entries, done_in}
-use Rattle.walk_tables.specs.declared.found.Found.{Found}
-use Rattle.walk_tables.specs.declared.found.Found.TheVariants.{Answer, Circular, Deep}
+use Rattle.derive_walk.specs.declared.done.Done.{Done}
+use Rattle.derive_walk.specs.Tables.{Entries, done_in}
+use Rattle.derive_walk.specs.declared.found.Found.{Found}
+use Rattle.derive_walk.specs.declared.found.Found.TheVariants.{Answer, Circular, Deep}
 use Rattle.derive_walk.specs.Founds.{IsFound}
 use Rattle.derive_walk.specs.Walks.{Walked, IsDone, AreDone, IsRight}
 use Rattle.derive_walk.specs.Worlds.{World, world, IsNeedIn}

@@ -8,8 +8,8 @@ use Rattle.object_values.specs.Exact.{node_exact}
 use Rattle.meaning_texts.specs.Lists.{IsIn}
 use Rattle.meaning_texts.proofs.Lemmas.{some_or_none, same_some, in_right, in_either}
 use Rattle.meaning_derive.specs.Chains.{AreDifferent}
-use Rattle.walk_tables.specs.declared.done.Done.{Done}
-use Rattle.walk_tables.specs.Tables.{Entries, Waits, done_in, done_nodes, height_in, height_or, heights_of}
+use Rattle.derive_walk.specs.declared.done.Done.{Done}
+use Rattle.derive_walk.specs.Tables.{Entries, Waits, done_in, done_nodes, height_in, height_or, heights_of}
 
 -- ---- an entry behind the others
 

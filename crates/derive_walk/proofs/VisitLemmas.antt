@@ -9,13 +9,13 @@ use Rattle.object_values.specs.Exact.{node_exact}
 use Rattle.meaning_texts.specs.Limits.{height_limit}
 use Rattle.meaning_texts.specs.Lists.{IsIn}
 use Rattle.meaning_texts.proofs.Lemmas.{in_left}
-use Rattle.meaning_nodes.specs.Nodes.{Fits}
+use Rattle.meaning_tasks.specs.Nodes.{Fits}
 use Rattle.meaning_derive.specs.Chains.{Chain, AreDifferent}
 use Rattle.meaning_derive.proofs.Lemmas.{chain_on}
-use Rattle.walk_tables.specs.declared.found.Found.{Found}
-use Rattle.walk_tables.specs.declared.found.Found.TheVariants.{Answer, Circular, Deep}
-use Rattle.walk_tables.specs.Chains.{IsChainTo}
-use Rattle.walk_tables.specs.Tables.{node_in}
+use Rattle.derive_walk.specs.declared.found.Found.{Found}
+use Rattle.derive_walk.specs.declared.found.Found.TheVariants.{Answer, Circular, Deep}
+use Rattle.derive_walk.specs.Chains.{IsChainTo}
+use Rattle.derive_walk.specs.Tables.{node_in}
 use Rattle.derive_walk.specs.declared.walk.Walk.{Walk}
 use Rattle.derive_walk.specs.Worlds.{World, IsWorld, seen_in, IsNeedIn}
 use Rattle.derive_walk.specs.Founds.{IsFound}

@@ -6,12 +6,12 @@ use Rattle.object_values.specs.declared.calls.Call.{Call}
 use Rattle.meaning_texts.specs.Lists.{IsIn}
 use Rattle.meaning_graph.specs.Graphs.{Graph}
 use Rattle.meaning_calls.specs.Jobs.{IsWellFormed}
-use Rattle.meaning_nodes.specs.Nodes.{Fits}
+use Rattle.meaning_tasks.specs.Nodes.{Fits}
 use Rattle.meaning_derive.specs.Derive.{Sources, Outcomes}
 use Rattle.meaning_derive.specs.Given.{OutcomesFit}
 use Rattle.meaning_derive.specs.Laws.{HasMore}
-use Rattle.walk_tables.specs.declared.found.Found.{Found}
-use Rattle.walk_tables.specs.declared.found.Found.TheVariants.{Answer, Circular, Deep}
+use Rattle.derive_walk.specs.declared.found.Found.{Found}
+use Rattle.derive_walk.specs.declared.found.Found.TheVariants.{Answer, Circular, Deep}
 use Rattle.derive_walk.specs.Founds.{IsFound}
 use Rattle.derive_walk.specs.Looks.{HasMet}
 use Rattle.derive_walk.specs.Walks.{Walked, IsRight}

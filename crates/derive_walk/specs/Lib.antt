@@ -1,3 +1,8 @@
+pub mod Tables
+pub mod Finite
+pub mod Calls
+pub mod Chains
+pub mod Surveys
 pub mod Worlds
 pub mod Outcomes
 pub mod NothingFits

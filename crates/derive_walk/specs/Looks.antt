@@ -5,8 +5,8 @@ use Rattle.object_values.specs.declared.nodes.Node.{Node}
 use Rattle.object_values.specs.declared.calls.Call.{Call}
 use Rattle.meaning_texts.specs.Lists.{IsIn}
 use Rattle.meaning_derive.specs.Chains.{AreDifferent, IsMet}
-use Rattle.walk_tables.specs.Tables.{done_nodes}
-use Rattle.walk_tables.specs.Calls.{put_in}
+use Rattle.derive_walk.specs.Tables.{done_nodes}
+use Rattle.derive_walk.specs.Calls.{put_in}
 use Rattle.derive_walk.specs.declared.settling.Closed.{Closed}
 use Rattle.derive_walk.specs.declared.settling.Closed.TheVariants.{Settled, Stops}
 use Rattle.derive_walk.specs.declared.walk.Walk.{Walk}

@@ -2,7 +2,7 @@
 use Rattle.std.specs.Prelude.{Option, Some, None}
 use Rattle.object_values.specs.declared.calls.Outcome.{Outcome}
 use Rattle.meaning_derive.specs.Derive.{Outcomes}
-use Rattle.walk_tables.specs.Calls.{outcome_in, GivenOutcomes as Listed}
+use Rattle.derive_walk.specs.Calls.{outcome_in, GivenOutcomes as Listed}
 
 -- nothing is known
 abbrev pub nothing_known : Outcomes

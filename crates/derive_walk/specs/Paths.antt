@@ -3,17 +3,17 @@ use Rattle.std.specs.Prelude.{◌≡◌, ◌≢◌, ◌⊎◌, ℕ, ◌+◌, ◌
 use Rattle.object_values.specs.declared.nodes.Node.{Node}
 use Rattle.meaning_texts.specs.Limits.{height_limit}
 use Rattle.meaning_texts.specs.Lists.{IsIn}
-use Rattle.meaning_nodes.specs.Nodes.{Fits}
+use Rattle.meaning_tasks.specs.Nodes.{Fits}
 use Rattle.meaning_tasks.specs.Needs.{Needs}
 use Rattle.meaning_derive.specs.Chains.{Chain, AreDifferent}
 use Rattle.node_tasks.specs.declared.ahead.Ahead.{Ahead}
 use Rattle.node_tasks.specs.declared.needed.Needed.{Needed}
 use Rattle.node_tasks.specs.Ahead.{IsAhead}
 use Rattle.node_tasks.specs.Needed.{IsNeeded}
-use Rattle.walk_tables.specs.Tables.{results_of, are_done, top_of}
-use Rattle.walk_tables.specs.declared.found.Found.{Found}
-use Rattle.walk_tables.specs.declared.survey.Survey.{Survey}
-use Rattle.walk_tables.specs.Surveys.{survey_of}
+use Rattle.derive_walk.specs.Tables.{results_of, are_done, top_of}
+use Rattle.derive_walk.specs.declared.found.Found.{Found}
+use Rattle.derive_walk.specs.declared.survey.Survey.{Survey}
+use Rattle.derive_walk.specs.Surveys.{survey_of}
 use Rattle.derive_walk.specs.declared.rounds.Round.{Round}
 use Rattle.derive_walk.specs.declared.rounds.Round.TheVariants.{Visits, Closes}
 use Rattle.derive_walk.specs.declared.walk.Walk.{Walk}

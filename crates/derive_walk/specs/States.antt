@@ -4,11 +4,11 @@ use Rattle.object_values.specs.declared.nodes.Node.{Node}
 use Rattle.object_values.specs.declared.calls.Call.{Call}
 use Rattle.meaning_texts.specs.Limits.{height_limit}
 use Rattle.meaning_texts.specs.Lists.{IsIn}
-use Rattle.meaning_nodes.specs.Nodes.{Fits}
+use Rattle.meaning_tasks.specs.Nodes.{Fits}
 use Rattle.meaning_derive.specs.Calls.{Runs}
-use Rattle.walk_tables.specs.Tables.{heights_of, height_in}
-use Rattle.walk_tables.specs.Calls.{AreOnce}
-use Rattle.walk_tables.specs.declared.found.Found.{Found}
+use Rattle.derive_walk.specs.Tables.{heights_of, height_in}
+use Rattle.derive_walk.specs.Calls.{AreOnce}
+use Rattle.derive_walk.specs.declared.found.Found.{Found}
 use Rattle.derive_walk.specs.declared.walk.Walk.{Walk}
 use Rattle.derive_walk.specs.Founds.{IsFound}
 use Rattle.derive_walk.specs.Walks.{AreDone, AreMet}

@@ -5,14 +5,14 @@ use Rattle.object_values.specs.declared.calls.Call.{Call}
 use Rattle.object_values.specs.declared.calls.Outcome.{Outcome}
 use Rattle.meaning_texts.specs.Limits.{height_limit}
 use Rattle.meaning_texts.specs.Lists.{IsIn}
-use Rattle.meaning_nodes.specs.Nodes.{Fits}
+use Rattle.meaning_tasks.specs.Nodes.{Fits}
 use Rattle.meaning_derive.specs.Derive.{derive, HasHeight}
 use Rattle.meaning_derive.specs.Chains.{AreDifferent, IsMet, IsRefusal}
 use Rattle.meaning_derive.specs.Given.{OutcomesFit}
-use Rattle.walk_tables.specs.declared.done.Done.{Done}
-use Rattle.walk_tables.specs.Tables.{Entries, done_in, done_nodes}
-use Rattle.walk_tables.specs.Calls.{GivenOutcomes, outcome_in, AreOnce}
-use Rattle.walk_tables.specs.declared.found.Found.{Found}
+use Rattle.derive_walk.specs.declared.done.Done.{Done}
+use Rattle.derive_walk.specs.Tables.{Entries, done_in, done_nodes}
+use Rattle.derive_walk.specs.Calls.{GivenOutcomes, outcome_in, AreOnce}
+use Rattle.derive_walk.specs.declared.found.Found.{Found}
 use Rattle.derive_walk.specs.Founds.{IsFound}
 use Rattle.derive_walk.specs.Worlds.{World, seen_in, IsNeedIn, StopsAtCall}
 

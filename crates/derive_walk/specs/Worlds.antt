@@ -2,8 +2,8 @@
 use Rattle.object_values.specs.declared.nodes.Node.{Node}
 use Rattle.object_values.specs.declared.calls.Call.{Call}
 use Rattle.meaning_graph.specs.Graphs.{Graph}
-use Rattle.meaning_graph_text.specs.Grammar.{IsSpellable}
-use Rattle.meaning_graph_text.specs.Checks.{Checked}
+use Rattle.meaning_graph.specs.Grammar.{IsSpellable}
+use Rattle.meaning_graph.specs.Checks.{Checked}
 use Rattle.meaning_tasks.specs.Needs.{Results}
 use Rattle.meaning_derive.specs.Derive.{Sources, Outcomes, derived}
 use Rattle.meaning_derive.specs.Chains.{IsNeed}

@@ -6,16 +6,18 @@ ghost use Rattle.derive_walk.specs.Settings.{IsSetting, world_in};
 ghost use Rattle.derive_walk.specs.States.{HoldsIn, GoesOnFrom, Visited, AfterVisit};
 
 use crate::deep::descend;
+use crate::done::Done;
+use crate::found::Found;
 use crate::known::Known;
 use crate::setting::Setting;
 use crate::settling::{Closed, settle_node};
+use crate::survey::Survey;
 use crate::walk::Walk;
 use node_tasks::Needed;
 use object_values::{Copied, HEIGHT_LIMIT, Memory, Node};
 use odin_outside::Steps;
 use std::alloc::Global;
 use std::sync::ledger::Ledger;
-use walk_tables::{Done, Found, Survey};
 
 /// Takes the node, the last of the path, into the tables, or finds a chain for which the root is
 /// too deep.

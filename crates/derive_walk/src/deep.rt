@@ -7,12 +7,12 @@ ghost use Rattle.derive_walk.specs.States.{HoldsIn};
 ghost use Rattle.derive_walk.specs.Worlds.{seen_in};
 
 use crate::known::Known;
+use crate::looking::at_height;
 use crate::setting::Setting;
 use crate::walk::Walk;
 use node_tasks::needs;
 use object_values::{Copied, HEIGHT_LIMIT, Memory, Node, Seq};
 use std::alloc::Global;
-use walk_tables::at_height;
 
 /// The path, and then nodes of falling heights, each a need of the one before, up to one node more
 /// than the greatest height.

@@ -1,9 +1,9 @@
 // The rounds of a visit: which needs are visited next.
 ghost use Rattle.std.specs.Prelude.{IfOk};
 ghost use Rattle.object_values.specs.declared.nodes.Node.{Node as NodeValue};
-ghost use Rattle.meaning_nodes.specs.Nodes.{Fits};
+ghost use Rattle.meaning_tasks.specs.Nodes.{Fits};
 ghost use Rattle.node_tasks.specs.Needed.{IsNeeded};
-ghost use Rattle.walk_tables.specs.Tables.{results_of};
+ghost use Rattle.derive_walk.specs.Tables.{results_of};
 ghost use Rattle.derive_walk.specs.Paths.{IsAheadIn, IsRound, IsSurveyed};
 ghost use Rattle.derive_walk.specs.Settings.{IsSetting, world_in};
 ghost use Rattle.derive_walk.specs.States.{HoldsIn};
@@ -11,12 +11,12 @@ ghost use Rattle.derive_walk.specs.Worlds.{World};
 
 use crate::known::Known;
 use crate::setting::Setting;
+use crate::survey::Survey;
 use crate::walk::Walk;
 use node_tasks::{Ahead, Needed};
 use object_values::{Memory, Node, Seq};
 use std::alloc::Global;
 use std::mem;
-use walk_tables::Survey;
 
 /// The rounds over all needs before lines are followed. In these all is visited to which no line
 /// leads: the base in the first, its elements, the extras and the scan of the own source in the

@@ -1,9 +1,9 @@
 // What an advance goes by.
+use crate::given::Given;
 use crate::known::Known;
-use object_sources::Sources;
+use object_values::Sources;
 use path_planner::Plans;
 use type_graph::Graph;
-use walk_tables::Given;
 
 /// The graph with its plans, the sources, and the outcomes that are kept and that were given.
 #[derive(Drop)]

@@ -1,30 +1,28 @@
 // The settling of a node whose needs all have results.
 ghost use Rattle.std.specs.Prelude.{◌≡◌, ◌≢◌, [], Some, IfOk, option_map};
 ghost use Rattle.std.specs.FinMap as map;
-ghost use Rattle.meaning_nodes.specs.Labels.{label_of as label_of_node};
-ghost use Rattle.meaning_nodes.specs.Nodes.{Fits};
-ghost use Rattle.meaning_nodes.specs.Values.{inherit};
+ghost use Rattle.meaning_tasks.specs.Labels.{label_of as label_of_node};
+ghost use Rattle.meaning_tasks.specs.Nodes.{Fits};
+ghost use Rattle.meaning_tasks.specs.Values.{inherit};
 ghost use Rattle.meaning_tasks.specs.Settle.{given_own};
 ghost use Rattle.meaning_tasks.specs.Calls.{CallOf};
 ghost use Rattle.node_tasks.specs.Needed.{IsNeeded};
-ghost use Rattle.walk_tables.specs.Tables.{results_of};
+ghost use Rattle.derive_walk.specs.Tables.{results_of};
 ghost use Rattle.derive_walk.specs.Looks.{LooksOnce};
 ghost use Rattle.derive_walk.specs.Settings.{IsSetting, world_in};
 ghost use Rattle.derive_walk.specs.Settled.{AreOutside, NodeIsClosed, SettlesIn};
 
+use crate::done::Table;
 use crate::known::Known;
 use crate::setting::Setting;
+use crate::wanted::Wanted;
 use node_tasks::{Needed, call_for, settle};
-use object_sources::Sources;
-use object_values::{
-    Bytes, Call, Copied, Memory, Message, Node, Outcome, Seq, SharedSeq, Status, Text, Value, View,
-};
+use object_values::{Bytes, Call, Copied, Memory, Message, Node, Outcome, Seq, SharedSeq, Sources, Status, Text, Value, View};
 use odin_nodes::label_of;
 use odin_outside::Steps;
 use std::alloc::Global;
 use std::sync::ledger::Ledger;
 use type_graph::Graph;
-use walk_tables::{Table, Wanted};
 
 /// What comes of a node whose needs all have results: its view, or the call at which it stops.
 pub(crate) enum Closed {

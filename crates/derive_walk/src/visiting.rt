@@ -5,8 +5,11 @@ ghost use Rattle.derive_walk.specs.Paths.{IsNext};
 ghost use Rattle.derive_walk.specs.Settings.{IsSetting, world_in};
 ghost use Rattle.derive_walk.specs.States.{HoldsIn, GoesOnFrom, AfterVisit};
 
+use crate::chains::chain_to;
 use crate::closing::close;
+use crate::found::Found;
 use crate::known::Known;
+use crate::looking::height_of;
 use crate::rounds::{Round, next_round};
 use crate::setting::Setting;
 use crate::walk::Walk;
@@ -15,7 +18,6 @@ use object_values::{Copied, Memory, Node};
 use odin_outside::Steps;
 use std::alloc::Global;
 use std::sync::ledger::Ledger;
-use walk_tables::{Found, chain_to, height_of};
 
 /// Visits a node that was not visited, and what it needs, in rounds.
 pub(crate) fn visit<K: Known, L: Ledger>(

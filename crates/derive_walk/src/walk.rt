@@ -1,7 +1,10 @@
 // A walk from the root along needs to the node that is visited.
+use crate::done::Table;
+use crate::heights::Heights;
+use crate::looking::height_of;
+use crate::wanted::Wanted;
 use node_tasks::VisitedNodes;
 use object_values::{Node, Seq};
-use walk_tables::{Heights, Table, Wanted, height_of};
 
 /// The nodes with results and the wanted calls stay from one advance to the next; what waits and
 /// the path are of one advance: a node that waited may go on by outcomes that came since, so each

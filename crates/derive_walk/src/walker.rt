@@ -2,9 +2,9 @@
 ghost use Rattle.std.specs.Prelude.{◌≡◌, OnOk, OnErr, IfOk, IsSome, option_map};
 ghost use Rattle.meaning_graph.specs.Graphs.{Graph as GraphValue};
 ghost use Rattle.meaning_texts.specs.Lists.{IsIn};
-ghost use Rattle.meaning_graph_text.specs.Grammar.{IsSpellable};
+ghost use Rattle.meaning_graph.specs.Grammar.{IsSpellable};
 ghost use Rattle.meaning_calls.specs.Outcomes.{OutcomeFits};
-ghost use Rattle.meaning_nodes.specs.Nodes.{Fits};
+ghost use Rattle.meaning_tasks.specs.Nodes.{Fits};
 ghost use Rattle.meaning_derive.specs.Derive.{Sources as SourceTexts, Outcomes};
 ghost use Rattle.meaning_derive.specs.Given.{AreSources, OutcomesFit};
 ghost use Rattle.path_planner.specs.Ends.{plans_of};
@@ -16,20 +16,24 @@ ghost use Rattle.derive_walk.specs.States.{HoldsIn, GoesOnFrom, heights_in};
 ghost use Rattle.derive_walk.specs.Walks.{IsRight, IsAdvanced, ExtendsWalk, OutcomeIsGiven, new_walk};
 ghost use Rattle.derive_walk.specs.Worlds.{World, world};
 
+use crate::done::Table;
+use crate::found::Found;
+use crate::given::Given;
+use crate::heights::Heights;
 use crate::known::Known;
+use crate::looking::height_of;
 use crate::setting::Setting;
 use crate::settling::source_view;
 use crate::visiting::visit;
 use crate::walk::Walk;
-use object_sources::Sources;
-use object_values::{Call, Copied, Memory, Node, Outcome, Seq};
+use crate::wanted::Wanted;
+use object_values::{Call, Copied, Memory, Node, Outcome, Seq, Sources};
 use odin_outside::Steps;
 use path_planner::Plans;
 use std::alloc::Global;
 use std::marker::Model;
 use std::sync::ledger::Ledger;
 use type_graph::Graph;
-use walk_tables::{Found, Given, Heights, Table, Wanted, height_of};
 
 /// The derivation of a root as far as outcomes of calls are known. Contracts see the root, the
 /// nodes that have results, the outcomes that were given, the wanted calls, and the result.

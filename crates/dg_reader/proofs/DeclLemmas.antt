@@ -13,13 +13,13 @@ use Rattle.object_values.specs.declared.graph.Make.TheVariants.{Tool, Read, Each
 use Rattle.object_values.specs.declared.graph.Decl.{Decl}
 use Rattle.object_values.specs.declared.graph.Decl.TheVariants.{ObjectType, Suffix, Param, Maker}
 use Rattle.meaning_texts.specs.Classes.{IsId, IsWord}
-use Rattle.meaning_graph_text.specs.Tokens.{Token, word, semicolon, opening, closing, Tokens}
-use Rattle.meaning_graph_text.specs.Grammar.{optional_tokens, part_tokens, kind_tokens, string_tokens, extra_tokens, closure_tokens, decl_tokens, IsSpellableDecl, IsInGrammar}
-use Rattle.meaning_graph_text.specs.Going.{Class, keyword, identifier, any_word, any_string, open_mark, Stage, between, kind, supers, parts, ending, strings, extras, Expected, expect, start, step_at, way, tool_front}
+use Rattle.meaning_graph.specs.Tokens.{Token, word, semicolon, opening, closing, Tokens}
+use Rattle.meaning_graph.specs.Grammar.{optional_tokens, part_tokens, kind_tokens, string_tokens, extra_tokens, closure_tokens, decl_tokens, IsSpellableDecl, IsInGrammar}
+use Rattle.meaning_graph.specs.Going.{Class, keyword, identifier, any_word, any_string, open_mark, Stage, between, kind, supers, parts, ending, strings, extras, Expected, expect, start, step_at, way, tool_front}
 use Rattle.dg_reader.specs.declared.cursor.Wanted.TheVariants.{Id, Word}
 use Rattle.dg_reader.specs.Walks.{TakesToken, HasNone, Finds, CarriesStops}
 use Rattle.dg_reader.specs.Reads.{ReadsParts, ReadsStrings, ReadsExtras, HasNoExtra, ReadsSupers, ReadsUses, ReadsClosure, ReadsWay, way_classes, ReadsKind, ReadsTool, ReadsHead, HeadBehind, KindBehind, plain_keyword, ReadsDecl}
-use Rattle.meaning_graph_text.proofs.Lemmas.{tokens_append, tokens_short}
+use Rattle.meaning_graph.proofs.Lemmas.{tokens_append, tokens_short}
 use Rattle.dg_reader.proofs.TokenLemmas.{takes_cons, takes_one, tokens_snoc, takes_shorter, takes_past}
 use Rattle.dg_reader.proofs.WalkLemmas.{leads_step, leads_class, leads_found, leads_keyword}
 use Rattle.dg_reader.proofs.ListLemmas.{id_found, word_found}

@@ -4,12 +4,12 @@ use Rattle.std.proofs.Math.Seq.{drop-append_seam}
 use Rattle.std.proofs.lemmas.Bool.{both_ways}
 use Rattle.object_values.specs.declared.graph.Decl.{Decl}
 use Rattle.meaning_texts.specs.Limits.{graph_limit}
-use Rattle.meaning_graph_text.specs.Tokens.{Token, BeginsWith, a_word, a_string, a_semicolon, a_comma, an_opening, a_closing, Tokens, no_more, blank, comment, one, is_past_gap}
-use Rattle.meaning_graph_text.specs.Lexing.{Taken, token_at}
-use Rattle.meaning_graph_text.specs.Grammar.{graph_tokens, HasSpelling, GraphText}
-use Rattle.meaning_graph_text.specs.Places.{line_behind, column_behind, IsFrontOfGraph, IsSyntaxFault}
-use Rattle.meaning_graph_text.specs.Going.{Expected, start, expected_after, run, can_go_on}
-use Rattle.meaning_graph_text.proofs.Lemmas.{begins_from, graph_run, run_append, front_from_going, going_from_front, no_graph_at, no_graph_without, tokens_append, tokens_short, past_is_past}
+use Rattle.meaning_graph.specs.Tokens.{Token, BeginsWith, a_word, a_string, a_semicolon, a_comma, an_opening, a_closing, Tokens, no_more, blank, comment, one, is_past_gap}
+use Rattle.meaning_graph.specs.Lexing.{Taken, token_at}
+use Rattle.meaning_graph.specs.Grammar.{graph_tokens, HasSpelling, GraphText}
+use Rattle.meaning_graph.specs.Places.{line_behind, column_behind, IsFrontOfGraph, IsSyntaxFault}
+use Rattle.meaning_graph.specs.Going.{Expected, start, expected_after, run, can_go_on}
+use Rattle.meaning_graph.proofs.Lemmas.{begins_from, graph_run, run_append, front_from_going, going_from_front, no_graph_at, no_graph_without, tokens_append, tokens_short, past_is_past}
 use Rattle.dg_reader.specs.Walks.{StopsAt, here, behind}
 use Rattle.dg_reader.proofs.TokenLemmas.{takes_cons}
 

@@ -10,12 +10,12 @@ use Rattle.std.proofs.lemmas.List.Elements.{All-nil, All-push}
 use Rattle.object_values.specs.declared.graph.Decl.{Decl}
 use Rattle.object_values.specs.declared.graph.GraphFault.{GraphFault}
 use Rattle.meaning_texts.specs.Limits.{graph_limit}
-use Rattle.meaning_graph_text.specs.Tokens.{Token, semicolon, Tokens, no_more, is_past_gap}
-use Rattle.meaning_graph_text.specs.Lexing.{past_gap}
-use Rattle.meaning_graph_text.specs.Grammar.{decl_tokens, graph_tokens, HasSpelling, IsSpellableDecl, IsInGrammar, GraphText}
-use Rattle.meaning_graph_text.specs.Places.{line_behind}
-use Rattle.meaning_graph_text.specs.Checks.{FirstFault}
-use Rattle.meaning_graph_text.proofs.Lemmas.{gap_read, tokens_append, tokens_short, past_is_past}
+use Rattle.meaning_graph.specs.Tokens.{Token, semicolon, Tokens, no_more, is_past_gap}
+use Rattle.meaning_graph.specs.Lexing.{past_gap}
+use Rattle.meaning_graph.specs.Grammar.{decl_tokens, graph_tokens, HasSpelling, IsSpellableDecl, IsInGrammar, GraphText}
+use Rattle.meaning_graph.specs.Places.{line_behind}
+use Rattle.meaning_graph.specs.Checks.{FirstFault}
+use Rattle.meaning_graph.proofs.Lemmas.{gap_read, tokens_append, tokens_short, past_is_past}
 use Rattle.dg_reader.specs.Reads.{ReadsDecl}
 use Rattle.dg_reader.specs.Files.{BeginsAt, ReadsDecls, IsCheckFault}
 use Rattle.dg_reader.proofs.FaultLemmas.{rest_at}

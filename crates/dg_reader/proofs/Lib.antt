@@ -1,3 +1,5 @@
+mod LexLemmas
+mod PlaceLemmas
 mod TokenLemmas
 mod WalkLemmas
 mod StageLemmas

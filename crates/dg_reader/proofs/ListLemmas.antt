@@ -7,13 +7,13 @@ use Rattle.object_values.specs.declared.graph.Extra.{Extra}
 use Rattle.object_values.specs.declared.graph.Extra.TheVariants.{Also, With}
 use Rattle.meaning_texts.specs.Classes.{is_name_byte, IsId, IsName, IsWord, IsStringText}
 use Rattle.meaning_texts.proofs.Lemmas.{word_decides, id_decides, string_decides}
-use Rattle.meaning_graph_text.specs.Tokens.{word, string, comma, Tokens, no_more}
-use Rattle.meaning_graph_text.specs.Grammar.{id_tokens, optional_tokens, part_tokens, string_tokens, extra_tokens, IsSpellablePart, IsSpellableExtra}
-use Rattle.meaning_graph_text.specs.Going.{identifier, name_string, Stage, supers, super_ids, parts, ending, strings, used_ids, extras, expect, step_at}
+use Rattle.meaning_graph.specs.Tokens.{word, string, comma, Tokens, no_more}
+use Rattle.meaning_graph.specs.Grammar.{id_tokens, optional_tokens, part_tokens, string_tokens, extra_tokens, IsSpellablePart, IsSpellableExtra}
+use Rattle.meaning_graph.specs.Going.{identifier, name_string, Stage, supers, super_ids, parts, ending, strings, used_ids, extras, expect, step_at}
 use Rattle.dg_reader.specs.declared.cursor.Wanted.TheVariants.{Id, Word, String, NameString}
 use Rattle.dg_reader.specs.Walks.{TakesToken, IsNotAt, Finds, CarriesStops}
 use Rattle.dg_reader.specs.Reads.{ReadsIds, ReadsParts, ReadsStrings, ReadsExtras, ReadsSupers, ReadsUses, ReadsClosure}
-use Rattle.meaning_graph_text.proofs.Lemmas.{tokens_append}
+use Rattle.meaning_graph.proofs.Lemmas.{tokens_append}
 use Rattle.dg_reader.proofs.TokenLemmas.{takes_cons, takes_one, tokens_snoc}
 use Rattle.dg_reader.proofs.WalkLemmas.{leads_step, leads_found}
 use Rattle.dg_reader.proofs.StageLemmas.{supers_ending, super_ids_ending, strings_extras, used_ids_extras, extras_ending}

@@ -6,11 +6,11 @@ use Rattle.std.proofs.lemmas.Option.{slice_get_within}
 use Rattle.object_values.specs.declared.graph.Decl.{Decl}
 use Rattle.object_values.specs.declared.graph.GraphFault.{GraphFault}
 use Rattle.meaning_texts.specs.Limits.{graph_limit}
-use Rattle.meaning_graph_text.specs.Grammar.{GraphText}
-use Rattle.meaning_graph_text.specs.Places.{line_behind, column_behind, BeginsOnLine, IsSyntaxFault}
-use Rattle.meaning_graph_text.specs.Checks.{HasFault, Checked, FirstFault, FaultAt, first_fault}
-use Rattle.meaning_graph_text.proofs.Lemmas.{one_graph, one_fault, one_line, each_begins, OneFault, first_or_checked, one_first, answered}
-use Rattle.meaning_graph_text.specs.Stopping.{syntax_stop, front_of}
+use Rattle.meaning_graph.specs.Grammar.{GraphText}
+use Rattle.meaning_graph.specs.Places.{line_behind, column_behind, BeginsOnLine, IsSyntaxFault}
+use Rattle.meaning_graph.specs.Checks.{HasFault, Checked, FirstFault, FaultAt, first_fault}
+use Rattle.meaning_graph.proofs.Lemmas.{one_graph, one_fault, one_line, each_begins, OneFault, first_or_checked, one_first, answered}
+use Rattle.meaning_graph.specs.Stopping.{syntax_stop, front_of}
 use Rattle.dg_reader.specs.declared.fault.ReadFault.{ReadFault}
 use Rattle.dg_reader.specs.declared.fault.ReadFault.TheVariants.{TooLong, Syntax, Check, Memory}
 use Rattle.dg_reader.specs.Files.{IsRead, IsCheckFault, Refuses}

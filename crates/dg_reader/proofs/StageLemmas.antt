@@ -2,8 +2,8 @@
 use Rattle.std.proofs.Common.{◌≡◌, ℕ, false, List, [], None, refl, sym, ap, ◌∙◌}
 use Rattle.std.specs.Prelude.{codes}
 use Rattle.meaning_texts.specs.Tests.{is_string_text}
-use Rattle.meaning_graph_text.specs.Tokens.{Token, word, string, semicolon, comma, opening, closing, BeginsWith}
-use Rattle.meaning_graph_text.specs.Going.{any_string, Stage, between, kind, supers, super_ids, parts, ending, strings, used_ids, extras, Expected, expect, start, expected_after, step_at}
+use Rattle.meaning_graph.specs.Tokens.{Token, word, string, semicolon, comma, opening, closing, BeginsWith}
+use Rattle.meaning_graph.specs.Going.{any_string, Stage, between, kind, supers, super_ids, parts, ending, strings, used_ids, extras, Expected, expect, start, expected_after, step_at}
 use Rattle.dg_reader.specs.Walks.{IsNotAt, HasNone, StopsAt, here, behind, CarriesStops}
 use Rattle.dg_reader.specs.Reads.{HasNoExtra}
 use Rattle.dg_reader.proofs.WalkLemmas.{other_word}

@@ -1,9 +1,9 @@
 -- One token of a text, and readings put together.
 use Rattle.std.proofs.Common.{◌≡◌, ℕ, ◌<◌, ◌≤◌, true, false, List, [], ◌∷◌, ◌++◌, length, Option, Some, None, refl, sym, ap, ◌∙◌, subst, arith}
-use Rattle.meaning_graph_text.specs.Tokens.{Token, BeginsWith, Tokens, no_more, one, is_past_gap}
-use Rattle.meaning_graph_text.specs.Lexing.{past_gap, Taken, taken, token_at}
-use Rattle.meaning_graph_text.specs.Going.{Class, accepts}
-use Rattle.meaning_graph_text.proofs.Lemmas.{begins_told, begins_from, gap_read, tokens_append, past_is_past, gap_shorter, begins_shorter}
+use Rattle.meaning_graph.specs.Tokens.{Token, BeginsWith, Tokens, no_more, one, is_past_gap}
+use Rattle.meaning_graph.specs.Lexing.{past_gap, Taken, taken, token_at}
+use Rattle.meaning_graph.specs.Going.{Class, accepts}
+use Rattle.meaning_graph.proofs.Lemmas.{begins_told, begins_from, gap_read, tokens_append, past_is_past, gap_shorter, begins_shorter}
 use Rattle.dg_reader.specs.declared.cursor.Wanted.{Wanted}
 use Rattle.dg_reader.specs.Walks.{TakesToken, IsNotAt, HasNone, class_of, token_of, Finds}
 

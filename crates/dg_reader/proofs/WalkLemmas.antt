@@ -5,8 +5,8 @@ use Rattle.std.specs.Result.{IsErrAnd}
 use Rattle.std.proofs.lemmas.Result.{err_from_is_err_and}
 use Rattle.std.proofs.lemmas.Bool.{cases_Bool}
 use Rattle.std.proofs.lemmas.Slice.Eq.{bytes_eq-Decides}
-use Rattle.meaning_graph_text.specs.Tokens.{Token, word, string, semicolon, comma, opening, closing, BeginsWith}
-use Rattle.meaning_graph_text.specs.Going.{Class, keyword, open_mark, accepts, Stage, Expected, expect, expected_after, step_at}
+use Rattle.meaning_graph.specs.Tokens.{Token, word, string, semicolon, comma, opening, closing, BeginsWith}
+use Rattle.meaning_graph.specs.Going.{Class, keyword, open_mark, accepts, Stage, Expected, expect, expected_after, step_at}
 use Rattle.dg_reader.specs.declared.cursor.Stop.{Stop}
 use Rattle.dg_reader.specs.declared.cursor.Stop.TheVariants.{Unexpected, Memory}
 use Rattle.dg_reader.specs.declared.cursor.Wanted.{Wanted}

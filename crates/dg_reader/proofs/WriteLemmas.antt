@@ -10,9 +10,9 @@ use Rattle.object_values.specs.declared.graph.Extra.{Extra}
 use Rattle.object_values.specs.declared.graph.ToolDecl.{ToolDecl}
 use Rattle.object_values.specs.declared.graph.MakerDecl.{MakerDecl}
 use Rattle.object_values.specs.declared.graph.Decl.{Decl}
-use Rattle.meaning_graph_text.specs.Tokens.{Token, word, string, semicolon, comma, opening, closing}
-use Rattle.meaning_graph_text.specs.Grammar.{id_tokens, optional_tokens, part_tokens, kind_tokens, string_tokens, extra_tokens, closure_tokens, way_tokens, tool_tokens, decl_tokens}
-use Rattle.meaning_graph_text.specs.Spelling.{token_spelling, is_opening, tokens_spelling, graph_spelling}
+use Rattle.meaning_graph.specs.Tokens.{Token, word, string, semicolon, comma, opening, closing}
+use Rattle.meaning_graph.specs.Grammar.{id_tokens, optional_tokens, part_tokens, kind_tokens, string_tokens, extra_tokens, closure_tokens, way_tokens, tool_tokens, decl_tokens}
+use Rattle.meaning_graph.specs.Spelling.{token_spelling, is_opening, tokens_spelling, graph_spelling}
 use Rattle.dg_reader.specs.declared.writer.Writer.{Writer}
 use Rattle.dg_reader.specs.Written.{gap_before, line_from, glued_behind, Writes}
 use Rattle.dg_reader.proofs.ListLemmas.{id_tokens_more, part_tokens_more, string_tokens_more, extra_tokens_more}

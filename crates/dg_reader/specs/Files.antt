@@ -3,10 +3,10 @@ use Rattle.std.specs.Prelude.{◌≡◌, ℕ, ◌<◌, ◌≤◌, IsTrue, List, 
 use Rattle.object_values.specs.declared.graph.Decl.{Decl}
 use Rattle.object_values.specs.declared.graph.GraphFault.{GraphFault}
 use Rattle.meaning_texts.specs.Limits.{graph_limit}
-use Rattle.meaning_graph_text.specs.Tokens.{Tokens, is_past_gap}
-use Rattle.meaning_graph_text.specs.Grammar.{graph_tokens, HasSpelling, GraphText}
-use Rattle.meaning_graph_text.specs.Places.{IsSyntaxFault, BeginsOnLine, line_behind, column_behind}
-use Rattle.meaning_graph_text.specs.Checks.{Checked, FirstFault}
+use Rattle.meaning_graph.specs.Tokens.{Tokens, is_past_gap}
+use Rattle.meaning_graph.specs.Grammar.{graph_tokens, HasSpelling, GraphText}
+use Rattle.meaning_graph.specs.Places.{IsSyntaxFault, BeginsOnLine, line_behind, column_behind}
+use Rattle.meaning_graph.specs.Checks.{Checked, FirstFault}
 use Rattle.dg_reader.specs.declared.read.GraphFile.{GraphFile}
 use Rattle.dg_reader.specs.declared.fault.ReadFault.{ReadFault}
 use Rattle.dg_reader.specs.declared.fault.ReadFault.TheVariants.{TooLong, Syntax, Check, Memory}

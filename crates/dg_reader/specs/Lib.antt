@@ -1,3 +1,4 @@
+pub mod Seen
 pub mod Walks
 pub mod Reads
 pub mod Files

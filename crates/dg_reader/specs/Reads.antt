@@ -10,9 +10,9 @@ use Rattle.object_values.specs.declared.graph.Make.TheVariants.{Tool, Read, Each
 use Rattle.object_values.specs.declared.graph.Decl.{Decl}
 use Rattle.meaning_texts.specs.Classes.{IsId, IsWord, IsStringText}
 use Rattle.meaning_texts.specs.Limits.{graph_limit}
-use Rattle.meaning_graph_text.specs.Tokens.{word, semicolon, comma, Tokens, is_past_gap}
-use Rattle.meaning_graph_text.specs.Grammar.{id_tokens, optional_tokens, part_tokens, kind_tokens, string_tokens, extra_tokens, closure_tokens, decl_tokens, IsSpellablePart, IsSpellableKind, IsSpellableExtra, IsSpellableTool, IsSpellableDecl, HasNoSupers, IsInGrammar}
-use Rattle.meaning_graph_text.specs.Going.{Class, keyword, any_word, identifier, open_mark, any_string, Stage, kind, supers, parts, ending, strings, extras, expect, start, step_at}
+use Rattle.meaning_graph.specs.Tokens.{word, semicolon, comma, Tokens, is_past_gap}
+use Rattle.meaning_graph.specs.Grammar.{id_tokens, optional_tokens, part_tokens, kind_tokens, string_tokens, extra_tokens, closure_tokens, decl_tokens, IsSpellablePart, IsSpellableKind, IsSpellableExtra, IsSpellableTool, IsSpellableDecl, HasNoSupers, IsInGrammar}
+use Rattle.meaning_graph.specs.Going.{Class, keyword, any_word, identifier, open_mark, any_string, Stage, kind, supers, parts, ending, strings, extras, expect, start, step_at}
 use Rattle.dg_reader.specs.Walks.{TakesToken, IsNotAt, HasNone, CarriesStops, TokensHalt}
 use Rattle.dg_reader.specs.declared.cursor.Stop.{Stop}
 

@@ -1,8 +1,8 @@
 -- How a reading goes on from token to token, and where it stops.
 use Rattle.std.specs.Prelude.{◌≡◌, ℕ, Bool, true, false, List, [], ◌∷◌, Option, Some, None, ⊤}
-use Rattle.meaning_graph_text.specs.Tokens.{Token, word, string, BeginsWith}
-use Rattle.meaning_graph_text.specs.Lexing.{past_gap}
-use Rattle.meaning_graph_text.specs.Going.{Class, identifier, any_word, any_string, name_string, Stage, accepts, Expected, expect, start, expected_after}
+use Rattle.meaning_graph.specs.Tokens.{Token, word, string, BeginsWith}
+use Rattle.meaning_graph.specs.Lexing.{past_gap}
+use Rattle.meaning_graph.specs.Going.{Class, identifier, any_word, any_string, name_string, Stage, accepts, Expected, expect, start, expected_after}
 use Rattle.dg_reader.specs.declared.cursor.Stop.{Stop}
 use Rattle.dg_reader.specs.declared.cursor.Stop.TheVariants.{Unexpected, Memory}
 use Rattle.dg_reader.specs.declared.cursor.Wanted.{Wanted}

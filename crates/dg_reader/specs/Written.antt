@@ -4,9 +4,9 @@ use Rattle.object_values.specs.declared.graph.TypeDecl.{TypeDecl}
 use Rattle.object_values.specs.declared.graph.MakerDecl.{MakerDecl}
 use Rattle.object_values.specs.declared.graph.Decl.{Decl}
 use Rattle.object_values.specs.declared.graph.Decl.TheVariants.{ObjectType}
-use Rattle.meaning_graph_text.specs.Tokens.{Token, word, semicolon}
-use Rattle.meaning_graph_text.specs.Grammar.{way_tokens, decl_tokens}
-use Rattle.meaning_graph_text.specs.Spelling.{token_spelling, tokens_spelling, follows_close, is_opening}
+use Rattle.meaning_graph.specs.Tokens.{Token, word, semicolon}
+use Rattle.meaning_graph.specs.Grammar.{way_tokens, decl_tokens}
+use Rattle.meaning_graph.specs.Spelling.{token_spelling, tokens_spelling, follows_close, is_opening}
 use Rattle.dg_reader.specs.declared.writer.Writer.{Writer}
 
 -- the space before a token; there is none where the flag is set

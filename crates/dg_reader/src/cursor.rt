@@ -1,11 +1,11 @@
 // A place in a graph file, from which tokens are taken one by one.
 ghost use Rattle.std.specs.Prelude.{◌≡◌, ◌↔◌, [], List, length, true, false, IsTrue, IfOk, IfErr, IfSome, IfNone};
-ghost use Rattle.meaning_graph_text.specs.Lexing.{past_gap};
-ghost use Rattle.meaning_graph_text.specs.Going.{accepts};
-ghost use Rattle.dg_tokens.specs.Seen.{token_view};
+ghost use Rattle.meaning_graph.specs.Lexing.{past_gap};
+ghost use Rattle.meaning_graph.specs.Going.{accepts};
+ghost use Rattle.dg_reader.specs.Seen.{token_view};
 ghost use Rattle.dg_reader.specs.Walks.{TakesToken, SkipsToken, MayFind, Finds, class_of, TokensHaltBefore, IsTokenOf};
 
-use dg_tokens::{Token, past_gap, token_at};
+use crate::lexer::{Token, past_gap, token_at};
 use object_values::{Bytes, Memory};
 use odin_bytes::{is_id, is_name, is_string_text};
 use std::alloc::Global;

@@ -1,12 +1,12 @@
 // Declarations.
 ghost use Rattle.std.specs.Prelude.{◌≢◌, [], codes, IfOk, IfErr};
-ghost use Rattle.meaning_graph_text.specs.Going.{ending, start, expect};
-ghost use Rattle.meaning_graph_text.specs.Going.{kind as kind_stage};
+ghost use Rattle.meaning_graph.specs.Going.{ending, start, expect};
+ghost use Rattle.meaning_graph.specs.Going.{kind as kind_stage};
 ghost use Rattle.dg_reader.specs.Walks.{TokensHaltAt};
 ghost use Rattle.dg_reader.specs.Reads.{HeadBehind, ReadsHead, ReadsDecl, an_id, word_and_id};
 
 use crate::cursor::{Cursor, Stop, Wanted};
-use dg_tokens::Token;
+use crate::lexer::Token;
 use object_values::{Decl, Make, SuffixDecl, TypeDecl};
 
 impl<'t> Cursor<'t> {

@@ -1,12 +1,12 @@
 // The kinds of types.
 ghost use Rattle.std.specs.Prelude.{[], List, IfOk, IfErr};
-ghost use Rattle.meaning_graph_text.specs.Going.{parts, supers, expect};
-ghost use Rattle.meaning_graph_text.specs.Going.{kind as kind_stage};
+ghost use Rattle.meaning_graph.specs.Going.{parts, supers, expect};
+ghost use Rattle.meaning_graph.specs.Going.{kind as kind_stage};
 ghost use Rattle.dg_reader.specs.Walks.{TokensHaltAt};
 ghost use Rattle.dg_reader.specs.Reads.{ReadsKind, KindBehind, simple_word, list_word, compound_word, of_an_id, opened_part};
 
 use crate::cursor::{Cursor, Stop, Wanted};
-use dg_tokens::Token;
+use crate::lexer::Token;
 use object_values::{Bytes, Kind, Seq};
 
 impl<'t> Cursor<'t> {

@@ -1,12 +1,12 @@
 // The lists in declarations.
 ghost use Rattle.std.specs.Prelude.{◌∷◌, [], Some, IfOk, IfErr};
-ghost use Rattle.meaning_graph_text.specs.Tokens.{comma};
-ghost use Rattle.meaning_graph_text.specs.Going.{any_string, parts, supers, strings, extras, expect};
+ghost use Rattle.meaning_graph.specs.Tokens.{comma};
+ghost use Rattle.meaning_graph.specs.Going.{any_string, parts, supers, strings, extras, expect};
 ghost use Rattle.dg_reader.specs.Walks.{IsNotAt, HasNone, TokensHaltAt};
 ghost use Rattle.dg_reader.specs.Reads.{ReadsIds, ReadsParts, ReadsStrings, ReadsExtras, MayReadExtra, HasNoExtra, ReadsSupers, ReadsUses, ReadsClosure, HaltsInIds, a_part};
 
 use crate::cursor::{Cursor, Stop, Wanted};
-use dg_tokens::Token;
+use crate::lexer::Token;
 use object_values::{Bytes, Extra, PartDecl, Seq};
 
 impl<'t> Cursor<'t> {

@@ -1,12 +1,12 @@
 // Makers.
 ghost use Rattle.std.specs.Prelude.{◌≡◌, ◌∷◌, [], codes, IfOk, IfErr};
-ghost use Rattle.meaning_graph_text.specs.Going.{any_string, ending, strings, tool_front, expect};
-ghost use Rattle.meaning_graph_text.specs.Going.{way as way_front};
+ghost use Rattle.meaning_graph.specs.Going.{any_string, ending, strings, tool_front, expect};
+ghost use Rattle.meaning_graph.specs.Going.{way as way_front};
 ghost use Rattle.dg_reader.specs.Walks.{TokensHaltAt};
 ghost use Rattle.dg_reader.specs.Reads.{ReadsWay, ReadsTool, HeadBehind, HaltsInWay, PlainBehind};
 
 use crate::cursor::{Cursor, Stop, Wanted};
-use dg_tokens::Token;
+use crate::lexer::Token;
 use object_values::{Bytes, Decl, Make, MakerDecl, ToolDecl};
 
 impl<'t> Cursor<'t> {

@@ -1,12 +1,12 @@
 // A graph file, read and checked.
 ghost use Rattle.std.specs.Prelude.{◌≡◌, ◌≤◌, ◌<◌, ◌-◌, [], length, take, IfOk, IfErr};
 ghost use Rattle.meaning_texts.specs.Limits.{graph_limit};
-ghost use Rattle.meaning_graph_text.specs.Places.{line_behind, column_behind, BeginsOnLine};
+ghost use Rattle.meaning_graph.specs.Places.{line_behind, column_behind, BeginsOnLine};
 ghost use Rattle.dg_reader.specs.Files.{ReadsDecls, IsFile, IsRead, Refuses, syntax_at};
 
 use crate::cursor::{Cursor, Stop};
 use crate::fault::ReadFault;
-use dg_tokens::{column_behind, line_behind};
+use crate::places::{column_behind, line_behind};
 use object_values::{Decl, GRAPH_LIMIT, GraphFault, Seq};
 use std::alloc::Global;
 use type_graph::{CheckFault, Graph};

@@ -1,11 +1,11 @@
 // The canonical spelling of a graph.
 ghost use Rattle.std.specs.Prelude.{◌≡◌, ◌++◌, true, IfOk, OnOk};
-ghost use Rattle.meaning_graph_text.specs.Grammar.{kind_tokens, closure_tokens, way_tokens, tool_tokens, decl_tokens, IsSpellable, GraphText};
-ghost use Rattle.meaning_graph_text.specs.Spelling.{graph_spelling};
+ghost use Rattle.meaning_graph.specs.Grammar.{kind_tokens, closure_tokens, way_tokens, tool_tokens, decl_tokens, IsSpellable, GraphText};
+ghost use Rattle.meaning_graph.specs.Spelling.{graph_spelling};
 ghost use Rattle.dg_reader.specs.Written.{Writes, type_tokens, front_tokens, line_spelling};
 
+use crate::lexer::Token;
 use crate::writer::Writer;
-use dg_tokens::Token;
 use object_values::{Bytes, Decl, Kind, Make, MakerDecl, Memory, SuffixDecl, ToolDecl, TypeDecl};
 use std::alloc::Global;
 use type_graph::Graph;

@@ -1,12 +1,12 @@
 // Tokens, written one behind the other.
 ghost use Rattle.std.specs.Prelude.{◌≡◌, ◌++◌, ◌∷◌, [], OnOk};
-ghost use Rattle.meaning_graph_text.specs.Tokens.{word, string};
-ghost use Rattle.meaning_graph_text.specs.Grammar.{id_tokens, optional_tokens, part_tokens, string_tokens, extra_tokens};
-ghost use Rattle.meaning_graph_text.specs.Spelling.{token_spelling, follows_close};
-ghost use Rattle.dg_tokens.specs.Seen.{token_view};
+ghost use Rattle.meaning_graph.specs.Tokens.{word, string};
+ghost use Rattle.meaning_graph.specs.Grammar.{id_tokens, optional_tokens, part_tokens, string_tokens, extra_tokens};
+ghost use Rattle.meaning_graph.specs.Spelling.{token_spelling, follows_close};
+ghost use Rattle.dg_reader.specs.Seen.{token_view};
 ghost use Rattle.dg_reader.specs.Written.{Writes};
 
-use dg_tokens::Token;
+use crate::lexer::Token;
 use object_values::{Bytes, Extra, Memory, PartDecl};
 
 /// What was written so far. It is left as it stands at want of memory.

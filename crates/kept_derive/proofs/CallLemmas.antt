@@ -17,7 +17,7 @@ use Rattle.odin_store.specs.declared.store.Store.{Store}
 use Rattle.odin_store.specs.Held.{keeps}
 use Rattle.odin_store.specs.OnDisk.{IsSame, StoreAfter as IsStoreLeft}
 use Rattle.odin_store.specs.Edited.{HasFailed}
-use Rattle.walk_tables.specs.Calls.{AreOnce}
+use Rattle.derive_walk.specs.Calls.{AreOnce}
 use Rattle.derive_walk.specs.Walks.{Walked}
 use Rattle.job_runner.specs.Flights.{InFlight, flying, calls_in, AreDistinct, IsOut, HasEnded}
 use Rattle.job_runner.proofs.Lemmas.{distinct_less, calls_both, calls_cut, call_there, call_before, call_is_out}

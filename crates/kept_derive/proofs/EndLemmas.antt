@@ -6,14 +6,14 @@ use Rattle.object_values.specs.declared.views.View.{View}
 use Rattle.odin_outside.specs.Disk.{Telling}
 use Rattle.odin_outside.specs.Spawned.{Spawned}
 use Rattle.meaning_graph.specs.Graphs.{Graph}
-use Rattle.meaning_graph_text.specs.Grammar.{IsSpellable}
-use Rattle.meaning_graph_text.specs.Checks.{Checked}
-use Rattle.meaning_nodes.specs.Nodes.{Fits}
+use Rattle.meaning_graph.specs.Grammar.{IsSpellable}
+use Rattle.meaning_graph.specs.Checks.{Checked}
+use Rattle.meaning_tasks.specs.Nodes.{Fits}
 use Rattle.meaning_derive.specs.Derive.{Sources}
 use Rattle.meaning_derive.specs.Given.{AreSources}
 use Rattle.odin_store.specs.declared.store.Store.{Store}
-use Rattle.walk_tables.specs.declared.found.Found.{Found}
-use Rattle.walk_tables.specs.declared.found.Found.TheVariants.{Answer, Circular, Deep}
+use Rattle.derive_walk.specs.declared.found.Found.{Found}
+use Rattle.derive_walk.specs.declared.found.Found.TheVariants.{Answer, Circular, Deep}
 use Rattle.derive_walk.specs.Founds.{IsFound}
 use Rattle.derive_walk.specs.Outcomes.{after}
 use Rattle.derive_walk.specs.Walks.{Walked}

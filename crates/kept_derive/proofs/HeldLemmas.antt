@@ -12,13 +12,13 @@ use Rattle.meaning_derive.specs.Derive.{Outcomes}
 use Rattle.meaning_derive.specs.Given.{OutcomesFit}
 use Rattle.meaning_records.specs.Tables.{Calls, kept_outcome}
 use Rattle.kept_tables.specs.Holdings.{IsKept}
-use Rattle.disk_trails.specs.Trails as trails
+use Rattle.odin_journal.specs.Trails as trails
 use Rattle.odin_store.specs.declared.store.Store.{Store}
 use Rattle.odin_store.specs.Held.{Held, keeps, apply}
 use Rattle.odin_store.specs.OnDisk.{held_in}
 use Rattle.odin_store.specs.Keeping.{store_keeping}
 use Rattle.odin_store.specs.Going.{Performs}
-use Rattle.walk_tables.specs.Calls.{outcome_in}
+use Rattle.derive_walk.specs.Calls.{outcome_in}
 use Rattle.derive_walk.specs.Outcomes.{given_or, after}
 use Rattle.plain_derive.specs.Given.{calls_of}
 use Rattle.plain_derive.specs.GivenLaws.{AreNew}

@@ -16,8 +16,8 @@ use Rattle.meaning_records.specs.Tables.{Calls, Tables, kept_outcome}
 use Rattle.odin_store.specs.declared.store.Store.{Store}
 use Rattle.odin_store.specs.OnDisk.{IsUnchanged}
 use Rattle.odin_store.specs.Going.{Performs, ChangesFollow}
-use Rattle.walk_tables.specs.Calls.{AreOnce, outcome_in}
-use Rattle.walk_tables.specs.Tables.{Entries, done_nodes}
+use Rattle.derive_walk.specs.Calls.{AreOnce, outcome_in}
+use Rattle.derive_walk.specs.Tables.{Entries, done_nodes}
 use Rattle.derive_walk.specs.Looks.{LooksAreFew, met_by, count_with_steps}
 use Rattle.derive_walk.specs.Outcomes.{given_or, after}
 use Rattle.derive_walk.specs.Walks.{Walked, IsRight, OutcomeIsGiven, ExtendsWalk as WalkGoesOn}
@@ -34,7 +34,7 @@ use Rattle.kept_derive.specs.declared.landing.Landed.{Landed}
 use Rattle.kept_derive.specs.declared.landing.Landed.TheVariants.{Kept, Lost}
 use Rattle.kept_derive.specs.Calls.{MayDrain, Lands, FailsToLand}
 use Rattle.kept_derive.specs.declared.flight.Flown.{Flown}
-use Rattle.walk_tables.specs.declared.found.Found.{Found}
+use Rattle.derive_walk.specs.declared.found.Found.{Found}
 use Rattle.kept_derive.specs.Looked.{HasLooked, AreLooks, FlightLooks, sought_by, AreCounted, KeepsMore}
 use Rattle.kept_derive.specs.Ways.{IsOnWay, IsHalted}
 use Rattle.kept_derive.proofs.HeldLemmas.{nothing_behind, in_both, calls_after}

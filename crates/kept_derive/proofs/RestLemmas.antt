@@ -8,7 +8,7 @@ use Rattle.odin_outside.specs.Spawned.{Spawned}
 use Rattle.meaning_graph.specs.Graphs.{Graph}
 use Rattle.meaning_derive.specs.Derive.{Sources, Outcomes}
 use Rattle.meaning_records.specs.Tables.{Calls}
-use Rattle.walk_tables.specs.declared.found.Found.{Found}
+use Rattle.derive_walk.specs.declared.found.Found.{Found}
 use Rattle.job_runner.specs.Flights.{tool_of}
 use Rattle.plain_derive.specs.Flights.{Course, at_rest, AreRun, AreFlown}
 use Rattle.plain_derive.proofs.Lemmas.{flown_answer, flown_told}

@@ -14,7 +14,7 @@ use Rattle.meaning_records.specs.Tables.{Calls, Tables, kept_outcome}
 use Rattle.odin_store.specs.declared.store.Store.{Store}
 use Rattle.odin_store.specs.OnDisk.{IsSame}
 use Rattle.odin_store.specs.Going.{Performs, ChangesFollow}
-use Rattle.walk_tables.specs.Calls.{outcome_in}
+use Rattle.derive_walk.specs.Calls.{outcome_in}
 use Rattle.derive_walk.specs.Outcomes.{given_or}
 use Rattle.plain_derive.specs.Given.{HaveCome}
 use Rattle.plain_derive.specs.Flights.{AreFlown}

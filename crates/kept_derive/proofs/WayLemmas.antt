@@ -8,16 +8,16 @@ use Rattle.odin_outside.specs.Disk.{Telling}
 use Rattle.odin_outside.specs.Spawned.{Spawned}
 use Rattle.meaning_texts.specs.Lists.{IsIn}
 use Rattle.meaning_graph.specs.Graphs.{Graph}
-use Rattle.meaning_graph_text.specs.Grammar.{IsSpellable}
-use Rattle.meaning_graph_text.specs.Checks.{Checked}
-use Rattle.meaning_nodes.specs.Nodes.{Fits}
+use Rattle.meaning_graph.specs.Grammar.{IsSpellable}
+use Rattle.meaning_graph.specs.Checks.{Checked}
+use Rattle.meaning_tasks.specs.Nodes.{Fits}
 use Rattle.meaning_derive.specs.Derive.{Sources, Outcomes}
 use Rattle.meaning_derive.specs.Calls.{IsFrontier}
 use Rattle.meaning_derive.specs.Given.{AreSources, OutcomesFit}
 use Rattle.meaning_records.specs.Tables.{Calls, kept_outcome}
 use Rattle.odin_journal.specs.Rest.{IsReady}
 use Rattle.odin_store.specs.Going.{Performs, ChangesFollow}
-use Rattle.walk_tables.specs.Calls.{outcome_in}
+use Rattle.derive_walk.specs.Calls.{outcome_in}
 use Rattle.derive_walk.specs.Outcomes.{given_or, after}
 use Rattle.derive_walk.specs.Walks.{Walked, new_walk, IsRight, AreFrontier, IsAdvanced, FindsOrWants}
 use Rattle.derive_walk.specs.Worlds.{World, world, IsWorld}

@@ -15,7 +15,7 @@ use Rattle.odin_store.specs.OnDisk.{IsSame}
 use Rattle.odin_store.specs.Going.{Performs}
 use Rattle.odin_store.specs.Edited.{HasFailed}
 use Rattle.derive_walk.specs.Walks.{Walked, OutcomeIsGiven}
-use Rattle.walk_tables.specs.Calls.{AreOnce}
+use Rattle.derive_walk.specs.Calls.{AreOnce}
 use Rattle.job_runner.specs.Flights.{InFlight, calls_in, AreTold, AreDistinct, HasEnded, HasLost, MayHaveEnded}
 use Rattle.kept_derive.specs.declared.landing.Landed.{Landed}
 use Rattle.kept_derive.specs.declared.landing.Landed.TheVariants.{Kept, Lost}

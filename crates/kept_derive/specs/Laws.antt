@@ -12,8 +12,8 @@ use Rattle.meaning_derive.specs.Calls.{IsCallFrom}
 use Rattle.meaning_derive.specs.Given.{table_outcomes}
 use Rattle.meaning_derive.specs.Laws.{HasMore}
 use Rattle.meaning_records.specs.Tables.{Calls}
-use Rattle.walk_tables.specs.declared.found.Found.{Found}
-use Rattle.walk_tables.specs.declared.found.Found.TheVariants.{Answer}
+use Rattle.derive_walk.specs.declared.found.Found.{Found}
+use Rattle.derive_walk.specs.declared.found.Found.TheVariants.{Answer}
 use Rattle.derive_walk.specs.Founds.{IsFound}
 use Rattle.derive_walk.specs.Outcomes.{after}
 use Rattle.plain_derive.specs.Given.{calls_of}

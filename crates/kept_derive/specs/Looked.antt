@@ -11,7 +11,7 @@ use Rattle.meaning_derive.specs.Chains.{AreDifferent, IsMet}
 use Rattle.meaning_records.specs.Tables.{Calls}
 use Rattle.odin_store.specs.declared.store.Store.{Store}
 use Rattle.odin_store.specs.Going.{Performs}
-use Rattle.walk_tables.specs.declared.found.Found.{Found}
+use Rattle.derive_walk.specs.declared.found.Found.{Found}
 use Rattle.derive_walk.specs.Looks.{met_by}
 use Rattle.derive_walk.specs.Walks.{Walked}
 use Rattle.kept_derive.specs.declared.fault.KeptFault.{KeptFault}

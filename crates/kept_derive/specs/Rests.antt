@@ -3,8 +3,8 @@ use Rattle.std.specs.Prelude.{◌≡◌, ◌≤◌, ⊤, ℕ, List, [], length, 
 use Rattle.object_values.specs.declared.nodes.Node.{Node}
 use Rattle.odin_outside.specs.Spawned.{Spawned}
 use Rattle.meaning_graph.specs.Graphs.{Graph}
-use Rattle.meaning_graph_text.specs.Grammar.{IsSpellable}
-use Rattle.meaning_nodes.specs.Nodes.{Fits}
+use Rattle.meaning_graph.specs.Grammar.{IsSpellable}
+use Rattle.meaning_tasks.specs.Nodes.{Fits}
 use Rattle.path_planner.specs.Ends.{Planned, plans_of}
 use Rattle.kept_derive.specs.declared.fault.KeptFault.{KeptFault}
 use Rattle.kept_derive.specs.declared.fault.KeptFault.TheVariants.{Spawn}

@@ -11,8 +11,8 @@ use Rattle.meaning_records.specs.Tables.{Calls, kept_outcome}
 use Rattle.odin_store.specs.declared.store.Store.{Store}
 use Rattle.odin_store.specs.Held.{Change, keeps}
 use Rattle.odin_store.specs.Going.{Performs}
-use Rattle.walk_tables.specs.declared.found.Found.{Found}
-use Rattle.walk_tables.specs.declared.found.Found.TheVariants.{Answer, Circular, Deep}
+use Rattle.derive_walk.specs.declared.found.Found.{Found}
+use Rattle.derive_walk.specs.declared.found.Found.TheVariants.{Answer, Circular, Deep}
 use Rattle.derive_walk.specs.Founds.{IsFound}
 use Rattle.derive_walk.specs.Laws.{NodesFit}
 use Rattle.derive_walk.specs.Outcomes.{after}

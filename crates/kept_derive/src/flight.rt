@@ -1,6 +1,6 @@
 // The tools of a derivation: started, waited for, and drained.
 ghost use Rattle.std.specs.Prelude.{◌≡◌, ◌≤◌, length, OnOk, IfOk, IfErr, option_map};
-ghost use Rattle.meaning_graph_text.specs.Grammar.{IsSpellable};
+ghost use Rattle.meaning_graph.specs.Grammar.{IsSpellable};
 ghost use Rattle.path_planner.specs.Ends.{plans_of};
 ghost use Rattle.derive_walk.specs.Looks.{LooksAreFew, lost, met_by};
 ghost use Rattle.derive_walk.specs.Walks.{IsRight, IsAdvanced, ExtendsWalk};

@@ -1,3 +1,5 @@
+mod CallLemmas
+mod OutcomeLemmas
 mod Added
 mod BatchLemmas
 mod HeldLemmas

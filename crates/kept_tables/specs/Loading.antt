@@ -1,7 +1,7 @@
 -- What the reading of an item brings into the tables, and what it gives.
 use Rattle.std.specs.Prelude.{◌≡◌, ℕ, List}
 use Rattle.object_values.specs.declared.views.Value.{Value}
-use Rattle.object_sources.specs.Texts.{Text}
+use Rattle.object_values.specs.Texts.{Text}
 use Rattle.meaning_records.specs.declared.items.Item.{Item}
 use Rattle.meaning_records.specs.declared.items.Item.TheVariants.{Graph, Content, Put, Dropped, Kept}
 use Rattle.meaning_records.specs.Forms.{ParsesAt}

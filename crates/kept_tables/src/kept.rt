@@ -10,10 +10,11 @@ ghost use Rattle.kept_contents.specs.Added.{AreHeld, contents_with};
 ghost use Rattle.kept_contents.specs.Held.{IsHeld};
 ghost use Rattle.kept_tables.specs.Holdings.{IsCommitted, IsKept, IsPrepared, MayAdd, MayKeep, held_calls_of, with_calls};
 
+use crate::calls::is_well_formed;
 use crate::loaded::Loaded;
 use crate::looks::Looks;
+use crate::outcomes::fits;
 use crate::prepared::Prepared;
-use call_classes::{fits, is_well_formed};
 use indexmap::IndexMap;
 use kept_contents::{
     CallHead, CallKey, ContentTable, Heads, HeldCall, Shared, SoughtKey, call_of, outcome_of,

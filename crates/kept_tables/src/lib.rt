@@ -1,15 +1,19 @@
-//! What is kept, in memory: contents, each once, and the calls with their outcomes. An item of the store file is taken in as it is read, and a batch is made
-//! whole, with all memory that its taking in needs, before it is written.
+//! What is kept, in memory: contents, each once, and the calls with their outcomes, where they are well formed and fit. An item of the store file is taken
+//! in as it is read, and a batch is made whole, with all memory that its taking in needs, before it is written.
 #![tactic(auto)]
 
+mod calls;
 mod kept;
 mod loaded;
 mod loading;
 mod looks;
+mod outcomes;
 mod prepared;
 mod preparing;
 
+pub use calls::is_well_formed;
 pub use kept::{Kept, KeptCall};
 pub use loaded::Loaded;
 pub use looks::Looks;
+pub use outcomes::fits;
 pub use prepared::Prepared;

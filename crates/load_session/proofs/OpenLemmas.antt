@@ -2,7 +2,7 @@
 use Rattle.std.proofs.Common.{◌≡◌, ◌≢◌, ℕ, ◌+◌, ◌≤◌, List, [], length, sym, ap, ◌∙◌, subst, refl, arith, inl, inr}
 use Rattle.std.proofs.Math.Path.{subst₂}
 use Rattle.std.proofs.lemmas.List.{length-append}
-use Rattle.object_sources.specs.Texts.{Text}
+use Rattle.object_values.specs.Texts.{Text}
 use Rattle.odin_outside.specs.Disk.{Telling, IsQuiet}
 use Rattle.odin_outside.specs.Steps.{synced_only}
 use Rattle.odin_fakes.specs.File.{image_of}
@@ -10,7 +10,7 @@ use Rattle.odin_fakes.specs.Tools as tools
 use Rattle.odin_fakes.specs.declared.answers.Answers.TheVariants.{Toys}
 use Rattle.meaning_texts.specs.Limits.{graph_limit}
 use Rattle.meaning_graph.specs.Graphs.{Graph}
-use Rattle.meaning_store.specs.Images.{Stored}
+use Rattle.meaning_records.specs.Images.{Stored}
 use Rattle.meaning_records.specs.States.{State, nothing, ReadsAll}
 use Rattle.meaning_records.specs.Stands.{Stands}
 use Rattle.meaning_records.specs.Laws.{StandsForOne}

@@ -1,7 +1,7 @@
 -- A load that fails for its disk passes the room by its own batches.
 use Rattle.std.proofs.Common.{◌≡◌, ◌≢◌, ◌⊎◌, inl, inr, ℕ, ◌+◌, ◌*◌, ◌<◌, ◌≤◌, List, [], ◌∷◌, ◌++◌, length, cond, Option, Some, None, refl, sym, ap, subst, ◌∙◌, append_assoc, arith}
 use Rattle.odin_outside.specs.Disk.{Telling}
-use Rattle.object_sources.specs.Texts.{Text}
+use Rattle.object_values.specs.Texts.{Text}
 use Rattle.meaning_graph.specs.Graphs.{Graph}
 use Rattle.meaning_records.specs.Tables.{Calls}
 use Rattle.meaning_records.specs.States.{State, nothing}

@@ -4,7 +4,7 @@ use Rattle.std.proofs.lemmas.List.{append-nil, append_assoc, length-append}
 use Rattle.object_values.specs.declared.nodes.Node.{Node}
 use Rattle.odin_outside.specs.Causes.{last_count}
 use Rattle.odin_outside.specs.Spawned.{Spawned}
-use Rattle.disk_trails.specs.Trails as trails
+use Rattle.odin_journal.specs.Trails as trails
 use Rattle.meaning_graph.specs.Graphs.{Text, Graph}
 use Rattle.meaning_derive.specs.Derive.{Sources, Outcomes}
 use Rattle.meaning_records.specs.Tables.{Calls, kept_outcome}
@@ -14,8 +14,8 @@ use Rattle.odin_store.specs.Held.{Held, puts}
 use Rattle.odin_store.specs.Keeping.{store_keeping}
 use Rattle.odin_store.specs.OnDisk.{held_in}
 use Rattle.odin_store.specs.Edited.{HasPut}
-use Rattle.walk_tables.specs.declared.found.Found.{Found}
-use Rattle.walk_tables.specs.declared.found.Found.TheVariants as found
+use Rattle.derive_walk.specs.declared.found.Found.{Found}
+use Rattle.derive_walk.specs.declared.found.Found.TheVariants as found
 use Rattle.job_runner.specs.Flights.{flying}
 use Rattle.plain_derive.specs.Flights.{Flight, at_rest, off_course, for_chain, Flies, AreRun}
 use Rattle.plain_derive.proofs.Lemmas.{flown_starts, faults_later}

@@ -4,3 +4,8 @@ pub mod Replies
 pub mod Formed
 pub mod Laws
 pub mod Examples
+pub mod Objects
+pub mod Items
+pub mod Machines
+pub mod Endings
+pub mod Streams

@@ -21,3 +21,12 @@ pub use Rattle.meaning_derive.proofs.SameSources.{sources_enough}
 pub use Rattle.meaning_derive.proofs.Founded.{chain_on, runs_stay, no_chain, result_call_or_chain, founded_or_chained}
 -- Views have a value exactly where their status is not `Abort`.
 pub use Rattle.meaning_derive.proofs.Sound.{runs_on, IsSoundOwn, IsSoundView, IsSoundTask, task_sound, own_sound, settled_sound, derived_sound, valued_exactly}
+-- Results over a checked graph.
+pub use Rattle.meaning_derive.proofs.Maps.{needs_fit, map_at, fitting_map}
+pub use Rattle.meaning_derive.proofs.Formed.{calls_formed}
+pub use Rattle.meaning_derive.proofs.Shapes.{kinded}
+-- Over any map of results.
+pub use Rattle.meaning_derive.proofs.Over.{met_fit, listed_fit, short_at, elements_at, formed_over, settles_well}
+-- Answers and plans.
+pub use Rattle.meaning_derive.proofs.Answers.{each_answered, each_planned}
+pub use Rattle.meaning_derive.proofs.Exact.{not_refused, one_node, founded_shown, others_chained, one_refusal, one_plan, one_answer}

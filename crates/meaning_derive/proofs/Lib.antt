@@ -14,4 +14,13 @@ mod Known
 mod CallsByNeeds
 mod SameSources
 mod Samples
+mod Rules
+mod Shapes
+mod Needed
+mod Bases
+mod Maps
+mod Formed
+mod Over
+mod Answers
+mod Exact
 pub mod Lemmas

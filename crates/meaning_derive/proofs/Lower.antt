@@ -5,8 +5,8 @@ use Rattle.object_values.specs.declared.nodes.Node.{Node}
 use Rattle.object_values.specs.declared.views.View.{View}
 use Rattle.meaning_texts.specs.Limits.{height_limit}
 use Rattle.meaning_graph.specs.Graphs.{Graph}
-use Rattle.meaning_nodes.specs.Labels.{label_of}
-use Rattle.meaning_nodes.specs.Values.{inherit}
+use Rattle.meaning_tasks.specs.Labels.{label_of}
+use Rattle.meaning_tasks.specs.Values.{inherit}
 use Rattle.meaning_tasks.specs.Tasks.{task_of}
 use Rattle.meaning_tasks.specs.Settle.{given_own}
 use Rattle.meaning_derive.specs.Derive.{Sources, text_of, Outcomes, derive, derived}

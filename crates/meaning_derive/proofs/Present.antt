@@ -10,8 +10,8 @@ use Rattle.meaning_texts.specs.Expressions.{name_cmp}
 use Rattle.meaning_graph.specs.Graphs.{Text, Graph}
 use Rattle.meaning_texts.specs.Lists.{IsIn}
 use Rattle.std.proofs.lemmas.Bool.{or_cases}
-use Rattle.meaning_nodes.specs.Nodes.{source_node}
-use Rattle.meaning_nodes.specs.Labels.{label_of}
+use Rattle.meaning_tasks.specs.Nodes.{source_node}
+use Rattle.meaning_tasks.specs.Labels.{label_of}
 use Rattle.meaning_tasks.specs.Tasks.{Task, given, picked, mapped, packed, tooled, unfit, task_of}
 use Rattle.meaning_tasks.specs.Needs.{Results, Known, values_of, has_value, own_lines, other_lines, needs_of, ReachedNames, Needs}
 use Rattle.meaning_tasks.specs.Settle.{given_own, settled}

@@ -20,9 +20,9 @@ use Rattle.meaning_texts.specs.References.{references}
 use Rattle.meaning_graph.specs.Graphs.{Text, Graph, makers, kind_named}
 use Rattle.meaning_texts.specs.Lists.{IsIn}
 use Rattle.meaning_texts.proofs.Lemmas.{in_all_pass}
-use Rattle.meaning_nodes.specs.Nodes.{last_step}
-use Rattle.meaning_nodes.specs.Labels.{label_of}
-use Rattle.meaning_nodes.specs.Values.{Picked, element, body, pick, worst}
+use Rattle.meaning_tasks.specs.Nodes.{last_step}
+use Rattle.meaning_tasks.specs.Labels.{label_of}
+use Rattle.meaning_tasks.specs.Values.{Picked, element, body, pick, worst}
 use Rattle.meaning_tasks.specs.Tasks.{Own, fine_unless, lines_own, read_own, each_own, element_name, Task, given, picked, mapped, packed, tooled, unfit, PackPart, make_task, maker_task, step_task, task_of}
 use Rattle.meaning_tasks.specs.Needs.{Results, Known, values_of, has_value, element_in, picked_element, counted_needs}
 use Rattle.meaning_tasks.specs.Calls.{all_valued}

@@ -2,7 +2,7 @@
 use Rattle.std.specs.Prelude.{◌≡◌, [], ◌∷◌, map, None, Some, codes}
 use Rattle.object_values.specs.declared.views.Value.TheVariants.{List as Listed}
 use Rattle.meaning_graph.specs.Samples.{c_units_back, joined_texts}
-use Rattle.meaning_nodes.specs.Labels.{node_text}
+use Rattle.meaning_tasks.specs.Labels.{node_text}
 use Rattle.meaning_tasks.specs.Needs.{Results, values_of}
 use Rattle.meaning_derive.specs.Chains.{IsCircular}
 use Rattle.meaning_derive.specs.Samples.{objs, exe, back, back_again, lines, ex_joined_node}

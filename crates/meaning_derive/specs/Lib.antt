@@ -6,3 +6,11 @@ pub mod Samples
 pub mod Examples
 pub mod Laws
 pub mod WalkLaws
+pub mod Premises
+pub mod CheckedLaws
+pub mod Replies
+pub mod Answers
+pub mod AnswerSamples
+pub mod AnswerExamples
+pub mod Settled
+pub mod AnswerLaws

@@ -2,7 +2,7 @@
 use Rattle.std.specs.Prelude.{[], ◌∷◌, codes}
 use Rattle.object_values.specs.declared.nodes.Step.TheVariants.{Maker}
 use Rattle.object_values.specs.declared.nodes.Node.{Node}
-use Rattle.meaning_nodes.specs.Samples.{at_steps}
+use Rattle.meaning_tasks.specs.NodeSamples.{at_steps}
 
 -- m.sm:units:objs, and :exe behind it
 abbrev pub objs : Node

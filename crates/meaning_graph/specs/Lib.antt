@@ -6,3 +6,13 @@ pub mod Paths
 pub mod Samples
 pub mod Examples
 pub mod Laws
+pub mod Tokens
+pub mod Lexing
+pub mod Grammar
+pub mod Going
+pub mod Places
+pub mod Stopping
+pub mod Spelling
+pub mod Checks
+pub mod TextLaws
+pub mod TextExamples

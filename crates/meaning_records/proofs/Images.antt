@@ -7,9 +7,9 @@ use Rattle.std.proofs.lemmas.Bool.Decides.{Decides-eqb}
 use Rattle.std.proofs.Math.Seq.{take-append_seam}
 use Rattle.odin_bytes.specs.Fields.{bytes_field, u32_field, IsFieldAt}
 use Rattle.odin_bytes.specs.FieldLemmas.{field_front, body_front}
-use Rattle.meaning_store.specs.Front.{file_limit, start_of, HasFront}
-use Rattle.meaning_store.specs.Images.{IsWritten, IsOpen, IsClosed, gate_after, IsRecord, AreRecords, IsStore, Stored, NotOurs}
-use Rattle.meaning_store.specs.ImageLemmas.{one_stored, one_end, no_records, one_place}
+use Rattle.meaning_records.specs.Front.{file_limit, start_of, HasFront}
+use Rattle.meaning_records.specs.Images.{IsWritten, IsOpen, IsClosed, gate_after, IsRecord, AreRecords, IsStore, Stored, NotOurs}
+use Rattle.meaning_records.specs.ImageLemmas.{one_stored, one_end, no_records, one_place}
 use Rattle.meaning_records.specs.Forms.{bytes}
 use Rattle.meaning_records.specs.States.{State, nothing, ReadsAll}
 use Rattle.meaning_records.specs.Stands.{Stands, StandsNot, gate_behind}

@@ -2,7 +2,7 @@
 use Rattle.std.proofs.Common.{◌≡◌, ℕ, zero, suc, List, [], ◌∷◌, ◌++◌, length, map, Option, Some, None, ap, arith}
 use Rattle.object_values.specs.declared.views.Value.{Value}
 use Rattle.object_values.specs.declared.views.Value.TheVariants.{Simple}
-use Rattle.object_sources.specs.Texts.{Text}
+use Rattle.object_values.specs.Texts.{Text}
 use Rattle.meaning_records.specs.declared.items.StoredCall.{StoredCall}
 use Rattle.meaning_records.specs.declared.items.StoredOutcome.{StoredOutcome}
 use Rattle.meaning_records.specs.declared.items.Item.TheVariants.{Content, Kept}

@@ -5,10 +5,10 @@ use Rattle.std.specs.Ordering.{nat_cmp}
 use Rattle.std.specs.Cmp.Lexicographic.{slice_cmp}
 use Rattle.std.proofs.lemmas.List.Elements.{All-nil, All-cons}
 use Rattle.object_values.specs.declared.views.Value.TheVariants.{Simple}
-use Rattle.object_sources.specs.Texts.{no_texts}
+use Rattle.object_values.specs.Texts.{no_texts}
 use Rattle.meaning_texts.specs.Classes.{is_name_byte}
 use Rattle.meaning_texts.proofs.Lemmas.{word_decides}
-use Rattle.meaning_store.specs.Images.{IsStore, IsRecord}
+use Rattle.meaning_records.specs.Images.{IsStore, IsRecord}
 use Rattle.meaning_records.specs.declared.items.Item.{Item}
 use Rattle.meaning_records.specs.declared.items.Item.TheVariants.{Graph, Content, Put, Dropped}
 use Rattle.meaning_records.specs.Records.{item}

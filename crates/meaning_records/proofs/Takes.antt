@@ -5,7 +5,7 @@ use Rattle.std.specs.FinMap as map
 use Rattle.object_values.specs.declared.views.Value.{Value}
 use Rattle.object_values.specs.declared.calls.Call.{Call}
 use Rattle.object_values.specs.declared.calls.Outcome.{Outcome}
-use Rattle.object_sources.specs.Texts.{Text, Texts}
+use Rattle.object_values.specs.Texts.{Text, Texts}
 use Rattle.meaning_texts.specs.Classes.{IsName, is_name_byte}
 use Rattle.meaning_texts.specs.Tests.{is_name}
 use Rattle.meaning_texts.proofs.Lemmas.{word_decides}

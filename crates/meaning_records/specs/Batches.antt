@@ -7,7 +7,7 @@ use Rattle.object_values.specs.declared.views.Value.TheVariants.{Simple}
 use Rattle.object_values.specs.declared.calls.CallPart.{CallPart}
 use Rattle.object_values.specs.declared.calls.Call.{Call}
 use Rattle.object_values.specs.declared.calls.Outcome.{Outcome}
-use Rattle.object_sources.specs.Texts.{Text}
+use Rattle.object_values.specs.Texts.{Text}
 use Rattle.meaning_texts.specs.Lists.{IsIn}
 use Rattle.meaning_records.specs.declared.items.StoredCall.{StoredCall}
 use Rattle.meaning_records.specs.declared.items.StoredOutcome.{StoredOutcome}

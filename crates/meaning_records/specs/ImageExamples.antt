@@ -2,9 +2,9 @@
 use Rattle.std.specs.Prelude.{◌≡◌, ℕ, List, [], ◌∷◌, ◌++◌, length, take, Some, None, codes}
 use Rattle.std.specs.FinMap as map
 use Rattle.object_values.specs.declared.views.Value.TheVariants.{Simple}
-use Rattle.object_sources.specs.Texts.{no_texts}
-use Rattle.meaning_store.specs.Front.{new_store}
-use Rattle.meaning_store.specs.Images.{with_record}
+use Rattle.object_values.specs.Texts.{no_texts}
+use Rattle.meaning_records.specs.Front.{new_store}
+use Rattle.meaning_records.specs.Images.{with_record}
 use Rattle.meaning_records.specs.declared.items.Item.TheVariants.{Content, Put, Dropped}
 use Rattle.meaning_records.specs.States.{State, spell_batch}
 use Rattle.meaning_records.specs.Stands.{Stands, StandsNot}

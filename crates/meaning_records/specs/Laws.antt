@@ -4,13 +4,13 @@ use Rattle.std.specs.FinMap as map
 use Rattle.object_values.specs.declared.views.Value.{Value}
 use Rattle.object_values.specs.declared.calls.Call.{Call}
 use Rattle.object_values.specs.declared.calls.Outcome.{Outcome}
-use Rattle.object_sources.specs.Texts.{Text, Texts}
+use Rattle.object_values.specs.Texts.{Text, Texts}
 use Rattle.meaning_texts.specs.Classes.{IsName}
 use Rattle.meaning_texts.specs.Limits.{body_limit}
 use Rattle.meaning_calls.specs.Jobs.{IsWellFormed}
 use Rattle.meaning_calls.specs.Outcomes.{OutcomeFits}
 use Rattle.meaning_records.specs.declared.items.Item.{Item}
-use Rattle.meaning_store.specs.Images.{AreRecords}
+use Rattle.meaning_records.specs.Images.{AreRecords}
 use Rattle.meaning_records.specs.Forms.{IsOfOneThing}
 use Rattle.meaning_records.specs.Records.{item}
 use Rattle.meaning_records.specs.Tables.{Calls, kept_outcome}

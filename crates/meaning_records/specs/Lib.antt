@@ -1,3 +1,7 @@
+pub mod Front
+pub mod ImageLemmas
+pub mod Images
+pub mod FileLaws
 pub mod Forms
 pub mod Records
 pub mod FormLemmas

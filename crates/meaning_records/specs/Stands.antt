@@ -1,7 +1,7 @@
 -- What an image stands for: what its whole records make of nothing, one after another; or the offset at which it isn't a store's.
 use Rattle.std.specs.Prelude.{◌≡◌, ◌⊎◌, ℕ, List, [], ◌∷◌, ◌++◌}
-use Rattle.meaning_store.specs.Front.{start_of}
-use Rattle.meaning_store.specs.Images.{gate_after, Stored, IsStore, NotOurs}
+use Rattle.meaning_records.specs.Front.{start_of}
+use Rattle.meaning_records.specs.Images.{gate_after, Stored, IsStore, NotOurs}
 use Rattle.meaning_records.specs.States.{State, nothing, Reads, ReadsAll}
 
 pub record Stands (image : List ℕ) (state : State) : Type 0 where

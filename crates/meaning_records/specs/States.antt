@@ -3,7 +3,7 @@ use Rattle.std.specs.Prelude.{◌≡◌, ◌≢◌, ℕ, List, [], ◌∷◌, Op
 use Rattle.std.specs.List.{flat_map, All}
 use Rattle.std.specs.FinMap as map
 use Rattle.object_values.specs.declared.views.Value.{Value}
-use Rattle.object_sources.specs.Texts.{Text, Texts, no_texts}
+use Rattle.object_values.specs.Texts.{Text, Texts, no_texts}
 use Rattle.meaning_records.specs.declared.items.Item.{Item}
 use Rattle.meaning_records.specs.declared.items.Item.TheVariants.{Graph, Put, Dropped}
 use Rattle.meaning_records.specs.Records.{item}

@@ -10,8 +10,8 @@ use Rattle.object_values.specs.declared.graph.MakerDecl.{MakerDecl}
 use Rattle.object_values.specs.declared.views.View.{View}
 use Rattle.object_values.specs.declared.calls.Outcome.{Outcome}
 use Rattle.meaning_graph.specs.Graphs.{Text, Graph, makers}
-use Rattle.meaning_nodes.specs.Nodes.{last_step}
-use Rattle.meaning_nodes.specs.Labels.{label_of}
+use Rattle.meaning_tasks.specs.Nodes.{last_step}
+use Rattle.meaning_tasks.specs.Labels.{label_of}
 use Rattle.meaning_tasks.specs.Tasks.{Own, Task, given, make_task, maker_task, step_task, task_of}
 use Rattle.meaning_tasks.specs.Needs.{Results, Known, values_of, counted_needs}
 use Rattle.meaning_tasks.specs.Settle.{SourceLookup, given_own, own_of, stepped_own, settled, Settles, SettlesWith}

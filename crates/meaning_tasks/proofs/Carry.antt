@@ -9,8 +9,8 @@ use Rattle.object_values.specs.declared.calls.Outcome.{Outcome}
 use Rattle.meaning_graph.specs.Graphs.{Text, Graph}
 use Rattle.meaning_texts.specs.Lists.{IsIn}
 use Rattle.meaning_texts.proofs.Lemmas.{value_of_some}
-use Rattle.meaning_nodes.specs.Labels.{label_of}
-use Rattle.meaning_nodes.specs.Values.{worst, inherit}
+use Rattle.meaning_tasks.specs.Labels.{label_of}
+use Rattle.meaning_tasks.specs.Values.{worst, inherit}
 use Rattle.meaning_tasks.specs.Tasks.{Own, task_of}
 use Rattle.meaning_tasks.specs.Needs.{Results, values_of, AgreeOn, Grows, has_value, needs_of, counted_needs, Needs}
 use Rattle.meaning_tasks.specs.Calls.{call_of, CallOf}

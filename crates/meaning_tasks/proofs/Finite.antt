@@ -6,7 +6,7 @@ use Rattle.object_values.specs.declared.views.View.{View}
 use Rattle.meaning_graph.specs.Graphs.{Text, Graph}
 use Rattle.meaning_texts.specs.Lists.{IsIn}
 use Rattle.meaning_texts.proofs.Lemmas.{in_map}
-use Rattle.meaning_nodes.specs.Nodes.{source_node}
+use Rattle.meaning_tasks.specs.Nodes.{source_node}
 use Rattle.meaning_tasks.specs.Reached.{reached_names}
 use Rattle.meaning_tasks.specs.Tasks.{Task, given, picked, mapped, packed, tooled, unfit, task_of}
 use Rattle.meaning_tasks.specs.Needs.{Results, Known, values_of, own_lines, other_lines, needs_of, Needs}

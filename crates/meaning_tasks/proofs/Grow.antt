@@ -5,7 +5,7 @@ use Rattle.object_values.specs.declared.nodes.Node.{Node}
 use Rattle.meaning_graph.specs.Graphs.{Text, Graph}
 use Rattle.meaning_texts.specs.Lists.{IsIn}
 use Rattle.meaning_texts.proofs.Lemmas.{in_left, in_right, in_either, in_map, from_map, in_flat, from_flat}
-use Rattle.meaning_nodes.specs.Nodes.{source_node}
+use Rattle.meaning_tasks.specs.Nodes.{source_node}
 use Rattle.meaning_tasks.specs.Tasks.{Task, given, picked, mapped, packed, tooled, unfit, ToolTask, Led, task_of}
 use Rattle.meaning_tasks.specs.Needs.{Results, Known, values_of, Grows, where_valued, elements_of, picked_element, with_elements, extra_needs, scan_needs, tool_needs, needs_of, lines_in, lines_by, own_lines, other_lines, Needs}
 use Rattle.meaning_tasks.proofs.Reached.{reached_grows}

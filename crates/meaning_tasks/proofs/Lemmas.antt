@@ -1,4 +1,9 @@
 -- The lemmas that other crates may cite.
+-- Nodes that fit, and how they are made.
+pub use Rattle.meaning_tasks.proofs.Fits.{name_so, key_so, param_so, fits_so, so_fits}
+pub use Rattle.meaning_tasks.proofs.Made.{type_after-append, type_after_none, path_type, onward_fits, onward_named_fits, last_split, HasBase, base_fits, made_fits}
+-- Keys that are numbers.
+pub use Rattle.meaning_tasks.proofs.Numbers.{element_numbers}
 -- Reached names.
 pub use Rattle.meaning_tasks.proofs.Sorted.{cmp_same, names_sorted, in_sorted, from_sorted, same_names}
 pub use Rattle.meaning_tasks.proofs.Reached.{reached_moved, reached_grows, one_list, has_in, in_has, among_reached, all_reached}

@@ -1,3 +1,6 @@
+mod Fits
+mod Made
+mod Numbers
 mod Reached
 mod Roles
 mod Local

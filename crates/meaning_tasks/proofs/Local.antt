@@ -11,9 +11,9 @@ use Rattle.meaning_graph.specs.Graphs.{Text, Graph}
 use Rattle.meaning_texts.specs.Lists.{is_empty, IsIn}
 use Rattle.meaning_texts.proofs.Lemmas.{in_left, in_right, in_map, in_flat}
 use Rattle.std.proofs.lemmas.Bool.{and_parts, cases_Bool, cond-false}
-use Rattle.meaning_nodes.specs.Nodes.{source_node}
-use Rattle.meaning_nodes.specs.Labels.{label_of}
-use Rattle.meaning_nodes.specs.Values.{Picked, element, body, pick}
+use Rattle.meaning_tasks.specs.Nodes.{source_node}
+use Rattle.meaning_tasks.specs.Labels.{label_of}
+use Rattle.meaning_tasks.specs.Values.{Picked, element, body, pick}
 use Rattle.meaning_tasks.specs.Reached.{AreReached, reached_names, lines_among, has_name}
 use Rattle.meaning_tasks.specs.Tasks.{Task, given, picked, mapped, packed, tooled, unfit, ToolTask, PackPart, Led, fine_unless, led_missing, task_of}
 use Rattle.meaning_tasks.specs.Needs.{Results, Known, values_of, AgreeOn, has_value, where_valued, elements_of, element_in, picked_element, with_elements, extra_needs, scan_needs, tool_needs, part_nodes, counted_needs, reached_needs, needs_of, lines_in, lines_by, own_lines, other_lines, ReachedNames, Needs}

@@ -6,7 +6,7 @@ use Rattle.object_values.specs.declared.nodes.Node.{Node}
 use Rattle.meaning_graph.specs.Graphs.{Text}
 use Rattle.meaning_texts.specs.Lists.{IsIn}
 use Rattle.meaning_texts.proofs.Lemmas.{in_left, in_right, in_either}
-use Rattle.meaning_nodes.specs.Nodes.{source_node}
+use Rattle.meaning_tasks.specs.Nodes.{source_node}
 use Rattle.meaning_tasks.specs.Tasks.{Task, given, picked, mapped, packed, tooled, unfit, ToolTask, PackPart}
 use Rattle.meaning_tasks.specs.Needs.{Known, where_valued, picked_element, tool_needs, Role, needed, reached, Need, in_role, is_counted, is_reached, nodes_of, part_nodes, needs_of, counted_needs, reached_needs}
 

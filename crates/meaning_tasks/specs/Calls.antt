@@ -9,8 +9,8 @@ use Rattle.object_values.specs.declared.calls.CallPart.{CallPart}
 use Rattle.object_values.specs.declared.calls.Call.{Call}
 use Rattle.meaning_texts.specs.Lists.{is_empty}
 use Rattle.meaning_graph.specs.Graphs.{Text, Graph}
-use Rattle.meaning_nodes.specs.Nodes.{source_node}
-use Rattle.meaning_nodes.specs.Labels.{label_of}
+use Rattle.meaning_tasks.specs.Nodes.{source_node}
+use Rattle.meaning_tasks.specs.Labels.{label_of}
 use Rattle.meaning_tasks.specs.Tasks.{Task, tooled, ToolTask, Led, led_missing, task_of}
 use Rattle.meaning_tasks.specs.Needs.{Results, Known, values_of, has_value, counted_needs, ReachedNames}
 

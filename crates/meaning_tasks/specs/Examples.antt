@@ -15,8 +15,8 @@ use Rattle.object_values.specs.declared.graph.Extra.TheVariants.{Also, With}
 use Rattle.object_values.specs.declared.graph.Make.TheVariants.{Pack}
 use Rattle.meaning_graph.specs.Graphs.{Text, Graph}
 use Rattle.meaning_graph.specs.Samples.{two_ways, c_units, kits, simple, declared, ex_part_decl, maker, tool_with}
-use Rattle.meaning_nodes.specs.Labels.{abort_message}
-use Rattle.meaning_nodes.specs.Samples.{at_steps, parameter}
+use Rattle.meaning_tasks.specs.Labels.{abort_message}
+use Rattle.meaning_tasks.specs.NodeSamples.{at_steps, parameter}
 use Rattle.meaning_tasks.specs.Tasks.{Own, fine, aborted, Led, read_own, each_own, extra_led, task_of}
 use Rattle.meaning_tasks.specs.Settle.{picked_own, stepped_own}
 use Rattle.meaning_tasks.specs.Calls.{value_parts}

@@ -6,7 +6,7 @@ use Rattle.object_values.specs.declared.calls.Call.{Call}
 use Rattle.object_values.specs.declared.calls.Outcome.{Outcome}
 use Rattle.meaning_graph.specs.Graphs.{Text, Graph}
 use Rattle.meaning_texts.specs.Lists.{IsIn}
-use Rattle.meaning_nodes.specs.Labels.{label_of}
+use Rattle.meaning_tasks.specs.Labels.{label_of}
 use Rattle.meaning_tasks.specs.Reached.{AreReached, reached_names}
 use Rattle.meaning_tasks.specs.Tasks.{Own, Task, task_of}
 use Rattle.meaning_tasks.specs.Needs.{Results, Known, values_of, AgreeOn, Grows, needs_of, counted_needs, reached_needs, Needs, ReachedNames}

@@ -1,3 +1,10 @@
+pub mod Nodes
+pub mod Values
+pub mod Labels
+pub mod NodeOf
+pub mod NodeSamples
+pub mod NodeLaws
+pub mod NodeExamples
 pub mod Reached
 pub mod Tasks
 pub mod Needs

@@ -10,7 +10,7 @@ use Rattle.object_values.specs.declared.graph.Kind.TheVariants.{Simple as Simple
 use Rattle.meaning_graph.specs.Graphs.{Text, Graph, type_named, kind_of}
 use Rattle.meaning_texts.specs.Lists.{IsIn}
 use Rattle.meaning_graph.specs.Types.{IsA}
-use Rattle.meaning_nodes.specs.Nodes.{Fits, reached_type}
+use Rattle.meaning_tasks.specs.Nodes.{Fits, reached_type}
 use Rattle.meaning_tasks.specs.Needs.{Results}
 
 -- An element that fits, and whose type is the element type.

@@ -7,8 +7,8 @@ use Rattle.object_values.specs.declared.views.View.{View}
 use Rattle.meaning_texts.specs.References.{scanned_names}
 use Rattle.meaning_graph.specs.Graphs.{Text, Graph}
 use Rattle.meaning_texts.specs.Lists.{IsIn}
-use Rattle.meaning_nodes.specs.Nodes.{source_node}
-use Rattle.meaning_nodes.specs.Values.{Picked, element, pick}
+use Rattle.meaning_tasks.specs.Nodes.{source_node}
+use Rattle.meaning_tasks.specs.Values.{Picked, element, pick}
 use Rattle.meaning_tasks.specs.Reached.{AreReached}
 use Rattle.meaning_tasks.specs.Tasks.{Task, given, picked, mapped, packed, tooled, unfit, Led, ToolTask, PackPart, led_nodes, task_of}
 

@@ -10,7 +10,7 @@ use Rattle.object_values.specs.declared.calls.CallPart.{CallPart}
 use Rattle.object_values.specs.declared.calls.Call.{Call}
 use Rattle.object_values.specs.declared.calls.Outcome.{Outcome}
 use Rattle.meaning_graph.specs.Graphs.{Text, Graph}
-use Rattle.meaning_nodes.specs.Labels.{label_of, node_text}
+use Rattle.meaning_tasks.specs.Labels.{label_of, node_text}
 use Rattle.meaning_tasks.specs.Reached.{reached_names}
 use Rattle.meaning_tasks.specs.Tasks.{task_of}
 use Rattle.meaning_tasks.specs.Needs.{Results, Known, values_of, own_lines, other_lines, needs_of, counted_needs, reached_needs}

@@ -11,8 +11,8 @@ use Rattle.object_values.specs.declared.views.View.{View}
 use Rattle.object_values.specs.declared.calls.OwnLine.{OwnLine}
 use Rattle.object_values.specs.declared.calls.Outcome.{Outcome}
 use Rattle.meaning_graph.specs.Graphs.{Text, Graph}
-use Rattle.meaning_nodes.specs.Labels.{label_of, abort_message, no_source, no_element}
-use Rattle.meaning_nodes.specs.Values.{Picked, element, body, pick, worst, inherit}
+use Rattle.meaning_tasks.specs.Labels.{label_of, abort_message, no_source, no_element}
+use Rattle.meaning_tasks.specs.Values.{Picked, element, body, pick, worst, inherit}
 use Rattle.meaning_tasks.specs.Tasks.{Own, fine, aborted, fine_unless, Task, given, picked, mapped, packed, tooled, PackPart, led_missing, task_of}
 use Rattle.meaning_tasks.specs.Needs.{Results, Known, values_of, where_valued, counted_needs, reached_needs, ReachedNames}
 use Rattle.meaning_tasks.specs.Calls.{text_in, all_valued}

@@ -27,9 +27,9 @@ use Rattle.object_values.specs.declared.graph.MakerDecl.{MakerDecl}
 use Rattle.meaning_texts.specs.Reading.{kept_params}
 use Rattle.meaning_texts.specs.References.{references}
 use Rattle.meaning_graph.specs.Graphs.{Text, Graph, makers, kind_named}
-use Rattle.meaning_nodes.specs.Nodes.{source_node, base_of, last_step, onward_named}
-use Rattle.meaning_nodes.specs.Labels.{label_of, abort_message, no_path as no_path_to, too_many_references, at_line}
-use Rattle.meaning_nodes.specs.NodeOf.{NodeAnswer, is_node, unknown_param, unknown_type, node_of}
+use Rattle.meaning_tasks.specs.Nodes.{source_node, base_of, last_step, onward_named}
+use Rattle.meaning_tasks.specs.Labels.{label_of, abort_message, no_path as no_path_to, too_many_references, at_line}
+use Rattle.meaning_tasks.specs.NodeOf.{NodeAnswer, is_node, unknown_param, unknown_type, node_of}
 
 -- What a node itself gives, beside its needs: its value, its own status and its own messages.
 pub record Own : Type 0 where

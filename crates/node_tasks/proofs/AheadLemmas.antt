@@ -9,7 +9,7 @@ use Rattle.object_values.specs.declared.nodes.Node.{Node}
 use Rattle.meaning_graph.specs.Graphs.{Text, Graph}
 use Rattle.meaning_texts.specs.Lists.{IsIn}
 use Rattle.meaning_texts.proofs.Lemmas.{never_both, in_left, in_right, in_map, in_flat}
-use Rattle.meaning_nodes.specs.Nodes.{source_node}
+use Rattle.meaning_tasks.specs.Nodes.{source_node}
 use Rattle.meaning_tasks.specs.Reached.{Reached, by_own, by_line, AreReached}
 use Rattle.meaning_tasks.specs.Tasks.{Task, given, picked, mapped, packed, tooled, unfit, ToolTask, task_of}
 use Rattle.meaning_tasks.specs.Needs.{Results, Known, values_of, Grows, has_value, elements_of, extra_needs, scan_needs, tool_needs, needs_of, lines_in, lines_by, own_lines, other_lines}

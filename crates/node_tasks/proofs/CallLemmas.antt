@@ -18,8 +18,8 @@ use Rattle.meaning_texts.specs.Lists.{IsIn, is_empty}
 use Rattle.meaning_texts.specs.Limits.{extra_bound}
 use Rattle.meaning_texts.proofs.Lemmas.{in_all, from_chosen, same_some}
 use Rattle.meaning_graph.specs.Graphs.{Text, Graph, makers, as_maker}
-use Rattle.meaning_graph_text.specs.Grammar.{IsSpellable, IsSpellableDecl, IsSpellableMake, IsSpellableMaker}
-use Rattle.meaning_nodes.specs.Nodes.{last_step}
+use Rattle.meaning_graph.specs.Grammar.{IsSpellable, IsSpellableDecl, IsSpellableMake, IsSpellableMaker}
+use Rattle.meaning_tasks.specs.Nodes.{last_step}
 use Rattle.meaning_tasks.specs.Tasks.{Led, Task, given, picked, mapped, packed, tooled, unfit, ToolTask, led_missing, make_task, maker_task, step_task, tool_task, task_of}
 use Rattle.meaning_tasks.specs.Needs.{Results, Known, values_of, counted_needs, ReachedNames}
 use Rattle.meaning_tasks.specs.Calls.{node_parts, extra_parts, reached_part, all_valued, call_of, tool_call, CallOf}

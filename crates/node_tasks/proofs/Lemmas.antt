@@ -2,7 +2,7 @@
 use Rattle.std.proofs.Common.{List, ◌++◌, map, refl}
 use Rattle.object_values.specs.declared.nodes.Node.{Node}
 use Rattle.meaning_graph.specs.Graphs.{Graph}
-use Rattle.meaning_nodes.specs.Nodes.{source_node}
+use Rattle.meaning_tasks.specs.Nodes.{source_node}
 use Rattle.meaning_tasks.specs.Needs.{Results, Needs, values_of}
 use Rattle.task_needs.specs.Counting.{nodes_in}
 use Rattle.node_tasks.specs.declared.needed.Needed.{Needed}

@@ -9,7 +9,7 @@ use Rattle.object_values.specs.declared.graph.ToolDecl.{ToolDecl}
 use Rattle.meaning_graph.specs.Graphs.{Text, Graph}
 use Rattle.meaning_texts.specs.Lists.{IsIn}
 use Rattle.meaning_texts.proofs.Lemmas.{in_left, in_right, in_flat}
-use Rattle.meaning_nodes.specs.Nodes.{source_node}
+use Rattle.meaning_tasks.specs.Nodes.{source_node}
 use Rattle.meaning_tasks.specs.Reached.{Reached, by_own, by_line}
 use Rattle.meaning_tasks.specs.Tasks.{ToolTask, tooled, tool_task}
 use Rattle.meaning_tasks.specs.Needs.{Results, values_of, own_lines, other_lines}

@@ -4,7 +4,7 @@ use Rattle.std.specs.Prelude.{Option, None, Result, Ok, Err, IfOk}
 use Rattle.object_values.specs.declared.views.Value.{Value}
 use Rattle.meaning_graph.specs.Graphs.{Text}
 use Rattle.meaning_texts.specs.Lists.{IsIn}
-use Rattle.meaning_nodes.specs.Nodes.{source_node}
+use Rattle.meaning_tasks.specs.Nodes.{source_node}
 use Rattle.meaning_tasks.specs.Reached.{AreReached}
 use Rattle.meaning_tasks.specs.Tasks.{ToolTask, tooled}
 use Rattle.meaning_tasks.specs.Needs.{Known, has_value, where_valued, lines_by, own_lines, other_lines}

@@ -10,7 +10,7 @@ use Rattle.object_values.specs.declared.graph.ToolDecl.{ToolDecl}
 use Rattle.object_values.specs.declared.graph.MakerDecl.{MakerDecl}
 use Rattle.meaning_graph.specs.Graphs.{Text, Graph}
 use Rattle.meaning_texts.specs.Lists.{IsIn}
-use Rattle.meaning_nodes.specs.Nodes.{source_node, base_of, onward_named}
+use Rattle.meaning_tasks.specs.Nodes.{source_node, base_of, onward_named}
 use Rattle.meaning_tasks.specs.Reached.{Reached, by_own, by_line, AreReached}
 use Rattle.meaning_tasks.specs.Tasks.{Task, given, picked, mapped, packed, tooled, unfit, ToolTask, Led, led_nodes, pack_part, extra_led, scan_node, tool_task, task_of}
 use Rattle.meaning_tasks.specs.Needs.{Results, Known, values_of, has_value, where_valued, elements_of, with_elements, extra_needs, scan_needs, part_nodes, own_lines, other_lines, lines_by, counted_needs, reached_needs, ReachedNames, Needs}

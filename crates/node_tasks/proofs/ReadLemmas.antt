@@ -11,9 +11,9 @@ use Rattle.meaning_texts.specs.Lists.{IsIn}
 use Rattle.meaning_texts.specs.References.{LineReadsAs, good, bad, LinesReadAs, no_more, passed, counted, ReferenceList, these, too_many, references}
 use Rattle.meaning_texts.proofs.Lemmas.{all_in, references_said, few_steps}
 use Rattle.meaning_graph.specs.Graphs.{Text, Graph}
-use Rattle.meaning_nodes.specs.Labels.{label_of, abort_message, at_line}
-use Rattle.meaning_nodes.specs.NodeOf.{NodeAnswer, is_node}
-use Rattle.meaning_nodes.specs.Nodes.{onward_named}
+use Rattle.meaning_tasks.specs.Labels.{label_of, abort_message, at_line}
+use Rattle.meaning_tasks.specs.NodeOf.{NodeAnswer, is_node}
+use Rattle.meaning_tasks.specs.Nodes.{onward_named}
 use Rattle.meaning_tasks.specs.Tasks.{Led, unless_node, lines_own, read_own, with_params_of}
 use Rattle.odin_nodes.specs.Refusals.{IsFaultOfAnswer}
 use Rattle.odin_nodes.specs.declared.fault.NodeFault.{NodeFault}

@@ -7,13 +7,13 @@ use Rattle.object_values.specs.declared.graph.ToolDecl.{ToolDecl}
 use Rattle.object_values.specs.declared.graph.MakerDecl.{MakerDecl}
 use Rattle.object_values.specs.declared.calls.Outcome.{Outcome}
 use Rattle.meaning_graph.specs.Graphs.{Text, Graph, kind_named}
-use Rattle.meaning_nodes.specs.Labels.{label_of}
-use Rattle.meaning_nodes.specs.Nodes.{source_node}
+use Rattle.meaning_tasks.specs.Labels.{label_of}
+use Rattle.meaning_tasks.specs.Nodes.{source_node}
 use Rattle.meaning_tasks.specs.Tasks.{Own, tooled, is_compound, tool_task, task_of}
 use Rattle.meaning_tasks.specs.Needs.{Results, Known, values_of, counted_needs, reached_needs, ReachedNames}
 use Rattle.meaning_tasks.specs.Settle.{messages_of, outcome_own, stepped_own, settled, worst_of}
 use Rattle.meaning_tasks.specs.Calls.{all_valued}
-use Rattle.meaning_nodes.specs.Values.{inherit}
+use Rattle.meaning_tasks.specs.Values.{inherit}
 use Rattle.object_values.specs.declared.views.View.{View}
 use Rattle.odin_nodes.proofs.Lemmas.{inherit_all}
 use Rattle.task_needs.specs.declared.taken.Taken.{Taken}

@@ -1,7 +1,7 @@
 -- The last step of a list and the steps before it, by places.
 use Rattle.std.proofs.Common.{◌≡◌, ◌-◌, suc, List, [], ◌∷◌, sym, ap, ◌∙◌, refl, length, take, slice_get, arith}
 use Rattle.object_values.specs.declared.nodes.Step.{Step}
-use Rattle.meaning_nodes.specs.Nodes.{before_last, last_step}
+use Rattle.meaning_tasks.specs.Nodes.{before_last, last_step}
 
 pub last_got : (steps : List Step) → slice_get steps (length steps - 1) ≡ last_step steps
 last_got [] = refl

@@ -6,8 +6,8 @@ use Rattle.object_values.specs.declared.nodes.Node.{Node}
 use Rattle.object_values.specs.declared.graph.MakerDecl.{MakerDecl}
 use Rattle.meaning_graph.specs.Graphs.{Text, Graph, makers}
 use Rattle.meaning_graph.specs.Paths.{made_of}
-use Rattle.meaning_nodes.specs.Nodes.{Fits, base_of, last_step, reached_type}
-use Rattle.meaning_nodes.proofs.Lemmas.{base_fits}
+use Rattle.meaning_tasks.specs.Nodes.{Fits, base_of, last_step, reached_type}
+use Rattle.meaning_tasks.proofs.Lemmas.{base_fits}
 use Rattle.meaning_tasks.specs.Tasks.{given, picked, make_task, maker_task, step_task, task_of}
 
 pub given_task : (g : Graph) (n : Node) → last_step n.steps ≡ None → task_of g n ≡ given n.source

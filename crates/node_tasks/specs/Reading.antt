@@ -6,8 +6,8 @@ use Rattle.object_values.specs.declared.expressions.Line.TheVariants.{Good, Bad}
 use Rattle.object_values.specs.declared.expressions.Lines.{Lines}
 use Rattle.object_values.specs.declared.expressions.Lines.TheVariants.{These, TooMany}
 use Rattle.meaning_graph.specs.Graphs.{Text, Graph}
-use Rattle.meaning_nodes.specs.Labels.{label_of, abort_message, at_line}
-use Rattle.meaning_nodes.specs.NodeOf.{NodeAnswer}
+use Rattle.meaning_tasks.specs.Labels.{label_of, abort_message, at_line}
+use Rattle.meaning_tasks.specs.NodeOf.{NodeAnswer}
 use Rattle.meaning_tasks.specs.Tasks.{Led, unless_node, answer_node, answer_fault}
 use Rattle.odin_nodes.specs.declared.fault.NodeFault.{NodeFault}
 use Rattle.odin_nodes.specs.declared.fault.NodeFault.TheVariants.{UnknownParam, UnknownType, NoPath, Memory}

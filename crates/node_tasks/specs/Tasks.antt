@@ -2,7 +2,7 @@
 use Rattle.std.specs.Prelude.{◌≡◌, ⊤, map}
 use Rattle.object_values.specs.declared.nodes.Node.{Node}
 use Rattle.meaning_graph.specs.Graphs.{Graph}
-use Rattle.meaning_nodes.specs.Nodes.{base_of}
+use Rattle.meaning_tasks.specs.Nodes.{base_of}
 use Rattle.meaning_tasks.specs.Tasks.{Task, given, picked, mapped, packed, tooled, read_own, each_own, pack_part, tool_task, task_of}
 use Rattle.node_tasks.specs.declared.task.TaskAt.{TaskAt}
 use Rattle.node_tasks.specs.declared.task.TaskAt.TheVariants.{Given, Picked, Read, Each, Packed, Tooled}

@@ -4,7 +4,7 @@ ghost use Rattle.std.specs.List.Sorted.{IsPermutation};
 ghost use Rattle.object_values.specs.declared.graph.MakerDecl.{MakerDecl as MakerValue};
 ghost use Rattle.object_values.specs.declared.nodes.Node.{Node as NodeValue};
 ghost use Rattle.meaning_graph.specs.Graphs.{Graph as GraphValue};
-ghost use Rattle.meaning_nodes.specs.Nodes.{Fits, base_of};
+ghost use Rattle.meaning_tasks.specs.Nodes.{Fits, base_of};
 ghost use Rattle.meaning_tasks.specs.Tasks.{Task as TaskValue, scan_node, tool_task, tooled};
 ghost use Rattle.meaning_tasks.specs.Needs.{Results as ResultMap, Known as KnownValues, values_of, has_value};
 ghost use Rattle.path_planner.specs.Ends.{plans_of};
@@ -17,8 +17,7 @@ use object_values::{Memory, Node, Seq, ToolDecl};
 use path_planner::Plans;
 use std::alloc::Global;
 use std::mem;
-use task_needs::{Results, is_present, source_node, value_of};
-use task_scans::{scan_node, told_lines};
+use task_needs::{Results, is_present, scan_node, source_node, told_lines, value_of};
 use type_graph::Graph;
 
 /// The nodes that were visited.

@@ -1,6 +1,6 @@
 // Nodes along their steps.
 ghost use Rattle.std.specs.Prelude.{◌≡◌, IfOk, option_map};
-ghost use Rattle.meaning_nodes.specs.Nodes.{base_of, last_step};
+ghost use Rattle.meaning_tasks.specs.Nodes.{base_of, last_step};
 
 use object_values::{Copied, Memory, Node, ShortSeq, Step};
 use std::alloc::Global;

@@ -3,8 +3,8 @@ ghost use Rattle.std.specs.Prelude.{◌≡◌, ◌&&◌, ◌<◌, length, map, I
 ghost use Rattle.std.specs.List.{list_all};
 ghost use Rattle.meaning_texts.specs.Limits.{extra_bound};
 ghost use Rattle.meaning_texts.specs.Lists.{is_empty};
-ghost use Rattle.meaning_graph_text.specs.Grammar.{IsSpellable};
-ghost use Rattle.meaning_nodes.specs.Nodes.{Fits};
+ghost use Rattle.meaning_graph.specs.Grammar.{IsSpellable};
+ghost use Rattle.meaning_tasks.specs.Nodes.{Fits};
 ghost use Rattle.meaning_tasks.specs.Tasks.{extra_led, led_missing, tool_task};
 ghost use Rattle.meaning_tasks.specs.Needs.{values_of};
 ghost use Rattle.meaning_tasks.specs.Calls.{CallOf, all_valued, tool_call};

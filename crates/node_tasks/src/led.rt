@@ -1,6 +1,6 @@
 // Nodes that are led on.
 ghost use Rattle.std.specs.Prelude.{◌≡◌, ◌∷◌, [], None, IfOk};
-ghost use Rattle.meaning_nodes.specs.Labels.{label_of as label_of_node, abort_message, no_path};
+ghost use Rattle.meaning_tasks.specs.Labels.{label_of as label_of_node, abort_message, no_path};
 ghost use Rattle.meaning_tasks.specs.Tasks.{led_to};
 ghost use Rattle.path_planner.specs.Ends.{plans_of};
 

@@ -2,7 +2,7 @@
 ghost use Rattle.std.specs.Prelude.{◌≡◌, IfOk, true};
 ghost use Rattle.object_values.specs.declared.graph.MakerDecl.{MakerDecl as MakerValue};
 ghost use Rattle.meaning_texts.specs.Classes.{IsName};
-ghost use Rattle.meaning_nodes.specs.Nodes.{Fits, base_of};
+ghost use Rattle.meaning_tasks.specs.Nodes.{Fits, base_of};
 ghost use Rattle.meaning_tasks.specs.Reached.{AreReached};
 ghost use Rattle.meaning_tasks.specs.Tasks.{tool_task, tooled};
 ghost use Rattle.meaning_tasks.specs.Needs.{ReachedNames, values_of, has_value, own_lines, other_lines};
@@ -15,8 +15,7 @@ use object_values::{Memory, Node, Seq, ToolDecl};
 use odin_bytes::{Name, read_name};
 use path_planner::Plans;
 use std::alloc::Global;
-use task_needs::{Results, value_of};
-use task_scans::told_lines;
+use task_needs::{Results, told_lines, value_of};
 use type_graph::Graph;
 
 /// The names that a node reaches by its scan nodes, as far as these have results. None are reached

@@ -2,7 +2,7 @@
 ghost use Rattle.std.specs.Prelude.{◌≡◌, IfOk};
 ghost use Rattle.object_values.specs.declared.nodes.Node.{Node as NodeValue};
 ghost use Rattle.meaning_graph.specs.Graphs.{Graph as GraphValue};
-ghost use Rattle.meaning_nodes.specs.Nodes.{Fits};
+ghost use Rattle.meaning_tasks.specs.Nodes.{Fits};
 ghost use Rattle.meaning_tasks.specs.Needs.{Needs};
 ghost use Rattle.path_planner.specs.Ends.{plans_of};
 ghost use Rattle.node_tasks.specs.Needed.{IsNeeded};

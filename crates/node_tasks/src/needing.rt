@@ -1,7 +1,7 @@
 // The needs of a node that count.
 ghost use Rattle.std.specs.Prelude.{◌≡◌, ◌++◌, ◌∷◌, [], IfOk, OnOk, map, flat_map, option_map, option_to_list};
 ghost use Rattle.object_values.specs.declared.graph.MakerDecl.{MakerDecl as MakerValue};
-ghost use Rattle.meaning_nodes.specs.Nodes.{Fits, base_of, onward_named};
+ghost use Rattle.meaning_tasks.specs.Nodes.{Fits, base_of, onward_named};
 ghost use Rattle.meaning_tasks.specs.Tasks.{pack_part, extra_led, led_nodes, scan_node, tool_task, tooled, task_of};
 ghost use Rattle.meaning_tasks.specs.Needs.{values_of, has_value, picked_element, scan_needs, part_nodes, counted_needs};
 ghost use Rattle.path_planner.specs.Ends.{plans_of};
@@ -15,8 +15,7 @@ use odin_bytes::Name;
 use odin_nodes::{Picked, onward, pick};
 use path_planner::Plans;
 use std::alloc::Global;
-use task_needs::{Counted, Led, Results, put_copy, value_of};
-use task_scans::{put_reached_scan, put_scan};
+use task_needs::{Counted, Led, Results, put_copy, put_reached_scan, put_scan, value_of};
 use type_graph::Graph;
 
 /// The needs but the reached sources, given the reached names.

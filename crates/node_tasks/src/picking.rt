@@ -1,6 +1,6 @@
 // What a node gives that picks from its base.
 ghost use Rattle.std.specs.Prelude.{◌≡◌, option_map, IfOk};
-ghost use Rattle.meaning_nodes.specs.Labels.{label_of as label_of_node, no_element};
+ghost use Rattle.meaning_tasks.specs.Labels.{label_of as label_of_node, no_element};
 ghost use Rattle.meaning_tasks.specs.Needs.{values_of};
 ghost use Rattle.meaning_tasks.specs.Settle.{element_own, picked_own};
 

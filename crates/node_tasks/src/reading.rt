@@ -1,7 +1,7 @@
 // References that are read.
 ghost use Rattle.std.specs.Prelude.{◌≡◌, ◌≢◌, ◌^◌, ◌<◌, ◌∷◌, [], All, length, map, IfOk, OnOk};
-ghost use Rattle.meaning_nodes.specs.Labels.{abort_message as message_at_abort, at_line, label_of as label_of_node};
-ghost use Rattle.meaning_nodes.specs.NodeOf.{is_node};
+ghost use Rattle.meaning_tasks.specs.Labels.{abort_message as message_at_abort, at_line, label_of as label_of_node};
+ghost use Rattle.meaning_tasks.specs.NodeOf.{is_node};
 ghost use Rattle.meaning_tasks.specs.Tasks.{line_led, lines_own, listed_own, read_own, with_params_of};
 ghost use Rattle.path_planner.specs.Ends.{plans_of};
 ghost use Rattle.odin_nodes.specs.declared.fault.NodeFault.TheVariants as faults;

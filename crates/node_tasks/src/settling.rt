@@ -1,7 +1,7 @@
 // What a node settles to.
 ghost use Rattle.std.specs.Prelude.{◌≡◌, ◌≢◌, [], None, cond, IfOk, option_map};
-ghost use Rattle.meaning_nodes.specs.Nodes.{Fits};
-ghost use Rattle.meaning_nodes.specs.Values.{inherit};
+ghost use Rattle.meaning_tasks.specs.Nodes.{Fits};
+ghost use Rattle.meaning_tasks.specs.Values.{inherit};
 ghost use Rattle.meaning_tasks.specs.Needs.{values_of};
 ghost use Rattle.meaning_tasks.specs.Settle.{SourceLookup, settled, Settles};
 ghost use Rattle.path_planner.specs.Ends.{plans_of};

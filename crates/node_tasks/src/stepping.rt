@@ -1,8 +1,8 @@
 // What a node with steps itself gives, by its task.
 ghost use Rattle.std.specs.Prelude.{◌≡◌, [], map, option_map, IfOk};
 ghost use Rattle.meaning_graph.specs.Graphs.{kind_named};
-ghost use Rattle.meaning_nodes.specs.Labels.{label_of as label_of_node};
-ghost use Rattle.meaning_nodes.specs.Nodes.{Fits};
+ghost use Rattle.meaning_tasks.specs.Labels.{label_of as label_of_node};
+ghost use Rattle.meaning_tasks.specs.Nodes.{Fits};
 ghost use Rattle.meaning_tasks.specs.Tasks.{aborted, each_own, extra_led, is_compound, led_missing, read_own, task_of};
 ghost use Rattle.meaning_tasks.specs.Needs.{values_of, where_valued};
 ghost use Rattle.meaning_tasks.specs.Settle.{mapped_own, outcome_own, picked_own, stepped_own};

@@ -1,7 +1,7 @@
 // What the last step of a node asks for.
 ghost use Rattle.std.specs.Prelude.{◌≡◌, option_map, IfSome, IfNone};
 ghost use Rattle.object_values.specs.declared.nodes.Node.{Node as NodeValue};
-ghost use Rattle.meaning_nodes.specs.Nodes.{Fits};
+ghost use Rattle.meaning_tasks.specs.Nodes.{Fits};
 ghost use Rattle.meaning_tasks.specs.Tasks.{make_task, element_name, parts_of, tooled, tool_task, task_of};
 ghost use Rattle.node_tasks.specs.Tasks.{told_task, IsTaskOf, RunsNoTool};
 

@@ -1,6 +1,6 @@
 // What a tool takes beside its base.
 ghost use Rattle.std.specs.Prelude.{◌≡◌, IfOk, map};
-ghost use Rattle.meaning_nodes.specs.Nodes.{base_of};
+ghost use Rattle.meaning_tasks.specs.Nodes.{base_of};
 ghost use Rattle.meaning_tasks.specs.Tasks.{extra_led};
 ghost use Rattle.path_planner.specs.Ends.{plans_of};
 

@@ -11,7 +11,7 @@ use Rattle.meaning_derive.proofs.Lemmas.{no_chain}
 use Rattle.meaning_records.specs.Tables.{Tables, Calls, kept_outcome}
 use Rattle.meaning_commands.specs.declared.replies.Reply.{Reply}
 use Rattle.meaning_commands.specs.declared.replies.Reply.TheVariants.{RefusedExpression, RefusedParam, RefusedType, RefusedPath, RefusedToolStart}
-use Rattle.meaning_answers.specs.Answers.{Refused, Asks, Answer}
+use Rattle.meaning_derive.specs.Answers.{Refused, Asks, Answer}
 use Rattle.odin_journal.specs.declared.journal.Journal.{Journal}
 use Rattle.odin_journal.specs.declared.fault.JournalFault.{JournalFault}
 use Rattle.odin_journal.specs.declared.fault.JournalFault.TheVariants as store
@@ -20,8 +20,8 @@ use Rattle.odin_store.specs.Held.{Change, keeps}
 use Rattle.odin_store.specs.OnDisk.{IsSame, IsOver}
 use Rattle.odin_store.specs.Going.{IsBatchOf, Performs}
 use Rattle.odin_store.proofs.Lemmas.{goes_none, goes_on, nothing_behind}
-use Rattle.walk_tables.specs.declared.found.Found.{Found}
-use Rattle.walk_tables.specs.declared.found.Found.TheVariants as found
+use Rattle.derive_walk.specs.declared.found.Found.{Found}
+use Rattle.derive_walk.specs.declared.found.Found.TheVariants as found
 use Rattle.derive_walk.specs.Founds.{IsFound}
 use Rattle.derive_walk.specs.Outcomes.{after}
 use Rattle.derive_walk.proofs.Lemmas.{found_stays}

@@ -8,10 +8,10 @@ use Rattle.meaning_derive.specs.Derive.{Sources, Outcomes, IsFounded}
 use Rattle.meaning_derive.proofs.Lemmas.{no_chain}
 use Rattle.meaning_records.specs.Tables.{Calls, kept_outcome}
 use Rattle.meaning_commands.specs.declared.replies.Reply.{Reply}
-use Rattle.meaning_answers.specs.Answers.{Asks}
-use Rattle.meaning_answers.proofs.Lemmas.{one_node}
-use Rattle.walk_tables.specs.declared.found.Found.{Found}
-use Rattle.walk_tables.specs.declared.found.Found.TheVariants as found
+use Rattle.meaning_derive.specs.Answers.{Asks}
+use Rattle.meaning_derive.proofs.Lemmas.{one_node}
+use Rattle.derive_walk.specs.declared.found.Found.{Found}
+use Rattle.derive_walk.specs.declared.found.Found.TheVariants as found
 use Rattle.derive_walk.specs.Founds.{IsFound}
 use Rattle.derive_walk.specs.Outcomes.{after}
 use Rattle.derive_walk.proofs.Lemmas.{found_stays}

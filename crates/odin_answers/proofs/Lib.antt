@@ -1,3 +1,6 @@
+mod ChangeLemmas
+mod EditLemmas
+mod SourceLemmas
 mod AnswerLemmas
 mod CountLemmas
 mod FaultLemmas

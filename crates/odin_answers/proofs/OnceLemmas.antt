@@ -15,9 +15,9 @@ use Rattle.meaning_derive.specs.Laws.{HasMore}
 use Rattle.meaning_derive.proofs.Lemmas.{no_frontier}
 use Rattle.meaning_records.specs.Tables.{Calls, kept_outcome}
 use Rattle.meaning_commands.specs.declared.replies.Reply.{Reply}
-use Rattle.meaning_answers.specs.Answers.{Asks, Answer}
-use Rattle.meaning_answers.proofs.Lemmas.{not_refused, one_node}
-use Rattle.walk_tables.specs.Calls.{outcome_in}
+use Rattle.meaning_derive.specs.Answers.{Asks, Answer}
+use Rattle.meaning_derive.proofs.Lemmas.{not_refused, one_node}
+use Rattle.derive_walk.specs.Calls.{outcome_in}
 use Rattle.plain_derive.specs.Given.{HaveCome, IsRefusedBy}
 use Rattle.plain_derive.specs.Flights.{Course, Flight, Flies, at_rest, for_spawn, off_course}
 use Rattle.plain_derive.specs.FlightLaws.{HasStarted, IsUnflown}

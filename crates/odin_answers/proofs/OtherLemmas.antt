@@ -12,9 +12,9 @@ use Rattle.meaning_derive.specs.Laws.{HasMore}
 use Rattle.meaning_derive.proofs.Lemmas.{sources_enough, derive_more}
 use Rattle.meaning_records.specs.Tables.{Calls, kept_outcome}
 use Rattle.meaning_commands.specs.declared.replies.Reply.{Reply}
-use Rattle.meaning_answers.specs.Answers.{Asks, Answer}
-use Rattle.meaning_answers.specs.Replies.{shown}
-use Rattle.meaning_answers.proofs.Lemmas.{founded_shown}
+use Rattle.meaning_derive.specs.Answers.{Asks, Answer}
+use Rattle.meaning_derive.specs.Replies.{shown}
+use Rattle.meaning_derive.proofs.Lemmas.{founded_shown}
 use Rattle.derive_walk.specs.Outcomes.{after}
 use Rattle.odin_answers.specs.Answers.{Agrees, HasAnswer, IsReply}
 use Rattle.odin_answers.specs.Laws.{IsAnsweredAtOnce}

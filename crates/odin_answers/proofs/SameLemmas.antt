@@ -15,9 +15,9 @@ use Rattle.meaning_derive.specs.Given.{table_outcomes}
 use Rattle.meaning_derive.specs.Laws.{HasMore}
 use Rattle.meaning_records.specs.Tables.{Calls, kept_outcome}
 use Rattle.meaning_commands.specs.declared.replies.Reply.{Reply}
-use Rattle.meaning_answers.specs.Answers.{Asks, Answer, Refused}
-use Rattle.meaning_answers.specs.Laws.{ShowsChain, circular_chain, deep_chain, BothShowChains}
-use Rattle.meaning_answers.proofs.Lemmas.{not_refused, one_node, one_answer}
+use Rattle.meaning_derive.specs.Answers.{Asks, Answer, Refused}
+use Rattle.meaning_derive.specs.AnswerLaws.{ShowsChain, circular_chain, deep_chain, BothShowChains}
+use Rattle.meaning_derive.proofs.Lemmas.{not_refused, one_node, one_answer}
 use Rattle.plain_derive.specs.Given.{calls_of}
 use Rattle.plain_derive.proofs.Lemmas.{given_are_true, given_is_in}
 use Rattle.odin_answers.specs.Answers.{Agrees, IsLeftAlone, IsDerived, HasAnswer}

@@ -11,10 +11,10 @@ use Rattle.meaning_derive.specs.Laws.{HasMore}
 use Rattle.meaning_records.specs.Tables.{Calls, kept_outcome}
 use Rattle.meaning_commands.specs.declared.replies.Reply.{Reply}
 use Rattle.meaning_commands.specs.declared.replies.Reply.TheVariants.{RefusedToolStart}
-use Rattle.meaning_answers.specs.Replies.{shown, refused_circular, refused_deep}
-use Rattle.meaning_answers.specs.Answers.{Refused, Asks, Answer}
-use Rattle.walk_tables.specs.declared.found.Found.{Found}
-use Rattle.walk_tables.specs.declared.found.Found.TheVariants as found
+use Rattle.meaning_derive.specs.Replies.{shown, refused_circular, refused_deep}
+use Rattle.meaning_derive.specs.Answers.{Refused, Asks, Answer}
+use Rattle.derive_walk.specs.declared.found.Found.{Found}
+use Rattle.derive_walk.specs.declared.found.Found.TheVariants as found
 use Rattle.derive_walk.specs.Founds.{IsFound}
 use Rattle.derive_walk.specs.Outcomes.{after}
 use Rattle.plain_derive.specs.Given.{calls_of}

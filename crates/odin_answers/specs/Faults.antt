@@ -3,7 +3,7 @@ use Rattle.std.specs.Prelude.{◌≡◌}
 use Rattle.meaning_graph.specs.Graphs.{Graph}
 use Rattle.meaning_commands.specs.declared.replies.Reply.{Reply}
 use Rattle.meaning_commands.specs.declared.replies.Reply.TheVariants.{RefusedExpression, RefusedParam, RefusedType, RefusedPath, RefusedToolStart}
-use Rattle.meaning_answers.specs.Replies.{refused_circular, refused_deep}
+use Rattle.meaning_derive.specs.Replies.{refused_circular, refused_deep}
 use Rattle.odin_journal.specs.declared.fault.JournalFault.{JournalFault}
 use Rattle.odin_journal.specs.declared.fault.JournalFault.TheVariants as store
 use Rattle.odin_engine.specs.declared.fault.AskFault.{AskFault}

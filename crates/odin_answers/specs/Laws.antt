@@ -15,9 +15,9 @@ use Rattle.meaning_derive.specs.Given.{table_outcomes}
 use Rattle.meaning_derive.specs.Laws.{HasMore}
 use Rattle.meaning_records.specs.Tables.{Calls, kept_outcome}
 use Rattle.meaning_commands.specs.declared.replies.Reply.{Reply}
-use Rattle.meaning_answers.specs.Answers.{Asks, Answer}
-use Rattle.meaning_answers.specs.Laws.{BothShowChains}
-use Rattle.walk_tables.specs.Calls.{AreOnce}
+use Rattle.meaning_derive.specs.Answers.{Asks, Answer}
+use Rattle.meaning_derive.specs.AnswerLaws.{BothShowChains}
+use Rattle.derive_walk.specs.Calls.{AreOnce}
 use Rattle.derive_walk.specs.Outcomes.{after}
 use Rattle.plain_derive.specs.Given.{calls_of}
 use Rattle.plain_derive.specs.Flights.{at_rest}

@@ -1,3 +1,5 @@
+pub mod Edits
+pub mod Changes
 pub mod Answers
 pub mod Faults
 pub mod Laws

@@ -3,8 +3,8 @@ use Rattle.std.specs.Prelude.{◌≡◌}
 use Rattle.object_values.specs.declared.nodes.Node.{Node}
 use Rattle.meaning_graph.specs.Graphs.{Text, Graph}
 use Rattle.meaning_commands.specs.Replies.{reply_text}
-use Rattle.meaning_answers.specs.Replies.{plan_of}
-use Rattle.meaning_answers.specs.Answers.{Refused, Asks}
+use Rattle.meaning_derive.specs.Replies.{plan_of}
+use Rattle.meaning_derive.specs.Answers.{Refused, Asks}
 use Rattle.odin_answers.specs.declared.plan.Planned.{Planned}
 use Rattle.odin_answers.specs.declared.plan.Planned.TheVariants as planned
 

@@ -4,7 +4,7 @@ ghost use Rattle.std.specs.List.{flat_map};
 ghost use Rattle.meaning_texts.specs.Lines.{with_lf};
 ghost use Rattle.meaning_graph.specs.Graphs.{makers};
 ghost use Rattle.meaning_commands.specs.Replies.{reply_text};
-ghost use Rattle.meaning_answers.specs.Replies.{maker_name, step_line, plan_of};
+ghost use Rattle.meaning_derive.specs.Replies.{maker_name, step_line, plan_of};
 
 use meaning_commands::Reply;
 use object_values::{Bytes, Memory, Node, Step};

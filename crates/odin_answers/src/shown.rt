@@ -1,6 +1,6 @@
 // The replies that show views and nodes.
 ghost use Rattle.std.specs.Prelude.{◌≡◌, IfOk};
-ghost use Rattle.meaning_answers.specs.Replies.{node_texts, shown_body, shown};
+ghost use Rattle.meaning_derive.specs.Replies.{node_texts, shown_body, shown};
 
 use meaning_commands::{Reply, ShownBody};
 use object_values::{Bytes, Memory, Node, Seq, Value, View};

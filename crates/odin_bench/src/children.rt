@@ -1,8 +1,8 @@
 // Starts and ends `true` as a child program so many times, one after another, and says how often it ended well.
 use crate::fault::Fault;
 use object_values::{Bytes, End, FileBody, Job, Memory, Seq, Text};
-use odin_children::{ChildTools, HostSystem};
 use odin_outside::Spawner;
+use odin_real::{ChildTools, HostSystem};
 use std::alloc::Global;
 
 // What the only file of a job holds: about as many bytes as a call of one input.

@@ -4,7 +4,7 @@ use object_values::Memory;
 use odin_outside::{FinishFault, StartFault};
 use odin_store::StoreFault;
 use std::alloc::AllocError;
-use task_tables::Fault as TableFault;
+use test_support::Fault as TableFault;
 
 /// Why nothing was measured.
 #[derive(Clone, Copy, Debug, PartialEq, Eq)]

@@ -9,7 +9,7 @@ use crate::store::filling::{GRAPH, disk_for, filled};
 use crate::store::images::tell_images;
 use crate::store::timing::timed;
 use crate::words::number_at;
-use odin_files::{FileDisk, NamedFile};
+use odin_real::{FileDisk, NamedFile};
 use odin_store::Store;
 use std::fs;
 

@@ -1,8 +1,8 @@
 // Runs child programs that sleep for uneven times, several at once, and says how often one ended well.
 use crate::fault::Fault;
 use object_values::{Bytes, End, FileBody, Job, Memory, Seq, Text};
-use odin_children::{ChildTools, HostSystem};
 use odin_outside::Spawner;
+use odin_real::{ChildTools, HostSystem};
 use std::alloc::Global;
 
 // How long they sleep, in seconds: each seventh of these, around and around.

@@ -1,2 +1,4 @@
 pub mod Arguments
 pub mod Writing
+pub mod Reading
+pub mod Verbs

@@ -8,8 +8,8 @@ use Rattle.odin_outside.specs.Spawned.{Spawned}
 use Rattle.meaning_graph.specs.Graphs.{Text, Graph}
 use Rattle.odin_journal.specs.Rest.{IsReady}
 use Rattle.odin_store.specs.declared.store.Store.{Store}
-use Rattle.walk_tables.specs.declared.found.Found.{Found}
-use Rattle.walk_tables.specs.declared.found.Found.TheVariants as found
+use Rattle.derive_walk.specs.declared.found.Found.{Found}
+use Rattle.derive_walk.specs.declared.found.Found.TheVariants as found
 use Rattle.kept_derive.specs.declared.fault.KeptFault.{KeptFault}
 use Rattle.kept_derive.specs.declared.fault.KeptFault.TheVariants as stop
 use Rattle.kept_derive.specs.Runs.{At, HasFound}

@@ -5,9 +5,9 @@ use Rattle.object_values.specs.declared.expressions.Expression.{Expression}
 use Rattle.meaning_texts.specs.Expressions.{ExpressionText, IsCanonical}
 use Rattle.meaning_texts.proofs.Lemmas.{canonical, few_steps}
 use Rattle.meaning_graph.specs.Graphs.{Text, Graph}
-use Rattle.meaning_nodes.specs.Nodes.{Fits}
-use Rattle.meaning_nodes.specs.NodeOf.{is_node, node_of}
-use Rattle.meaning_answers.specs.Answers.{Refused}
+use Rattle.meaning_tasks.specs.Nodes.{Fits}
+use Rattle.meaning_tasks.specs.NodeOf.{is_node, node_of}
+use Rattle.meaning_derive.specs.Answers.{Refused}
 use Rattle.request_parser.specs.declared.fault.ExpressionFault.{ExpressionFault}
 use Rattle.request_parser.specs.declared.fault.ExpressionFault.TheVariants as unread
 use Rattle.request_parser.specs.Refused.{IsExpressionRefusal}

@@ -5,7 +5,7 @@ use Rattle.object_values.specs.declared.views.View.{View}
 use Rattle.odin_outside.specs.Disk.{Telling}
 use Rattle.meaning_graph.specs.Graphs.{Text, Graph}
 use Rattle.odin_store.specs.declared.store.Store.{Store}
-use Rattle.walk_tables.specs.declared.found.Found.{Found}
+use Rattle.derive_walk.specs.declared.found.Found.{Found}
 use Rattle.kept_derive.specs.declared.fault.KeptFault.{KeptFault}
 use Rattle.kept_derive.specs.Looked.{HasLooked, HasLookedBefore, AreLooks}
 use Rattle.kept_derive.specs.Runs.{At, HasFound}

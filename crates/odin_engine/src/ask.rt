@@ -1,7 +1,7 @@
 // The asking of an engine.
 ghost use Rattle.std.specs.Prelude.{◌≡◌, IfOk, IfErr};
 ghost use Rattle.kept_derive.specs.Calls.{IsIdle};
-ghost use Rattle.meaning_nodes.specs.Nodes.{Fits};
+ghost use Rattle.meaning_tasks.specs.Nodes.{Fits};
 ghost use Rattle.kept_derive.specs.Faults.{KeptFaultIsCounted as IsKeptCause, StoreAfterDerive as IsKeptLeft};
 ghost use Rattle.kept_derive.specs.Rests.{ComesToRest, LeavesTools as LeavesKept};
 ghost use Rattle.kept_derive.specs.Runs.{at};

@@ -17,8 +17,8 @@ use crate::fault::AskFault;
 use object_values::{Node, Text};
 use odin_bytes::Name;
 use odin_outside::Disk;
-use odin_store::laws::edits_are_told;
 use odin_store::{Store, StoreFault};
+use odin_store::laws::edits_are_told;
 use path_planner::Plans;
 use std::alloc::Global;
 use std::marker::Model;
@@ -49,7 +49,7 @@ impl Drop for Engine {
 
 impl Model for Engine {
     ghost use Rattle.std.specs.Prelude.{◌≡◌};
-    ghost use Rattle.meaning_graph_text.specs.Grammar.{IsSpellable};
+    ghost use Rattle.meaning_graph.specs.Grammar.{IsSpellable};
     ghost use Rattle.path_planner.specs.Ends.{plans_of};
     ghost use Rattle.std.specs.Coded.{codes};
     ghost use Rattle.odin_store.specs.contracts.store.Store as held;

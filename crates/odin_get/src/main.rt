@@ -1,8 +1,8 @@
 //! Reads the replies of a session from standard input, and writes the object that the last ask was given.
 #![tactic(auto)]
 
+use build_files::get::{Fault, run};
 use odin_real::ClosedStreams;
-use reply_objects::run::{Fault, run};
 use std::process::ExitCode;
 
 fn main(rt: HostRuntime) -> ExitCode {

@@ -8,8 +8,8 @@ use Rattle.byteorder.specs.Endian.{big_number}
 use Rattle.odin_outside.specs.Disk.{Telling, MayLeave, LeavesOnly, Written, Torn}
 use Rattle.odin_journal.specs.Rest.{AtRest, BeforeOrAfter}
 use Rattle.odin_outside.specs.Moments.{no_call}
-use Rattle.meaning_store.specs.Front.{file_limit, start_of, HasFront}
-use Rattle.meaning_store.specs.Images.{IsWritten, with_record, gate_after, IsRecord, AreRecords, IsStore, Stored}
+use Rattle.meaning_records.specs.Front.{file_limit, start_of, HasFront}
+use Rattle.meaning_records.specs.Images.{IsWritten, with_record, gate_after, IsRecord, AreRecords, IsStore, Stored}
 
 -- two images that have the same first bytes
 pub record Agree (n : ℕ) (image c : List ℕ) : Type 0 where

@@ -2,8 +2,8 @@
 use Rattle.std.proofs.Common.{◌≡◌, ◌≢◌, inl, inr, ℕ, ◌<◌, ◌≤◌, List, [], ◌∷◌, ◌++◌, drop, length, slice_index, refl, sym, ap, subst, ◌∙◌, arith}
 use Rattle.std.proofs.lemmas.Bool.{cases_eq}
 use Rattle.odin_outside.specs.Disk.{Telling, Written, Torn}
-use Rattle.meaning_store.specs.Front.{file_limit, new_front}
-use Rattle.meaning_store.specs.Images.{IsNew, IsStore, Stored}
+use Rattle.meaning_records.specs.Front.{file_limit, new_front}
+use Rattle.meaning_records.specs.Images.{IsNew, IsStore, Stored}
 use Rattle.odin_journal.specs.Rest.{Clears, MakesNewStore}
 use Rattle.odin_journal.proofs.AppendLemmas.{agree_index, torn_agree, torn_gate_back, torn_gate_size}
 

@@ -1,9 +1,9 @@
 -- What is known of a journal's disk after readings of it.
 use Rattle.std.proofs.Common.{◌≡◌, inl, inr, ℕ, List, [], length, Result, Ok, Err, IfOk, IfErr, IsErrAnd, IsTrue, IsFalse, refl, sym, ap, subst, ◌∙◌}
 use Rattle.odin_outside.specs.Disk.{Telling, LeavesOnly, IsQuiet}
-use Rattle.meaning_store.specs.Front.{start_of, HasFront, new_store}
-use Rattle.meaning_store.specs.Images.{IsNew, IsWritten, IsStore, Stored, IsClosed, AreRecords, NotOurs}
-use Rattle.meaning_store.specs.ImageLemmas.{one_stored, new_or_written}
+use Rattle.meaning_records.specs.Front.{start_of, HasFront, new_store}
+use Rattle.meaning_records.specs.Images.{IsNew, IsWritten, IsStore, Stored, IsClosed, AreRecords, NotOurs}
+use Rattle.meaning_records.specs.ImageLemmas.{one_stored, new_or_written}
 use Rattle.odin_journal.specs.Faults.{BreaksBehind, IsReadFault, IsOpenFault}
 use Rattle.odin_journal.specs.declared.fault.JournalFault.{JournalFault}
 use Rattle.odin_journal.specs.declared.fault.JournalFault.TheVariants as fault

@@ -3,7 +3,7 @@ use Rattle.std.proofs.Common.{◌≡◌, ℕ, ◌+◌, ◌-◌, ◌<◌, ◌≤�
 use Rattle.std.proofs.lemmas.List.{get_or-take, get_or-drop}
 use Rattle.odin_bytes.specs.Fields.{u32_field, bytes_field, IsFieldAt}
 use Rattle.odin_bytes.specs.FieldLemmas.{body_at, field_front, u32_front, length-slice_range}
-use Rattle.meaning_store.specs.Images.{gate_after, IsOpen, IsRecord}
+use Rattle.meaning_records.specs.Images.{gate_after, IsOpen, IsRecord}
 use Rattle.odin_journal.proofs.AppendLemmas.{range_of_front}
 
 -- what was read at a gate: at least a gate, and the number that stands behind it

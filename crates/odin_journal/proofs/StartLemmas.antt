@@ -1,7 +1,7 @@
 -- What the first bytes of an image tell of its front.
 use Rattle.std.proofs.Common.{◌≡◌, ℕ, ◌<◌, ◌≤◌, List, take, length, slice_range, sym, ap, subst, ◌∙◌, arith}
 use Rattle.std.proofs.lemmas.List.{take-take, length-take-le}
-use Rattle.meaning_store.specs.Front.{start_of, HasFront}
+use Rattle.meaning_records.specs.Front.{start_of, HasFront}
 use Rattle.odin_journal.specs.Marks.{HasMarks}
 use Rattle.odin_journal.proofs.AppendLemmas.{Agree, agree_range, agree_start}
 

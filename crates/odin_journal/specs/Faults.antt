@@ -1,7 +1,7 @@
 -- When a journal is refused, and what its answers say of the disk's faults.
 use Rattle.std.specs.Prelude.{◌≡◌, ◌+◌, ◌≤◌, ◌<◌, ℕ, List, ⊤, Result, Ok, Err, OnOk, IfErr, IsErrOf}
-use Rattle.meaning_store.specs.Front.{file_limit}
-use Rattle.meaning_store.specs.Images.{IsOpen, IsRecord, AreRecords, NotOurs}
+use Rattle.meaning_records.specs.Front.{file_limit}
+use Rattle.meaning_records.specs.Images.{IsOpen, IsRecord, AreRecords, NotOurs}
 use Rattle.odin_outside.specs.Causes.{Rose}
 use Rattle.odin_outside.specs.Disk.{Telling, IsQuiet}
 use Rattle.odin_journal.specs.Moments.{Untouched}

@@ -1,3 +1,7 @@
+pub mod Trails
+pub mod TrailLemmas
+pub mod WorkLemmas
+pub mod Laws
 pub mod Faults
 pub mod Marks
 pub mod Moments

@@ -2,8 +2,8 @@
 use Rattle.std.specs.Prelude.{◌≡◌, ℕ, max, ◌+◌, ◌<◌, ◌≤◌, IsTrue, IsFalse, List, length, slice_range, Result, OnOk}
 use Rattle.odin_outside.specs.Disk.{Telling, LeavesOnly, IsQuiet, Written, Torn}
 use Rattle.odin_outside.specs.Worked.{WorkedWithin}
-use Rattle.meaning_store.specs.Front.{file_limit}
-use Rattle.meaning_store.specs.Images.{IsNew, IsWritten}
+use Rattle.meaning_records.specs.Front.{file_limit}
+use Rattle.meaning_records.specs.Images.{IsNew, IsWritten}
 use Rattle.odin_journal.specs.declared.front.Looked.{Looked}
 
 -- nothing is pending, a read gives the same, and a crash at any moment leaves the same

@@ -1,7 +1,7 @@
 -- What is read of a store, on a disk of a size on which nothing is pending.
 use Rattle.std.specs.Prelude.{◌≡◌, ℕ, List}
-use Rattle.meaning_store.specs.Front.{start_of, HasFront}
-use Rattle.meaning_store.specs.Images.{IsWritten, IsOpen, IsClosed, IsRecord, AreRecords, IsStore, NotOurs}
+use Rattle.meaning_records.specs.Front.{start_of, HasFront}
+use Rattle.meaning_records.specs.Images.{IsWritten, IsOpen, IsClosed, IsRecord, AreRecords, IsStore, NotOurs}
 use Rattle.odin_outside.specs.Disk.{Telling, IsQuiet}
 use Rattle.odin_journal.specs.Faults.{HasNoRecord, BreaksBehind}
 use Rattle.odin_journal.specs.Moments.{IsQuietAt, IsTooLong}

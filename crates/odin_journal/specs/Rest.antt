@@ -3,8 +3,8 @@ use Rattle.std.specs.Prelude.{◌≡◌, ◌+◌, ◌≤◌, ◌<◌, ◌⊎◌,
 use Rattle.odin_outside.specs.Disk.{Telling, IsQuiet, LeavesOnly, Written}
 use Rattle.odin_bytes.specs.Fields.{bytes_field}
 use Rattle.odin_journal.specs.Moments.{Untouched}
-use Rattle.meaning_store.specs.Front.{file_limit, front_size, new_store}
-use Rattle.meaning_store.specs.Images.{gate_after, with_record, IsNew, Stored, IsStore}
+use Rattle.meaning_records.specs.Front.{file_limit, front_size, new_store}
+use Rattle.meaning_records.specs.Images.{gate_after, with_record, IsNew, Stored, IsStore}
 use Rattle.odin_journal.specs.declared.journal.Journal.{Journal}
 use Rattle.odin_journal.specs.declared.fault.JournalFault.{JournalFault}
 use Rattle.odin_journal.specs.declared.fault.JournalFault.TheVariants.{Disk}

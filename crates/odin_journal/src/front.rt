@@ -1,7 +1,7 @@
 // The making of a new store file.
 ghost use Rattle.std.specs.Prelude.{◌≡◌, ◌≤◌, ◌<◌, IsTrue, IfOk, IfErr, OnOk};
 ghost use Rattle.odin_outside.specs.Causes.{HasCause};
-ghost use Rattle.meaning_store.specs.Front.{front_size};
+ghost use Rattle.meaning_records.specs.Front.{front_size};
 ghost use Rattle.odin_journal.specs.Faults.{JournalFaultIsCounted, IsReadFault};
 ghost use Rattle.odin_journal.specs.Moments.{HasStoreSize, IsLookAt, StaysQuiet, Works};
 ghost use Rattle.odin_journal.specs.Reads.{IsLong};

@@ -1,9 +1,11 @@
-//! The journal: records on a disk, each of which is there whole or not at all, whenever the disk crashes.
+//! The journal: records on a disk, each of which is there whole or not at all, whenever the disk crashes; and what a crash may leave of changes that are
+//! kept one after another, whatever a change is.
 #![tactic(auto)]
 
 mod fault;
 mod front;
 mod journal;
+pub mod laws;
 mod reads;
 mod writes;
 

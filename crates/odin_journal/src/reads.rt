@@ -1,7 +1,7 @@
 // The reading of an existing store file.
 ghost use Rattle.std.specs.Prelude.{◌≡◌, ◌+◌, ◌*◌, ◌<◌, ◌≤◌, length, IfOk, IfErr, IfSome, IfNone};
-ghost use Rattle.meaning_store.specs.Front.{front_size, start_of};
-ghost use Rattle.meaning_store.specs.Images.{gate_after};
+ghost use Rattle.meaning_records.specs.Front.{front_size, start_of};
+ghost use Rattle.meaning_records.specs.Images.{gate_after};
 ghost use Rattle.odin_journal.specs.Faults.{JournalFaultIsCounted, IsReadFault, nowhere};
 ghost use Rattle.odin_journal.specs.Marks.{HasMarks};
 ghost use Rattle.odin_journal.specs.Moments.{IsOnlyRead, IsPlace, IsRangeOf, Works};

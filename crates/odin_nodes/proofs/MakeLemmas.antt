@@ -14,9 +14,9 @@ use Rattle.object_values.specs.declared.expressions.Expression.{Expression}
 use Rattle.meaning_graph.specs.Graphs.{Text, Graph, type_named, kind_of}
 use Rattle.meaning_graph.specs.Suffixes.{source_type}
 use Rattle.meaning_graph.specs.Paths.{Path, chosen_path}
-use Rattle.meaning_nodes.specs.Nodes.{node_with_step, extended, picked_type, type_after, reached_type, onward}
-use Rattle.meaning_nodes.specs.NodeOf.{NodeAnswer, is_node, unknown_param, unknown_type, no_path, node_or_no_path, toward, step_on, steps_on, unknown_in, of_known, node_of}
-use Rattle.meaning_nodes.proofs.Lemmas.{type_after-append, type_after_none, path_type}
+use Rattle.meaning_tasks.specs.Nodes.{node_with_step, extended, picked_type, type_after, reached_type, onward}
+use Rattle.meaning_tasks.specs.NodeOf.{NodeAnswer, is_node, unknown_param, unknown_type, no_path, node_or_no_path, toward, step_on, steps_on, unknown_in, of_known, node_of}
+use Rattle.meaning_tasks.proofs.Lemmas.{type_after-append, type_after_none, path_type}
 use Rattle.odin_nodes.specs.declared.fault.NodeFault.{NodeFault}
 use Rattle.odin_nodes.specs.declared.fault.NodeFault.TheVariants.{UnknownParam, UnknownType, NoPath, Memory}
 use Rattle.odin_nodes.specs.Refusals.{IsFaultOfAnswer}

@@ -13,7 +13,7 @@ use Rattle.object_values.specs.contracts.messages.MessagePartialEq.TheImpl.{ghos
 use Rattle.object_values.specs.Exact.{message_exact}
 use Rattle.indexmap.specs.IndexSet.{insert_key}
 use Rattle.odin_nodes.specs.Inheriting.{AreFew}
-use Rattle.meaning_nodes.specs.Values.{rank, is_message, messages_once, inherit}
+use Rattle.meaning_tasks.specs.Values.{rank, is_message, messages_once, inherit}
 
 -- ---- filters
 

@@ -15,8 +15,8 @@ use Rattle.object_values.specs.declared.graph.Decl.{Decl}
 use Rattle.object_values.specs.declared.graph.Decl.TheVariants.{ObjectType, Suffix, Param, Maker}
 use Rattle.meaning_texts.specs.Limits.{element_bound}
 use Rattle.meaning_graph.specs.Graphs.{Text, Graph, type_named, as_type, kind_of}
-use Rattle.meaning_nodes.specs.Nodes.{is_number, element_number, picked_type}
-use Rattle.meaning_nodes.specs.Values.{body, pick}
+use Rattle.meaning_tasks.specs.Nodes.{is_number, element_number, picked_type}
+use Rattle.meaning_tasks.specs.Values.{body, pick}
 
 -- ---- declared types
 

@@ -14,7 +14,7 @@ use Rattle.meaning_graph.specs.Suffixes.{source_type, suffix_type, suffix_of}
 use Rattle.meaning_graph.specs.Types.{is_a}
 use Rattle.meaning_graph.specs.Paths.{made_of}
 use Rattle.meaning_graph.proofs.Lemmas.{named_below}
-use Rattle.meaning_nodes.specs.Nodes.{element_number, picked_type, step_type, type_after, reached_type, type_of}
+use Rattle.meaning_tasks.specs.Nodes.{element_number, picked_type, step_type, type_after, reached_type, type_of}
 use Rattle.odin_nodes.specs.Words.{has_words_of_class}
 
 -- ---- types that are there

@@ -4,7 +4,7 @@ use Rattle.std.specs.List.{IsDistinct}
 use Rattle.object_values.specs.declared.messages.Message.{Message}
 use Rattle.object_values.specs.contracts.messages.MessagePartialEq.TheImpl.{ghosts as message_eq}
 use Rattle.meaning_texts.specs.Limits.{message_limit}
-use Rattle.meaning_nodes.specs.Values.{inherit}
+use Rattle.meaning_tasks.specs.Values.{inherit}
 
 -- what is inherited behind the new messages is what is inherited behind the old ones with these
 abbrev pub Inherits : List Message → List Message → List Message → Type 0

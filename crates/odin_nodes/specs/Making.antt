@@ -3,8 +3,8 @@ use Rattle.std.specs.Prelude.{◌≡◌, List, [], Some}
 use Rattle.object_values.specs.declared.nodes.ParamValue.{ParamValue}
 use Rattle.object_values.specs.declared.nodes.Node.{Node}
 use Rattle.meaning_graph.specs.Graphs.{Text, Graph}
-use Rattle.meaning_nodes.specs.Nodes.{reached_type}
-use Rattle.meaning_nodes.specs.NodeOf.{NodeAnswer, is_node}
+use Rattle.meaning_tasks.specs.Nodes.{reached_type}
+use Rattle.meaning_tasks.specs.NodeOf.{NodeAnswer, is_node}
 use Rattle.odin_nodes.specs.declared.making.Reached.{Reached}
 
 -- a source with parameters and no steps

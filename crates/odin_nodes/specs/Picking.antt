@@ -1,5 +1,5 @@
 -- What is picked, as it is told.
-use Rattle.meaning_nodes.specs.Values.{Picked, element, body}
+use Rattle.meaning_tasks.specs.Values.{Picked, element, body}
 use Rattle.odin_nodes.specs.declared.picking.Picked.{Picked as PickedPart}
 use Rattle.odin_nodes.specs.declared.picking.Picked.TheVariants.{Element, Body}
 

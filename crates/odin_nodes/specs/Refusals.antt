@@ -2,7 +2,7 @@
 use Rattle.std.specs.Prelude.{◌≡◌, ⊤}
 use Rattle.object_values.specs.declared.expressions.Expression.{Expression}
 use Rattle.meaning_graph.specs.Graphs.{Graph}
-use Rattle.meaning_nodes.specs.NodeOf.{NodeAnswer, unknown_param, unknown_type, no_path, node_of}
+use Rattle.meaning_tasks.specs.NodeOf.{NodeAnswer, unknown_param, unknown_type, no_path, node_of}
 use Rattle.odin_nodes.specs.declared.fault.NodeFault.{NodeFault}
 use Rattle.odin_nodes.specs.declared.fault.NodeFault.TheVariants.{UnknownParam, UnknownType, NoPath, Memory}
 

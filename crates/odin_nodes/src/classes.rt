@@ -1,7 +1,7 @@
 // Whether the words of a node are of their classes.
 ghost use Rattle.std.specs.Prelude.{◌≡◌, ◌&&◌};
 ghost use Rattle.std.specs.List.{list_all};
-ghost use Rattle.meaning_nodes.specs.Nodes.{has_key_of_class};
+ghost use Rattle.meaning_tasks.specs.Nodes.{has_key_of_class};
 ghost use Rattle.odin_nodes.specs.Words.{has_words_of_class};
 
 use object_values::{Node, Step};

@@ -1,7 +1,7 @@
 // The messages that an object inherits: those of its needs in order and then its own, each once, up
 // to a limit.
 ghost use Rattle.std.specs.Prelude.{◌≡◌, [], ◌∷◌, flat_map, IfOk, OnOk};
-ghost use Rattle.meaning_nodes.specs.Values.{inherit};
+ghost use Rattle.meaning_tasks.specs.Values.{inherit};
 ghost use Rattle.odin_nodes.specs.Inheriting.{Inherits};
 
 use indexmap::IndexSet;

@@ -1,7 +1,7 @@
 // Nodes that are led on along chosen paths.
 ghost use Rattle.std.specs.Prelude.{◌≡◌, ◌++◌, ◌∷◌, [], IfOk};
 ghost use Rattle.object_values.specs.declared.nodes.Step.TheVariants.{Maker};
-ghost use Rattle.meaning_nodes.specs.Nodes.{onward_named};
+ghost use Rattle.meaning_tasks.specs.Nodes.{onward_named};
 ghost use Rattle.path_planner.specs.Ends.{plans_of};
 
 use crate::making::put_makers;

@@ -3,8 +3,8 @@ ghost use Rattle.std.specs.Prelude.{◌≡◌, ◌^◌, ◌<◌, ◌++◌, Some,
 ghost use Rattle.std.specs.Option.{option_copied};
 ghost use Rattle.meaning_texts.specs.Expressions.{IsCanonical};
 ghost use Rattle.meaning_graph.specs.Graphs.{types};
-ghost use Rattle.meaning_nodes.specs.Nodes.{Fits, onward};
-ghost use Rattle.meaning_nodes.specs.NodeOf.{is_node, node_of, node_or_no_path, step_on, steps_on, unknown_in};
+ghost use Rattle.meaning_tasks.specs.Nodes.{Fits, onward};
+ghost use Rattle.meaning_tasks.specs.NodeOf.{is_node, node_of, node_or_no_path, step_on, steps_on, unknown_in};
 ghost use Rattle.path_planner.specs.Ends.{plans_of};
 ghost use Rattle.odin_nodes.specs.Making.{bare_source, IsTyped, IsMade};
 ghost use Rattle.odin_nodes.specs.Refusals.{IsFaultOfAnswer, IsNodeRefusal};

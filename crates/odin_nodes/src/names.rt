@@ -3,7 +3,7 @@ ghost use Rattle.std.specs.Prelude.{◌≡◌, ◌++◌, IfOk, OnOk, map, slice_
 ghost use Rattle.std.specs.List.{flat_map};
 ghost use Rattle.meaning_texts.specs.Expressions.{param_spelling, step_spelling};
 ghost use Rattle.meaning_graph.specs.Graphs.{makers};
-ghost use Rattle.meaning_nodes.specs.Labels.{label_of as label_of_node, node_text as text_of_node, made_name, written_step};
+ghost use Rattle.meaning_tasks.specs.Labels.{label_of as label_of_node, node_text as text_of_node, made_name, written_step};
 
 use object_values::{Bytes, Copied, Memory, Node, ParamValue, Step};
 use std::alloc::Global;

@@ -1,8 +1,8 @@
 // What a key picks from a value.
 ghost use Rattle.std.specs.Prelude.{◌≡◌, ◌-◌, ◌<◌, bytes_eq, find, slice_get, option_map, option_and_then};
 ghost use Rattle.std.specs.Option.{option_copied};
-ghost use Rattle.meaning_nodes.specs.Nodes.{element_number};
-ghost use Rattle.meaning_nodes.specs.Values.{pick};
+ghost use Rattle.meaning_tasks.specs.Nodes.{element_number};
+ghost use Rattle.meaning_tasks.specs.Values.{pick};
 ghost use Rattle.odin_nodes.specs.Picking.{picked_view};
 
 use crate::picks::element_number;

@@ -3,7 +3,7 @@ ghost use Rattle.std.specs.Prelude.{◌≡◌, ◌&&◌, Some, nat_lt, ◌<◌, 
 ghost use Rattle.std.specs.Option.{option_copied};
 ghost use Rattle.meaning_texts.specs.Limits.{element_bound};
 ghost use Rattle.meaning_graph.specs.Graphs.{as_type, kind_of};
-ghost use Rattle.meaning_nodes.specs.Nodes.{element_number, picked_type};
+ghost use Rattle.meaning_tasks.specs.Nodes.{element_number, picked_type};
 ghost use Rattle.odin_nodes.specs.Kinds.{declared_kind};
 
 use object_values::{Decl, ELEMENT_BOUND, Kind, PartDecl, TypeDecl};

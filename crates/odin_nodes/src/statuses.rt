@@ -1,6 +1,6 @@
 // The order of statuses.
 ghost use Rattle.std.specs.Prelude.{◌≡◌};
-ghost use Rattle.meaning_nodes.specs.Values.{worst};
+ghost use Rattle.meaning_tasks.specs.Values.{worst};
 
 use object_values::Status;
 

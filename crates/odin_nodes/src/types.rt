@@ -2,7 +2,7 @@
 ghost use Rattle.std.specs.Prelude.{◌≡◌, ◌<◌, Some, length, map, slice_get, option_and_then};
 ghost use Rattle.meaning_graph.specs.Graphs.{types, makers};
 ghost use Rattle.meaning_graph.specs.Paths.{made_of};
-ghost use Rattle.meaning_nodes.specs.Nodes.{step_type, type_after, reached_type, type_of as type_of_node};
+ghost use Rattle.meaning_tasks.specs.Nodes.{step_type, type_after, reached_type, type_of as type_of_node};
 ghost use Rattle.path_planner.specs.Ends.{plans_of};
 
 use crate::classes::has_words_of_class;

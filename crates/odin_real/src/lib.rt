@@ -1,8 +1,41 @@
-//! The real objects of the outside: standard input and output, and what stands in the place of a standard stream that is closed.
+//! The real objects of the outside: standard streams, the files of the current folder as a tree, one file as a disk, and child programs, each in a folder
+//! of its own. What the system tells of them is what these give.
 #![tactic(auto)]
 
 mod closed;
+mod contents;
+mod disk;
+mod fault;
+mod homes;
+mod host;
+mod lock;
+mod named;
+mod opening;
+mod program;
+mod raw;
+mod raw_files;
+mod read;
+mod slots;
+mod standing;
 mod streams;
+mod sweep;
+mod system;
+mod system_files;
+mod tools;
+mod tree;
+mod waits;
 
 pub use closed::ClosedStreams;
+pub use disk::FileDisk;
+pub use fault::SystemFault;
+pub use host::HostSystem;
+pub use lock::LockFault;
+pub use named::NamedFile;
+pub use raw::RawFile;
+pub use raw_files::RawFiles;
+pub use read::{read_file, read_front, read_output, read_raw, text_of};
 pub use streams::{InputSource, OutputSink};
+pub use system::System;
+pub use system_files::Outputs;
+pub use tools::ChildTools;
+pub use tree::FolderTree;

@@ -2,8 +2,8 @@
 use Rattle.std.proofs.Common.{◌≡◌, ◌≢◌, ℕ, ◌≤◌, List, [], ◌∷◌, ◌++◌, length, None, Result, IfErr, IsErrAnd, inl, inr, ap, ap₂, sym, refl, ◌∙◌, subst, append-nil, arith}
 use Rattle.std.proofs.lemmas.Result.{err_from_is_err_and}
 use Rattle.odin_outside.specs.Spawned.{Spawned}
-use Rattle.disk_trails.specs.Trails.{after_changes}
-use Rattle.object_sources.specs.Texts.{Text, Texts}
+use Rattle.odin_journal.specs.Trails.{after_changes}
+use Rattle.object_values.specs.Texts.{Text, Texts}
 use Rattle.meaning_texts.proofs.Lemmas.{same_some}
 use Rattle.meaning_graph.specs.Graphs.{Graph}
 use Rattle.meaning_commands.specs.declared.commands.Command.{Command}
@@ -26,8 +26,8 @@ use Rattle.kept_derive.specs.Runs.{At, at, keeps_of}
 use Rattle.odin_answers.specs.Answers.{IsReply, MayHaveBegun}
 use Rattle.odin_answers.specs.Replied.{HasReplied, HasStopped}
 use Rattle.odin_answers.proofs.Lemmas.{keeps_behind, reply_begun, reply_later, begun_later}
-use Rattle.source_edits.specs.Edits.{SaysReply, TreeTold, TreeStays, TreeIsAsked, Takes}
-use Rattle.source_edits.specs.Changes.{edit_changes}
+use Rattle.odin_answers.specs.Edits.{SaysReply, TreeTold, TreeStays, TreeIsAsked, Takes}
+use Rattle.odin_answers.specs.Changes.{edit_changes}
 use Rattle.odin_shell.specs.declared.stop.Stop.TheVariants as stop
 use Rattle.odin_shell.specs.Endings.{stop_of}
 use Rattle.odin_shell.specs.Filed.{DiskMeaning, HasNoRoomForLast, IsSafe}

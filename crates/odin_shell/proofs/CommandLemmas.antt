@@ -2,10 +2,10 @@
 use Rattle.std.proofs.Common.{◌≡◌, ◌≤◌, List, [], ◌∷◌, ℕ, Bool, true, false, cond, length, Option, Some, None, Result, Ok, Err, IfOk, OnOk, IfErr, sym, refl, subst, arith}
 use Rattle.std.specs.Str.{bytes_eq}
 use Rattle.std.specs.FinMap.{get}
-use Rattle.object_sources.specs.Texts.{Text}
+use Rattle.object_values.specs.Texts.{Text}
 use Rattle.odin_outside.specs.Spawned.{Spawned}
 use Rattle.meaning_graph.specs.Graphs.{Graph}
-use Rattle.meaning_run.specs.Objects.{SinkTold}
+use Rattle.meaning_commands.specs.Objects.{SinkTold}
 use Rattle.meaning_commands.specs.declared.commands.Command.{Command}
 use Rattle.meaning_commands.specs.declared.commands.Command.TheVariants.{Put, Take, Remove, Ask}
 use Rattle.odin_journal.specs.Faults.{JournalFaultIsCounted}
@@ -16,8 +16,8 @@ use Rattle.odin_store.specs.Held.{puts, drops}
 use Rattle.odin_store.specs.OnDisk.{StoreAfter}
 use Rattle.odin_store.specs.Edited.{HasFailed}
 use Rattle.odin_engine.specs.Engaged.{Engaged, GraphStays}
-use Rattle.source_edits.specs.Edits.{SaysReply, TreeTold, TreeIsAsked, Puts, Takes, Removes}
-use Rattle.source_edits.specs.Changes.{source_changes, EditsSource, IsPutText, MayBeTaken, HasFailedToPut}
+use Rattle.odin_answers.specs.Edits.{SaysReply, TreeTold, TreeIsAsked, Puts, Takes, Removes}
+use Rattle.odin_answers.specs.Changes.{source_changes, EditsSource, IsPutText, MayBeTaken, HasFailedToPut}
 use Rattle.odin_shell.specs.Filed.{DiskMeaning}
 use Rattle.odin_shell.specs.Machine.{SessionState, Told, CommandMayLeave}
 use Rattle.odin_shell.specs.Served.{telling, IsOnward, Answers, HaltsCommand, AnswersAsk, HaltsAsk}

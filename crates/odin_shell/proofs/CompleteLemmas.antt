@@ -6,13 +6,13 @@ use Rattle.odin_outside.specs.Files.{IsGiven, given_of}
 use Rattle.meaning_graph.specs.Graphs.{Text, Graph}
 use Rattle.meaning_records.specs.Laws.{StandsForOne}
 use Rattle.meaning_records.specs.Stands.{StandsNot}
-use Rattle.meaning_run.specs.Endings.{input_limit}
-use Rattle.meaning_run.specs.Objects.{SinkTold}
+use Rattle.meaning_commands.specs.Endings.{input_limit}
+use Rattle.meaning_commands.specs.Objects.{SinkTold}
 use Rattle.odin_journal.specs.declared.fault.JournalFault.{JournalFault}
 use Rattle.odin_journal.specs.declared.fault.JournalFault.TheVariants as fault
 use Rattle.odin_words.specs.Asked.{Serve, Load}
 use Rattle.odin_words.specs.Laws.{AskedIsOne}
-use Rattle.source_edits.specs.Edits.{TreeTold}
+use Rattle.odin_answers.specs.Edits.{TreeTold}
 use Rattle.odin_shell.specs.declared.ending.Ending.{Ending}
 use Rattle.odin_shell.specs.declared.ending.Ending.TheVariants.{Whole, CutShort, BadGraph, Disk, Memory, Output, Input, NotOurs, Full, Usage, TooLong, Loaded, Room}
 use Rattle.odin_shell.specs.declared.graph.Opened.TheVariants.{Ready, Refused}

@@ -3,15 +3,15 @@ use Rattle.std.proofs.Common.{◌≡◌, ◌≢◌, ℕ, ◌+◌, ◌≤◌, min
 use Rattle.std.specs.Prelude.{Option, Some, None, if◌then◌else◌}
 use Rattle.std.specs.Str.{bytes_eq}
 use Rattle.std.proofs.lemmas.Slice.Eq.{bytes_eq-Decides}
-use Rattle.object_sources.specs.Texts.{Texts}
+use Rattle.object_values.specs.Texts.{Texts}
 use Rattle.odin_outside.specs.Causes.{last_count}
 use Rattle.odin_outside.specs.Spawned.{Spawned}
 use Rattle.meaning_graph.specs.Graphs.{Text, Graph}
 use Rattle.meaning_derive.specs.Derive.{Sources as Given, Outcomes}
 use Rattle.meaning_records.specs.Tables.{kept_outcome}
-use Rattle.meaning_answers.specs.Answers.{Refused, Answer, Plan as Steps}
-use Rattle.meaning_run.specs.Items.{Item}
-use Rattle.meaning_run.specs.Machines.{Transcript}
+use Rattle.meaning_derive.specs.Answers.{Refused, Answer, Plan as Steps}
+use Rattle.meaning_commands.specs.Items.{Item}
+use Rattle.meaning_commands.specs.Machines.{Transcript}
 use Rattle.derive_walk.specs.Outcomes.{after}
 use Rattle.odin_answers.proofs.Lemmas.{refusal_counted, reply_later}
 use Rattle.meaning_commands.specs.declared.commands.Command.{Command}
@@ -20,7 +20,7 @@ use Rattle.meaning_commands.specs.declared.replies.Reply.{Reply}
 use Rattle.meaning_commands.specs.declared.replies.Reply.TheVariants as reply
 use Rattle.meaning_commands.specs.Replies.{reply_text}
 use Rattle.odin_shell.specs.Language.{commands}
-use Rattle.source_edits.specs.Edits.{TreeTold, Inserts, TakesFile, RemovesText, source_lines}
+use Rattle.odin_answers.specs.Edits.{TreeTold, Inserts, TakesFile, RemovesText, source_lines}
 use Rattle.odin_shell.specs.Machine.{SessionState, Step}
 use Rattle.odin_shell.specs.Laws.{count_of_reply, FitsCounts}
 

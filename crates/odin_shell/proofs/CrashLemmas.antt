@@ -7,14 +7,14 @@ use Rattle.object_values.specs.declared.calls.Call.{Call}
 use Rattle.object_values.specs.declared.calls.Outcome.{Outcome}
 use Rattle.odin_outside.specs.Disk.{IsQuiet}
 use Rattle.odin_outside.specs.Spawned.{Table, Spawned}
-use Rattle.disk_trails.specs.Trails.{after_changes, IsPrefix}
+use Rattle.odin_journal.specs.Trails.{after_changes, IsPrefix}
 use Rattle.meaning_graph.specs.Graphs.{Text, Graph}
 use Rattle.meaning_derive.specs.Given.{table_outcomes}
 use Rattle.meaning_texts.specs.Lists.{IsIn}
 use Rattle.meaning_records.specs.Tables.{Calls, kept_outcome}
-use Rattle.meaning_answers.specs.Answers as answers
-use Rattle.meaning_run.specs.Items.{Item, IsItem}
-use Rattle.meaning_run.specs.Machines.{AnswersItem, Transcript}
+use Rattle.meaning_derive.specs.Answers as answers
+use Rattle.meaning_commands.specs.Items.{Item, IsItem}
+use Rattle.meaning_commands.specs.Machines.{AnswersItem, Transcript}
 use Rattle.meaning_commands.specs.declared.commands.Command.{Command}
 use Rattle.meaning_commands.specs.declared.commands.Command.TheVariants.{Put, Take, Remove, Ask, Plan, Sources, Kept, Quit, Nothing, Bad, BadName}
 use Rattle.meaning_commands.specs.declared.replies.Reply.{Reply}

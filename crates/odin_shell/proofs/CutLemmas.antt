@@ -4,8 +4,8 @@ use Rattle.std.proofs.Math.Nat.{le_refl}
 use Rattle.std.proofs.lemmas.List.{append_assoc, take_more, take_all}
 use Rattle.std.specs.Option.{is_some}
 use Rattle.meaning_texts.specs.Lines.{HasNoLf, without_cr}
-use Rattle.meaning_run.specs.Items.{IsItem, last_item}
-use Rattle.meaning_run.specs.Streams.{Extends, CompletesItem}
+use Rattle.meaning_commands.specs.Items.{IsItem, last_item}
+use Rattle.meaning_commands.specs.Streams.{Extends, CompletesItem}
 use Rattle.meaning_commands.specs.declared.commands.Command.{Command}
 use Rattle.meaning_commands.specs.Commands.{Spells, bytes_after_line}
 use Rattle.odin_shell.specs.declared.pending.Pending.{Pending}

@@ -2,9 +2,9 @@
 use Rattle.std.proofs.Common.{◌≡◌, ◌≢◌, ℕ, ◌≤◌, List, None, inl, inr, ap, sym, refl, ◌∙◌, subst}
 use Rattle.std.specs.FinMap.{insert}
 use Rattle.std.proofs.lemmas.Bool.{le-leb}
-use Rattle.object_sources.specs.Texts.{Text, Texts}
+use Rattle.object_values.specs.Texts.{Text, Texts}
 use Rattle.meaning_texts.specs.Limits.{body_limit}
-use Rattle.meaning_run.specs.Items.{SameBody}
+use Rattle.meaning_commands.specs.Items.{SameBody}
 use Rattle.meaning_commands.specs.declared.commands.Command.TheVariants.{Put, Take, Remove}
 use Rattle.meaning_commands.specs.declared.replies.Reply.{Reply}
 use Rattle.odin_journal.specs.Faults.{CountAfterJournalFault}
@@ -14,8 +14,8 @@ use Rattle.odin_journal.specs.declared.fault.JournalFault.TheVariants as fault
 use Rattle.odin_store.specs.Held.{Change, puts, drops}
 use Rattle.odin_store.specs.Edited.{HasFailed}
 use Rattle.odin_engine.specs.Engaged.{Engaged, GraphStays}
-use Rattle.source_edits.specs.Edits.{SaysReply, TreeTold, TreeIsAsked, Puts, Takes, Removes}
-use Rattle.source_edits.specs.Changes.{edit_changes, EditsSource, IsPutText, MayBeTaken, HasFailedToPut}
+use Rattle.odin_answers.specs.Edits.{SaysReply, TreeTold, TreeIsAsked, Puts, Takes, Removes}
+use Rattle.odin_answers.specs.Changes.{edit_changes, EditsSource, IsPutText, MayBeTaken, HasFailedToPut}
 use Rattle.odin_shell.specs.Filed.{DiskMeaning}
 use Rattle.odin_shell.specs.Language.{commands}
 use Rattle.odin_shell.specs.Endings.{stop_of}

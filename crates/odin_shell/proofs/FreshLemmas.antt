@@ -8,7 +8,7 @@ use Rattle.object_values.specs.declared.calls.Call.{Call}
 use Rattle.object_values.specs.declared.calls.Outcome.{Outcome}
 use Rattle.object_values.specs.contracts.calls.CallPartialEq.TheImpl.{ghosts as call_eq}
 use Rattle.object_values.specs.Exact.{call_exact}
-use Rattle.object_sources.specs.Texts.{Texts}
+use Rattle.object_values.specs.Texts.{Texts}
 use Rattle.odin_outside.specs.Spawned.{Table}
 use Rattle.meaning_texts.specs.Lists.{IsIn}
 use Rattle.meaning_texts.proofs.Lemmas.{in_left, in_right}
@@ -16,15 +16,15 @@ use Rattle.meaning_graph.specs.Graphs.{Text, Graph}
 use Rattle.meaning_derive.specs.Derive.{derived}
 use Rattle.meaning_derive.specs.Given.{table_outcomes}
 use Rattle.meaning_records.specs.Tables.{Calls, kept_outcome}
-use Rattle.meaning_run.specs.Items.{Item}
-use Rattle.meaning_run.specs.Machines.{Transcript}
+use Rattle.meaning_commands.specs.Items.{Item}
+use Rattle.meaning_commands.specs.Machines.{Transcript}
 use Rattle.meaning_commands.specs.declared.commands.Command.{Command}
 use Rattle.meaning_commands.specs.declared.commands.Command.TheVariants.{Put, Take, Remove, Ask, Plan, Sources, Kept, Quit, Nothing, Bad, BadName}
 use Rattle.meaning_commands.specs.declared.replies.Reply.{Reply}
 use Rattle.meaning_commands.specs.declared.replies.Reply.TheVariants as reply
 use Rattle.meaning_commands.specs.Replies.{reply_text}
-use Rattle.meaning_answers.specs.Answers.{Answer}
-use Rattle.meaning_answers.proofs.Lemmas.{not_refused, one_node}
+use Rattle.meaning_derive.specs.Answers.{Answer}
+use Rattle.meaning_derive.proofs.Lemmas.{not_refused, one_node}
 use Rattle.plain_derive.specs.Given.{calls_of, HaveCome}
 use Rattle.plain_derive.specs.Flights.{Course, AreRun, at_rest, off_course, for_spawn}
 use Rattle.plain_derive.proofs.Lemmas.{given_are_calls, given_are_new, given_are_true, flown_given, flown_came}
@@ -32,7 +32,7 @@ use Rattle.odin_store.specs.Held.{Held}
 use Rattle.kept_derive.specs.Runs.{course_of}
 use Rattle.odin_answers.specs.Answers.{Agrees, AreAll, IsLeftAlone, IsDerived, IsReply}
 use Rattle.odin_answers.specs.Laws.{IsTrueFor}
-use Rattle.source_edits.specs.Edits.{SaysReply}
+use Rattle.odin_answers.specs.Edits.{SaysReply}
 use Rattle.odin_shell.specs.Language.{commands}
 use Rattle.odin_shell.specs.Machine.{SessionState, Step, AsksForObject}
 use Rattle.odin_shell.specs.Fresh.{fresh_of, GrowsBySome, GrowsByAll, FreshAnswer, FreshStep}

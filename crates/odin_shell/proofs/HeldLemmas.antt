@@ -3,10 +3,10 @@ use Rattle.std.proofs.Common.{◌≡◌, ℕ, ◌+◌, ◌-◌, ◌<◌, min, tr
 use Rattle.std.proofs.lemmas.List.{append_assoc, length-append, length-take, take_all}
 use Rattle.std.proofs.lemmas.Bool.{cases_lt}
 use Rattle.std.specs.Option.{is_some}
-use Rattle.meaning_run.specs.Items as items
-use Rattle.meaning_run.specs.Streams as streams
-use Rattle.meaning_run.specs.Items.{last_item}
-use Rattle.meaning_run.proofs.Lemmas.{take-append}
+use Rattle.meaning_commands.specs.Items as items
+use Rattle.meaning_commands.specs.Streams as streams
+use Rattle.meaning_commands.specs.Items.{last_item}
+use Rattle.meaning_commands.proofs.Lemmas.{take-append}
 use Rattle.meaning_texts.specs.Lines.{HasNoLf, without_cr}
 use Rattle.meaning_texts.proofs.Lemmas.{HasNo-append}
 use Rattle.meaning_commands.specs.declared.commands.Command.{Command}

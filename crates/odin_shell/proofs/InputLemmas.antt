@@ -3,10 +3,10 @@ use Rattle.std.proofs.Common.{◌≡◌, ℕ, ◌+◌, ◌<◌, ◌≤◌, List,
 use Rattle.odin_outside.specs.Causes.{IsCounted}
 use Rattle.odin_outside.specs.Told.{prepended}
 use Rattle.meaning_graph.specs.Graphs.{Text, Graph}
-use Rattle.meaning_run.specs.Endings.{EndsWhole, EndsCutShort, EndsStopped, IsSpent, input_limit, piece_limit}
-use Rattle.meaning_run.specs.Machines.{Machine}
-use Rattle.meaning_run.specs.Streams as streams
-use Rattle.meaning_run.proofs.Lemmas.{Reading-more, HasRead-none, HasRead-finish, HasRead-piece, HasRead-unread, HasRead-limit}
+use Rattle.meaning_commands.specs.Endings.{EndsWhole, EndsCutShort, EndsStopped, IsSpent, input_limit, piece_limit}
+use Rattle.meaning_commands.specs.Machines.{Machine}
+use Rattle.meaning_commands.specs.Streams as streams
+use Rattle.meaning_commands.proofs.Lemmas.{Reading-more, HasRead-none, HasRead-finish, HasRead-piece, HasRead-unread, HasRead-limit}
 use Rattle.meaning_commands.specs.declared.commands.Command.{Command}
 use Rattle.odin_store.specs.Held.{Held}
 use Rattle.odin_engine.specs.Engaged.{Engaged}

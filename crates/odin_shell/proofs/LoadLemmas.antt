@@ -1,6 +1,6 @@
 -- What every end of a load session says.
 use Rattle.std.proofs.Common.{◌≡◌, ℕ, ◌≤◌, List, Option, ap, sym, refl, subst}
-use Rattle.meaning_run.specs.Objects.{SinkTold}
+use Rattle.meaning_commands.specs.Objects.{SinkTold}
 use Rattle.odin_journal.specs.declared.fault.JournalFault.{JournalFault}
 use Rattle.odin_journal.specs.declared.fault.JournalFault.TheVariants as fault
 use Rattle.odin_words.specs.Asked.{IsWork, serves, loads, AskedWork, Load}

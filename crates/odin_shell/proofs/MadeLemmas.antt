@@ -4,11 +4,11 @@ use Rattle.std.specs.Prelude.{Option, Some, None}
 use Rattle.std.specs.FinMap.{get}
 use Rattle.std.specs.Str.{bytes_eq}
 use Rattle.odin_outside.specs.Spawned.{Table, Spawned}
-use Rattle.disk_trails.specs.Trails.{after_changes}
+use Rattle.odin_journal.specs.Trails.{after_changes}
 use Rattle.meaning_graph.specs.Graphs.{Text, Graph}
 use Rattle.meaning_records.specs.Tables.{Calls}
-use Rattle.meaning_run.specs.Items.{Item}
-use Rattle.meaning_run.specs.Machines.{Transcript}
+use Rattle.meaning_commands.specs.Items.{Item}
+use Rattle.meaning_commands.specs.Machines.{Transcript}
 use Rattle.meaning_commands.specs.declared.commands.Command.{Command}
 use Rattle.meaning_commands.specs.declared.commands.Command.TheVariants.{Put, Take, Remove, Ask, Plan, Sources, Kept, Quit, Nothing, Bad, BadName}
 use Rattle.odin_store.specs.Held.{Held, Change, puts, drops, keeps, apply}
@@ -16,7 +16,7 @@ use Rattle.odin_store.specs.Keeping.{store_keeping}
 use Rattle.kept_derive.specs.Runs.{keeps_of}
 use Rattle.odin_answers.specs.Laws.{IsTrueFor}
 use Rattle.odin_answers.proofs.Lemmas.{reply_true, begun_true}
-use Rattle.source_edits.specs.Changes.{source_changes, edit_changes}
+use Rattle.odin_answers.specs.Changes.{source_changes, edit_changes}
 use Rattle.odin_shell.specs.Language.{commands}
 use Rattle.odin_shell.specs.Machine.{SessionState, Applies, Step, MayEdit, CommandMayLeave}
 use Rattle.odin_shell.specs.Laws.{ChangesAreMade}

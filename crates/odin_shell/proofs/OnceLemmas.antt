@@ -10,19 +10,19 @@ use Rattle.object_values.specs.contracts.calls.CallPartialEq.TheImpl.{ghosts as 
 use Rattle.object_values.specs.Exact.{call_exact}
 use Rattle.odin_outside.specs.Disk.{MayLeave as MayBeLeft, IsQuiet}
 use Rattle.odin_outside.specs.Spawned.{Spawned}
-use Rattle.disk_trails.specs.Trails.{after_changes, IsPrefix}
+use Rattle.odin_journal.specs.Trails.{after_changes, IsPrefix}
 use Rattle.meaning_texts.specs.Lists.{IsIn}
 use Rattle.meaning_texts.proofs.Lemmas.{in_either, in_map}
 use Rattle.meaning_calls.specs.Jobs.{job_of}
 use Rattle.meaning_graph.specs.Graphs.{Text, Graph}
 use Rattle.meaning_derive.specs.Derive.{Sources}
 use Rattle.meaning_records.specs.Tables.{Calls, kept_outcome}
-use Rattle.meaning_run.specs.Items.{Item}
-use Rattle.meaning_run.specs.Machines.{Transcript}
+use Rattle.meaning_commands.specs.Items.{Item}
+use Rattle.meaning_commands.specs.Machines.{Transcript}
 use Rattle.meaning_commands.specs.declared.commands.Command.{Command}
 use Rattle.meaning_commands.specs.declared.commands.Command.TheVariants.{Put, Take, Remove, Ask, Plan, Sources as ListSources, Kept, Quit, Nothing, Bad, BadName}
 use Rattle.meaning_commands.specs.declared.replies.Reply.{Reply}
-use Rattle.walk_tables.specs.Calls.{AreOnce}
+use Rattle.derive_walk.specs.Calls.{AreOnce}
 use Rattle.plain_derive.specs.Given.{calls_of}
 use Rattle.plain_derive.specs.GivenLaws.{AreNew}
 use Rattle.plain_derive.specs.Flights.{at_rest, off_course, for_spawn}

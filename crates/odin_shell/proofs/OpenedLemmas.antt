@@ -2,7 +2,7 @@
 use Rattle.std.proofs.Common.{◌≡◌, ap, sym, ◌∙◌, subst, refl, inl, inr}
 use Rattle.std.specs.Prelude.{Option, Some, None}
 use Rattle.meaning_graph.specs.Graphs.{Text, Graph}
-use Rattle.meaning_graph_text.proofs.Lemmas.{one_graph}
+use Rattle.meaning_graph.proofs.Lemmas.{one_graph}
 use Rattle.dg_reader.specs.Files.{IsRead, Refuses}
 use Rattle.dg_reader.proofs.Lemmas.{not_refused, refused_by_one, read_or_refused}
 use Rattle.odin_shell.specs.declared.graph.Opened.{Opened}

@@ -2,7 +2,7 @@
 use Rattle.std.proofs.Common.{◌≡◌, ℕ, ◌+◌, ◌*◌, List, [], ◌++◌, length, Some, None, ap, sym, refl, ◌∙◌, subst}
 use Rattle.odin_outside.specs.Disk.{Telling}
 use Rattle.odin_outside.specs.Spawned.{Spawned}
-use Rattle.disk_trails.specs.Trails.{Trail}
+use Rattle.odin_journal.specs.Trails.{Trail}
 use Rattle.meaning_graph.specs.Graphs.{Text, Graph}
 use Rattle.odin_journal.specs.Moments.{Works}
 use Rattle.meaning_records.specs.Stands.{gate_behind}

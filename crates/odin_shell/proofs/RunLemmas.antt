@@ -11,7 +11,7 @@ use Rattle.odin_shell.specs.declared.graph.Opened.{Opened}
 use Rattle.odin_shell.specs.Endings.{ending_status}
 use Rattle.odin_words.specs.Asked.{AsksFor, Serve}
 use Rattle.odin_shell.specs.Opened.{OpensGraphFile}
-use Rattle.source_edits.specs.Edits.{TreeTold, TreeStays, tree_of}
+use Rattle.odin_answers.specs.Edits.{TreeTold, TreeStays, tree_of}
 use Rattle.odin_shell.specs.Machine.{ToolsStay}
 use Rattle.odin_shell.specs.Objects.{Outside, Meaning}
 use Rattle.odin_shell.specs.Run as run

@@ -2,14 +2,14 @@
 use Rattle.std.proofs.Common.{◌≡◌, ℕ, ◌+◌, ◌≤◌, true, false, List, [], ap, refl, ◌∙◌, subst, arith}
 use Rattle.odin_outside.specs.Spawned.{Spawned}
 use Rattle.meaning_graph.specs.Graphs.{Text, Graph}
-use Rattle.meaning_run.specs.Objects.{SinkTold, took, TookPart}
+use Rattle.meaning_commands.specs.Objects.{SinkTold, took, TookPart}
 use Rattle.meaning_commands.specs.Commands.{ends_run}
 use Rattle.odin_journal.specs.Faults.{CountAfterJournalFault}
 use Rattle.odin_journal.specs.Rest.{IsReady}
 use Rattle.odin_journal.specs.declared.fault.JournalFault.{JournalFault}
 use Rattle.odin_journal.specs.declared.fault.JournalFault.TheVariants as fault
 use Rattle.odin_engine.specs.Engaged.{Engaged}
-use Rattle.source_edits.specs.Edits.{TreeTold}
+use Rattle.odin_answers.specs.Edits.{TreeTold}
 use Rattle.odin_shell.specs.declared.whole.Whole.{Whole}
 use Rattle.odin_shell.specs.declared.stop.Stop.{Stop}
 use Rattle.odin_shell.specs.declared.stop.Stop.TheVariants as stop

@@ -4,14 +4,14 @@ use Rattle.std.proofs.lemmas.List.{take-append-drop, take_all, length-take-le}
 use Rattle.std.proofs.Math.Seq.{take-add}
 use Rattle.odin_outside.specs.Spawned.{Spawned}
 use Rattle.meaning_graph.specs.Graphs.{Text, Graph}
-use Rattle.meaning_run.specs.Objects.{SinkTold}
-use Rattle.source_edits.specs.Edits.{TreeTold}
-use Rattle.meaning_run.specs.Machines.{Machine}
-use Rattle.meaning_run.specs.Endings.{HasRead, EndsStopped}
-use Rattle.meaning_run.specs.Streams as streams
-use Rattle.meaning_run.proofs.Lemmas as stream
-use Rattle.meaning_run.proofs.Lemmas.{rest_is}
-use Rattle.meaning_run.proofs.Lemmas.{Reading-none}
+use Rattle.meaning_commands.specs.Objects.{SinkTold}
+use Rattle.odin_answers.specs.Edits.{TreeTold}
+use Rattle.meaning_commands.specs.Machines.{Machine}
+use Rattle.meaning_commands.specs.Endings.{HasRead, EndsStopped}
+use Rattle.meaning_commands.specs.Streams as streams
+use Rattle.meaning_commands.proofs.Lemmas as stream
+use Rattle.meaning_commands.proofs.Lemmas.{rest_is}
+use Rattle.meaning_commands.proofs.Lemmas.{Reading-none}
 use Rattle.meaning_commands.specs.declared.commands.Command.{Command}
 use Rattle.odin_shell.specs.declared.cutter.Cutter.{Cutter}
 use Rattle.odin_shell.specs.declared.whole.Whole.{Whole}

@@ -5,14 +5,14 @@ use Rattle.meaning_commands.specs.declared.commands.Command.TheVariants as comma
 use Rattle.meaning_commands.specs.declared.replies.Reply.{Reply}
 use Rattle.meaning_commands.specs.declared.replies.Reply.TheVariants as reply
 use Rattle.meaning_commands.specs.Replies.{reply_text}
-use Rattle.meaning_answers.specs.Replies.{plan_of}
-use Rattle.meaning_answers.specs.Answers.{Refused, Plan}
+use Rattle.meaning_derive.specs.Replies.{plan_of}
+use Rattle.meaning_derive.specs.Answers.{Refused, Plan}
 use Rattle.odin_answers.specs.declared.plan.Planned.{Planned}
 use Rattle.odin_answers.specs.declared.plan.Planned.TheVariants as planned
 use Rattle.odin_answers.specs.Planned.{HasSteps, IsPlanned}
 use Rattle.odin_store.specs.Held.{Held}
 use Rattle.odin_engine.specs.Engaged.{Engaged}
-use Rattle.source_edits.specs.Edits.{SaysReply, source_lines}
+use Rattle.odin_answers.specs.Edits.{SaysReply, source_lines}
 use Rattle.odin_shell.specs.Filed.{DiskMeaning}
 use Rattle.odin_shell.specs.Machine.{Told}
 use Rattle.odin_shell.specs.Served.{Answers}

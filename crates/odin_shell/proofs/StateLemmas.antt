@@ -4,7 +4,7 @@ use Rattle.std.proofs.Math.Nat.{le_refl}
 use Rattle.odin_outside.specs.Causes.{Rose}
 use Rattle.odin_outside.specs.Disk.{Telling, IsQuiet}
 use Rattle.odin_outside.specs.Spawned.{Spawned}
-use Rattle.disk_trails.specs.Trails.{after_changes, Trail, LeavesPrefix}
+use Rattle.odin_journal.specs.Trails.{after_changes, Trail, LeavesPrefix}
 use Rattle.meaning_graph.specs.Graphs.{Text, Graph}
 use Rattle.meaning_records.specs.declared.items.Item.{Item}
 use Rattle.meaning_records.specs.Stands.{gate_behind}
@@ -18,7 +18,7 @@ use Rattle.odin_store.specs.Going.{IsBatchOf, HasBatches, Performs, HasPartialBa
 use Rattle.odin_store.specs.Written.{written_in, WorksFor, with_records, record_keeping}
 use Rattle.odin_store.proofs.Lemmas.{nothing_behind, batches_on, goes_none, stops_left, stops_more, gate-append, records-append, works_after}
 use Rattle.odin_engine.specs.Engaged.{Engaged, GraphStays}
-use Rattle.source_edits.specs.Edits.{TreeTold, TreeStays}
+use Rattle.odin_answers.specs.Edits.{TreeTold, TreeStays}
 use Rattle.odin_shell.specs.Filed.{DiskMeaning, OpensFile, WorksOver, HasWritten, StopsWriting, HoldsAll, LacksLast, HasNoRoomForLast, IsSafe}
 use Rattle.odin_shell.specs.Machine.{SessionState, Told, Applies, SessionInvariant, StoreFailed, StateAtExit, ToolsStay}
 

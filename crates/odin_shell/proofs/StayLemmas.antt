@@ -2,23 +2,23 @@
 use Rattle.std.proofs.Common.{◌≡◌, ℕ, ◌≤◌, inl, inr, List, length, ap, sym, ◌∙◌, subst, arith}
 use Rattle.std.specs.Prelude.{⊤, Option, Some, None}
 use Rattle.std.specs.FinMap.{get}
-use Rattle.object_sources.specs.Texts.{Text, Texts}
+use Rattle.object_values.specs.Texts.{Text, Texts}
 use Rattle.meaning_texts.specs.Classes.{IsName}
 use Rattle.meaning_texts.specs.Limits.{body_limit}
 use Rattle.meaning_graph.specs.Graphs.{Graph}
 use Rattle.meaning_derive.specs.Given.{AreSources}
-use Rattle.meaning_run.specs.Items.{Item, IsItem}
+use Rattle.meaning_commands.specs.Items.{Item, IsItem}
 use Rattle.meaning_commands.specs.declared.commands.Command.{Command}
 use Rattle.meaning_commands.specs.declared.commands.Command.TheVariants.{Put, Take, Remove, Ask, Plan, Sources, Kept, Quit, Nothing, Bad, BadName}
 use Rattle.meaning_commands.specs.declared.replies.Reply.{Reply}
 use Rattle.meaning_commands.specs.Commands as spelling
 use Rattle.meaning_commands.specs.Commands.{bytes_after_line}
-use Rattle.disk_trails.specs.Trails.{after_changes}
+use Rattle.odin_journal.specs.Trails.{after_changes}
 use Rattle.odin_store.specs.Held.{Held, Change, drops, apply}
 use Rattle.odin_store.specs.Keeping.{store_keeping}
 use Rattle.odin_store.proofs.Lemmas.{put_stays, drop_stays}
 use Rattle.odin_shell.specs.Language.{commands}
-use Rattle.source_edits.specs.Edits.{Inserts, TakesFile, RemovesText}
+use Rattle.odin_answers.specs.Edits.{Inserts, TakesFile, RemovesText}
 use Rattle.odin_shell.specs.Machine.{SessionState, Step, IsPutChange, IsTakeChange, MayEdit, CommandMayLeave}
 use Rattle.odin_shell.proofs.MadeLemmas.{kept_sources}
 

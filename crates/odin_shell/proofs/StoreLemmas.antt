@@ -5,8 +5,8 @@ use Rattle.std.specs.Prelude.{⊤}
 use Rattle.odin_outside.specs.Causes.{IsCounted}
 use Rattle.odin_outside.specs.Spawned.{Spawned}
 use Rattle.meaning_graph.specs.Graphs.{Text, Graph}
-use Rattle.meaning_run.specs.Objects.{SinkTold}
-use Rattle.meaning_run.proofs.Lemmas.{not_inside, at_word, is_inside, is_long}
+use Rattle.meaning_commands.specs.Objects.{SinkTold}
+use Rattle.meaning_commands.proofs.Lemmas.{not_inside, at_word, is_inside, is_long}
 use Rattle.odin_journal.specs.Faults.{CountAfterJournalFault}
 use Rattle.odin_journal.specs.declared.fault.JournalFault.{JournalFault}
 use Rattle.odin_journal.specs.declared.fault.JournalFault.TheVariants as fault
@@ -18,7 +18,7 @@ use Rattle.odin_shell.specs.Opened.{not_ours_line, full_line}
 use Rattle.odin_shell.specs.Filed.{DiskMeaning}
 use Rattle.odin_shell.specs.Language.{commands}
 use Rattle.odin_shell.specs.Held.{Keeps}
-use Rattle.source_edits.specs.Edits.{TreeTold, TreeStays, tree_of}
+use Rattle.odin_answers.specs.Edits.{TreeTold, TreeStays, tree_of}
 use Rattle.odin_shell.specs.Machine.{at_first, Told, ToolsStay, machine}
 use Rattle.odin_shell.specs.Objects.{Outside, Meaning}
 use Rattle.odin_shell.specs.Run as run

@@ -3,16 +3,16 @@
 use Rattle.std.proofs.Common.{◌≡◌, ℕ, ◌<◌, ◌+◌, ◌≤◌, min, List, [], ◌∷◌, ◌++◌, ◌⊎◌, ap, sym, ◌∙◌, subst, arith, inl, inr}
 use Rattle.std.specs.Prelude.{Option, Some, None}
 use Rattle.std.specs.FinMap.{get}
-use Rattle.object_sources.specs.Texts.{Texts}
+use Rattle.object_values.specs.Texts.{Texts}
 use Rattle.odin_outside.specs.Causes.{last_count, once_more, IsCounted}
 use Rattle.odin_outside.specs.Files.{Files, IsGiven}
 use Rattle.odin_outside.specs.Spawned.{Table}
 use Rattle.meaning_texts.specs.Lines.{without_cr}
 use Rattle.meaning_graph.specs.Graphs.{Text, Graph}
 use Rattle.meaning_records.specs.Tables.{Calls, kept_outcome}
-use Rattle.meaning_answers.proofs.Lemmas.{one_plan}
-use Rattle.meaning_run.specs.Items.{Item, IsItem}
-use Rattle.meaning_run.specs.Machines.{Transcript, AnswersItem}
+use Rattle.meaning_derive.proofs.Lemmas.{one_plan}
+use Rattle.meaning_commands.specs.Items.{Item, IsItem}
+use Rattle.meaning_commands.specs.Machines.{Transcript, AnswersItem}
 use Rattle.odin_answers.specs.Answers.{IsReply, HasAnswer}
 use Rattle.odin_answers.specs.Laws.{IsTrueFor, KeepSame}
 use Rattle.odin_answers.proofs.Lemmas.{refusal_counted, same_answers}
@@ -24,7 +24,7 @@ use Rattle.meaning_commands.specs.Replies.{reply_text}
 use Rattle.meaning_commands.proofs.Lemmas.{one_command}
 use Rattle.odin_store.specs.Held.{Held}
 use Rattle.odin_shell.specs.Language.{commands}
-use Rattle.source_edits.specs.Edits.{SaysReply, TreeTold, TreeStays, Inserts, Puts, TakesFile, Takes, IsTaken, TreeIsAsked, RemovesText, Removes, source_lines}
+use Rattle.odin_answers.specs.Edits.{SaysReply, TreeTold, TreeStays, Inserts, Puts, TakesFile, Takes, IsTaken, TreeIsAsked, RemovesText, Removes, source_lines}
 use Rattle.odin_shell.specs.Machine.{SessionState, Step, EditsByCommand, EditsByFile, AsksForObject}
 use Rattle.odin_shell.specs.Laws.{NoFault, CountsNone, BothCountKept, AreAlike, AreSideBySide, AreSame, IsToldByTable}
 use Rattle.odin_shell.proofs.CountLemmas.{counted, counts}

@@ -3,8 +3,8 @@ use Rattle.std.specs.Prelude.{◌≡◌, ◌⊎◌, ℕ, ◌<◌, List, length, 
 use Rattle.odin_outside.specs.Disk.{IsQuiet}
 use Rattle.odin_outside.specs.Files.{Files, given_of}
 use Rattle.meaning_graph.specs.Graphs.{Text, Graph}
-use Rattle.meaning_run.specs.Items.{EndsInside}
-use Rattle.meaning_run.specs.Endings.{input_limit}
+use Rattle.meaning_commands.specs.Items.{EndsInside}
+use Rattle.meaning_commands.specs.Endings.{input_limit}
 use Rattle.odin_store.specs.Held.{Held, StandsFor}
 use Rattle.odin_words.specs.Asked.{AsksFor, Serve}
 use Rattle.odin_shell.specs.Language.{commands}

@@ -4,16 +4,16 @@ use Rattle.object_values.specs.declared.nodes.Node.{Node}
 use Rattle.object_values.specs.declared.calls.Call.{Call}
 use Rattle.odin_outside.specs.Disk.{MayLeave as MayBeLeft, IsQuiet}
 use Rattle.odin_outside.specs.Spawned.{Table}
-use Rattle.disk_trails.specs.Trails.{after_changes}
+use Rattle.odin_journal.specs.Trails.{after_changes}
 use Rattle.meaning_graph.specs.Graphs.{Text, Graph}
 use Rattle.meaning_derive.specs.Derive.{Outcomes, derived}
 use Rattle.meaning_derive.specs.Calls.{IsCallFrom}
 use Rattle.meaning_derive.specs.Given.{table_outcomes}
 use Rattle.meaning_derive.specs.Laws.{HasMore}
 use Rattle.meaning_records.specs.Tables.{Calls, kept_outcome}
-use Rattle.meaning_answers.specs.Answers as answers
-use Rattle.meaning_run.specs.Items.{Item, IsItem}
-use Rattle.meaning_run.specs.Machines.{Transcript}
+use Rattle.meaning_derive.specs.Answers as answers
+use Rattle.meaning_commands.specs.Items.{Item, IsItem}
+use Rattle.meaning_commands.specs.Machines.{Transcript}
 use Rattle.meaning_commands.specs.declared.commands.Command.{Command}
 use Rattle.meaning_commands.specs.declared.commands.Command.TheVariants.{Ask}
 use Rattle.plain_derive.specs.Given.{AreGiven, HaveCome}

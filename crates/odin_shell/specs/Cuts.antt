@@ -1,7 +1,7 @@
 -- How an input is cut into commands, as its bytes come.
 use Rattle.std.specs.Prelude.{◌≡◌, ℕ, ◌<◌, ◌≤◌, List, [], length, take, Option, Some, None}
-use Rattle.meaning_run.specs.Items.{IsItem, IsCutShort, last_item}
-use Rattle.meaning_run.specs.Streams.{Extends, CompletesItem}
+use Rattle.meaning_commands.specs.Items.{IsItem, IsCutShort, last_item}
+use Rattle.meaning_commands.specs.Streams.{Extends, CompletesItem}
 use Rattle.odin_shell.specs.declared.cutter.Cutter.{Cutter}
 use Rattle.odin_shell.specs.declared.whole.Whole.{Whole}
 use Rattle.odin_shell.specs.declared.cutter.Front.{Front}

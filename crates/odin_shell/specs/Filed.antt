@@ -2,9 +2,9 @@
 use Rattle.std.specs.Prelude.{◌≡◌, ◌⊎◌, ℕ, ◌+◌, ◌*◌, ◌≤◌, List, [], ◌∷◌, ◌++◌, length, Some}
 use Rattle.odin_outside.specs.Causes.{Rose}
 use Rattle.odin_outside.specs.Disk.{Telling, IsQuiet}
-use Rattle.disk_trails.specs.Trails.{Trail, LeavesPrefix}
+use Rattle.odin_journal.specs.Trails.{Trail, LeavesPrefix}
 use Rattle.meaning_graph.specs.Graphs.{Text}
-use Rattle.meaning_store.specs.Images.{Stored, IsStore}
+use Rattle.meaning_records.specs.Images.{Stored, IsStore}
 use Rattle.odin_journal.specs.Moments.{Works}
 use Rattle.meaning_records.specs.declared.items.Item.{Item}
 use Rattle.meaning_records.specs.Stands.{gate_behind}

@@ -6,7 +6,7 @@ use Rattle.std.specs.Prelude.{◌≡◌, ℕ, List, [], ◌++◌, length, Some}
 use Rattle.object_values.specs.declared.nodes.Node.{Node}
 use Rattle.object_values.specs.declared.views.View.{View}
 use Rattle.object_values.specs.declared.calls.Call.{Call}
-use Rattle.object_sources.specs.Texts.{Texts}
+use Rattle.object_values.specs.Texts.{Texts}
 use Rattle.odin_outside.specs.Spawned.{Table}
 use Rattle.meaning_texts.specs.Lists.{IsIn}
 use Rattle.meaning_graph.specs.Graphs.{Text, Graph}
@@ -14,19 +14,19 @@ use Rattle.meaning_derive.specs.Derive.{derived}
 use Rattle.meaning_derive.specs.Chains.{IsCircular, IsDeep}
 use Rattle.meaning_derive.specs.Calls.{IsCallFrom}
 use Rattle.meaning_derive.specs.Given.{table_outcomes}
-use Rattle.meaning_run.specs.Items.{Item}
-use Rattle.meaning_run.specs.Machines.{Transcript}
+use Rattle.meaning_commands.specs.Items.{Item}
+use Rattle.meaning_commands.specs.Machines.{Transcript}
 use Rattle.meaning_commands.specs.declared.commands.Command.{Command}
 use Rattle.meaning_commands.specs.declared.commands.Command.TheVariants.{Put, Take, Remove, Ask, Plan, Sources, Kept, Quit, Nothing, Bad, BadName}
 use Rattle.meaning_commands.specs.declared.replies.Reply.{Reply}
 use Rattle.meaning_commands.specs.declared.replies.Reply.TheVariants as reply
 use Rattle.meaning_commands.specs.Replies.{reply_text}
-use Rattle.meaning_answers.specs.Replies.{shown, refused_circular, refused_deep}
-use Rattle.meaning_answers.specs.Answers as answers
-use Rattle.walk_tables.specs.Calls.{AreOnce}
+use Rattle.meaning_derive.specs.Replies.{shown, refused_circular, refused_deep}
+use Rattle.meaning_derive.specs.Answers as answers
+use Rattle.derive_walk.specs.Calls.{AreOnce}
 use Rattle.plain_derive.specs.Given.{calls_of}
 use Rattle.odin_answers.specs.Laws.{IsTrueFor}
-use Rattle.source_edits.specs.Edits.{SaysReply, TreeTold, TreeIsAsked, Puts, Takes, Removes, source_lines}
+use Rattle.odin_answers.specs.Edits.{SaysReply, TreeTold, TreeIsAsked, Puts, Takes, Removes, source_lines}
 use Rattle.odin_shell.specs.Language.{commands}
 use Rattle.odin_shell.specs.Machine.{SessionState, Step}
 

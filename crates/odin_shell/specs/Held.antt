@@ -1,7 +1,7 @@
 -- What is held of an item that is not whole yet.
 use Rattle.std.specs.Prelude.{◌≡◌, ℕ, ◌+◌, List, [], length, take, Option, Some, None}
 use Rattle.meaning_texts.specs.Lines.{HasNoLf}
-use Rattle.meaning_run.specs.Items.{IsPartialCommand, SameBody}
+use Rattle.meaning_commands.specs.Items.{IsPartialCommand, SameBody}
 use Rattle.meaning_commands.specs.declared.commands.Command.{Command}
 use Rattle.meaning_commands.specs.Commands.{bytes_after_line}
 use Rattle.odin_shell.specs.declared.pending.Pending.{Pending}

@@ -1,7 +1,7 @@
 -- The commands of a session, as the language of its input.
 use Rattle.std.specs.Prelude.{ℕ, Bool, false, cond, nat_le}
 use Rattle.meaning_texts.specs.Limits.{body_limit}
-use Rattle.meaning_run.specs.Items.{Language}
+use Rattle.meaning_commands.specs.Items.{Language}
 use Rattle.meaning_commands.specs.declared.commands.Command.{Command}
 use Rattle.meaning_commands.specs.declared.commands.Command.TheVariants.{Put}
 use Rattle.meaning_commands.specs.Commands.{Spells, bytes_after_line, ends_run}

@@ -1,15 +1,15 @@
 -- What holds of every input and of every session.
 use Rattle.std.specs.Prelude.{◌≡◌, ℕ, ◌+◌, ◌<◌, ◌≤◌, ◌⊎◌, min, List, [], ◌∷◌, ◌++◌, length, bytes_eq, if◌then◌else◌, Option, Some}
-use Rattle.object_sources.specs.Texts.{Texts}
+use Rattle.object_values.specs.Texts.{Texts}
 use Rattle.odin_outside.specs.Causes.{last_count}
 use Rattle.odin_outside.specs.Files.{Files}
 use Rattle.odin_outside.specs.Spawned.{Table}
-use Rattle.disk_trails.specs.Trails.{after_changes}
+use Rattle.odin_journal.specs.Trails.{after_changes}
 use Rattle.meaning_graph.specs.Graphs.{Text, Graph}
 use Rattle.meaning_derive.specs.Given.{AreSources, table_outcomes}
-use Rattle.meaning_run.specs.Items.{Item, IsItem, OneCut}
-use Rattle.meaning_run.specs.Machines.{AnswersItem, Transcript}
-use Rattle.meaning_answers.specs.Laws.{BothShowChains}
+use Rattle.meaning_commands.specs.Items.{Item, IsItem, OneCut}
+use Rattle.meaning_commands.specs.Machines.{AnswersItem, Transcript}
+use Rattle.meaning_derive.specs.AnswerLaws.{BothShowChains}
 use Rattle.meaning_commands.specs.declared.commands.Command.{Command}
 use Rattle.meaning_commands.specs.declared.commands.Command.TheVariants.{Ask}
 use Rattle.meaning_commands.specs.declared.replies.Reply.{Reply}

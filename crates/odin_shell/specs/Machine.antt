@@ -3,13 +3,13 @@ use Rattle.std.specs.Prelude.{◌≡◌, ◌≢◌, ◌⊎◌, ℕ, ◌≤◌, L
 use Rattle.odin_outside.specs.Causes.{Rose}
 use Rattle.odin_outside.specs.Disk.{IsQuiet}
 use Rattle.odin_outside.specs.Spawned.{Spawned}
-use Rattle.disk_trails.specs.Trails.{Trail, after_changes}
-use Rattle.object_sources.specs.Texts.{Texts}
+use Rattle.odin_journal.specs.Trails.{Trail, after_changes}
+use Rattle.object_values.specs.Texts.{Texts}
 use Rattle.meaning_graph.specs.Graphs.{Text, Graph}
 use Rattle.meaning_records.specs.Tables.{Calls}
-use Rattle.meaning_run.specs.Objects.{SinkTold}
-use Rattle.meaning_run.specs.Machines.{Machine, Halt, before_reply, within_reply, behind_reply}
-use Rattle.meaning_answers.specs.Answers as answers
+use Rattle.meaning_commands.specs.Objects.{SinkTold}
+use Rattle.meaning_commands.specs.Machines.{Machine, Halt, before_reply, within_reply, behind_reply}
+use Rattle.meaning_derive.specs.Answers as answers
 use Rattle.odin_journal.specs.Rest.{IsReady}
 use Rattle.odin_store.specs.Held.{Held, Change, puts, drops, IsDue}
 use Rattle.odin_outside.specs.Files.{IsGiven}
@@ -27,8 +27,8 @@ use Rattle.meaning_commands.specs.Replies.{reply_text}
 use Rattle.odin_shell.specs.declared.stop.Stop.{Stop}
 use Rattle.odin_shell.specs.declared.stop.Stop.TheVariants as stop
 use Rattle.odin_shell.specs.Filed.{DiskMeaning, HasWritten, HoldsAll, LacksLast, HasNoRoomForLast, IsSafe}
-use Rattle.source_edits.specs.Edits.{SaysReply, TreeTold, TreeStays, TreeIsAsked, Puts, Takes, Removes, source_lines}
-use Rattle.source_edits.specs.Changes.{edit_changes}
+use Rattle.odin_answers.specs.Edits.{SaysReply, TreeTold, TreeStays, TreeIsAsked, Puts, Takes, Removes, source_lines}
+use Rattle.odin_answers.specs.Changes.{edit_changes}
 
 -- What is held: the sources, and the calls that are kept; the changes since the start that made it so; and what is told of the tools and
 -- of the tree.

@@ -2,8 +2,8 @@
 use Rattle.std.specs.Prelude.{ℕ, List, Option, None}
 use Rattle.odin_outside.specs.Files.{Files}
 use Rattle.odin_outside.specs.Spawned.{Spawned}
-use Rattle.meaning_run.specs.Objects.{SinkTold}
-use Rattle.source_edits.specs.Edits.{tree_of}
+use Rattle.meaning_commands.specs.Objects.{SinkTold}
+use Rattle.odin_answers.specs.Edits.{tree_of}
 use Rattle.odin_shell.specs.Filed.{DiskMeaning}
 use Rattle.odin_shell.specs.Machine.{Told}
 

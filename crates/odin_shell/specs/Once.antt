@@ -6,8 +6,8 @@ use Rattle.meaning_calls.specs.Jobs.{job_of}
 use Rattle.meaning_graph.specs.Graphs.{Text, Graph}
 use Rattle.meaning_derive.specs.Derive.{Sources}
 use Rattle.meaning_records.specs.Tables.{Calls, kept_outcome}
-use Rattle.meaning_run.specs.Items.{Item, IsItem}
-use Rattle.meaning_run.specs.Machines.{AnswersItem, Transcript}
+use Rattle.meaning_commands.specs.Items.{Item, IsItem}
+use Rattle.meaning_commands.specs.Machines.{AnswersItem, Transcript}
 use Rattle.meaning_commands.specs.declared.commands.Command.{Command}
 use Rattle.meaning_commands.specs.declared.replies.Reply.{Reply}
 use Rattle.odin_store.specs.Held.{Held, StandsFor}

@@ -11,9 +11,9 @@ use Rattle.odin_journal.specs.Moments.{Works}
 use Rattle.odin_journal.specs.declared.fault.JournalFault.{JournalFault}
 use Rattle.odin_journal.specs.declared.fault.JournalFault.TheVariants as fault
 use Rattle.meaning_graph.specs.Graphs.{Text, Graph}
-use Rattle.meaning_run.specs.Objects.{SinkTold, took, TookPart}
-use Rattle.meaning_run.specs.Items.{EndsInside, SaysEnd}
-use Rattle.meaning_run.specs.Endings.{input_limit, HasRead, EndsWhole, EndsCutShort, EndsUnread, EndsAtLimit, EndsBeforeReply, EndsWithinReply, EndsAtWord}
+use Rattle.meaning_commands.specs.Objects.{SinkTold, took, TookPart}
+use Rattle.meaning_commands.specs.Items.{EndsInside, SaysEnd}
+use Rattle.meaning_commands.specs.Endings.{input_limit, HasRead, EndsWhole, EndsCutShort, EndsUnread, EndsAtLimit, EndsBeforeReply, EndsWithinReply, EndsAtWord}
 use Rattle.odin_store.specs.Held.{Held}
 use Rattle.odin_store.specs.Opening as store
 use Rattle.odin_shell.specs.declared.ending.Ending.{Ending}
@@ -27,7 +27,7 @@ use Rattle.odin_shell.specs.Loading.{load_lines}
 use Rattle.odin_shell.specs.Opened.{ReadsAsGraph, GraphIsRefused, not_ours_line, full_line}
 use Rattle.odin_shell.specs.Language.{commands}
 use Rattle.odin_shell.specs.Filed.{DiskMeaning, StartsFrom}
-use Rattle.source_edits.specs.Edits.{TreeTold, TreeIsAsked, tree_of}
+use Rattle.odin_answers.specs.Edits.{TreeTold, TreeIsAsked, tree_of}
 use Rattle.odin_shell.specs.Machine.{at_first, Told, machine}
 use Rattle.odin_shell.specs.Objects.{SourceTold, source_of, sink_of, Outside, Meaning}
 

@@ -3,14 +3,14 @@ use Rattle.std.specs.Prelude.{◌≡◌, ◌+◌, ◌≤◌, ◌^◌, ℕ, List,
 use Rattle.odin_outside.specs.Causes.{IsCounted}
 use Rattle.odin_outside.specs.Spawned.{Spawned}
 use Rattle.meaning_graph.specs.Graphs.{Text, Graph}
-use Rattle.meaning_run.specs.Items.{SameBody}
-use Rattle.meaning_run.specs.Objects.{SinkTold}
+use Rattle.meaning_commands.specs.Items.{SameBody}
+use Rattle.meaning_commands.specs.Objects.{SinkTold}
 use Rattle.meaning_commands.specs.declared.commands.Command.{Command}
 use Rattle.meaning_commands.specs.declared.commands.Command.TheVariants.{Ask}
 use Rattle.odin_journal.specs.Rest.{IsReady}
 use Rattle.odin_journal.specs.declared.fault.JournalFault.{JournalFault}
 use Rattle.odin_engine.specs.Engaged.{Engaged}
-use Rattle.source_edits.specs.Edits.{TreeTold}
+use Rattle.odin_answers.specs.Edits.{TreeTold}
 use Rattle.odin_shell.specs.declared.stop.Stop.{Stop}
 use Rattle.odin_shell.specs.declared.stop.Stop.TheVariants as stop
 use Rattle.odin_shell.specs.Endings.{stop_of}

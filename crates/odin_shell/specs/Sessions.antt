@@ -3,8 +3,8 @@ use Rattle.std.specs.Prelude.{◌≡◌, ℕ, false, List, [], Option}
 use Rattle.meaning_commands.specs.Commands.{ends_run}
 use Rattle.odin_outside.specs.Spawned.{Spawned}
 use Rattle.meaning_graph.specs.Graphs.{Text, Graph}
-use Rattle.meaning_run.specs.Machines as machines
-use Rattle.meaning_run.specs.Streams as streams
+use Rattle.meaning_commands.specs.Machines as machines
+use Rattle.meaning_commands.specs.Streams as streams
 use Rattle.odin_store.specs.Held.{Held}
 use Rattle.odin_engine.specs.Engaged.{Engaged}
 use Rattle.odin_shell.specs.declared.whole.Whole.{Whole}

@@ -2,8 +2,8 @@
 ghost use Rattle.std.specs.Prelude.{◌≡◌};
 ghost use Rattle.odin_shell.specs.Language as language;
 
+use odin_answers::TEXT_LIMIT;
 use odin_commands::Command;
-use source_edits::TEXT_LIMIT;
 
 /// Whether the bytes behind its line are kept, and not passed over.
 pub(crate) fn keeps_body(command: &Command) -> bool

@@ -1,7 +1,7 @@
 // The input, cut into commands as its bytes come.
 ghost use Rattle.std.specs.Prelude.{◌≡◌, ◌<◌, ◌∷◌, [], None, Some, length, OnOk, IfOk};
 ghost use Rattle.meaning_texts.specs.Lines.{HasNoLf};
-ghost use Rattle.meaning_run.specs.Streams.{Extends};
+ghost use Rattle.meaning_commands.specs.Streams.{Extends};
 ghost use Rattle.odin_shell.specs.Language.{commands};
 ghost use Rattle.odin_shell.specs.Held.{Keeps};
 ghost use Rattle.odin_shell.specs.Cuts.{CutterTakes, Cuts, IsLastOfInput};

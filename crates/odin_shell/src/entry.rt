@@ -4,7 +4,7 @@ ghost use Rattle.dg_reader.specs.Files.{IsRead};
 ghost use Rattle.odin_engine.specs.Engaged.{IsLimit};
 ghost use Rattle.odin_shell.specs.Filed.{disk_meaning};
 ghost use Rattle.odin_shell.specs.Objects.{sink_of, outside, meaning};
-ghost use Rattle.source_edits.specs.Edits.{TreeStays, tree_of};
+ghost use Rattle.odin_answers.specs.Edits.{TreeStays, tree_of};
 ghost use Rattle.odin_shell.specs.Machine.{ToolsStay};
 ghost use Rattle.odin_shell.specs.Run.{Closes, ClosesFor, LastLine, StoreEnds, Ended, RunEnds};
 

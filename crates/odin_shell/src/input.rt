@@ -2,7 +2,7 @@
 ghost use Rattle.std.specs.Prelude.{◌≡◌, ◌<◌, ◌≤◌, length, vec_len, take, IfOk, OnErr};
 ghost use Rattle.odin_outside.specs.Causes.{HasCause};
 ghost use Rattle.odin_outside.specs.Told.{prepended};
-ghost use Rattle.meaning_run.specs.Endings.{IsSpent, piece_limit};
+ghost use Rattle.meaning_commands.specs.Endings.{IsSpent, piece_limit};
 ghost use Rattle.odin_shell.specs.Objects.{source_of, told_of};
 ghost use Rattle.odin_shell.specs.Filed.{disk_meaning};
 ghost use Rattle.odin_shell.specs.Begun.{MayBeginSession, SessionServes};

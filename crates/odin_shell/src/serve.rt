@@ -1,9 +1,9 @@
 // One command: its change, and its reply.
 ghost use Rattle.std.specs.Prelude.{◌≡◌, [], IfOk, OnOk, IfErr};
-ghost use Rattle.meaning_answers.specs.Answers as answers;
-ghost use Rattle.meaning_run.specs.Objects.{SinkTold};
+ghost use Rattle.meaning_derive.specs.Answers as answers;
+ghost use Rattle.meaning_commands.specs.Objects.{SinkTold};
 ghost use Rattle.odin_journal.specs.Faults.{JournalFaultIsCounted};
-ghost use Rattle.source_edits.specs.Edits.{SaysReply, tree_of};
+ghost use Rattle.odin_answers.specs.Edits.{SaysReply, tree_of};
 ghost use Rattle.odin_shell.specs.Filed.{disk_meaning};
 ghost use Rattle.odin_shell.specs.Objects.{told_of};
 ghost use Rattle.odin_shell.specs.Served.{telling, MayServe, Answers, HaltsCommand, AnswersAsk, HaltsAsk, CountsStop, IsOnward};
@@ -13,11 +13,10 @@ use crate::stop::Stop;
 use crate::whole::Whole;
 use crate::write::write_whole;
 use object_values::{Bytes, Memory};
-use odin_answers::{Planned, answer_ask, answer_plan};
+use odin_answers::{Planned, answer_ask, answer_plan, list, put, refuse_name, remove, take};
 use odin_commands::{Command, Reply, ends_run, text_of};
 use odin_engine::{Engine, StoreFault};
 use odin_outside::{Disk, Sink, Spawner, Tree};
-use source_edits::{list, put, refuse_name, remove, take};
 use std::alloc::Global;
 
 /// Serves a command: its change, and then its reply, which is taken whole.

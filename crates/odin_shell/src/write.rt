@@ -1,6 +1,6 @@
 // A whole text into the sink.
 ghost use Rattle.std.specs.Prelude.{◌≡◌, OnOk, OnErr};
-ghost use Rattle.meaning_run.specs.Objects.{took, TookPart};
+ghost use Rattle.meaning_commands.specs.Objects.{took, TookPart};
 ghost use Rattle.odin_shell.specs.Objects.{sink_of};
 
 use odin_outside::{Failed, Sink};

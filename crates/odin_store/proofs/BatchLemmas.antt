@@ -7,7 +7,7 @@ use Rattle.object_values.specs.declared.views.Value.{Value}
 use Rattle.object_values.specs.declared.views.Value.TheVariants.{Simple}
 use Rattle.object_values.specs.declared.calls.Call.{Call}
 use Rattle.object_values.specs.declared.calls.Outcome.{Outcome}
-use Rattle.object_sources.specs.Texts.{Text, Texts, no_texts}
+use Rattle.object_values.specs.Texts.{Text, Texts, no_texts}
 use Rattle.meaning_texts.specs.Classes.{IsName}
 use Rattle.meaning_records.specs.declared.items.StoredCall.{StoredCall}
 use Rattle.meaning_records.specs.declared.items.StoredOutcome.{StoredOutcome}

@@ -2,9 +2,9 @@
 use Rattle.std.proofs.Common.{◌≡◌, ◌≢◌, inl, inr, ℕ, Option, Bool, true, false, List, [], ◌∷◌, ◌++◌, refl, sym, ap, subst, ◌∙◌, append_assoc, arith}
 use Rattle.odin_outside.specs.Disk.{Telling}
 use Rattle.object_values.specs.declared.views.Value.{Value}
-use Rattle.disk_trails.specs.WorkLemmas.{no_work}
-use Rattle.disk_trails.specs.Trails as trails
-use Rattle.disk_trails.specs.TrailLemmas.{after-append, keeps_grows, stops_within, untouched_grows, grows_on, grows_stops, grows_left, stops_longer, trail_leaves}
+use Rattle.odin_journal.specs.WorkLemmas.{no_work}
+use Rattle.odin_journal.specs.Trails as trails
+use Rattle.odin_journal.specs.TrailLemmas.{after-append, keeps_grows, stops_within, untouched_grows, grows_on, grows_stops, grows_left, stops_longer, trail_leaves}
 use Rattle.odin_journal.specs.declared.fault.JournalFault.{JournalFault}
 use Rattle.odin_journal.specs.declared.fault.JournalFault.TheVariants as fault
 use Rattle.meaning_records.specs.declared.items.Item.{Item}
@@ -13,7 +13,7 @@ use Rattle.meaning_records.specs.Stands.{gate_behind}
 use Rattle.odin_journal.specs.declared.journal.Journal.{Journal}
 use Rattle.meaning_records.specs.States.{State, nothing, Reads, ReadsAll, spell_batch}
 use Rattle.odin_store.specs.declared.store.Store.{Store}
-use Rattle.object_sources.specs.Texts.{Text}
+use Rattle.object_values.specs.Texts.{Text}
 use Rattle.odin_store.specs.Held.{Change, apply}
 use Rattle.odin_store.specs.OnDisk.{held_in, state_in, IsOn, LeavesChange, AddsBatch, IsChangeFault, IsSame, BeginsOnce, IsOneOf}
 use Rattle.odin_store.specs.Changes.{EditsWhere}
@@ -23,7 +23,7 @@ use Rattle.odin_store.specs.Written.{WorksFor, with_records, record_keeping, Lea
 use Rattle.odin_store.proofs.RecordTrails.{stops_record, first_leaves, rests_leave}
 use Rattle.odin_store.specs.Edited.{HasEdited, HasFailed}
 use Rattle.odin_store.proofs.WrittenLemmas.{gate-append, records-append, works_for_one, works_on}
-use Rattle.meaning_store.specs.ImageLemmas.{one_end}
+use Rattle.meaning_records.specs.ImageLemmas.{one_end}
 use Rattle.odin_journal.specs.Rest.{AtRest}
 use Rattle.odin_store.proofs.KeepingLemmas.{kept_on, stops_in, same_on, same_held, same_state, same_rests, left_durably}
 

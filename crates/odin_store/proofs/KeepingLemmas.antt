@@ -2,9 +2,9 @@
 use Rattle.std.proofs.Common.{◌≡◌, ◌⊎◌, inl, inr, List, [], ◌∷◌, ◌++◌, ℕ, Option, Some, refl, sym, ap, subst, ◌∙◌, arith}
 use Rattle.odin_outside.specs.Disk.{Telling, MayLeave, LeavesOnly, IsQuiet}
 use Rattle.odin_outside.specs.Moments.{weaker}
-use Rattle.disk_trails.specs.Trails as trails
-use Rattle.disk_trails.specs.TrailLemmas.{opened_trail}
-use Rattle.object_sources.specs.Texts.{Text, Texts}
+use Rattle.odin_journal.specs.Trails as trails
+use Rattle.odin_journal.specs.TrailLemmas.{opened_trail}
+use Rattle.object_values.specs.Texts.{Text, Texts}
 use Rattle.odin_journal.specs.declared.journal.Journal.{Journal}
 use Rattle.odin_journal.specs.Rest.{AtRest}
 use Rattle.meaning_records.specs.declared.items.Item.{Item}

@@ -4,12 +4,12 @@ use Rattle.std.proofs.Common.{◌≡◌, ◌≢◌, ◌⊎◌, inl, inr, ℕ, �
 use Rattle.std.proofs.lemmas.List.Elements.{All-nil, All-push}
 use Rattle.odin_outside.specs.Disk.{Telling, IsQuiet}
 use Rattle.odin_outside.specs.Moments.{then, weaker}
-use Rattle.object_sources.specs.Texts.{Text}
-use Rattle.meaning_store.specs.Front.{start_of, new_store}
-use Rattle.meaning_store.specs.Images.{gate_after, IsNew, AreRecords, IsStore, Stored}
-use Rattle.meaning_store.specs.ImageLemmas.{new_or_written, no_records, one_stored}
+use Rattle.object_values.specs.Texts.{Text}
+use Rattle.meaning_records.specs.Front.{start_of, new_store}
+use Rattle.meaning_records.specs.Images.{gate_after, IsNew, AreRecords, IsStore, Stored}
+use Rattle.meaning_records.specs.ImageLemmas.{new_or_written, no_records, one_stored}
 use Rattle.odin_journal.specs.Faults as journal
-use Rattle.disk_trails.specs.WorkLemmas.{more_work, add_work}
+use Rattle.odin_journal.specs.WorkLemmas.{more_work, add_work}
 use Rattle.odin_journal.specs.Moments.{Untouched, Works}
 use Rattle.odin_journal.specs.Rest.{AtRest, BeforeOrAfter, OpensJournal, OnlyReads, KeepsRecords, AddsRecord, KeepsOrAdds}
 use Rattle.odin_journal.specs.declared.fault.JournalFault.{JournalFault}

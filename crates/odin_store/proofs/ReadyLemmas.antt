@@ -2,12 +2,12 @@
 use Rattle.std.proofs.Common.{◌≡◌, inl, inr, ℕ, ◌+◌, ◌≤◌, List, [], ◌∷◌, length, IsTrue, IsSome, refl, sym, ap, subst, ◌∙◌}
 use Rattle.std.specs.FinMap as map
 use Rattle.odin_outside.specs.Disk.{Telling, MayLeave}
-use Rattle.disk_trails.specs.WorkLemmas.{no_work}
+use Rattle.odin_journal.specs.WorkLemmas.{no_work}
 use Rattle.object_values.specs.declared.calls.Call.{Call}
 use Rattle.object_values.specs.declared.calls.Outcome.{Outcome}
-use Rattle.object_sources.specs.Texts.{Text, Texts}
+use Rattle.object_values.specs.Texts.{Text, Texts}
 use Rattle.meaning_texts.specs.Classes.{IsName}
-use Rattle.meaning_store.specs.Front.{file_limit}
+use Rattle.meaning_records.specs.Front.{file_limit}
 use Rattle.odin_journal.specs.Faults.{IsAddFault}
 use Rattle.odin_journal.specs.Moments.{Works}
 use Rattle.odin_journal.specs.Rest.{AddsRecord, KeepsOrAdds}

@@ -4,9 +4,9 @@ use Rattle.std.proofs.Math.Seq.{take-append-add}
 use Rattle.std.proofs.lemmas.List.{length-append, take-append-le}
 use Rattle.odin_outside.specs.Disk.{Telling, MayLeave, LeavesOnly}
 use Rattle.odin_outside.specs.Moments.{no_call, then, weaker}
-use Rattle.disk_trails.specs.Trails as trails
-use Rattle.disk_trails.specs.TrailLemmas.{after-append}
-use Rattle.meaning_store.specs.Images.{IsStore, Stored}
+use Rattle.odin_journal.specs.Trails as trails
+use Rattle.odin_journal.specs.TrailLemmas.{after-append}
+use Rattle.meaning_records.specs.Images.{IsStore, Stored}
 use Rattle.odin_journal.specs.Rest.{AtRest, BeforeOrAfter, KeepsOrAdds}
 use Rattle.odin_store.specs.declared.store.Store.{Store}
 use Rattle.odin_store.specs.Written.{RecordsRest, record_keeping, LeavesFirst}

@@ -7,8 +7,8 @@ use Rattle.std.proofs.lemmas.Option.{slice_get_within, get_or_from_slice_get}
 use Rattle.std.proofs.lemmas.List.Elements.{All-nil, All-push, All-get_or}
 use Rattle.object_values.specs.declared.views.Value.{Value}
 use Rattle.object_values.specs.declared.views.Value.TheVariants.{Simple}
-use Rattle.object_sources.specs.Texts.{Text, Texts, no_texts}
-use Rattle.object_sources.specs.Gets.{put_here, put_other, remove_here, remove_other}
+use Rattle.object_values.specs.Texts.{Text, Texts, no_texts}
+use Rattle.object_values.specs.Gets.{put_here, put_other, remove_here, remove_other}
 use Rattle.meaning_texts.specs.Classes.{IsName}
 use Rattle.meaning_texts.specs.Limits.{body_limit}
 use Rattle.meaning_derive.specs.Given.{IsSource, AreSources}

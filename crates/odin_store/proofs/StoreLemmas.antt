@@ -2,9 +2,9 @@
 use Rattle.std.proofs.Common.{◌≡◌, ◌⊎◌, inl, inr, ℕ, ◌+◌, ◌<◌, ◌≤◌, List, [], ◌∷◌, ◌++◌, length, Option, IsTrue, Result, Ok, Err, IsErrAnd, IfErr, refl, sym, ap, subst, ◌∙◌, arith}
 use Rattle.odin_outside.specs.Disk.{Telling, MayLeave}
 use Rattle.odin_outside.specs.Moments.{no_call, weaker}
-use Rattle.object_sources.specs.Texts.{Text, Texts}
-use Rattle.meaning_store.specs.Front.{file_limit}
-use Rattle.meaning_store.specs.Images.{IsStore}
+use Rattle.object_values.specs.Texts.{Text, Texts}
+use Rattle.meaning_records.specs.Front.{file_limit}
+use Rattle.meaning_records.specs.Images.{IsStore}
 use Rattle.odin_journal.specs.Faults.{IsAddFault}
 use Rattle.odin_journal.specs.Moments.{Works}
 use Rattle.odin_journal.specs.Rest.{BeforeOrAfter, AddsRecord, KeepsOrAdds}

@@ -1,8 +1,8 @@
 -- How much is written to add records, and what the file is then.
 use Rattle.std.proofs.Common.{◌≡◌, ℕ, ◌+◌, ◌*◌, List, [], ◌∷◌, ◌++◌, length, length-append, refl, arith}
 use Rattle.odin_outside.specs.Disk.{Telling}
-use Rattle.disk_trails.specs.WorkLemmas.{more_work, add_work}
-use Rattle.meaning_store.specs.Images.{gate_after, with_record}
+use Rattle.odin_journal.specs.WorkLemmas.{more_work, add_work}
+use Rattle.meaning_records.specs.Images.{gate_after, with_record}
 use Rattle.meaning_records.specs.Stands.{gate_behind}
 use Rattle.odin_journal.specs.Moments.{Works}
 use Rattle.odin_store.specs.Written.{written_in, WorksFor, with_records}

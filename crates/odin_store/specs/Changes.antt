@@ -4,7 +4,7 @@ use Rattle.std.specs.FinMap as map
 use Rattle.odin_outside.specs.Disk.{Telling}
 use Rattle.object_values.specs.declared.calls.Call.{Call}
 use Rattle.object_values.specs.declared.calls.Outcome.{Outcome}
-use Rattle.object_sources.specs.Texts.{Text}
+use Rattle.object_values.specs.Texts.{Text}
 use Rattle.meaning_texts.specs.Limits.{body_limit}
 use Rattle.meaning_records.specs.declared.items.Item.{Item}
 use Rattle.meaning_records.specs.Batches.{drop_batch, IsPutBatch, IsCallBatch}

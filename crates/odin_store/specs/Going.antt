@@ -4,8 +4,8 @@ use Rattle.odin_outside.specs.Disk.{Telling}
 use Rattle.object_values.specs.declared.views.Value.{Value}
 use Rattle.object_values.specs.declared.calls.Call.{Call}
 use Rattle.object_values.specs.declared.calls.Outcome.{Outcome}
-use Rattle.object_sources.specs.Texts.{Text}
-use Rattle.disk_trails.specs.Trails as trails
+use Rattle.object_values.specs.Texts.{Text}
+use Rattle.odin_journal.specs.Trails as trails
 use Rattle.meaning_records.specs.declared.items.Item.{Item}
 use Rattle.meaning_records.specs.Batches.{drop_batch, IsPutBatch, IsCallBatch}
 use Rattle.meaning_records.specs.Stands.{gate_behind}

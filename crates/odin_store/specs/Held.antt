@@ -3,7 +3,7 @@ use Rattle.std.specs.Prelude.{◌≡◌, ◌≢◌, ⊤, ℕ, List, [], ◌∷�
 use Rattle.std.specs.FinMap as map
 use Rattle.object_values.specs.declared.calls.Call.{Call}
 use Rattle.object_values.specs.declared.calls.Outcome.{Outcome}
-use Rattle.object_sources.specs.Texts.{Text, Texts}
+use Rattle.object_values.specs.Texts.{Text, Texts}
 use Rattle.meaning_records.specs.Tables.{Calls}
 use Rattle.meaning_records.specs.States.{State}
 use Rattle.meaning_records.specs.Stands.{Stands}

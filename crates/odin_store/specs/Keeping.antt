@@ -1,8 +1,8 @@
 -- A store as one that keeps changes on a disk, one behind another.
 use Rattle.std.specs.Prelude.{◌≡◌, ℕ, List, [], Option}
 use Rattle.odin_outside.specs.Disk.{Telling, IsQuiet, MayLeave}
-use Rattle.object_sources.specs.Texts.{Text}
-use Rattle.disk_trails.specs.Trails as trails
+use Rattle.object_values.specs.Texts.{Text}
+use Rattle.odin_journal.specs.Trails as trails
 use Rattle.meaning_records.specs.declared.items.Item.{Item}
 use Rattle.odin_store.specs.declared.store.Store.{Store}
 use Rattle.odin_store.specs.Held.{Held, Change, apply, StandsFor}

@@ -1,9 +1,9 @@
 -- A store on its disk.
 use Rattle.std.specs.Prelude.{◌≡◌, ◌⊎◌, ⊤, ℕ, ◌+◌, ◌^◌, ◌<◌, List, [], ◌∷◌, ◌++◌, length, Option, IsTrue, Result, OnOk, IsErrOf}
 use Rattle.odin_outside.specs.Disk.{Telling, IsQuiet, LeavesOnly}
-use Rattle.object_sources.specs.Texts.{Text}
-use Rattle.meaning_store.specs.Front.{file_limit}
-use Rattle.meaning_store.specs.Images.{gate_after, with_record}
+use Rattle.object_values.specs.Texts.{Text}
+use Rattle.meaning_records.specs.Front.{file_limit}
+use Rattle.meaning_records.specs.Images.{gate_after, with_record}
 use Rattle.odin_journal.specs.Moments.{Works}
 use Rattle.odin_journal.specs.Rest.{AtRest, IsReady}
 use Rattle.odin_journal.specs.declared.fault.JournalFault.{JournalFault}

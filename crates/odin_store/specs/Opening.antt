@@ -1,10 +1,10 @@
 -- The opening of a store.
 use Rattle.std.specs.Prelude.{◌≡◌, ◌≢◌, ◌⊎◌, ⊤, ℕ, ◌+◌, ◌*◌, ◌≤◌, ◌<◌, List, [], ◌∷◌, ◌++◌, length, Option, Some}
 use Rattle.odin_outside.specs.Disk.{Telling, IsQuiet, LeavesOnly}
-use Rattle.object_sources.specs.Texts.{Text}
+use Rattle.object_values.specs.Texts.{Text}
 use Rattle.meaning_texts.specs.Limits.{graph_limit}
-use Rattle.meaning_store.specs.Front.{file_limit, new_store}
-use Rattle.meaning_store.specs.Images.{IsNew, Stored, IsStore}
+use Rattle.meaning_records.specs.Front.{file_limit, new_store}
+use Rattle.meaning_records.specs.Images.{IsNew, Stored, IsStore}
 use Rattle.odin_journal.specs.Moments.{Untouched, Works}
 use Rattle.odin_journal.specs.Rest.{AtRest}
 use Rattle.odin_journal.specs.declared.fault.JournalFault.{JournalFault}

@@ -1,9 +1,9 @@
 -- How much is written to add records to a store, what its file is then, and what a crash leaves of them.
 use Rattle.std.specs.Prelude.{◌≡◌, ◌⊎◌, ℕ, ◌+◌, ◌*◌, List, [], ◌∷◌, ◌++◌, length}
 use Rattle.odin_outside.specs.Disk.{Telling, LeavesOnly}
-use Rattle.disk_trails.specs.Trails as trails
-use Rattle.meaning_store.specs.Front.{new_store}
-use Rattle.meaning_store.specs.Images.{gate_after, with_record, IsNew, IsWritten, Stored}
+use Rattle.odin_journal.specs.Trails as trails
+use Rattle.meaning_records.specs.Front.{new_store}
+use Rattle.meaning_records.specs.Images.{gate_after, with_record, IsNew, IsWritten, Stored}
 use Rattle.odin_journal.specs.Moments.{Works}
 use Rattle.odin_journal.specs.Rest.{AtRest}
 use Rattle.odin_store.specs.declared.store.Store.{Store}

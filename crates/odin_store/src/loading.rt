@@ -5,8 +5,7 @@ ghost use Rattle.odin_store.specs.Loading.{state_of, TakesItem, TakesNone, Reads
 
 use kept_tables::{Kept, Loaded};
 use meaning_records::laws::reads_in_one_way;
-use object_sources::Sources;
-use object_values::{Bytes, Memory, Seq};
+use object_values::{Bytes, Memory, Seq, Sources};
 use odin_journal::JournalFault;
 use std::alloc::Global;
 

@@ -1,7 +1,7 @@
 //! Prints the commands that take the files below some folders.
 #![tactic(auto)]
 
-use folder_takes::run::run;
+use build_files::takes::run;
 use std::process::ExitCode;
 
 fn main(rt: HostRuntime) -> ExitCode {

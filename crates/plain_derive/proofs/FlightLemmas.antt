@@ -13,7 +13,7 @@ use Rattle.meaning_graph.specs.Graphs.{Graph}
 use Rattle.meaning_derive.specs.Derive.{Sources, Outcomes, IsFounded}
 use Rattle.meaning_derive.specs.Calls.{IsFrontier}
 use Rattle.meaning_derive.proofs.Lemmas.{kept as chains_stay, known}
-use Rattle.walk_tables.specs.Calls.{GivenOutcomes as Listed}
+use Rattle.derive_walk.specs.Calls.{GivenOutcomes as Listed}
 use Rattle.derive_walk.specs.Outcomes.{after}
 use Rattle.job_runner.specs.declared.jobs.Flying.{Flying}
 use Rattle.job_runner.specs.Made.{IsOutcomeOfCall}

@@ -15,7 +15,7 @@ use Rattle.meaning_texts.specs.Lists.{IsIn}
 use Rattle.meaning_calls.specs.Jobs.{job_of}
 use Rattle.meaning_graph.specs.Graphs.{Graph}
 use Rattle.meaning_derive.specs.Derive.{Sources, Outcomes}
-use Rattle.walk_tables.specs.Calls.{GivenOutcomes as Listed}
+use Rattle.derive_walk.specs.Calls.{GivenOutcomes as Listed}
 use Rattle.job_runner.specs.declared.jobs.Flying.{Flying}
 use Rattle.job_runner.specs.Flights.{flying, slots_in, tool_of, AreDistinct}
 use Rattle.job_runner.proofs.Lemmas.{distinct_more, distinct_less, slots_one_more, slots_cut, slots_both, told_one_more}

@@ -17,7 +17,7 @@ use Rattle.meaning_derive.specs.Derive.{Sources, Outcomes}
 use Rattle.meaning_derive.specs.Calls.{IsFrontier}
 use Rattle.meaning_derive.specs.Given.{table_outcomes}
 use Rattle.meaning_derive.specs.Laws.{HasMore}
-use Rattle.walk_tables.specs.Calls.{GivenOutcomes as Listed, outcome_in, call_in}
+use Rattle.derive_walk.specs.Calls.{GivenOutcomes as Listed, outcome_in, call_in}
 use Rattle.derive_walk.specs.Outcomes.{nothing_known, given_or, after}
 use Rattle.job_runner.specs.Made.{IsOutcomeOfCall}
 use Rattle.plain_derive.specs.Logs.{among, AreMade}

@@ -15,7 +15,7 @@ use Rattle.meaning_derive.specs.Calls.{IsCallFrom, IsFrontier}
 use Rattle.meaning_derive.specs.Given.{OutcomesFit, table_outcomes}
 use Rattle.meaning_derive.specs.Laws.{HasMore}
 use Rattle.meaning_derive.proofs.Lemmas.{kept as calls_stay, known, none_come}
-use Rattle.walk_tables.specs.Calls.{GivenOutcomes as Listed, AreOnce, outcome_in}
+use Rattle.derive_walk.specs.Calls.{GivenOutcomes as Listed, AreOnce, outcome_in}
 use Rattle.derive_walk.specs.Outcomes.{given_or, after}
 use Rattle.plain_derive.specs.Given.{calls_of, AreGiven, HaveCome}
 use Rattle.plain_derive.specs.GivenLaws.{AreNew}

@@ -9,7 +9,7 @@ use Rattle.odin_outside.specs.Spawned.{Spawned}
 use Rattle.meaning_calls.specs.Jobs.{job_of}
 use Rattle.meaning_graph.specs.Graphs.{Graph}
 use Rattle.meaning_derive.specs.Derive.{Sources, Outcomes}
-use Rattle.walk_tables.specs.declared.found.Found.{Found}
+use Rattle.derive_walk.specs.declared.found.Found.{Found}
 use Rattle.plain_derive.specs.declared.fault.PlainFault.{PlainFault}
 use Rattle.plain_derive.specs.declared.fault.PlainFault.TheVariants.{Spawn, Memory}
 use Rattle.plain_derive.specs.Laws.{CountedFor}

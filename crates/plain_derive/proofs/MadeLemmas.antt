@@ -10,9 +10,9 @@ use Rattle.meaning_derive.specs.Derive.{Sources, Outcomes, derived, IsFounded}
 use Rattle.meaning_derive.specs.Calls.{IsCallFrom}
 use Rattle.meaning_derive.specs.Laws.{HasMore}
 use Rattle.meaning_derive.proofs.Lemmas.{kept, known, none_come}
-use Rattle.walk_tables.specs.Calls.{call_in, AreOnce}
-use Rattle.walk_tables.proofs.Lemmas.{found_in, in_found}
-use Rattle.walk_tables.specs.declared.found.Found.{Found}
+use Rattle.derive_walk.specs.Calls.{call_in, AreOnce}
+use Rattle.derive_walk.proofs.Lemmas.{found_in, in_found}
+use Rattle.derive_walk.specs.declared.found.Found.{Found}
 use Rattle.derive_walk.specs.Founds.{IsFound}
 use Rattle.derive_walk.proofs.Lemmas.{found_stays}
 use Rattle.plain_derive.specs.Logs.{among, AreMade}

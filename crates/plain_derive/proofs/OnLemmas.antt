@@ -9,12 +9,12 @@ use Rattle.odin_outside.specs.Spawned.{Spawned}
 use Rattle.meaning_texts.specs.Lists.{IsIn}
 use Rattle.meaning_texts.proofs.Lemmas.{in_either}
 use Rattle.meaning_graph.specs.Graphs.{Graph}
-use Rattle.meaning_nodes.specs.Nodes.{Fits}
+use Rattle.meaning_tasks.specs.Nodes.{Fits}
 use Rattle.meaning_derive.specs.Derive.{Sources, Outcomes}
 use Rattle.meaning_derive.specs.Given.{OutcomesFit}
 use Rattle.meaning_derive.specs.Calls.{IsFrontier}
-use Rattle.walk_tables.specs.Calls.{GivenOutcomes as Listed}
-use Rattle.walk_tables.specs.declared.found.Found.{Found}
+use Rattle.derive_walk.specs.Calls.{GivenOutcomes as Listed}
+use Rattle.derive_walk.specs.declared.found.Found.{Found}
 use Rattle.derive_walk.specs.Founds.{IsFound}
 use Rattle.derive_walk.specs.Outcomes.{nothing_known, after}
 use Rattle.derive_walk.specs.NothingFits.{nothing_fits}

@@ -13,7 +13,7 @@ use Rattle.meaning_graph.specs.Graphs.{Graph}
 use Rattle.meaning_derive.specs.Derive.{Sources, Outcomes, derived}
 use Rattle.meaning_derive.specs.Calls.{IsCallFrom, IsFrontier}
 use Rattle.meaning_derive.specs.Laws.{HasMore}
-use Rattle.walk_tables.specs.Calls.{AreOnce}
+use Rattle.derive_walk.specs.Calls.{AreOnce}
 use Rattle.derive_walk.specs.Outcomes.{after}
 use Rattle.job_runner.specs.Flights.{tool_of, AreDistinct, AreTold}
 use Rattle.plain_derive.specs.Given.{calls_of, AreGiven, HaveCome, IsRefusedBy}

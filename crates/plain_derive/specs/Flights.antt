@@ -15,7 +15,7 @@ use Rattle.meaning_calls.specs.Jobs.{job_of}
 use Rattle.meaning_graph.specs.Graphs.{Graph}
 use Rattle.meaning_derive.specs.Derive.{Sources, Outcomes}
 use Rattle.meaning_derive.specs.Calls.{IsFrontier}
-use Rattle.walk_tables.specs.Calls.{GivenOutcomes as Listed}
+use Rattle.derive_walk.specs.Calls.{GivenOutcomes as Listed}
 use Rattle.derive_walk.specs.Outcomes.{after}
 use Rattle.job_runner.specs.declared.jobs.Flying.{Flying}
 use Rattle.job_runner.specs.Made.{IsOutcomeOfCall}

@@ -9,7 +9,7 @@ use Rattle.meaning_derive.specs.Derive.{Sources, Outcomes, derived, IsFounded}
 use Rattle.meaning_derive.specs.Calls.{IsCallFrom}
 use Rattle.meaning_derive.specs.Given.{OutcomesFit, table_outcomes}
 use Rattle.meaning_derive.specs.Laws.{HasMore}
-use Rattle.walk_tables.specs.Calls.{GivenOutcomes as Listed, AreOnce}
+use Rattle.derive_walk.specs.Calls.{GivenOutcomes as Listed, AreOnce}
 use Rattle.derive_walk.specs.Outcomes.{after}
 use Rattle.plain_derive.specs.Given.{calls_of, AreGiven, HaveCome}
 

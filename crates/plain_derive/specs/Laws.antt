@@ -8,8 +8,8 @@ use Rattle.meaning_graph.specs.Graphs.{Graph}
 use Rattle.meaning_texts.specs.Lists.{IsIn}
 use Rattle.meaning_derive.specs.Derive.{Sources, Outcomes, derived, IsFounded}
 use Rattle.meaning_derive.specs.Calls.{IsCallFrom}
-use Rattle.walk_tables.specs.Calls.{AreOnce}
-use Rattle.walk_tables.specs.declared.found.Found.{Found}
+use Rattle.derive_walk.specs.Calls.{AreOnce}
+use Rattle.derive_walk.specs.declared.found.Found.{Found}
 use Rattle.derive_walk.specs.Founds.{IsFound}
 use Rattle.plain_derive.specs.declared.fault.PlainFault.{PlainFault}
 use Rattle.plain_derive.specs.declared.fault.PlainFault.TheVariants.{Spawn, Memory}

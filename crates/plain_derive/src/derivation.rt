@@ -1,7 +1,7 @@
 // Derivation of a node from the sources, with nothing kept.
 ghost use Rattle.std.specs.Prelude.{◌≡◌, ◌<◌, [], IfOk, IfErr};
-ghost use Rattle.meaning_graph_text.specs.Grammar.{IsSpellable};
-ghost use Rattle.meaning_nodes.specs.Nodes.{Fits};
+ghost use Rattle.meaning_graph.specs.Grammar.{IsSpellable};
+ghost use Rattle.meaning_tasks.specs.Nodes.{Fits};
 ghost use Rattle.meaning_derive.specs.Given.{AreSources};
 ghost use Rattle.path_planner.specs.Ends.{plans_of};
 ghost use Rattle.plain_derive.specs.Logs.{HasDerived, HasGivenUp, ComeToRest};
@@ -9,8 +9,7 @@ ghost use Rattle.plain_derive.specs.Logs.{HasDerived, HasGivenUp, ComeToRest};
 use crate::fault::PlainFault;
 use crate::running::run_wanted;
 use derive_walk::{Found, NothingKept, Walker};
-use object_sources::Sources;
-use object_values::{Copied, Node};
+use object_values::{Copied, Node, Sources};
 use odin_outside::{Spawner, Steps};
 use path_planner::Plans;
 use std::alloc::Global;

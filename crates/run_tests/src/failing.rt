@@ -7,9 +7,9 @@ use super::stored::{
 use object_values::{Memory, Seq};
 use odin_fakes::{FailDisk, FailSink, FailSource, FailTools, FailTree, TableTools};
 use odin_shell::run;
-use session_samples::{C_UNITS, only, owned, sink, source, tree_of};
 use std::alloc::Global;
 use std::test::Fail;
+use test_support::{C_UNITS, only, owned, sink, source, tree_of};
 
 // An object of the outside.
 #[derive(Clone, Copy, PartialEq, Eq)]

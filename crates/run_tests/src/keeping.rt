@@ -3,9 +3,9 @@ use super::stored::{NONE, Ran, Text, crashed, disk_of, run_on, status_on};
 use object_values::{Bytes, Memory, Seq};
 use odin_fakes::{FailDisk, FailSink, FailTools, TableTools};
 use odin_outside::Disk;
-use session_samples::{C_UNITS, only, sink};
 use std::alloc::Global;
 use std::test::Fail;
+use test_support::{C_UNITS, only, sink};
 
 // A run over the graph of units.
 fn session<D: Disk>(alloc: Global, disk: &mut D, text: &[u8]) -> Result<Ran, Memory> {

@@ -5,9 +5,9 @@ use super::stored::{
 };
 use object_values::{Bytes, Memory};
 use odin_fakes::MemDisk;
-use session_samples::{C_UNITS, KITS};
 use std::alloc::Global;
 use std::test::Fail;
+use test_support::{C_UNITS, KITS};
 
 // Behind the graph of units: what is linked is a unit again.
 const BACK: Text = b"tool back 1 from exe to c run \"ld\";\n";

@@ -4,12 +4,12 @@ use object_values::{Memory, Seq};
 use odin_fakes::TableTools;
 use odin_real::{InputSource, OutputSink};
 use odin_shell::run;
-use session_samples::{CC_ONLY, owned, tree_of};
 use std::alloc::{Allocator, Global};
 use std::cell::RefCell;
 use std::fmt::Display;
 use std::io::{self, BufRead, Chain, Lines, Read};
 use std::test::Fail;
+use test_support::{CC_ONLY, owned, tree_of};
 
 // A runtime over memory: the input's two pieces, and what was written, of which a write takes at most 100 bytes.
 #[derive(Drop)]

@@ -3,9 +3,9 @@ use super::rows::{PUT, WARNING_AND_BACK};
 use super::stored::{Ran, Step, Text, commands_of, crashed, disk_of, front, run_on};
 use object_values::{Bytes, Memory};
 use odin_fakes::MemDisk;
-use session_samples::C_UNITS;
 use std::alloc::Global;
 use std::test::Fail;
+use test_support::C_UNITS;
 
 // What is held between two steps.
 struct Held {

@@ -5,8 +5,8 @@ use object_values::{Bytes, Job, Memory, Seq};
 use odin_fakes::{MemDisk, TableTools};
 use odin_outside::{Disk, Sink, Spawner, ToolEvent};
 use odin_shell::run;
-use session_samples::{graph_text, owned, sink, source, tree_of};
 use std::alloc::Global;
+use test_support::{graph_text, owned, sink, source, tree_of};
 
 /// Bytes that stand in a table.
 pub type Text = &'static [u8];

@@ -8,10 +8,10 @@ use object_values::{Bytes, Memory, Seq};
 use odin_fakes::{MemDisk, TableTools};
 use odin_real::{InputSource, OutputSink};
 use odin_shell::run;
-use session_samples::tree_of;
 use std::alloc::Global;
-use std::process::ExitCode;
 use std::{env, io};
+use std::process::ExitCode;
+use test_support::tree_of;
 
 /// Room on the disk in memory, in bytes and in calls. It is taken as it is written.
 const DISK_BYTES: usize = 1 << 29;

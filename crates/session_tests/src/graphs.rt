@@ -5,9 +5,9 @@ use super::runs::{JOBS, outcome_over, status_with, with_taken};
 use object_values::{Memory, Seq};
 use odin_fakes::{FailSink, FailTools, FailTree, TableTools};
 use odin_outside::Spawner;
-use session_samples::{C_UNITS, CC_ONLY as GRAPH, only, sink, source, tree_of};
 use std::alloc::Global;
 use std::test::Fail;
+use test_support::{C_UNITS, CC_ONLY as GRAPH, only, sink, source, tree_of};
 
 const TWO_WAYS: &[u8] =
     b"type a simple;\ntype b simple;\ntype c simple;\ntype d simple;\nsuffix .a a;\ntool p 1 from a to b run \"ld\";\ntool q 1 from a to c run \"ld\";\ntool r 1 from c to d run \"ld\";\ntool s 1 from b to d run \"ld\";\n";

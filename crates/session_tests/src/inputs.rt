@@ -4,9 +4,9 @@ ghost use Rattle.std.specs.Prelude.{◌<◌};
 use super::runs::{status_with, with_taken};
 use object_values::Memory;
 use odin_fakes::{FailSink, FailSource};
-use session_samples::{only, sink, source};
 use std::alloc::Global;
 use std::test::Fail;
+use test_support::{only, sink, source};
 
 // The status and the output of a run over this input, read and written in such pieces.
 fn outcome(alloc: Global, text: &[u8], piece: usize) -> Result<(u8, Vec<u8>), Memory>

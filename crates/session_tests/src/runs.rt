@@ -5,8 +5,8 @@ use object_values::{Bytes, Memory, Seq};
 use odin_fakes::{MemDisk, TableTools};
 use odin_outside::{Sink, Source, Spawner, Tree};
 use odin_shell::run;
-use session_samples::{CC_ONLY, owned, sink, source, tree_of};
 use std::alloc::Global;
+use test_support::{CC_ONLY, owned, sink, source, tree_of};
 
 /// How many tools may run at once, as words: a session has the same replies and the same starts at each.
 pub const JOBS: [&str; 3] = ["1", "3", "64"];

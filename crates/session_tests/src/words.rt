@@ -3,9 +3,9 @@ use super::runs::{DISK_BYTES, DISK_CALLS, status_over, with_taken};
 use object_values::{Bytes, Memory, Seq};
 use odin_fakes::{FailDisk, FailSource, FailTools, FailTree, MemDisk, TableTools};
 use odin_shell::run;
-use session_samples::{CC_ONLY, only, owned, sink, source, tree_of};
 use std::alloc::Global;
 use std::test::Fail;
+use test_support::{CC_ONLY, only, owned, sink, source, tree_of};
 
 const USAGE: &[u8] = b"usage: odin [--jobs N] GRAPH, or odin [--jobs N] --load N\n";
 

@@ -6,7 +6,7 @@ use odin_fakes::MemDisk;
 use odin_store::{Store, StoreFault};
 use std::alloc::Global;
 use std::test::Fail;
-use store_views::{held, put_named};
+use test_support::{held, put_named};
 
 /// The graph of each store, and the payload of its record.
 pub(super) const GRAPH: &[u8; 14] = b"type c simple;";

@@ -1,6 +1,9 @@
-//! Worked rows of the store: sessions over disks that stop or fail anywhere, and files that aren't ours. It holds tests alone.
+//! Worked rows of contents by number, of the records of a store file, of the tables of what is kept, and of the store: sessions over disks that stop or
+//! fail anywhere, and files that aren't ours. It holds tests alone.
 #![tactic(auto)]
 
+#[cfg(test)]
+mod contents;
 #[cfg(test)]
 mod crashes;
 #[cfg(test)]
@@ -9,6 +12,12 @@ mod given;
 mod hostile;
 #[cfg(test)]
 mod images;
+#[cfg(test)]
+mod kept;
+#[cfg(test)]
+mod numbers;
+#[cfg(test)]
+mod records;
 #[cfg(test)]
 mod room;
 #[cfg(test)]

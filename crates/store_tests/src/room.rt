@@ -2,8 +2,8 @@
 use crate::given::{Given, call_of, outcome_of, text_of};
 use crate::images::{FRONT, GRAPH};
 use object_values::Status;
-use odin_files::{FileDisk, NamedFile};
 use odin_outside::Disk;
+use odin_real::{FileDisk, NamedFile};
 use odin_store::{Store, StoreFault};
 use std::alloc::Global;
 use std::fs::{self, File, OpenOptions};
@@ -11,7 +11,7 @@ use std::io;
 use std::os::unix::fs::FileExt;
 use std::rt::Files;
 use std::test::Fail;
-use store_views::{drop_named, keep, put_named};
+use test_support::{drop_named, keep, put_named};
 
 const PATH: &str = "store_tests.full";
 

@@ -9,7 +9,7 @@ use odin_outside::Disk;
 use odin_store::{Store, StoreFault};
 use std::alloc::Global;
 use std::test::Fail;
-use store_views::{drop_named, keep, put_named};
+use test_support::{drop_named, keep, put_named};
 
 /// A change of a store.
 pub(super) enum Step {

@@ -2,8 +2,8 @@
 ghost use Rattle.std.specs.Prelude.{◌<◌};
 
 use object_values::{Bytes, FileBody, Job, Memory, Seq, Text};
-use odin_children::{ChildTools, HostSystem};
 use odin_outside::{End, FinishFault, Raw, Spawner, StartFault};
+use odin_real::{ChildTools, HostSystem};
 use std::alloc::Global;
 use std::fs::{self, Permissions};
 use std::io;

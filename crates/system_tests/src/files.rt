@@ -1,6 +1,6 @@
 // The files of the current folder, and one as a disk.
-use odin_files::{FileDisk, FolderTree, NamedFile, Outputs, RawFiles, read_output};
 use odin_outside::{Disk, Failed, Tree, TreeFault};
+use odin_real::{FileDisk, FolderTree, NamedFile, Outputs, RawFiles, read_output};
 use std::alloc::Global;
 use std::fs::{self, File, Permissions};
 use std::io::{self, PipeReader};

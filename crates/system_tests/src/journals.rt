@@ -1,8 +1,8 @@
 // A journal over a real file: the rows of bytes that a journal in memory has.
 use object_values::{Bytes, Memory};
-use odin_files::{FileDisk, NamedFile};
 use odin_journal::{Journal, JournalFault};
 use odin_outside::Disk;
+use odin_real::{FileDisk, NamedFile};
 use std::alloc::Global;
 use std::fs::{self, File};
 use std::rt::Files;

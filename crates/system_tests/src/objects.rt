@@ -1,10 +1,10 @@
 // Objects of replies that were written as files.
+use build_files::files::Files;
+use build_files::get::write_files;
 use object_values::{Bytes, Memory, Part, Seq, Text};
-use reply_objects::files::Files;
-use reply_objects::run::write_files;
 use std::alloc::Global;
-use std::test::Fail;
 use std::{fs, io};
+use std::test::Fail;
 
 fn text_of(alloc: Global, body: &[u8]) -> Result<Text, Memory> {
     Text::of(Bytes::from_slice(alloc, body)?)

@@ -1,11 +1,11 @@
 // What is found below a folder.
-use folder_takes::listed::{listed, write_takes};
-use folder_takes::run::Fault;
-use folder_takes::walk::{Found, take_below};
+use build_files::listed::{listed, write_takes};
+use build_files::takes::Fault;
+use build_files::walk::{Found, take_below};
 use object_values::Bytes;
+use std::{fs, io};
 use std::os::unix::fs::symlink;
 use std::test::Fail;
-use std::{fs, io};
 
 const FOLDER: &str = "odin_takes.tests";
 

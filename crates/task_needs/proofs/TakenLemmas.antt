@@ -10,7 +10,7 @@ use Rattle.object_values.specs.declared.messages.Status.TheVariants.{Ok, Warning
 use Rattle.object_values.specs.declared.messages.Message.{Message}
 use Rattle.object_values.specs.declared.nodes.Node.{Node}
 use Rattle.object_values.specs.declared.views.View.{View}
-use Rattle.meaning_nodes.specs.Values.{rank, worst, inherit}
+use Rattle.meaning_tasks.specs.Values.{rank, worst, inherit}
 use Rattle.meaning_tasks.specs.Needs.{Results, values_of, has_value, with_elements}
 use Rattle.meaning_tasks.specs.Calls.{all_valued}
 use Rattle.meaning_tasks.specs.Settle.{status_in, messages_in, worst_of, messages_of}

@@ -1,6 +1,6 @@
 // The list of all needs.
 ghost use Rattle.std.specs.Prelude.{◌≡◌, ◌++◌, ◌∷◌, [], IfOk, OnOk, flat_map, map};
-ghost use Rattle.meaning_nodes.specs.Nodes.{source_node};
+ghost use Rattle.meaning_tasks.specs.Nodes.{source_node};
 ghost use Rattle.meaning_tasks.specs.Needs.{values_of, with_elements};
 ghost use Rattle.task_needs.specs.Counting.{nodes_in};
 

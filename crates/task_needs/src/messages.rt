@@ -1,6 +1,6 @@
 // The messages of a node at `Abort`.
 ghost use Rattle.std.specs.Prelude.{◌≡◌, ◌∷◌, [], IfOk};
-ghost use Rattle.meaning_nodes.specs.Labels.{abort_message as message_at_abort, label_of as label_of_node, too_many_references};
+ghost use Rattle.meaning_tasks.specs.Labels.{abort_message as message_at_abort, label_of as label_of_node, too_many_references};
 
 use object_values::{Bytes, Memory, Message, Node, Seq, Status, Text};
 use odin_nodes::label_of;

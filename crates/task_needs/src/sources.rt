@@ -1,6 +1,6 @@
 // Source nodes.
 ghost use Rattle.std.specs.Prelude.{◌≡◌, IfOk};
-ghost use Rattle.meaning_nodes.specs.Nodes.{source_node};
+ghost use Rattle.meaning_tasks.specs.Nodes.{source_node};
 ghost use Rattle.meaning_tasks.specs.Needs.{values_of, has_value};
 
 use crate::results::{Results, value_of};

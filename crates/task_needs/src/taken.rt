@@ -1,6 +1,6 @@
 // What a node takes over from its needs.
 ghost use Rattle.std.specs.Prelude.{◌≡◌, ◌&&◌, [], true, flat_map, option_map, IfOk, OnOk};
-ghost use Rattle.meaning_nodes.specs.Values.{inherit, worst};
+ghost use Rattle.meaning_tasks.specs.Values.{inherit, worst};
 ghost use Rattle.meaning_tasks.specs.Needs.{has_value, values_of, with_elements};
 ghost use Rattle.meaning_tasks.specs.Settle.{messages_in, status_in};
 ghost use Rattle.odin_nodes.specs.Inheriting.{Inherits};

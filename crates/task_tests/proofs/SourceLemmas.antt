@@ -4,8 +4,8 @@ use Rattle.std.specs.Prelude.{Some, None}
 use Rattle.std.specs.FinMap.{get, insert, get-empty}
 use Rattle.std.specs.Str.{bytes_eq}
 use Rattle.std.proofs.lemmas.Slice.Eq.{bytes_eq-Decides}
-use Rattle.object_sources.specs.Texts.{Text, Texts, no_texts}
-use Rattle.object_sources.specs.Gets.{put_here, put_other}
+use Rattle.object_values.specs.Texts.{Text, Texts, no_texts}
+use Rattle.object_values.specs.Gets.{put_here, put_other}
 use Rattle.meaning_texts.specs.Classes.{IsName}
 use Rattle.meaning_texts.specs.Limits.{body_limit}
 use Rattle.meaning_derive.specs.Given.{IsSource, AreSources}

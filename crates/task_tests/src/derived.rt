@@ -1,6 +1,6 @@
 // Nodes that are derived from sources by tools, with nothing kept.
 ghost use Rattle.std.specs.Prelude.{◌≡◌, OnOk, IfOk};
-ghost use Rattle.meaning_graph_text.specs.Grammar.{IsSpellable};
+ghost use Rattle.meaning_graph.specs.Grammar.{IsSpellable};
 ghost use Rattle.meaning_derive.specs.Given.{AreSources};
 ghost use Rattle.path_planner.specs.Ends.{plans_of};
 
@@ -8,15 +8,14 @@ use super::graphs::{C_UNITS, Text};
 use super::held::{Held, Said};
 use super::rows::text_of;
 use super::shown::is_view;
-use object_sources::Sources;
-use object_values::{BODY_LIMIT, Bytes, Memory, Seq, Status};
+use object_values::{BODY_LIMIT, Bytes, Memory, Seq, Sources, Status};
 use odin_bytes::is_name;
 use odin_fakes::TableTools;
 use path_planner::Plans;
 use plain_derive::{Found, derive_plain};
 use std::alloc::Global;
 use std::test::Fail;
-use task_tables::{Fault, body_of, graph_of, node_in};
+use test_support::{Fault, body_of, graph_of, node_in};
 use type_graph::Graph;
 
 // Sources over the graph of units, and the text of a node. Then its view, and how many tools were started for it.

@@ -8,7 +8,7 @@ use object_values::{
 };
 use path_planner::Plans;
 use std::alloc::Global;
-use task_tables::{Fault, Table, body_of, node_in};
+use test_support::{Fault, Table, body_of, node_in};
 use type_graph::Graph;
 
 // A message: its level, its label and its text.

@@ -4,7 +4,7 @@ use super::rows::text_of;
 use path_planner::Plans;
 use std::alloc::Global;
 use std::test::Fail;
-use task_tables::{Fault, graph_of, node_in};
+use test_support::{Fault, graph_of, node_in};
 
 const TEXTS: &[Text] = &[
     // no path, whatever there is

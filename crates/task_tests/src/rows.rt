@@ -1,7 +1,7 @@
 // Rows: a node of a graph over results, with what it comes to.
 ghost use Rattle.std.specs.Prelude.{◌≡◌, ◌≢◌, []};
-ghost use Rattle.meaning_graph_text.specs.Grammar.{IsSpellable};
-ghost use Rattle.meaning_nodes.specs.Nodes.{Fits};
+ghost use Rattle.meaning_graph.specs.Grammar.{IsSpellable};
+ghost use Rattle.meaning_tasks.specs.Nodes.{Fits};
 ghost use Rattle.path_planner.specs.Ends.{plans_of};
 
 use super::graphs::{Decls, Text};
@@ -10,7 +10,7 @@ use super::shown::{are_nodes, is_call, is_view};
 use object_values::{Bytes, End, FileBody, Memory, Node, Raw, Seq};
 use path_planner::Plans;
 use std::alloc::Global;
-use task_tables::{Fault, Table, body_of, call_node, graph_of, node_in, settle_after};
+use test_support::{Fault, Table, body_of, call_node, graph_of, node_in, settle_after};
 use type_graph::Graph;
 
 // A graph, the text of a node, and results. Then the texts of its needs, the file `call` of its

@@ -1,6 +1,5 @@
 // Sources, by the order of their names and by their newest texts.
-use object_sources::Sources;
-use object_values::{Bytes, Memory, Text};
+use object_values::{Bytes, Memory, Sources, Text};
 use std::alloc::Global;
 use std::test::Fail;
 

@@ -10,8 +10,8 @@ use Rattle.object_values.specs.declared.graph.Decl.TheVariants.{ObjectType, Suff
 use Rattle.object_values.specs.declared.graph.GraphFault.{GraphFault}
 use Rattle.meaning_texts.specs.Limits.{declaration_limit}
 use Rattle.meaning_graph.specs.Graphs.{Graph, types, suffixes, params, makers, as_type, as_suffix, as_param, as_maker}
-use Rattle.meaning_graph_text.specs.Checks.{has_fault, all_faults, at_or_later, first_from, first_fault, Checked, FirstFault}
-use Rattle.meaning_graph_text.proofs.Lemmas.{first_or_checked}
+use Rattle.meaning_graph.specs.Checks.{has_fault, all_faults, at_or_later, first_from, first_fault, Checked, FirstFault}
+use Rattle.meaning_graph.proofs.Lemmas.{first_or_checked}
 use Rattle.type_graph.specs.declared.spaces.Counts.{Counts}
 use Rattle.type_graph.specs.Spaces.{counts_of, counts_with}
 use Rattle.type_graph.proofs.TableLemmas.{few_found}

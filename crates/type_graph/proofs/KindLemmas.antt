@@ -11,7 +11,7 @@ use Rattle.object_values.specs.declared.graph.Make.{Make}
 use Rattle.object_values.specs.declared.graph.Make.TheVariants.{Tool}
 use Rattle.object_values.specs.declared.graph.ToolDecl.{ToolDecl}
 use Rattle.meaning_graph.specs.Graphs.{Text, Graph}
-use Rattle.meaning_graph_text.specs.Checks.{is_known, kind_types, make_types, also_type, is_simple, super_fits}
+use Rattle.meaning_graph.specs.Checks.{is_known, kind_types, make_types, also_type, is_simple, super_fits}
 
 pass : (b rest more : Bool) → rest ≡ more → (b && rest) ≡ ((b && true) && more)
 pass true rest more e = e

@@ -6,7 +6,7 @@ use Rattle.meaning_texts.specs.Lists.{IsIn}
 use Rattle.meaning_graph.specs.Graphs.{Text, Graph, types, type_named}
 use Rattle.meaning_graph.specs.Types.{is_a}
 use Rattle.meaning_texts.proofs.Lemmas.{from_chosen}
-use Rattle.meaning_graph_text.specs.Checks.{both_known, is_a_named}
+use Rattle.meaning_graph.specs.Checks.{both_known, is_a_named}
 use Rattle.type_graph.proofs.ContextLemmas.{number_within}
 
 module _ (g : Graph) where

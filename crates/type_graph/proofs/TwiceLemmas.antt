@@ -7,7 +7,7 @@ use Rattle.std.proofs.lemmas.List.Folds.{list_any-append}
 use Rattle.std.proofs.lemmas.Option.{slice_get-map, slice_get-get_or, get_or_from_slice_get}
 use Rattle.object_values.specs.declared.graph.PartDecl.{PartDecl}
 use Rattle.meaning_graph.specs.Graphs.{Text}
-use Rattle.meaning_graph_text.specs.Checks.{has_twice}
+use Rattle.meaning_graph.specs.Checks.{has_twice}
 use Rattle.std.proofs.lemmas.Bool.{or_cases, or_left, or_right}
 use Rattle.type_graph.specs.Places.{Places, place_of, with_place, AreOf}
 use Rattle.type_graph.proofs.TableLemmas.{is_some-position}

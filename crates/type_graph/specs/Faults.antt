@@ -3,7 +3,7 @@ use Rattle.std.specs.Prelude.{⊤, ℕ, Option, find}
 use Rattle.object_values.specs.declared.graph.Decl.{Decl}
 use Rattle.object_values.specs.declared.graph.GraphFault.{GraphFault}
 use Rattle.meaning_graph.specs.Graphs.{Graph}
-use Rattle.meaning_graph_text.specs.Checks.{has_fault, all_faults, FirstFault}
+use Rattle.meaning_graph.specs.Checks.{has_fault, all_faults, FirstFault}
 use Rattle.type_graph.specs.declared.fault.CheckFault.{CheckFault}
 use Rattle.type_graph.specs.declared.fault.CheckFault.TheVariants as fault
 

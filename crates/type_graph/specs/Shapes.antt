@@ -10,7 +10,7 @@ use Rattle.object_values.specs.declared.graph.MakerDecl.{MakerDecl}
 use Rattle.object_values.specs.declared.graph.Decl.TheVariants.{ObjectType}
 use Rattle.meaning_graph.specs.Graphs.{Text, Graph, types, type_named, kind_named}
 use Rattle.meaning_graph.specs.Types.{is_a}
-use Rattle.meaning_graph_text.specs.Checks.{is_known, also_type, super_fits, keeps_make, keeps_rules}
+use Rattle.meaning_graph.specs.Checks.{is_known, also_type, super_fits, keeps_make, keeps_rules}
 use Rattle.type_graph.specs.declared.context.Shape.{Shape}
 use Rattle.type_graph.specs.declared.context.Shape.TheVariants as shape
 use Rattle.type_graph.specs.declared.context.Kinds.{Kinds}

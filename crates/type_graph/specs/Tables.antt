@@ -6,7 +6,7 @@ use Rattle.object_values.specs.declared.graph.MakerDecl.{MakerDecl}
 use Rattle.meaning_texts.specs.Limits.{declaration_limit}
 use Rattle.meaning_graph.specs.Graphs.{Text, Graph, types, suffixes, params, makers, type_named, as_maker}
 use Rattle.meaning_graph.specs.Types.{is_a}
-use Rattle.meaning_graph_text.specs.Checks.{Checked}
+use Rattle.meaning_graph.specs.Checks.{Checked}
 use Rattle.type_graph.specs.declared.context.Kinds.{Kinds}
 use Rattle.type_graph.specs.declared.spaces.Spaces.{Spaces}
 use Rattle.type_graph.specs.declared.tables.Numbers.{Numbers}

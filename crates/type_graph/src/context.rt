@@ -4,7 +4,7 @@ ghost use Rattle.std.specs.List.{list_any};
 ghost use Rattle.meaning_texts.specs.Limits.{declaration_limit};
 ghost use Rattle.meaning_graph.specs.Graphs.{types, type_named, has_param};
 ghost use Rattle.meaning_graph.specs.Types.{is_a};
-ghost use Rattle.meaning_graph_text.specs.Checks.{is_known};
+ghost use Rattle.meaning_graph.specs.Checks.{is_known};
 ghost use Rattle.type_graph.specs.Places.{place_of, stands_in};
 ghost use Rattle.type_graph.specs.Rows.{RowsAreClosed};
 ghost use Rattle.type_graph.specs.Shapes.{shape_of, shapes_of, supers_of_all, shape_named, IsRowAbove, AreKindsBy};

@@ -1,6 +1,6 @@
 // The test for double names.
 ghost use Rattle.std.specs.Prelude.{◌≡◌, ℕ, IfOk, take};
-ghost use Rattle.meaning_graph_text.specs.Checks.{doubles_name, has_twice, part_names, used_params};
+ghost use Rattle.meaning_graph.specs.Checks.{doubles_name, has_twice, part_names, used_params};
 ghost use Rattle.type_graph.specs.Spaces.{counts_of};
 
 use crate::context::Context;

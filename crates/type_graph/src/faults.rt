@@ -13,7 +13,7 @@ use std::alloc::Global;
 
 impl<'a> Context<'a> {
     /// The least fault of the declaration of a number, from 1.
-    #[tactic(auto, unfolding(meaning_graph_text::specs::Checks::has_fault))]
+    #[tactic(auto, unfolding(meaning_graph::specs::Checks::has_fault))]
     fn fault_of(
         &self,
         alloc: Global,

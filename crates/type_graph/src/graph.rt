@@ -3,7 +3,7 @@ ghost use Rattle.std.specs.Prelude.{◌≡◌, ◌<◌, IfOk, IfErr, length, opt
 ghost use Rattle.meaning_graph.specs.Graphs.{types, makers, type_named, has_param};
 ghost use Rattle.meaning_graph.specs.Suffixes.{source_type};
 ghost use Rattle.meaning_graph.specs.Types.{is_a};
-ghost use Rattle.meaning_graph_text.specs.Checks.{Checked};
+ghost use Rattle.meaning_graph.specs.Checks.{Checked};
 ghost use Rattle.type_graph.specs.Faults.{IsCheckFaultOf};
 
 use crate::fault::CheckFault;

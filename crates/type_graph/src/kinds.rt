@@ -3,7 +3,7 @@ ghost use Rattle.std.specs.Prelude.{◌≡◌, IfOk};
 ghost use Rattle.std.specs.List.{list_all};
 ghost use Rattle.std.specs.Option.{option_to_list};
 ghost use Rattle.meaning_graph.specs.Graphs.{type_named};
-ghost use Rattle.meaning_graph_text.specs.Checks.{is_simple, is_list, is_compound, keeps_kind, keeps_rules};
+ghost use Rattle.meaning_graph.specs.Checks.{is_simple, is_list, is_compound, keeps_kind, keeps_rules};
 ghost use Rattle.type_graph.specs.Shapes.{fits_named, supers_fit, keeps_type, maker_keeps, IsRowAbove};
 
 use crate::context::{Context, Shape};

@@ -4,7 +4,7 @@ ghost use Rattle.std.specs.List.{list_any, list_all};
 ghost use Rattle.std.specs.Option.{option_to_list};
 ghost use Rattle.meaning_graph.specs.Graphs.{has_param};
 ghost use Rattle.type_graph.specs.Shapes.{knows_extra};
-ghost use Rattle.meaning_graph_text.specs.Checks.{is_known, kind_types, make_types, all_types_known, uses_unknown_param};
+ghost use Rattle.meaning_graph.specs.Checks.{is_known, kind_types, make_types, all_types_known, uses_unknown_param};
 
 use crate::context::Context;
 use object_values::{Bytes, Decl, Extra, Kind, Make, PartDecl};

@@ -1,7 +1,7 @@
 // The test for supertype loops.
 ghost use Rattle.std.specs.Prelude.{◌≡◌, IfOk};
 ghost use Rattle.object_values.specs.declared.graph.Decl.TheVariants.{ObjectType};
-ghost use Rattle.meaning_graph_text.specs.Checks.{is_in_loop};
+ghost use Rattle.meaning_graph.specs.Checks.{is_in_loop};
 
 use crate::context::Context;
 use object_values::{Decl, Memory, TypeDecl};

@@ -10,7 +10,7 @@ use odin_fakes::MemDisk;
 use odin_outside::Disk;
 use odin_store::{Store, StoreFault};
 use std::alloc::Global;
-use store_views::{keep, put_named};
+use test_support::{keep, put_named};
 
 /// The graph of each store.
 pub(crate) const GRAPH: &[u8; 14] = b"type c simple;";

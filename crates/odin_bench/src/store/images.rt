@@ -6,9 +6,9 @@ use odin_bytes::{put_bytes, put_u8, put_u64, take_bytes};
 use odin_fakes::MemDisk;
 use odin_store::{Store, StoreFault};
 use std::alloc::Global;
-use std::io::Write;
 use std::{fs, io};
-use store_views::held;
+use std::io::Write;
+use test_support::held;
 
 fn add_bytes(out: &mut Bytes, bytes: &[u8]) -> Result<(), Memory> {
     if bytes.len() > u32::MAX as usize {

@@ -6,7 +6,7 @@ use crate::fault::Fault;
 use object_values::{Bytes, Node, Seq, SharedSeq, Status, Value, View};
 use path_planner::Plans;
 use std::alloc::Global;
-use task_tables::{Table, body_of, node_in};
+use test_support::{Table, body_of, node_in};
 use type_graph::Graph;
 
 /// The graph of units with its compounds.

@@ -1,7 +1,7 @@
 // Many calls that are kept together.
 ghost use Rattle.std.specs.Prelude.{◌≡◌};
-ghost use Rattle.meaning_graph_text.specs.Grammar.{IsSpellable};
-ghost use Rattle.meaning_nodes.specs.Nodes.{Fits};
+ghost use Rattle.meaning_graph.specs.Grammar.{IsSpellable};
+ghost use Rattle.meaning_tasks.specs.Nodes.{Fits};
 ghost use Rattle.path_planner.specs.Ends.{plans_of};
 
 use crate::fault::Fault;
@@ -10,7 +10,7 @@ use crate::tasks::repeating::{Counts, parts_of};
 use object_values::{Bytes, Call, Node, Seq};
 use path_planner::Plans;
 use std::alloc::Global;
-use task_tables::{Table, call_node, graph_of, node_in};
+use test_support::{Table, call_node, graph_of, node_in};
 use type_graph::Graph;
 
 // The headers that each unit includes.

@@ -1,6 +1,6 @@
 // Nodes with many needs.
 ghost use Rattle.std.specs.Prelude.{◌≡◌};
-ghost use Rattle.meaning_graph_text.specs.Grammar.{IsSpellable};
+ghost use Rattle.meaning_graph.specs.Grammar.{IsSpellable};
 ghost use Rattle.path_planner.specs.Ends.{plans_of};
 
 use crate::fault::Fault;
@@ -9,7 +9,7 @@ use crate::tasks::repeating::{Counts, repeated};
 use object_values::{Node, Seq};
 use path_planner::Plans;
 use std::alloc::Global;
-use task_tables::{Table, graph_of, node_in};
+use test_support::{Table, graph_of, node_in};
 use type_graph::Graph;
 
 // ---- lists

@@ -1,14 +1,14 @@
 // A node that is looked at again and again.
 ghost use Rattle.std.specs.Prelude.{◌≡◌, ◌≢◌, []};
-ghost use Rattle.meaning_graph_text.specs.Grammar.{IsSpellable};
-ghost use Rattle.meaning_nodes.specs.Nodes.{Fits};
+ghost use Rattle.meaning_graph.specs.Grammar.{IsSpellable};
+ghost use Rattle.meaning_tasks.specs.Nodes.{Fits};
 ghost use Rattle.path_planner.specs.Ends.{plans_of};
 
 use crate::fault::Fault;
 use object_values::{Bytes, Call, End, FileBody, Memory, Node, Raw, Seq};
 use path_planner::Plans;
 use std::alloc::Global;
-use task_tables::{Table, body_of, call_node, node_in, settle_after};
+use test_support::{Table, body_of, call_node, node_in, settle_after};
 use type_graph::Graph;
 
 // How often each node is looked at.

@@ -1,12 +1,12 @@
 // A chain that is found while tools run: nothing more is started, and what runs is drained and kept.
-use super::project::{Events, order_of};
 use crate::stored::{Text, disk_of, status_at};
+use super::project::{Events, order_of};
 use object_values::{Memory, Seq};
 use odin_fakes::{FailTools, TableTools};
 use odin_outside::Spawner;
-use session_samples::sink;
 use std::alloc::Global;
 use std::test::Fail;
+use test_support::sink;
 
 // Texts that are made, and joined of the texts that they name: a text that names what is joined of itself is circular once it is made.
 const MADE: &[&[u8]] = &[

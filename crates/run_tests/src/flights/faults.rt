@@ -1,12 +1,12 @@
 // Each start, each end and each call of the disk fails in turn while several tools are in flight.
-use super::project::{ASK, CALLS, Events, OBJECT, PUT_REPLIES, PUTS, order_of, ran_with};
 use crate::stored::disk_of;
+use super::project::{ASK, CALLS, Events, OBJECT, PUT_REPLIES, PUTS, order_of, ran_with};
 use object_values::{Memory, Seq};
 use odin_fakes::{FailDisk, FailTools, MemDisk, TableTools};
 use odin_outside::{Spawner, ToolEvent};
-use session_samples::only;
 use std::alloc::Global;
 use std::test::Fail;
+use test_support::only;
 
 // The orders in which tools end.
 const ORDERS: &[&[u32]] = &[&[], &[2, 1, 0, 2, 1], &[1, 1, 1, 1, 1, 1]];

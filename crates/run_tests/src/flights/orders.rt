@@ -1,12 +1,12 @@
 // The order in which tools end changes no byte and no start.
-use super::project::{ASK, CALLS, Events, OBJECT, PUT_REPLIES, PUTS, order_of, ran_with};
 use crate::stored::{Text, disk_of};
+use super::project::{ASK, CALLS, Events, OBJECT, PUT_REPLIES, PUTS, order_of, ran_with};
 use object_values::{Memory, Seq};
 use odin_fakes::{FailTools, TableTools};
 use odin_outside::Spawner;
-use session_samples::only;
 use std::alloc::Global;
 use std::test::Fail;
+use test_support::only;
 
 // Two units.
 const TWO: Text = b"put m.sm 8\na.c\nb.c\nput a.c 4\nx=1\nput b.c 4\ny=2\nask m.sm:exe\n";

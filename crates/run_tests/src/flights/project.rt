@@ -4,8 +4,8 @@ ghost use Rattle.std.specs.Prelude.{◌≡◌, []};
 use crate::stored::{Text, status_at};
 use object_values::{Memory, Seq};
 use odin_outside::{Disk, Spawner, ToolEvent};
-use session_samples::{C_UNITS, sink};
 use std::alloc::Global;
+use test_support::{C_UNITS, sink};
 
 /// Five units over two headers are put.
 pub(super) const PUTS: Text =

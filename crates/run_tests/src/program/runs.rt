@@ -1,13 +1,11 @@
 // Runs over the files of the current folder and child programs.
 use object_values::{Bytes, Memory};
-use odin_children::{ChildTools, HostSystem};
 use odin_fakes::MemDisk;
-use odin_files::FolderTree;
-use odin_real::{InputSource, OutputSink};
+use odin_real::{ChildTools, FolderTree, HostSystem, InputSource, OutputSink};
 use odin_shell::run;
-use session_samples::owned;
 use std::fs;
 use std::io::{self, Read, Write};
+use test_support::owned;
 
 /// The file of the graph, in the current folder.
 pub const GRAPH: &str = "run_tests.graph";

@@ -1,5 +1,5 @@
 // The graphs of the tests, each in one piece or more.
-use session_samples::{C_UNITS as UNITS_TEXT, KITS as KITS_TEXT};
+use test_support::{C_UNITS as UNITS_TEXT, KITS as KITS_TEXT};
 
 /// A graph's text, in pieces.
 pub(super) type Pieces = &'static [&'static [u8]];

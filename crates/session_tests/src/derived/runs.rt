@@ -5,8 +5,8 @@ use crate::runs::{JOBS, status_over};
 use object_values::{Memory, Seq};
 use odin_fakes::TableTools;
 use odin_outside::Spawner;
-use session_samples::{graph_text, owned, sink, source, tree_of};
 use std::alloc::Global;
+use test_support::{graph_text, owned, sink, source, tree_of};
 
 // Room for the longest output.
 const ROOM: usize = 500_000;

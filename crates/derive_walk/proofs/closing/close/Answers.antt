@@ -1,6 +1,6 @@
 use Rattle.std.proofs.Common.{◌+◌, ◌≤◌, sym, ap, subst, ◌∙◌, arith}
 use Rattle.meaning_texts.specs.Limits.{height_limit}
-use Rattle.walk_tables.specs.Tables.{top_of}
+use Rattle.derive_walk.specs.Tables.{top_of}
 use Rattle.derive_walk.specs.Settings.{world_in}
 use Rattle.derive_walk.specs.States.{heights_in, HoldsIn}
 use Rattle.derive_walk.proofs.Tables.{not_waiting}

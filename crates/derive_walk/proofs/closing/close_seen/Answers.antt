@@ -1,6 +1,6 @@
 use Rattle.std.proofs.Common.{refl, sym, subst}
 use Rattle.std.proofs.lemmas.Result.{err_from_is_err_and}
-use Rattle.walk_tables.specs.Tables.{results_of}
+use Rattle.derive_walk.specs.Tables.{results_of}
 use Rattle.derive_walk.specs.Settings.{world_in}
 use Rattle.derive_walk.specs.Settled.{NodeIsClosed}
 use Rattle.derive_walk.specs.States.{HoldsIn, GoesOnFrom}

@@ -2,7 +2,7 @@ use Rattle.std.proofs.Common.{◌≡◌, ◌-◌, ◌++◌, ◌∷◌, [], lengt
 use Rattle.std.specs.Prelude.{Some}
 use Rattle.meaning_texts.proofs.Lemmas.{some_is_none}
 use Rattle.meaning_tasks.specs.Needs.{Needs}
-use Rattle.walk_tables.specs.Tables.{results_of, of_height}
+use Rattle.derive_walk.specs.Tables.{results_of, of_height}
 use Rattle.derive_walk.specs.Settings.{world_in}
 use Rattle.derive_walk.specs.States.{heights_in}
 use Rattle.derive_walk.proofs.DownLemmas.{on_ok, last_node, need_there, one_lower}

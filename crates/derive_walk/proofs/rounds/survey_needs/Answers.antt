@@ -1,7 +1,7 @@
 use Rattle.std.proofs.Common.{ap, ◌∙◌}
 use Rattle.node_tasks.proofs.Lemmas.{needs_in, needs_listed}
-use Rattle.walk_tables.specs.Tables.{results_of}
-use Rattle.walk_tables.specs.Surveys.{survey_of}
+use Rattle.derive_walk.specs.Tables.{results_of}
+use Rattle.derive_walk.specs.Surveys.{survey_of}
 use Rattle.derive_walk.proofs.rounds.survey_needs.Goals as goal
 
 pub returns : goal.returns

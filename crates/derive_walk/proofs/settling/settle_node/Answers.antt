@@ -1,4 +1,4 @@
-use Rattle.walk_tables.specs.Tables.{results_of}
+use Rattle.derive_walk.specs.Tables.{results_of}
 use Rattle.derive_walk.specs.Settings.{world_in}
 use Rattle.derive_walk.proofs.SourceSettles.{source_closes}
 use Rattle.derive_walk.proofs.settling.settle_node.Goals as goal

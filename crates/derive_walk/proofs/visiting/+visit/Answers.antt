@@ -2,8 +2,8 @@ use Rattle.std.proofs.Common.{◌≡◌, ◌+◌, ◌<◌, [], ◌∷◌, ◌++�
 use Rattle.std.proofs.lemmas.List.{drop_all}
 use Rattle.std.specs.Prelude.{None, IsSome}
 use Rattle.std.proofs.lemmas.Result.{err_from_is_err_and}
-use Rattle.walk_tables.specs.Chains.{IsChainTo}
-use Rattle.walk_tables.specs.Tables.{results_of}
+use Rattle.derive_walk.specs.Chains.{IsChainTo}
+use Rattle.derive_walk.specs.Tables.{results_of}
 use Rattle.derive_walk.specs.Settings.{world_in}
 use Rattle.derive_walk.specs.Worlds.{IsNeedIn}
 use Rattle.derive_walk.specs.States.{heights_in, Visited, AfterVisit}

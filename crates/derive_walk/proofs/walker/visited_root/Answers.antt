@@ -1,6 +1,6 @@
 use Rattle.std.proofs.Common.{◌≡◌, rules}
 use Rattle.std.specs.Prelude.{Some, None}
-use Rattle.walk_tables.specs.Tables.{done_in}
+use Rattle.derive_walk.specs.Tables.{done_in}
 use Rattle.derive_walk.proofs.RootLemmas.{frontier, answered}
 use Rattle.derive_walk.proofs.walker.visited_root.Goals as goal
 

@@ -1,5 +1,5 @@
 use Rattle.std.proofs.Common.{subst, rules}
-use Rattle.meaning_graph_text.specs.Going.{start}
+use Rattle.meaning_graph.specs.Going.{start}
 use Rattle.dg_reader.specs.Walks.{StopsAt, TokensHalt}
 use Rattle.dg_reader.proofs.FaultLemmas.{fault_at}
 use Rattle.dg_reader.proofs.FileLemmas.{none_read, more_read, left_within, decl_shorter}

@@ -1,9 +1,9 @@
 use Rattle.std.proofs.Common.{◌≡◌, ◌++◌, ◌∷◌, ◌+◌, [], take, refl, sym, ap, ◌∙◌}
 use Rattle.std.proofs.lemmas.List.{take_all}
-use Rattle.meaning_graph_text.specs.Tokens.{semicolon}
-use Rattle.meaning_graph_text.specs.Grammar.{decl_tokens}
-use Rattle.meaning_graph_text.specs.Spelling.{tokens_spelling, graph_spelling}
-use Rattle.meaning_graph_text.proofs.Lemmas.{checked_has_spelling, spelled}
+use Rattle.meaning_graph.specs.Tokens.{semicolon}
+use Rattle.meaning_graph.specs.Grammar.{decl_tokens}
+use Rattle.meaning_graph.specs.Spelling.{tokens_spelling, graph_spelling}
+use Rattle.meaning_graph.proofs.Lemmas.{checked_has_spelling, spelled}
 use Rattle.dg_reader.proofs.WriteLemmas.{graph_none, graph_more, take_step}
 use Rattle.dg_reader.proofs.write.write_graph.Goals as goal
 

@@ -1,5 +1,5 @@
 use Rattle.std.proofs.Common.{◌≡◌, take, true}
-use Rattle.meaning_graph_text.specs.Spelling.{graph_spelling}
+use Rattle.meaning_graph.specs.Spelling.{graph_spelling}
 use Rattle.dg_reader.proofs.write.write_graph.Given as goal
 
 abbrev pub invariant-decls : goal.invariant-decls

@@ -1,6 +1,6 @@
 use Rattle.std.proofs.Common.{◌≡◌, inl, inr, ℕ, List, [], ◌∷◌, length, Some, All, refl, ap, subst, arith, codes}
 use Rattle.std.proofs.lemmas.List.Elements.{All-nil, All-cons, All-head}
-use Rattle.object_sources.specs.Texts.{Text}
+use Rattle.object_values.specs.Texts.{Text}
 use Rattle.meaning_texts.specs.Lists.{IsIn}
 use Rattle.meaning_records.specs.Tables.{IsNoText}
 use Rattle.meaning_records.specs.Batches.{EachTextOnce, needed_texts}

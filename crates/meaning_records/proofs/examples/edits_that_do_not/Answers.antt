@@ -2,8 +2,8 @@ use Rattle.std.proofs.Common.{rules, arith, get_or, ◌≡◌, ◌≢◌, Bool, 
 use Rattle.std.specs.FinMap as map
 use Rattle.std.specs.Ordering.{nat_cmp}
 use Rattle.std.specs.Cmp.Lexicographic.{slice_cmp}
-use Rattle.object_sources.specs.Texts.{no_texts}
-use Rattle.object_sources.specs.Gets.{put_other}
+use Rattle.object_values.specs.Texts.{no_texts}
+use Rattle.object_values.specs.Gets.{put_other}
 use Rattle.meaning_records.proofs.examples.edits_that_do_not.Goals as goal
 
 b_is_not_a : codes "b.c" ≢ codes "a.c"

@@ -1,7 +1,7 @@
 use Rattle.std.proofs.Common.{refl, ap, arith, is_some, codes, Some, [], ◌∷◌}
 use Rattle.std.specs.FinMap as map
-use Rattle.object_sources.specs.Texts.{no_texts}
-use Rattle.object_sources.specs.Gets.{put_here}
+use Rattle.object_values.specs.Texts.{no_texts}
+use Rattle.object_values.specs.Gets.{put_here}
 use Rattle.object_values.specs.declared.views.Value.TheVariants.{Simple, List as Listed}
 use Rattle.meaning_texts.specs.Classes.{is_name_byte}
 use Rattle.meaning_texts.proofs.Lemmas.{word_decides}

@@ -1,5 +1,5 @@
 use Rattle.std.proofs.Common.{rules, refl, inl, inr, arith, [], ◌∷◌}
-use Rattle.meaning_store.specs.Images.{IsStore, IsRecord, BreaksAt, with_record}
+use Rattle.meaning_records.specs.Images.{IsStore, IsRecord, BreaksAt, with_record}
 use Rattle.meaning_records.specs.States.{nothing, spell_batch}
 use Rattle.meaning_records.specs.ImageExamples.{empty_store, broken, graph_kept}
 use Rattle.meaning_records.proofs.RecordFronts.{no_item_from}

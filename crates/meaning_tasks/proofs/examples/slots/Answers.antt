@@ -6,8 +6,8 @@ use Rattle.meaning_texts.specs.Lines.{lines_of}
 use Rattle.meaning_graph.specs.Suffixes.{source_type}
 use Rattle.meaning_graph.specs.Types.{is_a}
 use Rattle.meaning_graph.specs.Paths.{chosen_path}
-use Rattle.meaning_nodes.specs.Nodes.{reached_type}
-use Rattle.meaning_nodes.specs.NodeOf.{node_of}
+use Rattle.meaning_tasks.specs.Nodes.{reached_type}
+use Rattle.meaning_tasks.specs.NodeOf.{node_of}
 use Rattle.meaning_tasks.specs.Tasks.{task_of}
 use Rattle.meaning_tasks.specs.Reached.{reached_names}
 use Rattle.meaning_tasks.proofs.examples.slots.Goals as goal

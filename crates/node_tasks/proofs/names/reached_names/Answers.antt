@@ -1,6 +1,6 @@
 use Rattle.std.proofs.Common.{◌≡◌, ◌∙◌, sym, ap, subst, rules, false}
 use Rattle.std.specs.Prelude.{None, IfOk}
-use Rattle.meaning_nodes.specs.Nodes.{base_of}
+use Rattle.meaning_tasks.specs.Nodes.{base_of}
 use Rattle.meaning_tasks.specs.Reached.{AreReached}
 use Rattle.meaning_tasks.specs.Tasks.{tool_task, task_of}
 use Rattle.meaning_tasks.specs.Needs.{Known, values_of, has_value, own_lines, other_lines}

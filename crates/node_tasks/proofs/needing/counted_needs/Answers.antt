@@ -1,7 +1,7 @@
 use Rattle.std.proofs.Common.{◌∙◌, sym, ap, List, ◌∷◌, map}
 use Rattle.object_values.specs.declared.nodes.Node.{Node}
 use Rattle.meaning_graph.specs.Graphs.{Text}
-use Rattle.meaning_nodes.specs.Nodes.{base_of}
+use Rattle.meaning_tasks.specs.Nodes.{base_of}
 use Rattle.meaning_tasks.specs.Tasks.{PackPart, pack_part}
 use Rattle.meaning_tasks.specs.Needs.{Known, values_of, picked_element, counted_needs}
 use Rattle.meaning_tasks.proofs.Lemmas.{packed_counted_are, picked_counted_are}

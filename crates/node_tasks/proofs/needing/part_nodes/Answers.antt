@@ -2,7 +2,7 @@ use Rattle.std.proofs.Common.{◌∙◌, ap, arith, flat_map}
 use Rattle.std.specs.Prelude.{option_to_list}
 use Rattle.std.proofs.lemmas.List.{take_all}
 use Rattle.object_values.specs.declared.graph.PartDecl.{PartDecl}
-use Rattle.meaning_nodes.specs.Nodes.{onward_named}
+use Rattle.meaning_tasks.specs.Nodes.{onward_named}
 use Rattle.node_tasks.proofs.NeedLemmas.{part_nodes_are}
 use Rattle.node_tasks.proofs.needing.part_nodes.Goals as goal
 

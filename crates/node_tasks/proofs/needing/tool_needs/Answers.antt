@@ -1,7 +1,7 @@
 use Rattle.std.proofs.Common.{◌∙◌, ap, sym, ◌++◌, ◌∷◌, [], List, map, flat_map}
 use Rattle.std.specs.Prelude.{option_to_list}
 use Rattle.object_values.specs.declared.nodes.Node.{Node}
-use Rattle.meaning_nodes.specs.Nodes.{base_of}
+use Rattle.meaning_tasks.specs.Nodes.{base_of}
 use Rattle.meaning_tasks.specs.Tasks.{extra_led, led_nodes, scan_node, tool_task}
 use Rattle.meaning_tasks.specs.Needs.{Known, values_of, scan_needs}
 use Rattle.node_tasks.proofs.NeedLemmas.{only_base, base_and_others}

@@ -1,6 +1,6 @@
 use Rattle.std.proofs.Common.{◌≡◌, ap, subst}
 use Rattle.std.specs.Prelude.{IfOk, option_map}
-use Rattle.meaning_nodes.specs.Labels.{label_of}
+use Rattle.meaning_tasks.specs.Labels.{label_of}
 use Rattle.meaning_tasks.specs.Tasks.{Own}
 use Rattle.meaning_tasks.specs.Needs.{values_of}
 use Rattle.node_tasks.proofs.SettleLemmas.{run_is}

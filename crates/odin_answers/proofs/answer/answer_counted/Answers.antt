@@ -1,7 +1,7 @@
 use Rattle.std.proofs.Common.{◌∙◌, ap, subst}
 use Rattle.std.proofs.lemmas.Result.{IfOk-weaker, IfErr-weaker}
-use Rattle.meaning_answers.specs.Replies.{shown}
-use Rattle.walk_tables.specs.declared.found.Found.TheVariants as found
+use Rattle.meaning_derive.specs.Replies.{shown}
+use Rattle.derive_walk.specs.declared.found.Found.TheVariants as found
 use Rattle.odin_answers.specs.Faults.{IsReplyToFault}
 use Rattle.odin_answers.proofs.AnswerLemmas.{replied, unreplied, refused, stopped}
 use Rattle.odin_answers.proofs.FaultLemmas.{at_want, refused_rests, refused_left, refused_cause}

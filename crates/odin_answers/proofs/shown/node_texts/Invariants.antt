@@ -1,5 +1,5 @@
 use Rattle.std.proofs.Common.{◌≡◌, take, map}
-use Rattle.meaning_nodes.specs.Labels.{node_text}
+use Rattle.meaning_tasks.specs.Labels.{node_text}
 use Rattle.odin_answers.proofs.shown.node_texts.Given as goal
 
 abbrev pub invariant-nodes : goal.invariant-nodes

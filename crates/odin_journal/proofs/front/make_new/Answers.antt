@@ -1,6 +1,6 @@
 use Rattle.std.proofs.Common.{[]}
 use Rattle.std.proofs.lemmas.Result.{on_ok_weaker}
-use Rattle.meaning_store.specs.Images.{Stored}
+use Rattle.meaning_records.specs.Images.{Stored}
 use Rattle.odin_journal.proofs.FrontLemmas.{makes_on}
 use Rattle.odin_outside.specs.Moments.{then}
 use Rattle.odin_journal.proofs.front.make_new.Goals as goal

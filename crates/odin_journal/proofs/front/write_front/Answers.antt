@@ -1,6 +1,6 @@
 use Rattle.std.proofs.Common.{[], drop, inl, refl}
 use Rattle.odin_outside.specs.Disk.{Torn}
-use Rattle.meaning_store.specs.Images.{Stored}
+use Rattle.meaning_records.specs.Images.{Stored}
 use Rattle.odin_outside.specs.Moments.{then, weaker}
 use Rattle.odin_journal.proofs.MomentLemmas.{on_ok_two}
 use Rattle.odin_journal.proofs.FrontLemmas.{torn_front, front_written, torn_mark, marked, marked_bytes}

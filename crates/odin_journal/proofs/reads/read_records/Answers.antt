@@ -1,6 +1,6 @@
 use Rattle.std.proofs.Common.{◌≡◌, ◌++◌, ◌∷◌, ◌+◌, ◌*◌, [], length, length-append, ap, sym, subst, ◌∙◌, arith}
-use Rattle.disk_trails.specs.WorkLemmas.{more_work, add_work}
-use Rattle.meaning_store.specs.Images.{gate_after, IsRecord, AreRecords}
+use Rattle.odin_journal.specs.WorkLemmas.{more_work, add_work}
+use Rattle.meaning_records.specs.Images.{gate_after, IsRecord, AreRecords}
 use Rattle.odin_journal.proofs.MomentLemmas.{untouched_on}
 use Rattle.odin_journal.proofs.AppendLemmas.{one_more}
 use Rattle.odin_journal.proofs.reads.read_records.Goals as goal

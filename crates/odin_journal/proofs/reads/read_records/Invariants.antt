@@ -1,6 +1,6 @@
 use Rattle.std.proofs.Common.{◌≡◌, ◌<◌, ◌-◌, ◌*◌, length}
 use Rattle.odin_outside.specs.Disk.{IsQuiet}
-use Rattle.meaning_store.specs.Images.{AreRecords}
+use Rattle.meaning_records.specs.Images.{AreRecords}
 use Rattle.odin_journal.specs.Moments.{IsQuietAt, Untouched, Works}
 use Rattle.odin_journal.proofs.reads.read_records.Given as goal
 

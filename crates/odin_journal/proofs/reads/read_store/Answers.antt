@@ -1,5 +1,5 @@
 use Rattle.std.proofs.Common.{subst}
-use Rattle.meaning_store.specs.Images.{IsWritten, IsClosed, AreRecords, IsStore, NotOurs}
+use Rattle.meaning_records.specs.Images.{IsWritten, IsClosed, AreRecords, IsStore, NotOurs}
 use Rattle.odin_journal.specs.Faults.{BreaksBehind}
 use Rattle.odin_journal.specs.Moments.{IsQuietAt}
 use Rattle.odin_journal.proofs.OpenLemmas.{if_ok_two, quiet_on, faults_from, store_from, breaks_from}

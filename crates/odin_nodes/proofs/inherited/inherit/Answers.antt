@@ -3,7 +3,7 @@ use Rattle.std.specs.Prelude.{IfOk}
 use Rattle.std.proofs.lemmas.List.{take_all}
 use Rattle.object_values.specs.declared.messages.Message.{Message}
 use Rattle.object_values.specs.declared.views.View.{View}
-use Rattle.meaning_nodes.specs.Values.{inherit}
+use Rattle.meaning_tasks.specs.Values.{inherit}
 use Rattle.odin_nodes.proofs.Once.{inherit_all}
 use Rattle.odin_nodes.proofs.inherited.inherit.Goals as goal
 

@@ -3,8 +3,8 @@ use Rattle.std.proofs.Common.{◌≡◌, ◌∙◌, ap, sym, subst}
 use Rattle.std.specs.Prelude.{IfOk, IfErr}
 use Rattle.std.proofs.lemmas.Result.{IfOk-weaker}
 use Rattle.object_values.specs.declared.nodes.Node.{Node}
-use Rattle.meaning_nodes.specs.NodeOf.{NodeAnswer, is_node, unknown_param, node_of, steps_on, unknown_in}
-use Rattle.meaning_nodes.proofs.Lemmas.{made_fits}
+use Rattle.meaning_tasks.specs.NodeOf.{NodeAnswer, is_node, unknown_param, node_of, steps_on, unknown_in}
+use Rattle.meaning_tasks.proofs.Lemmas.{made_fits}
 use Rattle.odin_nodes.specs.Refusals.{IsFaultOfAnswer, IsNodeRefusal}
 use Rattle.odin_nodes.proofs.MakeLemmas.{param_unknown, params_known, when_ok, when_err}
 use Rattle.odin_nodes.proofs.making.node_from.Goals as goal

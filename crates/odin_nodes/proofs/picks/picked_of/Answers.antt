@@ -3,7 +3,7 @@ use Rattle.std.specs.Prelude.{Some, bytes_eq, find}
 use Rattle.object_values.specs.declared.graph.PartDecl.{PartDecl}
 use Rattle.object_values.specs.declared.graph.Kind.{Kind}
 use Rattle.meaning_graph.specs.Graphs.{type_named}
-use Rattle.meaning_nodes.specs.Nodes.{picked_type}
+use Rattle.meaning_tasks.specs.Nodes.{picked_type}
 use Rattle.odin_nodes.proofs.PickLemmas.{part_picked}
 use Rattle.odin_nodes.proofs.picks.picked_of.Goals as goal
 

@@ -4,7 +4,7 @@ use Rattle.std.specs.Prelude.{Some}
 use Rattle.object_values.specs.declared.nodes.Step.{Step}
 use Rattle.meaning_graph.specs.Graphs.{types}
 use Rattle.meaning_graph.specs.Suffixes.{source_type}
-use Rattle.meaning_nodes.specs.Nodes.{type_after, reached_type}
+use Rattle.meaning_tasks.specs.Nodes.{type_after, reached_type}
 use Rattle.odin_nodes.proofs.TypeLemmas.{source_below}
 use Rattle.odin_nodes.proofs.types.reached_type.Goals as goal
 

@@ -1,6 +1,6 @@
 use Rattle.std.proofs.Common.{◌≡◌, ◌≤◌, ◌+◌, refl, ◌∙◌, arith, rules}
 use Rattle.std.proofs.lemmas.List.{length-take-le}
-use Rattle.meaning_run.specs.Endings.{input_limit, piece_limit}
+use Rattle.meaning_commands.specs.Endings.{input_limit, piece_limit}
 use Rattle.odin_shell.proofs.ServeLemmas.{onward_as}
 use Rattle.odin_shell.proofs.InputLemmas.{served_as, none_read, piece_read, may_serve, ends_unread, ends_whole, ends_inside, ends_last, ends_piece, ends_at_limit}
 use Rattle.odin_shell.proofs.input.serve_pieces.Goals as goal

@@ -1,5 +1,5 @@
 use Rattle.meaning_commands.proofs.Lemmas.{one_command}
-use Rattle.meaning_run.proofs.Lemmas.{one_cut}
+use Rattle.meaning_commands.proofs.Lemmas.{one_cut}
 use Rattle.odin_shell.specs.Language.{commands}
 use Rattle.odin_shell.proofs.laws.input_is_cut_once.Goals as goal
 

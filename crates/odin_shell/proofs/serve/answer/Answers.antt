@@ -2,9 +2,9 @@ use Rattle.std.proofs.Common.{ap, refl, sym, ◌∙◌, subst}
 use Rattle.meaning_commands.specs.declared.replies.Reply.TheVariants as reply
 use Rattle.meaning_commands.specs.Replies.{reply_text}
 use Rattle.meaning_commands.specs.declared.commands.Command.TheVariants as command
-use Rattle.meaning_answers.specs.Answers as answers
+use Rattle.meaning_derive.specs.Answers as answers
 use Rattle.odin_journal.specs.declared.fault.JournalFault.TheVariants as fault
-use Rattle.source_edits.specs.Edits.{SaysReply}
+use Rattle.odin_answers.specs.Edits.{SaysReply}
 use Rattle.odin_shell.proofs.AnswerLemmas.{at_stop, same_answers}
 use Rattle.odin_shell.proofs.CommandLemmas.{edit_onward, put_said, put_unsaid, remove_said, remove_unsaid, take_said, take_unsaid, ask_said, ask_unsaid, shown, unshown}
 use Rattle.odin_shell.proofs.ShowLemmas.{plan_answers, sources_answers, kept_answers}

@@ -1,5 +1,5 @@
 use Rattle.std.proofs.Common.{rules, ◌∙◌}
-use Rattle.meaning_run.proofs.Lemmas.{one_more_write}
+use Rattle.meaning_commands.proofs.Lemmas.{one_more_write}
 use Rattle.odin_shell.proofs.write.write_whole.Goals as goal
 
 pub loop-at-preserved : goal.loop-at-preserved

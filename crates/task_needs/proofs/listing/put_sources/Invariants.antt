@@ -1,5 +1,5 @@
 use Rattle.std.proofs.Common.{◌≡◌, ◌++◌, take, map}
-use Rattle.meaning_nodes.specs.Nodes.{source_node}
+use Rattle.meaning_tasks.specs.Nodes.{source_node}
 use Rattle.task_needs.proofs.listing.put_sources.Given as goal
 
 abbrev pub invariant-loop-name : goal.invariant-loop-name

@@ -1,7 +1,7 @@
 -- Declaration by declaration.
 use Rattle.std.proofs.Common.{◌∙◌, ◌+◌, sym, ap, subst, rules}
 use Rattle.std.specs.Prelude.{find}
-use Rattle.meaning_graph_text.specs.Checks.{has_fault, all_faults}
+use Rattle.meaning_graph.specs.Checks.{has_fault, all_faults}
 use Rattle.type_graph.proofs.FaultLemmas.{IsClean, clean_yet, fault_here, clean_here, few_types_yet, few_suffixes_yet, few_params_yet, few_makers_yet, all_clean, few_at_end}
 use Rattle.type_graph.proofs.faults.check.Goals as goal
 

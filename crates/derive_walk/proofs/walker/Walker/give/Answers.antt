@@ -2,7 +2,7 @@ use Rattle.std.proofs.Common.{◌≡◌, ◌≢◌, ◌↔◌, List, [], ◌∷�
 use Rattle.object_values.specs.declared.calls.Call.{Call}
 use Rattle.object_values.specs.declared.calls.Outcome.{Outcome}
 use Rattle.meaning_texts.specs.Lists.{IsIn}
-use Rattle.walk_tables.specs.Calls.{AreOnce, GivenOutcomes as Listed}
+use Rattle.derive_walk.specs.Calls.{AreOnce, GivenOutcomes as Listed}
 use Rattle.derive_walk.specs.Walks.{Walked, AreApart, OutcomeIsGiven}
 use Rattle.derive_walk.proofs.GiveLemmas.{apart_after, right_after}
 use Rattle.derive_walk.proofs.walker.Walker.give.Goals as goal

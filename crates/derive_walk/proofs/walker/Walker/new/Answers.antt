@@ -2,7 +2,7 @@ use Rattle.std.proofs.Common.{◌≡◌, sym, subst}
 use Rattle.std.specs.Prelude.{None}
 use Rattle.object_values.specs.declared.nodes.Node.{Node}
 use Rattle.meaning_texts.proofs.Lemmas.{some_is_none}
-use Rattle.meaning_nodes.specs.Nodes.{Fits}
+use Rattle.meaning_tasks.specs.Nodes.{Fits}
 use Rattle.meaning_derive.specs.Given.{OutcomesFit}
 use Rattle.derive_walk.specs.Walks.{IsRight, new_walk}
 use Rattle.derive_walk.specs.Worlds.{World}

@@ -1,5 +1,5 @@
 use Rattle.std.proofs.Common.{[], ◌∷◌}
-use Rattle.meaning_graph_text.specs.Going.{identifier, ending, expect}
+use Rattle.meaning_graph.specs.Going.{identifier, ending, expect}
 use Rattle.dg_reader.proofs.WalkLemmas.{at_stop, halts_behind}
 use Rattle.dg_reader.proofs.ListLemmas.{closure_leads, closure_read, no_closure}
 use Rattle.dg_reader.proofs.cursor.Cursor.closure.Goals as goal

@@ -1,5 +1,5 @@
 use Rattle.std.proofs.Common.{[], ◌∷◌, rules}
-use Rattle.meaning_graph_text.specs.Going.{identifier, open_mark, parts, expect}
+use Rattle.meaning_graph.specs.Going.{identifier, open_mark, parts, expect}
 use Rattle.dg_reader.proofs.WalkLemmas.{at_stop, halts_behind, halts_here, stops_open}
 use Rattle.dg_reader.proofs.StageLemmas.{stops_parts}
 use Rattle.dg_reader.proofs.DeclLemmas.{open_leads, parts_lead, compound_read}

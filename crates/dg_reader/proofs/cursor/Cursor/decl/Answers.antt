@@ -1,5 +1,5 @@
 use Rattle.std.proofs.Common.{[]}
-use Rattle.meaning_graph_text.specs.Going.{ending, start, expect}
+use Rattle.meaning_graph.specs.Going.{ending, start, expect}
 use Rattle.dg_reader.proofs.WalkLemmas.{at_stop, halts_here}
 use Rattle.dg_reader.proofs.StageLemmas.{stops_ending}
 use Rattle.dg_reader.proofs.DeclLemmas.{decl_read}

@@ -1,6 +1,6 @@
 use Rattle.std.proofs.Common.{[], ◌∷◌, arith, codes}
-use Rattle.meaning_graph_text.specs.Tokens.{word, string}
-use Rattle.meaning_graph_text.specs.Going.{identifier, name_string, extras, expect}
+use Rattle.meaning_graph.specs.Tokens.{word, string}
+use Rattle.meaning_graph.specs.Going.{identifier, name_string, extras, expect}
 use Rattle.dg_reader.specs.Walks.{TakesToken}
 use Rattle.dg_reader.proofs.TokenLemmas.{takes_shorter}
 use Rattle.dg_reader.proofs.WalkLemmas.{at_stop, halts_behind, taken_at}

@@ -1,6 +1,6 @@
 use Rattle.std.proofs.Common.{[], ◌∷◌, arith}
-use Rattle.meaning_graph_text.specs.Tokens.{comma, word}
-use Rattle.meaning_graph_text.specs.Going.{identifier, expect}
+use Rattle.meaning_graph.specs.Tokens.{comma, word}
+use Rattle.meaning_graph.specs.Going.{identifier, expect}
 use Rattle.dg_reader.proofs.TokenLemmas.{takes_shorter}
 use Rattle.dg_reader.proofs.WalkLemmas.{at_stop, halts_behind}
 use Rattle.dg_reader.proofs.ListLemmas.{ids_one, ids_comma, ids_more}

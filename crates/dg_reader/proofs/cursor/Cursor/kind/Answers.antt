@@ -1,7 +1,7 @@
 use Rattle.std.proofs.Common.{[], ◌∷◌, refl, sym, ◌∙◌, subst}
 use Rattle.std.specs.Prelude.{codes}
-use Rattle.meaning_graph_text.specs.Tokens.{word}
-use Rattle.meaning_graph_text.specs.Going.{keyword, identifier, open_mark, kind, supers, parts, expect}
+use Rattle.meaning_graph.specs.Tokens.{word}
+use Rattle.meaning_graph.specs.Going.{keyword, identifier, open_mark, kind, supers, parts, expect}
 use Rattle.dg_reader.specs.Walks.{StopsAt}
 use Rattle.dg_reader.proofs.WalkLemmas.{first_given_on, none_at}
 use Rattle.dg_reader.proofs.StageLemmas.{stops_kind}

@@ -1,6 +1,6 @@
 use Rattle.std.proofs.Common.{[], ◌∷◌}
 use Rattle.std.specs.Prelude.{codes}
-use Rattle.meaning_graph_text.specs.Going.{keyword, identifier, supers, expect}
+use Rattle.meaning_graph.specs.Going.{keyword, identifier, supers, expect}
 use Rattle.dg_reader.proofs.WalkLemmas.{at_stop, halts_behind, halts_here, leads_keyword, stops_keyword}
 use Rattle.dg_reader.proofs.DeclLemmas.{of_leads, list_read}
 use Rattle.dg_reader.proofs.cursor.Cursor.list.Goals as goal

@@ -1,7 +1,7 @@
 use Rattle.std.proofs.Common.{[], ◌∷◌, arith}
-use Rattle.meaning_graph_text.specs.Tokens.{comma}
-use Rattle.meaning_graph_text.specs.Going.{identifier, parts, expect}
-use Rattle.meaning_graph_text.proofs.Lemmas.{tokens_short}
+use Rattle.meaning_graph.specs.Tokens.{comma}
+use Rattle.meaning_graph.specs.Going.{identifier, parts, expect}
+use Rattle.meaning_graph.proofs.Lemmas.{tokens_short}
 use Rattle.dg_reader.proofs.TokenLemmas.{takes_shorter}
 use Rattle.dg_reader.proofs.WalkLemmas.{at_stop, halts_behind}
 use Rattle.dg_reader.proofs.ListLemmas.{parts_comma, parts_more}

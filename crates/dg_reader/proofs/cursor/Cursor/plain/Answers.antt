@@ -1,5 +1,5 @@
 use Rattle.std.proofs.Common.{[]}
-use Rattle.meaning_graph_text.specs.Going.{ending, expect}
+use Rattle.meaning_graph.specs.Going.{ending, expect}
 use Rattle.dg_reader.specs.declared.cursor.Wanted.TheVariants.{Id}
 use Rattle.dg_reader.specs.Reads.{way_classes}
 use Rattle.dg_reader.proofs.WalkLemmas.{at_stop, halts_behind, leads_found}

@@ -1,7 +1,7 @@
 use Rattle.std.proofs.Common.{◌≡◌, Some, None, refl, sym, subst}
 use Rattle.std.proofs.lemmas.Bool.{both_ways}
-use Rattle.meaning_graph_text.specs.Lexing.{taken, token_at}
-use Rattle.dg_tokens.specs.Seen.{token_view}
+use Rattle.meaning_graph.specs.Lexing.{taken, token_at}
+use Rattle.dg_reader.specs.Seen.{token_view}
 use Rattle.dg_reader.specs.Walks.{TakesToken}
 use Rattle.dg_reader.proofs.TokenLemmas.{takes_from, not_at_none, not_at_other}
 use Rattle.dg_reader.proofs.cursor.Cursor.skip.Goals as goal

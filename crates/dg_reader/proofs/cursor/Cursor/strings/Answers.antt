@@ -1,5 +1,5 @@
 use Rattle.std.proofs.Common.{subst}
-use Rattle.meaning_graph_text.specs.Tokens.{string}
+use Rattle.meaning_graph.specs.Tokens.{string}
 use Rattle.dg_reader.specs.declared.cursor.Wanted.TheVariants.{String}
 use Rattle.dg_reader.specs.Walks.{MayFind, Finds}
 use Rattle.dg_reader.proofs.TokenLemmas.{takes_shorter}

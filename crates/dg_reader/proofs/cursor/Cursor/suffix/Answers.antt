@@ -1,5 +1,5 @@
 use Rattle.std.proofs.Common.{[], ◌∷◌}
-use Rattle.meaning_graph_text.specs.Going.{identifier, ending, expect}
+use Rattle.meaning_graph.specs.Going.{identifier, ending, expect}
 use Rattle.dg_reader.specs.declared.cursor.Wanted.TheVariants.{Word}
 use Rattle.dg_reader.proofs.WalkLemmas.{at_stop, halts_behind, leads_found}
 use Rattle.dg_reader.proofs.DeclLemmas.{suffix_read}

@@ -1,6 +1,6 @@
 use Rattle.std.proofs.Common.{[], ◌∷◌, refl}
 use Rattle.std.proofs.lemmas.Result.{IfErr-weaker}
-use Rattle.meaning_graph_text.specs.Going.{identifier, supers, super_ids, expect}
+use Rattle.meaning_graph.specs.Going.{identifier, supers, super_ids, expect}
 use Rattle.dg_reader.proofs.WalkLemmas.{if_both, halts_behind}
 use Rattle.dg_reader.proofs.ListLemmas.{is_leads, supers_read, no_supers}
 use Rattle.dg_reader.proofs.cursor.Cursor.supers.Goals as goal

@@ -1,6 +1,6 @@
 use Rattle.std.proofs.Common.{◌≡◌, Some, None, refl, sym, subst, false, rules}
-use Rattle.meaning_graph_text.specs.Lexing.{taken, token_at, past_gap}
-use Rattle.dg_tokens.specs.Seen.{token_view}
+use Rattle.meaning_graph.specs.Lexing.{taken, token_at, past_gap}
+use Rattle.dg_reader.specs.Seen.{token_view}
 use Rattle.dg_reader.specs.Walks.{class_of, Finds}
 use Rattle.dg_reader.proofs.TokenLemmas.{found_from, has_none_at, has_none_other}
 use Rattle.dg_reader.proofs.cursor.Cursor.take_if.Goals as goal

@@ -1,6 +1,6 @@
 use Rattle.std.proofs.Common.{[], ◌∷◌}
 use Rattle.std.specs.Prelude.{codes}
-use Rattle.meaning_graph_text.specs.Going.{keyword, any_word, any_string, strings, tool_front, expect}
+use Rattle.meaning_graph.specs.Going.{keyword, any_word, any_string, strings, tool_front, expect}
 use Rattle.dg_reader.specs.Reads.{way_classes}
 use Rattle.dg_reader.proofs.WalkLemmas.{at_stop, halts_behind, halts_here, stops_keyword}
 use Rattle.dg_reader.proofs.DeclLemmas.{name_leads, version_leads, way_leads, run_leads, tool_read}

@@ -1,5 +1,5 @@
 use Rattle.std.proofs.Common.{[]}
-use Rattle.meaning_graph_text.specs.Going.{kind, expect}
+use Rattle.meaning_graph.specs.Going.{kind, expect}
 use Rattle.dg_reader.specs.declared.cursor.Wanted.TheVariants.{Id}
 use Rattle.dg_reader.proofs.WalkLemmas.{at_stop, halts_behind, leads_found}
 use Rattle.dg_reader.proofs.DeclLemmas.{type_read}

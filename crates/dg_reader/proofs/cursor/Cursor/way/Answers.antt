@@ -1,6 +1,6 @@
 use Rattle.std.proofs.Common.{◌∷◌, rules}
 use Rattle.std.specs.Prelude.{codes}
-use Rattle.meaning_graph_text.specs.Going.{keyword, identifier, expect}
+use Rattle.meaning_graph.specs.Going.{keyword, identifier, expect}
 use Rattle.dg_reader.specs.Reads.{way_classes}
 use Rattle.dg_reader.proofs.WalkLemmas.{at_stop, halts_behind, halts_here, stops_keyword}
 use Rattle.dg_reader.proofs.DeclLemmas.{from_leads, base_leads, to_leads, way_read}

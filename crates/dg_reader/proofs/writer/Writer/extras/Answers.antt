@@ -1,6 +1,6 @@
 use Rattle.std.proofs.Common.{List, take, subst}
 use Rattle.object_values.specs.declared.graph.Extra.{Extra}
-use Rattle.meaning_graph_text.specs.Grammar.{extra_tokens}
+use Rattle.meaning_graph.specs.Grammar.{extra_tokens}
 use Rattle.dg_reader.specs.Written.{Writes}
 use Rattle.dg_reader.proofs.WriteLemmas.{extras_written, take_step}
 use Rattle.dg_reader.proofs.writer.Writer.extras.Goals as goal

@@ -1,5 +1,5 @@
 use Rattle.std.proofs.Common.{take}
-use Rattle.meaning_graph_text.specs.Grammar.{extra_tokens}
+use Rattle.meaning_graph.specs.Grammar.{extra_tokens}
 use Rattle.dg_reader.specs.Written.{Writes}
 use Rattle.dg_reader.proofs.writer.Writer.extras.Given as goal
 

@@ -1,6 +1,6 @@
 use Rattle.std.proofs.Common.{◌∷◌, [], subst}
-use Rattle.meaning_graph_text.specs.Tokens.{word}
-use Rattle.meaning_graph_text.specs.Grammar.{id_tokens}
+use Rattle.meaning_graph.specs.Tokens.{word}
+use Rattle.meaning_graph.specs.Grammar.{id_tokens}
 use Rattle.dg_reader.specs.Written.{Writes}
 use Rattle.dg_reader.proofs.WriteLemmas.{ids_begin, ids_step, whole_taken}
 use Rattle.dg_reader.proofs.writer.Writer.ids.Goals as goal

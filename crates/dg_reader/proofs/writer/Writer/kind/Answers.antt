@@ -1,7 +1,7 @@
 use Rattle.std.proofs.Common.{List, subst}
 use Rattle.std.proofs.lemmas.Result.{on_ok_weaker}
 use Rattle.object_values.specs.declared.graph.PartDecl.{PartDecl}
-use Rattle.meaning_graph_text.specs.Grammar.{part_tokens}
+use Rattle.meaning_graph.specs.Grammar.{part_tokens}
 use Rattle.dg_reader.specs.Written.{Writes}
 use Rattle.dg_reader.proofs.WriteLemmas.{compound_written}
 use Rattle.dg_reader.proofs.writer.Writer.kind.Goals as goal

@@ -1,6 +1,6 @@
 use Rattle.std.proofs.Common.{List, subst}
 use Rattle.object_values.specs.declared.graph.PartDecl.{PartDecl}
-use Rattle.meaning_graph_text.specs.Grammar.{part_tokens}
+use Rattle.meaning_graph.specs.Grammar.{part_tokens}
 use Rattle.dg_reader.specs.Written.{Writes}
 use Rattle.dg_reader.proofs.WriteLemmas.{parts_begin, parts_step, whole_taken}
 use Rattle.dg_reader.proofs.writer.Writer.parts.Goals as goal

@@ -1,6 +1,6 @@
 use Rattle.std.proofs.Common.{◌∷◌, [], take, subst}
-use Rattle.meaning_graph_text.specs.Tokens.{string}
-use Rattle.meaning_graph_text.specs.Grammar.{string_tokens}
+use Rattle.meaning_graph.specs.Tokens.{string}
+use Rattle.meaning_graph.specs.Grammar.{string_tokens}
 use Rattle.dg_reader.specs.Written.{Writes}
 use Rattle.dg_reader.proofs.WriteLemmas.{strings_written, take_step}
 use Rattle.dg_reader.proofs.writer.Writer.strings.Goals as goal

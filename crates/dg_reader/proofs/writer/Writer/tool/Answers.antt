@@ -2,8 +2,8 @@ use Rattle.std.proofs.Common.{List, ◌∷◌, [], subst}
 use Rattle.std.specs.Prelude.{codes}
 use Rattle.std.proofs.lemmas.Result.{on_ok_weaker}
 use Rattle.object_values.specs.declared.graph.Extra.{Extra}
-use Rattle.meaning_graph_text.specs.Tokens.{word}
-use Rattle.meaning_graph_text.specs.Grammar.{string_tokens, optional_tokens, extra_tokens}
+use Rattle.meaning_graph.specs.Tokens.{word}
+use Rattle.meaning_graph.specs.Grammar.{string_tokens, optional_tokens, extra_tokens}
 use Rattle.dg_reader.specs.Written.{Writes}
 use Rattle.dg_reader.proofs.WriteLemmas.{tool_written}
 use Rattle.dg_reader.proofs.writer.Writer.tool.Goals as goal

@@ -1,5 +1,5 @@
 use Rattle.std.proofs.Common.{◌∙◌, ap, ◌++◌, map}
-use Rattle.meaning_nodes.specs.Nodes.{source_node}
+use Rattle.meaning_tasks.specs.Nodes.{source_node}
 use Rattle.meaning_tasks.specs.Needs.{Known, values_of}
 use Rattle.task_needs.specs.Counting.{nodes_in}
 use Rattle.node_tasks.proofs.NameLemmas.{ok_on}

@@ -1,5 +1,5 @@
 use Rattle.std.proofs.Common.{subst, sym}
-use Rattle.meaning_store.specs.Images.{IsNew, IsWritten, NotOurs}
+use Rattle.meaning_records.specs.Images.{IsNew, IsWritten, NotOurs}
 use Rattle.odin_journal.specs.Faults.{IsOpenFault}
 use Rattle.odin_journal.specs.Moments.{IsQuietAt, Untouched}
 use Rattle.odin_journal.proofs.MomentLemmas.{untouched_on}

@@ -1,6 +1,6 @@
 use Rattle.std.proofs.Common.{ap, ◌∙◌, sym, subst, rules, arith, ◌≡◌, ◌≤◌, length, List, ◌∷◌}
 use Rattle.indexmap.specs.IndexSet.{insert_key}
-use Rattle.meaning_nodes.specs.Values.{inherit}
+use Rattle.meaning_tasks.specs.Values.{inherit}
 use Rattle.object_values.specs.declared.messages.Message.{Message}
 use Rattle.object_values.specs.contracts.messages.MessagePartialEq.TheImpl.{ghosts as message_eq}
 use Rattle.odin_nodes.specs.Inheriting.{AreFew}

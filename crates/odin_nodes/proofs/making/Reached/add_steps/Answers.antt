@@ -1,5 +1,5 @@
 -- A step that is refused refuses all of them.
-use Rattle.meaning_nodes.specs.NodeOf.{is_node, steps_on}
+use Rattle.meaning_tasks.specs.NodeOf.{is_node, steps_on}
 use Rattle.odin_nodes.proofs.MakeLemmas.{step_refused, refused_by}
 use Rattle.odin_nodes.proofs.making.Reached.add_steps.Goals as goal
 

@@ -3,7 +3,7 @@ use Rattle.std.proofs.Common.{◌∙◌, ◌++◌, ℕ, List, map, ap, sym, subs
 use Rattle.std.specs.Prelude.{Some}
 use Rattle.object_values.specs.declared.nodes.Step.TheVariants.{Maker}
 use Rattle.meaning_graph.specs.Paths.{Chosen}
-use Rattle.meaning_nodes.specs.Nodes.{type_after}
+use Rattle.meaning_tasks.specs.Nodes.{type_after}
 use Rattle.path_planner.specs.Ends.{IsChosen}
 use Rattle.odin_nodes.proofs.TypeLemmas.{reached_below}
 use Rattle.odin_nodes.proofs.MakeLemmas.{path_typed, made_by_path}

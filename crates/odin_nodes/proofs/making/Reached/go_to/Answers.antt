@@ -1,8 +1,8 @@
 -- One maker is the chosen path.
 use Rattle.std.proofs.Common.{◌∙◌, ◌∷◌, [], sym}
 use Rattle.object_values.specs.declared.nodes.Step.TheVariants.{Maker}
-use Rattle.meaning_nodes.specs.Nodes.{step_type}
-use Rattle.meaning_nodes.proofs.Lemmas.{type_after_none}
+use Rattle.meaning_tasks.specs.Nodes.{step_type}
+use Rattle.meaning_tasks.proofs.Lemmas.{type_after_none}
 use Rattle.odin_nodes.proofs.TypeLemmas.{reached_below}
 use Rattle.odin_nodes.proofs.MakeLemmas.{made_by_path}
 use Rattle.odin_nodes.proofs.making.Reached.go_to.Goals as goal

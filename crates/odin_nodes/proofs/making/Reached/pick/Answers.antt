@@ -1,7 +1,7 @@
 use Rattle.std.proofs.Common.{◌∙◌, ◌++◌, ◌∷◌, [], ap, sym}
 use Rattle.object_values.specs.declared.nodes.Step.TheVariants.{Pick}
 use Rattle.meaning_graph.specs.Graphs.{Text, kind_of}
-use Rattle.meaning_nodes.specs.Nodes.{picked_type}
+use Rattle.meaning_tasks.specs.Nodes.{picked_type}
 use Rattle.odin_nodes.proofs.MakeLemmas.{picks_none, made_by_pick}
 use Rattle.odin_nodes.proofs.making.Reached.pick.Goals as goal
 

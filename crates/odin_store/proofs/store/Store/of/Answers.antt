@@ -1,5 +1,5 @@
 use Rattle.std.proofs.Common.{sym, subst}
-use Rattle.object_sources.specs.Texts.{SourceStock}
+use Rattle.object_values.specs.Texts.{SourceStock}
 use Rattle.meaning_derive.specs.Given.{AreSources}
 use Rattle.odin_store.proofs.store.Store.of.Goals as goal
 

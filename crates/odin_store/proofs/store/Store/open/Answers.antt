@@ -1,6 +1,6 @@
 use Rattle.std.proofs.Common.{◌≡◌, ℕ, ◌+◌, length, IsTrue, IsFalse, sym, ap, ap₂, subst, ◌∙◌, arith, rules}
-use Rattle.object_sources.specs.Texts.{SourceStock}
-use Rattle.disk_trails.specs.WorkLemmas.{more_work, add_work}
+use Rattle.object_values.specs.Texts.{SourceStock}
+use Rattle.odin_journal.specs.WorkLemmas.{more_work, add_work}
 use Rattle.odin_journal.specs.Faults.{IsAddFault}
 use Rattle.odin_journal.specs.Moments.{Works}
 use Rattle.odin_journal.specs.Rest.{AddsRecord, KeepsOrAdds}

@@ -1,7 +1,7 @@
 -- What stands before the declaration, by the counts.
 use Rattle.std.proofs.Common.{◌∙◌, ◌||◌, sym, ap, take, arith}
 use Rattle.std.proofs.lemmas.Result.{IfOk-weaker}
-use Rattle.meaning_graph_text.specs.Checks.{doubles_name, has_twice, part_names, used_params}
+use Rattle.meaning_graph.specs.Checks.{doubles_name, has_twice, part_names, used_params}
 use Rattle.type_graph.proofs.DoubleLemmas.{type_before, suffix_before, param_before, maker_before}
 use Rattle.type_graph.proofs.context.Context.doubles_name.Goals as goal
 

@@ -2,7 +2,7 @@
 use Rattle.std.proofs.Common.{◌∙◌, ap}
 use Rattle.std.specs.List.{list_all}
 use Rattle.object_values.specs.declared.graph.PartDecl.{PartDecl}
-use Rattle.meaning_graph_text.specs.Checks.{is_known}
+use Rattle.meaning_graph.specs.Checks.{is_known}
 use Rattle.type_graph.proofs.KindLemmas.{parts_known}
 use Rattle.type_graph.proofs.context.Context.knows_kind.Goals as goal
 

@@ -2,7 +2,7 @@
 use Rattle.std.proofs.Common.{◌≡◌, ◌∙◌, ◌&&◌, sym, ap, true, false}
 use Rattle.std.specs.List.{list_all}
 use Rattle.std.specs.Option.{option_to_list}
-use Rattle.meaning_graph_text.specs.Checks.{is_known, also_type}
+use Rattle.meaning_graph.specs.Checks.{is_known, also_type}
 use Rattle.type_graph.proofs.KindLemmas.{tool_known}
 use Rattle.type_graph.proofs.context.Context.knows_make.Goals as goal
 

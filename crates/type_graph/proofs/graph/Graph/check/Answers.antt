@@ -1,6 +1,6 @@
 -- The tables are made of the declarations.
 use Rattle.std.proofs.Common.{subst}
-use Rattle.meaning_graph_text.specs.Checks.{Checked}
+use Rattle.meaning_graph.specs.Checks.{Checked}
 use Rattle.type_graph.specs.Tables.{AreTables}
 use Rattle.type_graph.proofs.graph.Graph.check.Goals as goal
 

@@ -1,6 +1,6 @@
 -- The invariant says so.
 use Rattle.std.proofs.Common.{subst}
-use Rattle.meaning_graph_text.specs.Checks.{Checked}
+use Rattle.meaning_graph.specs.Checks.{Checked}
 use Rattle.type_graph.proofs.graph.Graph.checked.Goals as goal
 
 pub returns : goal.returns

@@ -1,0 +1,6 @@
+mod AnswerLemmas
+mod FileLemmas
+mod PathLemmas
+mod LineLemmas
+mod ListedLemmas
+mod FoundLemmas

@@ -1,0 +1,178 @@
+// A run of the program: what it reads, and what it writes.
+ghost use Rattle.std.specs.Prelude.{◌≡◌, ◌≤◌, IfOk, IsOk};
+ghost use Rattle.meaning_commands.specs.Formed.{IsFormedBody, IsFormed};
+ghost use Rattle.build_files.specs.declared.files.Files.TheVariants.{Nothing};
+ghost use Rattle.build_files.specs.GetFaults as faults;
+
+use crate::answers::{exit_status, last_answer};
+use crate::files::{Files, files_of};
+use crate::words::{Asked, read_words};
+use object_values::{Bytes, Memory, Message, Part};
+use odin_commands::{Reply, ShownBody, read_replies, write_each_message};
+use std::alloc::Global;
+use std::{env, fs, io};
+use std::env::Env;
+use std::io::{Read, Write};
+use thiserror::Error;
+
+/// Why a run ended without an answer.
+#[derive(Debug, Drop, Error)]
+pub enum Fault {
+    #[error("odin_get: no replies on the input")]
+    Replies,
+    #[error("odin_get: read or write fault")]
+    System,
+    #[error("odin_get: out of memory")]
+    Memory,
+    #[error("usage: odin_get [-o FILE] [-m]")]
+    Words,
+}
+
+impl From<Memory> for Fault {
+    fn from(_: Memory) -> Self {
+        Fault::Memory
+    }
+}
+
+impl From<io::Error> for Fault {
+    fn from(error: io::Error) -> Self {
+        if error.kind() == io::ErrorKind::OutOfMemory {
+            Fault::Memory
+        } else {
+            Fault::System
+        }
+    }
+}
+
+impl Fault {
+    pub fn status(&self) -> u8
+        ensures { result ≡ faults.get_fault_status self.now }
+    {
+        match self {
+            Fault::Replies => 2,
+            Fault::System => 3,
+            Fault::Memory => 4,
+            Fault::Words => 9,
+        }
+    }
+}
+
+/// The words of the program. Words that are no text are not accepted.
+fn words_of<R: Env + AllocGlobal>(rt: &R) -> Result<Vec<String>, Fault> {
+    let mut words = Vec::new(rt.alloc());
+    let Ok(args) = env::args(rt) else {
+        return Err(Fault::Words);
+    };
+    for word in args {
+        words.push(word).map_err(|_| Fault::Memory)?;
+    }
+    Ok(words)
+}
+
+/// All of the input.
+fn read_input(rt: &HostRuntime) -> Result<Bytes, Fault> {
+    let mut text = Vec::new(rt.alloc());
+    rt.reader().read_to_end(&mut text)?;
+    Ok(Bytes::from_vec(text))
+}
+
+/// Writes a file of a folder.
+fn write_part(rt: &HostRuntime, folder: &str, part: &Part) -> Result<(), Fault> {
+    let Ok(name) = std::str::from_utf8(part.name.as_slice()) else {
+        return Err(Fault::System);
+    };
+    let path = format!(in rt.alloc(); "{folder}/{name}").map_err(|_| Fault::Memory)?;
+    fs::write(rt, path.as_str(), part.body.as_slice())?;
+    Ok(())
+}
+
+/// Writes the files below a path. What the files have then is no clause, since the system doesn't tell it.
+pub fn write_files(rt: &HostRuntime, path: &str, files: &Files) -> Result<(), Fault>
+    ensures { files.now ≡ Nothing → IsOk result }
+{
+    match files {
+        Files::Nothing => {}
+        Files::File(text) => fs::write(rt, path, text.as_slice())?,
+        Files::Folder(parts) => {
+            fs::create_dir_all(rt, path)?;
+            for part in parts.as_slice() {
+                write_part(rt, path, part)?;
+            }
+        }
+    }
+    Ok(())
+}
+
+/// Writes the files to standard output, one behind another.
+fn print_files(rt: &HostRuntime, files: &Files) -> Result<(), Fault> {
+    let mut out = io::writer(rt);
+    match files {
+        Files::Nothing => {}
+        Files::File(text) => out.write_all(text.as_slice())?,
+        Files::Folder(parts) => {
+            for part in parts.as_slice() {
+                out.write_all(part.body.as_slice())?;
+            }
+        }
+    }
+    out.flush()?;
+    Ok(())
+}
+
+/// Tells the messages on standard error.
+fn tell_messages(rt: &HostRuntime, messages: &[Message]) -> Result<(), Fault> {
+    let mut text = Bytes::new(rt.alloc());
+    write_each_message(messages, &mut text)?;
+    rt.stderr().write_all(text.as_slice())?;
+    Ok(())
+}
+
+/// Writes what an object is shown with.
+fn write_object(
+    rt: &HostRuntime,
+    asked: Asked<'_>,
+    body: &ShownBody,
+    messages: &[Message],
+) -> Result<(), Fault>
+    requires { IsFormedBody body.now }
+{
+    let files = files_of(rt.alloc(), body)?;
+    match asked.file {
+        Some(path) => write_files(rt, path, &files)?,
+        None => print_files(rt, &files)?,
+    }
+    if asked.messages {
+        tell_messages(rt, messages)?;
+    }
+    Ok(())
+}
+
+/// Writes an object that was asked for. Of a refusal nothing is written.
+fn write_answer(rt: &HostRuntime, asked: Asked<'_>, reply: &Reply) -> Result<(), Fault>
+    requires { IsFormed reply.now }
+{
+    match reply {
+        Reply::Shown { body, messages, .. } => write_object(rt, asked, body, messages.as_slice()),
+        _ => Ok(()),
+    }
+}
+
+/// The exit status of a run with the words of the program. Which object it is of is no clause, since the system tells neither its words nor its input.
+#[tactic(auto, using(crate::proofs::AnswerLemmas::small_status))]
+pub fn run(rt: &HostRuntime) -> Result<u8, Fault>
+    ensures { IfOk result (λ status. status ≤ 2) }
+{
+    let words = words_of(rt)?;
+    let Some(asked) = read_words(rt.alloc(), words.as_slice())? else {
+        return Err(Fault::Words);
+    };
+    let text = read_input(rt)?;
+    let Some(replies) = read_replies(rt.alloc(), text.as_slice())? else {
+        return Err(Fault::Replies);
+    };
+    let answer = last_answer(replies.as_slice());
+    if let Some(reply) = answer {
+        write_answer(rt, asked, reply)?;
+    }
+    Ok(exit_status(answer))
+}

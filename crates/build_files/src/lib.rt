@@ -1,0 +1,12 @@
+//! What stands between `odin` and a build: the object that the last ask among replies was given, with its files, and the commands that take the files below
+//! some folders; and the runs of the two programs that write them.
+#![tactic(auto)]
+
+mod answers;
+pub mod files;
+pub mod get;
+pub mod listed;
+mod paths;
+pub mod takes;
+pub mod walk;
+mod words;

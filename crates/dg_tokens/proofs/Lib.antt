@@ -1,2 +1,0 @@
-mod LexLemmas
-mod PlaceLemmas

@@ -1,9 +1,0 @@
-use Rattle.std.proofs.Common.{◌≡◌, false, length}
-use Rattle.meaning_graph_text.specs.Lexing.{past_gap}
-use Rattle.dg_tokens.proofs.lexer.past_gap.Given as goal
-
-abbrev pub invariant-gap : goal.invariant-gap
-invariant-gap l = past_gap false l.rest ≡ past_gap false l.fn.text
-
-abbrev pub decreases-gap : goal.decreases-gap
-decreases-gap l = length l.rest

@@ -1,5 +1,0 @@
-use Rattle.disk_trails.specs.WorkLemmas.{no_work, more_work, add_work}
-use Rattle.disk_trails.proofs.laws.work_adds.Goals as goal
-
-pub returns : goal.returns
-returns c = record { adds = add_work; none = no_work; wider = more_work }

@@ -1,4 +1,0 @@
-pub mod Trails
-pub mod TrailLemmas
-pub mod WorkLemmas
-pub mod Laws

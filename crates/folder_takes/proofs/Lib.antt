@@ -1,4 +1,0 @@
-mod PathLemmas
-mod LineLemmas
-mod ListedLemmas
-mod FoundLemmas

@@ -1,9 +1,0 @@
-use Rattle.folder_takes.specs.Found.{FindsMore}
-use Rattle.folder_takes.proofs.walk.take_folder.Given as goal
-
-abbrev pub invariant-loop-entry : goal.invariant-loop-entry
-invariant-loop-entry l = record {
-  next : (goal.iterator-loop-entry).can_next l.entry-iterator;
-  finite : (goal.iterator-loop-entry).is_finite l.entry-iterator;
-  grows : FindsMore l.initial.found l.found;
-}

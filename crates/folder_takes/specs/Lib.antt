@@ -1,4 +1,0 @@
-pub mod Faults
-pub mod Found
-pub mod Listed
-pub mod Paths

@@ -1,3 +1,0 @@
-mod Answers
-mod Exact
-pub mod Lemmas

@@ -1,5 +1,0 @@
-use Rattle.std.proofs.Common.{refl}
-use Rattle.meaning_answers.proofs.examples.objects.Goals as goal
-
-pub returns : goal.returns
-returns c = record { empty = refl; listed = refl; compound = refl; failed = refl; aborted = refl; tabbed = refl }

@@ -1,5 +1,0 @@
-use Rattle.std.proofs.Common.{refl}
-use Rattle.meaning_answers.proofs.examples.plans.Goals as goal
-
-pub returns : goal.returns
-returns c = record { makers = refl; keyed = refl; empty = refl }

@@ -1,8 +1,0 @@
-mod Rules
-mod Shapes
-mod Needed
-mod Bases
-mod Maps
-mod Formed
-mod Over
-pub mod Lemmas

@@ -1,0 +1,17 @@
+use Rattle.std.proofs.Common.{refl}
+use Rattle.std.specs.Fmt.{digits}
+use Rattle.meaning_texts.specs.Reading.{expression_of, kept_params}
+use Rattle.meaning_texts.specs.References.{references, scanned_names}
+use Rattle.meaning_texts.specs.Lines.{lines_of}
+use Rattle.meaning_graph.specs.Suffixes.{source_type}
+use Rattle.meaning_graph.specs.Types.{is_a}
+use Rattle.meaning_graph.specs.Paths.{chosen_path}
+use Rattle.meaning_tasks.specs.Nodes.{reached_type}
+use Rattle.meaning_tasks.specs.NodeOf.{node_of}
+use Rattle.meaning_tasks.specs.Values.{inherit}
+use Rattle.meaning_tasks.specs.Tasks.{task_of}
+use Rattle.meaning_derive.proofs.settled.sources_and_lists.Goals as goal
+
+pub returns : goal.returns
+unfolding digits expression_of kept_params references scanned_names lines_of source_type is_a chosen_path reached_type node_of inherit task_of
+returns c = record { absent_source = refl; bad_reference = refl; listed = refl }

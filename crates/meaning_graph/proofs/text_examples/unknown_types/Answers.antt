@@ -1,0 +1,8 @@
+use Rattle.std.proofs.Common.{refl}
+use Rattle.meaning_graph.specs.Types.{is_a}
+use Rattle.meaning_graph.specs.Checks.{has_fault, first_fault}
+use Rattle.meaning_graph.proofs.text_examples.unknown_types.Goals as goal
+
+pub returns : goal.returns
+unfolding first_fault has_fault is_a
+returns c = record { supertype = refl; element = refl; part = refl; from = refl; to = refl; also = refl; closure = refl }

@@ -1,9 +1,0 @@
-use Rattle.std.proofs.Common.{refl}
-use Rattle.meaning_graph.specs.Types.{is_a}
-use Rattle.meaning_graph_text.specs.Checks.{has_fault, first_fault}
-use Rattle.meaning_graph_text.proofs.Samples.{suffix_begins}
-use Rattle.meaning_graph_text.proofs.examples.faults_of_graphs.Goals as goal
-
-pub returns : goal.returns
-unfolding first_fault has_fault is_a
-returns c = record { unknown_type = refl; begins = suffix_begins; text_twice = refl; double = refl; loop = refl; kind = refl; elements = refl; param = refl; many = λ g d. refl; few = λ g d. refl }

@@ -1,4 +1,0 @@
-mod Fits
-mod Made
-mod Numbers
-pub mod Lemmas

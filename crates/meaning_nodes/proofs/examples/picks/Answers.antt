@@ -1,7 +1,0 @@
-use Rattle.std.proofs.Common.{refl}
-use Rattle.std.specs.Fmt.{digits}
-use Rattle.meaning_nodes.proofs.examples.picks.Goals as goal
-
-pub returns : goal.returns
-unfolding digits
-returns c = record { first = refl; second = refl; past = refl; leading_zero = refl; part = refl; no_part = refl; simple = refl }

@@ -1,5 +1,0 @@
-use Rattle.std.proofs.Common.{refl}
-use Rattle.meaning_nodes.proofs.examples.worst_statuses.Goals as goal
-
-pub returns : goal.returns
-returns c = record { later = refl; earlier = refl; alike = refl }

@@ -1,5 +1,0 @@
-use Rattle.meaning_nodes.proofs.Fits.{fits_so, so_fits}
-use Rattle.meaning_nodes.proofs.laws.fits_is_decided.Goals as goal
-
-pub returns : goal.returns
-returns c = λ g n. (fits_so g n, so_fits g n)

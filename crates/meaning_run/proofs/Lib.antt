@@ -1,5 +1,0 @@
-mod ItemLemmas
-mod ToldLemmas
-mod StreamLemmas
-mod EndLemmas
-pub mod Lemmas

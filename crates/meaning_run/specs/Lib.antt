@@ -1,5 +1,0 @@
-pub mod Objects
-pub mod Items
-pub mod Machines
-pub mod Endings
-pub mod Streams

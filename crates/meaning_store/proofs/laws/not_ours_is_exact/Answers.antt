@@ -1,5 +1,0 @@
-use Rattle.meaning_store.specs.ImageLemmas.{no_records, one_place}
-use Rattle.meaning_store.proofs.laws.not_ours_is_exact.Goals as goal
-
-pub returns : goal.returns
-returns c = record { none = no_records; one = one_place }

@@ -1,4 +1,0 @@
-pub mod Front
-pub mod ImageLemmas
-pub mod Images
-pub mod Laws

@@ -1,4 +1,0 @@
-pub mod Blocks
-pub mod Gets
-pub mod Places
-pub mod Texts

@@ -1,8 +1,0 @@
-//! The sources: texts by name.
-#![tactic(auto)]
-
-mod block;
-mod places;
-mod sources;
-
-pub use sources::Sources;

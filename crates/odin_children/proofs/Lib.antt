@@ -1,5 +1,0 @@
-mod AskedLemmas
-mod CutLemmas
-mod FaultLemmas
-mod FolderLemmas
-mod RunningLemmas

@@ -1,0 +1,7 @@
+pub mod Given
+pub mod Runs
+mod AskedLemmas
+mod CutLemmas
+mod FaultLemmas
+mod FolderLemmas
+mod RunningLemmas

@@ -1,0 +1,15 @@
+pub mod Answers
+pub mod Hold
+pub mod Names
+pub mod Opens
+pub mod Raw
+pub mod Silent
+pub mod Standings
+pub mod Ends
+pub mod Finishes
+pub mod Folders
+pub mod Logs
+pub mod Paths
+pub mod Seen
+pub mod Starts
+pub mod Told

@@ -1,0 +1,244 @@
+// Tools as child programs.
+ghost use Rattle.std.specs.Prelude.{◌≡◌, ◌<◌, ◌++◌, ◌∷◌, [], ℕ, List, Some, Err, map, length, option_map, string_bytes, vec_len, vec_capacity, IfOk, OnOk, OnErr};
+ghost use Rattle.std.specs.List.{All};
+ghost use Rattle.odin_outside.specs.Causes.{once_more, IsCounted};
+ghost use Rattle.odin_outside.specs.Spawned.{IsLeastFree, begun, Fails, Ends, LosesAt};
+ghost use Rattle.odin_real.specs.Finishes.{CanBeGiven, Finishes};
+ghost use Rattle.odin_real.specs.Seen.{seen_of};
+ghost use Rattle.odin_real.specs.Starts.{IsHome, IsSlotPath, IsLaunched, JobIsStartable, IsStarted, CanStart};
+ghost use Rattle.odin_real.specs.Told.{children_view};
+ghost use Rattle.odin_real.specs.Logs.{CountsFailure, CountsWhere, FailsWhere};
+
+use crate::fault::SystemFault;
+use crate::homes::{folder_in, open_home};
+use crate::program::{Started, start_child};
+use crate::slots::{end_at, least_free, take_at};
+use crate::system::System;
+use crate::waits::wait_any;
+use object_values::{Copied, Job, Raw};
+use odin_outside::{FinishFault, Running, Spawner, StartFault};
+use std::alloc::Global;
+use std::io::Stderr;
+use std::process::Child;
+
+/// Child programs, at most 64 at once, each in the folder `odin.work/NAME/SLOT` of the current folder. NAME is that of the session: a tool of
+/// an earlier one that runs on writes nothing into a folder of this one. A child program that has ended is given first, the oldest of those.
+#[derive(Drop)]
+pub struct ChildTools<S: System + Drop> {
+    system: S,
+    home: Option<String>,
+    errors: Stderr,
+    started: Vec<Started<S>>,
+    starts: u64,
+    faults: u64,
+}
+
+impl<S: System + Drop> ChildTools<S> {
+    /// None runs yet. What the child programs write goes to `errors`.
+    pub fn new(alloc: Global, system: S, errors: Stderr) -> Self
+        ensures idle { result.started.items ≡ [] }
+        ensures faults { result.faults ≡ 0 }
+    {
+        ChildTools {
+            system,
+            home: None,
+            errors,
+            started: Vec::new(alloc),
+            starts: 0,
+            faults: 0,
+        }
+    }
+
+    fn count_fault(&mut self)
+        ensures counted { IsCounted self.old.faults self.new.faults }
+        ensures started { self.new.started ≡ self.old.started }
+        ensures starts { self.new.starts ≡ self.old.starts }
+        ensures system { self.new.system ≡ self.old.system }
+        ensures home { self.new.home ≡ self.old.home }
+    {
+        self.faults = self.faults.saturating_add(1);
+    }
+
+    // The refusal of a start, which is counted.
+    fn refuse(&mut self) -> Result<u32, StartFault>
+        ensures result { result ≡ Err StartFault.Failed }
+        ensures fails { Fails
+            (children_view (map (λ tool. tool.running) self.old.started.items) self.old.starts
+            self.old.faults)
+            (children_view (map (λ tool. tool.running) self.new.started.items) self.new.starts
+            self.new.faults) }
+        ensures system { self.new.system ≡ self.old.system }
+        ensures home { self.new.home ≡ self.old.home }
+    {
+        self.count_fault();
+        Err(StartFault::Failed)
+    }
+
+    // The path of the folder of a slot, in that of the session, which is made where there is none.
+    fn folder_of(&mut self, alloc: Global, slot: u32) -> Result<String, SystemFault>
+        ensures place { IfOk result
+            (λ folder. IsSlotPath (option_map string_bytes self.new.home) slot
+            (string_bytes folder) (S.held self.old.system) (S.held self.new.system)) }
+        ensures home { IsHome (option_map string_bytes self.old.home)
+            (option_map string_bytes self.new.home) }
+        ensures counts { CountsFailure SystemFault.Memory (S.log self.old.system)
+            (S.log self.new.system) result }
+        ensures started { self.new.started ≡ self.old.started }
+        ensures starts { self.new.starts ≡ self.old.starts }
+        ensures faults { self.new.faults ≡ self.old.faults }
+    {
+        let home = match self.home.take() {
+            Some(home) => home,
+            None => open_home(&mut self.system, alloc)?,
+        };
+        let folder = folder_in(alloc, home.as_str(), slot);
+        self.home = Some(home);
+        Ok(folder?)
+    }
+
+    // Starts the child program of a job in the folder of a slot, and gives the path of that folder.
+    fn begin(
+        &mut self,
+        alloc: Global,
+        slot: u32,
+        job: &Job,
+    ) -> Result<(String, Child<S::Started>), SystemFault>
+        ensures launched { IfOk result (λ begun. IsLaunched (option_map string_bytes self.new.home)
+            slot job.now (string_bytes begun.0) (S.held self.old.system) (S.held self.new.system)
+            (S.log self.old.system) (S.log self.new.system)) }
+        ensures home { IsHome (option_map string_bytes self.old.home)
+            (option_map string_bytes self.new.home) }
+        ensures fails { FailsWhere (JobIsStartable job.now) SystemFault.Memory
+            (S.log self.old.system) (S.log self.new.system) result }
+        ensures started { self.new.started ≡ self.old.started }
+        ensures starts { self.new.starts ≡ self.old.starts }
+        ensures faults { self.new.faults ≡ self.old.faults }
+    {
+        let folder = self.folder_of(alloc, slot)?;
+        let child = start_child(&mut self.system, self.errors, alloc, folder.as_str(), job)?;
+        Ok((folder, child))
+    }
+
+    // Makes room for one more child program that runs.
+    fn make_room(&mut self) -> Result<(), StartFault>
+        ensures room { OnOk result (vec_len self.new.started < vec_capacity self.new.started) }
+        ensures items { self.new.started.items ≡ self.old.started.items }
+        ensures memory { OnErr result (result ≡ Err StartFault.Memory) }
+        ensures starts { self.new.starts ≡ self.old.starts }
+        ensures faults { self.new.faults ≡ self.old.faults }
+        ensures system { self.new.system ≡ self.old.system }
+        ensures home { self.new.home ≡ self.old.home }
+    {
+        match self.started.reserve(1) {
+            Ok(()) => Ok(()),
+            Err(_) => Err(StartFault::Memory),
+        }
+    }
+
+    // Adds a child program that runs. Room for it was made before it was started, so that none is lost.
+    fn add(&mut self, tool: Started<S>)
+        requires { vec_len self.old.started < vec_capacity self.old.started }
+        ensures tools { self.new.started.items ≡ self.old.started.items ++ tool ∷ [] }
+        ensures starts { self.new.starts ≡ once_more self.old.starts }
+        ensures faults { self.new.faults ≡ self.old.faults }
+        ensures system { self.new.system ≡ self.old.system }
+        ensures home { self.new.home ≡ self.old.home }
+    {
+        let _ = self.started.push(tool);
+        self.starts = self.starts.saturating_add(1);
+    }
+
+    /// Waits for the end of each that runs, and gives its result up. Then the folder of the session is removed, as far as it can be. This is
+    /// called at the end of the program, so that no tool writes after it.
+    pub fn wait_rest(&mut self, alloc: Global)
+        ensures none { self.new.started.items ≡ [] }
+        ensures starts { self.new.starts ≡ self.old.starts }
+        ensures faults { self.new.faults ≡ self.old.faults }
+    {
+        while let Some(mut tool) = self.started.pop() {
+            let _ = self.system.wait(&mut tool.child);
+            self.system.discard(alloc, tool.folder.as_str());
+        }
+        if let Some(home) = self.home.take() {
+            self.system.close(alloc, home.as_str());
+        }
+    }
+}
+
+impl<S: System + Drop> Spawner for ChildTools<S> {
+    ghost use Rattle.std.specs.Prelude.{map};
+    ghost use Rattle.odin_real.specs.Told.{children_view};
+
+    ghost told = { λ s. children_view (map (λ tool. tool.running) s.started.items) s.starts s.faults };
+
+    fn start(&mut self, alloc: Global, job: &Job) -> Result<u32, StartFault>
+        ensures slot { let told = ⟦<ChildTools<S> as Spawner>⟧.told in
+            IfOk result (IsLeastFree (told self.old).running) }
+        ensures ok { let told = ⟦<ChildTools<S> as Spawner>⟧.told in
+            IfOk result (λ slot. told self.new ≡ begun (told self.old) slot job.now) }
+        ensures failed { let told = ⟦<ChildTools<S> as Spawner>⟧.told in
+            result ≡ Err StartFault.Failed → Fails (told self.old) (told self.new) }
+        ensures memory { let told = ⟦<ChildTools<S> as Spawner>⟧.told in
+            result ≡ Err StartFault.Memory → told self.new ≡ told self.old }
+        ensures started { IfOk result (λ slot. IsStarted (map seen_of self.old.started.items)
+            (map seen_of self.new.started.items) (option_map string_bytes self.new.home)
+            slot job.now (S.held self.old.system) (S.held self.new.system)
+            (S.log self.old.system) (S.log self.new.system)) }
+        ensures home { IsHome (option_map string_bytes self.old.home)
+            (option_map string_bytes self.new.home) }
+        ensures fails { FailsWhere
+            (CanStart (map (λ tool. tool.running) self.old.started.items) job.now)
+            StartFault.Memory (S.log self.old.system) (S.log self.new.system) result }
+    {
+        let Some(slot) = least_free(self.started.as_slice()) else {
+            return self.refuse();
+        };
+        // The job is copied before the start, since what runs is told by its jobs until it ends, and after a start nothing may fail.
+        let kept = job.copy(alloc)?;
+        self.make_room()?;
+        match self.begin(alloc, slot, job) {
+            Ok((folder, child)) => {
+                let running = Running { slot, job: kept };
+                self.add(Started {
+                    running,
+                    folder,
+                    child,
+                });
+                Ok(slot)
+            }
+            Err(SystemFault::Memory) => Err(StartFault::Memory),
+            Err(SystemFault::Failed) => self.refuse(),
+        }
+    }
+
+    fn finish(&mut self, alloc: Global) -> Result<(u32, Raw), FinishFault>
+        requires { 0 < length (⟦<ChildTools<S> as Spawner>⟧.told self.old).running }
+        ensures ok { let told = ⟦<ChildTools<S> as Spawner>⟧.told in
+            IfOk result (λ end. Ends (told self.old) end.0 end.1 (told self.new)) }
+        ensures lost { let told = ⟦<ChildTools<S> as Spawner>⟧.told in
+            LosesAt (told self.old) (told self.new) result }
+        ensures memory { let told = ⟦<ChildTools<S> as Spawner>⟧.told in
+            result ≡ Err FinishFault.Memory → told self.new ≡ told self.old }
+        ensures finishes { Finishes (map seen_of self.old.started.items)
+            (map seen_of self.new.started.items) (S.held self.old.system)
+            (S.held self.new.system) result }
+        ensures home { self.new.home ≡ self.old.home }
+        ensures counts { CountsWhere
+            (All (CanBeGiven (S.held self.old.system)) (map seen_of self.old.started.items))
+            FinishFault.Memory (S.log self.old.system) (S.log self.new.system) result }
+    {
+        let place = wait_any(&self.system, &mut self.started);
+        match end_at(&mut self.started, place, alloc, &mut self.system) {
+            Ok(raw) => Ok((take_at(&mut self.started, place), raw)),
+            Err(SystemFault::Memory) => Err(FinishFault::Memory),
+            Err(SystemFault::Failed) => {
+                self.count_fault();
+                Err(FinishFault::Failed(take_at(&mut self.started, place)))
+            }
+        }
+    }
+
+    fn running(&self) -> usize {
+        self.started.len()
+    }
+}

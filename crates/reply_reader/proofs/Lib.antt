@@ -1,6 +1,0 @@
-mod TextLemmas
-mod ItemLemmas
-mod ObjectLemmas
-mod VerbLemmas
-mod PlaceLemmas
-pub mod Lemmas

@@ -1,6 +1,0 @@
-use Rattle.std.proofs.Common.{◌≡◌, length}
-use Rattle.reply_reader.proofs.ItemLemmas.{Begins}
-use Rattle.reply_reader.proofs.items.read_items.Given as goal
-
-abbrev pub invariant-items : goal.invariant-items
-invariant-items g l = record { begun : Begins g.T.Item.spelled g.T.Item.IsGood l.fn.text l.items l.rest; many : length l.items ≡ l.counter }

@@ -1,5 +1,0 @@
-use Rattle.reply_reader.proofs.VerbLemmas.{NoneOf}
-use Rattle.reply_reader.proofs.verbs.cut_verb.Given as goal
-
-abbrev pub invariant-loop-verb : goal.invariant-loop-verb
-invariant-loop-verb l = NoneOf l.verb-items l.text l.verb-index

@@ -1,3 +1,0 @@
-mod ChangeLemmas
-mod EditLemmas
-mod SourceLemmas

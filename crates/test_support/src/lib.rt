@@ -1,0 +1,27 @@
+//! What tests and measures stand on: results in a table and what a node comes to over them, what a store holds, sample graphs, and words, trees, inputs
+//! and outputs in memory.
+#![tactic(auto)]
+
+mod body;
+mod calling;
+mod changes;
+mod fault;
+mod graphs;
+mod memory;
+mod reading;
+mod seeing;
+mod settling;
+mod table;
+mod views;
+
+pub use body::body_of;
+pub use calling::{Called, call_node};
+pub use changes::{drop_named, keep, put_named};
+pub use fault::Fault;
+pub use graphs::{CC_ONLY, C_UNITS, KITS, graph_text};
+pub use memory::{only, owned, sink, source, tree_of};
+pub use reading::{graph_of, node_in};
+pub use seeing::all_seen;
+pub use settling::settle_after;
+pub use table::Table;
+pub use views::held;

@@ -1,5 +1,0 @@
-mod Added
-mod CallLemmas
-mod ListLemmas
-mod SurveyLemmas
-pub mod Lemmas

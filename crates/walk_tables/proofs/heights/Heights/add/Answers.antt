@@ -1,7 +1,0 @@
-use Rattle.std.proofs.Common.{sym}
-use Rattle.object_values.specs.contracts.nodes.NodePartialEq.TheImpl.{ghosts as key_eq}
-use Rattle.walk_tables.proofs.Added.{added}
-use Rattle.walk_tables.proofs.heights.Heights.add.Goals as goal
-
-pub returns-clause-ok : goal.returns-clause-ok
-returns-clause-ok c = added key_eq.eq c.self.inside.heights.entries c.args.self.now _ c.args.node c.args.height (sym c.self.view_is) c.in_ok-insert.ensures.entries c.requires

@@ -1,8 +1,0 @@
-use Rattle.walk_tables.proofs.CallLemmas.{once}
-use Rattle.walk_tables.proofs.wanted.Wanted.add.Goals as goal
-
-pub invariant_of-self : goal.invariant_of-self
-invariant_of-self c = once _ c.insert.ensures.unique
-
-pub invariant_of-self-2 : goal.invariant_of-self-2
-invariant_of-self-2 c = once _ c.insert.ensures.unique
