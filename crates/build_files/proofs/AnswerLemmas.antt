@@ -6,8 +6,8 @@ use Rattle.meaning_texts.proofs.Lemmas.{same_some}
 use Rattle.meaning_commands.specs.Formed.{IsFormed}
 use Rattle.object_values.specs.declared.messages.Status.{Status}
 use Rattle.object_values.specs.declared.messages.Status.TheVariants.{Ok, Warning, Error, Abort}
-use Rattle.meaning_commands.specs.declared.replies.Reply.{Reply}
-use Rattle.meaning_commands.specs.declared.replies.Reply.TheVariants as reply
+use Rattle.object_values.specs.declared.replies.Reply.{Reply}
+use Rattle.object_values.specs.declared.replies.Reply.TheVariants as reply
 use Rattle.build_files.specs.Answers.{answers_ask, reply_to_ask, later, last_answer, object_exit_status, exit_status}
 
 later_some : (o : Option Reply) → later None o ≡ o

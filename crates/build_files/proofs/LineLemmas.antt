@@ -2,7 +2,7 @@
 use Rattle.std.proofs.Common.{◌≢◌, ℕ, ◌<◌, List, [], ◌∷◌, length, refl, arith}
 use Rattle.meaning_texts.specs.Classes.{IsName}
 use Rattle.odin_bytes.proofs.Lemmas.{has_no}
-use Rattle.meaning_commands.specs.declared.commands.Command.TheVariants.{Take}
+use Rattle.odin_bytes.specs.declared.commands.Command.TheVariants.{Take}
 use Rattle.meaning_commands.specs.Commands.{Spells, formed, take}
 use Rattle.build_files.specs.Listed.{take_line}
 

@@ -3,8 +3,8 @@ use Rattle.std.specs.Prelude.{◌≢◌, ⊤, ℕ, ◌+◌, All, List, [], ◌�
 use Rattle.object_values.specs.declared.views.Part.{Part}
 use Rattle.meaning_texts.specs.Lists.{HasNo}
 use Rattle.meaning_texts.specs.Lines.{with_lf}
-use Rattle.meaning_commands.specs.declared.replies.ShownBody.{ShownBody}
-use Rattle.meaning_commands.specs.declared.replies.ShownBody.TheVariants.{Nothing, Simple, List as Listed, Compound}
+use Rattle.object_values.specs.declared.replies.ShownBody.{ShownBody}
+use Rattle.object_values.specs.declared.replies.ShownBody.TheVariants.{Nothing, Simple, List as Listed, Compound}
 use Rattle.build_files.specs.declared.files.Files.{Files}
 use Rattle.build_files.specs.declared.files.Files.TheVariants as files
 

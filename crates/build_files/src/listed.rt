@@ -1,7 +1,7 @@
 // The names that are listed, and the lines that take them.
 ghost use Rattle.std.specs.Prelude.{◌≡◌, ◌++◌, IfOk, OnOk};
 ghost use Rattle.meaning_texts.specs.Lines.{with_lf};
-ghost use Rattle.meaning_commands.specs.declared.commands.Command.TheVariants.{Take};
+ghost use Rattle.odin_bytes.specs.declared.commands.Command.TheVariants.{Take};
 ghost use Rattle.meaning_commands.specs.Commands.{Spells};
 ghost use Rattle.build_files.specs.Listed.{take_line, take_lines, IsListed};
 

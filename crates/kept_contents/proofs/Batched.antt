@@ -13,8 +13,8 @@ use Rattle.meaning_texts.specs.Lists.{IsIn}
 use Rattle.meaning_texts.proofs.Lemmas.{in_either, from_map, in_all}
 use Rattle.content_store.specs.Bodies.{Bodies, place_of_body}
 use Rattle.content_store.proofs.Lemmas.{place_kept}
-use Rattle.meaning_records.specs.declared.items.StoredPart.{StoredPart}
-use Rattle.meaning_records.specs.declared.items.StoredOutput.{StoredOutput}
+use Rattle.object_values.specs.declared.items.StoredPart.{StoredPart}
+use Rattle.object_values.specs.declared.items.StoredOutput.{StoredOutput}
 use Rattle.meaning_records.specs.Tables.{IsText, IsNoText, IsPartOf, ArePartsOf, IsOutputOf, AreOutputsOf}
 use Rattle.meaning_records.specs.Batches.{body_of, contents_of, EachTextOnce}
 use Rattle.kept_contents.specs.declared.shared.Shared.{Shared}

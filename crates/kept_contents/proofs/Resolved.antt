@@ -9,10 +9,10 @@ use Rattle.object_values.specs.declared.views.Value.TheVariants.{Simple}
 use Rattle.object_values.specs.declared.calls.CallPart.{CallPart}
 use Rattle.object_values.specs.declared.calls.Call.{Call}
 use Rattle.object_values.specs.declared.calls.Outcome.{Outcome}
-use Rattle.meaning_records.specs.declared.items.StoredPart.{StoredPart}
-use Rattle.meaning_records.specs.declared.items.StoredCall.{StoredCall}
-use Rattle.meaning_records.specs.declared.items.StoredOutput.{StoredOutput}
-use Rattle.meaning_records.specs.declared.items.StoredOutcome.{StoredOutcome}
+use Rattle.object_values.specs.declared.items.StoredPart.{StoredPart}
+use Rattle.object_values.specs.declared.items.StoredCall.{StoredCall}
+use Rattle.object_values.specs.declared.items.StoredOutput.{StoredOutput}
+use Rattle.object_values.specs.declared.items.StoredOutcome.{StoredOutcome}
 use Rattle.meaning_records.specs.Tables.{IsText, IsBody, IsPartOf, ArePartsOf, IsCallOf, IsOutputOf, AreOutputsOf, IsOutcomeOf}
 use Rattle.kept_contents.proofs.Items.{kept}
 use Rattle.kept_contents.proofs.Numbers.{same_text}

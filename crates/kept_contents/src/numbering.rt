@@ -9,8 +9,7 @@ ghost use Rattle.kept_contents.specs.Added.{AddsOne, AddsTexts, AreHeld, content
 use crate::added::AddedTexts;
 use crate::shared::Shared;
 use crate::table::ContentTable;
-use meaning_records::items::{StoredCall, StoredOutcome, StoredOutput, StoredPart};
-use object_values::{Call, CallPart, Copied, Memory, Outcome, Part, Seq, Text, copy_five};
+use object_values::{Call, CallPart, Copied, Memory, Outcome, Part, Seq, StoredCall, StoredOutcome, StoredOutput, StoredPart, Text, copy_five};
 use std::alloc::Global;
 
 /// The number of a text, which is added where neither the file nor the batch has it.

@@ -13,10 +13,10 @@ use Rattle.meaning_texts.specs.Lists.{IsIn}
 use Rattle.meaning_texts.proofs.Lemmas.{in_either, from_map, from_flat, in_all, all_in}
 use Rattle.meaning_calls.specs.Jobs.{IsWellFormed, IsPartOfClass}
 use Rattle.meaning_calls.specs.Outcomes.{OutcomeFits}
-use Rattle.meaning_records.specs.declared.items.StoredCall.{StoredCall}
-use Rattle.meaning_records.specs.declared.items.StoredOutcome.{StoredOutcome}
-use Rattle.meaning_records.specs.declared.items.Item.{Item}
-use Rattle.meaning_records.specs.declared.items.Item.TheVariants.{Content, Put, Kept}
+use Rattle.object_values.specs.declared.items.StoredCall.{StoredCall}
+use Rattle.object_values.specs.declared.items.StoredOutcome.{StoredOutcome}
+use Rattle.object_values.specs.declared.items.Item.{Item}
+use Rattle.object_values.specs.declared.items.Item.TheVariants.{Content, Put, Kept}
 use Rattle.meaning_records.specs.Tables.{Tables, IsText, IsNoText, IsCallOf, IsOutcomeOf, LoadsAll, Calls, with_content, with_call}
 use Rattle.meaning_records.specs.Batches.{contents_of, body_of, needed_texts, IsPutBatch, IsCallBatch}
 use Rattle.kept_contents.specs.declared.shared.Shared.{Shared}

@@ -9,10 +9,10 @@ use Rattle.meaning_texts.specs.Tests.{is_name}
 use Rattle.meaning_texts.proofs.Lemmas.{word_decides}
 use Rattle.meaning_calls.specs.Jobs.{IsWellFormed}
 use Rattle.meaning_calls.specs.Outcomes.{OutcomeFits}
-use Rattle.meaning_records.specs.declared.items.StoredCall.{StoredCall}
-use Rattle.meaning_records.specs.declared.items.StoredOutcome.{StoredOutcome}
-use Rattle.meaning_records.specs.declared.items.Item.{Item}
-use Rattle.meaning_records.specs.declared.items.Item.TheVariants.{Kept}
+use Rattle.object_values.specs.declared.items.StoredCall.{StoredCall}
+use Rattle.object_values.specs.declared.items.StoredOutcome.{StoredOutcome}
+use Rattle.object_values.specs.declared.items.Item.{Item}
+use Rattle.object_values.specs.declared.items.Item.TheVariants.{Kept}
 use Rattle.meaning_records.specs.Forms.{ParsesAt, StandsNowhere}
 use Rattle.meaning_records.specs.FormLemmas.{one_item}
 use Rattle.meaning_records.specs.PlaceLemmas.{one_stands}

@@ -6,8 +6,8 @@ use Rattle.object_values.specs.declared.calls.Outcome.{Outcome}
 use Rattle.meaning_calls.specs.Jobs.{IsWellFormed}
 use Rattle.meaning_calls.specs.Outcomes.{OutcomeFits}
 use Rattle.content_store.specs.Bodies.{Bodies}
-use Rattle.meaning_records.specs.declared.items.Item.{Item}
-use Rattle.meaning_records.specs.declared.items.Item.TheVariants.{Content}
+use Rattle.object_values.specs.declared.items.Item.{Item}
+use Rattle.object_values.specs.declared.items.Item.TheVariants.{Content}
 use Rattle.meaning_records.specs.Records.{item}
 use Rattle.meaning_records.specs.Batches.{contents_of}
 use Rattle.meaning_records.specs.States.{spell_batch}

@@ -3,7 +3,7 @@ ghost use Rattle.std.specs.Prelude.{◌≤◌, ◌↔◌, All, IfNone, IfOk, IfS
 ghost use Rattle.object_values.specs.declared.views.Part.{Part as PartValue};
 ghost use Rattle.meaning_texts.specs.Classes.{IsName};
 ghost use Rattle.meaning_texts.specs.Limits.{body_limit};
-ghost use Rattle.meaning_records.specs.declared.items.Item.TheVariants as item;
+ghost use Rattle.object_values.specs.declared.items.Item.TheVariants as item;
 ghost use Rattle.meaning_records.specs.Tables.{Tables, IsShort, Loads};
 ghost use Rattle.kept_tables.specs.Loading.{TakesInItem};
 

@@ -10,7 +10,7 @@ use Rattle.odin_fakes.specs.File.{image_of}
 use Rattle.odin_fakes.specs.Tools as tools
 use Rattle.meaning_graph.specs.Graphs.{Text}
 use Rattle.meaning_records.specs.Tables.{Calls}
-use Rattle.meaning_commands.specs.declared.replies.Reply.{Reply}
+use Rattle.object_values.specs.declared.replies.Reply.{Reply}
 use Rattle.odin_journal.specs.Faults.{CountAfterJournalFault}
 use Rattle.odin_journal.specs.Rest.{IsReady}
 use Rattle.odin_journal.specs.declared.fault.JournalFault.{JournalFault}

@@ -8,7 +8,7 @@ use Rattle.odin_journal.specs.Trails as trails
 use Rattle.meaning_graph.specs.Graphs.{Text, Graph}
 use Rattle.meaning_derive.specs.Derive.{Sources, Outcomes}
 use Rattle.meaning_records.specs.Tables.{Calls, kept_outcome}
-use Rattle.meaning_commands.specs.declared.replies.Reply.{Reply}
+use Rattle.object_values.specs.declared.replies.Reply.{Reply}
 use Rattle.odin_store.specs.declared.store.Store.{Store}
 use Rattle.odin_store.specs.Held.{Held, puts}
 use Rattle.odin_store.specs.Keeping.{store_keeping}

@@ -5,7 +5,7 @@ use Rattle.odin_fakes.specs.Tools as tools
 use Rattle.dg_reader.specs.Files.{IsRead}
 use Rattle.meaning_graph.specs.Graphs.{Graph}
 use Rattle.meaning_records.specs.Tables.{Calls}
-use Rattle.meaning_commands.specs.declared.replies.Reply.{Reply}
+use Rattle.object_values.specs.declared.replies.Reply.{Reply}
 use Rattle.odin_journal.specs.declared.fault.JournalFault.{JournalFault}
 use Rattle.odin_journal.specs.declared.fault.JournalFault.TheVariants as fault
 use Rattle.meaning_records.specs.States.{State}

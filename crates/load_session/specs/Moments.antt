@@ -3,7 +3,7 @@ use Rattle.std.specs.Prelude.{◌≡◌, ◌+◌, ◌^◌, ◌<◌, ◌≤◌, �
 use Rattle.odin_fakes.specs.File.{image_of}
 use Rattle.odin_fakes.specs.Tools as tools
 use Rattle.meaning_records.specs.Tables.{Calls}
-use Rattle.meaning_commands.specs.declared.replies.Reply.{Reply}
+use Rattle.object_values.specs.declared.replies.Reply.{Reply}
 use Rattle.odin_journal.specs.declared.fault.JournalFault.{JournalFault}
 use Rattle.kept_derive.specs.Calls.{IsIdle}
 use Rattle.kept_derive.specs.Runs.{at}

@@ -2,9 +2,9 @@
 use Rattle.std.specs.Prelude.{◌≡◌, ⊤, ℕ, Bool, List, [], ◌∷◌, ◌++◌, length, cond}
 use Rattle.meaning_graph.specs.Graphs.{Text, Graph}
 use Rattle.meaning_records.specs.Tables.{Calls}
-use Rattle.meaning_commands.specs.declared.replies.Reply.{Reply}
-use Rattle.meaning_commands.specs.declared.replies.Reply.TheVariants.{Shown}
-use Rattle.meaning_commands.specs.declared.replies.ShownBody.TheVariants.{Simple}
+use Rattle.object_values.specs.declared.replies.Reply.{Reply}
+use Rattle.object_values.specs.declared.replies.Reply.TheVariants.{Shown}
+use Rattle.object_values.specs.declared.replies.ShownBody.TheVariants.{Simple}
 use Rattle.odin_journal.specs.Faults.{CountAfterJournalFault}
 use Rattle.odin_journal.specs.declared.fault.JournalFault.{JournalFault}
 use Rattle.odin_journal.specs.declared.fault.JournalFault.TheVariants as fault

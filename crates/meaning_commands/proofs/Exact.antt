@@ -4,8 +4,8 @@ use Rattle.std.specs.Prelude.{Option, Some, None, nat_lt}
 use Rattle.std.proofs.lemmas.Bool.{cond-true, cond-false, ltb-true, lt-ltb, ltb-false, le-ltb, cond_both}
 use Rattle.meaning_texts.specs.Limits.{command_limit}
 use Rattle.meaning_texts.proofs.Lemmas.{some_or_none}
-use Rattle.meaning_commands.specs.declared.commands.Command.{Command}
-use Rattle.meaning_commands.specs.declared.commands.Command.TheVariants.{Nothing, Bad}
+use Rattle.odin_bytes.specs.declared.commands.Command.{Command}
+use Rattle.odin_bytes.specs.declared.commands.Command.TheVariants.{Nothing, Bad}
 use Rattle.meaning_commands.specs.Commands.{IsForm, Spells, nothing, formed, too_long, formless}
 use Rattle.meaning_commands.specs.Reading.{formed_command, or_bad, command_of}
 use Rattle.meaning_commands.proofs.Forms.{form_reads, reads_form}

@@ -10,8 +10,8 @@ use Rattle.meaning_texts.specs.Classes.{IsName, is_name_byte}
 use Rattle.meaning_texts.specs.Tests.{is_name}
 use Rattle.meaning_texts.specs.Lists.{IsIn}
 use Rattle.meaning_texts.proofs.Lemmas.{same_some, word_decides}
-use Rattle.meaning_commands.specs.declared.commands.Command.{Command}
-use Rattle.meaning_commands.specs.declared.commands.Command.TheVariants.{Put, Take, Remove, Ask, Plan, Sources, Kept, Quit, BadName}
+use Rattle.odin_bytes.specs.declared.commands.Command.{Command}
+use Rattle.odin_bytes.specs.declared.commands.Command.TheVariants.{Put, Take, Remove, Ask, Plan, Sources, Kept, Quit, BadName}
 use Rattle.meaning_commands.specs.Commands.{IsArgument, IsPut, IsForm, put, put_bad, take, take_bad, remove, remove_bad, ask, plan, sources, kept, quit}
 use Rattle.meaning_commands.specs.Reading.{decimal_number, before_space, behind_space, behind, is_argument, naming, put_of, put_words, word_alone, first_command_of, readings, formed_command}
 use Rattle.meaning_commands.proofs.Words.{reads_number, is_number, before_is, behind_is, is_cut, argument_test, test_argument, is_behind}

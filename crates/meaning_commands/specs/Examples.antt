@@ -3,9 +3,9 @@ use Rattle.std.specs.Prelude.{◌≡◌, ℕ, ◌++◌, List, [], ◌∷◌, rep
 use Rattle.object_values.specs.declared.messages.Status.TheVariants.{Ok, Warning, Error, Abort}
 use Rattle.object_values.specs.declared.messages.Message.{Message}
 use Rattle.object_values.specs.declared.views.Part.{Part}
-use Rattle.meaning_commands.specs.declared.commands.Command.TheVariants.{Put, Take, Remove, Ask, Plan, Sources, Kept, Quit, Nothing, Bad, BadName}
-use Rattle.meaning_commands.specs.declared.replies.Reply.TheVariants as reply
-use Rattle.meaning_commands.specs.declared.replies.ShownBody.TheVariants as body
+use Rattle.odin_bytes.specs.declared.commands.Command.TheVariants.{Put, Take, Remove, Ask, Plan, Sources, Kept, Quit, Nothing, Bad, BadName}
+use Rattle.object_values.specs.declared.replies.Reply.TheVariants as reply
+use Rattle.object_values.specs.declared.replies.ShownBody.TheVariants as body
 use Rattle.meaning_commands.specs.Commands.{bytes_after_line, ends_run}
 use Rattle.meaning_commands.specs.Reading.{command_of}
 use Rattle.meaning_commands.specs.Replies.{reply_text}

@@ -8,10 +8,10 @@ use Rattle.odin_bytes.specs.Spellings.{AreBytes}
 use Rattle.meaning_texts.specs.Classes.{IsName, IsId}
 use Rattle.meaning_texts.specs.Lists.{HasNo}
 use Rattle.meaning_texts.specs.Lines.{HasNoLf}
-use Rattle.meaning_commands.specs.declared.replies.Reply.{Reply}
-use Rattle.meaning_commands.specs.declared.replies.Reply.TheVariants as reply
-use Rattle.meaning_commands.specs.declared.replies.ShownBody.{ShownBody}
-use Rattle.meaning_commands.specs.declared.replies.ShownBody.TheVariants.{Nothing, Simple, List as Listed, Compound}
+use Rattle.object_values.specs.declared.replies.Reply.{Reply}
+use Rattle.object_values.specs.declared.replies.Reply.TheVariants as reply
+use Rattle.object_values.specs.declared.replies.ShownBody.{ShownBody}
+use Rattle.object_values.specs.declared.replies.ShownBody.TheVariants.{Nothing, Simple, List as Listed, Compound}
 use Rattle.meaning_commands.specs.Replies.{reply_text}
 
 -- The number is one that a count has room for.

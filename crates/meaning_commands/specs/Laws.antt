@@ -1,6 +1,6 @@
 -- What the laws of commands say.
 use Rattle.std.specs.Prelude.{◌≡◌, ◌↔◌, ℕ, List}
-use Rattle.meaning_commands.specs.declared.commands.Command.{Command}
+use Rattle.odin_bytes.specs.declared.commands.Command.{Command}
 use Rattle.meaning_commands.specs.Commands.{Spells}
 use Rattle.meaning_commands.specs.Reading.{command_of}
 

@@ -7,8 +7,8 @@ use Rattle.std.specs.Str.Parse.{digits_value}
 use Rattle.meaning_texts.specs.Limits.{command_limit}
 use Rattle.meaning_texts.specs.Lists.{is_empty}
 use Rattle.meaning_texts.specs.Tests.{is_name}
-use Rattle.meaning_commands.specs.declared.commands.Command.{Command}
-use Rattle.meaning_commands.specs.declared.commands.Command.TheVariants.{Put, Take, Remove, Ask, Plan, Sources, Kept, Quit, Nothing, Bad, BadName}
+use Rattle.odin_bytes.specs.declared.commands.Command.{Command}
+use Rattle.odin_bytes.specs.declared.commands.Command.TheVariants.{Put, Take, Remove, Ask, Plan, Sources, Kept, Quit, Nothing, Bad, BadName}
 
 -- the number below 2^64 whose digits these are
 abbrev pub decimal_number : List ℕ → Option ℕ

@@ -6,10 +6,10 @@ use Rattle.object_values.specs.declared.messages.Message.{Message}
 use Rattle.object_values.specs.declared.views.Part.{Part}
 use Rattle.meaning_texts.specs.Escapes.{escaped}
 use Rattle.meaning_texts.specs.Lines.{with_lf}
-use Rattle.meaning_commands.specs.declared.replies.Reply.{Reply}
-use Rattle.meaning_commands.specs.declared.replies.Reply.TheVariants as reply
-use Rattle.meaning_commands.specs.declared.replies.ShownBody.{ShownBody}
-use Rattle.meaning_commands.specs.declared.replies.ShownBody.TheVariants.{Nothing, Simple, List as Listed, Compound}
+use Rattle.object_values.specs.declared.replies.Reply.{Reply}
+use Rattle.object_values.specs.declared.replies.Reply.TheVariants as reply
+use Rattle.object_values.specs.declared.replies.ShownBody.{ShownBody}
+use Rattle.object_values.specs.declared.replies.ShownBody.TheVariants.{Nothing, Simple, List as Listed, Compound}
 
 -- a word and a number
 abbrev pub word_and_number : List ℕ → ℕ → List ℕ

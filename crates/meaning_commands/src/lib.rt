@@ -2,10 +2,5 @@
 //! transcript, and what is read, written and kept where it ends. There is no code here that runs.
 #![tactic(auto)]
 
-pub mod commands;
 pub mod examples;
 pub mod laws;
-pub mod replies;
-
-pub use commands::Command;
-pub use replies::{Reply, ShownBody};

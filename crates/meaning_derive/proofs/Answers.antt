@@ -13,8 +13,8 @@ use Rattle.meaning_tasks.specs.NodeOf.{NodeAnswer, is_node, unknown_param, unkno
 use Rattle.meaning_derive.specs.Derive.{Sources, Outcomes, derived, IsFounded}
 use Rattle.meaning_derive.specs.Chains.{IsRefusal}
 use Rattle.meaning_derive.proofs.Founded.{founded_or_chained}
-use Rattle.meaning_commands.specs.declared.replies.Reply.{Reply}
-use Rattle.meaning_commands.specs.declared.replies.Reply.TheVariants.{RefusedExpression, RefusedParam, RefusedType, RefusedPath}
+use Rattle.object_values.specs.declared.replies.Reply.{Reply}
+use Rattle.object_values.specs.declared.replies.Reply.TheVariants.{RefusedExpression, RefusedParam, RefusedType, RefusedPath}
 use Rattle.meaning_derive.specs.Replies.{shown, refused_circular, refused_deep, plan_of}
 use Rattle.meaning_derive.specs.Answers.{Refused, expression, param, type, path, Asks, Answer, refused, object, circular, deep, Plan, refused_plan, steps}
 

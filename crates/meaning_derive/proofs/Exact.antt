@@ -11,8 +11,8 @@ use Rattle.meaning_tasks.specs.NodeOf.{NodeAnswer, is_node, unknown_param, unkno
 use Rattle.meaning_derive.specs.Derive.{Sources, Outcomes, derived}
 use Rattle.meaning_derive.specs.Chains.{IsCircular, IsDeep}
 use Rattle.meaning_derive.proofs.Founded.{no_chain}
-use Rattle.meaning_commands.specs.declared.replies.Reply.{Reply}
-use Rattle.meaning_commands.specs.declared.replies.Reply.TheVariants.{RefusedExpression, RefusedParam, RefusedType, RefusedPath}
+use Rattle.object_values.specs.declared.replies.Reply.{Reply}
+use Rattle.object_values.specs.declared.replies.Reply.TheVariants.{RefusedExpression, RefusedParam, RefusedType, RefusedPath}
 use Rattle.meaning_derive.specs.Replies.{shown, plan_of}
 use Rattle.meaning_derive.specs.Answers.{Refused, expression, param, type, path, Asks, Answer, refused, object, circular, deep, Plan, refused_plan, steps}
 use Rattle.meaning_derive.specs.AnswerLaws.{ShowsChain, circular_chain, deep_chain, BothShowChains}

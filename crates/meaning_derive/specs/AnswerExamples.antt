@@ -9,9 +9,9 @@ use Rattle.object_values.specs.declared.views.View.{View}
 use Rattle.meaning_graph.specs.Graphs.{Text}
 use Rattle.meaning_graph.specs.Samples.{two_ways, c_units, c_units_back, joined_texts}
 use Rattle.meaning_tasks.specs.NodeSamples.{at_steps}
-use Rattle.meaning_commands.specs.declared.replies.Reply.{Reply}
-use Rattle.meaning_commands.specs.declared.replies.Reply.TheVariants as reply
-use Rattle.meaning_commands.specs.declared.replies.ShownBody.TheVariants as shows
+use Rattle.object_values.specs.declared.replies.Reply.{Reply}
+use Rattle.object_values.specs.declared.replies.Reply.TheVariants as reply
+use Rattle.object_values.specs.declared.replies.ShownBody.TheVariants as shows
 use Rattle.meaning_derive.specs.Replies.{shown, refused_circular, refused_deep, plan_of}
 use Rattle.meaning_derive.specs.Answers.{Refused}
 use Rattle.meaning_derive.specs.AnswerSamples.{good, ex_warned_view, part, aborted_view, message, object_of, debugged_object}

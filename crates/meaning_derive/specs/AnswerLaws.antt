@@ -6,7 +6,7 @@ use Rattle.object_values.specs.declared.calls.Call.{Call}
 use Rattle.meaning_graph.specs.Graphs.{Text, Graph}
 use Rattle.meaning_derive.specs.Derive.{Sources, Outcomes, derived}
 use Rattle.meaning_derive.specs.Chains.{IsCircular, IsDeep}
-use Rattle.meaning_commands.specs.declared.replies.Reply.{Reply}
+use Rattle.object_values.specs.declared.replies.Reply.{Reply}
 use Rattle.meaning_derive.specs.Replies.{shown, refused_circular, refused_deep}
 use Rattle.meaning_derive.specs.Answers.{Refused, Asks, Answer, Plan}
 

@@ -9,8 +9,8 @@ use Rattle.meaning_graph.specs.Graphs.{Text, Graph}
 use Rattle.meaning_tasks.specs.NodeOf.{is_node, unknown_param, unknown_type, no_path, node_of}
 use Rattle.meaning_derive.specs.Derive.{Sources, Outcomes, derived}
 use Rattle.meaning_derive.specs.Chains.{IsCircular, IsDeep}
-use Rattle.meaning_commands.specs.declared.replies.Reply.{Reply}
-use Rattle.meaning_commands.specs.declared.replies.Reply.TheVariants.{RefusedExpression, RefusedParam, RefusedType, RefusedPath}
+use Rattle.object_values.specs.declared.replies.Reply.{Reply}
+use Rattle.object_values.specs.declared.replies.Reply.TheVariants.{RefusedExpression, RefusedParam, RefusedType, RefusedPath}
 use Rattle.meaning_derive.specs.Replies.{shown, refused_circular, refused_deep, plan_of}
 
 -- The text is refused: it is no expression, or its expression has no node.

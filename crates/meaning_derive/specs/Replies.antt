@@ -10,10 +10,10 @@ use Rattle.object_values.specs.declared.views.View.{View}
 use Rattle.object_values.specs.declared.graph.MakerDecl.{MakerDecl}
 use Rattle.meaning_graph.specs.Graphs.{Text, Graph, makers}
 use Rattle.meaning_tasks.specs.Labels.{node_text}
-use Rattle.meaning_commands.specs.declared.replies.Reply.{Reply}
-use Rattle.meaning_commands.specs.declared.replies.Reply.TheVariants as reply
-use Rattle.meaning_commands.specs.declared.replies.ShownBody.{ShownBody}
-use Rattle.meaning_commands.specs.declared.replies.ShownBody.TheVariants as body
+use Rattle.object_values.specs.declared.replies.Reply.{Reply}
+use Rattle.object_values.specs.declared.replies.Reply.TheVariants as reply
+use Rattle.object_values.specs.declared.replies.ShownBody.{ShownBody}
+use Rattle.object_values.specs.declared.replies.ShownBody.TheVariants as body
 
 abbrev pub node_texts : Graph → List Node → List Text
 node_texts g nodes = map (node_text g) nodes

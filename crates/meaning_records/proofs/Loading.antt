@@ -13,10 +13,10 @@ use Rattle.object_values.specs.declared.calls.CallPart.{CallPart}
 use Rattle.object_values.specs.declared.calls.Call.{Call}
 use Rattle.object_values.specs.declared.calls.Outcome.{Outcome}
 use Rattle.meaning_texts.specs.Limits.{body_limit}
-use Rattle.meaning_records.specs.declared.items.StoredPart.{StoredPart}
-use Rattle.meaning_records.specs.declared.items.StoredCall.{StoredCall}
-use Rattle.meaning_records.specs.declared.items.StoredOutput.{StoredOutput}
-use Rattle.meaning_records.specs.declared.items.StoredOutcome.{StoredOutcome}
+use Rattle.object_values.specs.declared.items.StoredPart.{StoredPart}
+use Rattle.object_values.specs.declared.items.StoredCall.{StoredCall}
+use Rattle.object_values.specs.declared.items.StoredOutput.{StoredOutput}
+use Rattle.object_values.specs.declared.items.StoredOutcome.{StoredOutcome}
 use Rattle.meaning_records.specs.Tables.{IsShort, IsText, IsBody, IsPartOf, ArePartsOf, IsCallOf, IsOutputOf, AreOutputsOf, IsOutcomeOf}
 use Rattle.meaning_records.proofs.Fronts.{decided}
 

@@ -3,9 +3,9 @@ use Rattle.std.proofs.Common.{◌≡◌, ℕ, zero, suc, List, [], ◌∷◌, �
 use Rattle.object_values.specs.declared.views.Value.{Value}
 use Rattle.object_values.specs.declared.views.Value.TheVariants.{Simple}
 use Rattle.object_values.specs.Texts.{Text}
-use Rattle.meaning_records.specs.declared.items.StoredCall.{StoredCall}
-use Rattle.meaning_records.specs.declared.items.StoredOutcome.{StoredOutcome}
-use Rattle.meaning_records.specs.declared.items.Item.TheVariants.{Content, Kept}
+use Rattle.object_values.specs.declared.items.StoredCall.{StoredCall}
+use Rattle.object_values.specs.declared.items.StoredOutcome.{StoredOutcome}
+use Rattle.object_values.specs.declared.items.Item.TheVariants.{Content, Kept}
 use Rattle.meaning_records.specs.Tables.{IsNoText}
 use Rattle.meaning_records.specs.Batches.{contents_of}
 use Rattle.meaning_records.specs.BatchExamples.{contents, fresh}

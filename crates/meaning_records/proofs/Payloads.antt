@@ -1,8 +1,8 @@
 -- The items that a payload is: one list at most, and whether there is one is decided.
 use Rattle.std.proofs.Common.{◌≡◌, ℕ, zero, suc, ◌<◌, List, [], ◌∷◌, ◌++◌, length, All, refl, sym, ap, ap₂, ◌∙◌, arith, length-append}
 use Rattle.std.proofs.lemmas.List.Elements.{All-nil, All-cons, All-head, All-tail}
-use Rattle.meaning_records.specs.declared.items.Item.{Item}
-use Rattle.meaning_records.specs.declared.items.Item.TheVariants.{Graph}
+use Rattle.object_values.specs.declared.items.Item.{Item}
+use Rattle.object_values.specs.declared.items.Item.TheVariants.{Graph}
 use Rattle.meaning_records.specs.FormLemmas.{one_item}
 use Rattle.meaning_records.specs.Records.{item}
 use Rattle.meaning_records.specs.States.{spell_batch}

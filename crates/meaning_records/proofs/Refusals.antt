@@ -9,7 +9,7 @@ use Rattle.object_values.specs.declared.views.Value.{Value}
 use Rattle.object_values.specs.declared.views.Value.TheVariants.{Simple, List as Listed, Compound}
 use Rattle.odin_bytes.specs.Fields.{u32_field, bytes_field}
 use Rattle.odin_bytes.specs.FieldLemmas.{field_front, u32_front, body_front}
-use Rattle.meaning_records.specs.declared.items.Item.{Item}
+use Rattle.object_values.specs.declared.items.Item.{Item}
 use Rattle.meaning_records.specs.Forms.{Form, StandsNowhere, number, bytes}
 use Rattle.meaning_records.specs.FormLemmas.{one_item, one_value}
 use Rattle.meaning_records.specs.Records.{status, line, value, content, item}

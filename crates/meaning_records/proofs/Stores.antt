@@ -9,8 +9,8 @@ use Rattle.object_values.specs.Texts.{no_texts}
 use Rattle.meaning_texts.specs.Classes.{is_name_byte}
 use Rattle.meaning_texts.proofs.Lemmas.{word_decides}
 use Rattle.meaning_records.specs.Images.{IsStore, IsRecord}
-use Rattle.meaning_records.specs.declared.items.Item.{Item}
-use Rattle.meaning_records.specs.declared.items.Item.TheVariants.{Graph, Content, Put, Dropped}
+use Rattle.object_values.specs.declared.items.Item.{Item}
+use Rattle.object_values.specs.declared.items.Item.TheVariants.{Graph, Content, Put, Dropped}
 use Rattle.meaning_records.specs.Records.{item}
 use Rattle.meaning_records.specs.States.{State, nothing, spell_batch, TakesAll, Reads}
 use Rattle.meaning_records.specs.Batches.{graph_batch}

@@ -13,10 +13,10 @@ use Rattle.meaning_calls.specs.Jobs.{IsWellFormed}
 use Rattle.meaning_calls.specs.Outcomes.{OutcomeFits}
 use Rattle.meaning_calls.specs.Tests.{is_well_formed, outcome_fits}
 use Rattle.meaning_calls.proofs.Lemmas.{well_formed_decides, fits_decides}
-use Rattle.meaning_records.specs.declared.items.StoredCall.{StoredCall}
-use Rattle.meaning_records.specs.declared.items.StoredOutcome.{StoredOutcome}
-use Rattle.meaning_records.specs.declared.items.Item.{Item}
-use Rattle.meaning_records.specs.declared.items.Item.TheVariants.{Graph, Content, Put, Dropped, Kept}
+use Rattle.object_values.specs.declared.items.StoredCall.{StoredCall}
+use Rattle.object_values.specs.declared.items.StoredOutcome.{StoredOutcome}
+use Rattle.object_values.specs.declared.items.Item.{Item}
+use Rattle.object_values.specs.declared.items.Item.TheVariants.{Graph, Content, Put, Dropped, Kept}
 use Rattle.meaning_records.specs.Tables.{Tables, IsShort, kept_outcome, MayBeKept, with_content, with_call, Loads}
 use Rattle.meaning_records.specs.States.{State, ItemEditsSources, TakesOne, TakesAll, Reads, ReadsAll}
 use Rattle.meaning_records.proofs.Fronts.{decided, both_decided}

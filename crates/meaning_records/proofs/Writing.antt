@@ -17,8 +17,8 @@ use Rattle.meaning_texts.specs.Lists.{IsIn}
 use Rattle.meaning_texts.proofs.Lemmas.{in_either, from_flat, from_map, in_all, all_in}
 use Rattle.meaning_calls.specs.Jobs.{IsPartOfClass, IsWellFormed}
 use Rattle.meaning_calls.specs.Outcomes.{OutcomeFits}
-use Rattle.meaning_records.specs.declared.items.Item.{Item}
-use Rattle.meaning_records.specs.declared.items.Item.TheVariants.{Content, Put, Kept}
+use Rattle.object_values.specs.declared.items.Item.{Item}
+use Rattle.object_values.specs.declared.items.Item.TheVariants.{Content, Put, Kept}
 use Rattle.meaning_records.specs.Tables.{IsText, kept_outcome}
 use Rattle.meaning_records.specs.States.{State, TakesAll}
 use Rattle.meaning_records.specs.Batches.{contents_of, graph_batch, IsPutBatch, drop_batch, body_of, needed_texts, IsCallBatch}

@@ -2,8 +2,8 @@
 use Rattle.std.specs.Prelude.{ℕ, List, [], ◌∷◌, Some, codes}
 use Rattle.object_values.specs.declared.views.Value.{Value}
 use Rattle.object_values.specs.declared.views.Value.TheVariants.{Simple}
-use Rattle.meaning_records.specs.declared.items.Item.{Item}
-use Rattle.meaning_records.specs.declared.items.Item.TheVariants.{Content, Put, Kept}
+use Rattle.object_values.specs.declared.items.Item.{Item}
+use Rattle.object_values.specs.declared.items.Item.TheVariants.{Content, Put, Kept}
 use Rattle.meaning_records.specs.Batches.{IsPutBatch, IsCallBatch}
 use Rattle.meaning_records.specs.ItemExamples.{old, stored_call, call, ex_made_outcome, made_outcome}
 

@@ -8,9 +8,9 @@ use Rattle.object_values.specs.declared.nodes.Node.{Node}
 use Rattle.object_values.specs.declared.views.Part.{Part}
 use Rattle.object_values.specs.declared.views.Value.TheVariants.{Simple, List as Listed, Compound}
 use Rattle.object_values.specs.declared.calls.OwnLine.{OwnLine}
-use Rattle.meaning_records.specs.declared.items.StoredCall.{StoredCall}
-use Rattle.meaning_records.specs.declared.items.StoredOutcome.{StoredOutcome}
-use Rattle.meaning_records.specs.declared.items.Item.TheVariants.{Graph, Content, Put, Dropped, Kept}
+use Rattle.object_values.specs.declared.items.StoredCall.{StoredCall}
+use Rattle.object_values.specs.declared.items.StoredOutcome.{StoredOutcome}
+use Rattle.object_values.specs.declared.items.Item.TheVariants.{Graph, Content, Put, Dropped, Kept}
 use Rattle.meaning_records.specs.Forms.{bytes, number, both, option_of, ParsesAt, StandsNowhere}
 use Rattle.meaning_records.specs.Records.{status, step, value, line, item}
 use Rattle.meaning_records.specs.States.{State, spell_batch, Reads}

@@ -13,11 +13,11 @@ use Rattle.object_values.specs.declared.views.Value.TheVariants.{Simple, List as
 use Rattle.object_values.specs.declared.calls.OwnLine.{OwnLine}
 use Rattle.odin_bytes.specs.Fields.{u32_field}
 use Rattle.odin_bytes.specs.FieldLemmas.{u32_front, body_front}
-use Rattle.meaning_records.specs.declared.items.StoredPart.{StoredPart}
-use Rattle.meaning_records.specs.declared.items.StoredCall.{StoredCall}
-use Rattle.meaning_records.specs.declared.items.StoredOutput.{StoredOutput}
-use Rattle.meaning_records.specs.declared.items.StoredOutcome.{StoredOutcome}
-use Rattle.meaning_records.specs.declared.items.Item.TheVariants.{Graph, Content, Put, Dropped, Kept}
+use Rattle.object_values.specs.declared.items.StoredPart.{StoredPart}
+use Rattle.object_values.specs.declared.items.StoredCall.{StoredCall}
+use Rattle.object_values.specs.declared.items.StoredOutput.{StoredOutput}
+use Rattle.object_values.specs.declared.items.StoredOutcome.{StoredOutcome}
+use Rattle.object_values.specs.declared.items.Item.TheVariants.{Graph, Content, Put, Dropped, Kept}
 use Rattle.meaning_records.specs.Forms.{Form, IsOfOneThing, bytes, number, both, by_parts, list_of, option_of}
 use Rattle.meaning_records.specs.Records.{status_number, status, pair, step, node, part, value, stored_part, call, line, output, outcome, content, item}
 

@@ -5,7 +5,7 @@ use Rattle.object_values.specs.declared.views.Value.TheVariants.{Simple}
 use Rattle.object_values.specs.Texts.{no_texts}
 use Rattle.meaning_records.specs.Front.{new_store}
 use Rattle.meaning_records.specs.Images.{with_record}
-use Rattle.meaning_records.specs.declared.items.Item.TheVariants.{Content, Put, Dropped}
+use Rattle.object_values.specs.declared.items.Item.TheVariants.{Content, Put, Dropped}
 use Rattle.meaning_records.specs.States.{State, spell_batch}
 use Rattle.meaning_records.specs.Stands.{Stands, StandsNot}
 use Rattle.meaning_records.specs.Batches.{graph_batch}

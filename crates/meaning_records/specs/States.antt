@@ -4,8 +4,8 @@ use Rattle.std.specs.List.{flat_map, All}
 use Rattle.std.specs.FinMap as map
 use Rattle.object_values.specs.declared.views.Value.{Value}
 use Rattle.object_values.specs.Texts.{Text, Texts, no_texts}
-use Rattle.meaning_records.specs.declared.items.Item.{Item}
-use Rattle.meaning_records.specs.declared.items.Item.TheVariants.{Graph, Put, Dropped}
+use Rattle.object_values.specs.declared.items.Item.{Item}
+use Rattle.object_values.specs.declared.items.Item.TheVariants.{Graph, Put, Dropped}
 use Rattle.meaning_records.specs.Records.{item}
 use Rattle.meaning_records.specs.Tables.{Tables, IsText, Loads}
 

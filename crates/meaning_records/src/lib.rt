@@ -4,5 +4,4 @@
 
 pub mod examples;
 pub mod file_laws;
-pub mod items;
 pub mod laws;

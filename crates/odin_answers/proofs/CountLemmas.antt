@@ -7,7 +7,7 @@ use Rattle.meaning_graph.specs.Graphs.{Text, Graph}
 use Rattle.meaning_derive.specs.Derive.{Sources, Outcomes, IsFounded}
 use Rattle.meaning_derive.proofs.Lemmas.{no_chain}
 use Rattle.meaning_records.specs.Tables.{Calls, kept_outcome}
-use Rattle.meaning_commands.specs.declared.replies.Reply.{Reply}
+use Rattle.object_values.specs.declared.replies.Reply.{Reply}
 use Rattle.meaning_derive.specs.Answers.{Asks}
 use Rattle.meaning_derive.proofs.Lemmas.{one_node}
 use Rattle.derive_walk.specs.declared.found.Found.{Found}

@@ -7,8 +7,8 @@ use Rattle.object_values.specs.Texts.{Text, Texts}
 use Rattle.odin_outside.specs.Causes.{IsCounted}
 use Rattle.odin_outside.specs.Files.{IsGiven}
 use Rattle.meaning_texts.specs.Limits.{body_limit}
-use Rattle.meaning_commands.specs.declared.replies.Reply.{Reply}
-use Rattle.meaning_commands.specs.declared.replies.Reply.TheVariants as reply
+use Rattle.object_values.specs.declared.replies.Reply.{Reply}
+use Rattle.object_values.specs.declared.replies.Reply.TheVariants as reply
 use Rattle.meaning_commands.specs.Replies.{reply_text}
 use Rattle.odin_answers.specs.Edits.{SaysReply, Puts, TreeTold, TakesFile, Takes, Removes, RemovesText}
 

@@ -14,7 +14,7 @@ use Rattle.meaning_derive.specs.Given.{table_outcomes}
 use Rattle.meaning_derive.specs.Laws.{HasMore}
 use Rattle.meaning_derive.proofs.Lemmas.{no_frontier}
 use Rattle.meaning_records.specs.Tables.{Calls, kept_outcome}
-use Rattle.meaning_commands.specs.declared.replies.Reply.{Reply}
+use Rattle.object_values.specs.declared.replies.Reply.{Reply}
 use Rattle.meaning_derive.specs.Answers.{Asks, Answer}
 use Rattle.meaning_derive.proofs.Lemmas.{not_refused, one_node}
 use Rattle.derive_walk.specs.Calls.{outcome_in}

@@ -11,7 +11,7 @@ use Rattle.meaning_derive.specs.Chains.{IsMet}
 use Rattle.meaning_derive.specs.Laws.{HasMore}
 use Rattle.meaning_derive.proofs.Lemmas.{sources_enough, derive_more}
 use Rattle.meaning_records.specs.Tables.{Calls, kept_outcome}
-use Rattle.meaning_commands.specs.declared.replies.Reply.{Reply}
+use Rattle.object_values.specs.declared.replies.Reply.{Reply}
 use Rattle.meaning_derive.specs.Answers.{Asks, Answer}
 use Rattle.meaning_derive.specs.Replies.{shown}
 use Rattle.meaning_derive.proofs.Lemmas.{founded_shown}

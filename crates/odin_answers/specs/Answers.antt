@@ -9,8 +9,8 @@ use Rattle.meaning_derive.specs.Derive.{Sources, Outcomes, derived, IsFounded}
 use Rattle.meaning_derive.specs.Calls.{IsCallFrom}
 use Rattle.meaning_derive.specs.Laws.{HasMore}
 use Rattle.meaning_records.specs.Tables.{Calls, kept_outcome}
-use Rattle.meaning_commands.specs.declared.replies.Reply.{Reply}
-use Rattle.meaning_commands.specs.declared.replies.Reply.TheVariants.{RefusedToolStart}
+use Rattle.object_values.specs.declared.replies.Reply.{Reply}
+use Rattle.object_values.specs.declared.replies.Reply.TheVariants.{RefusedToolStart}
 use Rattle.meaning_derive.specs.Replies.{shown, refused_circular, refused_deep}
 use Rattle.meaning_derive.specs.Answers.{Refused, Asks, Answer}
 use Rattle.derive_walk.specs.declared.found.Found.{Found}

@@ -5,8 +5,8 @@ use Rattle.object_values.specs.Texts.{Text, Texts}
 use Rattle.odin_outside.specs.Causes.{IsCounted, once_more}
 use Rattle.odin_outside.specs.Files.{Files, IsGiven}
 use Rattle.meaning_texts.specs.Limits.{body_limit}
-use Rattle.meaning_commands.specs.declared.replies.Reply.{Reply}
-use Rattle.meaning_commands.specs.declared.replies.Reply.TheVariants as reply
+use Rattle.object_values.specs.declared.replies.Reply.{Reply}
+use Rattle.object_values.specs.declared.replies.Reply.TheVariants as reply
 use Rattle.meaning_commands.specs.Replies.{word_and_number, reply_text}
 
 -- the bytes are those of a reply of which this holds

@@ -1,8 +1,8 @@
 -- An ask without a view: the reply that refuses it, or the fault of the store for which it has none.
 use Rattle.std.specs.Prelude.{◌≡◌}
 use Rattle.meaning_graph.specs.Graphs.{Graph}
-use Rattle.meaning_commands.specs.declared.replies.Reply.{Reply}
-use Rattle.meaning_commands.specs.declared.replies.Reply.TheVariants.{RefusedExpression, RefusedParam, RefusedType, RefusedPath, RefusedToolStart}
+use Rattle.object_values.specs.declared.replies.Reply.{Reply}
+use Rattle.object_values.specs.declared.replies.Reply.TheVariants.{RefusedExpression, RefusedParam, RefusedType, RefusedPath, RefusedToolStart}
 use Rattle.meaning_derive.specs.Replies.{refused_circular, refused_deep}
 use Rattle.odin_journal.specs.declared.fault.JournalFault.{JournalFault}
 use Rattle.odin_journal.specs.declared.fault.JournalFault.TheVariants as store

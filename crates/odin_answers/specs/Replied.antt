@@ -5,8 +5,8 @@ use Rattle.object_values.specs.declared.calls.Outcome.{Outcome}
 use Rattle.odin_outside.specs.Disk.{Telling}
 use Rattle.meaning_graph.specs.Graphs.{Text, Graph}
 use Rattle.meaning_records.specs.Tables.{Calls}
-use Rattle.meaning_records.specs.declared.items.Item.{Item}
-use Rattle.meaning_commands.specs.declared.replies.Reply.{Reply}
+use Rattle.object_values.specs.declared.items.Item.{Item}
+use Rattle.object_values.specs.declared.replies.Reply.{Reply}
 use Rattle.odin_journal.specs.declared.fault.JournalFault.{JournalFault}
 use Rattle.odin_journal.specs.declared.fault.JournalFault.TheVariants as fault
 use Rattle.odin_store.specs.Held.{keeps}

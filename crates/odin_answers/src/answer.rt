@@ -12,8 +12,7 @@ ghost use Rattle.odin_answers.specs.Replied.{HasReplied, HasStopped};
 
 use crate::plan::{Planned, plan_text};
 use crate::shown::{node_texts, shown};
-use meaning_commands::Reply;
-use object_values::Memory;
+use object_values::{Memory, Reply};
 use odin_engine::{AskFault, Engine, StoreFault};
 use odin_outside::{Disk, Spawner, Steps};
 use std::alloc::Global;

@@ -9,5 +9,5 @@ mod shown;
 
 pub use answer::{answer_ask, answer_plan};
 pub use edits::{TEXT_LIMIT, list, put, refuse_name, remove, take};
-pub use meaning_commands::{Reply, ShownBody};
+pub use object_values::{Reply, ShownBody};
 pub use plan::Planned;

@@ -6,8 +6,7 @@ ghost use Rattle.meaning_graph.specs.Graphs.{makers};
 ghost use Rattle.meaning_commands.specs.Replies.{reply_text};
 ghost use Rattle.meaning_derive.specs.Replies.{maker_name, step_line, plan_of};
 
-use meaning_commands::Reply;
-use object_values::{Bytes, Memory, Node, Step};
+use object_values::{Bytes, Memory, Node, Reply, Step};
 use odin_bytes::write_number;
 use std::alloc::Global;
 use type_graph::Graph;

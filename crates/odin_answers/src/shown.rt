@@ -2,8 +2,7 @@
 ghost use Rattle.std.specs.Prelude.{◌≡◌, IfOk};
 ghost use Rattle.meaning_derive.specs.Replies.{node_texts, shown_body, shown};
 
-use meaning_commands::{Reply, ShownBody};
-use object_values::{Bytes, Memory, Node, Seq, Value, View};
+use object_values::{Bytes, Memory, Node, Reply, Seq, ShownBody, Value, View};
 use odin_nodes::node_text;
 use std::alloc::Global;
 use type_graph::Graph;

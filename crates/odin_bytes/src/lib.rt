@@ -2,6 +2,7 @@
 #![tactic(auto)]
 
 mod classes;
+pub mod commands;
 mod escapes;
 mod fields;
 pub mod laws;
@@ -13,6 +14,7 @@ mod words;
 pub use classes::{
     are_params, is_id, is_key, is_key_byte, is_name, is_name_byte, is_string_text, is_value_byte,
 };
+pub use commands::Command;
 pub use escapes::{escape, unescape};
 pub use fields::{put_bytes, put_u8, put_u32, put_u64, take_bytes, take_u8, take_u32, take_u64};
 pub use lines::{drop_cr, first_line, next_line};

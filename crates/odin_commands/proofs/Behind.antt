@@ -9,8 +9,8 @@ use Rattle.meaning_texts.specs.Tests.{is_name}
 use Rattle.meaning_texts.specs.Limits.{command_limit}
 use Rattle.meaning_texts.specs.Lists.{HasNo}
 use Rattle.meaning_texts.proofs.Lemmas.{word_decides}
-use Rattle.meaning_commands.specs.declared.commands.Command.{Command}
-use Rattle.meaning_commands.specs.declared.commands.Command.TheVariants.{Put, Ask, Plan, Bad, BadName}
+use Rattle.odin_bytes.specs.declared.commands.Command.{Command}
+use Rattle.odin_bytes.specs.declared.commands.Command.TheVariants.{Put, Ask, Plan, Bad, BadName}
 use Rattle.meaning_commands.specs.Commands.{Spells, formed, formless}
 use Rattle.meaning_commands.specs.Reading.{decimal_number, before_space, behind_space, is_argument, naming, put_of, put_words, first_command_of, formed_command}
 use Rattle.meaning_commands.proofs.Lemmas.{reads_number, none_number, before_is, behind_is, none_space, none_behind, argument_test, form_reads, reads_form}

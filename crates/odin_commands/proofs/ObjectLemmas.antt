@@ -16,8 +16,8 @@ use Rattle.odin_bytes.specs.Spellings.{AreBytes, SpellsNothing}
 use Rattle.meaning_texts.specs.Classes.{IsId}
 use Rattle.meaning_texts.specs.Tests.{is_id}
 use Rattle.odin_bytes.specs.Laws.{EscapesReadBack}
-use Rattle.meaning_commands.specs.declared.replies.ShownBody.{ShownBody}
-use Rattle.meaning_commands.specs.declared.replies.ShownBody.TheVariants.{Nothing, Simple, List as Listed, Compound}
+use Rattle.object_values.specs.declared.replies.ShownBody.{ShownBody}
+use Rattle.object_values.specs.declared.replies.ShownBody.TheVariants.{Nothing, Simple, List as Listed, Compound}
 use Rattle.meaning_commands.specs.Replies.{word_and_number, status_word, part_text, body_text, message_text, messages_text}
 use Rattle.meaning_commands.specs.Formed.{IsSmall, AreFormed, IsFormedPart, IsFormedMessage, IsFormedBody, IsShownAt, IsFormedObject, IsTold}
 use Rattle.odin_commands.specs.Reading.{counted_items}

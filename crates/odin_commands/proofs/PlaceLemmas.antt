@@ -1,7 +1,7 @@
 -- Where a reply stands in a text.
 use Rattle.std.proofs.Common.{◌≡◌, ◌≢◌, ℕ, ◌-◌, List, ◌++◌, drop, sym, ap, ◌∙◌}
 use Rattle.std.proofs.lemmas.List.{take-append-drop}
-use Rattle.meaning_commands.specs.declared.replies.Reply.{Reply}
+use Rattle.object_values.specs.declared.replies.Reply.{Reply}
 use Rattle.meaning_commands.specs.Replies.{reply_text}
 use Rattle.meaning_commands.specs.Formed.{IsFormed}
 use Rattle.odin_commands.specs.Reading.{IsReplyAt}

@@ -6,8 +6,8 @@ use Rattle.meaning_texts.specs.Lines.{HasNoLf, with_lf}
 use Rattle.meaning_texts.proofs.Lemmas.{same_some, same_cut}
 use Rattle.odin_bytes.specs.Laws.{EscapesReadBack}
 use Rattle.odin_bytes.proofs.Lemmas.{has_no}
-use Rattle.meaning_commands.specs.declared.replies.Reply.{Reply}
-use Rattle.meaning_commands.specs.declared.replies.Reply.TheVariants as reply
+use Rattle.object_values.specs.declared.replies.Reply.{Reply}
+use Rattle.object_values.specs.declared.replies.Reply.TheVariants as reply
 use Rattle.meaning_commands.specs.Reading.{behind}
 use Rattle.meaning_commands.specs.Replies.{word_and_number, status_word, body_text, messages_text, reply_text}
 use Rattle.meaning_commands.specs.Formed.{IsSmall, IsMeasured, AreFormed, IsFormed, IsTold}

@@ -1,8 +1,8 @@
 -- What stands in the place of a name, and the commands by their first words.
 use Rattle.std.specs.Prelude.{ℕ, List, [], ◌∷◌, Option, if◌then◌else◌, codes}
 use Rattle.meaning_texts.specs.Tests.{is_name}
-use Rattle.meaning_commands.specs.declared.commands.Command.{Command}
-use Rattle.meaning_commands.specs.declared.commands.Command.TheVariants.{Take, Remove, Sources, Kept, Quit}
+use Rattle.odin_bytes.specs.declared.commands.Command.{Command}
+use Rattle.odin_bytes.specs.declared.commands.Command.TheVariants.{Take, Remove, Sources, Kept, Quit}
 use Rattle.meaning_commands.specs.Reading.{is_argument, naming, word_alone, first_command_of}
 use Rattle.odin_commands.specs.declared.read.Argument.{Argument}
 use Rattle.odin_commands.specs.declared.read.Argument.TheVariants.{Name, Other, NoWord}

@@ -1,7 +1,7 @@
 -- What is read of a text, and where a reply stands in one.
 use Rattle.std.specs.Prelude.{◌≡◌, ◌≢◌, ◌≤◌, ℕ, All, List, ◌++◌, length, Option, Some, None, slice_range, flat_map, decimal}
 use Rattle.std.specs.Borrow.{Bor}
-use Rattle.meaning_commands.specs.declared.replies.Reply.{Reply}
+use Rattle.object_values.specs.declared.replies.Reply.{Reply}
 use Rattle.object_values.specs.declared.messages.Message.{Message}
 use Rattle.meaning_texts.specs.Lines.{with_lf}
 use Rattle.meaning_commands.specs.Replies.{message_text, reply_text}

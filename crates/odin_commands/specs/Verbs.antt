@@ -1,7 +1,7 @@
 -- The words that replies begin with, and the reply of each by what is said behind them.
 use Rattle.std.specs.Prelude.{ℕ, List, codes}
-use Rattle.meaning_commands.specs.declared.replies.Reply.{Reply}
-use Rattle.meaning_commands.specs.declared.replies.Reply.TheVariants as reply
+use Rattle.object_values.specs.declared.replies.Reply.{Reply}
+use Rattle.object_values.specs.declared.replies.Reply.TheVariants as reply
 use Rattle.odin_commands.specs.declared.verbs.Alone.{Alone}
 use Rattle.odin_commands.specs.declared.verbs.Alone.TheVariants.{Bye, RefusedCommand, RefusedName, RefusedSize, RefusedRead, RefusedToolStart}
 use Rattle.odin_commands.specs.declared.verbs.Numbered.{Numbered}

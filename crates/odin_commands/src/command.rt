@@ -2,7 +2,7 @@
 ghost use Rattle.std.specs.Prelude.{◌≡◌};
 ghost use Rattle.meaning_commands.specs.Commands as meaning;
 
-use meaning_commands::Command;
+use odin_bytes::Command;
 
 /// How many bytes behind its line belong to a command, whether they are a text or passed over.
 pub fn body_size(command: &Command) -> u64

@@ -15,7 +15,8 @@ mod verbs;
 mod write;
 
 pub use command::{body_size, ends_run};
-pub use meaning_commands::{Command, Reply, ShownBody};
+pub use odin_bytes::Command;
+pub use object_values::{Reply, ShownBody};
 pub use objects::write_each_message;
 pub use read::read_command;
 pub use replies::{read_replies, read_reply};

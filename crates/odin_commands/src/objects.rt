@@ -7,8 +7,7 @@ ghost use Rattle.meaning_commands.specs.Replies.{status_word, part_text, body_te
 ghost use Rattle.odin_commands.specs.Writing.{AppendsText};
 
 use crate::lines::{write_counted, write_line, write_lines};
-use meaning_commands::ShownBody;
-use object_values::{Bytes, Memory, Message, Part, Status};
+use object_values::{Bytes, Memory, Message, Part, ShownBody, Status};
 use odin_bytes::escape;
 
 fn word_of(status: Status) -> &'static [u8]

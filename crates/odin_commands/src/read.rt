@@ -4,9 +4,8 @@ ghost use Rattle.meaning_commands.specs.Commands.{Spells};
 ghost use Rattle.meaning_commands.specs.Reading.{put_words, formed_command};
 ghost use Rattle.odin_commands.specs.Arguments.{argument_of, take_command, drop_command, single_word};
 
-use meaning_commands::Command;
+use odin_bytes::{Command, Name, cut_at, read_name, read_number};
 use object_values::{Bytes, COMMAND_LIMIT, Memory};
-use odin_bytes::{Name, cut_at, read_name, read_number};
 use std::alloc::Global;
 
 /// What stands in the place of a name.

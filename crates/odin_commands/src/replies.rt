@@ -7,8 +7,7 @@ ghost use Rattle.odin_commands.specs.Reading.{ReadsFront, ParsesReplyAt, AreRepl
 use crate::laws::replies_read_back;
 use crate::said::read_said;
 use crate::verbs::cut_verb;
-use meaning_commands::Reply;
-use object_values::{Memory, Seq};
+use object_values::{Memory, Reply, Seq};
 use std::alloc::Global;
 
 // The reply that a text begins with, and what stands behind it.

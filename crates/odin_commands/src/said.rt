@@ -9,8 +9,7 @@ use crate::items::read_counted;
 use crate::shown::read_object;
 use crate::sizes::cut_number;
 use crate::verbs::{Alone, Identified, Listed, Measured, Named, Numbered, Verb};
-use meaning_commands::Reply;
-use object_values::{Bytes, Memory};
+use object_values::{Bytes, Memory, Reply};
 use odin_bytes::{cut_at, is_id, is_name};
 use std::alloc::Global;
 

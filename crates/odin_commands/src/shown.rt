@@ -6,8 +6,7 @@ ghost use Rattle.odin_commands.specs.Reading.{ReadsFront};
 
 use crate::items::{read_counted, status_of};
 use crate::sizes::{cut_body, cut_number};
-use meaning_commands::{Reply, ShownBody};
-use object_values::{Bytes, Memory, Message, SharedSeq, Status, Text};
+use object_values::{Bytes, Memory, Message, Reply, SharedSeq, ShownBody, Status, Text};
 use odin_bytes::cut_at;
 use odin_bytes::laws::escapes_read_back;
 use std::alloc::Global;

@@ -3,8 +3,7 @@ ghost use Rattle.std.specs.Prelude.{◌≡◌, ◌≢◌, ◌++◌, ℕ, List, I
 ghost use Rattle.odin_commands.specs.declared.verbs.Verb.{Verb};
 ghost use Rattle.odin_commands.specs.Verbs.{alone_word, numbered_word, named_word, identified_word, measured_word, listed_word, word_of, alone_reply, numbered_reply, named, identified, measured, listed};
 
-use meaning_commands::Reply;
-use object_values::{Bytes, Seq};
+use object_values::{Bytes, Reply, Seq};
 
 /// The words of a reply that says nothing behind them.
 #[derive(Clone, Copy)]

@@ -5,8 +5,7 @@ ghost use Rattle.odin_commands.specs.Writing.{AppendsText};
 
 use crate::lines::{write_counted, write_line, write_lines, write_named, write_named_count};
 use crate::objects::write_object;
-use meaning_commands::Reply;
-use object_values::{Bytes, Memory};
+use object_values::{Bytes, Memory, Reply};
 use std::alloc::Global;
 
 // The room that most replies fit in.

@@ -3,7 +3,7 @@ use Rattle.std.specs.Prelude.{◌≡◌, ⊤}
 use Rattle.object_values.specs.declared.nodes.Node.{Node}
 use Rattle.meaning_graph.specs.Graphs.{Text, Graph}
 use Rattle.meaning_tasks.specs.Nodes.{Fits}
-use Rattle.meaning_commands.specs.declared.replies.Reply.TheVariants.{RefusedExpression, RefusedParam, RefusedType, RefusedPath}
+use Rattle.object_values.specs.declared.replies.Reply.TheVariants.{RefusedExpression, RefusedParam, RefusedType, RefusedPath}
 use Rattle.meaning_derive.specs.Answers.{Refused, Asks}
 use Rattle.request_parser.specs.declared.fault.ExpressionFault.{ExpressionFault}
 use Rattle.request_parser.specs.declared.fault.ExpressionFault.TheVariants as unread

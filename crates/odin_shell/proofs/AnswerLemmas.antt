@@ -6,8 +6,8 @@ use Rattle.odin_journal.specs.Trails.{after_changes}
 use Rattle.object_values.specs.Texts.{Text, Texts}
 use Rattle.meaning_texts.proofs.Lemmas.{same_some}
 use Rattle.meaning_graph.specs.Graphs.{Graph}
-use Rattle.meaning_commands.specs.declared.commands.Command.{Command}
-use Rattle.meaning_commands.specs.declared.replies.Reply.{Reply}
+use Rattle.odin_bytes.specs.declared.commands.Command.{Command}
+use Rattle.object_values.specs.declared.replies.Reply.{Reply}
 use Rattle.meaning_commands.specs.Replies.{reply_text}
 use Rattle.meaning_records.specs.Tables.{Calls}
 use Rattle.odin_journal.specs.Faults.{CountAfterJournalFault}

@@ -6,8 +6,8 @@ use Rattle.object_values.specs.Texts.{Text}
 use Rattle.odin_outside.specs.Spawned.{Spawned}
 use Rattle.meaning_graph.specs.Graphs.{Graph}
 use Rattle.meaning_commands.specs.Objects.{SinkTold}
-use Rattle.meaning_commands.specs.declared.commands.Command.{Command}
-use Rattle.meaning_commands.specs.declared.commands.Command.TheVariants.{Put, Take, Remove, Ask}
+use Rattle.odin_bytes.specs.declared.commands.Command.{Command}
+use Rattle.odin_bytes.specs.declared.commands.Command.TheVariants.{Put, Take, Remove, Ask}
 use Rattle.odin_journal.specs.Faults.{JournalFaultIsCounted}
 use Rattle.odin_journal.specs.declared.fault.JournalFault.{JournalFault}
 use Rattle.odin_journal.specs.declared.fault.JournalFault.TheVariants as fault

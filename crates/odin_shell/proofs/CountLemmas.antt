@@ -14,10 +14,10 @@ use Rattle.meaning_commands.specs.Items.{Item}
 use Rattle.meaning_commands.specs.Machines.{Transcript}
 use Rattle.derive_walk.specs.Outcomes.{after}
 use Rattle.odin_answers.proofs.Lemmas.{refusal_counted, reply_later}
-use Rattle.meaning_commands.specs.declared.commands.Command.{Command}
-use Rattle.meaning_commands.specs.declared.commands.Command.TheVariants.{Put, Take, Remove, Ask, Plan, Sources, Kept, Quit, Nothing, Bad, BadName}
-use Rattle.meaning_commands.specs.declared.replies.Reply.{Reply}
-use Rattle.meaning_commands.specs.declared.replies.Reply.TheVariants as reply
+use Rattle.odin_bytes.specs.declared.commands.Command.{Command}
+use Rattle.odin_bytes.specs.declared.commands.Command.TheVariants.{Put, Take, Remove, Ask, Plan, Sources, Kept, Quit, Nothing, Bad, BadName}
+use Rattle.object_values.specs.declared.replies.Reply.{Reply}
+use Rattle.object_values.specs.declared.replies.Reply.TheVariants as reply
 use Rattle.meaning_commands.specs.Replies.{reply_text}
 use Rattle.odin_shell.specs.Language.{commands}
 use Rattle.odin_answers.specs.Edits.{TreeTold, Inserts, TakesFile, RemovesText, source_lines}

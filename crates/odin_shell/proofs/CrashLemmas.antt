@@ -15,9 +15,9 @@ use Rattle.meaning_records.specs.Tables.{Calls, kept_outcome}
 use Rattle.meaning_derive.specs.Answers as answers
 use Rattle.meaning_commands.specs.Items.{Item, IsItem}
 use Rattle.meaning_commands.specs.Machines.{AnswersItem, Transcript}
-use Rattle.meaning_commands.specs.declared.commands.Command.{Command}
-use Rattle.meaning_commands.specs.declared.commands.Command.TheVariants.{Put, Take, Remove, Ask, Plan, Sources, Kept, Quit, Nothing, Bad, BadName}
-use Rattle.meaning_commands.specs.declared.replies.Reply.{Reply}
+use Rattle.odin_bytes.specs.declared.commands.Command.{Command}
+use Rattle.odin_bytes.specs.declared.commands.Command.TheVariants.{Put, Take, Remove, Ask, Plan, Sources, Kept, Quit, Nothing, Bad, BadName}
+use Rattle.object_values.specs.declared.replies.Reply.{Reply}
 use Rattle.job_runner.specs.declared.jobs.Flying.{Flying}
 use Rattle.plain_derive.specs.Given.{calls_of, AreGiven, HaveCome}
 use Rattle.plain_derive.specs.Flights.{Flight, Course, off_course, for_spawn, Flies}

@@ -6,7 +6,7 @@ use Rattle.std.specs.Option.{is_some}
 use Rattle.meaning_texts.specs.Lines.{HasNoLf, without_cr}
 use Rattle.meaning_commands.specs.Items.{IsItem, last_item}
 use Rattle.meaning_commands.specs.Streams.{Extends, CompletesItem}
-use Rattle.meaning_commands.specs.declared.commands.Command.{Command}
+use Rattle.odin_bytes.specs.declared.commands.Command.{Command}
 use Rattle.meaning_commands.specs.Commands.{Spells, bytes_after_line}
 use Rattle.odin_shell.specs.declared.pending.Pending.{Pending}
 use Rattle.odin_shell.specs.declared.cutter.Cutter.{Cutter}

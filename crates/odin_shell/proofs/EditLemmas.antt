@@ -5,8 +5,8 @@ use Rattle.std.proofs.lemmas.Bool.{le-leb}
 use Rattle.object_values.specs.Texts.{Text, Texts}
 use Rattle.meaning_texts.specs.Limits.{body_limit}
 use Rattle.meaning_commands.specs.Items.{SameBody}
-use Rattle.meaning_commands.specs.declared.commands.Command.TheVariants.{Put, Take, Remove}
-use Rattle.meaning_commands.specs.declared.replies.Reply.{Reply}
+use Rattle.odin_bytes.specs.declared.commands.Command.TheVariants.{Put, Take, Remove}
+use Rattle.object_values.specs.declared.replies.Reply.{Reply}
 use Rattle.odin_journal.specs.Faults.{CountAfterJournalFault}
 use Rattle.odin_journal.specs.Rest.{IsReady}
 use Rattle.odin_journal.specs.declared.fault.JournalFault.{JournalFault}

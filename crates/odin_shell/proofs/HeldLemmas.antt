@@ -9,7 +9,7 @@ use Rattle.meaning_commands.specs.Items.{last_item}
 use Rattle.meaning_commands.proofs.Lemmas.{take-append}
 use Rattle.meaning_texts.specs.Lines.{HasNoLf, without_cr}
 use Rattle.meaning_texts.proofs.Lemmas.{HasNo-append}
-use Rattle.meaning_commands.specs.declared.commands.Command.{Command}
+use Rattle.odin_bytes.specs.declared.commands.Command.{Command}
 use Rattle.meaning_commands.specs.Commands.{Spells, bytes_after_line}
 use Rattle.odin_shell.specs.declared.pending.Pending.{Pending}
 use Rattle.odin_shell.specs.declared.cutter.Cutter.{Cutter}

@@ -7,7 +7,7 @@ use Rattle.meaning_commands.specs.Endings.{EndsWhole, EndsCutShort, EndsStopped,
 use Rattle.meaning_commands.specs.Machines.{Machine}
 use Rattle.meaning_commands.specs.Streams as streams
 use Rattle.meaning_commands.proofs.Lemmas.{Reading-more, HasRead-none, HasRead-finish, HasRead-piece, HasRead-unread, HasRead-limit}
-use Rattle.meaning_commands.specs.declared.commands.Command.{Command}
+use Rattle.odin_bytes.specs.declared.commands.Command.{Command}
 use Rattle.odin_store.specs.Held.{Held}
 use Rattle.odin_engine.specs.Engaged.{Engaged}
 use Rattle.odin_shell.specs.declared.ending.Ending.{Ending}

@@ -9,8 +9,8 @@ use Rattle.meaning_graph.specs.Graphs.{Text, Graph}
 use Rattle.meaning_records.specs.Tables.{Calls}
 use Rattle.meaning_commands.specs.Items.{Item}
 use Rattle.meaning_commands.specs.Machines.{Transcript}
-use Rattle.meaning_commands.specs.declared.commands.Command.{Command}
-use Rattle.meaning_commands.specs.declared.commands.Command.TheVariants.{Put, Take, Remove, Ask, Plan, Sources, Kept, Quit, Nothing, Bad, BadName}
+use Rattle.odin_bytes.specs.declared.commands.Command.{Command}
+use Rattle.odin_bytes.specs.declared.commands.Command.TheVariants.{Put, Take, Remove, Ask, Plan, Sources, Kept, Quit, Nothing, Bad, BadName}
 use Rattle.odin_store.specs.Held.{Held, Change, puts, drops, keeps, apply}
 use Rattle.odin_store.specs.Keeping.{store_keeping}
 use Rattle.kept_derive.specs.Runs.{keeps_of}

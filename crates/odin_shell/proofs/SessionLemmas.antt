@@ -12,7 +12,7 @@ use Rattle.meaning_commands.specs.Streams as streams
 use Rattle.meaning_commands.proofs.Lemmas as stream
 use Rattle.meaning_commands.proofs.Lemmas.{rest_is}
 use Rattle.meaning_commands.proofs.Lemmas.{Reading-none}
-use Rattle.meaning_commands.specs.declared.commands.Command.{Command}
+use Rattle.odin_bytes.specs.declared.commands.Command.{Command}
 use Rattle.odin_shell.specs.declared.cutter.Cutter.{Cutter}
 use Rattle.odin_shell.specs.declared.whole.Whole.{Whole}
 use Rattle.odin_shell.specs.declared.stop.Stop.{Stop}

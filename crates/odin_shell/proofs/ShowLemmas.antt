@@ -1,9 +1,9 @@
 -- Commands that are answered without a change.
 use Rattle.std.proofs.Common.{◌≡◌, ℕ, List, length, ap, refl, ◌∙◌, subst}
 use Rattle.meaning_graph.specs.Graphs.{Text, Graph}
-use Rattle.meaning_commands.specs.declared.commands.Command.TheVariants as command
-use Rattle.meaning_commands.specs.declared.replies.Reply.{Reply}
-use Rattle.meaning_commands.specs.declared.replies.Reply.TheVariants as reply
+use Rattle.odin_bytes.specs.declared.commands.Command.TheVariants as command
+use Rattle.object_values.specs.declared.replies.Reply.{Reply}
+use Rattle.object_values.specs.declared.replies.Reply.TheVariants as reply
 use Rattle.meaning_commands.specs.Replies.{reply_text}
 use Rattle.meaning_derive.specs.Replies.{plan_of}
 use Rattle.meaning_derive.specs.Answers.{Refused, Plan}

@@ -6,7 +6,7 @@ use Rattle.odin_outside.specs.Disk.{Telling, IsQuiet}
 use Rattle.odin_outside.specs.Spawned.{Spawned}
 use Rattle.odin_journal.specs.Trails.{after_changes, Trail, LeavesPrefix}
 use Rattle.meaning_graph.specs.Graphs.{Text, Graph}
-use Rattle.meaning_records.specs.declared.items.Item.{Item}
+use Rattle.object_values.specs.declared.items.Item.{Item}
 use Rattle.meaning_records.specs.Stands.{gate_behind}
 use Rattle.odin_journal.specs.Moments.{Works}
 use Rattle.odin_journal.specs.Rest.{IsReady}

@@ -8,9 +8,9 @@ use Rattle.meaning_texts.specs.Limits.{body_limit}
 use Rattle.meaning_graph.specs.Graphs.{Graph}
 use Rattle.meaning_derive.specs.Given.{AreSources}
 use Rattle.meaning_commands.specs.Items.{Item, IsItem}
-use Rattle.meaning_commands.specs.declared.commands.Command.{Command}
-use Rattle.meaning_commands.specs.declared.commands.Command.TheVariants.{Put, Take, Remove, Ask, Plan, Sources, Kept, Quit, Nothing, Bad, BadName}
-use Rattle.meaning_commands.specs.declared.replies.Reply.{Reply}
+use Rattle.odin_bytes.specs.declared.commands.Command.{Command}
+use Rattle.odin_bytes.specs.declared.commands.Command.TheVariants.{Put, Take, Remove, Ask, Plan, Sources, Kept, Quit, Nothing, Bad, BadName}
+use Rattle.object_values.specs.declared.replies.Reply.{Reply}
 use Rattle.meaning_commands.specs.Commands as spelling
 use Rattle.meaning_commands.specs.Commands.{bytes_after_line}
 use Rattle.odin_journal.specs.Trails.{after_changes}

@@ -16,10 +16,10 @@ use Rattle.meaning_commands.specs.Machines.{Transcript, AnswersItem}
 use Rattle.odin_answers.specs.Answers.{IsReply, HasAnswer}
 use Rattle.odin_answers.specs.Laws.{IsTrueFor, KeepSame}
 use Rattle.odin_answers.proofs.Lemmas.{refusal_counted, same_answers}
-use Rattle.meaning_commands.specs.declared.commands.Command.{Command}
-use Rattle.meaning_commands.specs.declared.commands.Command.TheVariants.{Put, Take, Remove, Ask, Plan, Sources, Kept, Quit, Nothing, Bad, BadName}
-use Rattle.meaning_commands.specs.declared.replies.Reply.{Reply}
-use Rattle.meaning_commands.specs.declared.replies.Reply.TheVariants as reply
+use Rattle.odin_bytes.specs.declared.commands.Command.{Command}
+use Rattle.odin_bytes.specs.declared.commands.Command.TheVariants.{Put, Take, Remove, Ask, Plan, Sources, Kept, Quit, Nothing, Bad, BadName}
+use Rattle.object_values.specs.declared.replies.Reply.{Reply}
+use Rattle.object_values.specs.declared.replies.Reply.TheVariants as reply
 use Rattle.meaning_commands.specs.Replies.{reply_text}
 use Rattle.meaning_commands.proofs.Lemmas.{one_command}
 use Rattle.odin_store.specs.Held.{Held}

@@ -14,8 +14,8 @@ use Rattle.meaning_records.specs.Tables.{Calls, kept_outcome}
 use Rattle.meaning_derive.specs.Answers as answers
 use Rattle.meaning_commands.specs.Items.{Item, IsItem}
 use Rattle.meaning_commands.specs.Machines.{Transcript}
-use Rattle.meaning_commands.specs.declared.commands.Command.{Command}
-use Rattle.meaning_commands.specs.declared.commands.Command.TheVariants.{Ask}
+use Rattle.odin_bytes.specs.declared.commands.Command.{Command}
+use Rattle.odin_bytes.specs.declared.commands.Command.TheVariants.{Ask}
 use Rattle.plain_derive.specs.Given.{AreGiven, HaveCome}
 use Rattle.odin_store.specs.Held.{Held, StandsFor}
 use Rattle.odin_store.specs.Keeping.{store_keeping}

@@ -6,7 +6,7 @@ use Rattle.odin_journal.specs.Trails.{Trail, LeavesPrefix}
 use Rattle.meaning_graph.specs.Graphs.{Text}
 use Rattle.meaning_records.specs.Images.{Stored, IsStore}
 use Rattle.odin_journal.specs.Moments.{Works}
-use Rattle.meaning_records.specs.declared.items.Item.{Item}
+use Rattle.object_values.specs.declared.items.Item.{Item}
 use Rattle.meaning_records.specs.Stands.{gate_behind}
 use Rattle.meaning_records.specs.States.{State as Read, nothing, ReadsAll}
 use Rattle.odin_store.specs.declared.store.Store.{Store}

@@ -2,7 +2,7 @@
 use Rattle.std.specs.Prelude.{◌≡◌, ℕ, ◌+◌, List, [], length, take, Option, Some, None}
 use Rattle.meaning_texts.specs.Lines.{HasNoLf}
 use Rattle.meaning_commands.specs.Items.{IsPartialCommand, SameBody}
-use Rattle.meaning_commands.specs.declared.commands.Command.{Command}
+use Rattle.odin_bytes.specs.declared.commands.Command.{Command}
 use Rattle.meaning_commands.specs.Commands.{bytes_after_line}
 use Rattle.odin_shell.specs.declared.pending.Pending.{Pending}
 use Rattle.odin_shell.specs.declared.cutter.Cutter.{Cutter}

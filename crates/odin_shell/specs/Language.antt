@@ -2,8 +2,8 @@
 use Rattle.std.specs.Prelude.{ℕ, Bool, false, cond, nat_le}
 use Rattle.meaning_texts.specs.Limits.{body_limit}
 use Rattle.meaning_commands.specs.Items.{Language}
-use Rattle.meaning_commands.specs.declared.commands.Command.{Command}
-use Rattle.meaning_commands.specs.declared.commands.Command.TheVariants.{Put}
+use Rattle.odin_bytes.specs.declared.commands.Command.{Command}
+use Rattle.odin_bytes.specs.declared.commands.Command.TheVariants.{Put}
 use Rattle.meaning_commands.specs.Commands.{Spells, bytes_after_line, ends_run}
 
 -- The bytes behind a `put` are kept where they are a text. All others are passed over.

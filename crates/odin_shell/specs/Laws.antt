@@ -10,10 +10,10 @@ use Rattle.meaning_derive.specs.Given.{AreSources, table_outcomes}
 use Rattle.meaning_commands.specs.Items.{Item, IsItem, OneCut}
 use Rattle.meaning_commands.specs.Machines.{AnswersItem, Transcript}
 use Rattle.meaning_derive.specs.AnswerLaws.{BothShowChains}
-use Rattle.meaning_commands.specs.declared.commands.Command.{Command}
-use Rattle.meaning_commands.specs.declared.commands.Command.TheVariants.{Ask}
-use Rattle.meaning_commands.specs.declared.replies.Reply.{Reply}
-use Rattle.meaning_commands.specs.declared.replies.Reply.TheVariants.{Kept, RefusedRead, RefusedToolStart}
+use Rattle.odin_bytes.specs.declared.commands.Command.{Command}
+use Rattle.odin_bytes.specs.declared.commands.Command.TheVariants.{Ask}
+use Rattle.object_values.specs.declared.replies.Reply.{Reply}
+use Rattle.object_values.specs.declared.replies.Reply.TheVariants.{Kept, RefusedRead, RefusedToolStart}
 use Rattle.meaning_commands.specs.Replies.{reply_text}
 use Rattle.odin_store.specs.Held.{Change}
 use Rattle.odin_store.specs.Keeping.{store_keeping}

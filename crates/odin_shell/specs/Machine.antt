@@ -19,10 +19,10 @@ use Rattle.odin_store.specs.Keeping.{store_keeping}
 use Rattle.odin_engine.specs.Engaged.{Engaged}
 use Rattle.kept_derive.specs.Runs.{keeps_of}
 use Rattle.odin_answers.specs.Answers.{IsReply, MayHaveBegun}
-use Rattle.meaning_commands.specs.declared.commands.Command.{Command}
-use Rattle.meaning_commands.specs.declared.commands.Command.TheVariants.{Put, Take, Remove, Ask, Plan, Sources, Kept, Quit, Nothing, Bad, BadName}
-use Rattle.meaning_commands.specs.declared.replies.Reply.{Reply}
-use Rattle.meaning_commands.specs.declared.replies.Reply.TheVariants as reply
+use Rattle.odin_bytes.specs.declared.commands.Command.{Command}
+use Rattle.odin_bytes.specs.declared.commands.Command.TheVariants.{Put, Take, Remove, Ask, Plan, Sources, Kept, Quit, Nothing, Bad, BadName}
+use Rattle.object_values.specs.declared.replies.Reply.{Reply}
+use Rattle.object_values.specs.declared.replies.Reply.TheVariants as reply
 use Rattle.meaning_commands.specs.Replies.{reply_text}
 use Rattle.odin_shell.specs.declared.stop.Stop.{Stop}
 use Rattle.odin_shell.specs.declared.stop.Stop.TheVariants as stop

@@ -8,8 +8,8 @@ use Rattle.meaning_derive.specs.Derive.{Sources}
 use Rattle.meaning_records.specs.Tables.{Calls, kept_outcome}
 use Rattle.meaning_commands.specs.Items.{Item, IsItem}
 use Rattle.meaning_commands.specs.Machines.{AnswersItem, Transcript}
-use Rattle.meaning_commands.specs.declared.commands.Command.{Command}
-use Rattle.meaning_commands.specs.declared.replies.Reply.{Reply}
+use Rattle.odin_bytes.specs.declared.commands.Command.{Command}
+use Rattle.object_values.specs.declared.replies.Reply.{Reply}
 use Rattle.odin_store.specs.Held.{Held, StandsFor}
 use Rattle.plain_derive.specs.Followed.{LogLeadsTo}
 use Rattle.plain_derive.specs.Given.{calls_of}

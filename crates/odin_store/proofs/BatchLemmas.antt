@@ -9,10 +9,10 @@ use Rattle.object_values.specs.declared.calls.Call.{Call}
 use Rattle.object_values.specs.declared.calls.Outcome.{Outcome}
 use Rattle.object_values.specs.Texts.{Text, Texts, no_texts}
 use Rattle.meaning_texts.specs.Classes.{IsName}
-use Rattle.meaning_records.specs.declared.items.StoredCall.{StoredCall}
-use Rattle.meaning_records.specs.declared.items.StoredOutcome.{StoredOutcome}
-use Rattle.meaning_records.specs.declared.items.Item.{Item}
-use Rattle.meaning_records.specs.declared.items.Item.TheVariants.{Graph, Content, Put, Dropped, Kept}
+use Rattle.object_values.specs.declared.items.StoredCall.{StoredCall}
+use Rattle.object_values.specs.declared.items.StoredOutcome.{StoredOutcome}
+use Rattle.object_values.specs.declared.items.Item.{Item}
+use Rattle.object_values.specs.declared.items.Item.TheVariants.{Graph, Content, Put, Dropped, Kept}
 use Rattle.meaning_records.specs.Records.{item}
 use Rattle.meaning_records.specs.Tables.{Tables, IsText, IsCallOf, IsOutcomeOf, MayBeKept, kept_outcome, with_content, with_call, Loads, LoadsAll}
 use Rattle.meaning_records.specs.States.{State, TakesOne, TakesAll, spell_batch}

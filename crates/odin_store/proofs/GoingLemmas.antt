@@ -7,7 +7,7 @@ use Rattle.odin_journal.specs.Trails as trails
 use Rattle.odin_journal.specs.TrailLemmas.{after-append, keeps_grows, stops_within, untouched_grows, grows_on, grows_stops, grows_left, stops_longer, trail_leaves}
 use Rattle.odin_journal.specs.declared.fault.JournalFault.{JournalFault}
 use Rattle.odin_journal.specs.declared.fault.JournalFault.TheVariants as fault
-use Rattle.meaning_records.specs.declared.items.Item.{Item}
+use Rattle.object_values.specs.declared.items.Item.{Item}
 use Rattle.meaning_records.specs.Laws.{ReadsInOneWay}
 use Rattle.meaning_records.specs.Stands.{gate_behind}
 use Rattle.odin_journal.specs.declared.journal.Journal.{Journal}

@@ -7,7 +7,7 @@ use Rattle.odin_journal.specs.TrailLemmas.{opened_trail}
 use Rattle.object_values.specs.Texts.{Text, Texts}
 use Rattle.odin_journal.specs.declared.journal.Journal.{Journal}
 use Rattle.odin_journal.specs.Rest.{AtRest}
-use Rattle.meaning_records.specs.declared.items.Item.{Item}
+use Rattle.object_values.specs.declared.items.Item.{Item}
 use Rattle.meaning_records.specs.Tables.{Tables}
 use Rattle.meaning_records.specs.Laws.{ReadsInOneWay}
 use Rattle.meaning_records.specs.States.{State, nothing, ReadsAll, spell_batch}

@@ -4,8 +4,8 @@ use Rattle.std.specs.FinMap as map
 use Rattle.std.proofs.lemmas.List.{take_all}
 use Rattle.std.proofs.lemmas.List.Elements.{All-nil, All-push, All-head, All-tail}
 use Rattle.object_values.specs.Texts.{Text}
-use Rattle.meaning_records.specs.declared.items.Item.{Item}
-use Rattle.meaning_records.specs.declared.items.Item.TheVariants.{Graph, Content, Put, Dropped, Kept}
+use Rattle.object_values.specs.declared.items.Item.{Item}
+use Rattle.object_values.specs.declared.items.Item.TheVariants.{Graph, Content, Put, Dropped, Kept}
 use Rattle.meaning_records.specs.Forms.{ParsesAt}
 use Rattle.meaning_records.specs.Records.{item}
 use Rattle.meaning_records.specs.FormLemmas.{one_item}

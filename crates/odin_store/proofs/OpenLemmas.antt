@@ -14,7 +14,7 @@ use Rattle.odin_journal.specs.Moments.{Untouched, Works}
 use Rattle.odin_journal.specs.Rest.{AtRest, BeforeOrAfter, OpensJournal, OnlyReads, KeepsRecords, AddsRecord, KeepsOrAdds}
 use Rattle.odin_journal.specs.declared.fault.JournalFault.{JournalFault}
 use Rattle.odin_journal.specs.declared.fault.JournalFault.TheVariants as fault
-use Rattle.meaning_records.specs.declared.items.Item.TheVariants.{Graph}
+use Rattle.object_values.specs.declared.items.Item.TheVariants.{Graph}
 use Rattle.meaning_records.specs.Records.{item}
 use Rattle.meaning_records.specs.Batches.{graph_batch}
 use Rattle.meaning_records.specs.States.{State, nothing, Reads, ReadsAll}

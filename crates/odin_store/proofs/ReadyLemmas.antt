@@ -13,7 +13,7 @@ use Rattle.odin_journal.specs.Moments.{Works}
 use Rattle.odin_journal.specs.Rest.{AddsRecord, KeepsOrAdds}
 use Rattle.odin_journal.specs.declared.journal.Journal.{Journal}
 use Rattle.odin_journal.specs.declared.fault.JournalFault.{JournalFault}
-use Rattle.meaning_records.specs.declared.items.Item.{Item}
+use Rattle.object_values.specs.declared.items.Item.{Item}
 use Rattle.meaning_records.specs.Batches.{drop_batch}
 use Rattle.meaning_records.specs.Tables.{Tables, LoadsAll}
 use Rattle.meaning_records.specs.States.{spell_batch}

@@ -12,8 +12,8 @@ use Rattle.object_values.specs.Gets.{put_here, put_other, remove_here, remove_ot
 use Rattle.meaning_texts.specs.Classes.{IsName}
 use Rattle.meaning_texts.specs.Limits.{body_limit}
 use Rattle.meaning_derive.specs.Given.{IsSource, AreSources}
-use Rattle.meaning_records.specs.declared.items.Item.{Item}
-use Rattle.meaning_records.specs.declared.items.Item.TheVariants.{Graph, Content, Put, Dropped, Kept}
+use Rattle.object_values.specs.declared.items.Item.{Item}
+use Rattle.object_values.specs.declared.items.Item.TheVariants.{Graph, Content, Put, Dropped, Kept}
 use Rattle.meaning_records.specs.Tables.{Tables, IsShort, IsText}
 use Rattle.meaning_records.specs.States.{State, nothing, TakesOne, TakesAll, ReadsAll}
 

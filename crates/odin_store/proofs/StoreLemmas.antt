@@ -10,7 +10,7 @@ use Rattle.odin_journal.specs.Moments.{Works}
 use Rattle.odin_journal.specs.Rest.{BeforeOrAfter, AddsRecord, KeepsOrAdds}
 use Rattle.odin_journal.specs.declared.fault.JournalFault.{JournalFault}
 use Rattle.odin_journal.specs.declared.fault.JournalFault.TheVariants as fault
-use Rattle.meaning_records.specs.declared.items.Item.{Item}
+use Rattle.object_values.specs.declared.items.Item.{Item}
 use Rattle.meaning_records.specs.Tables.{Tables}
 use Rattle.meaning_records.specs.States.{State, nothing, Reads, spell_batch}
 use Rattle.odin_store.specs.declared.store.Store.{Store}

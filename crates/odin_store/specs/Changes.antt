@@ -6,7 +6,7 @@ use Rattle.object_values.specs.declared.calls.Call.{Call}
 use Rattle.object_values.specs.declared.calls.Outcome.{Outcome}
 use Rattle.object_values.specs.Texts.{Text}
 use Rattle.meaning_texts.specs.Limits.{body_limit}
-use Rattle.meaning_records.specs.declared.items.Item.{Item}
+use Rattle.object_values.specs.declared.items.Item.{Item}
 use Rattle.meaning_records.specs.Batches.{drop_batch, IsPutBatch, IsCallBatch}
 use Rattle.kept_tables.specs.Holdings as kept
 use Rattle.odin_journal.specs.Rest.{IsReady}

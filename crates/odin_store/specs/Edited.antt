@@ -5,7 +5,7 @@ use Rattle.odin_outside.specs.Disk.{Telling}
 use Rattle.object_values.specs.Texts.{Text}
 use Rattle.odin_journal.specs.declared.fault.JournalFault.{JournalFault}
 use Rattle.odin_journal.specs.declared.fault.JournalFault.TheVariants as fault
-use Rattle.meaning_records.specs.declared.items.Item.{Item}
+use Rattle.object_values.specs.declared.items.Item.{Item}
 use Rattle.odin_store.specs.declared.store.Store.{Store}
 use Rattle.odin_store.specs.Held.{Change, puts, drops, IsDue}
 use Rattle.odin_store.specs.OnDisk.{held_in, IsChangeFault, IsOver, IsSame, LeavesChange, BeginsOnce}

@@ -3,7 +3,7 @@ use Rattle.std.specs.Prelude.{◌≡◌, ℕ, List, [], Option}
 use Rattle.odin_outside.specs.Disk.{Telling, IsQuiet, MayLeave}
 use Rattle.object_values.specs.Texts.{Text}
 use Rattle.odin_journal.specs.Trails as trails
-use Rattle.meaning_records.specs.declared.items.Item.{Item}
+use Rattle.object_values.specs.declared.items.Item.{Item}
 use Rattle.odin_store.specs.declared.store.Store.{Store}
 use Rattle.odin_store.specs.Held.{Held, Change, apply, StandsFor}
 use Rattle.odin_store.specs.OnDisk.{held_in, IsOn, LeavesChange, Appends, IsSame}

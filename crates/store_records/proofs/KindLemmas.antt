@@ -3,7 +3,7 @@ use Rattle.std.proofs.Common.{◌≡◌, ℕ, ◌+◌, List, [], ◌∷◌, Some
 use Rattle.object_values.specs.declared.nodes.Step.TheVariants.{Maker, Pick}
 use Rattle.object_values.specs.declared.views.Value.TheVariants.{Simple, List as Listed, Compound}
 use Rattle.odin_bytes.specs.Fields.{IsFieldAt}
-use Rattle.meaning_records.specs.declared.items.Item.TheVariants.{Graph, Content, Put, Dropped, Kept}
+use Rattle.object_values.specs.declared.items.Item.TheVariants.{Graph, Content, Put, Dropped, Kept}
 use Rattle.meaning_records.specs.Forms.{Form, StandsNowhere, bytes, number, both, list_of, option_of}
 use Rattle.meaning_records.specs.Records.{node, part, step, value, content, call, outcome, item}
 use Rattle.meaning_records.specs.PlaceLemmas.{field_end, field_join, tag_there}

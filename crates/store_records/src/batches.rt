@@ -5,8 +5,7 @@ ghost use Rattle.meaning_records.specs.Records.{item};
 ghost use Rattle.meaning_records.specs.States.{spell_batch};
 
 use crate::groups::put_members;
-use meaning_records::items::Item;
-use object_values::{Bytes, Memory, Value};
+use object_values::{Bytes, Item, Memory, Value};
 use std::alloc::Global;
 
 // Room for what an item has beside a text.

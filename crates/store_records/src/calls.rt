@@ -1,8 +1,7 @@
 // Calls and outcomes by the numbers of their contents.
 
 use crate::recorded::Recorded;
-use meaning_records::items::{StoredCall, StoredOutcome, StoredOutput, StoredPart};
-use object_values::{Bytes, Memory, OwnLine, ParamValue, Seq, Status};
+use object_values::{Bytes, Memory, OwnLine, ParamValue, Seq, Status, StoredCall, StoredOutcome, StoredOutput, StoredPart};
 use std::alloc::Global;
 
 impl Recorded for StoredPart {

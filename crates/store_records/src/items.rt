@@ -2,8 +2,7 @@
 
 use crate::contents::{put_content, take_content};
 use crate::recorded::Recorded;
-use meaning_records::items::{Item, StoredCall, StoredOutcome};
-use object_values::{Bytes, Memory};
+use object_values::{Bytes, Item, Memory, StoredCall, StoredOutcome};
 use odin_bytes::{put_u8, take_u8};
 use std::alloc::Global;
 

@@ -11,5 +11,5 @@ mod nodes;
 mod recorded;
 
 pub use batches::write_batch;
-pub use meaning_records::items::{Item, StoredCall, StoredOutcome, StoredOutput, StoredPart};
+pub use object_values::{Item, StoredCall, StoredOutcome, StoredOutput, StoredPart};
 pub use recorded::Recorded;

@@ -1,5 +1,5 @@
 use Rattle.std.proofs.Common.{◌<◌, length, sym, subst, arith}
-use Rattle.meaning_records.specs.declared.items.StoredOutput.{StoredOutput}
+use Rattle.object_values.specs.declared.items.StoredOutput.{StoredOutput}
 use Rattle.meaning_records.specs.Tables.{IsOutputOf}
 use Rattle.kept_contents.proofs.Resolved.{outputs_more, no_outputs}
 use Rattle.kept_contents.proofs.resolving.outputs_of.Goals as goal

@@ -1,6 +1,6 @@
 use Rattle.std.proofs.Common.{◌<◌, length, ap, sym, ◌∙◌, subst, arith}
 use Rattle.content_store.specs.Digesting as digesting
-use Rattle.meaning_records.specs.declared.items.StoredPart.{StoredPart}
+use Rattle.object_values.specs.declared.items.StoredPart.{StoredPart}
 use Rattle.meaning_records.specs.Tables.{IsPartOf}
 use Rattle.kept_contents.specs.Inputs.{digest_of_parts}
 use Rattle.kept_contents.proofs.InputLemmas.{fed_next, held_more}

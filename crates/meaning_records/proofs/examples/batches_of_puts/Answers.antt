@@ -1,6 +1,6 @@
 use Rattle.std.proofs.Common.{◌≡◌, inl, inr, ℕ, [], ◌∷◌, length, refl, ap, arith, codes}
 use Rattle.object_values.specs.declared.views.Value.TheVariants.{Simple}
-use Rattle.meaning_records.specs.declared.items.Item.TheVariants.{Content, Put}
+use Rattle.object_values.specs.declared.items.Item.TheVariants.{Content, Put}
 use Rattle.meaning_records.specs.Batches.{IsPutBatch}
 use Rattle.meaning_records.specs.BatchExamples.{contents, known}
 use Rattle.meaning_records.proofs.NewTexts.{fresh_is_none}

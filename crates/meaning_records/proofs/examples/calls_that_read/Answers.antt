@@ -1,7 +1,7 @@
 use Rattle.std.proofs.Common.{refl, codes, Some, None, [], ◌∷◌}
 use Rattle.meaning_calls.specs.Tests.{is_well_formed, outcome_fits}
 use Rattle.meaning_calls.proofs.Lemmas.{well_formed_decides, fits_decides}
-use Rattle.meaning_records.specs.declared.items.Item.TheVariants.{Kept}
+use Rattle.object_values.specs.declared.items.Item.TheVariants.{Kept}
 use Rattle.meaning_records.specs.ItemExamples.{old, ex_with_calls, with_kept, stored_call, call, ex_made_outcome, made_outcome, ex_aborted_outcome, aborted_outcome}
 use Rattle.meaning_records.proofs.Alone.{alone}
 use Rattle.meaning_records.proofs.examples.calls_that_read.Goals as goal

@@ -5,7 +5,7 @@ use Rattle.object_values.specs.Gets.{put_here}
 use Rattle.object_values.specs.declared.views.Value.TheVariants.{Simple, List as Listed}
 use Rattle.meaning_texts.specs.Classes.{is_name_byte}
 use Rattle.meaning_texts.proofs.Lemmas.{word_decides}
-use Rattle.meaning_records.specs.declared.items.Item.TheVariants.{Graph, Content, Put, Dropped}
+use Rattle.object_values.specs.declared.items.Item.TheVariants.{Graph, Content, Put, Dropped}
 use Rattle.meaning_records.specs.ItemExamples.{old, with_contents, with_sources, node}
 use Rattle.meaning_records.proofs.Alone.{alone}
 use Rattle.meaning_records.proofs.examples.edits_that_read.Goals as goal

@@ -3,7 +3,7 @@ use Rattle.std.proofs.lemmas.List.Elements.{All-nil, All-cons, All-head}
 use Rattle.object_values.specs.declared.views.Part.{Part}
 use Rattle.object_values.specs.declared.views.Value.TheVariants.{Simple}
 use Rattle.meaning_texts.specs.Limits.{body_limit}
-use Rattle.meaning_records.specs.declared.items.Item.TheVariants.{Content}
+use Rattle.object_values.specs.declared.items.Item.TheVariants.{Content}
 use Rattle.meaning_records.specs.ItemExamples.{old, with_contents, one_part}
 use Rattle.meaning_records.proofs.Alone.{alone}
 use Rattle.meaning_records.proofs.examples.long_contents.Goals as goal

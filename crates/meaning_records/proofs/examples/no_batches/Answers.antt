@@ -1,5 +1,5 @@
 use Rattle.std.proofs.Common.{[], ◌∷◌, ◌++◌, codes, arith}
-use Rattle.meaning_records.specs.declared.items.Item.TheVariants.{Graph}
+use Rattle.object_values.specs.declared.items.Item.TheVariants.{Graph}
 use Rattle.meaning_records.specs.ByteExamples.{text}
 use Rattle.meaning_records.proofs.RecordFronts.{no_item_zero}
 use Rattle.meaning_records.proofs.Refusals.{unbatched, none_read, no_front, no_batch_behind, longer_never, shorter_never, unnamed_never, cut_never}

@@ -1,7 +1,7 @@
 use Rattle.std.proofs.Common.{ap, refl, sym, ◌∙◌, subst}
-use Rattle.meaning_commands.specs.declared.replies.Reply.TheVariants as reply
+use Rattle.object_values.specs.declared.replies.Reply.TheVariants as reply
 use Rattle.meaning_commands.specs.Replies.{reply_text}
-use Rattle.meaning_commands.specs.declared.commands.Command.TheVariants as command
+use Rattle.odin_bytes.specs.declared.commands.Command.TheVariants as command
 use Rattle.meaning_derive.specs.Answers as answers
 use Rattle.odin_journal.specs.declared.fault.JournalFault.TheVariants as fault
 use Rattle.odin_answers.specs.Edits.{SaysReply}

@@ -1,4 +1,4 @@
-use Rattle.meaning_records.specs.declared.items.StoredOutput.{StoredOutput}
+use Rattle.object_values.specs.declared.items.StoredOutput.{StoredOutput}
 use Rattle.meaning_records.specs.PlaceLemmas.{by_parts_nowhere}
 use Rattle.store_records.proofs.calls.StoredOutputRecorded.take.Goals as goal
 

@@ -1,4 +1,4 @@
-use Rattle.meaning_records.specs.declared.items.StoredPart.{StoredPart}
+use Rattle.object_values.specs.declared.items.StoredPart.{StoredPart}
 use Rattle.meaning_records.specs.PlaceLemmas.{by_parts_nowhere}
 use Rattle.store_records.proofs.calls.StoredPartRecorded.take.Goals as goal
 

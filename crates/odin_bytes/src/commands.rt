@@ -1,6 +1,6 @@
 // The commands of a session.
 use object_values::Bytes;
-use odin_bytes::Name;
+use crate::names::Name;
 
 /// A command, by its line: one variant a row of the table of commands in docs/SESSIONS.md.
 #[derive(Drop)]

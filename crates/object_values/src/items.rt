@@ -1,5 +1,9 @@
 // The items of batches, as a store file has them: texts stand in contents of their own, and a call has their numbers.
-use object_values::{Bytes, OwnLine, ParamValue, Seq, Status, Value};
+use crate::calls::OwnLine;
+use crate::messages::Status;
+use crate::nodes::ParamValue;
+use crate::views::Value;
+use sequences::{Bytes, Seq};
 
 /// An input of a call: its slot, its label, and the number of its content where it is not absent.
 #[derive(Drop)]

@@ -1,5 +1,8 @@
 // The replies to commands.
-use object_values::{Bytes, Message, Part, Seq, SharedSeq, Status, Text};
+use crate::messages::{Message, Status};
+use crate::text::Text;
+use crate::views::Part;
+use sequences::{Bytes, Seq, SharedSeq};
 
 /// A reply: one variant a row of the table of replies in docs/SESSIONS.md. A list of texts holds the lines behind the first one, each without
 /// its LF; the number in the first line is their count.
