@@ -5,9 +5,9 @@ use Rattle.std.proofs.lemmas.List.{length-append}
 use Rattle.object_values.specs.Texts.{Text}
 use Rattle.odin_outside.specs.Disk.{Telling, IsQuiet}
 use Rattle.odin_outside.specs.Steps.{synced_only}
-use Rattle.odin_fakes.specs.File.{image_of}
-use Rattle.odin_fakes.specs.Tools as tools
-use Rattle.odin_fakes.specs.declared.answers.Answers.TheVariants.{Toys}
+use Rattle.odin_memory.specs.File.{image_of}
+use Rattle.odin_memory.specs.Tools as tools
+use Rattle.odin_memory.specs.declared.answers.Answers.TheVariants.{Toys}
 use Rattle.meaning_texts.specs.Limits.{graph_limit}
 use Rattle.meaning_graph.specs.Graphs.{Graph}
 use Rattle.meaning_records.specs.Images.{Stored}

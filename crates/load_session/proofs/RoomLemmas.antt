@@ -2,8 +2,8 @@
 use Rattle.std.proofs.Common.{◌≢◌, ◌+◌, length, inl, inr}
 use Rattle.std.proofs.lemmas.Bool.{cases_lt}
 use Rattle.odin_outside.specs.Disk.{Work}
-use Rattle.odin_fakes.specs.Calls.{bytes_written}
-use Rattle.odin_fakes.specs.File.{File}
+use Rattle.odin_memory.specs.Calls.{bytes_written}
+use Rattle.odin_memory.specs.File.{File}
 use Rattle.load_session.specs.Room.{most_bytes, most_calls, HasRoom, PassesRoom}
 
 -- no call fails within it

@@ -6,8 +6,8 @@ use Rattle.std.specs.Result.{IsErrAnd}
 use Rattle.std.proofs.lemmas.Result.{err_from_is_err_and}
 use Rattle.std.proofs.lemmas.List.{length-append}
 use Rattle.odin_outside.specs.Causes.{IsCounted}
-use Rattle.odin_fakes.specs.File.{image_of}
-use Rattle.odin_fakes.specs.Tools as tools
+use Rattle.odin_memory.specs.File.{image_of}
+use Rattle.odin_memory.specs.Tools as tools
 use Rattle.meaning_graph.specs.Graphs.{Text}
 use Rattle.meaning_records.specs.Tables.{Calls}
 use Rattle.object_values.specs.declared.replies.Reply.{Reply}

@@ -1,7 +1,7 @@
 -- A whole load: what it tells, and why it ends before.
 use Rattle.std.specs.Prelude.{◌≡◌, ◌⊎◌, ⊤, ℕ, ◌+◌, ◌*◌, ◌<◌, List, [], ◌∷◌, ◌++◌, length, Some}
-use Rattle.odin_fakes.specs.declared.answers.Answers.TheVariants.{Toys}
-use Rattle.odin_fakes.specs.Tools as tools
+use Rattle.odin_memory.specs.declared.answers.Answers.TheVariants.{Toys}
+use Rattle.odin_memory.specs.Tools as tools
 use Rattle.dg_reader.specs.Files.{IsRead}
 use Rattle.meaning_graph.specs.Graphs.{Graph}
 use Rattle.meaning_records.specs.Tables.{Calls}

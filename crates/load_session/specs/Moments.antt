@@ -1,7 +1,7 @@
 -- A session of a load between two steps.
 use Rattle.std.specs.Prelude.{◌≡◌, ◌+◌, ◌^◌, ◌<◌, ◌≤◌, ℕ, List, [], ◌∷◌, length}
-use Rattle.odin_fakes.specs.File.{image_of}
-use Rattle.odin_fakes.specs.Tools as tools
+use Rattle.odin_memory.specs.File.{image_of}
+use Rattle.odin_memory.specs.Tools as tools
 use Rattle.meaning_records.specs.Tables.{Calls}
 use Rattle.object_values.specs.declared.replies.Reply.{Reply}
 use Rattle.odin_journal.specs.declared.fault.JournalFault.{JournalFault}

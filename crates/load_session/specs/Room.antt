@@ -1,8 +1,8 @@
 -- The disk of a load: a file in memory with so much room, which also tells the first call that it refused.
 use Rattle.std.specs.Prelude.{◌≡◌, ◌≢◌, ◌⊎◌, ℕ, ◌+◌, ◌≤◌, ◌<◌, [], length, Some, Result, OnOk, OnErr}
 use Rattle.odin_outside.specs.Disk.{Telling, Work}
-use Rattle.odin_fakes.specs.Calls.{bytes_written}
-use Rattle.odin_fakes.specs.File.{File, new_file, file_view}
+use Rattle.odin_memory.specs.Calls.{bytes_written}
+use Rattle.odin_memory.specs.File.{File, new_file, file_view}
 
 -- the most bytes that may be written in all, and the most calls
 abbrev pub most_bytes : ℕ

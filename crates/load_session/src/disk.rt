@@ -2,7 +2,7 @@
 ghost use Rattle.std.specs.Prelude.{◌≡◌, ◌≢◌, IfOk, OnOk, OnErr};
 
 use object_values::{Bytes, Memory};
-use odin_fakes::MemDisk;
+use odin_memory::MemDisk;
 use odin_outside::{Disk, Failed};
 use std::alloc::Global;
 use std::marker::Model;
@@ -83,8 +83,8 @@ impl LoadDisk {
 
 impl Disk for LoadDisk {
     ghost use Rattle.std.specs.Prelude.{refl, length};
-    ghost use Rattle.odin_fakes.specs.File.{image_of};
-    ghost use Rattle.odin_fakes.specs.DiskLaws.{image_is_left, left_now, left_only};
+    ghost use Rattle.odin_memory.specs.File.{image_of};
+    ghost use Rattle.odin_memory.specs.DiskLaws.{image_is_left, left_now, left_only};
     ghost use Rattle.load_session.specs.Room.{told_of_disk};
 
     ghost told = { told_of_disk };

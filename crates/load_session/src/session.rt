@@ -11,7 +11,7 @@ use object_values::{Bytes, Seq, Text};
 use odin_answers::answer_ask;
 use odin_bytes::{Name, NameFault};
 use odin_engine::{Engine, StoreFault};
-use odin_fakes::TableTools;
+use odin_memory::TableTools;
 use std::alloc::Global;
 
 /// An engine with its disk and its tools.

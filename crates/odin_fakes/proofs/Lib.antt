@@ -1,5 +1,2 @@
-mod Answering
-mod Ending
-mod Replaying
 mod Scan
-mod Undoing
+mod FailingEnds

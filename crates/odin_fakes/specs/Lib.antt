@@ -1,12 +1,7 @@
-pub mod Calls
-pub mod Choices
-pub mod DiskLaws
-pub mod Entries
 pub mod Entry
-pub mod File
 pub mod Input
 pub mod Output
 pub mod Plan
-pub mod Room
-pub mod Tools
 pub mod Trees
+pub mod FailingFile
+pub mod FailingTools

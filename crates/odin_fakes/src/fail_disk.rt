@@ -2,7 +2,7 @@
 ghost use Rattle.std.specs.Prelude.{◌≡◌, ◌+◌, ◌^◌, ◌≤◌, length, IfOk, OnOk, OnErr};
 ghost use Rattle.odin_outside.specs.Causes.{HasCause, once_more};
 
-use crate::disk::MemDisk;
+use odin_memory::MemDisk;
 use crate::plan::{FailPlan, Failing};
 use odin_outside::{Disk, Failed};
 
@@ -24,9 +24,10 @@ fn counted<T>(plan: &mut FailPlan, done: Result<T, Failed>) -> Result<T, Failed>
 
 impl Disk for Failing<MemDisk> {
     ghost use Rattle.std.specs.Prelude.{◌≡◌, refl, length};
-    ghost use Rattle.odin_fakes.specs.File.{bytes_at, image_of, went, went_write, HasNoRoomFor, FailsByPlanOrFile, file_view};
-    ghost use Rattle.odin_fakes.specs.Calls.{WasCut, Synced, Looked};
-    ghost use Rattle.odin_fakes.specs.DiskLaws.{image_is_left, left_now, left_only};
+    ghost use Rattle.odin_memory.specs.File.{bytes_at, image_of, HasNoRoomFor, file_view};
+    ghost use Rattle.odin_fakes.specs.FailingFile.{went, went_write, FailsByPlanOrFile};
+    ghost use Rattle.odin_memory.specs.Calls.{WasCut, Synced, Looked};
+    ghost use Rattle.odin_memory.specs.DiskLaws.{image_is_left, left_now, left_only};
 
     ghost told = { λ d. file_view d.inner };
 

@@ -4,7 +4,7 @@ ghost use Rattle.odin_outside.specs.Spawned.{IsLeastFree};
 ghost use Rattle.odin_fakes.specs.Plan.{FailsNext};
 
 use crate::plan::Failing;
-use crate::tools::TableTools;
+use odin_memory::TableTools;
 use odin_outside::{FinishFault, Job, Raw, Spawner, StartFault};
 use std::alloc::Global;
 
@@ -12,7 +12,7 @@ use std::alloc::Global;
 pub type FailTools = Failing<TableTools>;
 
 impl Spawner for Failing<TableTools> {
-    ghost use Rattle.odin_fakes.specs.Tools.{told_failing, started_unplanned, tools_after_failed_start, wanted, OnLost, FailsAsTold, EndsAsTold, LosesAsTold, EndsUnplanned, LosesByPlan};
+    ghost use Rattle.odin_fakes.specs.FailingTools.{told_failing, started_unplanned, tools_after_failed_start, wanted, OnLost, FailsAsTold, EndsAsTold, LosesAsTold, EndsUnplanned, LosesByPlan};
 
     ghost told = { told_failing };
 

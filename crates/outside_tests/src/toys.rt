@@ -3,7 +3,7 @@ use super::texts::{Files, Text, are_files, put_files, put_texts};
 use object_values::{End, Job, Memory, Raw, Seq};
 use std::alloc::Global;
 use std::test::Fail;
-use toy_tools::toy;
+use odin_memory::toy;
 
 // Fills in the words, the files and the outputs.
 fn put_job(

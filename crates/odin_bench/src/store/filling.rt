@@ -1,6 +1,6 @@
 // Stores with many sources and kept calls.
 ghost use Rattle.std.specs.Prelude.{length, IfOk, OnOk};
-ghost use Rattle.odin_fakes.specs.File.{image_of};
+ghost use Rattle.odin_memory.specs.File.{image_of};
 ghost use Rattle.odin_journal.specs.Rest.{IsReady};
 ghost use Rattle.odin_store.specs.OnDisk.{StoreAfter};
 

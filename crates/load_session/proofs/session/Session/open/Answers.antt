@@ -1,6 +1,6 @@
 use Rattle.std.proofs.Common.{ℕ, List, ◌≤◌, length, sym, ap, ◌∙◌, subst}
-use Rattle.odin_fakes.specs.Tools.{new_tools}
-use Rattle.odin_fakes.specs.declared.answers.Answers.TheVariants.{Toys}
+use Rattle.odin_memory.specs.Tools.{new_tools}
+use Rattle.odin_memory.specs.declared.answers.Answers.TheVariants.{Toys}
 use Rattle.meaning_texts.specs.Limits.{graph_limit}
 use Rattle.load_session.proofs.OpenLemmas.{opened_new, opening_fault}
 use Rattle.load_session.proofs.SessionLemmas.{at_stop}

@@ -1,6 +1,6 @@
 use Rattle.std.proofs.Common.{◌≡◌, ap}
 use Rattle.odin_fakes.specs.Plan.{FaultPlan}
-use Rattle.odin_fakes.proofs.Ending.{lost_by_plan}
+use Rattle.odin_fakes.proofs.FailingEnds.{lost_by_plan}
 use Rattle.odin_fakes.proofs.fail_tools.FailingTableToolsSpawner.finish.Goals as goal
 
 pub returns-then-fails_next-clause-told_lost : goal.returns-then-fails_next-clause-told_lost

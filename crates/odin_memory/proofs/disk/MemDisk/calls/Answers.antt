@@ -1,0 +1,9 @@
+use Rattle.std.proofs.Common.{◌≡◌, length, ap, sym, ◌∙◌, arith}
+use Rattle.odin_memory.specs.File.{File}
+use Rattle.odin_memory.proofs.Replaying.{length-calls}
+use Rattle.odin_memory.proofs.disk.MemDisk.calls.Goals as goal
+
+pub returns : goal.returns
+returns c =
+    let kept : length c.args.self.now.calls ≡ length c.self.inside.entries.items = ap (λ (file : File). length file.calls) (sym c.self.view_is) ∙ length-calls c.self.inside.entries.items c.self.inside.written.items in
+    grind arith

@@ -1,0 +1,10 @@
+pub mod Inputs
+pub mod Programs
+pub mod Toys
+pub mod Calls
+pub mod Choices
+pub mod DiskLaws
+pub mod Entries
+pub mod File
+pub mod Room
+pub mod Tools

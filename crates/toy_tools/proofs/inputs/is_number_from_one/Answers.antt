@@ -1,5 +1,0 @@
-use Rattle.std.proofs.Common.{rules}
-use Rattle.toy_tools.proofs.inputs.is_number_from_one.Goals as goal
-
-pub returns-in_default : goal.returns-in_default
-returns-in_default c = search rules
