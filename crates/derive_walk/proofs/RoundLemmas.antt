@@ -1,5 +1,5 @@
 -- One round of a visit: the needs that were not visited so far are visited.
-use Rattle.std.proofs.Common.{◌≡◌, ℕ, zero, suc, ◌+◌, ◌<◌, false, List, [], ◌∷◌, ◌⊎◌, inl, inr, sym, ap, ◌∙◌, subst, refl, true≢false, length, drop, get_or, arith, add-one, drop-cons}
+use Rattle.std.proofs.Common.{◌≡◌, ℕ, zero, suc, ◌+◌, ◌<◌, false, List, [], ◌∷◌, ◌⊎◌, inl, inr, sym, ◌∙◌, subst, refl, true≢false, length, drop, get_or, arith, add-one, drop-cons}
 use Rattle.std.specs.Prelude.{None, IsSome}
 use Rattle.object_values.specs.declared.nodes.Node.{Node}
 use Rattle.meaning_texts.specs.Lists.{IsIn}

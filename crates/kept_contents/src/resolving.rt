@@ -1,5 +1,5 @@
 // From the numbers of a record to its texts.
-ghost use Rattle.std.specs.Prelude.{◌≡◌, ℕ, List, Option, IfNone, IfOk, IfSome};
+ghost use Rattle.std.specs.Prelude.{◌≡◌, List, Option, IfNone, IfOk, IfSome};
 ghost use Rattle.object_values.specs.declared.calls.Call.{Call as CallValue};
 ghost use Rattle.object_values.specs.declared.calls.CallPart.{CallPart as PartValue};
 ghost use Rattle.object_values.specs.declared.calls.Outcome.{Outcome as OutcomeValue};

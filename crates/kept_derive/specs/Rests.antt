@@ -1,5 +1,5 @@
 -- What a derivation stands on, and how it leaves the tools.
-use Rattle.std.specs.Prelude.{◌≡◌, ◌≤◌, ⊤, ℕ, List, [], length, Result, OnOk, IfErr}
+use Rattle.std.specs.Prelude.{◌≡◌, ◌≤◌, ⊤, ℕ, [], length, Result, OnOk, IfErr}
 use Rattle.object_values.specs.declared.nodes.Node.{Node}
 use Rattle.odin_outside.specs.Spawned.{Spawned}
 use Rattle.meaning_graph.specs.Graphs.{Graph}

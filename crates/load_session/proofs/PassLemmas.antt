@@ -1,7 +1,6 @@
 -- A load that fails for its disk passes the room by its own batches.
-use Rattle.std.proofs.Common.{◌≡◌, ◌≢◌, ◌⊎◌, inl, inr, ℕ, ◌+◌, ◌*◌, ◌<◌, ◌≤◌, List, [], ◌∷◌, ◌++◌, length, cond, Option, Some, None, refl, sym, ap, subst, ◌∙◌, append_assoc, arith}
+use Rattle.std.proofs.Common.{◌≡◌, ◌≢◌, ◌⊎◌, inl, inr, ℕ, ◌+◌, ◌*◌, ◌<◌, ◌≤◌, List, [], ◌∷◌, ◌++◌, length, cond, Some, None, refl, ap, subst, ◌∙◌, arith}
 use Rattle.odin_outside.specs.Disk.{Telling}
-use Rattle.object_values.specs.Texts.{Text}
 use Rattle.meaning_graph.specs.Graphs.{Graph}
 use Rattle.meaning_records.specs.Tables.{Calls}
 use Rattle.meaning_records.specs.States.{State, nothing}
@@ -18,9 +17,9 @@ use Rattle.odin_store.proofs.Lemmas.{goes_none, goes_on, stops_behind, works_aft
 use Rattle.kept_derive.specs.Runs.{keeps_of}
 use Rattle.load_session.specs.Graph.{graph_text}
 use Rattle.load_session.specs.Room.{LoadFile, most_bytes, most_calls, empty_disk, told_of_disk, PassesRoom}
-use Rattle.load_session.specs.Session.{LoadStep, puts, asks, load_steps}
+use Rattle.load_session.specs.Session.{LoadStep, puts, asks}
 use Rattle.load_session.specs.Served.{Moment, ServesSteps, none, put, ask, StepFails, StopsAtStep, changes_of, failed_changes}
-use Rattle.load_session.specs.Loads.{LoadIsOpened, PassesWith, LoadPasses}
+use Rattle.load_session.specs.Loads.{LoadIsOpened, PassesWith}
 use Rattle.load_session.proofs.OpenLemmas.{quiet, empty_records, empty_state}
 
 -- ---- the changes of steps

@@ -1,6 +1,6 @@
 -- What was told while lines are followed, and the needs that come into sight by that.
 use Rattle.std.proofs.Common.{◌≡◌, true, false, List, [], ◌∷◌, ◌++◌, ◌⊎◌, cond, flat_map, map, bytes_eq, inl, inr, refl, sym, subst}
-use Rattle.std.specs.Prelude.{Bool, All, Option, Some, None, Result, Ok, Err, OnOk, OnErr, option_to_list}
+use Rattle.std.specs.Prelude.{Bool, Option, Some, None, Result, Ok, Err, OnOk, OnErr, option_to_list}
 use Rattle.std.specs.Cmp.Lexicographic.{bytes_decides}
 use Rattle.std.specs.List.Sorted.{IsPermutation}
 use Rattle.std.proofs.lemmas.List.Elements.{All-nil, All-push, All-append}

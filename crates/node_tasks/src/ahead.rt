@@ -8,7 +8,7 @@ ghost use Rattle.meaning_tasks.specs.Nodes.{Fits, base_of};
 ghost use Rattle.meaning_tasks.specs.Tasks.{Task as TaskValue, scan_node, tool_task, tooled};
 ghost use Rattle.meaning_tasks.specs.Needs.{Results as ResultMap, Known as KnownValues, values_of, has_value};
 ghost use Rattle.path_planner.specs.Ends.{plans_of};
-ghost use Rattle.node_tasks.specs.Ahead.{AreInSight, AreLed, IsAhead, IsInSight, IsLedOn, IsLevel, IsOfLevel, IsReachedScan, IsUnseen};
+ghost use Rattle.node_tasks.specs.Ahead.{AreInSight, AreLed, IsAhead, IsLedOn, IsLevel, IsOfLevel, IsReachedScan, IsUnseen};
 
 use crate::base::base_of;
 use crate::task::tool_at;

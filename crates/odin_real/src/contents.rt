@@ -1,7 +1,6 @@
 // What a folder holds before a child program runs in it, and what is taken from it afterwards.
 ghost use Rattle.std.specs.Prelude.{◌≡◌, IsOk, IfOk, OnOk};
 ghost use Rattle.std.specs.List.{All};
-ghost use Rattle.std.specs.Str.{IsUtf8};
 ghost use Rattle.odin_real.specs.Folders.{laid_out, IsAdded, HasNoSlash, IsFileName, IsPutLeft, AreLeft, SameBut};
 ghost use Rattle.odin_real.specs.Logs.{CountsWhere};
 

@@ -1,5 +1,5 @@
 // One file as a disk.
-ghost use Rattle.std.specs.Prelude.{◌≡◌, ◌+◌, ◌^◌, ◌≤◌, IsTrue, length, Option, None, IfOk, OnOk, OnErr};
+ghost use Rattle.std.specs.Prelude.{◌≡◌, ◌+◌, ◌^◌, ◌≤◌, IsTrue, length, IfOk, OnOk, OnErr};
 ghost use Rattle.std.specs.Option.{ForSome};
 ghost use Rattle.odin_outside.specs.Causes.{IsCounted, once_more};
 ghost use Rattle.odin_outside.specs.Disk.{ChangesPending, Gives, SeesSame, SeesCut, SeesTaken, SeesTorn, SeesWritten, cut_to, same_pending, size_with, synced_as, wrote};

@@ -1,6 +1,5 @@
 // A file of the system by its path.
-ghost use Rattle.std.specs.Prelude.{◌≡◌, ◌↔◌, IsTrue, IfSome, Ok, None, true, false};
-ghost use Rattle.std.specs.IoError.{error_kind};
+ghost use Rattle.std.specs.Prelude.{◌≡◌, ◌↔◌, IfSome, Ok, None, true, false};
 ghost use Rattle.std.specs.Fs.{IsFile, asks_create, asks_read, asks_truncate, asks_write, file_type, metadata_len};
 ghost use Rattle.odin_real.specs.Names.{found_of, synced_of};
 

@@ -6,7 +6,7 @@ ghost use Rattle.odin_real.specs.Finishes.{CanBeGiven, FolderIsCleared};
 ghost use Rattle.odin_real.specs.Folders.{laid_out, SameBut};
 ghost use Rattle.odin_real.specs.Seen.{seen_of};
 ghost use Rattle.odin_real.specs.Starts.{AreWords, JobIsStartable};
-ghost use Rattle.odin_real.specs.Told.{ChildView, IsAsked};
+ghost use Rattle.odin_real.specs.Told.{IsAsked};
 ghost use Rattle.odin_real.specs.Logs.{CountsWhere, LaunchesWhere, launch_of, InheritsEnvironment};
 
 use crate::contents::{lay_out, left_in};

@@ -2,12 +2,12 @@
 use Rattle.std.proofs.Common.{◌≡◌, ◌⊎◌, inl, inr, ℕ, zero, suc, ◌+◌, ◌≤◌, List, [], ◌∷◌, ◌++◌, length, take, IsTrue, refl, sym, ap, subst, ◌∙◌, append_assoc, arith}
 use Rattle.std.proofs.Math.Seq.{take-append-add}
 use Rattle.std.proofs.lemmas.List.{length-append, take-append-le}
-use Rattle.odin_outside.specs.Disk.{Telling, MayLeave, LeavesOnly}
+use Rattle.odin_outside.specs.Disk.{Telling, MayLeave}
 use Rattle.odin_outside.specs.Moments.{no_call, then, weaker}
 use Rattle.odin_journal.specs.Trails as trails
 use Rattle.odin_journal.specs.TrailLemmas.{after-append}
 use Rattle.meaning_records.specs.Images.{IsStore, Stored}
-use Rattle.odin_journal.specs.Rest.{AtRest, BeforeOrAfter, KeepsOrAdds}
+use Rattle.odin_journal.specs.Rest.{BeforeOrAfter, KeepsOrAdds}
 use Rattle.odin_store.specs.declared.store.Store.{Store}
 use Rattle.odin_store.specs.Written.{RecordsRest, record_keeping, LeavesFirst}
 

@@ -1,7 +1,7 @@
 // From which types makers lead to each type.
 ghost use Rattle.std.specs.Prelude.{◌≡◌, ◌<◌, ℕ, IfOk, IfNone, IfSome, OnOk, length};
 ghost use Rattle.meaning_graph.specs.Graphs.{types};
-ghost use Rattle.path_planner.specs.Ends.{ends_in, from_to, AreTypes};
+ghost use Rattle.path_planner.specs.Ends.{ends_in, from_to};
 ghost use Rattle.path_planner.specs.Near.{AddsAllBelow, AreSourceLists, LeadTo};
 
 use crate::route::Ends;

@@ -1,7 +1,6 @@
-use Rattle.std.proofs.Common.{◌≡◌, false, inr, refl, sym, ◌∙◌, subst}
+use Rattle.std.proofs.Common.{◌≡◌, inr, refl, sym, ◌∙◌, subst}
 use Rattle.std.specs.Prelude.{Bool, IfSome}
 use Rattle.object_values.specs.declared.nodes.Node.{Node}
-use Rattle.object_values.specs.declared.graph.MakerDecl.{MakerDecl}
 use Rattle.meaning_tasks.specs.Reached.{Reached}
 use Rattle.meaning_tasks.specs.Tasks.{ToolTask, tool_task, tooled}
 use Rattle.meaning_tasks.specs.Needs.{Known, values_of, own_lines, other_lines}
