@@ -47,7 +47,7 @@ step_behind path step some other false [] are is = absurd (some is)
 step_behind path step some other true (first ∷ others) are is = ap (λ l. (l ++ 47 ∷ []) ++ step) is ∙ ap (λ l. 47 ∷ l) (sym (more_steps first step others))
 step_behind path step some other false (first ∷ others) are is = ap (λ l. (l ++ 47 ∷ []) ++ step) is ∙ sym (more_steps first step others)
 
--- by what was put behind the path
+-- by what was put after the path
 pub stepless : (path step new : List ℕ) → (path ≡ []) ⊎ (path ≡ codes "/") → new ≡ path ++ step → AddsStep path new step
 stepless path step new (inl none) is = subst (λ l. AddsStep path l step) (sym is) (subst (λ p. AddsStep p (p ++ step) step) (sym none) (first_step step))
 stepless path step new (inr root) is = subst (λ l. AddsStep path l step) (sym is) (subst (λ p. AddsStep p (p ++ step) step) (sym root) (step_at_root step))

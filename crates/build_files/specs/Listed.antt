@@ -13,7 +13,7 @@ take_line name = codes "take " ++ name
 abbrev pub take_lines : List (List ℕ) → List ℕ
 take_lines names = flat_map (λ name. with_lf (take_line name)) names
 
--- These are the names, and by their bytes each is below those behind it: so each stands once.
+-- These are the names, and by their bytes each is below those after it: so each stands once.
 pub record IsListed (names listed : List (List ℕ)) : Type 0 where
   pub sorted : IsStrictlySortedBy (slice_cmp nat_cmp) listed
   pub same : (name : List ℕ) → Contains listed name ↔ Contains names name

@@ -27,7 +27,7 @@ pub record IsTidy (path : List ℕ) : Type 0 where
 
 -- ---- the path of any text
 
--- with this byte in front of the first piece
+-- with this byte before the first piece
 abbrev pub with_byte_before : ℕ → List (List ℕ) → List (List ℕ)
 with_byte_before b [] = (b ∷ []) ∷ []
 with_byte_before b (piece ∷ pieces) = (b ∷ piece) ∷ pieces
@@ -52,7 +52,7 @@ tidied text = path_of (begins_at_root text) (filter leads (pieces text))
 
 -- ---- longer paths
 
--- Whatever steps the path had, it has this one behind them.
+-- Whatever steps the path had, it has this one after them.
 abbrev pub AddsStep : List ℕ → List ℕ → List ℕ → Type 0
 AddsStep old new step =
     (root : Bool) (steps : List (List ℕ)) → All IsStep steps → old ≡ path_of root steps

@@ -10,9 +10,9 @@ use crate::words::{Asked, read_words};
 use object_values::{Bytes, Memory, Message, Part};
 use odin_commands::{Reply, ShownBody, read_replies, write_each_message};
 use std::alloc::Global;
-use std::{env, fs, io};
 use std::env::Env;
 use std::io::{Read, Write};
+use std::{env, fs, io};
 use thiserror::Error;
 
 /// Why a run ended without an answer.
@@ -103,7 +103,7 @@ pub fn write_files(rt: &HostRuntime, path: &str, files: &Files) -> Result<(), Fa
     Ok(())
 }
 
-/// Writes the files to standard output, one behind another.
+/// Writes the files to standard output, one after another.
 fn print_files(rt: &HostRuntime, files: &Files) -> Result<(), Fault> {
     let mut out = io::writer(rt);
     match files {

@@ -6,9 +6,9 @@ use crate::listed::{listed, write_takes};
 use crate::paths::tidy;
 use crate::walk::{Found, take_below};
 use object_values::{Bytes, Memory};
-use std::{env, io};
 use std::env::Env;
 use std::io::Write;
+use std::{env, io};
 use thiserror::Error;
 
 /// Why a run ended with nothing printed.
@@ -66,7 +66,7 @@ fn status_of(odd: bool, missing: bool) -> u8
     }
 }
 
-/// The words behind the program's name. Words that are no text are not accepted.
+/// The words after the program's name. Words that are no text are not accepted.
 fn words_of<R: Env + AllocGlobal>(rt: &R) -> Result<Vec<String>, Fault> {
     let mut words = Vec::new(rt.alloc());
     let Ok(args) = env::args(rt) else {

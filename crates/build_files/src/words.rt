@@ -4,8 +4,8 @@ ghost use Rattle.std.specs.Option.{option_copied};
 ghost use Rattle.clap.specs.Words.{fault_of, matches_of, first_of, rows_of, found_of, kind_of};
 ghost use Rattle.build_files.specs.Command.{command, AsksForFile};
 
-use clap::{Arg, ArgAction, ArgMatches, Command, Error};
 use clap::error::ErrorKind;
+use clap::{Arg, ArgAction, ArgMatches, Command, Error};
 use object_values::Memory;
 use std::alloc::Global;
 

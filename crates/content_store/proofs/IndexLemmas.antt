@@ -72,7 +72,7 @@ module _ (key_of : List ℕ → List ℕ) (bodies : Bodies) (first : ℕ → Opt
       | inr clashes ↦ All-contains (λ n. slice_get bodies n ≢ Some body) clashing i not_others clashes is
     ]))
 
-  -- ---- the body behind the others
+  -- ---- the body after the others
 
   grown : (i : ℕ) → i < length bodies → i < length (bodies ++ body ∷ [])
   grown i h = omega (arith, length-append bodies (body ∷ []), h)

@@ -11,7 +11,7 @@ place_of_body body [] = None
 place_of_body body (b ∷ bodies) =
     cond (pointwise nat_eq body b) (Some 0) (option_map suc (place_of_body body bodies))
 
--- with the body behind the others, where it stands nowhere
+-- with the body after the others, where it stands nowhere
 abbrev pub with_body : List ℕ → Bodies → Bodies
 with_body body bodies = cond (is_some (place_of_body body bodies)) bodies (bodies ++ body ∷ [])
 

@@ -145,7 +145,7 @@ impl<K: Keying> Contents<K> {
         find_from(&self.bodies, keyed, &self.clashing, body)
     }
 
-    // Puts a body that stands nowhere, and has this quick hash, behind the others.
+    // Puts a body that stands nowhere, and has this quick hash, after the others.
     #[tactic(auto, using(crate::proofs::BodyLemmas::place_new))]
     fn add(&mut self, hash: u64, body: Text) -> Result<u64, Memory>
         requires hash { hash ≡ hash_of body }

@@ -14,13 +14,13 @@ pub fn numbers_are_exact()
         → place_of_body b (bodies ++ later) ≡ Some n → (m ≡ n) ↔ (a ≡ b) }
 {}
 
-/// Bodies come behind the others.
+/// Bodies come after the others.
 pub fn later_bodies_are_behind()
     ensures { (body : List ℕ) (bodies : Bodies)
         → (later : Bodies) × (with_body body bodies ≡ bodies ++ later) }
 {}
 
-/// A number keeps its bytes, whatever comes behind.
+/// A number keeps its bytes, whatever comes after.
 pub fn numbers_keep_their_bytes()
     ensures { (bodies later : Bodies) (body : List ℕ) (id : ℕ) → slice_get bodies id ≡ Some body
         → slice_get (bodies ++ later) id ≡ Some body }

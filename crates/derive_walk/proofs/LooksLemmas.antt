@@ -18,7 +18,7 @@ use Rattle.derive_walk.specs.Walks.{Walked}
 use Rattle.derive_walk.specs.Looks.{LooksAreFew, LooksOnce, lost, met_by, met_in, one_if, count_with_steps}
 use Rattle.derive_walk.proofs.AdvanceLemmas.{seen_so}
 
--- one behind the other
+-- one after the other
 pub few_then : (some more most before mid now spare : ℕ) → LooksAreFew some more before mid 0 → LooksAreFew more most mid now spare → LooksAreFew some most before now spare
 few_then some more most before mid now spare first second = record { later = omega (arith, first.later, second.later); each = omega (arith, first.each, second.each) }
 

@@ -11,7 +11,7 @@ use Rattle.meaning_derive.specs.Chains.{AreDifferent}
 use Rattle.derive_walk.specs.declared.done.Done.{Done}
 use Rattle.derive_walk.specs.Tables.{Entries, Waits, done_in, done_nodes, height_in, height_or, heights_of}
 
--- ---- an entry behind the others
+-- ---- an entry after the others
 
 module _ {V : Type 0} where
   -- those that are there stay

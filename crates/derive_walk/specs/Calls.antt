@@ -27,7 +27,7 @@ AreOnce (c ∷ calls) = (IsIn c calls → ⊥) × AreOnce calls
 abbrev pub call_in : Call → List Call → Bool
 call_in c calls = list_any (call_eq.eq c) calls
 
--- with the call behind the others, where it isn't there
+-- with the call after the others, where it isn't there
 abbrev pub put_in : Call → List Call → List Call
 put_in c calls = cond (call_in c calls) calls (calls ++ c ∷ [])
 

@@ -18,7 +18,7 @@ survey_of done waits nodes = record {
   unvisited = unvisited_in (heights_of done waits) nodes;
 }
 
--- Behind any nodes before, these are taken in.
+-- After any nodes before, these are taken in.
 abbrev pub TakesInNodes : Entries → Waits → List Node → Survey → Survey → Type 0
 TakesInNodes done waits nodes old new =
     (before : List Node) → old ≡ survey_of done waits before

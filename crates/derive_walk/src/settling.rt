@@ -17,7 +17,10 @@ use crate::known::Known;
 use crate::setting::Setting;
 use crate::wanted::Wanted;
 use node_tasks::{Needed, call_for, settle};
-use object_values::{Bytes, Call, Copied, Memory, Message, Node, Outcome, Seq, SharedSeq, Sources, Status, Text, Value, View};
+use object_values::{
+    Bytes, Call, Copied, Memory, Message, Node, Outcome, Seq, SharedSeq, Sources, Status, Text,
+    Value, View,
+};
 use odin_nodes::label_of;
 use odin_outside::Steps;
 use std::alloc::Global;

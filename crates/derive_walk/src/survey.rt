@@ -45,7 +45,7 @@ impl Survey {
         }
     }
 
-    /// Of the needs that count, and behind them of the sources of the names. Only nodes that were
+    /// Of the needs that count, and after them of the sources of the names. Only nodes that were
     /// not visited are copied.
     pub fn of_needs(
         alloc: Global,

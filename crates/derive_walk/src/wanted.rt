@@ -57,7 +57,7 @@ impl Wanted {
         self.calls.contains(call)
     }
 
-    /// Adds the call behind the others, where it isn't there.
+    /// Adds the call after the others, where it isn't there.
     pub fn add(&mut self, call: Call) -> Result<(), Memory>
         ensures ok { OnOk result (self.new ≡ put_in call self.old) }
         ensures err { OnErr result (self.new ≡ self.old) }

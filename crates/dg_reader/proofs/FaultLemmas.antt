@@ -65,7 +65,7 @@ stopped e text place (behind e2 f text2 t rest place2 k s more) p =
 
 -- ---- the fault
 
--- declarations and further tokens, behind which something stands that isn't expected
+-- declarations and further tokens, after which something stands that isn't expected
 record Faulty (text : List ℕ) (ts : List Token) (place : List ℕ) (f : Expected) : Type 0 where
   low : length text ≤ graph_limit
   read : Tokens text ts place

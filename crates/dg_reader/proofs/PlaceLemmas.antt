@@ -49,6 +49,6 @@ last_piece (b ∷ text) (suc end) lt after at =
           record { some = rw e (omega arith); last = rw e (last_put b b (cut_lines text).full (cut_lines text).last some ∙ p.last ∙ s) }
     ]
 
--- what stands behind the last LF
+-- what stands after the last LF
 pub behind_last : (text : List ℕ) (end : ℕ) → end < length text → ((k : ℕ) → end < k → k < length text → get_or text k 0 ≢ 10) → get_or text end 0 ≡ 10 → (cut_lines text).last ≡ drop (end + 1) text
 behind_last text end lt after at = (last_piece text end lt after at).last

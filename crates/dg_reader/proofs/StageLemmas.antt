@@ -21,9 +21,9 @@ same_stops l m text place same n s = go (expect [] m) text place s refl same
 not_start : (l : Stage) → (l ≡ between → ⊥) → expect [] l ≡ start → ⊥
 not_start l n e = n (ap (λ (x : Expected). x.stage) e)
 
--- ---- behind a kind
+-- ---- after a kind
 
--- without `is`, only the end of the declaration is expected behind a kind
+-- without `is`, only the end of the declaration is expected after a kind
 pub supers_ending : (text : List ℕ) → IsNotAt (word (codes "is")) text → CarriesStops (expect [] supers) text (expect [] ending) text
 supers_ending text none place s = same_stops supers ending text place same (not_start supers (λ e. cc)) s
   where
@@ -48,7 +48,7 @@ behind_ids l m text n words texts ends opens closes none place s = same_stops l 
     same opening left b = opens
     same closing left b = closes
 
--- and behind supertypes
+-- and after supertypes
 pub super_ids_ending : (text : List ℕ) → IsNotAt comma text → CarriesStops (expect [] super_ids) text (expect [] ending) text
 super_ids_ending text none = behind_ids super_ids ending text (λ e. cc) (λ w. refl) (λ s. refl) refl refl refl none
 

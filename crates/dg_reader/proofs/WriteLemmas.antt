@@ -59,7 +59,7 @@ extras_written es e a b c v w = subst (λ ts. Writes ts a c) (extra_tokens_more 
 
 -- ---- lines
 
--- behind the first token, and the LF
+-- after the first token, and the LF
 rest_spelled : (t : Token) (ts : List Token) → tokens_spelling (t ∷ ts) ≡ token_spelling t ++ (line_from (is_opening t) ts ++ 10 ∷ [])
 rest_spelled t [] = refl
 rest_spelled t (u ∷ ts) =

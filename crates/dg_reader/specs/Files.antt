@@ -11,7 +11,7 @@ use Rattle.dg_reader.specs.declared.read.GraphFile.{GraphFile}
 use Rattle.dg_reader.specs.declared.fault.ReadFault.{ReadFault}
 use Rattle.dg_reader.specs.declared.fault.ReadFault.TheVariants.{TooLong, Syntax, Check, Memory}
 
--- The declaration behind so many others begins at this place, from 0.
+-- The declaration after so many others begins at this place, from 0.
 pub record BeginsAt (text : List ℕ) (decls : List Decl) (count place : ℕ) : Type 0 where
   pub within : place ≤ length text
   pub before : Tokens text (graph_tokens (take count decls)) (drop place text)

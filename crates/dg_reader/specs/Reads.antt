@@ -63,13 +63,13 @@ pub record ReadsSupers (ids : List (List ℕ)) (text rest : List ℕ) : Type 0 w
   pub tokens : Tokens text (optional_tokens (codes "is") ids) rest
   pub leads : CarriesStops (expect [] supers) text (expect [] ending) rest
 
--- `[ "uses" ID { "," ID } ]`, behind the last string
+-- `[ "uses" ID { "," ID } ]`, after the last string
 pub record ReadsUses (ids : List (List ℕ)) (text rest : List ℕ) : Type 0 where
   pub each : All IsId ids
   pub tokens : Tokens text (optional_tokens (codes "uses") ids) rest
   pub leads : HasNone any_string text → CarriesStops (expect [] strings) text (expect [] extras) rest
 
--- `[ "closure" ID ]`, behind the last extra
+-- `[ "closure" ID ]`, after the last extra
 pub record ReadsClosure (id : Option (List ℕ)) (text rest : List ℕ) : Type 0 where
   pub each : IfSome id IsId
   pub tokens : Tokens text (closure_tokens id) rest
@@ -94,7 +94,7 @@ pub record ReadsKind (k : Kind) (ids : List (List ℕ)) (text rest : List ℕ) :
   pub tokens : Tokens text (kind_tokens k ids) rest
   pub leads : CarriesStops (expect [] kind) text (expect [] ending) rest
 
--- what stands behind `"run"`
+-- what stands after `"run"`
 pub record ReadsTool (tool : ToolDecl) (text rest : List ℕ) : Type 0 where
   pub spelled : IsWord tool.version → length text ≤ graph_limit → IsSpellableTool tool
   pub tokens : Tokens text (string_tokens tool.words ++ (optional_tokens (codes "uses") tool.uses ++ (extra_tokens tool.extras ++ closure_tokens tool.closure))) rest
@@ -164,6 +164,6 @@ opened_part = open_mark ∷ a_part
 abbrev pub HaltsInIds : List ℕ → List ℕ → Stop → Type 0
 HaltsInIds text place stop = (stage : Stage) → step_at stage comma ≡ Some (expect (identifier ∷ []) stage) → TokensHalt stop (expect (identifier ∷ []) stage) text place
 
--- on the way of a maker, whatever is behind it
+-- on the way of a maker, whatever is after it
 abbrev pub HaltsInWay : List ℕ → List ℕ → Stop → Type 0
 HaltsInWay text place stop = (more : List Class) (stage : Stage) → TokensHalt stop (expect (way_classes more) stage) text place

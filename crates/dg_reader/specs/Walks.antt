@@ -10,7 +10,7 @@ use Rattle.dg_reader.specs.declared.cursor.Wanted.TheVariants.{Id, Word, String,
 
 -- ---- one token
 
--- The text begins with the token, and behind it and the gap there comes the rest.
+-- The text begins with the token, and after it and the gap there comes the rest.
 pub record TakesToken (text : List ℕ) (t : Token) (rest : List ℕ) : Type 0 where
   pub left : List ℕ
   pub begins : BeginsWith text t left
@@ -77,6 +77,6 @@ TokensHalt Memory e text place = ⊤
 abbrev pub TokensHaltAt : Expected → List ℕ → List ℕ → Stop → Type 0
 TokensHaltAt e text place stop = TokensHalt stop e text place
 
--- it stopped where a token of this class was expected, whatever was behind it
+-- it stopped where a token of this class was expected, whatever was after it
 abbrev pub TokensHaltBefore : Class → List ℕ → List ℕ → Stop → Type 0
 TokensHaltBefore class text place stop = (more : List Class) (stage : Stage) → TokensHalt stop (expect (class ∷ more) stage) text place

@@ -18,7 +18,7 @@ abbrev pub line_from : Bool → List Token → List ℕ
 line_from glued [] = []
 line_from glued (t ∷ ts) = gap_before glued t ++ (token_spelling t ++ line_from (is_opening t) ts)
 
--- whether no space stands before what comes behind the tokens
+-- whether no space stands before what comes after the tokens
 abbrev pub glued_behind : Bool → List Token → Bool
 glued_behind glued [] = glued
 glued_behind glued (t ∷ ts) = glued_behind (is_opening t) ts

@@ -58,7 +58,7 @@ impl<'t> Token<'t> {
     }
 }
 
-/// The token with which the text begins, and what stands behind it. `None` is also given at the end of a text.
+/// The token with which the text begins, and what stands after it. `None` is also given at the end of a text.
 pub fn token_at(text: &[u8]) -> Option<(Token<'_>, &[u8])>
     ensures { option_map (λ read. taken (token_view read.0) read.1.now) result ≡ token_at text.now }
 {
@@ -73,7 +73,7 @@ pub fn token_at(text: &[u8]) -> Option<(Token<'_>, &[u8])>
     }
 }
 
-/// What stands behind the blanks and the comments with which the text begins.
+/// What stands after the blanks and the comments with which the text begins.
 pub fn past_gap(text: &[u8]) -> &[u8]
     ensures { result.now ≡ past_gap false text.now }
 {

@@ -10,7 +10,7 @@ use crate::lexer::Token;
 use object_values::{Bytes, Decl, Make, MakerDecl, ToolDecl};
 
 impl<'t> Cursor<'t> {
-    /// What stands behind `"tool"`.
+    /// What stands after `"tool"`.
     pub(crate) fn tool(&mut self) -> Result<Decl, Stop>
         ensures ok { IfOk result (λ decl. HeadBehind (codes "tool") decl self.old self.new) }
         ensures err { IfErr result (TokensHaltAt (expect tool_front strings) self.old self.new) }
@@ -28,7 +28,7 @@ impl<'t> Cursor<'t> {
         }))
     }
 
-    // What stands behind `"run"`.
+    // What stands after `"run"`.
     fn options(&mut self, version: Bytes) -> Result<ToolDecl, Stop>
         ensures version { IfOk result (λ tool. tool.version ≡ version) }
         ensures ok { IfOk result (λ tool. ReadsTool tool self.old self.new) }
@@ -48,7 +48,7 @@ impl<'t> Cursor<'t> {
         })
     }
 
-    /// What stands behind `"read"`, `"each"` or `"pack"`.
+    /// What stands after `"read"`, `"each"` or `"pack"`.
     pub(crate) fn plain(&mut self, make: Make) -> Result<Decl, Stop>
         ensures ok { IfOk result (λ decl. PlainBehind make decl self.old self.new) }
         ensures err { IfErr result (TokensHaltAt (expect way_front ending) self.old self.new) }

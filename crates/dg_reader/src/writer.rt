@@ -1,4 +1,4 @@
-// Tokens, written one behind the other.
+// Tokens, written one after the other.
 ghost use Rattle.std.specs.Prelude.{◌≡◌, ◌++◌, ◌∷◌, [], OnOk};
 ghost use Rattle.meaning_graph.specs.Tokens.{word, string};
 ghost use Rattle.meaning_graph.specs.Grammar.{id_tokens, optional_tokens, part_tokens, string_tokens, extra_tokens};

@@ -53,7 +53,7 @@ AllTold c = (x : Text) → NameIsFound c x → IsIn x (told_names c.told)
 
 -- ---- the order of the telling
 
--- the names, with the name behind them where it is new
+-- the names, with the name after them where it is new
 abbrev pub with_name : List Text → Text → List Text
 with_name names x = cond (has_name x names) names (names ++ x ∷ [])
 

@@ -60,7 +60,7 @@ impl Names {
         self.names.as_slice().get(place)
     }
 
-    /// Adds the name behind the others, where it is new, and gives its place.
+    /// Adds the name after the others, where it is new, and gives its place.
     pub(crate) fn add(&mut self, alloc: Global, name: &Name) -> Result<usize, Memory>
         ensures names { OnOk result (self.new ≡ with_name self.old name.now) }
         ensures place { IfOk result (λ place. slice_get self.new place ≡ Some name.now) }
@@ -73,7 +73,7 @@ impl Names {
         Ok(place)
     }
 
-    /// Adds the names behind the others, as far as they are new. After want of memory all is as
+    /// Adds the names after the others, as far as they are new. After want of memory all is as
     /// before.
     pub fn add_all(&mut self, alloc: Global, names: &[Name]) -> Result<(), Memory>
         ensures ok { OnOk result (self.new ≡ with_names self.old names.now) }

@@ -17,7 +17,7 @@ module _ {A : Type 0} where
   last_or_before (z ∷ xs) x y zero h = inl h
   last_or_before (z ∷ xs) x y (suc i) h = elim (last_or_before xs x y i h) [ inl before ↦ inl before | inr last ↦ inr (ap suc last.0, last.1) ]
 
-  -- behind the others
+  -- after the others
   pub behind : (xs ys : List A) (y : A) (i : ℕ) → slice_get ys i ≡ Some y → slice_get (xs ++ ys) (length xs + i) ≡ Some y
   behind [] ys y i h = let e : i ≡ 0 + i = omega arith in subst (λ (k : ℕ). slice_get ys k ≡ Some y) e h
   behind (x ∷ xs) ys y i h = let e : suc (length xs + i) ≡ suc (length xs) + i = omega arith in subst (λ (k : ℕ). slice_get (x ∷ (xs ++ ys)) k ≡ Some y) e (behind xs ys y i h)

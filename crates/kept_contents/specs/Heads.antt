@@ -28,7 +28,7 @@ call_with head parts = record { tool = head.tool; version = head.version; words 
 abbrev pub place_of_head : CallHead → List CallHead → Option ℕ
 place_of_head head heads = position (head_eq.eq head) heads
 
--- some came behind the others
+-- some came after the others
 abbrev pub AreMore : List CallHead → List CallHead → Type 0
 AreMore old new = (later : List CallHead) × (new ≡ old ++ later)
 

@@ -14,7 +14,7 @@ pub record ContentStock : Type 0 where
   pub texts : Bodies
   pub room : ℕ
 
--- texts came behind the others
+-- texts came after the others
 abbrev pub IsGrownFrom : Bodies → Bodies → Type 0
 IsGrownFrom old new = (later : Bodies) × (new ≡ old ++ later)
 

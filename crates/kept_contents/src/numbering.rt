@@ -1,4 +1,4 @@
-// From texts to the numbers of a record: those of contents that the file has, and of those that a batch adds behind them.
+// From texts to the numbers of a record: those of contents that the file has, and of those that a batch adds after them.
 ghost use Rattle.std.specs.Prelude.{◌≡◌, ◌+◌, IfOk, OnOk, Some};
 ghost use Rattle.meaning_records.specs.Tables.{IsText, IsPartOf, ArePartsOf, IsCallOf, IsOutputOf, AreOutputsOf, IsOutcomeOf};
 ghost use Rattle.meaning_records.specs.Batches.{body_of};
@@ -9,7 +9,10 @@ ghost use Rattle.kept_contents.specs.Added.{AddsOne, AddsTexts, AreHeld, content
 use crate::added::AddedTexts;
 use crate::shared::Shared;
 use crate::table::ContentTable;
-use object_values::{Call, CallPart, Copied, Memory, Outcome, Part, Seq, StoredCall, StoredOutcome, StoredOutput, StoredPart, Text, copy_five};
+use object_values::{
+    Call, CallPart, Copied, Memory, Outcome, Part, Seq, StoredCall, StoredOutcome, StoredOutput,
+    StoredPart, Text, copy_five,
+};
 use std::alloc::Global;
 
 /// The number of a text, which is added where neither the file nor the batch has it.
@@ -57,7 +60,7 @@ fn number_shared(
     number_behind(table.len(), place)
 }
 
-// The number of the content at a place behind so many.
+// The number of the content at a place after so many.
 fn number_behind(len: usize, place: usize) -> Result<u32, Memory>
     ensures { IfOk result (λ number. number ≡ len + place) }
 {

@@ -14,7 +14,10 @@ use crate::held::HeldCall;
 use crate::inputs::feed_part;
 use crate::table::ContentTable;
 use content_store::ShaHasher;
-use object_values::{Call, CallPart, Copied, Memory, Outcome, Part, Seq, StoredCall, StoredOutcome, StoredOutput, StoredPart};
+use object_values::{
+    Call, CallPart, Copied, Memory, Outcome, Part, Seq, StoredCall, StoredOutcome, StoredOutput,
+    StoredPart,
+};
 use std::alloc::Global;
 
 /// The call of a record, which is held from now on; its inputs share the texts of the table. `None` where a content isn't there or is no text.

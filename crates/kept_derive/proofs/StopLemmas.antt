@@ -29,7 +29,7 @@ use Rattle.kept_derive.proofs.LawLemmas.{runs_are_true}
 
 -- ---- tools that answer by a table
 
--- What is kept behind others is true where both are.
+-- What is kept after others is true where both are.
 true_behind : (table : Table) (calls given : Calls) → HasMore (kept_outcome calls) (table_outcomes table) → HaveCome (Some table) given → HasMore (kept_outcome (calls ++ given)) (table_outcomes table)
 true_behind table calls given right came call o e = by_kept (kept_outcome calls call) refl
   where

@@ -58,7 +58,7 @@ pub record AreCounted (first last spare : ℕ) (walked : Walked) : Type 0 where
   pub later : first ≤ last
   pub each : last ≤ first + sought_by walked + spare
 
--- the kept calls stay, and others stand behind them
+-- the kept calls stay, and others stand after them
 pub record KeepsMore (old new : Store) : Type 0 where
   pub more : Calls
   pub is : new.kept.tables.calls ≡ old.kept.tables.calls ++ more

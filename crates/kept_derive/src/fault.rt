@@ -3,7 +3,7 @@ use object_values::Memory;
 use odin_store::StoreFault;
 
 /// Why a node was not derived. `Spawn`: a child program was not started, or its end was lost. `Disk`: the store is spent. `Full`: a record of
-/// this length doesn't fit behind this end of the store.
+/// this length doesn't fit after this end of the store.
 #[derive(Clone, Copy, Debug, PartialEq, Eq)]
 pub enum KeptFault {
     Spawn,

@@ -76,7 +76,7 @@ pub record Commits (kept : Holding) (batch : Batch) (next : Tables) : Type 0 whe
 abbrev pub items_of_texts : List Shared → List Item
 items_of_texts added = map Content (contents_of (texts_of added))
 
--- and the item behind them
+-- and the item after them
 abbrev pub items_with : List Shared → Item → List Item
 items_with added last = items_of_texts added ++ last ∷ []
 
@@ -88,7 +88,7 @@ pub record MakesBatch (added : List Shared) (last : Item) (call : Option (HeldCa
   pub call_is : batch.call ≡ call
   pub commits : Commits kept batch (with_batch kept.tables batch)
 
--- A batch of these items is prepared: its bytes are theirs, they may come behind the tables, and taking it in makes of the tables what they make.
+-- A batch of these items is prepared: its bytes are theirs, they may come after the tables, and taking it in makes of the tables what they make.
 pub record Prepares (items : List Item) (kept : Holding) (batch : Batch) : Type 0 where
   pub fit : All item.fits items
   pub spelled : batch.payload ≡ spell_batch items

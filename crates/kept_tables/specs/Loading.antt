@@ -18,18 +18,18 @@ IsLoaded contents (Put name number) given = (text : Text) × IsText contents num
 IsLoaded contents (Dropped name) given = given ≡ loaded.Dropped name
 IsLoaded contents (Kept call outcome) given = given ≡ loaded.CallKept
 
--- An item stands at a place, may come behind these tables, and makes those of them.
+-- An item stands at a place, may come after these tables, and makes those of them.
 pub record LoadsItem (payload : List ℕ) (at end : ℕ) (given : Loaded) (old new : Tables) : Type 0 where
   pub it : Item
   pub stands : ParsesAt item payload at end it
   pub loads : Loads old it new
   pub gives : IsLoaded old.contents it given
 
--- No item stands there that may come behind these tables.
+-- No item stands there that may come after these tables.
 abbrev pub LoadsNothing : List ℕ → ℕ → Tables → Type 0
 LoadsNothing payload at old = (it : Item) (end : ℕ) (new : Tables) → ParsesAt item payload at end it → ¬ Loads old it new
 
--- An item may come behind these tables, and this is given of it.
+-- An item may come after these tables, and this is given of it.
 pub record TakesInItem (it : Item) (old new : Tables) (given : Loaded) : Type 0 where
   pub loads : Loads old it new
   pub gives : IsLoaded old.contents it given

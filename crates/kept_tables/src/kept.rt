@@ -97,8 +97,8 @@ impl Kept {
         }
     }
 
-    /// Takes in the item that stands at a place of a payload, and gives what it brings and the place behind it. `None` where no item stands there that
-    /// may come behind what is kept, as far as the tables tell. After `None` or want of memory the tables are used no more.
+    /// Takes in the item that stands at a place of a payload, and gives what it brings and the place after it. `None` where no item stands there that
+    /// may come after what is kept, as far as the tables tell. After `None` or want of memory the tables are used no more.
     pub fn load_item(
         &mut self,
         alloc: Global,

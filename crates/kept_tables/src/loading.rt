@@ -40,7 +40,7 @@ fn are_short(parts: &[Part]) -> bool
 }
 
 impl Kept {
-    // Takes an item in, and gives what it brings. `None` where it may not come behind these tables.
+    // Takes an item in, and gives what it brings. `None` where it may not come after these tables.
     pub(crate) fn take_in(&mut self, alloc: Global, item: Item) -> Result<Option<Loaded>, Memory>
         ensures some { IfOk result (λ read.
             IfSome read (TakesInItem item self.old.tables self.new.tables)) }

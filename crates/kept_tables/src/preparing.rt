@@ -125,7 +125,7 @@ impl Kept {
         stored_outcome(alloc, &mut self.contents, added, outcome)
     }
 
-    // The batch of these texts and the item behind them.
+    // The batch of these texts and the item after them.
     fn prepare(
         &mut self,
         alloc: Global,
@@ -157,7 +157,7 @@ impl Kept {
     }
 }
 
-// The contents of the texts, and the item behind them.
+// The contents of the texts, and the item after them.
 fn items_of(alloc: Global, added: &[Shared], last: Item) -> Result<Seq<Item>, Memory>
     ensures { IfOk result (λ items. items ≡ items_with added.now last) }
 {

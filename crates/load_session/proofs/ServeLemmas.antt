@@ -15,7 +15,7 @@ use Rattle.load_session.specs.Session.{LoadStep, puts, asks}
 use Rattle.load_session.proofs.StepLemmas.{put_calls, keeps_calls}
 use Rattle.load_session.specs.Served.{Moment, ServesSteps, none, put, ask, StopsAtStep, StepsStopFor}
 
--- ---- one behind another
+-- ---- one after another
 
 pub serves_more
     : (g : Graph) (old : Moment) (xs : List LoadStep) (some : List (Calls × Reply)) (mid : Moment) (ys : List LoadStep) (bs : List (Calls × Reply)) (new : Moment)
@@ -84,7 +84,7 @@ stops_first g old xs ys (fault.NotOurs at) stops = absurd stops
 stops_first g old xs ys (fault.Full at size) stops = first_at g old xs ys (fault.Full at size) stops
 stops_first g old xs ys fault.Memory stops = tt
 
--- and so do those behind steps that were served
+-- and so do those after steps that were served
 pub stops_then : (g : Graph) (old : Moment) (xs : List LoadStep) (some : List (Calls × Reply)) (mid : Moment) (ys : List LoadStep) (e : JournalFault)
     → ServesSteps g old xs some mid → StepsStopFor g mid ys e → StepsStopFor g old (xs ++ ys) e
 stops_then g old xs some mid ys fault.Disk serves stops = then_at g old xs some mid ys fault.Disk serves stops

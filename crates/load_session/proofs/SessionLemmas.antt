@@ -38,7 +38,7 @@ at_stop r s Q is q =
 
 -- ---- one step
 
--- the calls that were run stand behind the others
+-- the calls that were run stand after the others
 calls_behind : (old new : Session) (given : Calls) (reply : Reply) → HasAnswered old.engine.graph (moment old) given reply (moment new) → session_calls new ≡ session_calls old ++ given
 calls_behind old new given reply has = ap (λ (h : held.Held). h.calls) has.goes.holds ∙ keeps_calls given (held_in old.engine.store)
 
@@ -173,7 +173,7 @@ ask_stops old new e rests fails cause past =
 pub nothing_served : (session : Session) → IsAtRest session → HasServed session [] [] session
 nothing_served session rests = record { graph = refl; serves = none; rests = rests; epoch = omega arith }
 
--- more steps may be served behind those that were
+-- more steps may be served after those that were
 pub may_go : (all more : ℕ) (old : Session) (steps : List LoadStep) (answers : List (Calls × Reply)) (new : Session) → MayServeSteps all old → HasServed old steps answers new
     → length steps + more ≤ all → MayServeSteps more new
 may_go all more old steps answers new may served le =

@@ -36,7 +36,7 @@ pub put_calls : (name text : Text) (store next : Store) (disk after : LoadFile) 
     → HasPut told_of_disk name text store next disk after changed → next.kept.tables.calls ≡ store.kept.tables.calls
 put_calls name text store next disk after changed has = put_held changed name text store next has.goes.holds
 
--- and each call that is kept stands behind them
+-- and each call that is kept stands after them
 pub keeps_calls : (given : Calls) (held : Held) → (trails.after_changes store_keeping (keeps_of given) held).calls ≡ held.calls ++ given
 keeps_calls [] held = sym (append-nil held.calls)
 keeps_calls (x ∷ given) held =

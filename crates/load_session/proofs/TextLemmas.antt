@@ -37,7 +37,7 @@ list_more n = ap list_text (add-one n) ∙ list_next n
 pub steps_more : (f : ℕ → LoadStep) (count : ℕ) → map f (range_with_len 1 (count + 1)) ≡ map f (range_with_len 1 count) ++ f (count + 1) ∷ []
 steps_more f count = map-range_with_len_more f 1 count (count + 1) (omega arith)
 
--- and those behind them
+-- and those after them
 pub steps_split : (f : ℕ → LoadStep) (count all : ℕ) → count ≤ all → map f (range_with_len 1 all) ≡ map f (range_with_len 1 count) ++ drop count (map f (range_with_len 1 all))
 steps_split f count all le = sym (take-append-drop count (map f (range_with_len 1 all))) ∙ ap (λ (l : List LoadStep). l ++ drop count (map f (range_with_len 1 all))) (take-map-range_with_len f 1 all count le)
 

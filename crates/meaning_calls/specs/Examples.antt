@@ -175,7 +175,7 @@ two_outputs = record {
   outs = codes "p" ∷ codes "q" ∷ [];
 }
 
--- what is wrong with outputs stands in their order, behind the lines, and then no output stays
+-- what is wrong with outputs stands in their order, after the lines, and then no output stays
 pub record SeveralOutputs : Type 0 where
   pub both : outcome_of two_outputs
       (left_by (Exit 0) (ex_file_body (codes "out.q") (codes "2") ∷ ex_file_body (codes "out.p") (codes "1") ∷ []))

@@ -23,7 +23,7 @@ pub input_is : (P : List ℕ → Type 0) (input left : Option (List ℕ)) (text 
 input_is P input None text is end h = subst (λ l. IfSome l P) (sym is) tt
 input_is P input (Some rest) text is end h = subst (λ l. IfSome l P) (sym is) (subst P (sym (ap (λ r. text ++ r) end ∙ nil_right text)) h)
 
--- what is said of all that was read, and of whatever may stand behind it, is said of the input
+-- what is said of all that was read, and of whatever may stand after it, is said of the input
 pub input_more : (P : List ℕ → Type 0) (input left : Option (List ℕ)) (text : List ℕ) → input ≡ prepended text left → ((more : List ℕ) → P (text ++ more)) → IfSome input P
 input_more P input None text is h = subst (λ l. IfSome l P) (sym is) tt
 input_more P input (Some rest) text is h = subst (λ l. IfSome l P) (sym is) (h rest)

@@ -22,7 +22,7 @@ take-append (suc n) (x ∷ a) b = let less : suc n - length (x ∷ a) ≡ n - le
 pub take-front : (n : ℕ) (a b : List ℕ) → length a ≤ n → take n (a ++ b) ≡ a ++ take (n - length a) b
 take-front n a b few = take-append n a b ∙ ap (λ t. t ++ take (n - length a) b) (take_all n a few)
 
--- two bodies of one length in front of two rests
+-- two bodies of one length before two rests
 pub same_front : (a b x y : List ℕ) → length a ≡ length b → a ++ x ≡ b ++ y → (a ≡ b) × (x ≡ y)
 same_front [] [] x y l e = (refl, e)
 same_front [] (b ∷ bs) x y l e = absurd (omega arith)
@@ -139,7 +139,7 @@ module _ {Command : Type 0} (lang : Language Command) where
     said_not_inside text said inside =
         ends_only said.items inside.items said.item said.rest inside.part said.on said.ends inside.on (part_of_short inside.part inside.short) (sym said.cuts ∙ inside.cuts)
 
-    -- and what says so says it with more bytes behind it
+    -- and what says so says it with more bytes after it
     pub said_more : (text more : List ℕ) → items.SaysEnd lang text → items.SaysEnd lang (text ++ more)
     said_more text more said = record {
       items = said.items;

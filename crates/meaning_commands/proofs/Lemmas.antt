@@ -8,7 +8,7 @@ pub use Rattle.meaning_commands.proofs.Forms.{form_reads, reads_form}
 pub use Rattle.meaning_commands.proofs.ItemLemmas.{one_cut, take-append}
 -- What is told of a sink and of a source.
 pub use Rattle.meaning_commands.proofs.ToldLemmas.{one_more_write, rest_is}
--- A session's steps, one behind the other.
+-- A session's steps, one after the other.
 pub use Rattle.meaning_commands.proofs.StreamLemmas.{Finishes-cut_short, Finishes-line, GoesOn-append, GoesOn-item, GoesOn-none, GoesOn-part, StopsAtEnd-line, StopsAtEnd-part, StopsOn-after, StopsOn-item, StopsOn-more, StopsOn-part}
 -- How far the reading has come, and how a session ends.
 pub use Rattle.meaning_commands.proofs.EndLemmas.{Reading-none, Reading-more, HasRead-none, HasRead-finish, HasRead-piece, HasRead-unread, HasRead-limit}

@@ -34,7 +34,7 @@ module _ {Command Held Code State Told : Type 0} (lang : Language Command) (Keep
   SoFar-none first start told code held same fits keeps =
       record { served = []; part = []; cuts = refl; on = tt; replies = []; state = first; run = refl; wrote = same ∙ took_none (m.sink start); fits = fits; keeps = keeps }
 
-  -- bytes that belong to the part behind the whole items
+  -- bytes that belong to the part after the whole items
   pub GoesOn-part : (bytes : List ℕ) (told : Told) (code : Code) (held held' : Held)
       → streams.Extends lang Keeps bytes held held'
       → streams.GoesOn lang Keeps m bytes told code held told code held'
@@ -62,7 +62,7 @@ module _ {Command Held Code State Told : Type 0} (lang : Language Command) (Keep
   GoesOn-append a b told told' told'' code code' code'' held held' held'' f g first start text s =
       subst (λ t. SoFar first start t told'' code'' held'') (append_assoc text a b) (g first start (text ++ a) (f first start text s))
 
-  -- a reply behind those before it
+  -- a reply after those before it
   wrote_more : (start told told' : Told) (replies : List (List ℕ)) (reply : List ℕ) → m.sink told ≡ took (m.sink start) (concat replies) → m.sink told' ≡ took (m.sink told) reply
       → m.sink told' ≡ took (m.sink start) (concat (replies ++ reply ∷ []))
   wrote_more start told told' replies reply before now =
@@ -196,7 +196,7 @@ module _ {Command Held Code State Told : Type 0} (lang : Language Command) (Keep
       subst (λ t. endings.EndsStopped lang m halt first start told'' t left) same
       (g first start (text ++ a) more left (subst (λ t. length t ≤ input_limit) (sym same) within) few (f first start text s))
 
-  -- the end of the input behind a last line
+  -- the end of the input after a last line
   pub StopsAtEnd-line : (halt : Halt) (told told' : Told) (code : Code) (held : Held) (command : Command) (kept : List ℕ)
       → ((part : List ℕ) → Keeps held part → items.IsItem lang (last_item part) command) → kept ≡ [] → machines.StopsServing lang m halt code command kept told told'
       → streams.StopsAtEnd lang Keeps m halt told code held told'
@@ -240,7 +240,7 @@ module _ {Command Held Code State Told : Type 0} (lang : Language Command) (Keep
     Finishes-cut_short told code held inside first start text left short spent s =
         record { served = s.served; part = s.part; cuts = s.cuts; on = s.on; inside = inside s.part s.keeps; replied = replied first start told text code held s; short = short; spent = spent }
 
-    -- the input ends behind a last line, which is answered
+    -- the input ends after a last line, which is answered
     pub Finishes-line : (told told' : Told) (code code' : Code) (held : Held) (command : Command) (kept : List ℕ)
         → ((part : List ℕ) → Keeps held part → items.IsItem lang (last_item part) command) → kept ≡ [] → machines.Serves lang m code code' command kept told told'
         → streams.FinishesWhole lang Keeps m told code held told'

@@ -1,7 +1,7 @@
 -- The commands, each by its line.
 --
 -- The first word of a line tells its command, and the word at the place of a name may be any that has a byte and no space: so a line with a
--- word that is no name is still that command, refused by its name, and the bytes behind a `put` are passed over with it.
+-- word that is no name is still that command, refused by its name, and the bytes after a `put` are passed over with it.
 use Rattle.std.specs.Prelude.{◌≡◌, ◌≢◌, ℕ, ◌<◌, ◌≤◌, ◌^◌, Bool, true, false, List, [], ◌∷◌, ◌++◌, length, codes}
 use Rattle.std.specs.Fmt.{decimal}
 use Rattle.meaning_texts.specs.Classes.{IsName}
@@ -40,7 +40,7 @@ pub data IsForm (line : List ℕ) : Command → Type 0 where
       → IsForm line (Remove name)
   remove_bad : (word : List ℕ) → IsNaming (codes "drop ") line word → ¬ IsName word
       → IsForm line (BadName 0)
-  -- all that stands behind the one space, which may be nothing
+  -- all that stands after the one space, which may be nothing
   ask : (text : List ℕ) → line ≡ codes "ask " ++ text → IsForm line (Ask text)
   plan : (text : List ℕ) → line ≡ codes "plan " ++ text → IsForm line (Plan text)
   sources : line ≡ codes "sources" → IsForm line Sources
@@ -55,7 +55,7 @@ pub data Spells (line : List ℕ) : Command → Type 0 where
   too_long : command_limit < length line → Spells line Bad
   formless : line ≢ [] → ((command : Command) → ¬ IsForm line command) → Spells line Bad
 
--- how many bytes behind its line belong to the command, whether they are a text or passed over
+-- how many bytes after its line belong to the command, whether they are a text or passed over
 abbrev pub bytes_after_line : Command → ℕ
 bytes_after_line (Put name count) = count
 bytes_after_line (BadName count) = count

@@ -28,11 +28,11 @@ pub record HasRead (EndsSo : List ℕ → Option (List ℕ) → Type 0) (input l
   pub within : length read ≤ input_limit
   pub ends : EndsSo read left
 
--- the item stands behind these bytes in what was read: with its LF, or as the last line of the input
+-- the item stands after these bytes in what was read: with its LF, or as the last line of the input
 abbrev pub ItemStandsAfter : List ℕ → Option (List ℕ) → List ℕ → Item → Type 0
 ItemStandsAfter read left before item = ((rest : List ℕ) × (read ≡ before ++ (item_bytes item ++ rest))) ⊎ ((read ≡ before ++ item.line) × (item.body ≡ []) × IsSpent left)
 
--- It stands there with its LF, and less than a piece was read behind it.
+-- It stands there with its LF, and less than a piece was read after it.
 pub record IsLastWithLf (read before : List ℕ) (item : Item) : Type 0 where
   pub rest : List ℕ
   pub bytes : read ≡ before ++ (item_bytes item ++ rest)
@@ -127,7 +127,7 @@ module _ {Command Code State Told : Type 0} (lang : Language Command) (m : Machi
     pub wrote : TookPart reply (took (m.sink start) (concat replies)) (m.sink told)
     pub exit : m.AtExit first start state new told
 
-  -- The last item that was read ends the run, and it and those before it were answered. What stands behind it wasn't.
+  -- The last item that was read ends the run, and it and those before it were answered. What stands after it wasn't.
   pub record EndsAtWord (first : State) (start told : Told) (read : List ℕ) (left : Option (List ℕ)) : Type 0 where
     pub served : List Item
     pub on : AllGoOn lang served

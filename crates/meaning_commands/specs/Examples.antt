@@ -40,7 +40,7 @@ pub record BadPuts : Type 0 where
   pub four : command_of (codes "put a.c 3 4") ≡ Bad
   pub no_number_first : command_of (codes "put a?c x") ≡ Bad
 
--- words that are no names, and what is passed over behind them
+-- words that are no names, and what is passed over after them
 pub record BadNames : Type 0 where
   pub byte : command_of (codes "put a?c 2") ≡ BadName 2
   pub much : command_of (codes "put a?c 1000000000") ≡ BadName 1000000000
@@ -58,7 +58,7 @@ pub record Namings : Type 0 where
   pub take_two : command_of (codes "take a b") ≡ Bad
   pub drop_behind : command_of (codes "drop a ") ≡ Bad
 
--- the text behind `ask ` and `plan ` is whatever stands there
+-- the text after `ask ` and `plan ` is whatever stands there
 pub record Requests : Type 0 where
   pub ask : command_of (codes "ask a.c +debug:o") ≡ Ask (codes "a.c +debug:o")
   pub plan : command_of (codes "plan m.sm:exe") ≡ Plan (codes "m.sm:exe")
@@ -88,7 +88,7 @@ pub record LongLines : Type 0 where
   pub name : command_of (codes "take " ++ letters 1019) ≡ BadName 0
   pub longer_name : command_of (codes "take " ++ letters 1020) ≡ Bad
 
--- how many bytes belong to a command behind its line, and which one is the last
+-- how many bytes belong to a command after its line, and which one is the last
 pub record Sizes : Type 0 where
   pub put : bytes_after_line (Put (codes "a.c") 3) ≡ 3
   pub bad_name : bytes_after_line (BadName 2) ≡ 2

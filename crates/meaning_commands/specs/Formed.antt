@@ -88,7 +88,7 @@ IsFormed (reply.Shown status body messages) = IsFormedObject status body message
 
 -- ---- texts that tell what they spell
 
--- Where two values' texts begin what is the same, they and what is behind them are the same.
+-- Where two values' texts begin what is the same, they and what is after them are the same.
 abbrev pub IsTold : {A : Type 0} → (A → List ℕ) → (A → Type 0) → Type 0
 IsTold {A} spelled IsGood =
     (a b : A) (behind rest : List ℕ) → IsGood a → IsGood b

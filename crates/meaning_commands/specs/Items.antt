@@ -1,6 +1,6 @@
--- What an input is made of: items, each a line and the bytes behind it that belong to its command.
+-- What an input is made of: items, each a line and the bytes after it that belong to its command.
 --
--- The bytes behind a `put` belong to it whatever they are, so an input is not cut into lines first: where an item ends depends on the
+-- The bytes after a `put` belong to it whatever they are, so an input is not cut into lines first: where an item ends depends on the
 -- command that its line spells.
 use Rattle.std.specs.Prelude.{◌≡◌, ◌⊎◌, ℕ, ◌<◌, Bool, true, false, List, [], ◌∷◌, ◌++◌, length}
 use Rattle.meaning_texts.specs.Lines.{HasNoLf, without_cr}
@@ -9,14 +9,14 @@ use Rattle.meaning_texts.specs.Lines.{HasNoLf, without_cr}
 pub record Language (Command : Type 0) : Type 1 where
   -- the line, without its end, is this command
   pub Spells : Command → List ℕ → Type 0
-  -- how many bytes behind its line belong to the command
+  -- how many bytes after its line belong to the command
   pub takes : Command → ℕ
   -- whether these bytes mean anything to the command; it passes over them where they don't
   pub keeps_body : Command → Bool
-  -- whether the run ends behind the command
+  -- whether the run ends after the command
   pub ends_run : Command → Bool
 
--- a command's line without its LF, and the bytes behind it that belong to the command
+-- a command's line without its LF, and the bytes after it that belong to the command
 pub record Item : Type 0 where
   pub line : List ℕ
   pub body : List ℕ
@@ -39,17 +39,17 @@ module _ {Command : Type 0} (lang : Language Command) where
     pub spelled : lang.Spells command (without_cr item.line)
     pub size : length item.body ≡ lang.takes command
 
-  -- The bytes are those that stand behind the command's line, where it keeps them.
+  -- The bytes are those that stand after the command's line, where it keeps them.
   abbrev pub SameBody : Command → List ℕ → List ℕ → Type 0
   SameBody command body given = lang.keeps_body command ≡ true → body ≡ given
 
-  -- the item is some command behind which the session goes on
+  -- the item is some command after which the session goes on
   pub record GoesOnAt (item : Item) : Type 0 where
     pub command : Command
     pub item_is : IsItem item command
     pub on : lang.ends_run command ≡ false
 
-  -- the session goes on behind each of them
+  -- the session goes on after each of them
   abbrev pub AllGoOn : List Item → Type 0
   AllGoOn [] = Unit {0}
   AllGoOn (item ∷ items) = GoesOnAt item × AllGoOn items
@@ -92,7 +92,7 @@ module _ {Command : Type 0} (lang : Language Command) where
     pub cuts : input ≡ all_bytes items ++ part
     pub short : IsCutShort part
 
-  -- the input says that the run ends: behind its first items stands one that ends it, whole
+  -- the input says that the run ends: after its first items stands one that ends it, whole
   pub record SaysEnd (input : List ℕ) : Type 0 where
     pub items : List Item
     pub on : AllGoOn items

@@ -13,11 +13,11 @@ pub record Machine (Command Code State Told : Type 0) : Type 1 where
   pub MayLeave : State → Command → List ℕ → State → Type 0
   -- between two commands: the first state, what was told at the start, the code, the state and what is told now belong together
   pub Invariant : State → Told → Code → State → Told → Type 0
-  -- at an exit: the first state, what was told at the start, the state behind the last acknowledged command, the furthest state that
+  -- at an exit: the first state, what was told at the start, the state after the last acknowledged command, the furthest state that
   -- may be left, and what is told now
   pub AtExit : State → Told → State → State → Told → Type 0
 
--- where the run may stop at a command: before its reply, within it, or behind the reply to one that ends the run
+-- where the run may stop at a command: before its reply, within it, or after the reply to one that ends the run
 pub data Halt : Type 0 where
   before_reply : Halt
   within_reply : Halt

@@ -16,7 +16,7 @@ decimal_number text =
     if bytes_eq (decimal (digits_value 10 text)) text && nat_lt (digits_value 10 text) (2 ^ 64)
     then Some (digits_value 10 text) else None
 
--- what stands before the first space, and what behind it, if there is one
+-- what stands before the first space, and what after it, if there is one
 abbrev pub before_space : List ℕ → List ℕ
 before_space [] = []
 before_space (b ∷ rest) = if b == 32 then [] else b ∷ before_space rest
@@ -25,7 +25,7 @@ abbrev pub behind_space : List ℕ → Option (List ℕ)
 behind_space [] = None
 behind_space (b ∷ rest) = if b == 32 then Some rest else behind_space rest
 
--- what stands behind these first bytes, if the line has them
+-- what stands after these first bytes, if the line has them
 abbrev pub behind : List ℕ → List ℕ → Option (List ℕ)
 behind [] line = Some line
 behind (b ∷ word) [] = None
@@ -35,7 +35,7 @@ behind (b ∷ word) (c ∷ line) = if b == c then behind word line else None
 abbrev pub is_argument : List ℕ → Bool
 is_argument word = not (is_empty word) && list_all (λ b. not (b == 32)) word
 
--- the command over the word where it is a name, else its refusal, behind which so many bytes are
+-- the command over the word where it is a name, else its refusal, after which so many bytes are
 -- passed over
 abbrev pub naming : Command → ℕ → List ℕ → Option Command
 naming command count word =

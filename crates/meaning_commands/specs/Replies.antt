@@ -15,7 +15,7 @@ use Rattle.object_values.specs.declared.replies.ShownBody.TheVariants.{Nothing, 
 abbrev pub word_and_number : List ℕ → ℕ → List ℕ
 word_and_number word n = word ++ codes " " ++ decimal n
 
--- a line with the count of the lines behind it, and these lines
+-- a line with the count of the lines after it, and these lines
 abbrev pub counted_lines : List ℕ → List (List ℕ) → List ℕ
 counted_lines word lines = with_lf (word_and_number word (length lines)) ++ flat_map with_lf lines
 

@@ -14,7 +14,7 @@ module _ {Command Held : Type 0} (lang : Language Command) (Keeps : Held → Lis
   abbrev pub Extends : List ℕ → Held → Held → Type 0
   Extends bytes held held' = (part : List ℕ) → Keeps held part → Keeps held' (part ++ bytes)
 
-  -- the bytes make the part that is held an item, of this command and with these bytes behind its line, where it keeps them
+  -- the bytes make the part that is held an item, of this command and with these bytes after its line, where it keeps them
   pub record IsMadeWhole (part bytes : List ℕ) (command : Command) (kept : List ℕ) : Type 0 where
     pub item : Item
     pub bytes_are : part ++ bytes ≡ item_bytes item
@@ -43,7 +43,7 @@ module _ {Command Held Code State Told : Type 0} (lang : Language Command) (Keep
   GoesOn bytes told code held told' code' held' =
       (first : State) (start : Told) (text : List ℕ) → SoFar first start text told code held → SoFar first start (text ++ bytes) told' code' held'
 
-  -- on its way through the bytes it stops, whatever came before and whatever was read behind them in one piece, as far as may be read
+  -- on its way through the bytes it stops, whatever came before and whatever was read after them in one piece, as far as may be read
   abbrev pub StopsOn : Halt → List ℕ → Told → Code → Held → Told → Type 0
   StopsOn halt bytes told code held told' =
       (first : State) (start : Told) (text more : List ℕ) (left : Option (List ℕ))

@@ -36,7 +36,7 @@ pub fn long_lines()
     ensures { LongLines }
 {}
 
-/// The bytes behind a line, and the end of a run.
+/// The bytes after a line, and the end of a run.
 pub fn sizes()
     ensures { Sizes }
 {}

@@ -43,7 +43,7 @@ module _ (g : Graph) (seen : Results) where
   chain_on [] n m k c need = (c.0, (need, tt))
   chain_on (f ∷ front) n m k c need = (c.0, leads_on front f m k c.1 need)
 
-  -- without what stands behind a node
+  -- without what stands after a node
   leads_up_to : (front back : List Node) (n m : Node) → LeadsOn g seen n (front ++ m ∷ back) → LeadsOn g seen n (front ++ m ∷ [])
   leads_up_to [] back n m l = (l.0, tt)
   leads_up_to (f ∷ front) back n m l = (l.0, leads_up_to front back f m l.1)

@@ -129,7 +129,7 @@ open_next cs l us h = let n : Next open_mark cs l us = next open_mark cs l us h 
     open_of opening rest is e r = record { rest = rest; is = is; runs = r }
     open_of closing rest is e r = absurd (both_ways false refl e)
 
--- ---- what the tokens behind a stage are
+-- ---- what the tokens after a stage are
 
 record Begin (us : List Token) : Type 0 where
   decls : List Decl
@@ -451,7 +451,7 @@ param_answer w us ih e h =
     let x : Tail n.rest = ih ending n.rest (omega arith) n.runs in
     begin_with (Param n.text) n.rest (word w ∷ us) n.class tt x (ap₂ (λ (v : List ℕ) ts. word v ∷ ts) e n.is)
 
--- the name and the way of a maker, and what is expected behind them
+-- the name and the way of a maker, and what is expected after them
 record WayNext (cs : List Class) (l : Stage) (us : List Token) : Type 0 where
   from : List ℕ
   to : List ℕ

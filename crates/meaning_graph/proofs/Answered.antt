@@ -150,7 +150,7 @@ onward text ts rest e k f r b s = record {
     step_on : (e f : Expected) (o : Option Expected) → o ≡ Some e → expected_after e.must e.stage k.token ≡ Some f → option_and_then (λ (g : Expected). run g (k.token ∷ [])) o ≡ Some f
     step_on e f o h s = rw (h, s) refl
 
--- what is behind a token is shorter
+-- what is after a token is shorter
 shorter : (rest : List ℕ) (k : Taken) (n : ℕ) → BeginsWith rest k.token k.rest → length rest ≤ suc n → length (past_gap false k.rest) ≤ n
 shorter rest k n b low =
     let a : length k.rest < length rest = begins_shorter rest k.token k.rest b in

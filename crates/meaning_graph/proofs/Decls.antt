@@ -159,7 +159,7 @@ same_strings [] (v ∷ vs) e = let n : ⊥ = cc in absurd n
 same_strings (w ∷ ws) [] e = let n : ⊥ = cc in absurd n
 same_strings (w ∷ ws) (v ∷ vs) e = let first : w ≡ v = cc in let rest : string_tokens ws ≡ string_tokens vs = cc in ap₂ (λ (t : List ℕ) ts. t ∷ ts) first (same_strings ws vs rest)
 
--- what stands behind the words of a tool
+-- what stands after the words of a tool
 abbrev pub extras_behind : List Extra → Option (List ℕ) → List Token
 extras_behind extras closure = extra_tokens extras ++ closure_tokens closure
 

@@ -86,7 +86,7 @@ begins_from (b ∷ rest) k e = elim (cases_Bool (is_name_byte b)) [
 
 -- ---- gaps
 
--- The text is what is left of a comment, and behind it come these tokens.
+-- The text is what is left of a comment, and after it come these tokens.
 pub record InComment (text : List ℕ) (tokens : List Token) (rest : List ℕ) : Type 0 where
   pub words : List ℕ
   pub behind : List ℕ

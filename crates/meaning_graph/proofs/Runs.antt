@@ -75,7 +75,7 @@ extras_run [] c tokens a i = closure_run c tokens i
 extras_run (Also x ∷ es) c tokens a i = id_run x [] extras (extras_behind es c ++ semicolon ∷ tokens) (All-head IsSpellableExtra (Also x) es a) ∙ extras_run es c tokens (All-tail IsSpellableExtra (Also x) es a) i
 extras_run (With x ∷ es) c tokens a i = rw (word_test x (All-head IsSpellableExtra (With x) es a)) (extras_run es c tokens (All-tail IsSpellableExtra (With x) es a) i)
 
--- what may stand behind extras may stand behind strings and used parameters
+-- what may stand after extras may stand after strings and used parameters
 behind_strings : (es : List Extra) (c : Option (List ℕ)) (tokens : List Token) → run (expect [] strings) (extras_behind es c ++ semicolon ∷ tokens) ≡ run (expect [] extras) (extras_behind es c ++ semicolon ∷ tokens)
 behind_strings [] None tokens = refl
 behind_strings [] (Some id) tokens = refl

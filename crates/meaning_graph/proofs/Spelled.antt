@@ -128,7 +128,7 @@ closure_class (Some id) i = (key (codes "closure") refl, (id_word id i, tt))
 way_class : (m : MakerDecl) → IsId m.from → IsId m.to → AreOfClass (way_tokens m)
 way_class m from to = (key (codes "from") refl, (id_word m.from from, (key (codes "to") refl, (id_word m.to to, tt))))
 
--- the tokens behind the types of a tool
+-- the tokens after the types of a tool
 abbrev tail_tokens : ToolDecl → List Token
 tail_tokens t = optional_tokens (codes "uses") t.uses ++ (extra_tokens t.extras ++ closure_tokens t.closure)
 
@@ -164,7 +164,7 @@ begins comma rest c n = a_comma rest
 begins opening rest c n = an_opening rest
 begins closing rest c n = a_closing rest
 
--- The text behind a token doesn't lengthen it, and has these tokens.
+-- The text after a token doesn't lengthen it, and has these tokens.
 pub record Behind (t : Token) (text : List ℕ) (tokens : List Token) : Type 0 where
   pub begins : BeginsWith (token_spelling t ++ text) t text
   pub rest_is : Tokens text tokens []
@@ -214,7 +214,7 @@ before_next closing comma text tokens c d = tight closing 44 text tokens c refl 
 before_next closing opening text tokens c d = spaced closing (token_spelling opening ++ text) tokens c d
 before_next closing closing text tokens c d = tight closing 41 text tokens c refl d
 
--- what stands on a line behind its first token
+-- what stands on a line after its first token
 abbrev line_behind_token : Token → List Token → List ℕ
 line_behind_token t [] = 10 ∷ []
 line_behind_token t (u ∷ ts) = between t u ++ tokens_spelling (u ∷ ts)

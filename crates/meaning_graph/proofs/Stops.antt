@@ -30,7 +30,7 @@ past_comment words text n e = past_words words text n ∙ past_end text e
 
 -- ---- the first token of a reading
 
--- behind its gap the text is the rest, or it begins with the first token
+-- after its gap the text is the rest, or it begins with the first token
 abbrev pub Split : List ℕ → List Token → List ℕ → Type 0
 Split text [] rest = past_gap false text ≡ rest
 Split text (t ∷ tokens) rest = (left : List ℕ) × BeginsWith (past_gap false text) t left × Tokens left tokens rest

@@ -1,4 +1,4 @@
--- Whether tokens can go on to a graph, computed: what is expected behind them.
+-- Whether tokens can go on to a graph, computed: what is expected after them.
 use Rattle.std.specs.Prelude.{ℕ, Bool, true, false, List, [], ◌∷◌, Option, Some, None, codes, bytes_eq, is_some, if◌then◌else◌}
 use Rattle.std.specs.Option.{option_and_then}
 use Rattle.meaning_texts.specs.Tests.{is_name, is_id, is_string_text}
@@ -22,7 +22,7 @@ accepts name_string (string s) = is_name s
 accepts open_mark opening = true
 accepts class token = false
 
--- where tokens may stop, or go on in several ways: between declarations, before a kind, behind a
+-- where tokens may stop, or go on in several ways: between declarations, before a kind, after a
 -- kind, and so on
 pub data Stage : Type 0 where
   between : Stage
@@ -35,7 +35,7 @@ pub data Stage : Type 0 where
   used_ids : Stage
   extras : Stage
 
--- the tokens that must come, and the stage behind them
+-- the tokens that must come, and the stage after them
 pub record Expected : Type 0 where
   pub must : List Class
   pub stage : Stage
@@ -110,7 +110,7 @@ abbrev pub expected_after : List Class → Stage → Token → Option Expected
 expected_after [] stage token = step_at stage token
 expected_after (class ∷ rest) stage token = if accepts class token then Some (expect rest stage) else None
 
--- what is expected behind these tokens, where they can go on
+-- what is expected after these tokens, where they can go on
 abbrev pub run : Expected → List Token → Option Expected
 run e [] = Some e
 run e (t ∷ tokens) = option_and_then (λ (f : Expected). run f tokens) (expected_after e.must e.stage t)

@@ -22,7 +22,7 @@ abbrev pub past_names : List ℕ → List ℕ
 past_names [] = []
 past_names (b ∷ rest) = if is_name_byte b then past_names rest else b ∷ rest
 
--- what stands before the first quote, and what behind it, if there is one
+-- what stands before the first quote, and what after it, if there is one
 abbrev pub before_quote : List ℕ → List ℕ
 before_quote [] = []
 before_quote (b ∷ rest) = if b == 34 then [] else b ∷ before_quote rest

@@ -15,7 +15,7 @@ pub record Makes (g : Graph) (a k to : ℕ) : Type 0 where
   pub fits : IsA g a taken
   pub makes : type_named g maker.to ≡ Some to
 
--- The makers fit one behind the other from the type a to the type b.
+-- The makers fit one after the other from the type a to the type b.
 abbrev pub Path : Graph → ℕ → ℕ → List ℕ → Type 0
 Path g a b [] = IsA g a b
 Path g a b (k ∷ ks) = (to : ℕ) × Makes g a k to × Path g to b ks

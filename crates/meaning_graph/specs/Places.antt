@@ -5,7 +5,7 @@ use Rattle.meaning_texts.specs.Lines.{cut_lines}
 use Rattle.meaning_graph.specs.Tokens.{Token, BeginsWith, Tokens, is_past_gap}
 use Rattle.meaning_graph.specs.Grammar.{graph_tokens, HasSpelling, GraphText}
 
--- the line of what stands behind these bytes, from 1
+-- the line of what stands after these bytes, from 1
 abbrev pub line_behind : List ℕ → ℕ
 line_behind front = length (cut_lines front).full + 1
 

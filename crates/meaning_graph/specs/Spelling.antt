@@ -24,7 +24,7 @@ abbrev pub is_opening : Token → Bool
 is_opening opening = true
 is_opening other = false
 
--- one space between two tokens, but none before `;`, `,` and `)` and none behind `(`
+-- one space between two tokens, but none before `;`, `,` and `)` and none after `(`
 abbrev pub between : Token → Token → List ℕ
 between t u = if is_opening t || follows_close u then [] else 32 ∷ []
 

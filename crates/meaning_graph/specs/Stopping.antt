@@ -7,7 +7,7 @@ abbrev pub is_done : List Class → Stage → Bool
 is_done [] between = true
 is_done classes stage = false
 
--- behind a token: what isn't expected stops there
+-- after a token: what isn't expected stops there
 abbrev pub stop_by : (Expected → List ℕ → Option (List ℕ)) → List ℕ → Taken → Option Expected
     → Option (List ℕ)
 stop_by go rest k None = Some rest

@@ -45,7 +45,7 @@ pub record OtherSpellings : Type 0 where
       (simple (codes "t") ∷ declared (codes "u") Simple (codes "t" ∷ []) ∷ [])
   pub empty : GraphText [] []
 
--- a missing semicolon, a text that ends too early, a string that isn't closed, and one behind
+-- a missing semicolon, a text that ends too early, a string that isn't closed, and one after
 -- `with` that is no name
 pub record SyntaxFaults : Type 0 where
   pub missing : IsSyntaxFault (codes "type c simple\ntype d simple;") 2 1
@@ -105,7 +105,7 @@ makes to = tool (codes "t") (codes "text") to (codes "ld")
 abbrev pub part_of_text : List ℕ → PartDecl
 part_of_text name = record { name = name; of = codes "text" }
 
--- each place where a declaration names a type, behind a declaration without a fault
+-- each place where a declaration names a type, after a declaration without a fault
 pub record UnknownTypes : Type 0 where
   pub supertype : first_fault
       (simple (codes "a") ∷ declared (codes "b") Simple (codes "zz" ∷ []) ∷ [])

@@ -20,7 +20,7 @@ TokenIsAtFront =
     (text : List ℕ) (t : Token) (rest : List ℕ)
     → (token_at text ≡ Some (taken t rest)) ↔ BeginsWith text t rest
 
--- What stands behind a gap: the text has no tokens before it, and it begins with neither a blank
+-- What stands after a gap: the text has no tokens before it, and it begins with neither a blank
 -- nor a comment.
 pub record IsBehindGap (text rest : List ℕ) : Type 0 where
   pub gap : Tokens text [] rest

@@ -34,7 +34,7 @@ pub data BeginsWith : List ℕ → Token → List ℕ → Type 0 where
   an_opening : (rest : List ℕ) → BeginsWith (40 ∷ rest) opening rest
   a_closing : (rest : List ℕ) → BeginsWith (41 ∷ rest) closing rest
 
--- The text begins with these tokens, with blanks and comments before and behind each, and then
+-- The text begins with these tokens, with blanks and comments before and after each, and then
 -- comes the rest. A comment is left whole.
 pub data Tokens : List ℕ → List Token → List ℕ → Type 0 where
   no_more : (rest : List ℕ) → Tokens rest [] rest

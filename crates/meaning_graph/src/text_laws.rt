@@ -6,7 +6,7 @@ pub fn token_is_at_front()
     ensures { TokenIsAtFront }
 {}
 
-/// The computed rest is what stands behind blanks and comments.
+/// The computed rest is what stands after blanks and comments.
 pub fn gap_is_passed()
     ensures { GapIsPassed }
 {}

@@ -1,4 +1,4 @@
--- One item behind what is kept.
+-- One item after what is kept.
 use Rattle.std.proofs.Common.{[], ◌∷◌, refl}
 use Rattle.object_values.specs.declared.items.Item.{Item}
 use Rattle.meaning_records.specs.States.{State, TakesOne, TakesAll}

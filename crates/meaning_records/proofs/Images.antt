@@ -21,7 +21,7 @@ use Rattle.meaning_records.proofs.Takes.{BreaksOff, AllReadBy, all_read, one_all
 abbrev RecordAt : List ℕ → ℕ → Type 0
 RecordAt image gate = (payload : List ℕ) × IsRecord image gate payload
 
--- the bytes behind an open gate begin with a length and a body
+-- the bytes after an open gate begin with a length and a body
 body_stands : (image : List ℕ) (gate : ℕ) → gate < length image → (b : Begins bytes (drop (gate + 1) image)) → IsFieldAt image (gate + 1) (gate_after gate b.thing) (bytes_field b.thing)
 body_stands image gate within b =
     let field : List ℕ = bytes_field b.thing in

@@ -1,4 +1,4 @@
--- Whether an item may come behind what is kept, decided; and that it makes one thing of it at most.
+-- Whether an item may come after what is kept, decided; and that it makes one thing of it at most.
 use Rattle.std.proofs.Common.{◌≡◌, ℕ, ◌≤◌, List, [], ◌∷◌, length, Option, Some, None, refl, sym, ap, ap₂, subst, ◌∙◌}
 use Rattle.std.specs.Prelude.{nat_le}
 use Rattle.std.specs.Bool.{Decides}

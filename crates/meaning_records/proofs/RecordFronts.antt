@@ -123,7 +123,7 @@ stored_part_decided =
     (λ (t : ℕ × (List ℕ × Option ℕ)). record { slot = t.0; label = t.1.0; content = t.1.1 }) (λ t. refl)
     (both_forms_decided number (both bytes (option_of number)) one_number number_decided (both_forms_decided bytes (option_of number) one_bytes bytes_decided (option_decided number number_decided)))
 
--- what stands behind a call's version
+-- what stands after a call's version
 tail_of_call_decided : IsDecided (both (list_of bytes) (both (list_of pair) (both (list_of stored_part) (list_of bytes))))
 tail_of_call_decided =
     both_forms_decided (list_of bytes) (both (list_of pair) (both (list_of stored_part) (list_of bytes))) (one_list bytes one_bytes) (list_decided bytes one_bytes bytes_decided)

@@ -60,7 +60,7 @@ none_read old new r = by r.items r.some r.spelled
 pub no_front : (first : ℕ) (payload : List ℕ) → BeginsWithNone item (first ∷ payload) → ¬ BatchOf (first ∷ payload)
 no_front first payload none = no_batch first payload (λ b. none b.thing b.rest b.fits b.is)
 
--- an item, and no batch behind it
+-- an item, and no batch after it
 pub no_batch_behind : (it : Item) (rest : List ℕ) → item.fits it → ¬ BatchOf rest → ¬ BatchOf (item.spell it ++ rest)
 no_batch_behind it rest fits none b = by b.items b.fit b.spelled
   where
@@ -74,7 +74,7 @@ no_batch_behind it rest fits none b = by b.items b.fit b.spelled
 
 -- ---- the contents of payloads
 
--- a content whose bytes begin with a value, and go on behind it
+-- a content whose bytes begin with a value, and go on after it
 no_longer_content : (v : Value) (first : ℕ) (more rest : List ℕ) → value.fits v → length (value.spell v ++ first ∷ more) < 2 ^ 32 → BeginsWithNone content (bytes_field (value.spell v ++ first ∷ more) ++ rest)
 no_longer_content v first more rest fits short other behind fit is =
     let body = body_front (value.spell v ++ first ∷ more) (value.spell other) rest behind short fit.1 is in

@@ -1,4 +1,4 @@
--- Whether an item, a batch or a payload may come behind what is kept, decided; and that each makes one thing of it at most.
+-- Whether an item, a batch or a payload may come after what is kept, decided; and that each makes one thing of it at most.
 use Rattle.std.proofs.Common.{◌≡◌, ◌≢◌, ◌⊎◌, inl, inr, ℕ, Bool, true, false, List, [], ◌∷◌, ◌++◌, Some, refl, sym, ap, subst, ◌∙◌, is_some}
 use Rattle.std.specs.Prelude.{IsNone, IsSome}
 use Rattle.std.specs.FinMap as map
@@ -185,7 +185,7 @@ one_all_read (payload ∷ payloads) old new other is also =
     let next : also.0 ≡ is.0 = one_read old payload is.0 also.0 is.1 also.1 in
     one_all_read payloads is.0 new other is.2 (subst (λ (state : State). ReadsAll state payloads other) next also.2)
 
--- the first payload that doesn't read, behind those before it
+-- the first payload that doesn't read, after those before it
 pub record BreaksOff (old : State) (payloads : List (List ℕ)) : Type 0 where
   pub before : List (List ℕ)
   pub payload : List ℕ
@@ -218,7 +218,7 @@ all_read (payload ∷ payloads) old = elim (payload_read old payload) [
   | no none ↦ inr (record { before = []; payload = payload; rest = payloads; split = refl; state = old; read = refl; unread = λ next r. none (next, r) })
 ]
 
--- where all payloads read, each reads behind those before it
+-- where all payloads read, each reads after those before it
 pub read_through : (before : List (List ℕ)) (payload : List ℕ) (rest : List (List ℕ)) (old state new : State) → ReadsAll old before state → ReadsAll old (before ++ payload ∷ rest) new → ReadBy state payload
 read_through [] payload rest old state new read whole = (whole.0, subst (λ (s : State). Reads s payload whole.0) (sym read) whole.1)
 read_through (first ∷ before) payload rest old state new read whole =

@@ -1,4 +1,4 @@
--- Batches that a store writes behind what the examples of items keep, and batches that it doesn't.
+-- Batches that a store writes after what the examples of items keep, and batches that it doesn't.
 use Rattle.std.specs.Prelude.{ℕ, List, [], ◌∷◌, Some, codes}
 use Rattle.object_values.specs.declared.views.Value.{Value}
 use Rattle.object_values.specs.declared.views.Value.TheVariants.{Simple}

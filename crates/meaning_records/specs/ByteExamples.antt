@@ -21,7 +21,7 @@ use Rattle.meaning_records.specs.States.{State, spell_batch, Reads}
 abbrev pub four : ℕ → List ℕ
 four n = 0 ∷ 0 ∷ 0 ∷ n ∷ []
 
--- a text of fewer than 256 bytes, behind its length
+-- a text of fewer than 256 bytes, after its length
 abbrev pub text : ℕ → List ℕ → List ℕ
 text size body = four size ++ body
 
@@ -86,7 +86,7 @@ abbrev pub FirstPut : Type 0
 FirstPut = spell_batch (Content (Simple []) ∷ Put (codes "a.c") 0 ∷ [])
     ≡ 2 ∷ 0 ∷ 0 ∷ 0 ∷ 5 ∷ 1 ∷ 0 ∷ 0 ∷ 0 ∷ 0 ∷ 3 ∷ 0 ∷ 0 ∷ 0 ∷ 3 ∷ 97 ∷ 46 ∷ 99 ∷ 0 ∷ 0 ∷ 0 ∷ 0 ∷ []
 
--- a thing stands between other bytes, from its first one up to the one behind it
+-- a thing stands between other bytes, from its first one up to the one after it
 abbrev pub StandsBetween : Type 0
 StandsBetween = ParsesAt (both bytes number) (9 ∷ text 1 (codes "a") ++ four 7 ++ 9 ∷ []) 1 10 (codes "a", 7)
 
@@ -112,7 +112,7 @@ pub record NoBatches : Type 0 where
   pub empty : ReadsNever []
   pub cut : ReadsNever (4 ∷ text 3 (codes "a."))
   pub behind : ReadsNever (1 ∷ text 1 (codes "g") ++ 0 ∷ [])
-  -- the record of a content ends before its length, behind it, or is of no value
+  -- the record of a content ends before its length, after it, or is of no value
   pub longer : ReadsNever (2 ∷ four 6 ++ 1 ∷ four 0 ++ 9 ∷ [])
   pub shorter : ReadsNever (2 ∷ four 4 ++ 1 ∷ four 0)
   pub no_value : ReadsNever (2 ∷ four 5 ++ 4 ∷ four 0)

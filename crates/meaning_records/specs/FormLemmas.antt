@@ -151,7 +151,7 @@ one_stored_part =
     one_by_parts (λ (p : StoredPart). (p.slot, (p.label, p.content))) (both number (both bytes (option_of number))) (λ a b e. ap join_stored_part e)
     (one_both number (both bytes (option_of number)) one_number (one_both bytes (option_of number) one_bytes (one_option number one_number)))
 
--- what stands behind a call's version
+-- what stands after a call's version
 one_tail_of_call : IsOfOneThing (both (list_of bytes) (both (list_of pair) (both (list_of stored_part) (list_of bytes))))
 one_tail_of_call =
     one_both (list_of bytes) (both (list_of pair) (both (list_of stored_part) (list_of bytes))) (one_list bytes one_bytes)

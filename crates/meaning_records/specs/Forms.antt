@@ -8,7 +8,7 @@ pub record Form (T : Type 0) : Type 1 where
   pub spell : T → List ℕ
   pub fits : T → Type 0
 
--- Of two things of a form that stand at one place both are the same, and so is what stands behind them.
+-- Of two things of a form that stand at one place both are the same, and so is what stands after them.
 abbrev pub IsOfOneThing : {T : Type 0} → Form T → Type 0
 IsOfOneThing {T} form = (a b : T) (s t : List ℕ) → form.fits a → form.fits b → form.spell a ++ s ≡ form.spell b ++ t → (a ≡ b) × (s ≡ t)
 
@@ -24,7 +24,7 @@ number = record { spell = u32_field; fits = λ n. n < 2 ^ 32 }
 
 -- ---- forms made of others
 
--- one thing behind another
+-- one thing after another
 abbrev pub both : {A B : Type 0} → Form A → Form B → Form (A × B)
 both first second = record {
   spell = λ p. first.spell p.0 ++ second.spell p.1;

@@ -26,7 +26,7 @@ with_source = with_record 88 (spell_batch (Content (Simple []) ∷ Put (codes "a
 abbrev pub with_drop : List ℕ
 with_drop = with_record 88 (spell_batch (Dropped (codes "a.c") ∷ [])) with_graph
 
--- a payload that doesn't read, and behind it an open gate with no record
+-- a payload that doesn't read, and after it an open gate with no record
 abbrev pub broken : List ℕ
 broken = take 70 (with_record 64 (9 ∷ []) empty_store) ++ 1 ∷ []
 
@@ -55,7 +55,7 @@ pub record WorkedFaults : Type 0 where
   -- no front, and a record of no batch
   pub front : StandsNot (2 ∷ 3 ∷ []) 0
   pub payload : StandsNot (with_record 64 (9 ∷ []) empty_store) 64
-  -- what doesn't read behind the records before it has the place of its own gate
+  -- what doesn't read after the records before it has the place of its own gate
   pub place : StandsNot with_drop 88
   -- what records say is tested once all are whole
   pub order : StandsNot broken 70

@@ -5,7 +5,7 @@ use Rattle.odin_bytes.specs.FieldLemmas.{field_front, body_front}
 use Rattle.meaning_records.specs.Front.{start_of}
 use Rattle.meaning_records.specs.Images.{IsNew, IsWritten, IsClosed, gate_after, IsRecord, AreRecords, IsStore, Stored, NotOurs}
 
--- behind a gate stands one record at most
+-- after a gate stands one record at most
 one_record : (image : List ℕ) (gate : ℕ) (payload other : List ℕ) → IsRecord image gate payload → IsRecord image gate other → payload ≡ other
 one_record image gate payload other record_a record_b =
     let fronts = sym (field_front image (gate + 1) (gate_after gate payload) (bytes_field payload) record_a.body) ∙ field_front image (gate + 1) (gate_after gate other) (bytes_field other) record_b.body in

@@ -24,7 +24,7 @@ pub record IsClosed (image : List ℕ) (gate : ℕ) : Type 0 where
   pub within : gate < length image
   pub other : slice_index image gate ≢ 1
 
--- the place of the gate behind a record of this payload
+-- the place of the gate after a record of this payload
 abbrev pub gate_after : ℕ → List ℕ → ℕ
 gate_after gate payload = gate + 5 + length payload
 
@@ -32,7 +32,7 @@ gate_after gate payload = gate + 5 + length payload
 abbrev pub with_record : ℕ → List ℕ → List ℕ → List ℕ
 with_record gate payload image = take gate image ++ 1 ∷ (bytes_field payload ++ 0 ∷ drop (gate + 6 + length payload) image)
 
--- behind an open gate stand a length and the payload, and then there is a next gate
+-- after an open gate stand a length and the payload, and then there is a next gate
 pub record IsRecord (image : List ℕ) (gate : ℕ) (payload : List ℕ) : Type 0 where
   pub opened : IsOpen image gate
   pub short : length payload < 2 ^ 32
@@ -44,7 +44,7 @@ abbrev pub AreRecords : List ℕ → ℕ → List (List ℕ) → ℕ → Type 0
 AreRecords image gate [] end = end ≡ gate
 AreRecords image gate (payload ∷ records) end = IsRecord image gate payload × AreRecords image (gate_after gate payload) records end
 
--- A store: the whole records from the start in use on, and the closed gate that ends them. What lies behind it has no meaning.
+-- A store: the whole records from the start in use on, and the closed gate that ends them. What lies after it has no meaning.
 pub record IsStore (image : List ℕ) (records : List (List ℕ)) (end : ℕ) : Type 0 where
   pub written : IsWritten image
   pub front : HasFront image
@@ -55,7 +55,7 @@ pub record IsStore (image : List ℕ) (records : List (List ℕ)) (end : ℕ) : 
 abbrev pub Stored : List (List ℕ) → List ℕ → Type 0
 Stored records image = (IsNew image × (records ≡ [])) ⊎ ((end : ℕ) × IsStore image records end)
 
--- an open gate behind whole records, with no record
+-- an open gate after whole records, with no record
 pub record BreaksAt (image : List ℕ) (gate : ℕ) : Type 0 where
   pub written : IsWritten image
   pub front : HasFront image

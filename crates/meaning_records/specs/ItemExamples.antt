@@ -1,4 +1,4 @@
--- Items that may come behind what is kept, and items that may not.
+-- Items that may come after what is kept, and items that may not.
 use Rattle.std.specs.Prelude.{◌≡◌, ℕ, List, [], ◌∷◌, length, Option, Some, None, codes}
 use Rattle.std.specs.FinMap as map
 use Rattle.object_values.specs.declared.messages.Status.{Status}
@@ -40,7 +40,7 @@ ex_with_calls calls = record { tables = record { contents = old.tables.contents;
 abbrev pub with_sources : Texts → State
 with_sources sources = record { tables = old.tables; sources = sources; graph = old.graph }
 
--- these items don't read behind what is kept
+-- these items don't read after what is kept
 abbrev pub RefusesItems : State → List Item → Type 0
 RefusesItems state items = (new : State) → ¬ TakesAll state items new
 

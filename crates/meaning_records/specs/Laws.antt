@@ -22,7 +22,7 @@ use Rattle.meaning_records.specs.Stands.{Stands, StandsNot, gate_behind}
 abbrev pub ItemsAreOne : Type 0
 ItemsAreOne = IsOfOneThing item
 
--- A payload reads in one way at most behind what is kept.
+-- A payload reads in one way at most after what is kept.
 abbrev pub ReadsInOneWay : Type 0
 ReadsInOneWay = (old : State) (payload : List ℕ) (new other : State) → Reads old payload new → Reads old payload other → other ≡ new
 
@@ -42,7 +42,7 @@ GatesFollow = (image : List ℕ) (gate end : ℕ) (records : List (List ℕ)) �
 
 -- ---- what a store writes
 
--- These items read behind what is kept. Nothing is lost of the contents, and these calls, sources and graph are kept then.
+-- These items read after what is kept. Nothing is lost of the contents, and these calls, sources and graph are kept then.
 pub record ItemsReadAs (old : State) (items : List Item) (calls : Calls) (sources : Texts) (graph : Option Text) : Type 0 where
   pub new : State
   pub taken : TakesAll old items new

@@ -8,7 +8,7 @@ abbrev pub number_of : Value → List Value → Option ℕ
 number_of value [] = None
 number_of value (content ∷ contents) = cond (value_eq.eq value content) (Some 0) (option_map suc (number_of value contents))
 
--- What numbers tell of values, while contents only come behind the others.
+-- What numbers tell of values, while contents only come after the others.
 pub record NumbersTellValues : Type 0 where
   -- A number leads back to its value.
   pub leads_back : (value : Value) (contents : List Value) (number : ℕ) → number_of value contents ≡ Some number

@@ -12,11 +12,11 @@ use Rattle.meaning_records.specs.FormLemmas.{one_number}
 
 -- ---- fields
 
--- a field ends behind its length
+-- a field ends after its length
 pub field_end : (from : List ℕ) (at end : ℕ) (field : List ℕ) → IsFieldAt from at end field → end ≡ at + length field
 field_end from at end field there = omega (arith, there.in_range, sym (length-slice_range from at end there.in_range.1) ∙ ap length there.bytes)
 
--- a field behind another
+-- a field after another
 pub field_join : (from : List ℕ) (at middle end : ℕ) (a b : List ℕ) → IsFieldAt from at middle a → IsFieldAt from middle end b → IsFieldAt from at end (a ++ b)
 field_join from at middle end a b first second = record {
   in_range = (omega (arith, first.in_range, second.in_range), second.in_range.1);
@@ -42,7 +42,7 @@ field_split from at end a b there =
 
 -- ---- bytes that tell what follows
 
--- a byte, and a field behind it
+-- a byte, and a field after it
 pub record TagAt (from : List ℕ) (at end tag : ℕ) (field : List ℕ) : Type 0 where
   pub within : at < length from
   pub byte : slice_index from at ≡ tag
@@ -75,7 +75,7 @@ one_stands form one from at end last a b first second =
     let same : a ≡ b = (one a b _ _ first.fits second.fits fronts).0 in
     (same, field_end from at end (form.spell a) first.field ∙ ap (λ x. at + length (form.spell x)) same ∙ sym (field_end from at last (form.spell b) second.field))
 
--- ---- one thing behind another
+-- ---- one thing after another
 
 pub both_stand : {A B : Type 0} (first : Form A) (second : Form B) (from : List ℕ) (at middle end : ℕ) (a : A) (b : B)
     → ParsesAt first from at middle a → ParsesAt second from middle end b → ParsesAt (both first second) from at end (a, b)

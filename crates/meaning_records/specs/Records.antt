@@ -1,4 +1,4 @@
--- The records of a store file: a line for each row of the table of records in docs/STORE.md.
+-- The records of a store file: a line for each row of the table of records in docs/engineer/store-format.md.
 use Rattle.std.specs.Prelude.{⊤, ℕ, List, [], ◌∷◌}
 use Rattle.object_values.specs.declared.messages.Status.{Status}
 use Rattle.object_values.specs.declared.messages.Status.TheVariants.{Ok, Warning, Error, Abort}

@@ -9,12 +9,12 @@ pub record Stands (image : List ℕ) (state : State) : Type 0 where
   pub stored : Stored records image
   pub read : ReadsAll nothing records state
 
--- the gate behind records that follow each other from a gate on
+-- the gate after records that follow each other from a gate on
 abbrev pub gate_behind : ℕ → List (List ℕ) → ℕ
 gate_behind gate [] = gate
 gate_behind gate (payload ∷ payloads) = gate_behind (gate_after gate payload) payloads
 
--- The records are whole, but one of them doesn't read behind those before it: this is its gate.
+-- The records are whole, but one of them doesn't read after those before it: this is its gate.
 pub record HasBadRecord (image : List ℕ) (at : ℕ) : Type 0 where
   pub before : List (List ℕ)
   pub payload : List ℕ

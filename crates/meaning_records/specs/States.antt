@@ -1,4 +1,4 @@
--- What the payloads of a store file make of what is kept: a payload is one batch, one or more items with nothing behind them.
+-- What the payloads of a store file make of what is kept: a payload is one batch, one or more items with nothing after them.
 use Rattle.std.specs.Prelude.{◌≡◌, ◌≢◌, ℕ, List, [], ◌∷◌, Option, Some, None, IsSome}
 use Rattle.std.specs.List.{flat_map, All}
 use Rattle.std.specs.FinMap as map
@@ -31,7 +31,7 @@ abbrev pub graph_after : Item → Option Text → Option Text
 graph_after (Graph text) old = Some text
 graph_after other old = old
 
--- An item may come behind what is kept, and this is kept then.
+-- An item may come after what is kept, and this is kept then.
 pub record TakesOne (old : State) (it : Item) (new : State) : Type 0 where
   pub loads : Loads old.tables it new.tables
   pub edits : ItemEditsSources old.tables.contents it old.sources new.sources
@@ -47,7 +47,7 @@ TakesAll old (it ∷ items) new = (next : State) × TakesOne old it next × Take
 abbrev pub spell_batch : List Item → List ℕ
 spell_batch = flat_map item.spell
 
--- A payload reads behind what is kept, and this is kept then.
+-- A payload reads after what is kept, and this is kept then.
 pub record Reads (old : State) (payload : List ℕ) (new : State) : Type 0 where
   pub items : List Item
   pub some : items ≢ []

@@ -111,7 +111,7 @@ with_content value tables = record tables { contents = tables.contents ++ value 
 abbrev pub with_call : Call → Outcome → Tables → Tables
 with_call call outcome tables = record tables { calls = tables.calls ++ (call, outcome) ∷ [] }
 
--- An item may come behind these tables, as far as they tell, and they are those then.
+-- An item may come after these tables, as far as they tell, and they are those then.
 abbrev pub Loads : Tables → Item → Tables → Type 0
 Loads old (Graph text) new = new ≡ old
 Loads old (Content value) new = IsShort value × (new ≡ with_content value old)

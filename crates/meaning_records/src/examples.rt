@@ -29,7 +29,7 @@ pub fn no_batches()
     ensures { NoBatches }
 {}
 
-/// Graphs, contents and edits of sources that read behind what is kept.
+/// Graphs, contents and edits of sources that read after what is kept.
 pub fn edits_that_read()
     ensures { EditsThatRead }
 {}

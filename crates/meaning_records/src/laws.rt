@@ -7,7 +7,7 @@ pub fn items_are_one()
     ensures { ItemsAreOne }
 {}
 
-/// A payload reads in one way at most behind what is kept.
+/// A payload reads in one way at most after what is kept.
 pub fn reads_in_one_way()
     ensures { ReadsInOneWay }
 {}
@@ -22,7 +22,7 @@ pub fn each_stands_or_not()
     ensures { EachStandsOrNot }
 {}
 
-/// The gate behind whole records is where their lengths lead.
+/// The gate after whole records is where their lengths lead.
 pub fn gates_follow()
     ensures { GatesFollow }
 {}

@@ -22,7 +22,7 @@ text_in other = None
 abbrev pub simple_part : Graph → Known → ℕ → Node → CallPart
 simple_part g known slot n = record { slot = slot; label = label_of g n; body = text_in (known n) }
 
--- one part for a part of a compound, with its name behind the label
+-- one part for a part of a compound, with its name after the label
 abbrev pub compound_part : ℕ → Text → Part → CallPart
 compound_part slot label p =
     record { slot = slot; label = label ++ codes "%" ++ p.name; body = Some p.body }

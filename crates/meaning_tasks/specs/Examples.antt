@@ -122,7 +122,7 @@ loop =
     ∷ simple_entry (codes "b.h") (codes "include a.h\n")
     ∷ simple_entry (codes "b.h:inc") (codes "a.h\n") ∷ []
 
--- headers that include one another, one behind the other
+-- headers that include one another, one after the other
 abbrev pub chain : List ValueByText
 chain =
     simple_entry (codes "a.c") (codes "include a.h\n")
@@ -239,7 +239,7 @@ abbrev pub ex_two_objects : ValueByText
 ex_two_objects =
     listed_entry (codes "m.sm:units:objs") (object_of (codes "a.c") ∷ object_of (codes "b.c") ∷ [])
 
--- slot 0 is the base, the extras follow one by one, and the reached sources stand behind them
+-- slot 0 is the base, the extras follow one by one, and the reached sources stand after them
 pub record Slots : Type 0 where
   pub extras_and_closure : parts_of_call with_both (codes "a.c" ∷ codes "a.h" ∷ []) both_needs
       (at_steps (codes "a.c") (Maker 7 ∷ []))
@@ -259,7 +259,7 @@ pub record Slots : Type 0 where
       ≡ Some
       (call_part 0 (codes "a.c:o") (Some (codes "x=1\n"))
       ∷ call_part 0 (codes "b.c:o") (Some (codes "y=2\n")) ∷ [])
-  -- each part of a compound by its name behind the label
+  -- each part of a compound by its name after the label
   pub compound : value_parts kits (known_of kits []) 1 ex_kit
       (Some (Some (Compound (record { name = codes "prog"; body = codes "x=1\n" } ∷ []))))
       ≡ call_part 1 (codes "m.sm:kit%prog") (Some (codes "x=1\n")) ∷ []

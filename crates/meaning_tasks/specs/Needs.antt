@@ -71,7 +71,7 @@ abbrev pub scan_needs : ToolTask → Known → Text → List Node
 scan_needs t known x =
     cond (bytes_eq x t.root) [] (where_valued (known (source_node x)) (option_to_list (t.scan x)))
 
--- what a tool needs behind a base that has a value: its elements, the extras, the scan nodes
+-- what a tool needs after a base that has a value: its elements, the extras, the scan nodes
 abbrev pub tool_needs : ToolTask → Known → List Text → List Node
 tool_needs t known names =
     elements_of (known t.base)

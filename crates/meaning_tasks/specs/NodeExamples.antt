@@ -28,7 +28,7 @@ pub record NodesOfTexts : Type 0 where
   -- further paths go from the type that is reached
   pub in_two : IsNodeIn c_units (codes "m.sm:units:exe") (codes "m.sm")
       (Maker 2 ∷ Maker 3 ∷ Maker 4 ∷ [])
-  -- behind an empty path the node keeps its own type
+  -- after an empty path the node keeps its own type
   pub keeps_its_type : IsNodeIn c_units (codes "a.c:hdr:o") (codes "a.c") (Maker 1 ∷ [])
   pub picked : IsNodeIn c_units (codes "m.sm:objs%2") (codes "m.sm")
       (Maker 2 ∷ Maker 3 ∷ Pick (codes "2") ∷ [])

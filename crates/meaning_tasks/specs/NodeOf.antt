@@ -25,14 +25,14 @@ abbrev pub toward : Graph → Node → ℕ → Text → Option ℕ → NodeAnswe
 toward g n k name None = unknown_type name
 toward g n k name (Some to) = node_or_no_path k (onward g n to)
 
--- the node behind step k: a type by the chosen path from the type reached so far, a key by one pick
+-- the node after step k: a type by the chosen path from the type reached so far, a key by one pick
 abbrev pub step_on : Graph → Node → ℕ → ExprStep → NodeAnswer
 step_on g n k (To name) = toward g n k name (type_named g name)
 step_on g n k (Pick key) =
     cond (is_some (reached_type g (node_with_step n (PickKey key)))) (is_node (node_with_step n (PickKey key)))
     (no_path k)
 
--- the node behind the steps from number k on; a refusal stays
+-- the node after the steps from number k on; a refusal stays
 abbrev pub steps_on : Graph → ℕ → NodeAnswer → List ExprStep → NodeAnswer
 steps_on g k answer [] = answer
 steps_on g k (is_node n) (s ∷ steps) = steps_on g (k + 1) (step_on g n k s) steps

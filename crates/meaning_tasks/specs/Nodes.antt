@@ -60,7 +60,7 @@ picked_type g key (Some (Compound parts)) =
     option_and_then (λ p. type_named g p.of) (find (λ p. bytes_eq p.name key) parts)
 picked_type g key other = None
 
--- the type behind a step that can be applied to the type t
+-- the type after a step that can be applied to the type t
 abbrev pub step_type : Graph → ℕ → Step → Option ℕ
 step_type g t (Maker k) = option_and_then (made_of g t) (slice_get (makers g) k)
 step_type g t (Pick key) = picked_type g key (kind_of g t)

@@ -16,7 +16,7 @@ pub fn onward()
     ensures { Onward }
 {}
 
-/// A pick behind the last element.
+/// A pick after the last element.
 pub fn pick_past_the_end()
     ensures { PickPastTheEnd }
 {}

@@ -40,7 +40,7 @@ reads_alike p a b = elim (cases_Bool (nat_eq p.mark 32)) [
 
 -- ---- what makes a front whole
 
--- bytes behind a front that make it whole, and are no marks
+-- bytes after a front that make it whole, and are no marks
 pub record Completes (whole : List ℕ → Bool) (word : List ℕ) : Type 0 where
   pub more : List ℕ
   pub none : no_marks more

@@ -99,7 +99,7 @@ passes_one p x [] h e = absurd h
 passes_one p x (y ∷ xs) (inl q) e = or_left (p y) (list_any p xs) (ap p (sym q) ∙ e)
 passes_one p x (y ∷ xs) (inr h) e = or_right (p y) (list_any p xs) (passes_one p x xs h e)
 
--- a list that holds x is what stands before x, x, and what stands behind it
+-- a list that holds x is what stands before x, x, and what stands after it
 pub split_at : {A : Type 0} (x : A) (xs : List A) → IsIn x xs → (front back : List A) × (xs ≡ front ++ x ∷ back)
 split_at x [] h = absurd h
 split_at x (y ∷ xs) (inl e) = ([], xs, λ i. sym e i ∷ xs)

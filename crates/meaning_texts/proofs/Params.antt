@@ -145,7 +145,7 @@ values_single name (p ∷ ps) = elim (cases_Bool (bytes_eq p.param name)) [
   | inr n ↦ rw n (values_of_others name p (once same_param ps) n ∙ values_single name ps)
 ]
 
--- one parameter more in front of lists with the same values
+-- one parameter more before lists with the same values
 values_more : (name : List ℕ) (p : ParamValue) (xs ys : List ParamValue) → values_of_param name xs ≡ values_of_param name ys → values_of_param name (p ∷ xs) ≡ values_of_param name (p ∷ ys)
 values_more name p xs ys e = elim (cases_Bool (bytes_eq p.param name)) [
   | inl n ↦ rw n (ap (λ t. p.value ∷ t) e)
@@ -186,7 +186,7 @@ values_first x xs = rw (names_same x.param) refl
 first_has_value : (x : ParamValue) (xs : List ParamValue) → values_of_param x.param (x ∷ xs) ≡ [] → ⊥
 first_has_value x xs e = let f : x.value ∷ values_of_param x.param xs ≡ [] = sym (values_first x xs) ∙ e in cc
 
--- what stands behind two first parameters of one name, where the values of each name agree
+-- what stands after two first parameters of one name, where the values of each name agree
 values_behind : (x y : ParamValue) (xs ys : List ParamValue) → x.param ≡ y.param → ((name : List ℕ) → values_of_param name (x ∷ xs) ≡ values_of_param name (y ∷ ys)) → (x.value ≡ y.value) × ((name : List ℕ) → values_of_param name xs ≡ values_of_param name ys)
 values_behind x y xs ys n same =
     let g : bytes_eq y.param x.param ≡ true = rw n (names_same y.param) in

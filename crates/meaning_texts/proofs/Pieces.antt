@@ -52,7 +52,7 @@ value_no_marks word w = class_no_marks is_value_byte refl refl refl refl word (l
 
 -- ---- the cut
 
--- a word before a text stands in front of its head
+-- a word before a text stands before its head
 pub cut_word : (word rest : List ℕ) → no_marks word → cut_at_marks (word ++ rest) ≡ record { head = word ++ (cut_at_marks rest).head; pieces = (cut_at_marks rest).pieces }
 cut_word [] rest none = refl
 cut_word (b ∷ word) rest none =

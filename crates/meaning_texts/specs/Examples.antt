@@ -63,7 +63,7 @@ pub record FaultPlaces : Type 0 where
   pub wrong_first : IsFaultPlace (63 ∷ replicate 1000 32) 1
 
 -- the byte that can't go on: a digit, a space or nothing where a letter must stand, and a letter
--- behind a space
+-- after a space
 pub record MoreFaultPlaces : Type 0 where
   pub digit : IsFaultPlace (codes "a.c:1") 5
   pub inside : IsFaultPlace (codes "a.c +=b") 6
@@ -103,7 +103,7 @@ pub record ReferenceLists : Type 0 where
   pub passed : references (codes "#a" ++ 13 ∷ 10 ∷ 13 ∷ 10 ∷ codes "b.c:o" ++ 13 ∷ [])
       ≡ These (Good 3 (expression (codes "b.c") [] (To (codes "o") ∷ [])) ∷ [])
   pub two : references (codes "a b\n a ") ≡ These (Bad 1 ∷ Good 2 (ex_bare (codes "a")) ∷ [])
-  -- behind a space `#` begins no comment
+  -- after a space `#` begins no comment
   pub spaced : references (codes " #") ≡ These (Bad 1 ∷ [])
   pub one_cr : references (97 ∷ 13 ∷ 13 ∷ 10 ∷ []) ≡ These (Bad 1 ∷ [])
 

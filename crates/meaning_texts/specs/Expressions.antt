@@ -16,7 +16,7 @@ use Rattle.meaning_texts.specs.Limits.{expression_limit}
 
 -- ---- the grammar
 
--- What stands behind the name: spaces and items, with the parameters and the steps in the order in
+-- What stands after the name: spaces and items, with the parameters and the steps in the order in
 -- which they are written.
 pub data Items : List ℕ → List ParamValue → List ExprStep → Type 0 where
   no_more : Items [] [] []

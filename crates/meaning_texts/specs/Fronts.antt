@@ -54,7 +54,7 @@ is_front bytes =
     begins_cut (cut_at_marks (past_spaces bytes)).head (cut_at_marks (past_spaces bytes)).pieces
 
 -- the first of so many places, from this one on, at which the bytes are no front, or the place
--- behind them
+-- after them
 abbrev pub first_stop : List ℕ → ℕ → ℕ → ℕ
 first_stop text zero place = place
 first_stop text (suc n) place =

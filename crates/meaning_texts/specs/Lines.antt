@@ -11,7 +11,7 @@ HasNoLf = HasNo 10
 abbrev pub with_lf : List ℕ → List ℕ
 with_lf line = line ++ 10 ∷ []
 
--- The text is these full lines, each with its LF, and what stands behind the last LF.
+-- The text is these full lines, each with its LF, and what stands after the last LF.
 pub record AreLines (text : List ℕ) (full : List (List ℕ)) (last : List ℕ) : Type 0 where
   pub is : text ≡ flat_map with_lf full ++ last
   pub full_lines : All HasNoLf full

@@ -54,7 +54,7 @@ put_param p items = record { params = p ∷ items.params; steps = items.steps }
 abbrev pub put_step : ExprStep → ItemList → ItemList
 put_step s items = record { params = items.params; steps = s ∷ items.steps }
 
--- what stands before the first `=`, and what behind it, nothing where there is none
+-- what stands before the first `=`, and what after it, nothing where there is none
 abbrev pub name_part : List ℕ → List ℕ
 name_part [] = []
 name_part (b ∷ rest) = if b == 61 then [] else b ∷ name_part rest
@@ -67,7 +67,7 @@ value_part (b ∷ rest) = if b == 61 then rest else value_part rest
 abbrev pub param_of : List ℕ → ParamValue
 param_of word = record { param = name_part word; value = value_part word }
 
--- what the piece adds to the items behind it, if it is an item
+-- what the piece adds to the items after it, if it is an item
 abbrev pub read_piece : Piece → ItemList → Option ItemList
 read_piece p items =
     if p.mark == 32 then (if is_empty p.word then Some items else None)

@@ -1,4 +1,4 @@
--- The needs of a node: the counted ones, and behind them the reached sources.
+-- The needs of a node: the counted ones, and after them the reached sources.
 use Rattle.std.proofs.Common.{◌≡◌, ℕ, ◌+◌, ◌<◌, true, false, List, [], ◌∷◌, ◌++◌, length, get_or, take, map, flat_map, inl, refl, sym, ap, ◌∙◌, subst, append_assoc}
 use Rattle.std.specs.Prelude.{Option, Some, None, option_to_list}
 use Rattle.std.proofs.lemmas.List.{append-nil, take_more}

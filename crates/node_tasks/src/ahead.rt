@@ -231,11 +231,15 @@ fn look_at_all<R: Results, V: VisitedNodes>(
 {
     let mut level = Level::new(alloc);
     for place in untold {
-        look(alloc, graph, plans, node, tool, seen, visited, *place, names, &mut level)?;
+        look(
+            alloc, graph, plans, node, tool, seen, visited, *place, names, &mut level,
+        )?;
     }
     let mut place = from;
     'names: while place < names.len() {
-        look(alloc, graph, plans, node, tool, seen, visited, place, names, &mut level)?;
+        look(
+            alloc, graph, plans, node, tool, seen, visited, place, names, &mut level,
+        )?;
         place += 1;
     }
     Ok(level)

@@ -6,7 +6,7 @@ use object_values::{Copied, Memory, Message, Node, Seq};
 use std::alloc::Global;
 use task_needs::Led;
 
-/// Puts the node behind the nodes, or the message behind the messages.
+/// Puts the node after the nodes, or the message after the messages.
 pub(crate) fn put_led(
     alloc: Global,
     led: Led,
@@ -24,7 +24,7 @@ pub(crate) fn put_led(
     }
 }
 
-/// Puts messages behind those that are there.
+/// Puts messages after those that are there.
 pub(crate) fn put_messages(
     alloc: Global,
     messages: &[Message],

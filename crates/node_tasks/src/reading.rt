@@ -146,7 +146,7 @@ fn read_led(
     }
 }
 
-// The parameters of the node that reads, and behind them those of the line.
+// The parameters of the node that reads, and after them those of the line.
 fn add_params_of(alloc: Global, node: &Node, read: &mut Node) -> Result<(), Memory>
     ensures { OnOk result (read.new ≡ with_params_of node.now read.old) }
 {

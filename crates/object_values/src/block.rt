@@ -3,9 +3,8 @@ ghost use Rattle.std.specs.Prelude.{◌≡◌, ◌≤◌, ◌<◌, ◌+◌, ◌+
 ghost use Rattle.std.specs.List.{insert, remove};
 ghost use Rattle.object_values.specs.Places.{Pairs};
 
-use sequences::{Bytes, Copied, Memory};
-
 use crate::text::Text;
+use sequences::{Bytes, Copied, Memory};
 use std::alloc::Global;
 use std::marker::Model;
 use std::mem;

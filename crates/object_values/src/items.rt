@@ -39,7 +39,7 @@ pub struct StoredOutcome {
     pub outputs: Seq<StoredOutput>,
 }
 
-/// An item of a batch: one variant a row of the table of items in docs/STORE.md.
+/// An item of a batch: one variant a row of the table of items in docs/engineer/store-format.md.
 #[derive(Drop)]
 pub enum Item {
     /// The text of the graph that the store was opened with.

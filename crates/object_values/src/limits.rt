@@ -1,4 +1,4 @@
-// The limits of the object manager that code tests, each in this one place. docs/DEFINITIONS.md lists them with their definitions.
+// The limits of the object manager that code tests, each in this one place. docs/prover/definitions.md lists them with their definitions.
 
 /// The most bytes of a name, an identifier, a key, a word or a string: what one component of a path
 /// may have on common systems, so that each name can be a file's.

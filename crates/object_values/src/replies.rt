@@ -4,7 +4,7 @@ use crate::text::Text;
 use crate::views::Part;
 use sequences::{Bytes, Seq, SharedSeq};
 
-/// A reply: one variant a row of the table of replies in docs/SESSIONS.md. A list of texts holds the lines behind the first one, each without
+/// A reply: one variant a row of the table of replies in docs/user/reference.md. A list of texts holds the lines after the first one, each without
 /// its LF; the number in the first line is their count.
 pub enum Reply {
     Put(Bytes, u64),

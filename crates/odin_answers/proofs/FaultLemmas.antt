@@ -60,7 +60,7 @@ pub tools_left : (limit : ℕ) (before now : Spawned) (r : Result Reply JournalF
 tools_left limit before now (Ok reply) none answer few = absurd none
 tools_left limit before now (Err why) none answer few = record { answer = answer; few = few; idle = tt; left = λ not. absurd (not tt) }
 
--- ---- behind a fault
+-- ---- after a fault
 
 module _ (g : Graph) where
   pub refused_rests : (limit : ℕ) (before now : Spawned) (f : AskFault) (r : Result Reply JournalFault) → IfOk r (IsReplyToFault g f) → IfErr r (StopsWithoutReply f) → ComesToRest {T = View} asking.AskLeavesTools limit before now (Err f) → ComesToRest LeavesAll limit before now r

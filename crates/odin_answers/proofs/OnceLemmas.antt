@@ -103,7 +103,7 @@ at_once g s kept limit text said reply given before now by_kept (inr refused) =
 
 -- ---- the table
 
--- what is kept behind others is one or the other
+-- what is kept after others is one or the other
 pub kept_or_given : (kept given : Calls) (call : Call) (o : Outcome) → kept_outcome (kept ++ given) call ≡ Some o → (kept_outcome kept call ≡ Some o) ⊎ (outcome_in given call ≡ Some o)
 kept_or_given [] given call o e = inr e
 kept_or_given (x ∷ kept) given call o e = by_test (call_eq.eq call x.0) e (kept_or_given kept given call o)

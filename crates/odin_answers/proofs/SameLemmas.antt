@@ -25,7 +25,7 @@ use Rattle.odin_answers.specs.Laws.{IsTrueFor, KeepSame, RunSame, AreSameAnswers
 use Rattle.odin_answers.proofs.CountLemmas.{derived_flown}
 use Rattle.odin_answers.proofs.OnceLemmas.{its_own, come_by, kept_or_given, reply_true, fresh}
 
--- ---- what is kept of a call behind more calls
+-- ---- what is kept of a call after more calls
 
 pub kept_first : (kept given : Calls) (call : Call) (o : Outcome) → kept_outcome kept call ≡ Some o → kept_outcome (kept ++ given) call ≡ Some o
 kept_first [] given call o e = absurd (let no : ⊥ = cc in no)
@@ -46,7 +46,7 @@ given_there (x ∷ given) call i = by_test (call_eq.eq call x.0) refl (given_the
       | inr j ↦ more j
     ]
 
--- a call that was given an outcome is kept behind the others
+-- a call that was given an outcome is kept after the others
 given_behind : (kept given : Calls) (call : Call) → IsIn call (calls_of given) → IsSome (kept_outcome (kept ++ given) call)
 given_behind [] given call i = given_there given call i
 given_behind (x ∷ kept) given call i = by_test (call_eq.eq call x.0) (given_behind kept given call i)
@@ -60,7 +60,7 @@ call_in [] call o i = absurd i
 call_in (x ∷ given) call o (inl e) = inl (ap (λ (p : Call × Outcome). p.0) e)
 call_in (x ∷ given) call o (inr j) = inr (call_in given call o j)
 
--- a call that is kept behind others was one of them, or was given an outcome
+-- a call that is kept after others was one of them, or was given an outcome
 pub kept_by_either : (kept given : Calls) (call : Call) → IsSome (kept_outcome (kept ++ given) call) → IsSome (kept_outcome kept call) ⊎ IsIn call (calls_of given)
 kept_by_either kept given call there = by_outcome (kept_outcome (kept ++ given) call) refl there
   where
@@ -95,7 +95,7 @@ module _ (g : Graph) (table : Table) (s : Sources) (limit most : ℕ) (text : Te
         | inr j ↦ j
       ]
 
--- what is kept behind the one is kept behind the other
+-- what is kept after the one is kept after the other
 also_there : (kept kept' given given' : Calls) → KeepSame kept kept' → ((call : Call) → IsIn call (calls_of given) → IsIn call (calls_of given')) → (call : Call) (o : Outcome) → kept_outcome (kept ++ given) call ≡ Some o
     → IsSome (kept_outcome (kept' ++ given') call)
 also_there kept kept' given given' same also call o e = elim (kept_or_given kept given call o e) [
@@ -103,7 +103,7 @@ also_there kept kept' given given' same also call o e = elim (kept_or_given kept
   | inr there ↦ given_behind kept' given' call (also call (call_in given call o (given_is_in given call o there)))
 ]
 
--- what is kept behind the same calls is the same, where both are what the table gives
+-- what is kept after the same calls is the same, where both are what the table gives
 module _ (table : Table) (kept kept' given given' : Calls) (right : HasMore (kept_outcome (kept ++ given)) (table_outcomes table)) (right' : HasMore (kept_outcome (kept' ++ given')) (table_outcomes table)) where
   keep_same : KeepSame kept kept' → ((call : Call) → IsIn call (calls_of given) → IsIn call (calls_of given')) → ((call : Call) → IsIn call (calls_of given') → IsIn call (calls_of given)) → KeepSame (kept ++ given) (kept' ++ given')
   keep_same same also back call = by_both (kept_outcome (kept ++ given) call) (kept_outcome (kept' ++ given') call) refl refl

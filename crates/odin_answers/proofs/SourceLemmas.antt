@@ -20,7 +20,7 @@ one_more_line texts place source lines line there before is =
     ∙ ap (λ (xs : List (List ℕ)). xs ++ source_line (get_or (entries texts) place source) ∷ []) before
     ∙ sym (map_more source_line (entries texts) place source (within texts place source there))
 
--- behind it
+-- after it
 pub next_within : (texts : Texts) (lines lines' : List (List ℕ)) (line : List ℕ) (source : Text × Text) → entry_at texts (length lines) ≡ Some source → lines' ≡ lines ++ line ∷ [] → length lines' ≤ length (entries texts)
 next_within texts lines lines' line source there is =
     let size : length lines' ≡ length lines + 1 = ap length is ∙ length-append lines (line ∷ []) in

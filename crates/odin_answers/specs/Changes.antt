@@ -39,7 +39,7 @@ pub record PutsSource {Disk : Type 0} (told : Disk → Telling) (name text : Tex
 
 -- ---- conditions
 
--- The store can be changed, and behind a count that a text may have stands no longer text.
+-- The store can be changed, and after a count that a text may have stands no longer text.
 pub record MayPutCounted (store : Store) (size count : ℕ) (text : Text) : Type 0 where
   pub ready : StoreIsOpen store size
   pub counted : count ≤ body_limit → length text ≤ body_limit
@@ -63,7 +63,7 @@ HasFailedToPut told IsIt name store next disk after given = EditIsOutOfMemory st
 
 -- ---- the texts that an edit puts, which are never too long
 
--- the bytes behind a `put`, where so many are a text
+-- the bytes after a `put`, where so many are a text
 abbrev pub IsPutText : ℕ → Text → Text → Type 0
 IsPutText count text given = (count ≤ body_limit) × (given ≡ text)
 

@@ -45,7 +45,7 @@ module _ {Disk : Type 0} (told : Disk → Telling) (g : Graph) (limit : ℕ) (te
     pub goes : Performs told (keeps_of given) old.store mid.store old.disk mid.disk
     pub stops : StopsPerforming told (keeps call outcome ∷ []) mid.store mid.disk new.disk
 
-  -- The batch of the last outcome, of this length, doesn't fit behind this end. The others are kept.
+  -- The batch of the last outcome, of this length, doesn't fit after this end. The others are kept.
   pub record HasNoRoomToKeep (at size : ℕ) : Type 0 where
     pub given : Calls
     pub call : Call

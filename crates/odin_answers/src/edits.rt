@@ -53,7 +53,7 @@ fn set_text<D: Disk>(
     Ok(())
 }
 
-/// `put`, with the bytes behind it where it keeps them.
+/// `put`, with the bytes after it where it keeps them.
 pub fn put<D: Disk>(
     alloc: Global,
     engine: &mut Engine,
@@ -85,7 +85,7 @@ pub fn put<D: Disk>(
     Ok(reply)
 }
 
-/// A command on what is no name. Its name is refused before its size is, so it doesn't matter how many bytes stand behind its line.
+/// A command on what is no name. Its name is refused before its size is, so it doesn't matter how many bytes stand after its line.
 pub fn refuse_name(alloc: Global, _count: u64) -> Result<Bytes, Memory>
     ensures { IfOk result (λ bytes. bytes ≡ reply_text Reply.RefusedName) }
 {

@@ -1,4 +1,4 @@
-//! Something to measure: the first word says which bench, and those behind it are its own.
+//! Something to measure: the first word says which bench, and those after it are its own.
 #![tactic(auto)]
 
 mod children;

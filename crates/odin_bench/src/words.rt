@@ -2,7 +2,7 @@
 use crate::fault::Fault;
 use std::env;
 
-/// The words behind the program's name.
+/// The words after the program's name.
 pub(crate) fn words_of(rt: &HostRuntime) -> Result<Vec<String>, Fault> {
     let mut words = Vec::new(rt.alloc());
     let Ok(args) = env::args(rt) else {

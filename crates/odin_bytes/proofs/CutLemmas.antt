@@ -5,7 +5,7 @@ use Rattle.std.proofs.Math.Seq.{drop-cons}
 use Rattle.meaning_texts.specs.Lines.{cut_lines}
 use Rattle.meaning_texts.proofs.Lemmas.{HasNo-places, HasNo-take, cut_line, cut_last}
 
--- a text is what stands before a place, the byte there, and what stands behind it
+-- a text is what stands before a place, the byte there, and what stands after it
 pub cut_there : (byte : ℕ) (text : List ℕ) (at : ℕ) → at < length text → get_or text at 0 ≡ byte → text ≡ take at text ++ byte ∷ drop (at + 1) text
 cut_there byte text at here there =
     sym (ap (λ b. take at text ++ b ∷ drop (at + 1) text) (sym there) ∙ rw (add-one, sym (drop-cons text at 0 here)) (take-append-drop at text))

@@ -49,12 +49,12 @@ ends_at text place is =
 pub whole_at : (text : List ℕ) (place : ℕ) → place < length text → text ≡ take place text ++ get_or text place 0 ∷ drop (place + 1) text
 whole_at text place lt = sym (take-append-drop place text) ∙ ap (λ rest. take place text ++ rest) (drop-cons text place 0 lt ∙ ap (λ n. get_or text place 0 ∷ drop n text) (let one : suc place ≡ place + 1 = omega arith in one))
 
--- the spelling of a text is its first run, the escape behind it, and the spelling of the rest
+-- the spelling of a text is its first run, the escape after it, and the spelling of the rest
 pub escaped_at : (text : List ℕ) (place : ℕ) → EndsAt text place → escaped text ≡ take place text ++ (escaped_byte (get_or text place 0) ++ escaped (drop (place + 1) text))
 escaped_at text place ends =
     ap escaped (whole_at text place ends.within) ∙ escaped-append (take place text) (get_or text place 0 ∷ drop (place + 1) text) ∙ ap (λ run. run ++ (escaped_byte (get_or text place 0) ++ escaped (drop (place + 1) text))) ends.run
 
--- the value of a digit, and the byte that a spelling begins with beside what is behind it
+-- the value of a digit, and the byte that a spelling begins with beside what is after it
 digit_value : ℕ → ℕ
 digit_value digit = if nat_le digit 57 then digit - 48 else digit - 87
 
@@ -93,7 +93,7 @@ first_again b behind small = first_by b behind small (is_plain b) (b == 92) refl
 first_spelled : (b : ℕ) (text behind : List ℕ) → b < 256 → first_of_spelling (escaped (b ∷ text) ++ behind) ≡ Some (b, escaped text ++ behind)
 first_spelled b text behind small = ap first_of_spelling (append_assoc (escaped_byte b) (escaped text) behind) ∙ first_again b (escaped text ++ behind) small
 
--- what is left of a spelling behind one is a spelling
+-- what is left of a spelling after one is a spelling
 cut : (done more rest : List ℕ) → AreBytes done → AreBytes more → escaped done ++ rest ≡ escaped more → (behind : List ℕ) × AreBytes behind × (rest ≡ escaped behind)
 unfolding first_of_spelling
 cut [] more rest done_bytes bytes is = (more, bytes, is)
@@ -158,7 +158,7 @@ nothing spelling done rest place bytes done_bytes is ends none plain plain_bytes
     no_more [] behind_small is = omega (arith, ap length is, length-drop place rest, ends.within)
     no_more (b ∷ behind) behind_small is = none b (escaped behind) (behind_small 0) (to_end rest place ∙ is)
 
--- the spelling behind an escape
+-- the spelling after an escape
 pub read_on : (spelling done rest : List ℕ) (place byte size : ℕ) → spelling ≡ escaped done ++ rest → EndsAt rest place → take size (slice_range rest place (length rest)) ≡ escaped_byte byte
     → spelling ≡ escaped ((done ++ take place rest) ++ byte ∷ []) ++ slice_range rest (place + size) (length rest)
 read_on spelling done rest place byte size is ends escape =
@@ -177,7 +177,7 @@ read_on spelling done rest place byte size is ends escape =
 pub read_all : (spelling done rest : List ℕ) → spelling ≡ escaped done ++ rest → None ≡ position (λ b. not (is_plain b)) rest → spelling ≡ escaped (done ++ rest)
 read_all spelling done rest is plain = is ∙ ap (λ l. escaped done ++ l) (sym (all_plain rest plain)) ∙ sym (escaped-append done rest)
 
--- the byte that ends a run, and what is behind it
+-- the byte that ends a run, and what is after it
 pub other_there : (rest : List ℕ) (place : ℕ) → get_or (slice_range rest place (length rest)) 0 0 ≡ get_or rest place 0
 other_there rest place = ap (λ l. get_or l 0 0) (to_end rest place) ∙ get_or-drop place rest 0 0 ∙ ap (λ n. get_or rest n 0) (let all : place + 0 ≡ place = omega arith in all)
 

@@ -50,13 +50,13 @@ slice_range-split from at middle end first second =
     let rest : drop (middle - at) (drop at from) ≡ drop middle from = drop-drop (middle - at) at from ∙ ap (λ n. drop n from) (let sum : at + (middle - at) ≡ middle = omega arith in sum) in
     ap (λ n. take n (drop at from)) whole ∙ take-add (middle - at) (end - middle) (drop at from) ∙ ap (λ l. take (middle - at) (drop at from) ++ take (end - middle) l) rest
 
--- behind a length stand the bytes of a body
+-- after a length stand the bytes of a body
 pub body_at : (from : List ℕ) (at start end number : ℕ) → IsFieldAt from at start (u32_field number) → end ≡ start + number → end ≤ length from → IsFieldAt from at end (bytes_field (slice_range from start end))
 body_at from at start end number field is within =
     let long : length (slice_range from start end) ≡ number = length-slice_range from start end within ∙ omega arith in
     record { in_range = (omega (arith, field.in_range), within); bytes = slice_range-split from at start end field.in_range.0 (omega arith) ∙ ap (λ bytes. bytes ++ slice_range from start end) field.bytes ∙ ap (λ n. u32_field n ++ slice_range from start end) (sym long) }
 
--- where too few bytes stand behind a length, there is no field of bytes
+-- where too few bytes stand after a length, there is no field of bytes
 pub no_body_at : (from : List ℕ) (at start number : ℕ) → start ≡ at + 4 → number < 2 ^ 32 → IsFieldAt from at start (u32_field number) → length from < start + number → HasNoBytesAt from at
 no_body_at from at start number next small length_field short body end fits field =
     let size : end - at ≡ 4 + length body = sym (length-slice_range from at end field.in_range.1) ∙ ap length field.bytes ∙ length-append (u32_field (length body)) body in
@@ -91,6 +91,6 @@ body_front a b behind rest small_a small_b is =
     let lengths = u32_front (length a) (length b) (a ++ behind) (b ++ rest) small_a small_b (sym (append_assoc (u32_field (length a)) a behind) ∙ is ∙ append_assoc (u32_field (length b)) b rest) in
     fronts (length b) a b behind rest lengths.0 refl lengths.1
 
--- the bytes from the place of a field on are the field and what is behind it
+-- the bytes from the place of a field on are the field and what is after it
 pub field_front : (from : List ℕ) (at end : ℕ) (field : List ℕ) → IsFieldAt from at end field → drop at from ≡ field ++ drop (end - at) (drop at from)
 field_front from at end field there = sym (take-append-drop (end - at) (drop at from)) ∙ ap (λ l. l ++ drop (end - at) (drop at from)) there.bytes

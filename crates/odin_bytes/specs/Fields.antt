@@ -1,4 +1,4 @@
--- The fields of records: numbers with their highest byte first, and bytes behind their length.
+-- The fields of records: numbers with their highest byte first, and bytes after their length.
 use Rattle.std.specs.Prelude.{◌≡◌, ℕ, ◌^◌, ◌<◌, ◌≤◌, List, [], ◌∷◌, ◌++◌, length, slice_range}
 use Rattle.byteorder.specs.Endian.{big_bytes}
 

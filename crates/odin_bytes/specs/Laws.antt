@@ -12,7 +12,7 @@ NumbersReadBack = (m n : ℕ) → m < 2 ^ 64 → n < 2 ^ 64 → decimal m ≡ de
 abbrev pub EscapesReadBack : Type 0
 EscapesReadBack = (a b : List ℕ) → AreBytes a → AreBytes b → escaped a ≡ escaped b → a ≡ b
 
--- Where two fields of one kind begin what is the same, they and what is behind them are the same.
+-- Where two fields of one kind begin what is the same, they and what is after them are the same.
 pub record FieldsReadBack : Type 0 where
   pub u32s : (m n : ℕ) (behind rest : List ℕ) → m < 2 ^ 32 → n < 2 ^ 32 → u32_field m ++ behind ≡ u32_field n ++ rest → (m ≡ n) × (behind ≡ rest)
   pub u64s : (m n : ℕ) (behind rest : List ℕ) → m < 2 ^ 64 → n < 2 ^ 64 → u64_field m ++ behind ≡ u64_field n ++ rest → (m ≡ n) × (behind ≡ rest)

@@ -1,11 +1,11 @@
 // The commands of a session.
-use object_values::Bytes;
 use crate::names::Name;
+use object_values::Bytes;
 
-/// A command, by its line: one variant a row of the table of commands in docs/SESSIONS.md.
+/// A command, by its line: one variant a row of the table of commands in docs/user/reference.md.
 #[derive(Drop)]
 pub enum Command {
-    /// The bytes behind the line, so many, are the new text of the source.
+    /// The bytes after the line, so many, are the new text of the source.
     Put(Name, u64),
     /// The file of this name in the tree is the new text.
     Take(Name),
@@ -22,6 +22,6 @@ pub enum Command {
     Nothing,
     /// None of the other commands.
     Bad,
-    /// A command whose word for a name is none, and how many bytes behind its line are passed over.
+    /// A command whose word for a name is none, and how many bytes after its line are passed over.
     BadName(u64),
 }

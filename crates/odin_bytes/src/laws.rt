@@ -11,7 +11,7 @@ pub fn escapes_read_back()
     ensures { EscapesReadBack }
 {}
 
-/// Where two fields of one kind begin what is the same, they and what is behind them are the same.
+/// Where two fields of one kind begin what is the same, they and what is after them are the same.
 pub fn fields_read_back()
     ensures { FieldsReadBack }
 {}

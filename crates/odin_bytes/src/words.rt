@@ -8,7 +8,7 @@ use memchr::memchr;
 use object_values::Memory;
 use std::alloc::Global;
 
-/// What stands before the first such byte, and what stands behind it.
+/// What stands before the first such byte, and what stands after it.
 pub fn cut_at(byte: u8, text: &[u8]) -> Option<(&[u8], &[u8])>
     ensures some { IfSome result (λ cut. IsCutAt byte text.now cut.0.now cut.1.now) }
     ensures none { IfNone result (HasNo byte text.now) }

@@ -35,7 +35,7 @@ names_none word a none = sym (cond-true _ _ _ a ∙ cond-false _ _ _ (no_name wo
 pub may_name : (word : List ℕ) → word ≢ [] → HasNo 32 word → is_argument word ≡ true
 may_name word some spaceless = argument_test word (record { some = some; spaceless = spaceless })
 
--- ---- the words behind `put `
+-- ---- the words after `put `
 
 pub no_put_space : (rest : List ℕ) → HasNo 32 rest → None ≡ put_words rest
 no_put_space rest h = sym (ap (λ o. put_of (before_space rest) (option_and_then decimal_number o)) (none_space rest h))

@@ -1,4 +1,4 @@
--- Items behind one another: what is read of them, and that no others stand there.
+-- Items after one another: what is read of them, and that no others stand there.
 use Rattle.std.proofs.Common.{◌≡◌, ◌≢◌, inl, inr, length-append, ℕ, ◌<◌, List, [], ◌∷◌, ◌++◌, length, sym, ap, ◌∙◌, subst, refl, arith, append_assoc, append-nil, decimal}
 use Rattle.std.specs.Prelude.{flat_map, All, Option, Some, None}
 use Rattle.std.specs.Borrow.{Bor}
@@ -21,7 +21,7 @@ items_told spelled IsGood told (x ∷ xs) (y ∷ ys) behind rest many good also 
     let others = items_told spelled IsGood told xs ys behind rest (omega (arith, many)) (All-tail IsGood x xs good) (All-tail IsGood y ys also) first.1 in
     ((λ i. first.0 i ∷ others.0 i), others.1)
 
--- what stands behind fewer items begins with another one
+-- what stands after fewer items begins with another one
 pub one_more : {A : Type 0} (spelled : A → List ℕ) (IsGood : A → Type 0) → IsTold spelled IsGood → (xs ys : List A) (behind rest : List ℕ) → length xs < length ys → All IsGood xs → All IsGood ys
     → flat_map spelled xs ++ behind ≡ flat_map spelled ys ++ rest → (y : A) × (left : List ℕ) × IsGood y × (behind ≡ spelled y ++ left)
 one_more spelled IsGood told [] [] behind rest fewer good also is = absurd (omega (arith, fewer))
@@ -59,7 +59,7 @@ no_items spelled IsGood told text items rest count begun fewer none others behin
     let found = one_more spelled IsGood told items others rest behind (omega (arith, fewer, many.many)) begun.good many.each (sym begun.is ∙ is) in
     none found.0 found.1 found.2 found.3
 
--- ---- behind their count
+-- ---- after their count
 
 pub counted_told : {A : Type 0} (spelled : A → List ℕ) (IsGood : A → Type 0) → IsTold spelled IsGood → IsTold (counted_items spelled) (AreFormed IsGood)
 counted_told spelled IsGood told xs ys behind rest good also is =
@@ -67,7 +67,7 @@ counted_told spelled IsGood told xs ys behind rest good also is =
     (sym (append_assoc _ (flat_map spelled xs) behind) ∙ is ∙ append_assoc _ (flat_map spelled ys) rest) in
     items_told spelled IsGood told xs ys behind rest first.0 good.each also.each first.1
 
--- what is read of the items behind their count
+-- what is read of the items after their count
 pub counted_reads : {A : Type 0} (spelled : A → List ℕ) (IsGood : A → Type 0) (text rest : List ℕ) (count : ℕ) → text ≡ with_lf (decimal count) ++ rest → IsSmall count
     → (read : Option (List A × Bor (List ℕ))) → ReadsFrontItems spelled IsGood count rest read → ReadsFront (counted_items spelled) (AreFormed IsGood) text read
 counted_reads spelled IsGood text rest count is small (Some read) (rest_is, good) = (

@@ -218,7 +218,7 @@ compound_only (Simple t) text behind is = let wrong : ◌≡◌ {A = ℕ} 99 115
 compound_only (Listed lines) text behind is = let wrong : ◌≡◌ {A = ℕ} 99 108 = ap first is in absurd (omega arith)
 compound_only (Compound parts) text behind is = (parts, refl, cc)
 
--- behind each word, no body where what it says isn't there
+-- after each word, no body where what it says isn't there
 pub no_simple : (text : List ℕ) → ((t behind : List ℕ) → IsSmall (length t) → text ≢ sized t ++ behind) → (body : ShownBody) (behind : List ℕ) → IsFormedBody body → codes "simple " ++ text ≢ body_text body ++ behind
 no_simple text none body behind good is = let only = simple_only body text behind is in none only.0 behind (subst IsFormedBody only.1 good) only.2
 
@@ -266,7 +266,7 @@ pub record Object : Type 0 where
   pub body : ShownBody
   pub messages : List Message
 
--- behind the word
+-- after the word
 abbrev pub object_said : Object → List ℕ
 object_said o = (status_word o.status ++ codes " ") ++ (body_text o.body ++ messages_text o.messages)
 

@@ -45,7 +45,7 @@ id_has_no b never name id = let test = (word_decides is_key_byte name).1 id.key 
 pub behind_lf : (line behind : List ℕ) → with_lf line ++ behind ≡ line ++ 10 ∷ behind
 behind_lf line behind = append_assoc line (10 ∷ []) behind
 
--- two first lines are one, and so is what is behind them
+-- two first lines are one, and so is what is after them
 pub same_line : (a b behind rest : List ℕ) → HasNoLf a → HasNoLf b → with_lf a ++ behind ≡ with_lf b ++ rest → (a ≡ b) × (behind ≡ rest)
 same_line a b behind rest no_a no_b is = same_cut 10 a b behind rest no_a no_b (sym (behind_lf a behind) ∙ is ∙ behind_lf b rest)
 
@@ -65,7 +65,7 @@ numbers_told a b behind rest small_a small_b is =
 pub no_line : (text line behind : List ℕ) → HasNoLf text → text ≢ with_lf line ++ behind
 no_line text line behind none is = HasNo-split 10 line behind (subst HasNoLf (is ∙ behind_lf line behind) none)
 
--- ---- words behind a space
+-- ---- words after a space
 
 pub counted_is : (word : List ℕ) (number : ℕ) (behind : List ℕ) → with_lf (word_and_number word number) ++ behind ≡ word ++ 32 ∷ (with_lf (decimal number) ++ behind)
 counted_is word number behind =
@@ -93,7 +93,7 @@ same_body a b behind rest long is =
     let both = same_front a b (10 ∷ behind) (10 ∷ rest) long (sym (behind_lf a behind) ∙ is ∙ behind_lf b rest) in
     (both.0, behind_same a behind rest both.1)
 
--- a body behind the line of its length
+-- a body after the line of its length
 abbrev pub sized : List ℕ → List ℕ
 sized body = with_lf (decimal (length body)) ++ with_lf body
 
@@ -126,7 +126,7 @@ no_sized text rest size is small none body behind few reads =
     let both = numbers_told size (length body) rest (with_lf body ++ behind) small few (sym is ∙ reads ∙ append_assoc (with_lf (decimal (length body))) (with_lf body) behind) in
     none body behind (sym both.0) both.1
 
--- a body behind its size
+-- a body after its size
 pub sized_read : (text rest body behind : List ℕ) (size : ℕ) → text ≡ with_lf (decimal size) ++ rest → length body ≡ size → rest ≡ with_lf body ++ behind → text ≡ sized body ++ behind
 sized_read text rest body behind size is long rest_is =
     is ∙ ap (λ n. with_lf (decimal n) ++ rest) (sym long) ∙ ap (λ l. with_lf (decimal (length body)) ++ l) rest_is ∙ sym (append_assoc (with_lf (decimal (length body))) (with_lf body) behind)

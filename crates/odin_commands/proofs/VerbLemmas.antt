@@ -1,4 +1,4 @@
--- The words that replies begin with tell which reply it is, and what is said behind them tells the rest.
+-- The words that replies begin with tell which reply it is, and what is said after them tells the rest.
 use Rattle.std.proofs.Common.{◌≡◌, ◌≢◌, ℕ, List, [], ◌∷◌, ◌++◌, sym, ap, ◌∙◌, subst, refl, append_assoc, decimal, codes, ◌<◌, slice_index_or, lit<, length, arith}
 use Rattle.std.specs.Prelude.{⊤, Option, Some, None, flat_map}
 use Rattle.meaning_texts.specs.Classes.{IsName, IsId}
@@ -98,7 +98,7 @@ none_of_all text none (verb.Alone RefusedSize) = none 18 (lit< tt)
 none_of_all text none (verb.Alone RefusedRead) = none 19 (lit< tt)
 none_of_all text none (verb.Alone RefusedToolStart) = none 20 (lit< tt)
 
--- ---- what is said behind them
+-- ---- what is said after them
 
 abbrev pub Said : Verb → Type 0
 Said (verb.Alone v) = Unit {0}
@@ -182,7 +182,7 @@ formed_said (verb.Listed RefusedCircular) said good = good
 formed_said (verb.Listed RefusedDeep) said good = good
 formed_said verb.Object said good = good
 
--- A reply, by its words and by what it says behind them.
+-- A reply, by its words and by what it says after them.
 record IsOf (r : Reply) (v : Verb) (said : Said v) : Type 0 where
   is : reply_of v said ≡ r
   good : IsFormed r → IsSaid v said
@@ -218,7 +218,7 @@ parts (reply.Shown status body messages) = (verb.Object, (record { status = stat
 whole_text : (v : Verb) (said : Said v) (behind : List ℕ) → reply_text (reply_of v said) ++ behind ≡ word_of v ++ (said_text v said ++ behind)
 whole_text v said behind = ap (λ l. l ++ behind) (text_is v said) ∙ append_assoc (word_of v) (said_text v said) behind
 
--- what is read behind the words
+-- what is read after the words
 pub is_read : (v : Verb) (said : Said v) (text behind : List ℕ) → text ≡ said_text v said ++ behind → IsSaid v said
     → (word_of v ++ text ≡ reply_text (reply_of v said) ++ behind) × IsFormed (reply_of v said)
 is_read v said text behind is good = (ap (λ l. word_of v ++ l) is ∙ sym (whole_text v said behind), formed_said v said good)
@@ -227,7 +227,7 @@ pub read_as : (v : Verb) (said : Said v) (r : Reply) (text behind : List ℕ) �
     → (word_of v ++ text ≡ reply_text r ++ behind) × IsFormed r
 read_as v said r text behind it is good = subst (λ (r : Reply). (word_of v ++ text ≡ reply_text r ++ behind) × IsFormed r) (sym it) (is_read v said text behind is good)
 
--- Behind these words stands the rest of no reply.
+-- After these words stands the rest of no reply.
 pub none_said : (v : Verb) (text : List ℕ) → ((said : Said v) (behind : List ℕ) → IsSaid v said → text ≢ said_text v said ++ behind)
     → (r : Reply) (behind : List ℕ) → IsFormed r → word_of v ++ text ≢ reply_text r ++ behind
 none_said v text none r behind formed is = by_parts (parts r)

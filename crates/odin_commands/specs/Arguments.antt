@@ -10,7 +10,7 @@ use Rattle.odin_commands.specs.declared.read.Argument.TheVariants.{Name, Other, 
 abbrev pub argument_of : List ℕ → Argument
 argument_of word = if is_argument word then (if is_name word then Name word else Other) else NoWord
 
--- the command behind `take `, and behind `drop `
+-- the command after `take `, and after `drop `
 abbrev pub take_command : List ℕ → Option Command
 take_command word = naming (Take word) 0 word
 

@@ -7,7 +7,7 @@ use Rattle.meaning_texts.specs.Lines.{with_lf}
 use Rattle.meaning_commands.specs.Replies.{message_text, reply_text}
 use Rattle.meaning_commands.specs.Formed.{IsFormedMessage, IsFormed}
 
--- The text begins with the spelling of this good value, and this is behind it; or it begins with the spelling of none.
+-- The text begins with the spelling of this good value, and this is after it; or it begins with the spelling of none.
 abbrev pub ReadsFront : {A : Type 0} → (A → List ℕ) → (A → Type 0)
     → List ℕ → Option (A × Bor (List ℕ)) → Type 0
 ReadsFront spelled IsGood text (Some read) = (text ≡ spelled read.0 ++ read.1.now) × IsGood read.0
@@ -19,7 +19,7 @@ pub record AreSoMany {A : Type 0} (IsGood : A → Type 0) (count : ℕ) (items :
   pub many : length items ≡ count
   pub each : All IsGood items
 
--- The text begins with the spellings of so many good items, one behind another.
+-- The text begins with the spellings of so many good items, one after another.
 abbrev pub ReadsFrontItems : {A : Type 0} → (A → List ℕ) → (A → Type 0) → ℕ
     → List ℕ → Option (List A × Bor (List ℕ)) → Type 0
 ReadsFrontItems spelled IsGood count = ReadsFront (flat_map spelled) (AreSoMany IsGood count)
@@ -45,7 +45,7 @@ abbrev pub ParsesReplyAt : List ℕ → ℕ → Option (Reply × ℕ) → Type 0
 ParsesReplyAt text at (Some read) = IsReplyAt text at read.0 read.1
 ParsesReplyAt text at None = (reply : Reply) (end : ℕ) → ¬ IsReplyAt text at reply end
 
--- The text is the texts of these well formed replies, one behind another; or it is those of none.
+-- The text is the texts of these well formed replies, one after another; or it is those of none.
 abbrev pub AreReplies : List ℕ → Option (List Reply) → Type 0
 AreReplies text (Some replies) = (text ≡ flat_map reply_text replies) × All IsFormed replies
 AreReplies text None =

@@ -1,4 +1,4 @@
--- The words that replies begin with, and the reply of each by what is said behind them.
+-- The words that replies begin with, and the reply of each by what is said after them.
 use Rattle.std.specs.Prelude.{ℕ, List, codes}
 use Rattle.object_values.specs.declared.replies.Reply.{Reply}
 use Rattle.object_values.specs.declared.replies.Reply.TheVariants as reply
@@ -17,7 +17,7 @@ use Rattle.odin_commands.specs.declared.verbs.Listed.TheVariants.{Sources, Plan,
 use Rattle.odin_commands.specs.declared.verbs.Verb.{Verb}
 use Rattle.odin_commands.specs.declared.verbs.Verb.TheVariants as verb
 
--- ---- the words, with the space behind them where something is said
+-- ---- the words, with the space after them where something is said
 
 -- of a reply that says nothing more
 abbrev pub alone_word : Alone → List ℕ

@@ -1,4 +1,4 @@
--- What is written behind what is there.
+-- What is written after what is there.
 use Rattle.std.specs.Prelude.{◌≡◌, ℕ, List, ◌++◌, length, take, Result, Ok, Err}
 
 -- The text was added at the end. Where memory is wanted, what was there stands in front.

@@ -4,7 +4,7 @@ ghost use Rattle.meaning_commands.specs.Commands as meaning;
 
 use odin_bytes::Command;
 
-/// How many bytes behind its line belong to a command, whether they are a text or passed over.
+/// How many bytes after its line belong to a command, whether they are a text or passed over.
 pub fn body_size(command: &Command) -> u64
     ensures { result ≡ meaning.bytes_after_line command.now }
 {

@@ -1,4 +1,4 @@
-// Items behind their count: lines, parts and messages.
+// Items after their count: lines, parts and messages.
 ghost use Rattle.std.specs.Prelude.{◌≡◌, ◌≢◌, ℕ, List, IfOk, IfSome, IfNone};
 ghost use Rattle.object_values.specs.declared.messages.Status.{Status};
 ghost use Rattle.odin_bytes.specs.Spellings.{AreBytes};
@@ -12,13 +12,13 @@ use object_values::{Bytes, Memory, Message, Part, Seq, Status, Text};
 use odin_bytes::{cut_at, is_id, unescape};
 use std::alloc::Global;
 
-/// What stands behind a count, one item behind another.
+/// What stands after a count, one item after another.
 pub(crate) trait Item: Sized + Drop {
     ghost spelled: { Self → List ℕ };
 
     ghost IsGood: { Self → Type 0 };
 
-    /// The first item of a text, and what stands behind it.
+    /// The first item of a text, and what stands after it.
     fn read(alloc: Global, text: &[u8]) -> Result<Option<(Self, &[u8])>, Memory>
         ensures { IfOk result (ReadsFront spelled IsGood text.now) };
 }

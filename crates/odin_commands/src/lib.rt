@@ -1,4 +1,4 @@
-//! Both ways of one grammar: commands are read from their lines and replies are written, by docs/SESSIONS.md, and replies are read back from their texts.
+//! Both ways of one grammar: commands are read from their lines and replies are written, by docs/user/reference.md, and replies are read back from their texts.
 #![tactic(auto)]
 
 mod command;
@@ -15,9 +15,9 @@ mod verbs;
 mod write;
 
 pub use command::{body_size, ends_run};
-pub use odin_bytes::Command;
 pub use object_values::{Reply, ShownBody};
 pub use objects::write_each_message;
+pub use odin_bytes::Command;
 pub use read::read_command;
 pub use replies::{read_replies, read_reply};
 pub use write::{text_of, write_reply};

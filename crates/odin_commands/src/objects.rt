@@ -54,7 +54,7 @@ fn write_body(body: &ShownBody, out: &mut Bytes) -> Result<(), Memory>
     }
 }
 
-// A word and the space behind it.
+// A word and the space after it.
 fn write_word(word: &[u8], out: &mut Bytes) -> Result<(), Memory>
     ensures { AppendsText result out.old out.new (word.now ++ 32 ∷ []) }
 {

@@ -4,8 +4,8 @@ ghost use Rattle.meaning_commands.specs.Commands.{Spells};
 ghost use Rattle.meaning_commands.specs.Reading.{put_words, formed_command};
 ghost use Rattle.odin_commands.specs.Arguments.{argument_of, take_command, drop_command, single_word};
 
-use odin_bytes::{Command, Name, cut_at, read_name, read_number};
 use object_values::{Bytes, COMMAND_LIMIT, Memory};
+use odin_bytes::{Command, Name, cut_at, read_name, read_number};
 use std::alloc::Global;
 
 /// What stands in the place of a name.
@@ -30,7 +30,7 @@ fn read_argument(alloc: Global, word: &[u8]) -> Result<Argument, Memory>
     }
 }
 
-// The command behind `put `.
+// The command after `put `.
 fn read_put(alloc: Global, rest: &[u8]) -> Result<Option<Command>, Memory>
     ensures { IfOk result (λ command. command ≡ put_words rest.now) }
 {
@@ -47,7 +47,7 @@ fn read_put(alloc: Global, rest: &[u8]) -> Result<Option<Command>, Memory>
     }
 }
 
-// The command behind `take `.
+// The command after `take `.
 fn read_take(alloc: Global, word: &[u8]) -> Result<Option<Command>, Memory>
     ensures { IfOk result (λ command. command ≡ take_command word.now) }
 {
@@ -58,7 +58,7 @@ fn read_take(alloc: Global, word: &[u8]) -> Result<Option<Command>, Memory>
     }
 }
 
-// The command behind `drop `.
+// The command after `drop `.
 fn read_drop(alloc: Global, word: &[u8]) -> Result<Option<Command>, Memory>
     ensures { IfOk result (λ command. command ≡ drop_command word.now) }
 {

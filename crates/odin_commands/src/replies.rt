@@ -10,7 +10,7 @@ use crate::verbs::cut_verb;
 use object_values::{Memory, Reply, Seq};
 use std::alloc::Global;
 
-// The reply that a text begins with, and what stands behind it.
+// The reply that a text begins with, and what stands after it.
 fn read_first(alloc: Global, text: &[u8]) -> Result<Option<(Reply, &[u8])>, Memory>
     ensures { IfOk result (ReadsFront reply_text IsFormed text.now) }
 {
@@ -20,7 +20,7 @@ fn read_first(alloc: Global, text: &[u8]) -> Result<Option<(Reply, &[u8])>, Memo
     }
 }
 
-/// The well formed reply whose text begins at a place, and the place behind it. There is at most one.
+/// The well formed reply whose text begins at a place, and the place after it. There is at most one.
 pub fn read_reply(alloc: Global, text: &[u8], at: usize) -> Result<Option<(Reply, usize)>, Memory>
     ensures { IfOk result (ParsesReplyAt text.now at) }
 {
@@ -33,7 +33,7 @@ pub fn read_reply(alloc: Global, text: &[u8], at: usize) -> Result<Option<(Reply
     }
 }
 
-/// The well formed replies whose texts are the whole text, one behind another. There is one such list at most.
+/// The well formed replies whose texts are the whole text, one after another. There is one such list at most.
 pub fn read_replies(alloc: Global, text: &[u8]) -> Result<Option<Seq<Reply>>, Memory>
     ensures { IfOk result (AreReplies text.now) }
 {

@@ -1,4 +1,4 @@
-// What is said behind the first words of a reply.
+// What is said after the first words of a reply.
 ghost use Rattle.std.specs.Prelude.{◌++◌, IfOk};
 ghost use Rattle.meaning_commands.specs.Replies.{reply_text};
 ghost use Rattle.meaning_commands.specs.Formed.{IsFormed};
@@ -83,7 +83,7 @@ fn read_listed(alloc: Global, verb: Listed, text: &[u8]) -> Result<Option<(Reply
     }
 }
 
-/// The reply that begins with these words, by the text behind them.
+/// The reply that begins with these words, by the text after them.
 pub(crate) fn read_said(
     alloc: Global,
     verb: Verb,

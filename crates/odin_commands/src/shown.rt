@@ -11,7 +11,7 @@ use odin_bytes::cut_at;
 use odin_bytes::laws::escapes_read_back;
 use std::alloc::Global;
 
-// Behind the word.
+// After the word.
 fn read_simple(alloc: Global, text: &[u8]) -> Result<Option<(ShownBody, &[u8])>, Memory>
     ensures { IfOk result (ReadsFront body_text IsFormedBody (codes "simple " ++ text.now)) }
 {
@@ -86,7 +86,7 @@ fn is_shown_at(status: Status, body: &ShownBody) -> bool
     }
 }
 
-/// Behind the word `object`.
+/// After the word `object`.
 pub(crate) fn read_object(alloc: Global, text: &[u8]) -> Result<Option<(Reply, &[u8])>, Memory>
     ensures { IfOk result (ReadsFront reply_text IsFormed (codes "object " ++ text.now)) }
 {

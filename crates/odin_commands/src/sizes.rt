@@ -14,7 +14,7 @@ pub(crate) fn cut_number(text: &[u8]) -> Option<(u64, &[u8])>
     Some((read_number(digits)?, behind))
 }
 
-/// So many bytes, and what stands behind the LF that follows them.
+/// So many bytes, and what stands after the LF that follows them.
 pub(crate) fn cut_body(text: &[u8], size: u64) -> Option<(&[u8], &[u8])>
     ensures some { IfSome result (λ cut. text.now ≡ with_lf cut.0.now ++ cut.1.now) }
     ensures size { IfSome result (λ cut. length cut.0.now ≡ size) }

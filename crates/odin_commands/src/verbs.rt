@@ -1,11 +1,11 @@
-// The first words of replies, grouped by what is said behind them.
+// The first words of replies, grouped by what is said after them.
 ghost use Rattle.std.specs.Prelude.{◌≡◌, ◌≢◌, ◌++◌, ℕ, List, IfSome, IfNone};
 ghost use Rattle.odin_commands.specs.declared.verbs.Verb.{Verb};
 ghost use Rattle.odin_commands.specs.Verbs.{alone_word, numbered_word, named_word, identified_word, measured_word, listed_word, word_of, alone_reply, numbered_reply, named, identified, measured, listed};
 
 use object_values::{Bytes, Reply, Seq};
 
-/// The words of a reply that says nothing behind them.
+/// The words of a reply that says nothing after them.
 #[derive(Clone, Copy)]
 pub(crate) enum Alone {
     Bye,
@@ -46,7 +46,7 @@ pub(crate) enum Measured {
     Took,
 }
 
-/// Those of one with lines, behind their number.
+/// Those of one with lines, after their number.
 #[derive(Clone, Copy)]
 pub(crate) enum Listed {
     Sources,
@@ -245,7 +245,7 @@ impl Verb {
     }
 }
 
-/// The words that a text begins with, and what stands behind them.
+/// The words that a text begins with, and what stands after them.
 pub(crate) fn cut_verb(text: &[u8]) -> Option<(Verb, &[u8])>
     ensures some { IfSome result (λ cut. text.now ≡ word_of cut.0 ++ cut.1.now) }
     ensures none { IfNone result ((verb : Verb) (behind : List ℕ) →

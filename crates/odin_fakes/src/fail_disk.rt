@@ -2,8 +2,8 @@
 ghost use Rattle.std.specs.Prelude.{◌≡◌, ◌+◌, ◌^◌, ◌≤◌, length, IfOk, OnOk, OnErr};
 ghost use Rattle.odin_outside.specs.Causes.{HasCause, once_more};
 
-use odin_memory::MemDisk;
 use crate::plan::{FailPlan, Failing};
+use odin_memory::MemDisk;
 use odin_outside::{Disk, Failed};
 
 /// A file in memory that fails by plan, and where it has no room.

@@ -1,4 +1,4 @@
--- What a write behind the end of a store, or at its end, leaves of the store.
+-- What a write after the end of a store, or at its end, leaves of the store.
 use Rattle.std.proofs.Common.{◌≡◌, ◌≢◌, ◌⊎◌, inl, inr, ℕ, suc, ◌+◌, ◌-◌, ◌<◌, ◌≤◌, ◌^◌, ◌%◌, ◌==◌, min, if◌then◌else◌, List, [], ◌∷◌, ◌++◌, take, drop, length, get_or, slice_index, slice_range, sym, ap, subst, ◌∙◌, arith, append_assoc, length-append, length-drop}
 use Rattle.std.proofs.lemmas.List.{drop-take, get_or-take, get_or-drop, take-take, take_all, take-append-le, take_min, length-take-le}
 use Rattle.std.proofs.Math.Seq.{take-append_seam, drop-append_seam, get_or-append_seam}
@@ -90,7 +90,7 @@ closed_store image c records end store agree inside short shut =
       closed = record { within = inside; other = shut };
     }
 
--- and one with a record more, if the gate there is open, and the record and a closed gate stand behind it
+-- and one with a record more, if the gate there is open, and the record and a closed gate stand after it
 opened_store : (image c : List ℕ) (records : List (List ℕ)) (end : ℕ) (payload : List ℕ) → IsStore image records end → Agree end image c → length c ≤ file_limit → IsRecord c end payload → slice_index c (gate_after end payload) ≡ 0 → IsStore c (records ++ payload ∷ []) (gate_after end payload)
 opened_store image c records end payload store agree short last shut =
     let le = records_le image (start_of image) end records store.whole in
@@ -111,7 +111,7 @@ torn_agree at n image c le torn =
     let least : at ≡ min at (length image) = omega arith in
     record { same = ap (λ k. take k c) least ∙ torn.before; within = omega (arith, torn.no_shorter) }
 
--- the closed gate at the end stands in each outcome of a write behind it
+-- the closed gate at the end stands in each outcome of a write after it
 pub torn_store : (image c : List ℕ) (records : List (List ℕ)) (end at n : ℕ) → IsStore image records end → Torn at n image c → end < at → at + n ≤ 2 ^ 30 → IsStore c records end
 torn_store image c records end at n store torn behind_end room =
     let inside = store.closed.within in
@@ -121,7 +121,7 @@ torn_store image c records end at n store torn behind_end room =
     closed_store image c records end store (agree_less end (end + 1) image c (omega arith) agree) (omega (arith, agree.within)) (omega (arith, torn.no_longer))
     (subst (λ b. b ≢ 1) (sym (agree_index (end + 1) image c agree end (omega arith))) store.closed.other)
 
--- a length, a payload and a closed gate stand behind a gate
+-- a length, a payload and a closed gate stand after a gate
 pub record Stands (image : List ℕ) (end : ℕ) (payload : List ℕ) : Type 0 where
   pub body : slice_range image (end + 1) (gate_after end payload) ≡ bytes_field payload
   pub shut : slice_index image (gate_after end payload) ≡ 0
@@ -150,7 +150,7 @@ torn_gate_size image c end inside torn = omega (arith, torn.no_longer, torn.no_s
 pub torn_gate_back : (image c : List ℕ) (end : ℕ) → end < length image → Torn end 1 image c → drop (end + 1) c ≡ drop (end + 1) image
 torn_gate_back image c end inside torn = sym (take_all (length image - (end + 1)) (drop (end + 1) c) (omega (arith, torn_gate_size image c end inside torn, length-drop (end + 1) c))) ∙ torn.after
 
--- an open gate in front of what stands there makes a record of it
+-- an open gate before what stands there makes a record of it
 pub opened_torn : (image c : List ℕ) (records : List (List ℕ)) (end : ℕ) (payload : List ℕ) → IsStore image records end → Stands image end payload → Torn end 1 image c → slice_index c end ≡ 1 → IsStore c (records ++ payload ∷ []) (gate_after end payload)
 opened_torn image c records end payload store there torn one =
     let inside = store.closed.within in
@@ -192,7 +192,7 @@ rest_stays disk records end payload only_now rest =
     let here : (c : List ℕ) → MayLeave disk c → BeforeOrAfter records payload c = λ c left. inl (inr (end, subst (λ image. IsStore image records end) (sym (rest.quiet.only c left)) rest.store)) in
     no_call disk (BeforeOrAfter records payload) (λ c left. here c (only_now c left)) here
 
--- the bytes that are written behind a gate and those of the gate, as one write
+-- the bytes that are written after a gate and those of the gate, as one write
 pub gate_and_behind : (image mid c : List ℕ) (end : ℕ) (bytes : List ℕ) → end < length image → Written image (end + 1) bytes mid → Written mid end (1 ∷ []) c → Written image end (1 ∷ bytes) c
 gate_and_behind image mid c end bytes inside first second =
     let rest : List ℕ = drop (end + 1 + length bytes) image in

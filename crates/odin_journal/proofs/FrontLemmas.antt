@@ -7,7 +7,7 @@ use Rattle.meaning_records.specs.Images.{IsNew, IsStore, Stored}
 use Rattle.odin_journal.specs.Rest.{Clears, MakesNewStore}
 use Rattle.odin_journal.proofs.AppendLemmas.{agree_index, torn_agree, torn_gate_back, torn_gate_size}
 
--- what is written behind the byte at 0: the front of a new store without its first byte
+-- what is written after the byte at 0: the front of a new store without its first byte
 abbrev pub blank : List ℕ
 blank = drop 1 new_front
 

@@ -6,7 +6,7 @@ use Rattle.odin_bytes.specs.FieldLemmas.{body_at, field_front, u32_front, length
 use Rattle.meaning_records.specs.Images.{gate_after, IsOpen, IsRecord}
 use Rattle.odin_journal.proofs.AppendLemmas.{range_of_front}
 
--- what was read at a gate: at least a gate, and the number that stands behind it
+-- what was read at a gate: at least a gate, and the number that stands after it
 pub record Head (image head : List ℕ) (gate count : ℕ) : Type 0 where
   pub read : head ≡ slice_range image gate (gate + count)
   pub within : gate + count ≤ length image
@@ -26,7 +26,7 @@ opened image head gate count read some =
       one = ap (λ n. slice_index image n) (let all : gate ≡ gate + 0 = omega arith in all) ∙ sym (get_or-drop gate image 0 0) ∙ sym (get_or-take count (drop gate image) 0 0 some) ∙ ap (λ l. slice_index l 0) (sym (read.read ∙ part image gate count)) ∙ read.one;
     }
 
--- the length behind the gate, in the image
+-- the length after the gate, in the image
 pub length_there : (image head : List ℕ) (gate count number : ℕ) → Head image head gate count → IsFieldAt head 1 5 (u32_field number) → IsFieldAt image (gate + 1) (gate + 5) (u32_field number)
 length_there image head gate count number read field =
     let long : 5 ≤ count = omega (arith, head_length image head gate count read, field.in_range) in
@@ -35,7 +35,7 @@ length_there image head gate count number read field =
     let four : gate + 5 - (gate + 1) ≡ 4 = omega arith in
     record { in_range = (omega arith, omega arith); bytes = ap (λ n. take n (drop (gate + 1) image)) four ∙ sym here ∙ field.bytes }
 
--- a payload that was read behind them makes a record
+-- a payload that was read after them makes a record
 pub record_read : (image head payload : List ℕ) (gate count number : ℕ) → Head image head gate count → IsFieldAt head 1 5 (u32_field number) → number < 2 ^ 32 → 6 + number ≤ length image - gate
     → payload ≡ slice_range image (gate + 5) (gate + 5 + number) → IsRecord image gate payload
 record_read image head payload gate count number read field small room is =
@@ -49,7 +49,7 @@ record_read image head payload gate count number read field small room is =
       next = omega arith;
     }
 
--- where the payload and a gate behind it don't fit, there is none
+-- where the payload and a gate after it don't fit, there is none
 pub no_record : (image head payload : List ℕ) (gate count number : ℕ) → Head image head gate count → IsFieldAt head 1 5 (u32_field number) → number < 2 ^ 32 → length image - gate < 6 + number → IsRecord image gate payload → ⊥
 no_record image head payload gate count number read field small short there =
     let front = field_front image (gate + 1) (gate + 5) (u32_field number) (length_there image head gate count number read field) in

@@ -33,7 +33,7 @@ nowhere at = ⊥
 abbrev pub HasNoRecord : List ℕ → ℕ → Type 0
 HasNoRecord image gate = (payload : List ℕ) → ¬ (IsRecord image gate payload)
 
--- behind whole records from a start on stands an open gate with no record
+-- after whole records from a start on stands an open gate with no record
 pub record BreaksBehind (image : List ℕ) (start gate : ℕ) : Type 0 where
   pub records : List (List ℕ)
   pub whole : AreRecords image start records gate
@@ -54,7 +54,7 @@ IsAddFault end count (fault.NotOurs at) = ⊥
 IsAddFault end count (fault.Full at some) = (file_limit < end + 6 + count) × (at ≡ end) × (some ≡ count)
 IsAddFault end count other = ⊤
 
--- `Full` is answered exactly where so many bytes don't fit behind this end.
+-- `Full` is answered exactly where so many bytes don't fit after this end.
 pub record FullIsExact {T : Type 0} (end count : ℕ) (result : Result T JournalFault) : Type 0 where
   pub room : OnOk result (end + 6 + count ≤ file_limit)
   pub exact : file_limit < end + 6 + count → IsErrOf result (fault.Full end count)

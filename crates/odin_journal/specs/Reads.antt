@@ -22,7 +22,7 @@ BreaksHere disk size gate at = (at ≡ gate) × (IsQuietAt disk size → IsOpen 
 abbrev pub HasRecords : Telling → ℕ → ℕ → ℕ × List (List ℕ) → Type 0
 HasRecords disk size start read = IsQuietAt disk size → AreRecords disk.seen start read.1 read.0
 
--- such an open gate behind records
+-- such an open gate after records
 abbrev pub BreaksFrom : Telling → ℕ → ℕ → ℕ → Type 0
 BreaksFrom disk size start at = IsQuietAt disk size → BreaksBehind disk.seen start at
 

@@ -25,7 +25,7 @@ pub record IsCleared (disk : Telling) : Type 0 where
   pub zero_first : slice_index disk.seen 0 ≡ 0
   pub within : length disk.seen ≤ file_limit
 
--- such a file became it, and what lies behind a front is as it was
+-- such a file became it, and what lies after a front is as it was
 pub record Clears (old new : Telling) : Type 0 where
   pub cleared : IsCleared new
   pub back : drop 65 new.seen ≡ drop 65 old.seen
@@ -80,7 +80,7 @@ pub record AddsRecord (end next : ℕ) (payload : List ℕ) (old new : Telling) 
 abbrev pub KeepsOrAdds : ℕ → List ℕ → Telling → Telling → Type 0
 KeepsOrAdds end payload old new = (records : List (List ℕ)) → AtRest old records end → LeavesOnly old new (BeforeOrAfter records payload)
 
--- the same of the bytes behind a closed gate and that gate, which are those of a record
+-- the same of the bytes after a closed gate and that gate, which are those of a record
 abbrev pub AddsBytes : ℕ → List ℕ → Telling → Telling → Type 0
 AddsBytes end bytes old new = (payload : List ℕ) (records : List (List ℕ)) → bytes ≡ bytes_field payload ++ 0 ∷ [] → AtRest old records end → AtRest new (records ++ payload ∷ []) (end + 5 + length payload)
 

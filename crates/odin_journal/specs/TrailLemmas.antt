@@ -132,13 +132,13 @@ module _ {Kept Change Store Disk : Type 0} (m : Keeping Kept Change Store) (told
   pub none_grows : (disk : Disk) (store : Store) → ExtendsTrail m told [] disk store disk store
   none_grows disk store = untouched_grows disk disk store store refl (λ kept rests. rests)
 
-  -- one behind the other
+  -- one after the other
   pub grows_on : (some more : List Change) (old mid new : Disk) (store stored next : Store)
       → ExtendsTrail m told some old store mid stored → ExtendsTrail m told more mid stored new next → ExtendsTrail m told (some ++ more) old store new next
   grows_on some more old mid new store stored next grows also first start before trail =
       subst (λ changes. Trail m first (told start) changes next (told new)) (append_assoc before some more) (also first start (before ++ some) (grows first start before trail))
 
-  -- a call that stops behind others
+  -- a call that stops after others
   pub grows_stops : (some more : List Change) (old mid new : Disk) (store stored : Store)
       → ExtendsTrail m told some old store mid stored → StopsWithin m told more mid stored new → StopsWithin m told (some ++ more) old store new
   grows_stops some more old mid new store stored grows stops first start before trail =

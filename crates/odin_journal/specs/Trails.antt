@@ -1,4 +1,4 @@
--- A trail: changes that are kept on a disk, one behind another. An image stands for what is kept after some first changes, none skipped and none in part.
+-- A trail: changes that are kept on a disk, one after another. An image stands for what is kept after some first changes, none skipped and none in part.
 use Rattle.std.specs.Prelude.{◌⊎◌, ℕ, ◌≤◌, List, [], ◌∷◌, ◌++◌, length, take}
 use Rattle.odin_outside.specs.Disk.{Telling, LeavesOnly, MayLeave}
 

@@ -1,4 +1,4 @@
--- The work of calls on a disk, one behind another.
+-- The work of calls on a disk, one after another.
 use Rattle.std.proofs.Common.{ℕ, ◌+◌, ◌≤◌, Option, Some, None, refl, arith}
 use Rattle.odin_outside.specs.Disk.{Work}
 use Rattle.odin_outside.specs.Worked.{WorkedWithin}

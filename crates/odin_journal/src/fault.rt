@@ -4,7 +4,7 @@ use odin_outside::Failed;
 use std::alloc::{AllocError, Global};
 
 /// Why a journal refuses: the disk failed; the file isn't a store, and breaks at this offset; a record of this length doesn't fit
-/// behind this end; or want of memory.
+/// after this end; or want of memory.
 #[derive(Clone, Copy, Debug, PartialEq, Eq)]
 pub enum JournalFault {
     Disk,

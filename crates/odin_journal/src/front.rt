@@ -12,10 +12,10 @@ use crate::writes::write_synced;
 use object_values::STORE_LIMIT;
 use odin_outside::{Disk, Failed};
 
-/// The size of a front, behind which the records of a new store start.
+/// The size of a front, after which the records of a new store start.
 pub const FRONT_SIZE: u64 = 64;
 
-// Behind the byte at 0: the rest of the name, no second start, and a closed gate where the first one points.
+// After the byte at 0: the rest of the name, no second start, and a closed gate where the first one points.
 const BLANK_FRONT: &[u8; 64] =
     b"DINSTO1\0\0\0\0\0\0\0\0\0\0\0\0\0\0\0\x40\0\0\0\0\0\0\0\0\0\0\0\0\0\0\0\0\0\0\0\0\0\0\0\0\0\0\0\0\0\0\0\0\0\0\0\0\0\0\0\0\0";
 

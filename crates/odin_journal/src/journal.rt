@@ -1,4 +1,4 @@
-// The journal: an open gate, a length and a payload for each record, and a closed gate behind the last.
+// The journal: an open gate, a length and a payload for each record, and a closed gate after the last.
 ghost use Rattle.std.specs.Prelude.{◌≡◌, ◌<◌, ◌≤◌, ◌+◌, ◌*◌, ◌^◌, ◌++◌, [], ◌∷◌, length, IfOk, IfErr, OnOk};
 ghost use Rattle.odin_bytes.specs.Fields.{bytes_field};
 ghost use Rattle.odin_outside.specs.Causes.{HasCause};
@@ -109,7 +109,7 @@ fn behind_gate(alloc: Global, payload: &[u8]) -> Result<Bytes, Memory>
     Ok(bytes)
 }
 
-// Puts the bytes behind the closed gate at the end, and then opens it.
+// Puts the bytes after the closed gate at the end, and then opens it.
 fn add<D: Disk>(disk: &mut D, end: u64, bytes: &[u8]) -> Result<(), Failed>
     requires inside { end < D.size_of disk.old }
     requires room { end + 1 + length bytes.now ≤ 2 ^ 30 }

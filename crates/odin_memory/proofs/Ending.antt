@@ -30,7 +30,7 @@ pub place-lt : (order : List ℕ) (running : ℕ) → 0 < running → place_amon
 place-lt [] running some = some
 place-lt (place ∷ order) running some = mod-lt place some
 
--- the tools with this rest of the order, without the one at the place, and with this event behind the others
+-- the tools with this rest of the order, without the one at the place, and with this event after the others
 abbrev pub without : Tools → List ℕ → ℕ → ToolEvent → Tools
 without old rest place event = record old { order = rest; running = remove old.running place; log = old.log ++ event ∷ [] }
 

@@ -12,7 +12,7 @@ use Rattle.odin_memory.specs.Calls.{Call, Synced, changed, image_after, pending_
 use Rattle.odin_memory.specs.DiskLaws.{image_is_left}
 use Rattle.odin_memory.specs.Entries.{count_of, call_from_entry, calls_after, calls_from_entries, bytes_left, bytes_of, IsPlain, IsPending, IsUnfinished}
 
--- calls behind others
+-- calls after others
 pub after_both : (front back : List Entry) (bytes : List ℕ) (done : List Call) → calls_after (front ++ back) bytes done ≡ calls_after back (bytes_left front bytes) (calls_after front bytes done)
 after_both [] back bytes done = refl
 after_both (kept ∷ front) back bytes done = after_both front back (drop (count_of kept) bytes) (call_from_entry kept (take (count_of kept) bytes) ∷ done)
@@ -68,7 +68,7 @@ within_front first entries bytes moment within =
     ap (λ (es : List Entry). calls_from_entries es bytes) (sym (take-append-drop moment entries)) ∙ front_calls (take moment entries) (drop moment entries) bytes in
     within_tail first _ (calls_from_entries (take moment entries) bytes) (subst are parts within)
 
--- the next call, and the bytes behind it
+-- the next call, and the bytes after it
 pub next_call : (entries : List Entry) (bytes : List ℕ) (place : ℕ) (kept : Entry) → place < length entries → kept ≡ get_or entries place kept → calls_from_entries (take (place + 1) entries) bytes ≡ call_from_entry kept (take (count_of kept) (bytes_left (take place entries) bytes)) ∷ calls_from_entries (take place entries) bytes
 next_call entries bytes place kept inside is =
     let more : take (place + 1) entries ≡ take place entries ++ kept ∷ [] = next_entry entries place kept inside is in
@@ -132,7 +132,7 @@ bytes_both (kept ∷ front) back = let rest = bytes_both front back in omega (ar
 pub bytes_more : (entries : List Entry) (kept : Entry) → bytes_of (entries ++ kept ∷ []) ≡ bytes_of entries + count_of kept
 bytes_more entries kept = let both = bytes_both entries (kept ∷ []) in omega (arith, both)
 
--- a call behind the last sync
+-- a call after the last sync
 pub pending_at : (entries : List Entry) (pending place : ℕ) (kept : Entry) → All IsPending (drop pending entries) → pending ≤ place → place < length entries → kept ≡ get_or entries place kept → IsPending kept
 pending_at entries pending place kept all le inside is =
     let size : length (drop pending entries) ≡ length entries - pending = length-drop pending entries in

@@ -15,7 +15,7 @@ use Rattle.odin_memory.specs.Choices.{IsWhole, TearsAs, past_digit}
 use Rattle.odin_memory.specs.Entries.{call_from_entry, calls_after, calls_from_entries, bytes_left, EndsSynced, IsPending, DoesWhole, DoesNone, IsUnfinished, LeavesOut, LeavesOutLast, choice_past, Undoes, UndoesLast}
 use Rattle.odin_memory.proofs.Replaying.{after_both, last_call, Turn, turn_call, turn_whole}
 
--- by the choice of whole calls each is done, and so are those behind it
+-- by the choice of whole calls each is done, and so are those after it
 pub whole_tells : (choice : Choice) (kept : Entry) → IsWhole choice → DoesWhole choice kept
 whole_tells choice (entry.Write at n) whole = record { digit = ap (λ r. r % 8) whole.rest; chance = whole.chance }
 whole_tells choice (entry.Cut size) whole = record { digit = ap (λ r. r % 8) whole.rest; chance = whole.chance }

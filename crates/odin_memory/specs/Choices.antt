@@ -7,11 +7,11 @@ pub record IsWhole (choice : Choice) : Type 0 where
   pub rest : choice.rest ≡ 0
   pub chance : IsFalse choice.chance
 
--- the next write or cut is torn so: 0 not at all, 1 nothing of it is done
+-- the next write or cut is torn so: 0 whole, 1 nothing of it is done
 pub record TearsAs (how : ℕ) (choice : Choice) : Type 0 where
   pub digit : choice.rest % 8 ≡ how
   pub chance : IsFalse choice.chance
 
--- the choice for what is behind that write or cut
+-- the choice for what is after that write or cut
 abbrev pub past_digit : Choice → Choice
 past_digit choice = record choice { rest = choice.rest / 8 }

@@ -7,7 +7,7 @@ use Rattle.odin_outside.specs.Disk.{IsCrashImage, Torn, Cut}
 use Rattle.odin_outside.specs.Steps.{torn_image, cut_image, written_torn, taken_cut, synced_image}
 use Rattle.odin_memory.specs.Calls.{Call, Wrote, WasCut, Synced, Looked, image_after, pending_after, LeftSince, written}
 
--- what stands behind a write, wherever it begins
+-- what stands after a write, wherever it begins
 rest_same : (image : List ℕ) (at n : ℕ) → (length image < at) ⊎ (at ≤ length image) → drop (at + n) image ≡ drop (min at (length image) + n) image
 rest_same image at n (inl past) = drop_all (at + n) image (omega arith) ∙ sym (drop_all (min at (length image) + n) image (omega arith))
 rest_same image at n (inr inside) = let same : at + n ≡ min at (length image) + n = omega arith in ap (λ i. drop i image) same

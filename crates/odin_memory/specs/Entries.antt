@@ -23,7 +23,7 @@ call_from_entry (entry.Cut size) bytes = WasCut size
 call_from_entry entry.Sync bytes = Synced
 call_from_entry entry.Look bytes = Looked
 
--- the calls behind those that were done before, the newest first; the bytes are used up from the front
+-- the calls after those that were done before, the newest first; the bytes are used up from the front
 abbrev pub calls_after : List Entry → List ℕ → List Call → List Call
 calls_after [] bytes done = done
 calls_after (kept ∷ entries) bytes done = calls_after entries (drop (count_of kept) bytes) (call_from_entry kept (take (count_of kept) bytes) ∷ done)
@@ -76,7 +76,7 @@ DoesNone choice (entry.Cut size) = TearsAs 1 choice
 DoesNone choice entry.Sync = ⊥
 DoesNone choice entry.Look = ⊥
 
--- the choice for the calls behind it, where it is done whole
+-- the choice for the calls after it, where it is done whole
 abbrev pub choice_past : Entry → Choice → Choice
 choice_past (entry.Write at n) choice = past_digit choice
 choice_past (entry.Cut size) choice = past_digit choice

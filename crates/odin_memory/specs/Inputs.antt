@@ -8,7 +8,7 @@ use Rattle.meaning_calls.specs.Outcomes.{file_in}
 
 -- ---- lines
 
--- the lines of a text, cut at LF: a last one without LF counts, an empty one behind the last LF doesn't
+-- the lines of a text, cut at LF: a last one without LF counts, an empty one after the last LF doesn't
 unfoldable pub lines : List ℕ → List (List ℕ)
 lines text = (cut_lines text).full ++ last_line (cut_lines text).last
 

@@ -2,10 +2,10 @@
 ghost use Rattle.std.specs.Prelude.{◌≡◌, IfOk};
 ghost use Rattle.odin_memory.specs.Tools.{answer_among, answer_to_job};
 
+use crate::toys::toy;
 use object_values::{Copied, Memory, Seq};
 use odin_outside::{Job, Raw};
 use std::alloc::Global;
-use crate::toys::toy;
 
 /// A job with what it leaves.
 #[derive(PartialEq, Eq, Drop)]

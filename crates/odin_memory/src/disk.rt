@@ -71,7 +71,7 @@ impl Drop for MemDisk {
 /// A file in memory, as `MemDisk`, that also gives what crashes may leave.
 pub type CrashDisk = MemDisk;
 
-/// Writes bytes over an image and behind it. It takes no memory where the image has room for them.
+/// Writes bytes over an image and after it. It takes no memory where the image has room for them.
 pub fn overwrite(image: &mut Vec<u8>, start: usize, bytes: &[u8]) -> Result<(), AllocError>
     requires { start ≤ length image.old.items }
     ensures ok { OnOk result (image.new.items ≡ written image.old.items start bytes.now) }
@@ -123,9 +123,9 @@ impl MemDisk {
     }
 
     /// What a stop within a call may leave, by its number; 0 is the time before the first. The digits of the choice in base 8, from
-    /// the last one on, say of one write or cut after the other how it is torn, from the oldest since the last sync on: 0 not at all, 1
+    /// the last one on, say of one write or cut after the other how it is torn, from the oldest since the last sync on: 0 whole, 1
     /// nothing of it is done, 7 and all after it by chance. So 0 picks what a read gives after the call, and where the call is a write or
-    /// a cut, the digit 1 behind as many 0 as there were such calls since the sync before it picks what a read gave before the call.
+    /// a cut, the digit 1 after as many 0 as there were such calls since the sync before it picks what a read gave before the call.
     pub fn crash(&self, alloc: Global, moment: u32, choice: u64) -> Result<Bytes, Memory>
         requires { moment ≤ length self.now.calls }
         ensures left { IfOk result (IsLeftAt moment self.now) }

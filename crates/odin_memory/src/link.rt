@@ -1,4 +1,4 @@
-// What `ld` makes: the inputs one behind the other.
+// What `ld` makes: the inputs one after the other.
 ghost use Rattle.std.specs.Prelude.{◌≡◌, ◌++◌, ◌∷◌, [], OnOk};
 ghost use Rattle.odin_memory.specs.Programs as meaning;
 

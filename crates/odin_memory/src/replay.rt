@@ -20,7 +20,7 @@ fn count(entry: Entry) -> usize
     }
 }
 
-// The bytes of a kept call, and those behind them.
+// The bytes of a kept call, and those after them.
 fn split(entry: Entry, bytes: &[u8]) -> (&[u8], &[u8])
     ensures here { result.0.now ≡ take (count_of entry) bytes.now }
     ensures rest { result.1.now ≡ drop (count_of entry) bytes.now }
@@ -82,7 +82,7 @@ fn torn(
     Ok(image)
 }
 
-// The place behind the last sync.
+// The place after the last sync.
 fn pending_from(entries: &[Entry]) -> usize
     ensures unsynced { All IsPending (drop result entries.now) }
     ensures synced { EndsSynced (take result entries.now) }

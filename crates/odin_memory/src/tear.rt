@@ -93,7 +93,7 @@ fn mix_write(
     place(alloc, image, start, &bytes[..count])
 }
 
-// Cuts the image somewhere behind a size, and puts such bytes there.
+// Cuts the image somewhere after a size, and puts such bytes there.
 fn mix_cut(
     alloc: Global,
     image: &mut Vec<u8>,

@@ -6,7 +6,7 @@ ghost use Rattle.odin_memory.specs.Inputs.{lines};
 use object_values::{Bytes, Memory};
 use odin_bytes::first_line;
 
-/// The first line without its LF, and what stands behind it. An empty text has none.
+/// The first line without its LF, and what stands after it. An empty text has none.
 pub(crate) fn next_line(text: &[u8]) -> Option<(&[u8], &[u8])>
     ensures some { IfSome result (λ parts. lines text.now ≡ parts.0.now ∷ lines parts.1.now) }
     ensures shorter { IfSome result (λ parts. length parts.1.now < length text.now) }

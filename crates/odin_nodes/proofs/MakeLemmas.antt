@@ -24,7 +24,7 @@ use Rattle.odin_nodes.specs.Making.{bare_source, IsMade}
 
 -- ---- one step
 
--- the type behind more steps
+-- the type after more steps
 module _ (g : Graph) (n : Node) (at : ℕ) (typed : reached_type g n ≡ Some at) where
   pub typed_on : (steps : List Step) → reached_type g (record n { steps = n.steps ++ steps }) ≡ type_after g (Some at) steps
   unfolding reached_type
@@ -59,7 +59,7 @@ module _ (g : Graph) (n : Node) (at : ℕ) (typed : reached_type g n ≡ Some at
     typed = ap (λ (l : List Step). reached_type g (record n { steps = l })) same ∙ typed_there;
   }
 
-  -- the node behind a pick, and behind a path, with its type
+  -- the node after a pick, and after a path, with its type
   pub made_by_pick : (k : ℕ) (key : Text) (steps : List Step) (t : ℕ) → steps ≡ n.steps ++ PickKey key ∷ [] → Some t ≡ picked_type g key (kind_of g at) → IsMade g (step_on g n k (Pick key)) (record { node = record n { steps = steps }; at = t })
   made_by_pick k key steps t same is = with_steps (step_on g n k (Pick key)) steps (n.steps ++ PickKey key ∷ []) t same (picks k key t is) (pick_typed key t is)
 

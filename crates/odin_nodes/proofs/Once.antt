@@ -108,7 +108,7 @@ all_unlike : (k : Message) (xs : List Message) → AllByRecursion (λ y. message
 all_unlike k [] apart = refl
 all_unlike k (x ∷ xs) apart = apart_at k x xs [] apart.0 (all_unlike k xs apart.1)
 
--- what comes behind different messages
+-- what comes after different messages
 abbrev pub behind : List Message → List Message → List Message
 behind [] more = messages_once more
 behind (k ∷ messages) more = unlike k (behind messages more)
@@ -127,7 +127,7 @@ behind_none (k ∷ messages) = ap (unlike k) (behind_none messages)
 
 -- ---- up to the limit
 
--- behind no message all are inherited
+-- after no message all are inherited
 pub inherit_all : (needs own : List Message) → inherit [] (needs ++ own) ≡ inherit needs own
 unfolding inherit
 inherit_all needs own = refl

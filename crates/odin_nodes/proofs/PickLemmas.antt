@@ -20,7 +20,7 @@ use Rattle.meaning_tasks.specs.Values.{body, pick}
 
 -- ---- declared types
 
--- the declared type at a place behind the first so many declarations
+-- the declared type at a place after the first so many declarations
 abbrev pub declared_from : List Decl → ℕ → ℕ → Option TypeDecl
 declared_from decls i left = slice_get (filter_map as_type (drop i decls)) left
 

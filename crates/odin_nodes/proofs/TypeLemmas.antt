@@ -1,4 +1,4 @@
--- Types behind steps: they are there, and a list of steps is followed from its front.
+-- Types after steps: they are there, and a list of steps is followed from its front.
 use Rattle.std.proofs.Common.{◌≡◌, ℕ, zero, suc, ◌+◌, ◌<◌, ◌≤◌, Bool, true, false, cond, ◌&&◌, List, [], ◌∷◌, length, get_or, drop, map, is_some, refl, sym, ap, ◌∙◌, subst, arith, slice_get}
 use Rattle.std.specs.Prelude.{Option, Some, None, bytes_eq, find, unwrap_or}
 use Rattle.std.proofs.lemmas.List.{at_drop_more, at_drop_all, length-map}
@@ -60,7 +60,7 @@ reached_below g n t e = after_below g (Some (source_type g n.source)) n.steps t 
 
 -- ---- step by step
 
--- So many steps are followed: the type behind them is there, and the others go on from it.
+-- So many steps are followed: the type after them is there, and the others go on from it.
 pub record IsFollowed (g : Graph) (from : ℕ) (steps : List Step) (i at : ℕ) : Type 0 where
   pub within : at < length (types g)
   pub left : type_after g (Some from) steps ≡ type_after g (Some at) (drop i steps)

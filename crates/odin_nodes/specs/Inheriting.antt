@@ -6,7 +6,7 @@ use Rattle.object_values.specs.contracts.messages.MessagePartialEq.TheImpl.{ghos
 use Rattle.meaning_texts.specs.Limits.{message_limit}
 use Rattle.meaning_tasks.specs.Values.{inherit}
 
--- what is inherited behind the new messages is what is inherited behind the old ones with these
+-- what is inherited after the new messages is what is inherited after the old ones with these
 abbrev pub Inherits : List Message → List Message → List Message → Type 0
 Inherits old messages new = (more : List Message) → inherit new more ≡ inherit old (messages ++ more)
 

@@ -54,7 +54,7 @@ impl Inherited {
         Ok(())
     }
 
-    /// Adds messages behind those that are there. After want of memory some of them may be there.
+    /// Adds messages after those that are there. After want of memory some of them may be there.
     pub fn add(&mut self, alloc: Global, messages: &[Message]) -> Result<(), Memory>
         ensures ok { OnOk result (self.new ≡ inherit self.old messages.now) }
         ensures more { OnOk result (Inherits self.old messages.now self.new) }

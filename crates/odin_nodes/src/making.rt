@@ -235,7 +235,7 @@ impl Reached {
     }
 }
 
-/// Puts the makers of a path behind steps.
+/// Puts the makers of a path after steps.
 pub(crate) fn put_makers(path: &[u32], steps: &mut ShortSeq<Step>) -> Result<(), Memory>
     ensures { OnOk result (steps.new ≡ steps.old ++ map Step.Maker path.now) }
 {

@@ -18,7 +18,7 @@ pub fn label_of(alloc: Global, graph: &Graph, node: &Node) -> Result<Bytes, Memo
     Ok(label)
 }
 
-/// The label with the parameters behind the name.
+/// The label with the parameters after the name.
 pub fn node_text(alloc: Global, graph: &Graph, node: &Node) -> Result<Bytes, Memory>
     ensures { IfOk result (λ text. text ≡ text_of_node graph.now node.now) }
 {

@@ -29,7 +29,7 @@ pub(crate) fn reached_type(graph: &Graph, node: &Node) -> Option<u32>
     type_after(graph, source, node.steps.as_slice())
 }
 
-// The type behind steps that begin at a type.
+// The type after steps that begin at a type.
 fn type_after(graph: &Graph, from: u32, steps: &[Step]) -> Option<u32>
     requires { from < length (types graph.now) }
     ensures { result ≡ type_after graph.now (Some from) steps.now }
@@ -41,7 +41,7 @@ fn type_after(graph: &Graph, from: u32, steps: &[Step]) -> Option<u32>
     Some(at)
 }
 
-/// The type behind a path of makers that begins at a type.
+/// The type after a path of makers that begins at a type.
 pub(crate) fn type_along(graph: &Graph, plans: &Plans, from: u32, path: &[u32]) -> Option<u32>
     requires made { plans.now ≡ plans_of graph.now }
     requires from { from < length (types graph.now) }

@@ -175,7 +175,7 @@ SeesWritten at bytes old new = IsTrue old.follows → Written old.seen at bytes 
 abbrev pub SeesTorn : ℕ → List ℕ → Telling → Telling → Type 0
 SeesTorn at bytes old new = IsTrue old.follows → Torn at (length bytes) old.seen new.seen
 
--- what stood behind the size was taken away, or the cut was left midway
+-- what stood after the size was taken away, or the cut was left midway
 abbrev pub SeesTaken : ℕ → Telling → Telling → Type 0
 SeesTaken size old new = IsTrue old.follows → new.seen ≡ take size old.seen
 

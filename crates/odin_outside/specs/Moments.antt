@@ -1,4 +1,4 @@
--- What crashes leave over calls on a disk, one call behind another.
+-- What crashes leave over calls on a disk, one call after another.
 use Rattle.std.specs.Prelude.{◌≡◌, ◌⊎◌, ℕ, List, Result, Ok, Err, IsTrue, OnOk}
 use Rattle.std.proofs.Common.{inl, inr, sym, ◌∙◌, subst, arith}
 use Rattle.odin_outside.specs.Disk.{Pending, Telling, MayLeave, IsCrashImage, synced_at, wrote, same_pending, Torn, ChangesPending, LeavesOnly, IsQuiet}

@@ -35,7 +35,7 @@ pub trait Disk {
         ensures works { CountsWork 0 (told self.old).work (told self.new).work result }
         ensures cause { HasCause (faults self.old) (faults self.new) result };
 
-    /// Writes the bytes from `at` on, over what was there and behind it.
+    /// Writes the bytes from `at` on, over what was there and after it.
     fn write_at(&mut self, at: u64, bytes: &[u8]) -> Result<(), Failed>
         requires inside { at ≤ size_of self.old }
         requires end { at + length bytes.now ≤ 2 ^ 30 }

@@ -14,7 +14,7 @@ pub trait Source {
     /// How often it has failed.
     ghost faults: { Self → ℕ };
 
-    /// Reads the next bytes into the front of the buffer, and says how many: 0 is the end of the input. What stands behind them in
+    /// Reads the next bytes into the front of the buffer, and says how many: 0 is the end of the input. What stands after them in
     /// the buffer, and in all of it after an `Err`, is left open.
     fn read(&mut self, into: &mut [u8]) -> Result<usize, Failed>
         requires { 0 < length into.old }

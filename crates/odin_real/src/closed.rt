@@ -12,7 +12,7 @@ pub struct ClosedStreams {
 
 impl ClosedStreams {
     /// Opens the root folder once for each of the three standard streams: a folder can be opened, and neither read nor written as a file. Where a stream
-    /// is not closed, that takes a number behind the streams, and does nothing. No clause says so, since the system tells nothing of numbers.
+    /// is not closed, that takes a number after the streams, and does nothing. No clause says so, since the system tells nothing of numbers.
     pub fn hold<R: Files<File = File>>(rt: &R) -> Self {
         ClosedStreams {
             places: [

@@ -95,7 +95,7 @@ among call [] rest i = absurd i
 among call (x ∷ given) rest (inl e) = inl e
 among call (x ∷ given) rest (inr i) = inr (among call given rest i)
 
--- a call that is kept behind an item was kept before it, or is one of its ask
+-- a call that is kept after an item was kept before it, or is one of its ask
 abbrev Either : Graph → SessionState → Item → SessionState → Call → Type 0
 Either g old item new call = IsSome (kept_outcome new.held.calls call) → IsSome (kept_outcome old.held.calls call) ⊎ IsCallOfAsk g old item call
 
@@ -141,7 +141,7 @@ module _ (g : Graph) (old new : SessionState) (item : Item) (call : Call) where
 
 -- ---- all items
 
--- an ask behind one more item
+-- an ask after one more item
 behind_one : (g : Graph) (limit : ℕ) (first mid : SessionState) (item : Item) (items : List Item) (bytes : List ℕ) → AnswersItem commands (Step g limit) first item bytes mid → (call : Call) → ComesOfAsk g limit mid items call → ComesOfAsk g limit first (item ∷ items) call
 behind_one g limit first mid item items bytes a call c = record {
   front = item ∷ c.front;
@@ -154,7 +154,7 @@ behind_one g limit first mid item items bytes a call c = record {
   is = c.is;
 }
 
--- one of the first of the items, or of the one behind them
+-- one of the first of the items, or of the one after them
 at_front : (g : Graph) (limit : ℕ) (first : SessionState) (item : Item) (items : List Item) (call : Call) → IsCallOfAsk g first item call → ComesOfAsk g limit first (item ∷ items) call
 at_front g limit first item items call is = record { front = []; item = item; rest = items; cuts = refl; replies = []; old = first; run = refl; is = is }
 

@@ -22,12 +22,12 @@ pub held : (bytes line line' : List ℕ) (pending : Option Pending) (room : ℕ)
 held bytes line line' pending room none room_is is no_lf part k =
     subst (λ p. KeepsPart line' p (part ++ bytes)) (sym none) (Keeps-line line line' part bytes room room_is is no_lf (subst (λ p. KeepsPart line p part) none k))
 
--- bytes behind a line, and not the last one
+-- bytes after a line, and not the last one
 pub text_held : (bytes line : List ℕ) (held held' : Pending) → held'.command ≡ held.command → (keeps_body held.command ≡ true → held'.text ≡ held.text ++ bytes) → held'.missing + length bytes ≡ held.missing
     → Extends commands Keeps bytes (record { line = line; pending = Some held }) (record { line = line; pending = Some held' })
 text_held bytes line held held' command text missing part k = Keeps-text line part bytes held held' command text missing k
 
--- the last bytes behind a line
+-- the last bytes after a line
 pub text_ended : (bytes line : List ℕ) (held : Pending) (command : Command) (body : List ℕ) → command ≡ held.command → length bytes ≡ held.missing → (keeps_body held.command ≡ true → body ≡ held.text ++ bytes)
     → CompletesItem commands Keeps bytes (record { line = line; pending = Some held }) command body
 text_ended bytes line held command body is last text part k = rw is (Keeps-last line part bytes held body last text k)

@@ -71,7 +71,7 @@ Keeps-begun line part command held s some is k =
       },
     )
 
--- bytes behind the line, and not the last one
+-- bytes after the line, and not the last one
 pub Keeps-text : (line part bytes : List ℕ) (held held' : Pending) → held'.command ≡ held.command → (keeps_body held.command ≡ true → held'.text ≡ held.text ++ bytes) → held'.missing + length bytes ≡ held.missing
     → KeepsPart line (Some held) part → KeepsPart line (Some held') (part ++ bytes)
 Keeps-text line part bytes held held' command text missing k =
@@ -95,7 +95,7 @@ Keeps-text line part bytes held held' command text missing k =
       },
     )
 
--- the last bytes behind the line
+-- the last bytes after the line
 pub Keeps-last : (line part bytes : List ℕ) (held : Pending) (body : List ℕ) → length bytes ≡ held.missing → (keeps_body held.command ≡ true → body ≡ held.text ++ bytes) → KeepsPart line (Some held) part
     → streams.IsMadeWhole commands Keeps part bytes held.command body
 Keeps-last line part bytes held body last text k =
@@ -117,7 +117,7 @@ Keeps-less held part k = by held.line held.pending k
     by line None k = inl k.0
     by line (Some held) k = inr (held.command, k.1.begun)
 
--- the end of the input behind a line whose command takes no bytes
+-- the end of the input after a line whose command takes no bytes
 pub Keeps-last_line : (line part : List ℕ) (pending : Option Pending) (command : Command) → pending ≡ None → Spells (without_cr line) command → bytes_after_line command ≡ 0 → KeepsPart line pending part
     → items.IsItem commands (last_item part) command
 Keeps-last_line line part pending command e s none k =

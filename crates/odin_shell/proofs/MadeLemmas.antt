@@ -23,12 +23,12 @@ use Rattle.odin_shell.specs.Laws.{ChangesAreMade}
 
 -- ---- changes
 
--- changes one behind another
+-- changes one after another
 pub after_both : (made more : List Change) (held : Held) → after_changes store_keeping (made ++ more) held ≡ after_changes store_keeping more (after_changes store_keeping made held)
 after_both [] more held = refl
 after_both (change ∷ made) more held = after_both made more (apply change held)
 
--- calls that are kept come behind the others, and are no sources
+-- calls that are kept come after the others, and are no sources
 pub kept_calls : (given : Calls) (held : Held) → (after_changes store_keeping (keeps_of given) held).calls ≡ held.calls ++ given
 kept_calls [] held = sym (append-nil held.calls)
 kept_calls (x ∷ given) held = kept_calls given (apply (keeps x.0 x.1) held) ∙ append_assoc held.calls (x ∷ []) given

@@ -42,9 +42,9 @@ use Rattle.odin_shell.specs.Once.{CameOnce, IsAcknowledged, GoesBeyond, StaysAns
 use Rattle.odin_shell.proofs.MadeLemmas.{after_both, kept_calls, edits_keep, step_made, is_made, left_made, made_on}
 use Rattle.odin_shell.proofs.CrashLemmas.{grows}
 
--- ---- calls behind others
+-- ---- calls after others
 
--- what is not kept behind others is not kept among them, nor was it given
+-- what is not kept after others is not kept among them, nor was it given
 none_first : (kept given : Calls) (call : Call) → kept_outcome (kept ++ given) call ≡ None → kept_outcome kept call ≡ None
 none_first [] given call none = refl
 none_first (x ∷ kept) given call none = by_test (call_eq.eq call x.0) none (none_first kept given call)
@@ -53,7 +53,7 @@ none_first (x ∷ kept) given call none = by_test (call_eq.eq call x.0) none (no
     by_test true none more = none
     by_test false none more = more none
 
--- behind others that don't keep it a call has the outcome that it was given
+-- after others that don't keep it a call has the outcome that it was given
 behind_none : (kept given : Calls) (call : Call) → kept_outcome kept call ≡ None → kept_outcome (kept ++ given) call ≡ kept_outcome given call
 behind_none [] given call none = refl
 behind_none (x ∷ kept) given call none = by_test (call_eq.eq call x.0) none (behind_none kept given call)
@@ -128,7 +128,7 @@ module _ (g : Graph) (s : Sources) (kept : Calls) (limit : ℕ) (text : Text) (s
       let d = refused.drained in
       flights_are_logged g s (kept_outcome kept) d.node limit before (off_course for_spawn) (at_rest given now) d.run.flown
 
-  -- What is kept behind an answer agrees with all that was known at it.
+  -- What is kept after an answer agrees with all that was known at it.
   answer_agrees : HasAnswer g s kept limit text said given before now → Agrees kept given (kept_outcome (kept ++ given))
   answer_agrees answer call o e = elim (given_or_kept (kept_outcome kept) given call o e) [
     | inl came ↦
@@ -190,7 +190,7 @@ came_once g limit first last (item ∷ items) [] run = absurd run
 came_once g limit first last (item ∷ items) (bytes ∷ replies) run =
     came_both first run.0 last (step_once g limit first run.1.command item.body bytes run.0 run.1.step) (came_once g limit run.0 last items replies run.2)
 
--- ---- behind a crash
+-- ---- after a crash
 
 beyond_made : (g : Graph) (limit : ℕ) (acknowledged furthest : SessionState) → GoesBeyond g limit acknowledged furthest → ChangesAreMade acknowledged furthest
 beyond_made g limit acknowledged furthest (GoesBeyond.no_more same) =
@@ -207,7 +207,7 @@ module _ (again : AskedAgain) (g : Graph) (limit : ℕ) (text : Text) (reply : R
   abbrev sources : Sources
   sources = a.old.held.sources
 
-  -- what made the state behind the answer, and what came behind it
+  -- what made the state after the answer, and what came after it
   before_it : ChangesAreMade first a.mid
   before_it = made_on first a.old a.mid (is_made g limit first a.old a.front a.replies a.begins) (record { made = keeps_of a.given; list = a.makes.list; held = a.makes.held })
 

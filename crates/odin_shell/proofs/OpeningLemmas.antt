@@ -23,7 +23,7 @@ use Rattle.odin_shell.specs.Objects.{SourceTold}
 use Rattle.odin_shell.specs.Run.{DiskCount, SessionEnds}
 use Rattle.odin_shell.proofs.StateLemmas.{same_tools, same_tree, idle_few}
 
--- ---- what the file has behind the opening
+-- ---- what the file has after the opening
 
 module _ (text : Text) (old new : Telling) (engine : Engaged) (opens : OpensStore text old new engine.store) where
   pub written_first : Trail record_keeping opens.records old opens.opening engine.store new → HasWritten text [] old engine.store new

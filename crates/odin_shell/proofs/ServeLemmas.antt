@@ -1,4 +1,4 @@
--- A command served: its reply behind its change, and where it stops.
+-- A command served: its reply after its change, and where it stops.
 use Rattle.std.proofs.Common.{◌≡◌, ℕ, ◌+◌, ◌≤◌, true, false, List, [], ap, refl, ◌∙◌, subst, arith}
 use Rattle.odin_outside.specs.Spawned.{Spawned}
 use Rattle.meaning_graph.specs.Graphs.{Text, Graph}
@@ -32,7 +32,7 @@ module _ {D : Type 0} (disk : DiskMeaning D) where
       let two = second.epoch in
       record { epoch = omega (arith, one, two); ready = second.ready; faults = second.faults ∙ first.faults }
 
-  -- behind some bytes, at least one
+  -- after some bytes, at least one
   pub onward_more : (most count : ℕ) (code code' code'' : Engaged) (now now' now'' : D) → 1 ≤ count → IsOnward disk most code code' now now' → IsOnward disk 1 code' code'' now' now'' → IsOnward disk (most + count) code code'' now now''
   onward_more most count code code' code'' now now' now'' some first second =
       let one = first.epoch in
@@ -45,7 +45,7 @@ module _ {D : Type 0} (disk : DiskMeaning D) where
   pub onward_as : (most all : ℕ) (code code' : Engaged) (now now' : D) → most ≡ all → IsOnward disk most code code' now now' → IsOnward disk all code code' now now'
   onward_as most all code code' now now' same onward = subst (λ n. IsOnward disk n code code' now now') same onward
 
-  -- of so many commands one more may be served behind some of them
+  -- of so many commands one more may be served after some of them
   pub may_go_on : (all : ℕ) (most : ℕ) (code code' : Engaged) (now now' : D) (tools tools' : Spawned) → most + 1 ≤ all → MayServe all code (disk.size now) tools → IsOnward disk most code code' now now' → tools'.running ≡ []
       → MayServe 1 code' (disk.size now') tools'
   may_go_on all most code code' now now' tools tools' within may onward idle =

@@ -80,7 +80,7 @@ module _ {D : Type 0} (disk : DiskMeaning D) where
   pub none_goes : (piece : List ℕ) (told : Told D) (code : Engaged) (held : Cutter) → told.tools.running ≡ [] → HoldsAtRest (λ g text limit. streams.GoesOn commands Keeps (machine g text limit) (take 0 piece) told code held told code held) told.tools
   none_goes piece told code held idle = record { idle = idle; over = λ g text limit. stream.GoesOn-none commands Keeps (machine g text limit) told code held }
 
-  -- the next bytes of a piece, behind those that were taken
+  -- the next bytes of a piece, after those that were taken
   pub piece_goes : (piece : List ℕ) (at n : ℕ) (told told' told'' : Told D) (code code' code'' : Engaged) (held held' held'' : Cutter)
       → HoldsAtRest (λ g text limit. streams.GoesOn commands Keeps (machine g text limit) (take at piece) told code held told' code' held') told'.tools
       → HoldsAtRest (λ g text limit. streams.GoesOn commands Keeps (machine g text limit) (take n (take (length piece - at) (drop at piece))) told' code' held' told'' code'' held'') told''.tools

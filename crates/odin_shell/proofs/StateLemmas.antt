@@ -103,7 +103,7 @@ writing_stops told text changes more start store disk after_changes w stops =
 
 -- ---- the next state
 
--- the state behind these changes, with what is told of tools and tree then
+-- the state after these changes, with what is told of tools and tree then
 abbrev pub next_state : SessionState → List Change → Spawned → TreeTold → SessionState
 next_state state changes tools tree = record { held = after_changes store_keeping changes state.held; changes = state.changes ++ changes; tools = tools; tree = tree }
 
@@ -194,7 +194,7 @@ module _ {D : Type 0} (disk : DiskMeaning D) (g : Graph) (text : Text) (limit : 
             ((stops_left disk.told [] store store now now (goes_none disk.told store store now now same)).within first.held start.disk all (goes.grows first.held start.disk state.changes (fits.trail quiet)));
       }
 
-  -- the next change stopped behind them: every image has all of them, and may have that
+  -- the next change stopped after them: every image has all of them, and may have that
   pub lacks_last : (changes : List Change) (change : Change) (store : Store) (mid now : D) → Performs disk.told changes code.store store told.disk mid → StopsPerforming disk.told (change ∷ []) store mid now → IsQuiet (disk.told start.disk)
       → LacksLast first.held (state.changes ++ (changes ++ change ∷ [])) (disk.told start.disk) (disk.told now)
   lacks_last changes change store mid now goes stops quiet =
@@ -234,7 +234,7 @@ module _ {D : Type 0} (disk : DiskMeaning D) (g : Graph) (text : Text) (limit : 
         later = omega (arith, same, later);
       }
 
-  -- the last of the changes was due, and its batch doesn't fit behind those of the others
+  -- the last of the changes was due, and its batch doesn't fit after those of the others
   pub safe_full : (changes : List Change) (change : Change) (store : Store) (now : D) → Performs disk.told changes code.store store told.disk now → disk.faults now ≡ disk.faults told.disk
       → IsSafe text first.held state.changes (state.changes ++ (changes ++ change ∷ [])) (disk.told start.disk) (disk.told now) (disk.faults start.disk) (disk.faults now)
   safe_full changes change store now goes faults =

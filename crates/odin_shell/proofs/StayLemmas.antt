@@ -1,4 +1,4 @@
--- Behind each command the sources are names with texts that are not too long.
+-- After each command the sources are names with texts that are not too long.
 use Rattle.std.proofs.Common.{◌≡◌, ℕ, ◌≤◌, inl, inr, List, length, ap, sym, ◌∙◌, subst, arith}
 use Rattle.std.specs.Prelude.{⊤, Option, Some, None}
 use Rattle.std.specs.FinMap.{get}

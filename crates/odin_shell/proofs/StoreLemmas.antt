@@ -52,7 +52,7 @@ pub anything : (o : Option (List ℕ)) → IfSome o (λ text. ⊤)
 anything None = tt
 anything (Some text) = tt
 
--- the endings of a run behind which tools may run: those that leave them, and a failed output, which may come in the place of one
+-- the endings of a run after which tools may run: those that leave them, and a failed output, which may come in the place of one
 abbrev pub MayRunOn : Ending → Type 0
 MayRunOn Output = ⊤
 MayRunOn due = EndingLeavesTools due
@@ -69,7 +69,7 @@ status_runs Output status is three four five eight = λ runs. five is
 status_runs (Full at size) status is three four five eight = λ runs. eight is
 status_runs other status is three four five eight = λ runs. runs
 
--- what holds of the ending of a session, and of what may come in its place where the file is full, holds behind what is written then
+-- what holds of the ending of a session, and of what may come in its place where the file is full, holds after what is written then
 at_close : (due : Ending) (before now : SinkTold) (ending : Ending) (P : Ending → Type 0) → Closes due before now ending → P due → ((at size : ℕ) → P (Full at size) → P Memory × P Output) → P ending
 at_close (Full at size) before now ending P (inl line) p more = at_end (full_line at size) (Full at size) before now ending P line p (more at size p).1
 at_close (Full at size) before now ending P (inr none) p more = subst P (sym none.1) (more at size p).0
@@ -86,7 +86,7 @@ at_close TooLong before now ending P closes p more = subst P (sym closes.1) p
 at_close Loaded before now ending P closes p more = subst P (sym closes.1) p
 at_close Room before now ending P closes p more = subst P (sym closes.1) p
 
--- the count of the output's faults behind it
+-- the count of the output's faults after it
 close_output : (due : Ending) (first before now : SinkTold) (ending : Ending) → OutputCount due first.faults before.faults → Closes due before now ending → OutputCount ending first.faults now.faults
 close_output (Full at size) first before now ending same (inl (whole is)) = ap (λ (s : SinkTold). s.faults) is ∙ same
 close_output (Full at size) first before now ending same (inl (cut_off part)) = subst (λ n. IsCounted n now.faults) same part.counted

@@ -71,7 +71,7 @@ taken : (old : Texts) (name : Text) (before : TreeTold) (said : Reply) (new : Te
 taken old name before said new now none (inl is) = is
 taken old name before said new now none (inr unread) = absurd (not_counted before.faults now.faults none unread.failed)
 
--- what is told of a tree behind one answer
+-- what is told of a tree after one answer
 abbrev asked_once : TreeTold → TreeTold
 asked_once before = record { files = before.files; faults = before.faults; reads = once_more before.reads }
 
@@ -108,7 +108,7 @@ answered g limit old new text said given none (inr refused) =
 asked_sources : (g : Graph) (limit : ℕ) (text : Text) (old new : SessionState) (bytes : List ℕ) → AsksForObject g limit text old bytes new → new.held.sources ≡ old.held.sources
 asked_sources g limit text old new bytes asks = ap (λ (h : Held). h.sources) asks.makes.held ∙ kept_sources asks.given old.held
 
--- what is the same behind one command
+-- what is the same after one command
 record IsSame (g : Graph) (table : Table) (item : Item) (bytes bytes' : List ℕ) (old new old' new' : SessionState) : Type 0 where
   alike : AreAlike g table item bytes bytes' old new old' new'
   sources : new'.held.sources ≡ new.held.sources
@@ -121,7 +121,7 @@ same_bytes P Q bytes bytes' a b same = b.bytes_are ∙ ap reply_text same ∙ sy
 calls_stay : (calls more calls' more' : Calls) → more ≡ calls → more' ≡ calls' → KeepSame calls calls' → KeepSame more more'
 calls_stay calls more calls' more' stays stays' same call = ap (λ l. kept_outcome l call) stays' ∙ same call ∙ sym (ap (λ l. kept_outcome l call) stays)
 
--- those behind an ask
+-- those after an ask
 asked_calls : (g : Graph) (limit : ℕ) (text : Text) (old new : SessionState) (bytes : List ℕ) → (a : AsksForObject g limit text old bytes new) → new.held.calls ≡ old.held.calls ++ a.given
 asked_calls g limit text old new bytes a = ap (λ (h : Held). h.calls) a.makes.held ∙ kept_calls a.given old.held
 

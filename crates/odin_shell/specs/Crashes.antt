@@ -1,4 +1,4 @@
--- What a crash leaves of a session: the sources behind some first edits, and calls that were kept at the start or belong to an ask of it.
+-- What a crash leaves of a session: the sources after some first edits, and calls that were kept at the start or belong to an ask of it.
 use Rattle.std.specs.Prelude.{◌≡◌, ◌⊎◌, ℕ, ◌≤◌, List, [], ◌∷◌, ◌++◌, length, take, IsSome}
 use Rattle.object_values.specs.declared.nodes.Node.{Node}
 use Rattle.object_values.specs.declared.calls.Call.{Call}

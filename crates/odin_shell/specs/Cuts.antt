@@ -8,11 +8,11 @@ use Rattle.odin_shell.specs.declared.cutter.Front.{Front}
 use Rattle.odin_shell.specs.Language.{commands}
 use Rattle.odin_shell.specs.Held.{Keeps}
 
--- behind what was held nothing is held
+-- after what was held nothing is held
 abbrev pub ClearsCutter : Cutter → Cutter → Type 0
 ClearsCutter old new = (part : List ℕ) → Keeps old part → Keeps new []
 
--- The bytes make what is held longer, or make it a whole command, behind which nothing is held.
+-- The bytes make what is held longer, or make it a whole command, after which nothing is held.
 abbrev pub CutterTakes : List ℕ → Cutter → Option Whole → Cutter → Type 0
 CutterTakes bytes old None new = Extends commands Keeps bytes old new
 CutterTakes bytes old (Some whole) new = CompletesItem commands Keeps bytes old whole.command whole.body × ClearsCutter old new

@@ -83,7 +83,7 @@ pub record LiesBetween (text : Text) (acknowledged furthest : List Change) (star
   pub whole : furthest ≡ (acknowledged ++ some) ++ rest
   pub written : HasWritten text (acknowledged ++ some) start store now
 
--- The last of the changes was due, and its batch, of this length, doesn't fit behind the end of the file, which has those of the others.
+-- The last of the changes was due, and its batch, of this length, doesn't fit after the end of the file, which has those of the others.
 pub record OverBehind (text : Text) (front : List Change) (change : Change) (start now : Telling) (at size : ℕ) : Type 0 where
   pub store : Store
   pub written : HasWritten text front start store now

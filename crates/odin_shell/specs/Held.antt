@@ -12,7 +12,7 @@ use Rattle.odin_shell.specs.Language.{commands}
 abbrev pub held_length : ℕ
 held_length = 1026
 
--- a command that lacks some of the bytes behind its line; those that are there are held where it keeps them
+-- a command that lacks some of the bytes after its line; those that are there are held where it keeps them
 pub record IsPendingPart (held : Pending) (part : List ℕ) : Type 0 where
   pub begun : IsPartialCommand commands part held.command
   pub lacking : length begun.body + held.missing ≡ bytes_after_line held.command
@@ -26,7 +26,7 @@ KeepsPart line (Some held) part = (line ≡ []) × IsPendingPart held part
 abbrev pub Keeps : Cutter → List ℕ → Type 0
 Keeps cutter part = KeepsPart cutter.line cutter.pending part
 
--- this command before the first of the bytes behind its line
+-- this command before the first of the bytes after its line
 pub record PendingIsNew (command : Command) (held : Pending) : Type 0 where
   pub command_is : held.command ≡ command
   pub empty : held.text ≡ []

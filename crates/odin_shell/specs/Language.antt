@@ -6,7 +6,7 @@ use Rattle.odin_bytes.specs.declared.commands.Command.{Command}
 use Rattle.odin_bytes.specs.declared.commands.Command.TheVariants.{Put}
 use Rattle.meaning_commands.specs.Commands.{Spells, bytes_after_line, ends_run}
 
--- The bytes behind a `put` are kept where they are a text. All others are passed over.
+-- The bytes after a `put` are kept where they are a text. All others are passed over.
 abbrev pub keeps_body : Command → Bool
 keeps_body (Put name count) = nat_le count body_limit
 keeps_body other = false

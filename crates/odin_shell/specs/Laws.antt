@@ -39,7 +39,7 @@ OpenedIsOne = (given : Option Text) (o p : Opened) → GraphIsOpened given o →
 
 -- ---- what is held
 
--- Behind each command, with its reply or without, the sources are names with texts that are not too long.
+-- After each command, with its reply or without, the sources are names with texts that are not too long.
 pub record SourcesStay : Type 0 where
   pub replied : (g : Graph) (limit : ℕ) (old new : SessionState) (item : Item) (command : Command) (reply : List ℕ)
       → AreSources old.held.sources → IsItem commands item command
@@ -54,7 +54,7 @@ pub record ChangesAreMade (first last : SessionState) : Type 0 where
   pub list : last.changes ≡ first.changes ++ made
   pub held : last.held ≡ after_changes store_keeping made first.held
 
--- What is held behind a transcript is what its changes made, and so is what a command without a reply leaves.
+-- What is held after a transcript is what its changes made, and so is what a command without a reply leaves.
 pub record HeldIsMade : Type 0 where
   pub replied : (g : Graph) (limit : ℕ) (first last : SessionState) (items : List Item) (replies : List (List ℕ))
       → Transcript commands (Step g limit) first items replies last → ChangesAreMade first last
@@ -120,7 +120,7 @@ pub record BothCountKept (bytes others : List ℕ) (old old' : SessionState) : T
   pub others_are : others ≡ reply_text (Kept (length old'.held.calls))
 
 -- The replies are the same, but for the number of kept calls where it is asked for; and where the same calls are kept before, the same are
--- behind it, and so the same are run.
+-- after it, and so the same are run.
 pub record SaysSame (bytes others : List ℕ) (old new old' new' : SessionState) : Type 0 where
   pub reply : (others ≡ bytes) ⊎ BothCountKept bytes others old old'
   pub kept : KeepSame old.held.calls old'.held.calls → KeepSame new.held.calls new'.held.calls
@@ -131,7 +131,7 @@ AreAlike g table item bytes others old new old' new' =
     SaysSame bytes others old new old' new' ⊎ BothRefuse g table old.held.sources item bytes others
 
 -- Two transcripts of the same items, side by side, each with its own limit of tools: each item is
--- answered alike, and the sources behind it are the same.
+-- answered alike, and the sources after it are the same.
 pub data AreSideBySide (g : Graph) (limit most : ℕ) (table : Table)
     : SessionState → SessionState → List Item → List (List ℕ) → List (List ℕ) → SessionState → SessionState → Type 0 where
   at_end : (last last' : SessionState) → AreSideBySide g limit most table last last' [] [] [] last last'

@@ -5,11 +5,11 @@ use Rattle.meaning_texts.specs.Lines.{with_lf}
 use Rattle.meaning_graph.specs.Graphs.{Text}
 use Rattle.load_session.specs.declared.loaded.Loaded.{Loaded}
 
--- numbers, each behind a space
+-- numbers, each after a space
 abbrev pub spaced : List ℕ → Text
 spaced numbers = flat_map (λ number. 32 ∷ decimal number) numbers
 
--- a line of a word and the numbers behind it
+-- a line of a word and the numbers after it
 abbrev pub counts_line : Text → List ℕ → Text
 counts_line word numbers = with_lf (word ++ spaced numbers)
 

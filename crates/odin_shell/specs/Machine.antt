@@ -89,7 +89,7 @@ pub record Shows (P : Reply → Type 0) (old : SessionState) (bytes : List ℕ) 
 abbrev pub Replies : Reply → SessionState → List ℕ → SessionState → Type 0
 Replies said old bytes new = (bytes ≡ reply_text said) × (new ≡ old)
 
--- From the old state the command with these bytes behind its line gets this reply, and the new state comes after it. So many tools may run at
+-- From the old state the command with these bytes after its line gets this reply, and the new state comes after it. So many tools may run at
 -- once.
 abbrev pub Step : Graph → ℕ → SessionState → Command → List ℕ → List ℕ → SessionState → Type 0
 Step g limit old (Put name count) body bytes new = EditsByCommand name (Puts old.held.sources name count body) old bytes new

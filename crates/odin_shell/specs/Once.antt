@@ -37,7 +37,7 @@ NeverTwice =
     (g : Graph) (limit : ℕ) (first last : SessionState) (items : List Item) (replies : List (List ℕ))
     → Transcript commands (Step g limit) first items replies last → CameOnce first last
 
--- ---- behind a crash
+-- ---- after a crash
 
 -- A text was answered in a session, and the answer was acknowledged.
 pub record IsAcknowledged (g : Graph) (limit : ℕ) (text : Text) (reply : Reply) (first acknowledged : SessionState) : Type 0 where
@@ -53,7 +53,7 @@ pub record IsAcknowledged (g : Graph) (limit : ℕ) (text : Text) (reply : Reply
   pub others : List (List ℕ)
   pub goes : Transcript commands (Step g limit) mid back others acknowledged
 
--- The furthest state is what is acknowledged, or one command came behind it: without a reply, or with one that was cut off.
+-- The furthest state is what is acknowledged, or one command came after it: without a reply, or with one that was cut off.
 pub data GoesBeyond (g : Graph) (limit : ℕ) (acknowledged furthest : SessionState) : Type 0 where
   no_more : furthest ≡ acknowledged → GoesBeyond g limit acknowledged furthest
   unreplied : (item : Item) (command : Command) → IsItem commands item command → CommandMayLeave g limit acknowledged command item.body furthest → GoesBeyond g limit acknowledged furthest

@@ -171,7 +171,7 @@ module _ {I O T S D : Type 0} (m : Meaning I O T S D) (words : List Text) (befor
   abbrev InputStayed : Type 0
   InputStayed = m.input_faults after.input ≡ m.input_faults before.input
 
-  -- ---- what the tree told behind the reading of the graph
+  -- ---- what the tree told after the reading of the graph
 
   abbrev GraphRose : TreeTold → Type 0
   GraphRose opened = IsCounted (m.tree_faults before.tree) opened.faults
@@ -198,7 +198,7 @@ module _ {I O T S D : Type 0} (m : Meaning I O T S D) (words : List Text) (befor
     pub gives : TreeGives opened given
     pub reads : ReadsAsGraph given text g
 
-  -- Each way to end, from what the tree told behind the reading of the graph. What isn't named in `after ≡ ..` is as it was.
+  -- Each way to end, from what the tree told after the reading of the graph. What isn't named in `after ≡ ..` is as it was.
   pub data EndsAs (opened : TreeTold) (ending : Ending) : Type 0 where
     -- the words are refused, by the usage line
     words_refused : IsNotAccepted words → LastLine usage_line Usage (sink m before) (sink m after) ending → opened ≡ tree m before → after ≡ record before { output = after.output } → EndsAs opened ending

@@ -29,7 +29,7 @@ pub record HoldsAtHalt (P : Graph → Text → ℕ → Type 0) (stop : Stop) (to
   pub idle : ¬ EndingLeavesTools (ending_of stop) → tools.running ≡ []
 
 module _ {Disk : Type 0} (disk : DiskMeaning Disk) where
-  -- A command is served, and the session goes on behind it.
+  -- A command is served, and the session goes on after it.
   pub record ServesInSession (code code' : Engaged) (whole : Whole) (told told' : Told Disk) : Type 0 where
     pub on : ends_run whole.command ≡ false
     pub rests : HoldsAtRest (λ g text limit. machines.Serves commands (machine disk g text limit) code code' whole.command whole.body told told') told'.tools

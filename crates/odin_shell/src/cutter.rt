@@ -48,7 +48,7 @@ impl Cutter {
         }
     }
 
-    // Bytes behind the line of a command, up to its last one.
+    // Bytes after the line of a command, up to its last one.
     fn take_text(&mut self, held: Pending, piece: &[u8]) -> Result<Front, Memory>
         requires { 0 < length piece.now }
         ensures { IfOk result (Cuts (record self.old { pending = Some held }) piece.now self.new) }

@@ -14,7 +14,7 @@ pub(crate) enum Ending {
     Input,
     /// The offset at which the file is not a store's.
     NotOurs(u64),
-    /// Where the records of the file end, and the length of the batch that doesn't fit behind them.
+    /// Where the records of the file end, and the length of the batch that doesn't fit after them.
     Full(u64, u64),
     Usage,
     TooLong,

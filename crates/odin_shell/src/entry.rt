@@ -142,7 +142,7 @@ fn run_words<I: Source, O: Sink, T: Tree, D: Disk, S: Spawner>(
 }
 
 /// Runs the program: reads the words and the graph, opens the store, then serves the commands of the input, and gives the exit status. Where the words
-/// ask for a load session it is served in place of the input, over a disk and tools of its own. docs/SESSIONS.md tells the commands, the
+/// ask for a load session it is served in place of the input, over a disk and tools of its own. docs/user/reference.md tells the commands, the
 /// replies and the statuses.
 pub fn run<I: Source, O: Sink, T: Tree, D: Disk, S: Spawner>(
     alloc: Global,

@@ -1,4 +1,4 @@
-// How the bytes behind a line are held, where its command keeps them.
+// How the bytes after a line are held, where its command keeps them.
 ghost use Rattle.std.specs.Prelude.{◌≡◌, ◌+◌, ◌-◌, ◌<◌, ◌≤◌, ◌++◌, [], true, length, IfOk};
 ghost use Rattle.meaning_texts.specs.Limits.{body_limit};
 ghost use Rattle.meaning_commands.specs.Commands.{bytes_after_line};
@@ -38,7 +38,7 @@ impl Pending {
         })
     }
 
-    /// The command and its bytes, with these behind them, where it keeps them.
+    /// The command and its bytes, with these after them, where it keeps them.
     pub(crate) fn with_bytes(self, bytes: &[u8]) -> Result<(Command, Bytes), Memory>
         requires { length bytes.now ≤ self.missing }
         ensures command { IfOk result (λ parts. parts.0 ≡ self.command) }

@@ -16,7 +16,7 @@ pub(crate) fn line_not_ours(alloc: Global, at: u64) -> Result<Bytes, Memory>
     Ok(line)
 }
 
-/// That a batch of this length doesn't fit behind the end of the records.
+/// That a batch of this length doesn't fit after the end of the records.
 pub(crate) fn line_full(alloc: Global, end: u64, length: u64) -> Result<Bytes, Memory>
     ensures { IfOk result (λ line. line ≡ full_line end length) }
 {

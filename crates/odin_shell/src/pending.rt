@@ -1,4 +1,4 @@
-// A command that lacks some of the bytes behind its line.
+// A command that lacks some of the bytes after its line.
 ghost use Rattle.std.specs.Prelude.{◌≡◌, ◌+◌, ◌<◌, ◌≤◌, length};
 ghost use Rattle.meaning_texts.specs.Limits.{body_limit};
 ghost use Rattle.odin_shell.specs.Language.{kept_of};
@@ -6,7 +6,7 @@ ghost use Rattle.odin_shell.specs.Language.{kept_of};
 use object_values::Bytes;
 use odin_commands::Command;
 
-/// A command that lacks some of the bytes behind its line: those that are there, where it keeps them, and how many are missing.
+/// A command that lacks some of the bytes after its line: those that are there, where it keeps them, and how many are missing.
 pub(crate) struct Pending {
     pub(crate) command: Command,
     pub(crate) text: Bytes,

@@ -13,7 +13,7 @@ pub(crate) enum Stop {
     Disk,
     Memory,
     Output,
-    /// Where the records of the file end, and the length of the batch that doesn't fit behind them.
+    /// Where the records of the file end, and the length of the batch that doesn't fit after them.
     Full(u64, u64),
     /// The command ends the run.
     Quit,

@@ -5,7 +5,7 @@ ghost use Rattle.meaning_texts.specs.Limits.{body_limit};
 use object_values::Bytes;
 use odin_commands::Command;
 
-/// A command, with the bytes behind its line, where it keeps them.
+/// A command, with the bytes after its line, where it keeps them.
 pub(crate) struct Whole {
     pub(crate) command: Command,
     pub(crate) body: Bytes,

@@ -9,7 +9,10 @@ use crate::store::store_of;
 use crate::words::words_of;
 use object_values::Memory;
 use odin_outside::{Disk, Sink, Source, Spawner, Tree};
-use odin_real::{ChildTools, ClosedStreams, FileDisk, FolderTree, HostSystem, InputSource, NamedFile, OutputSink, RawFile, System};
+use odin_real::{
+    ChildTools, ClosedStreams, FileDisk, FolderTree, HostSystem, InputSource, NamedFile,
+    OutputSink, RawFile, System,
+};
 use odin_shell::run;
 use std::alloc::Global;
 use std::io::{self, Eprint};

@@ -30,7 +30,7 @@ seam : (contents : List Value) (value : Value) → slice_get (contents ++ value 
 seam [] value = refl
 seam (first ∷ contents) value = seam contents value
 
--- a put behind tables that have the text
+-- a put after tables that have the text
 put_taken : (tables next : Tables) (sources : Texts) (graph : Option Text) (name text : Text) (number : ℕ) → Loads tables (Put name number) next → IsText tables.contents number text
     → TakesOne (record { tables = tables; sources = sources; graph = graph }) (Put name number) (record { tables = next; sources = texts.insert sources name text; graph = graph })
 put_taken tables next sources graph name text number loads there = record { loads = loads; edits = (text, there, refl); graph = refl }
@@ -133,7 +133,7 @@ call_some : (values : List Value) (stored : StoredCall) (given : StoredOutcome) 
 call_some [] stored given none = let no : ⊥ = cc in no
 call_some (value ∷ values) stored given none = let no : ⊥ = cc in no
 
--- the call is kept behind the contents that it needs
+-- the call is kept after the contents that it needs
 call_loaded : ReadsInOneWay → (values : List Value) (tables next : Tables) (contents : List Value) (stored : StoredCall) (given : StoredOutcome) (call : Call) (outcome : Outcome)
     → contents ≡ tables.contents ++ values → IsCallOf contents stored call → IsOutcomeOf contents given outcome → kept.MayKeep tables call outcome
     → All item.fits (map Content values ++ Kept stored given ∷ []) → LoadsAll tables (map Content values ++ Kept stored given ∷ []) next

@@ -40,11 +40,11 @@ last_read law (front ∷ payloads) payload first mid new before read =
     let same : read.0 ≡ before.0 = law first front before.0 read.0 before.1 read.1 in
     last_read law payloads payload before.0 mid new before.2 (subst (λ s. ReadsAll s (payloads ++ payload ∷ []) new) same read.2)
 
--- one batch behind none
+-- one batch after none
 alone : (change : Change) (items : List Item) (old new : State) → IsBatchOf old.tables.contents change items → Reads old (spell_batch items) new → AreBatches old (change ∷ []) (spell_batch items ∷ []) new
 alone change items old new batch reads = AreBatches.one_batch [] [] old change items new AreBatches.no_batches batch reads
 
--- batches behind batches
+-- batches after batches
 pub batches_on : (old mid : State) (some : List Change) (payloads : List (List ℕ)) → AreBatches old some payloads mid → (more : List Change) (others : List (List ℕ)) (new : State) → AreBatches mid more others new
     → AreBatches old (some ++ more) (payloads ++ others) new
 batches_on old mid some payloads first _ _ _ AreBatches.no_batches =

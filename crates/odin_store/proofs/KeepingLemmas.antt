@@ -1,4 +1,4 @@
--- A store keeps changes on a disk, one behind another.
+-- A store keeps changes on a disk, one after another.
 use Rattle.std.proofs.Common.{◌≡◌, ◌⊎◌, inl, inr, List, [], ◌∷◌, ◌++◌, ℕ, Option, Some, refl, sym, ap, subst, ◌∙◌, arith}
 use Rattle.odin_outside.specs.Disk.{Telling, MayLeave, LeavesOnly, IsQuiet}
 use Rattle.odin_outside.specs.Moments.{weaker}

@@ -17,13 +17,13 @@ use Rattle.odin_store.specs.OnDisk.{held_in, state_in, IsOn, IsSame, LeavesChang
 use Rattle.odin_store.specs.Changes.{PutBatch, DropBatch, Edits, KeepsCall}
 use Rattle.odin_store.specs.Keeping.{store_keeping}
 
--- the batch of a change, behind these contents
+-- the batch of a change, after these contents
 abbrev pub IsBatchOf : List Value → Change → List Item → Type 0
 IsBatchOf contents (puts name text) items = IsPutBatch contents name text items
 IsBatchOf contents (drops name) items = items ≡ drop_batch name
 IsBatchOf contents (keeps call outcome) items = IsCallBatch contents call outcome items
 
--- One batch for each change, in their order, and no others: each is of its change behind what was read before it, and reads there.
+-- One batch for each change, in their order, and no others: each is of its change after what was read before it, and reads there.
 pub data AreBatches (old : State) : List Change → List (List ℕ) → State → Type 0 where
   no_batches : AreBatches old [] [] old
   one_batch : (changes : List Change) (payloads : List (List ℕ)) (mid : State) (change : Change) (items : List Item) (new : State)
@@ -93,7 +93,7 @@ module _ {Disk : Type 0} (told : Disk → Telling) where
     pub behind : (some more : List Change) (store mid next : Store) (disk between after : Disk)
         → Performs told some store mid disk between → Performs told more mid next between after → Performs told (some ++ more) store next disk after
 
-  -- Where changes stop: within one that failed, behind others, or at any moment; and more of them may have been meant.
+  -- Where changes stop: within one that failed, after others, or at any moment; and more of them may have been meant.
   pub record ChangesStop : Type 0 where
     pub failed : (change : Change) (store : Store) (disk after : Disk) → LeavesChange change store (told disk) (told after)
         → BeginsOnce (IsBatchOf store.kept.tables.contents change) store (told disk) (told after) → StopsPerforming told (change ∷ []) store disk after

@@ -1,4 +1,4 @@
--- A store as one that keeps changes on a disk, one behind another.
+-- A store as one that keeps changes on a disk, one after another.
 use Rattle.std.specs.Prelude.{◌≡◌, ℕ, List, [], Option}
 use Rattle.odin_outside.specs.Disk.{Telling, IsQuiet, MayLeave}
 use Rattle.object_values.specs.Texts.{Text}

@@ -18,11 +18,11 @@ pub record TakesItem (payload : List ℕ) (at end : ℕ) (old new : State) : Typ
   pub stands : ParsesAt item payload at end it
   pub takes : TakesOne old it new
 
--- no item stands there that may come behind what is kept
+-- no item stands there that may come after what is kept
 abbrev pub TakesNone : List ℕ → ℕ → State → Type 0
 TakesNone payload at old = (it : Item) (end : ℕ) (new : State) → ParsesAt item payload at end it → ¬ TakesOne old it new
 
--- the payload doesn't read behind what is kept
+-- the payload doesn't read after what is kept
 abbrev pub ReadsNot : State → List ℕ → Type 0
 ReadsNot old payload = (new : State) → ¬ Reads old payload new
 
@@ -31,7 +31,7 @@ abbrev pub records_size : List (List ℕ) → ℕ
 records_size [] = 0
 records_size (payload ∷ payloads) = 5 + length payload + records_size payloads
 
--- the first of these records that doesn't read, and its gate, where the closed gate behind them all stands at this end
+-- the first of these records that doesn't read, and its gate, where the closed gate after them all stands at this end
 pub record RecordBreaksAt (records : List (List ℕ)) (end at : ℕ) : Type 0 where
   pub before : List (List ℕ)
   pub payload : List ℕ

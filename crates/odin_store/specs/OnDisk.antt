@@ -50,7 +50,7 @@ pub record Appends (items : List Item) (store next : Store) (old new : Telling) 
 abbrev pub AddsBatch : (List Item → Type 0) → Store → Store → Telling → Telling → Type 0
 AddsBatch IsBatch store next old new = (items : List Item) × IsBatch items × Appends items store next old new
 
--- such a batch doesn't fit behind this end, and these are the two numbers
+-- such a batch doesn't fit after this end, and these are the two numbers
 pub record IsOver (items : List Item) (end at some : ℕ) : Type 0 where
   pub at_is : at ≡ end
   pub some_is : some ≡ length (spell_batch items)

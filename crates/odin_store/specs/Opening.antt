@@ -73,7 +73,7 @@ abbrev pub OpeningsKeepHeld : {Disk : Type 0} → (Disk → Telling) → Type 0
 OpeningsKeepHeld {Disk} told =
     (graph : Text) (old new : Disk) → length graph ≤ graph_limit → LeavesOpening graph (told old) (told new) → LeavesHeld (told old) (told new)
 
--- The file is a store whose last graph is another, if it has one, and whose next batch, that of this graph, doesn't fit behind its end.
+-- The file is a store whose last graph is another, if it has one, and whose next batch, that of this graph, doesn't fit after its end.
 pub record HasNoRoomForGraph (graph : Text) (image : Telling) (end count : ℕ) : Type 0 where
   pub records : List (List ℕ)
   pub rests : AtRest image records end

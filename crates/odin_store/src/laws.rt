@@ -7,7 +7,7 @@ ghost use Rattle.odin_store.specs.Opening.{OpeningsKeepHeld};
 use meaning_records::laws::reads_in_one_way;
 use odin_outside::Disk;
 
-/// A store keeps its changes on a disk one behind another.
+/// A store keeps its changes on a disk one after another.
 pub fn keeps_changes<D: Disk>()
     ensures { KeepsChanges D.told }
 {

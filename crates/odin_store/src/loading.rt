@@ -65,7 +65,7 @@ impl Loading {
         (kept, sources)
     }
 
-    // Takes the item in that stands at a place, and gives the place behind it.
+    // Takes the item in that stands at a place, and gives the place after it.
     fn load_item(
         &mut self,
         alloc: Global,
@@ -116,7 +116,7 @@ impl Loading {
     }
 }
 
-/// What these records make of nothing, the first one first. Each is let go once it is loaded. The closed gate behind them stands at `end`.
+/// What these records make of nothing, the first one first. Each is let go once it is loaded. The closed gate after them stands at `end`.
 pub fn load_records(alloc: Global, records: Seq<Bytes>, end: u64) -> Result<Loading, JournalFault>
     ensures read { IfOk result (λ loading. ReadsAll nothing records (state_of loading)) }
     ensures fault { IfErr result (IsRecordLoadFault records end) }
@@ -133,7 +133,7 @@ pub fn load_records(alloc: Global, records: Seq<Bytes>, end: u64) -> Result<Load
     Ok(loading)
 }
 
-// The gate of a record with others behind it, where the closed gate behind them all stands at `end`.
+// The gate of a record with others after it, where the closed gate after them all stands at `end`.
 fn gate_before(end: u64, payload: &[u8], behind: &[Bytes]) -> u64
     ensures { result ≡ end - records_size (payload.now ∷ behind.now) }
 {

@@ -34,7 +34,7 @@ fn counted(alloc: Global, image: &[u8]) -> Result<(u64, usize), JournalFault> {
     Ok((end, records.len()))
 }
 
-// The ends of a journal on a disk before and behind the record `hi`, which is added, and whether the journal is spent.
+// The ends of a journal on a disk before and after the record `hi`, which is added, and whether the journal is spent.
 fn added(alloc: Global, disk: &mut CrashDisk) -> Result<(u64, u64, bool), JournalFault> {
     let (mut journal, _) = Journal::open(alloc, disk)?;
     let before = journal.end();
@@ -50,7 +50,7 @@ fn is_hi(records: &[Bytes]) -> bool {
     }
 }
 
-// Whether a journal on a file ends behind the only record `hi`.
+// Whether a journal on a file ends after the only record `hi`.
 fn has_hi(alloc: Global, image: &[u8]) -> Result<bool, JournalFault> {
     let (end, records) = opened(alloc, image)?;
     Ok(end == 71 && is_hi(records.as_slice()))
@@ -82,7 +82,7 @@ fn a_record_stands_behind_the_front(rt: HostRuntime) -> Result<(), Fail> {
     Ok(())
 }
 
-// Whether a journal on a file ends behind the only record `hi`, or at its front with no record.
+// Whether a journal on a file ends after the only record `hi`, or at its front with no record.
 fn has_hi_or_none(alloc: Global, image: &[u8]) -> Result<bool, JournalFault> {
     let (end, records) = opened(alloc, image)?;
     Ok(end == 71 && is_hi(records.as_slice()) || end == 64 && records.len() == 0)
@@ -125,7 +125,7 @@ fn a_stop_leaves_a_record_whole_or_not_at_all(rt: HostRuntime) -> Result<(), Fai
     Ok(())
 }
 
-// A front with another byte at one place, and what stands behind it.
+// A front with another byte at one place, and what stands after it.
 fn image(alloc: Global, place: u8, byte: u8, behind: &[u8]) -> Result<Bytes, Memory> {
     let mut front = FRONT;
     front[place as usize % 64] = byte;
@@ -141,7 +141,7 @@ fn told(alloc: Global, place: u8, byte: u8, behind: &[u8]) -> Result<u64, Journa
     Ok(end)
 }
 
-// A place in the front, another byte there, what stands behind the front, and where the journal ends, or where the file breaks.
+// A place in the front, another byte there, what stands after the front, and where the journal ends, or where the file breaks.
 const FRONTS: &[(u8, u8, &[u8], Result<u64, JournalFault>)] = &[
     (0, b'O', b"", Err(JournalFault::NotOurs(0))),
     (0, b'O', b"\0", Ok(64)),
@@ -167,9 +167,9 @@ fn a_front_has_its_marks_zeros_and_start(rt: HostRuntime) {
     }
 }
 
-// What stands behind the front, and where the journal ends, or where the file breaks.
+// What stands after the front, and where the journal ends, or where the file breaks.
 const RECORDS: &[(&[u8], Result<u64, JournalFault>)] = &[
-    // an open gate with no length, with one past the file, and with no gate behind its payload
+    // an open gate with no length, with one past the file, and with no gate after its payload
     (b"\x01", Err(JournalFault::NotOurs(64))),
     (b"\x01\0\0\0\x03hi\0", Err(JournalFault::NotOurs(64))),
     (b"\x01\xff\xff\xff\xffhi\0", Err(JournalFault::NotOurs(64))),
@@ -178,7 +178,7 @@ const RECORDS: &[(&[u8], Result<u64, JournalFault>)] = &[
         b"\x01\0\0\0\x02hi\x01\0\0\0\x02yo",
         Err(JournalFault::NotOurs(71)),
     ),
-    // what lies behind a closed gate has no meaning
+    // what lies after a closed gate has no meaning
     (b"\0\0\0\0\x02hi\x01\x01", Ok(64)),
 ];
 
@@ -207,7 +207,7 @@ fn blank_file(alloc: Global, size: usize) -> Result<Bytes, Memory> {
     Ok(Bytes::from_vec(bytes))
 }
 
-// Whether a file of this size is a store without records, behind which stand bytes of 7.
+// Whether a file of this size is a store without records, after which stand bytes of 7.
 fn is_made(image: &[u8], size: usize) -> bool {
     let Some((front, behind)) = image.split_at_checked(65) else {
         return false;

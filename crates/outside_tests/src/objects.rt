@@ -304,7 +304,7 @@ const TORN: &[(u32, u64, &[u8])] = &[
     (2, 1, b"abcdef"),
     (2, 2, b"abcde"),
     (2, 3, b"abcd\xff\xff"),
-    // the cut is whole, and the write behind it is torn
+    // the cut is whole, and the write after it is torn
     (4, 0o00, b"abcWXYZ"),
     (4, 0o10, b"abcd"),
     (4, 0o20, b"abcWX"),

@@ -329,7 +329,7 @@ fn longer_outputs_are_refused(rt: HostRuntime) -> Result<(), Fail> {
     Ok(())
 }
 
-// Adds the numbers from 2 to 1,001, each behind an empty line.
+// Adds the numbers from 2 to 1,001, each after an empty line.
 fn put_numbers(warnings: &mut Bytes) -> Result<(), Memory> {
     for number in 2..1_002 {
         warnings.extend_from_slice(b"\n\n")?;

@@ -1,9 +1,9 @@
 // What the toy tools leave.
 use super::texts::{Files, Text, are_files, put_files, put_texts};
 use object_values::{End, Job, Memory, Raw, Seq};
+use odin_memory::toy;
 use std::alloc::Global;
 use std::test::Fail;
-use odin_memory::toy;
 
 // Fills in the words, the files and the outputs.
 fn put_job(

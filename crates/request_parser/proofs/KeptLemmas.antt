@@ -125,7 +125,7 @@ none_above p [] up there = refl
 none_above p (y ∷ []) up there = rw (below_other p y there) refl
 none_above p (y ∷ z ∷ b) up there = rw (below_other p y there) (none_above p (z ∷ b) up.1 (below_on p y z there up.0))
 
--- a parameter more stands behind those of its name
+-- a parameter more stands after those of its name
 values_insert : (name : List ℕ) (p : ParamValue) (a b : List ParamValue) → Up b → BeginsAbove p b → values_of_param name (a ++ p ∷ b) ≡ values_of_param name (a ++ b) ++ values_of_param name (p ∷ [])
 values_insert name p a b up there = elim (cases_Bool (bytes_eq p.param name)) [
   | inl e ↦

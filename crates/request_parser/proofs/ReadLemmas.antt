@@ -18,7 +18,7 @@ use Rattle.request_parser.proofs.RunLemmas.{past_alike, next_behind, SameRun, sa
 
 -- ---- halts
 
--- bytes in front: where one kind of text behind them makes the other, a halt of the one is a halt of the other
+-- bytes in front: where one kind of text after them makes the other, a halt of the one is a halt of the other
 pub halts_behind : (whole part : List ℕ → Type 0) (front rest place : List ℕ) → ((t : List ℕ) → part t → whole (front ++ t)) → ((t : List ℕ) → next t ≡ next rest → whole (front ++ t) → part t) → HaltsAt part rest place → HaltsAt whole (front ++ rest) place
 halts_behind whole part front rest place up down h = record {
   done = front ++ h.done;
@@ -79,7 +79,7 @@ items_past_key text a = items_past is_key_byte refl refl refl refl text a.0 a.1 
 pub items_past_value : (text : List ℕ) → AreItems text → IsPast is_value_byte text
 items_past_value text a = items_past is_value_byte refl refl refl refl text a.0 a.1 a.2
 
--- a word and items behind it
+-- a word and items after it
 pub record IsWordThenItems (w : Wanted) (text : List ℕ) : Type 0 where
   pub word : List ℕ
   pub rest : List ℕ
@@ -111,7 +111,7 @@ behind_pick text ps ss u (param_alone id rest qs ts n i) e = absurd (differ 43 3
 behind_pick text ps ss u (type_step id rest qs ts n i) e = absurd (differ 58 37 _ _ refl e)
 behind_pick text ps ss u (pick_step key rest qs ts n i) e = record { word = key; rest = rest; is = sym (tails 37 37 (key ++ rest) u e); of = n; items = (qs, ts, i) }
 
--- a name, `=`, a value and items behind them
+-- a name, `=`, a value and items after them
 pub record IsValueThenItems (text : List ℕ) : Type 0 where
   pub id : List ℕ
   pub value : List ℕ
@@ -138,7 +138,7 @@ no_items text ps ss b (param_alone id rest qs ts n i) e s p c k = let h : 43 ≡
 no_items text ps ss b (type_step id rest qs ts n i) e s p c k = let h : 58 ≡ b = cc in c (sym h)
 no_items text ps ss b (pick_step key rest qs ts n i) e s p c k = let h : 37 ≡ b = cc in k (sym h)
 
--- ---- words behind a mark
+-- ---- words after a mark
 
 key_run : (word : List ℕ) → IsKey word → list_all is_key_byte word ≡ true
 key_run word k = list_all-from_AllPass is_key_byte word k.each
@@ -185,7 +185,7 @@ reads_pick key text rest t = rw t.is (record {
   shorter = shorter_by 37 key rest;
 })
 
--- where a word behind a mark halts
+-- where a word after a mark halts
 pub halts_type : (text place : List ℕ) → HaltsInWord wanted.Id text place → HaltsAt (AreItemsBehind 58) text place
 halts_type text place h = halts_in_word (AreItemsBehind 58) wanted.Id text place
     (λ word i. ([], To word ∷ [], subst (λ t. Items (58 ∷ t) [] (To word ∷ [])) (append-nil word) (type_step word [] [] [] i no_more)))
@@ -273,7 +273,7 @@ halts_param text place h = halts_in_word (AreItemsBehind 43) wanted.Id text plac
 
 -- ---- one item
 
--- a halt behind a mark is one before it
+-- a halt after a mark is one before it
 pub halts_mark : (mark : ℕ) (text place : List ℕ) → HaltsAt (AreItemsBehind mark) text place → HaltsAt AreItems (mark ∷ text) place
 halts_mark mark text place h = record { done = mark ∷ h.done; more = h.more; is = ap (λ t. mark ∷ t) h.is; goes = h.goes; stops = h.stops }
 

@@ -40,7 +40,7 @@ past_alike test [] b e p = tt
 past_alike test (x ∷ a) [] e p = let n : ⊥ = cc in absurd n
 past_alike test (x ∷ a) (y ∷ b) e p = let same : x ≡ y = cc in rw same p
 
--- behind the same bytes comes the same
+-- after the same bytes comes the same
 pub next_behind : (done a b : List ℕ) → next a ≡ next b → next (done ++ a) ≡ next (done ++ b)
 next_behind [] a b e = e
 next_behind (x ∷ done) a b e = refl

@@ -33,6 +33,6 @@ pub stops_behind : (part whole : List ℕ → Type 0) (rest text place : List �
 stops_behind part whole rest text place f Unexpected h = f h
 stops_behind part whole rest text place f Memory h = tt
 
--- a stop behind a mark that was taken
+-- a stop after a mark that was taken
 pub mark_stops : {T : Type 0} (r : Result T Stop) (mark : ℕ) (text rest place : List ℕ) → text ≡ mark ∷ rest → IfErr r (HaltsIn (AreItemsBehind mark) rest place) → IfErr r (HaltsIn AreItems text place)
 mark_stops r mark text rest place is h = same_stop r (HaltsIn (AreItemsBehind mark) rest place) (HaltsIn AreItems text place) (stops_behind (AreItemsBehind mark) AreItems rest text place (λ x. rw is (halts_mark mark rest place x))) h

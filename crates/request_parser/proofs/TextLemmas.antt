@@ -175,7 +175,7 @@ fault_first text place n left is left_is h =
     let f : IsFaultPlace (take n text ++ drop n text) (length (take n text) - length place + 1) = fault_at (take n text) (drop n text) place h (omega arith) (λ some. omega arith) in
     rw left_is (subst (λ t. IsFaultPlace t (length (take n text) - length place + 1)) (take-append-drop n text) f)
 
--- ---- a text that goes on behind the limit
+-- ---- a text that goes on after the limit
 
 pub goes_on : (text : List ℕ) (e : Expression) → IsWrittenAs (take expression_limit text) e → expression_limit < length text → IsFaultPlace text 1001
 goes_on text e w long =

@@ -5,11 +5,11 @@ use Rattle.std.specs.Ordering.{is_lt}
 use Rattle.object_values.specs.declared.nodes.ParamValue.{ParamValue}
 use Rattle.meaning_texts.specs.Expressions.{name_cmp, AreKeptAs}
 
--- The parameter is kept behind those that are.
+-- The parameter is kept after those that are.
 abbrev pub KeepsOne : ParamValue → List ParamValue → List ParamValue → Type 0
 KeepsOne p old new = (written : List ParamValue) → AreKeptAs written old → AreKeptAs (written ++ p ∷ []) new
 
--- All of these are kept behind those that are.
+-- All of these are kept after those that are.
 abbrev pub KeepsAll : List ParamValue → List ParamValue → List ParamValue → Type 0
 KeepsAll more old new = (written : List ParamValue) → AreKeptAs written old → AreKeptAs (written ++ more) new
 

@@ -37,7 +37,7 @@ HaltsIn is_text text place stop = Halts stop is_text text place
 abbrev pub AreItems : List ℕ → Type 0
 AreItems text = (params : List ParamValue) × (steps : List ExprStep) × Items text params steps
 
--- what makes items behind this mark
+-- what makes items after this mark
 abbrev pub AreItemsBehind : ℕ → List ℕ → Type 0
 AreItemsBehind mark text = AreItems (mark ∷ text)
 

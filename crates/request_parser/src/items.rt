@@ -103,7 +103,7 @@ impl<'t> Cursor<'t> {
         Err(Stop::Unexpected)
     }
 
-    // What stands behind `+`.
+    // What stands after `+`.
     fn param(&mut self, alloc: Global) -> Result<Item, Stop>
         ensures ok { IfOk result (λ item. ReadsItem item (43 ∷ self.old) self.new) }
         ensures err { IfErr result (HaltsIn (AreItemsBehind 43) self.old self.new) }
@@ -124,7 +124,7 @@ impl<'t> Cursor<'t> {
         Bytes::from_slice(alloc, value)
     }
 
-    // What stands behind `:`.
+    // What stands after `:`.
     fn type_step(&mut self, alloc: Global) -> Result<Item, Stop>
         ensures ok { IfOk result (λ item. ReadsItem item (58 ∷ self.old) self.new) }
         ensures err { IfErr result (HaltsIn (AreItemsBehind 58) self.old self.new) }
@@ -133,7 +133,7 @@ impl<'t> Cursor<'t> {
         Ok(Item::Step(ExprStep::To(id)))
     }
 
-    // What stands behind `%`.
+    // What stands after `%`.
     fn pick(&mut self, alloc: Global) -> Result<Item, Stop>
         ensures ok { IfOk result (λ item. ReadsItem item (37 ∷ self.old) self.new) }
         ensures err { IfErr result (HaltsIn (AreItemsBehind 37) self.old self.new) }

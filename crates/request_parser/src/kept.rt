@@ -6,7 +6,7 @@ ghost use Rattle.request_parser.specs.Kept.{KeepsOne, IsPlaceOf, is_below};
 
 use object_values::{Memory, ParamValue, same};
 
-/// Puts the parameter behind those of its name and of lesser ones, unless it is there with its value.
+/// Puts the parameter after those of its name and of lesser ones, unless it is there with its value.
 pub(crate) fn keep(params: &mut Vec<ParamValue>, param: ParamValue) -> Result<(), Memory>
     ensures { OnOk result (KeepsOne param params.old.items params.new.items) }
 {

@@ -36,7 +36,7 @@ fn place_before(left: usize, counted: &[u8]) -> u32
     (counted.len() - left + 1) as u32
 }
 
-// The expression, unless the text goes on behind the bytes that it was read from.
+// The expression, unless the text goes on after the bytes that it was read from.
 fn within_limit(text: &[u8], expression: Expression) -> Result<Expression, ExpressionFault>
     requires { IsWrittenAs (take expression_limit text.now) expression }
     ensures ok { IfOk result (ExpressionText text.now) }

@@ -104,7 +104,7 @@ fn has_stopped(alloc: Global, object: Object, output: &[u8], done: usize) -> Res
     Ok(output == whole.as_slice() || object == Object::Sink && next.as_slice().starts_with(output))
 }
 
-// Whether a run in which a call fails ends with this status, and the next one goes on behind the replies that were given. The job of a call that could not
+// Whether a run in which a call fails ends with this status, and the next one goes on after the replies that were given. The job of a call that could not
 // be kept is started again; no other one is.
 fn goes_on(alloc: Global, call: Call, status: u8) -> Result<bool, Memory> {
     let commands = commands_of(alloc, STEPS)?;

@@ -9,10 +9,10 @@ use std::alloc::Global;
 use std::test::Fail;
 use test_support::{C_UNITS, KITS};
 
-// Behind the graph of units: what is linked is a unit again.
+// After the graph of units: what is linked is a unit again.
 const BACK: Text = b"tool back 1 from exe to c run \"ld\";\n";
 
-// Behind any graph: a comment, which declares nothing.
+// After any graph: a comment, which declares nothing.
 const COMMENT: Text = b"# nothing else\n";
 
 // A session over a graph.

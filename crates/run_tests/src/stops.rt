@@ -18,7 +18,7 @@ struct Held {
     starts: usize,
 }
 
-// Some steps of a session, and what is asked behind a stop. What is held is said for each place between the steps, so there is one more.
+// Some steps of a session, and what is asked after a stop. What is held is said for each place between the steps, so there is one more.
 struct Session {
     steps: &'static [Step],
     question: Text,
@@ -96,7 +96,7 @@ const ONE_PUT: Session = Session {
 
 const SESSIONS: &[Session] = &[EDITS, ONE_PUT];
 
-// A text and another one behind it.
+// A text and another one after it.
 fn joined(alloc: Global, front: &[u8], back: &[u8]) -> Result<Vec<u8>, Memory> {
     let mut text = Vec::new(alloc);
     text.extend_from_slice(front)?;
@@ -129,7 +129,7 @@ impl Session {
         run_on(alloc, &[C_UNITS], &mut disk, self.question)
     }
 
-    // The disk behind the first of the steps.
+    // The disk after the first of the steps.
     fn behind(&self, alloc: Global, count: usize) -> Result<MemDisk, Memory> {
         let mut disk = disk_of(alloc, b"")?;
         let commands = commands_of(alloc, front(self.steps, count))?;
@@ -137,7 +137,7 @@ impl Session {
         Ok(disk)
     }
 
-    // Whether an image that a stop left within a step is told as what was held before it, or as what is held behind it.
+    // Whether an image that a stop left within a step is told as what was held before it, or as what is held after it.
     fn is_told(&self, alloc: Global, image: &Bytes, step: usize) -> Result<bool, Memory> {
         let asked = self.ask(alloc, image.as_slice())?;
         Ok(

@@ -137,7 +137,7 @@ pub fn front(steps: &[Step], count: usize) -> &[Step] {
     &steps[..count.min(steps.len())]
 }
 
-/// The steps behind the first ones.
+/// The steps after the first ones.
 pub fn behind(steps: &[Step], count: usize) -> &[Step] {
     &steps[count.min(steps.len())..]
 }

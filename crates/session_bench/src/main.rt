@@ -9,8 +9,8 @@ use odin_fakes::{MemDisk, TableTools};
 use odin_real::{InputSource, OutputSink};
 use odin_shell::run;
 use std::alloc::Global;
-use std::{env, io};
 use std::process::ExitCode;
+use std::{env, io};
 use test_support::tree_of;
 
 /// Room on the disk in memory, in bytes and in calls. It is taken as it is written.

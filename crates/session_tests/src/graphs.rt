@@ -319,7 +319,7 @@ fn put_types(text: &mut Vec<u8>) -> Result<(), Memory> {
     Ok(())
 }
 
-// The node behind so many makers.
+// The node after so many makers.
 fn put_node(text: &mut Vec<u8>, steps: u8) -> Result<(), Memory> {
     text.extend_from_slice(b"a.x")?;
     for number in 0..steps {

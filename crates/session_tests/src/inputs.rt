@@ -113,7 +113,7 @@ fn answers_the_worked_rows(rt: HostRuntime) -> Result<(), Fail> {
     Ok(())
 }
 
-// So many letters behind a text.
+// So many letters after a text.
 fn put_padded(text: &mut Vec<u8>, front: &[u8], count: usize) -> Result<(), Memory> {
     text.extend_from_slice(front)?;
     for _ in 0..count {
@@ -122,7 +122,7 @@ fn put_padded(text: &mut Vec<u8>, front: &[u8], count: usize) -> Result<(), Memo
     Ok(())
 }
 
-// The status and the output where so many letters stand behind a text, and this behind them.
+// The status and the output where so many letters stand after a text, and this after them.
 fn padded_outcome(
     alloc: Global,
     front: &[u8],
@@ -138,7 +138,7 @@ fn padded_outcome(
     outcome(alloc, text.as_slice(), piece)
 }
 
-// What stands in front of so many letters, and the start of the output.
+// What stands before so many letters, and the start of the output.
 const LENGTHS: [(&[u8], usize, &[u8]); 11] = [
     (b"ask ", 255, b"object abort none 0\nmessages 1\nabort aaa"),
     (b"ask ", 256, b"refused expression 256\n"),

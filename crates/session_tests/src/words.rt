@@ -50,7 +50,7 @@ fn outcome(alloc: Global, words: &[&str], room: usize) -> Result<(u8, Vec<u8>), 
     with_taken(alloc, status, output.taken())
 }
 
-// Words behind the program's name, and what a run with them ends with.
+// Words after the program's name, and what a run with them ends with.
 const ROWS: &[(&[&str], (u8, &[u8]))] = &[
     (&["g0"], SERVED),
     (&["--jobs", "2", "g0"], SERVED),

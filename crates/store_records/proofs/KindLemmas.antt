@@ -8,11 +8,11 @@ use Rattle.meaning_records.specs.Forms.{Form, StandsNowhere, bytes, number, both
 use Rattle.meaning_records.specs.Records.{node, part, step, value, content, call, outcome, item}
 use Rattle.meaning_records.specs.PlaceLemmas.{field_end, field_join, tag_there}
 
--- a kind that was read, and what stands behind it
+-- a kind that was read, and what stands after it
 pub kind_join : (from : List ℕ) (at start end kind named : ℕ) (field : List ℕ) → IsFieldAt from at start (kind ∷ []) → kind ≡ named → IsFieldAt from start end field → IsFieldAt from at end (named ∷ field)
 kind_join from at start end kind named field read is rest = subst (λ n. IsFieldAt from at end (n ∷ field)) is (field_join from at start end (kind ∷ []) field read rest)
 
--- what begins with a kind stands where that was read, and the rest behind it
+-- what begins with a kind stands where that was read, and the rest after it
 pub kind_split : (from : List ℕ) (at start end kind named : ℕ) (field : List ℕ) → IsFieldAt from at start (kind ∷ []) → IsFieldAt from at end (named ∷ field) → (kind ≡ named) × IsFieldAt from start end field
 kind_split from at start end kind named field read there =
     let first = tag_there from at start kind [] read in

@@ -1,4 +1,4 @@
-// Batches: items one behind the other.
+// Batches: items one after the other.
 ghost use Rattle.std.specs.Prelude.{◌≡◌, IfOk, OnOk};
 ghost use Rattle.std.specs.List.{All};
 ghost use Rattle.meaning_records.specs.Records.{item};

@@ -1,7 +1,10 @@
 // Calls and outcomes by the numbers of their contents.
 
 use crate::recorded::Recorded;
-use object_values::{Bytes, Memory, OwnLine, ParamValue, Seq, Status, StoredCall, StoredOutcome, StoredOutput, StoredPart};
+use object_values::{
+    Bytes, Memory, OwnLine, ParamValue, Seq, Status, StoredCall, StoredOutcome, StoredOutput,
+    StoredPart,
+};
 use std::alloc::Global;
 
 impl Recorded for StoredPart {

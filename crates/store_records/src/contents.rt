@@ -20,7 +20,7 @@ pub fn put_content(value: &Value, out: &mut Bytes) -> Result<(), Memory>
     }
 }
 
-// A text, which stands behind its kind and its length in its record.
+// A text, which stands after its kind and its length in its record.
 fn put_text(text: &Text, out: &mut Bytes) -> Result<(), Memory>
     ensures ok { OnOk result (out.new ≡ out.old ++ content.spell (Simple text.now)) }
     ensures fits { OnOk result (content.fits (Simple text.now)) }

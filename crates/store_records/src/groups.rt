@@ -1,4 +1,4 @@
-// Things one behind the other, lists and options.
+// Things one after the other, lists and options.
 ghost use Rattle.std.specs.Prelude.{◌≡◌, ◌++◌, OnOk};
 ghost use Rattle.std.specs.List.{All, flat_map};
 ghost use Rattle.meaning_records.specs.Forms.{list_of};
@@ -128,7 +128,7 @@ fn put_list<T: Recorded>(members: &[T], out: &mut Bytes) -> Result<(), Memory>
     put_members(members, out)
 }
 
-/// Adds the records of things, one behind the other.
+/// Adds the records of things, one after the other.
 pub fn put_members<T: Recorded>(members: &[T], out: &mut Bytes) -> Result<(), Memory>
     ensures ok { OnOk result (out.new ≡ out.old ++ flat_map T.form.spell members.now) }
     ensures fits { OnOk result (All T.form.fits members.now) }

@@ -5,7 +5,7 @@ ghost use Rattle.meaning_records.specs.Forms.{Form, IsOfOneThing, ParsesAt, Stan
 use object_values::{Bytes, Memory};
 use std::alloc::Global;
 
-/// A thing with a form in store files. docs/STORE.md has the table of forms.
+/// A thing with a form in store files. docs/engineer/store-format.md has the table of forms.
 pub trait Recorded: Sized + Drop {
     ghost form: { Form Self };
 
@@ -15,7 +15,7 @@ pub trait Recorded: Sized + Drop {
         ensures ok { OnOk result (out.new ≡ out.old ++ form.spell self.now) }
         ensures fits { OnOk result (form.fits self.now) };
 
-    /// The thing at a place, and the place behind it. `None` exactly where none stands there.
+    /// The thing at a place, and the place after it. `None` exactly where none stands there.
     fn take(alloc: Global, from: &[u8], at: usize) -> Result<Option<(Self, usize)>, Memory>
         ensures some { IfOk result
             (λ taken. IfSome taken (λ t. ParsesAt form from.now at t.1 t.0)) }

@@ -7,7 +7,7 @@ use odin_store::StoreFault;
 use std::alloc::Global;
 use std::test::Fail;
 
-// What the image behind so many changes stands for.
+// What the image after so many changes stands for.
 fn held_after(alloc: Global, count: usize) -> Result<Bytes, StoreFault> {
     let image = image_after(alloc, count)?;
     stands(alloc, image.as_slice())
@@ -21,7 +21,7 @@ fn stands_again(alloc: Global, image: &[u8]) -> Result<Option<Bytes>, StoreFault
     Ok((held == again).then_some(held))
 }
 
-// Whether an image stands for what is held behind so many changes, or behind one less.
+// Whether an image stands for what is held after so many changes, or after one less.
 fn is_before_or_after(alloc: Global, image: &[u8], count: usize) -> Result<bool, StoreFault> {
     let Some(held) = stands_again(alloc, image)? else {
         return Ok(false);
@@ -48,7 +48,7 @@ fn crashed(alloc: Global, disk: &CrashDisk, moment: usize, turn: u64) -> Result<
     disk.crash(alloc, moment as u32, choice_of(turn))
 }
 
-// Whether each stop from one call on leaves what is held behind so many changes, or behind one less.
+// Whether each stop from one call on leaves what is held after so many changes, or after one less.
 fn stops_well(
     alloc: Global,
     disk: &CrashDisk,
@@ -73,7 +73,7 @@ fn calls_for(alloc: Global, count: usize) -> Result<usize, Memory> {
     Ok(disk.calls())
 }
 
-// Whether each stop within the last of so many changes leaves what was held before it, or behind it. Of none it is the opening.
+// Whether each stop within the last of so many changes leaves what was held before it, or after it. Of none it is the opening.
 fn stops_within(alloc: Global, count: usize) -> Result<bool, StoreFault> {
     let first = match count {
         0 => 0,
@@ -98,7 +98,7 @@ fn failing(alloc: Global, number: u32) -> Result<FailDisk, Memory> {
     Ok(FailDisk::new(disk_of(alloc, b"")?, fails))
 }
 
-// Whether a session whose call of this number fails ends there, and leaves what was held before the change or behind it.
+// Whether a session whose call of this number fails ends there, and leaves what was held before the change or after it.
 fn fails_well(alloc: Global, number: u32) -> Result<bool, StoreFault> {
     let mut disk = failing(alloc, number)?;
     let made = played(alloc, &mut disk, STEPS)?;

@@ -5,11 +5,11 @@ use odin_store::StoreFault;
 use std::alloc::Global;
 use std::test::Fail;
 
-// The record behind that of the graph: content 0 is the text `x`, content 1 a list, content 2 a compound; the source `a.c` is `x`, and the call of `cc` is kept.
+// The record after that of the graph: content 0 is the text `x`, content 1 a list, content 2 a compound; the source `a.c` is `x`, and the call of `cc` is kept.
 const BASE: &[u8] =
     b"\x02\0\0\0\x06\x01\0\0\0\x01x\x02\0\0\0\x05\x02\0\0\0\0\x02\0\0\0\x05\x03\0\0\0\0\x03\0\0\0\x03a.c\0\0\0\0\x05\0\0\0\x02cc\0\0\0\x011\0\0\0\0\0\0\0\0\0\0\0\0\0\0\0\0\x03\0\0\0\0\0\0\0\0";
 
-// The place behind that record, whose payload has 80 bytes.
+// The place after that record, whose payload has 80 bytes.
 const BEHIND_BASE: u64 = BEHIND_GRAPH + 85;
 
 const TEXT: &[u8] = b"\x02\0\0\0\x06\x01\0\0\0\x01y";
@@ -31,14 +31,14 @@ const KEPT: &[u8] =
 // Payloads that read.
 const ITEMS: [&[u8]; 7] = [GRAPH_PAYLOAD, TEXT, LIST, COMPOUND, PUT, DROPPED, KEPT];
 
-// Whether the file with this payload behind the base is a store.
+// Whether the file with this payload after the base is a store.
 fn reads(alloc: Global, payload: &[u8]) -> Result<bool, StoreFault> {
     let image = image_of(alloc, &[BASE, payload])?;
     let _ = stands(alloc, image.as_slice())?;
     Ok(true)
 }
 
-// Whether the file with this payload behind the base isn't ours there, whether a record follows or not.
+// Whether the file with this payload after the base isn't ours there, whether a record follows or not.
 fn is_hostile(alloc: Global, payload: &[u8]) -> Result<bool, Memory> {
     let image = image_of(alloc, &[BASE, payload])?;
     let longer = image_of(alloc, &[BASE, payload, TEXT])?;
@@ -110,17 +110,17 @@ fn bytes_that_are_not_named_are_refused(rt: HostRuntime) {
     }
 }
 
-// Payloads that don't read behind the base.
+// Payloads that don't read after the base.
 const HOSTILE: &[&[u8]] = &[
     b"",
     // items that have no name
     b"\0",
     b"\x06",
     b"\x06\0\0\0\x01m\0\0\0\0\0\0\0\0",
-    // bytes behind the last item
+    // bytes after the last item
     b"\x04\0\0\0\x03a.c\0",
     b"\x04\0\0\0\x03a.c\x02",
-    // contents that are no value, or have bytes behind it
+    // contents that are no value, or have bytes after it
     b"\x02\0\0\0\0",
     b"\x02\0\0\0\x01\x01",
     b"\x02\0\0\0\x07\x01\0\0\0\x01y\0",
@@ -177,7 +177,7 @@ fn records_that_do_not_read_are_refused(rt: HostRuntime) {
 
 // What reads beside them.
 const NEIGHBOURS: &[&[u8]] = &[
-    // two items, a content that is used at once, and a drop behind a put
+    // two items, a content that is used at once, and a drop after a put
     b"\x04\0\0\0\x03a.c\x03\0\0\0\x03a.c\0\0\0\0",
     b"\x02\0\0\0\x06\x01\0\0\0\x01y\x03\0\0\0\x03b.c\0\0\0\x03",
     b"\x03\0\0\0\x03b.c\0\0\0\0\x04\0\0\0\x03b.c",
@@ -201,12 +201,12 @@ fn their_neighbours_are_read(rt: HostRuntime) {
     }
 }
 
-// Whether the lengths of all records are looked at before their payloads: a payload that doesn't read, and behind it a record that is cut.
+// Whether the lengths of all records are looked at before their payloads: a payload that doesn't read, and after it a record that is cut.
 fn looks_at_lengths_first(alloc: Global) -> Result<bool, Memory> {
     let mut image = begun(alloc)?;
     add_record(&mut image, b"\0")?;
     image.extend_from_slice(b"\x01\0\0\0\x02ab")?;
-    // behind the one byte of the payload and its five of length and gate
+    // after the one byte of the payload and its five of length and gate
     is_refused(alloc, image.as_slice(), BEHIND_GRAPH + 6)
 }
 

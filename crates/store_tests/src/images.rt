@@ -13,7 +13,7 @@ pub(super) const GRAPH: &[u8; 14] = b"type c simple;";
 
 pub(super) const GRAPH_PAYLOAD: &[u8] = b"\x01\0\0\0\x0etype c simple;";
 
-/// The place behind the record of the graph.
+/// The place after the record of the graph.
 pub(super) const BEHIND_GRAPH: u64 = 88;
 
 /// A front whose first start is 64.

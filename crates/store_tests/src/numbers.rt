@@ -75,7 +75,7 @@ fn simple(alloc: Global, bytes: &[u8]) -> Result<Value, Memory> {
     Ok(Value::Simple(Text::of(Bytes::from_slice(alloc, bytes)?)?))
 }
 
-// Gives the source `a.c` a text, and says the number of the text before the batch is taken in and behind.
+// Gives the source `a.c` a text, and says the number of the text before the batch is taken in and after.
 fn put(alloc: Global, kept: &mut Kept, bytes: &[u8]) -> Result<(Option<u64>, Option<u64>), Memory> {
     let value = simple(alloc, bytes)?;
     let Ok(name) = Name::read(alloc, b"a.c") else {

@@ -1,4 +1,4 @@
-// Items as their bytes, by the table of docs/STORE.md: read and written back, cut short, and with bytes that aren't named.
+// Items as their bytes, by the table of docs/engineer/store-format.md: read and written back, cut short, and with bytes that aren't named.
 use object_values::{
     Bytes, Memory, Node, OwnLine, ParamValue, Part, Seq, Status, Step, Text, Value,
 };

@@ -83,10 +83,10 @@ fn counted<D: Disk>(
 
 const ANOTHER: &[u8; 14] = b"type d simple;";
 
-// The place behind the record of the graph, 76 bytes before the limit: a batch of 70 bytes has room with its length and its gate, and one of 71 hasn't.
+// The place after the record of the graph, 76 bytes before the limit: a batch of 70 bytes has room with its length and its gate, and one of 71 hasn't.
 const BEHIND: u64 = GATE + 24;
 
-// The place behind the put, the last byte of the longest file.
+// The place after the put, the last byte of the longest file.
 const LAST: u64 = GATE + 99;
 
 #[test]

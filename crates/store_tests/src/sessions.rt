@@ -135,7 +135,7 @@ const ROWS: [Row; STEPS] = [
     },
 ];
 
-// What the store holds behind all changes: three sources, then the calls in the order in which they were kept.
+// What the store holds after all changes: three sources, then the calls in the order in which they were kept.
 const SOURCES: &[u8] =
     b"\0\0\0\x03\0\0\0\x03a.c\0\0\0\x04x=2\n\0\0\0\x03a.h\0\0\0\x04w=1\n\0\0\0\x03b.c\0\0\0\x04x=1\n\0\0\0\x04";
 
@@ -204,7 +204,7 @@ pub(super) fn played<D: Disk>(
     Ok(Some(made))
 }
 
-/// The image behind the first so many changes.
+/// The image after the first so many changes.
 pub(super) fn image_after(alloc: Global, count: usize) -> Result<Bytes, Memory> {
     let mut image = begun(alloc)?;
     for row in ROWS.iter().take(count) {

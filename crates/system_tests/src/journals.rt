@@ -14,7 +14,7 @@ fn counted<D: Disk>(alloc: Global, disk: &mut D) -> Result<(u64, usize), Journal
     Ok((journal.end(), records.len()))
 }
 
-// The ends of a journal on a disk before and behind the record `hi`, which is added.
+// The ends of a journal on a disk before and after the record `hi`, which is added.
 fn added<D: Disk>(alloc: Global, disk: &mut D) -> Result<(u64, u64), JournalFault> {
     let (mut journal, _) = Journal::open(alloc, disk)?;
     let before = journal.end();
@@ -51,7 +51,7 @@ fn a_journal_stands_on_a_file(rt: HostRuntime) -> Result<(), Fail> {
 const FRONT: [u8; 64] =
     *b"ODINSTO1\0\0\0\0\0\0\0\0\0\0\0\0\0\0\0\x40\0\0\0\0\0\0\0\x41\0\0\0\0\0\0\0\0\0\0\0\0\0\0\0\0\0\0\0\0\0\0\0\0\0\0\0\0\0\0\0\0";
 
-// A front with another byte at one place, and what stands behind it.
+// A front with another byte at one place, and what stands after it.
 fn image(alloc: Global, place: u8, byte: u8, behind: &[u8]) -> Result<Bytes, Memory> {
     let mut front = FRONT;
     front[place as usize % 64] = byte;
@@ -60,7 +60,7 @@ fn image(alloc: Global, place: u8, byte: u8, behind: &[u8]) -> Result<Bytes, Mem
     Ok(image)
 }
 
-// A place in the front, another byte there, what stands behind the front, and the end and number of records of the journal in such a
+// A place in the front, another byte there, what stands after the front, and the end and number of records of the journal in such a
 // file, or where it breaks.
 const FILES: &[(u8, u8, &[u8], Result<(u64, usize), JournalFault>)] = &[
     (0, b'O', b"", Err(JournalFault::NotOurs(0))),

@@ -3,8 +3,8 @@ use build_files::files::Files;
 use build_files::get::write_files;
 use object_values::{Bytes, Memory, Part, Seq, Text};
 use std::alloc::Global;
-use std::{fs, io};
 use std::test::Fail;
+use std::{fs, io};
 
 fn text_of(alloc: Global, body: &[u8]) -> Result<Text, Memory> {
     Text::of(Bytes::from_slice(alloc, body)?)

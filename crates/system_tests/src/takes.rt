@@ -3,9 +3,9 @@ use build_files::listed::{listed, write_takes};
 use build_files::takes::Fault;
 use build_files::walk::{Found, take_below};
 use object_values::Bytes;
-use std::{fs, io};
 use std::os::unix::fs::symlink;
 use std::test::Fail;
+use std::{fs, io};
 
 const FOLDER: &str = "odin_takes.tests";
 

@@ -27,7 +27,7 @@ fn asks(alloc: Global, words: &[&str], wanted: Option<(Work<'_>, u64)>) -> Resul
     })
 }
 
-// Words behind the program's name, and what they ask for.
+// Words after the program's name, and what they ask for.
 const WORDS: &[(&[&str], Option<(Work<'static>, u64)>)] = &[
     (&["odin", "g"], Some((Work::Serve("g"), 1))),
     (&["odin", "--jobs", "2", "g"], Some((Work::Serve("g"), 2))),

@@ -8,7 +8,7 @@ use Rattle.odin_nodes.specs.Inheriting.{Inherits}
 use Rattle.task_needs.specs.declared.taken.Taken.{Taken}
 
 -- The needs are taken over beside what was there: whether all have values, the worst status, and
--- the messages behind those that were there.
+-- the messages after those that were there.
 pub record TakesOver (seen : Results) (needs : List Node) (old new : Taken) : Type 0 where
   pub valued : new.valued ≡ (old.valued && all_valued (values_of seen) needs)
   pub status : new.status ≡ worst_of seen old.status needs

@@ -9,7 +9,7 @@ use crate::results::Results;
 use object_values::{Node, Seq};
 use std::alloc::Global;
 
-/// Needs of a node: some with the elements of the lists that they are, and behind them others
+/// Needs of a node: some with the elements of the lists that they are, and after them others
 /// alone. The elements aren't held: they are those in the results.
 pub struct Counted {
     pub whole: Seq<Node>,

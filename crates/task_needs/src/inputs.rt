@@ -114,7 +114,7 @@ fn put_element_parts<R: Results>(
     Ok(())
 }
 
-// One part for each part of a compound, with its name behind the label.
+// One part for each part of a compound, with its name after the label.
 fn put_compound_parts(
     alloc: Global,
     slot: u32,

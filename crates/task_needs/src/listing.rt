@@ -11,7 +11,7 @@ use object_values::{Copied, Memory, Node, Seq};
 use odin_bytes::Name;
 use std::alloc::Global;
 
-/// The counted needs one by one, and behind them the sources of the names.
+/// The counted needs one by one, and after them the sources of the names.
 pub fn listed<R: Results>(
     alloc: Global,
     counted: &Counted,
@@ -67,7 +67,7 @@ fn put_copies(alloc: Global, nodes: &[Node], needs: &mut Seq<Node>) -> Result<()
     Ok(())
 }
 
-/// Puts a node behind those that are there, whether it is one of them or not.
+/// Puts a node after those that are there, whether it is one of them or not.
 pub fn put_copy(alloc: Global, node: &Node, needs: &mut Seq<Node>) -> Result<(), Memory>
     ensures { OnOk result (needs.new ≡ needs.old ++ node.now ∷ []) }
 {

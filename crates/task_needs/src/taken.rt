@@ -58,7 +58,7 @@ impl Taken {
         self.take_all(alloc, counted.alone.as_slice(), seen)
     }
 
-    /// The messages that are taken over, and behind them the own ones.
+    /// The messages that are taken over, and after them the own ones.
     pub fn into_messages(self, alloc: Global, own: &[Message]) -> Result<SharedSeq<Message>, Memory>
         ensures { IfOk result (λ all. all ≡ inherit self.messages own.now) }
     {
@@ -158,7 +158,7 @@ fn messages_in(view: Option<&View>) -> &[Message]
     }
 }
 
-// The messages of the needs, and behind them the own ones.
+// The messages of the needs, and after them the own ones.
 fn with_own(
     alloc: Global,
     messages: Inherited,

@@ -55,7 +55,7 @@ const ROWS: &[Row] = &[
         left: &[(b"out.txt", b"x=1\ndebug\nx=1\nL\n")],
         view: Held::Simple(b"x=1\ndebug\nx=1\nL\n"),
     },
-    // reached sources have the slot behind the extras
+    // reached sources have the slot after the extras
     Row {
         graph: &[C_UNITS, BOTH],
         node: b"a.c:txt",

@@ -24,7 +24,7 @@ pub(super) const C_UNITS: Decls = &[
     b"tool ld 1 from objs to exe run \"ld\";",
 ];
 
-// These come behind the graph of units.
+// These come after the graph of units.
 pub(super) const KITS: Decls = &[
     b"type kit compound (prog exe, src sm);",
     b"type txt simple;",

@@ -1,4 +1,4 @@
-// The messages of needs, and the own ones behind them.
+// The messages of needs, and the own ones after them.
 use super::graphs::C_UNITS;
 use super::held::{Held, Said};
 use super::rows::{Comes, Row, run_row};
@@ -25,7 +25,7 @@ const BROKEN: &[Said] = &[
 const WARNED_HEADER: &[Said] = &[(Status::Warning, b"a.h", b"odd")];
 
 const ROWS: &[Row] = &[
-    // the own messages come behind those of the needs
+    // the own messages come after those of the needs
     Row {
         graph: &[C_UNITS],
         node: b"m.sm:units:objs:exe",

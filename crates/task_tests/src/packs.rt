@@ -67,7 +67,7 @@ const ROWS: &[Row] = &[
         left: &[],
         view: Held::Aborted(NO_SOURCE),
     },
-    // one part for each part of the base, with its name behind the label
+    // one part for each part of the base, with its name after the label
     Row {
         graph: &[PACK, JOINED],
         node: b"p.t:k:d",

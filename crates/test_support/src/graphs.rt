@@ -10,7 +10,7 @@ pub const CC_ONLY: &[u8] =
 pub const C_UNITS: &[u8] =
     b"type hdr simple;\ntype c simple is hdr;\ntype sm simple;\ntype inc simple;\ntype o simple;\ntype exe simple;\ntype units list of c;\ntype objs list of o;\nsuffix .h hdr;\nsuffix .c c;\nsuffix .sm sm;\nparam debug;\ntool scan 1 from hdr to inc run \"scan\";\ntool cc 1 from c to o run \"cc\" uses debug closure inc;\nread rd from sm to units;\neach comp from units to objs;\ntool ld 1 from objs to exe run \"ld\";\n";
 
-/// Behind the graph of units: a compound, and a tool with further inputs.
+/// After the graph of units: a compound, and a tool with further inputs.
 pub const KITS: &[u8] =
     b"type kit compound (prog exe, src sm);\ntype txt simple;\npack pk from sm to kit;\ntool doc 1 from c to txt run \"ld\" also o with \"lic.h\";\n";
 

@@ -18,7 +18,7 @@ pub use body::body_of;
 pub use calling::{Called, call_node};
 pub use changes::{drop_named, keep, put_named};
 pub use fault::Fault;
-pub use graphs::{CC_ONLY, C_UNITS, KITS, graph_text};
+pub use graphs::{C_UNITS, CC_ONLY, KITS, graph_text};
 pub use memory::{only, owned, sink, source, tree_of};
 pub use reading::{graph_of, node_in};
 pub use seeing::all_seen;

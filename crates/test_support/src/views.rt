@@ -1,12 +1,14 @@
 // What a store holds, as bytes.
 
 use kept_tables::{Kept, KeptCall};
-use object_values::{Bytes, Call, CallPart, Memory, Outcome, OwnLine, ParamValue, Part, Sources, Status, Text};
+use object_values::{
+    Bytes, Call, CallPart, Memory, Outcome, OwnLine, ParamValue, Part, Sources, Status, Text,
+};
 use odin_bytes::{put_bytes, put_u8, put_u32};
 use odin_store::Store;
 use std::alloc::Global;
 
-// The bytes behind their length. What is longer than a length can say isn't written.
+// The bytes after their length. What is longer than a length can say isn't written.
 fn add_bytes(out: &mut Bytes, bytes: &[u8]) -> Result<(), Memory> {
     if bytes.len() > u32::MAX as usize {
         return Err(Memory);
@@ -129,7 +131,8 @@ fn add_calls(alloc: Global, out: &mut Bytes, kept: &Kept) -> Result<(), Memory> 
     Ok(())
 }
 
-/// The sources by their names, then the kept calls in the order in which they were kept, each with its outcome: in the forms of records of docs/STORE.md, with the
+/// The sources by their names, then the kept calls in the order in which they were kept, each with its outcome: in the forms of
+/// records of docs/engineer/store-format.md, with the
 /// texts in place of their numbers.
 pub fn held(alloc: Global, store: &Store) -> Result<Bytes, Memory> {
     let mut out = Bytes::new(alloc);

@@ -1,10 +1,10 @@
 // Which fault of the declarations is the first, and what the names and the numbers of a checked graph mean.
 use super::units::{UNITS, fault_in};
 use dg_reader::{ReadFault, read_graph};
-use object_values::{Bytes, GraphFault, Memory};
 use object_values::GraphFault::{
     DoubleName, SupertypeLoop, TooMany, UnknownParam, UnknownType, WrongKind,
 };
+use object_values::{Bytes, GraphFault, Memory};
 use odin_bytes::write_number;
 use std::alloc::Global;
 use std::test::Fail;

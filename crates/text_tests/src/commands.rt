@@ -80,7 +80,7 @@ fn is_read(alloc: Global, line: &[u8], words: &[u8]) -> Result<bool, Memory> {
     Ok(in_words(alloc, &command)?.as_slice() == words)
 }
 
-// A front, and a letter behind it, so often.
+// A front, and a letter after it, so often.
 fn long(alloc: Global, front: &[u8], count: usize) -> Result<Bytes, Memory> {
     let mut text = Bytes::from_slice(alloc, front)?;
     for _ in 0..count {

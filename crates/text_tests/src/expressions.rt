@@ -90,7 +90,7 @@ fn faults_have_their_places(rt: HostRuntime) {
     }
 }
 
-// Whether so many of the byte behind the front are read, and one more is a fault at the place.
+// Whether so many of the byte after the front are read, and one more is a fault at the place.
 fn is_limit(
     alloc: Global,
     front: &[u8],
@@ -113,7 +113,7 @@ fn words_and_texts_have_limits(rt: HostRuntime) {
     }
 }
 
-// Whether so many spaces are no expression, by the place behind them.
+// Whether so many spaces are no expression, by the place after them.
 fn is_blank(alloc: Global, count: usize, place: u32) -> Result<bool, Memory> {
     let text = long(alloc, b"", b' ', count)?;
     Ok(is_fault(alloc, text.as_slice(), place))

@@ -21,7 +21,7 @@ fn fields_are_written_highest_byte_first(rt: HostRuntime) -> Result<(), Fail> {
     Ok(())
 }
 
-// Whether each field is read, with the place behind it.
+// Whether each field is read, with the place after it.
 fn are_read(fields: &[u8]) -> bool {
     take_u8(fields, 0) == Some((5, 1))
         && take_u32(fields, 1) == Some((0x0102_0304, 5))

@@ -1,7 +1,7 @@
 // The first line of a text.
 use odin_bytes::first_line;
 
-// A text, its first line and what stands behind it.
+// A text, its first line and what stands after it.
 const ROWS: &[(&[u8], &[u8], &[u8])] = &[
     (b"\n", b"", b""),
     (b"a\r\nb\nc", b"a\r", b"b\nc"),

@@ -73,7 +73,7 @@ const ROWS: &[(Text, Wanted)] = &[
     (b"a.h:c", Wanted::NoPath(1)),
     (b"a:c", Wanted::NoPath(1)),
     (b"a.c:o", Wanted::Node(b"a.c:o", 5)),
-    // Behind an empty path the node keeps its own type.
+    // After an empty path the node keeps its own type.
     (b"a.c:hdr:o", Wanted::Node(b"a.c:o", 5)),
     (b"m.sm:exe", Wanted::Node(b"m.sm:units:objs:exe", 6)),
     (b"m.sm:units:exe", Wanted::Node(b"m.sm:units:objs:exe", 6)),

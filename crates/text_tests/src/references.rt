@@ -45,7 +45,7 @@ fn says(alloc: Global, text: &[u8], expected: &[(u64, &[u8])]) -> Result<bool, M
     }
 }
 
-// So many lines `a`, behind one that is passed over.
+// So many lines `a`, after one that is passed over.
 fn many(alloc: Global, count: usize) -> Result<Bytes, Memory> {
     let mut text = Bytes::from_slice(alloc, b"#\n")?;
     for _ in 0..count {

@@ -121,7 +121,7 @@ fn declarations_stop_at_their_places(rt: HostRuntime) {
     }
 }
 
-// A front, so many bytes, what stands behind them, and the fault.
+// A front, so many bytes, what stands after them, and the fault.
 type Long = (&'static [u8], u8, usize, &'static [u8], Option<ReadFault>);
 
 const TOOL: &[u8] = b"type a simple; tool t 1 from a to a run \"";

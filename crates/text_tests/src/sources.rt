@@ -62,7 +62,7 @@ fn put_names(alloc: Global, sources: &mut Sources) -> Result<bool, Memory> {
     Ok(true)
 }
 
-// Whether the pairs come in the order of their names, with none behind them.
+// Whether the pairs come in the order of their names, with none after them.
 fn are_sorted(sources: &Sources) -> bool {
     for (place, wanted) in SORTED.iter().enumerate() {
         if !is_pair(sources.at(place), wanted) {
@@ -94,7 +94,7 @@ fn put_falling(alloc: Global, sources: &mut Sources) -> Result<bool, Memory> {
     Ok(true)
 }
 
-// Whether all of them come in their order, with none behind them.
+// Whether all of them come in their order, with none after them.
 fn are_many(sources: &Sources) -> bool {
     for number in 0..MANY {
         if !is_pair(sources.at(number as usize), &number.to_be_bytes()) {

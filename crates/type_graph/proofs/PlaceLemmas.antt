@@ -28,7 +28,7 @@ new_place pairs name place h = sym (ap (λ b. cond b pairs (pairs ++ (name, plac
 abbrev same_bytes : {Z : Type 0} → Vec ℕ Z → Vec ℕ Z → Bool
 same_bytes a b = bytes_eq a.items b.items
 
--- a key that has no place is inserted behind the others
+-- a key that has no place is inserted after the others
 insert_seen : {Z : Type 0} (entries : List (Vec ℕ Z × ℕ)) (key : Vec ℕ Z) (place : ℕ) → is_some (place_of (map seen entries) key.items) ≡ false
     → map seen (insert_entry same_bytes entries key place) ≡ map seen entries ++ (key.items, place) ∷ []
 insert_seen [] key place h = refl

@@ -6,8 +6,8 @@ use odin_bytes::{put_bytes, put_u8, put_u64, take_bytes};
 use odin_fakes::MemDisk;
 use odin_store::{Store, StoreFault};
 use std::alloc::Global;
-use std::{fs, io};
 use std::io::Write;
+use std::{fs, io};
 use test_support::held;
 
 fn add_bytes(out: &mut Bytes, bytes: &[u8]) -> Result<(), Memory> {
@@ -23,7 +23,7 @@ fn disk_of(alloc: Global, image: &[u8]) -> Result<MemDisk, Memory> {
     MemDisk::new(alloc, Bytes::from_slice(alloc, image)?, 256, calls)
 }
 
-// What a store holds, and the file behind its opening.
+// What a store holds, and the file after its opening.
 fn told(alloc: Global, store: &Store, file: &[u8]) -> Result<Bytes, Memory> {
     let mut told = held(alloc, store)?;
     add_bytes(&mut told, file)?;
@@ -46,7 +46,7 @@ fn tell_image(alloc: Global, image: &[u8], out: &mut Bytes) -> Result<(), Memory
     }
 }
 
-/// Tells of each image of a file what it stands for. Each stands behind its length.
+/// Tells of each image of a file what it stands for. Each stands after its length.
 pub(crate) fn tell_images(rt: &HostRuntime, path: &str) -> Result<(), Fault> {
     let Ok(images) = fs::read(rt, path) else {
         return Err(Fault::File);

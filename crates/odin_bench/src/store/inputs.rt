@@ -1,6 +1,8 @@
 // The texts, the calls and the outcomes of stores that are measured, as those of a project in C: a tenth of the sources are headers, and each call has a unit and
 // twelve headers.
-use object_values::{Bytes, Call, CallPart, Copied, Memory, Outcome, Part, Seq, Sources, Status, Text};
+use object_values::{
+    Bytes, Call, CallPart, Copied, Memory, Outcome, Part, Seq, Sources, Status, Text,
+};
 use odin_bytes::{put_u32, write_number};
 use std::alloc::Global;
 

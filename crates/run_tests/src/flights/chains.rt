@@ -1,6 +1,6 @@
 // A chain that is found while tools run: nothing more is started, and what runs is drained and kept.
-use crate::stored::{Text, disk_of, status_at};
 use super::project::{Events, order_of};
+use crate::stored::{Text, disk_of, status_at};
 use object_values::{Memory, Seq};
 use odin_fakes::{FailTools, TableTools};
 use odin_outside::Spawner;

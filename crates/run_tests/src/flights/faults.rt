@@ -1,6 +1,6 @@
 // Each start, each end and each call of the disk fails in turn while several tools are in flight.
-use crate::stored::disk_of;
 use super::project::{ASK, CALLS, Events, OBJECT, PUT_REPLIES, PUTS, order_of, ran_with};
+use crate::stored::disk_of;
 use object_values::{Memory, Seq};
 use odin_fakes::{FailDisk, FailTools, MemDisk, TableTools};
 use odin_outside::{Spawner, ToolEvent};
@@ -19,7 +19,7 @@ fn asked_once(alloc: Global) -> Result<Vec<u8>, Memory> {
     Ok(commands)
 }
 
-// The replies where so many calls are kept behind this one.
+// The replies where so many calls are kept after this one.
 fn replies_with(alloc: Global, answer: &[u8], kept: usize) -> Result<Vec<u8>, Memory> {
     let mut replies = PUT_REPLIES.to_vec(alloc)?;
     replies.extend_from_slice(answer)?;

@@ -1,6 +1,6 @@
 // The order in which tools end changes no byte and no start.
-use crate::stored::{Text, disk_of};
 use super::project::{ASK, CALLS, Events, OBJECT, PUT_REPLIES, PUTS, order_of, ran_with};
+use crate::stored::{Text, disk_of};
 use object_values::{Memory, Seq};
 use odin_fakes::{FailTools, TableTools};
 use odin_outside::Spawner;
@@ -33,7 +33,7 @@ fn two_units_are_linked_alike_in_each_order(rt: HostRuntime) -> Result<(), Fail>
     Ok(())
 }
 
-// The replies of the project, and what is kept behind them.
+// The replies of the project, and what is kept after them.
 fn project(alloc: Global) -> Result<(Vec<u8>, Vec<u8>), Memory> {
     let mut commands = PUTS.to_vec(alloc)?;
     commands.extend_from_slice(ASK)?;

@@ -55,7 +55,7 @@ const PEERS: &[(&str, &str, u8)] = &[
         "say sources; printf 'put a.c 9\\nx='; rest 'sources 0\\n'",
         1,
     ),
-    // The commands come in one piece: behind the end of the run a further one would have no reader.
+    // The commands come in one piece: after the end of the run a further one would have no reader.
     (
         "closes the replies",
         "exec <&-; printf 'sources\\nquit\\n'",

@@ -1,4 +1,4 @@
--- The answers behind the name say what the words are, and nothing of what is given: that it is the same is what the clause asks for.
+-- The answers after the name say what the words are, and nothing of what is given: that it is the same is what the clause asks for.
 use Rattle.std.proofs.Common.{◌∙◌, sym}
 use Rattle.odin_commands.proofs.Behind.{no_put_space, no_put_number, put_is}
 use Rattle.odin_commands.proofs.read.read_put.Goals as goal

@@ -1,4 +1,4 @@
--- What comes of the steps behind known parameters.
+-- What comes of the steps after known parameters.
 use Rattle.std.proofs.Common.{◌≡◌, ◌∙◌, ap, sym, subst}
 use Rattle.std.specs.Prelude.{IfOk, IfErr}
 use Rattle.std.proofs.lemmas.Result.{IfOk-weaker}

@@ -1,4 +1,4 @@
--- What is left of the place behind the declarations so far.
+-- What is left of the place after the declarations so far.
 use Rattle.std.proofs.Common.{◌≡◌, slice_get, filter_map}
 use Rattle.meaning_graph.specs.Graphs.{as_type}
 use Rattle.odin_nodes.proofs.PickLemmas.{declared_from}

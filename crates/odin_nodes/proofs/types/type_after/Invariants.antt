@@ -1,4 +1,4 @@
--- The type behind the steps so far.
+-- The type after the steps so far.
 use Rattle.odin_nodes.proofs.TypeLemmas.{IsFollowed}
 use Rattle.odin_nodes.proofs.types.type_after.Given as goal
 

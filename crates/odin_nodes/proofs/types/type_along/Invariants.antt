@@ -1,4 +1,4 @@
--- The type behind the makers so far.
+-- The type after the makers so far.
 use Rattle.std.proofs.Common.{map}
 use Rattle.object_values.specs.declared.nodes.Step.TheVariants.{Maker}
 use Rattle.odin_nodes.proofs.TypeLemmas.{IsFollowed}
