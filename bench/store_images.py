@@ -1,5 +1,5 @@
 #!/usr/bin/env python3
-"""Reads store files by the tables of docs/STORE.md, and compares what they stand for with what the program says of them.
+"""Reads store files by the tables of docs/engineer/store-format.md, and compares what they stand for with what the program says of them.
 
     store_images.py PROGRAM [COUNT [SEED]]
 
