@@ -31,7 +31,8 @@ pub(crate) enum Round {
 }
 
 /// The next round of a node after so many: over all needs, or, once the first rounds are over, over
-/// what comes into sight as lines are followed. Then all needs are found again only for the closing.
+/// what comes into sight as lines are followed. Then all needs are found again only for the
+/// closing.
 pub(crate) fn next_round<K: Known>(
     alloc: Global,
     setting: &Setting<'_, K>,

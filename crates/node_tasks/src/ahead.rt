@@ -8,7 +8,7 @@ ghost use Rattle.meaning_tasks.specs.Nodes.{Fits, base_of};
 ghost use Rattle.meaning_tasks.specs.Tasks.{Task as TaskValue, scan_node, tool_task, tooled};
 ghost use Rattle.meaning_tasks.specs.Needs.{Results as ResultMap, Known as KnownValues, values_of, has_value};
 ghost use Rattle.path_planner.specs.Ends.{plans_of};
-ghost use Rattle.node_tasks.specs.Ahead.{AreInSight, AreLed, IsAhead, IsLedOn, IsLevel, IsOfLevel, IsReachedScan, IsUnseen};
+ghost use Rattle.node_tasks.specs.Ahead.{AreInSight, AreLed, IsAhead, IsInSight, IsLedOn, IsLevel, IsOfLevel, IsReachedScan, IsUnseen};
 
 use crate::base::base_of;
 use crate::task::tool_at;
@@ -103,7 +103,8 @@ impl Ahead {
     }
 }
 
-// The needs of one level: nodes of sources, and scan nodes, which stand before them among all needs.
+// The needs of one level: nodes of sources, and scan nodes, which stand before them among all
+// needs.
 struct Level {
     // The places of the names that bring them.
     untold: Seq<usize>,
@@ -135,7 +136,7 @@ impl Level {
         }
     }
 
-    // The needs in one list. Of the scan nodes and of the sources each the order is that of the names.
+    // The needs in one list: the scan nodes and then the sources, each in the order of their names.
     fn in_order(self) -> Result<Seq<Node>, Memory>
         ensures { (t : TaskValue) (known : KnownValues) (visited : NodeValue → Bool) →
             IsOfLevel t known visited self → IfOk result (AreInSight t known visited) }
@@ -183,16 +184,10 @@ fn follow<R: Results, V: VisitedNodes>(
         let known = values_of (R.results seen.now) in
         IfOk result (IsOfLevel t known (V.visited visited.now)) }
 {
-    if !ahead.own {
-        let root = node.source.as_slice();
-        if let Some(scan) = unvisited_scan(alloc, graph, plans, node, tool, root, visited)? {
-            let mut level = Level::new(alloc);
-            level.scans.push(scan)?;
-            return Ok(level);
-        }
-        let lines = told_lines(alloc, graph, plans, node, tool, root, seen)?;
-        ahead.names.add_all(alloc, lines.as_slice())?;
-        ahead.own = true;
+    if let Some(scan) = tell_own(alloc, graph, plans, node, tool, seen, visited, ahead)? {
+        let mut level = Level::new(alloc);
+        level.scans.push(scan)?;
+        return Ok(level);
     }
     let untold = ahead.untold.as_slice();
     let names = &mut ahead.names;
@@ -203,6 +198,40 @@ fn follow<R: Results, V: VisitedNodes>(
     ahead.looked = ahead.names.len();
     ahead.untold = mem::replace(&mut level.untold, Seq::new(alloc));
     Ok(level)
+}
+
+// Tells the own lines once the own scan node was visited. Before that the scan node is given.
+fn tell_own<R: Results, V: VisitedNodes>(
+    alloc: Global,
+    graph: &Graph,
+    plans: &Plans,
+    node: &Node,
+    tool: &ToolDecl,
+    seen: &R,
+    visited: &V,
+    ahead: &mut Ahead,
+) -> Result<Option<Node>, Memory>
+    requires made { plans.now ≡ plans_of graph.now }
+    requires valued { has_value (values_of (R.results seen.now) (base_of node.now)) ≡ true }
+    requires led { (m : MakerValue) → let t = tooled (tool_task graph.now node.now m tool.now) in
+        AreLed t (values_of (R.results seen.now)) ahead.old.names }
+    ensures led { (m : MakerValue) → let t = tooled (tool_task graph.now node.now m tool.now) in
+        AreLed t (values_of (R.results seen.now)) ahead.new.names }
+    ensures scan { (m : MakerValue) → let t = tooled (tool_task graph.now node.now m tool.now) in
+        let known = values_of (R.results seen.now) in
+        IfOk result (λ found. IfSome found (IsInSight t known (V.visited visited.now))) }
+{
+    if ahead.own {
+        return Ok(None);
+    }
+    let root = node.source.as_slice();
+    if let Some(scan) = unvisited_scan(alloc, graph, plans, node, tool, root, visited)? {
+        return Ok(Some(scan));
+    }
+    let lines = told_lines(alloc, graph, plans, node, tool, root, seen)?;
+    ahead.names.add_all(alloc, lines.as_slice())?;
+    ahead.own = true;
+    Ok(None)
 }
 
 // Looks at the names at these places, and at all from one place on, also at those that are found
