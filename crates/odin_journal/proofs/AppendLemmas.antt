@@ -37,7 +37,7 @@ agree_start n image c agree large =
     ∙ ap (λ l. if slice_index image 8 % 2 == 0 then big_number 8 l else big_number 8 (slice_range c 24 32)) first
     ∙ ap (λ l. if slice_index image 8 % 2 == 0 then big_number 8 (slice_range image 16 24) else big_number 8 l) second
 
-agree_front : (n : ℕ) (image c : List ℕ) → Agree n image c → 64 ≤ n → start_of image < length c → HasFront image → HasFront c
+pub agree_front : (n : ℕ) (image c : List ℕ) → Agree n image c → 64 ≤ n → start_of image < length c → HasFront image → HasFront c
 agree_front n image c agree large inside front =
     let start = agree_start n image c agree large in
     record {
@@ -71,7 +71,7 @@ one_more image gate end [] payload whole last = (subst (λ at. IsRecord image at
 one_more image gate end (first ∷ records) payload whole last = (whole.0, one_more image (gate_after gate first) end records payload whole.1 last)
 
 -- What comes before the gate at the end of a store, over images that agree on it.
-agree_written : (n : ℕ) (image c : List ℕ) → Agree n image c → 64 ≤ n → length c ≤ file_limit → IsWritten image → IsWritten c
+pub agree_written : (n : ℕ) (image c : List ℕ) → Agree n image c → 64 ≤ n → length c ≤ file_limit → IsWritten image → IsWritten c
 agree_written n image c agree large short written = record {
   within = short;
   some = let within = agree.within in omega arith;
@@ -79,7 +79,7 @@ agree_written n image c agree large short written = record {
 }
 
 -- an image that agrees with a store on all before its end is a store with the same records, if the gate there is closed
-closed_store : (image c : List ℕ) (records : List (List ℕ)) (end : ℕ) → IsStore image records end → Agree end image c → end < length c → length c ≤ file_limit → slice_index c end ≢ 1 → IsStore c records end
+pub closed_store : (image c : List ℕ) (records : List (List ℕ)) (end : ℕ) → IsStore image records end → Agree end image c → end < length c → length c ≤ file_limit → slice_index c end ≢ 1 → IsStore c records end
 closed_store image c records end store agree inside short shut =
     let le = records_le image (start_of image) end records store.whole in
     let large : 64 ≤ end = omega (arith, store.front.starts_behind) in
@@ -103,7 +103,7 @@ opened_store image c records end payload store agree short last shut =
       closed = record { within = last.next; other = subst (λ b. b ≢ 1) (sym shut) (omega arith) };
     }
 
-agree_less : (m n : ℕ) (image c : List ℕ) → m ≤ n → Agree n image c → Agree m image c
+pub agree_less : (m n : ℕ) (image c : List ℕ) → m ≤ n → Agree n image c → Agree m image c
 agree_less m n image c le agree = record { same = sym (take-take m n c le) ∙ ap (take m) agree.same ∙ take-take m n image le; within = omega (arith, agree.within) }
 
 pub torn_agree : (at n : ℕ) (image c : List ℕ) → at ≤ length image → Torn at n image c → Agree at image c

@@ -3,4 +3,6 @@ mod FrontLemmas
 mod MomentLemmas
 mod OpenLemmas
 mod ReadLemmas
+mod ReplaceLemmas
+mod RewriteLemmas
 mod StartLemmas

@@ -1,6 +1,8 @@
 -- What is known of a disk that is only read.
-use Rattle.std.proofs.Common.{◌≡◌, ℕ, List, Result, Ok, Err, OnOk, OnErr, sym, ◌∙◌}
-use Rattle.odin_outside.specs.Disk.{Telling, MayLeave, ChangesPending, IsQuiet, same_pending}
+use Rattle.std.proofs.Common.{◌≡◌, ◌⊎◌, inl, inr, ℕ, List, Result, Ok, Err, OnOk, OnErr, sym, subst, ◌∙◌, arith}
+use Rattle.std.proofs.lemmas.List.{take_min}
+use Rattle.odin_outside.specs.Disk.{Pending, Telling, MayLeave, ChangesPending, IsCrashImage, IsQuiet, Cut, cut_to, same_pending}
+use Rattle.odin_outside.specs.Steps.{cut_step}
 use Rattle.odin_outside.specs.Moments.{follows_on, leaves_by_one_call, then, after_look}
 use Rattle.odin_journal.specs.Moments.{Untouched}
 
@@ -35,3 +37,26 @@ untouched_call old new r only_now quiet goes same =
       same = same;
       leaves = leaves_by_one_call same_pending old new r (λ image. image ≡ old.seen) quiet.follows goes (λ c left. quiet.only c (only_now c left)) here;
     }
+
+-- ---- cuts
+
+-- no cut is one that was cut short
+pub cut_same : (size : ℕ) (image : List ℕ) → Cut size image image
+cut_same size image = record { front = sym (take_min size image); no_shorter = omega arith; no_longer = omega arith }
+
+cut_from : (old : Telling) (pending : Pending) (size : ℕ) → IsQuiet old → pending ≡ cut_to size old.pending → (c : List ℕ) → IsCrashImage pending c → Cut size old.seen c
+cut_from old pending size quiet is c left =
+    let step = cut_step old.pending size c (subst (λ p. IsCrashImage p c) is left) in
+    subst (λ d. Cut size d c) (quiet.only step.0 step.1) step.2
+
+uncut_from : (old : Telling) (pending : Pending) (size : ℕ) → IsQuiet old → pending ≡ old.pending → (c : List ℕ) → IsCrashImage pending c → Cut size old.seen c
+uncut_from old pending size quiet is c left = subst (λ d. Cut size old.seen d) (sym (quiet.only c (subst (λ p. IsCrashImage p c) is left))) (cut_same size old.seen)
+
+-- after a cut on a disk where nothing is pending
+pub after_cut : {T E : Type 0} (old new : Telling) (size : ℕ) (r : Result T E) → IsQuiet old → ChangesPending (cut_to size) old new r → (c : List ℕ) → MayLeave new c → Cut size old.seen c
+after_cut old new size (Ok x) quiet goes c left = cut_from old new.pending size quiet (goes.ok quiet.follows) c left
+after_cut old new size (Err e) quiet goes c left = by (goes.err quiet.follows)
+  where
+    by : (new.pending ≡ old.pending) ⊎ (new.pending ≡ cut_to size old.pending) → Cut size old.seen c
+    by (inl same) = uncut_from old new.pending size quiet same c left
+    by (inr done) = cut_from old new.pending size quiet done c left

@@ -1,5 +1,5 @@
 -- What is known of a journal's disk after readings of it.
-use Rattle.std.proofs.Common.{◌≡◌, inl, inr, ℕ, List, [], length, Result, Ok, Err, IfOk, IfErr, IsErrAnd, IsTrue, IsFalse, refl, sym, ap, subst, ◌∙◌}
+use Rattle.std.proofs.Common.{◌≡◌, inl, inr, ℕ, List, [], length, true, Result, Ok, Err, IfErr, IsErrAnd, IsTrue, IsFalse, refl, sym, ap, subst, ◌∙◌}
 use Rattle.odin_outside.specs.Disk.{Telling, LeavesOnly, IsQuiet}
 use Rattle.meaning_records.specs.Front.{start_of, HasFront, new_store}
 use Rattle.meaning_records.specs.Images.{IsNew, IsWritten, IsStore, Stored, IsClosed, AreRecords, NotOurs}
@@ -9,24 +9,20 @@ use Rattle.odin_journal.specs.declared.fault.JournalFault.{JournalFault}
 use Rattle.odin_journal.specs.declared.fault.JournalFault.TheVariants as fault
 use Rattle.odin_journal.specs.Moments.{IsLookOf, IsQuietAt, Untouched}
 use Rattle.odin_journal.specs.Rest.{AtRest, MakesNewStore, OpensJournal, KeepsRecords}
+use Rattle.odin_journal.specs.Starts.{IsStartOf}
 use Rattle.odin_journal.specs.declared.front.Looked.{Looked}
 use Rattle.odin_outside.specs.Moments.{then, weaker}
 use Rattle.odin_journal.proofs.MomentLemmas.{untouched_on}
 
-pub if_ok_two : {T E : Type 0} (r : Result T E) (P Q R : T → Type 0) → ((x : T) → P x → Q x → R x) → IfOk r P → IfOk r Q → IfOk r R
-if_ok_two (Ok x) P Q R f p q = f x p q
-if_ok_two (Err e) P Q R f p q = tt
-
 pub quiet_on : (old new : Telling) (size : ℕ) → Untouched old new → IsQuietAt old size → IsQuietAt new size
 quiet_on old new size untouched quiet = record { quiet = untouched.quiet; long = ap length untouched.same ∙ quiet.long }
 
--- the same faults, at offsets that say more
-pub faults_from : {T : Type 0} (breaks also : ℕ → Type 0) (r : Result T JournalFault) → ((at : ℕ) → breaks at → also at) → IfErr r (IsReadFault breaks) → IfErr r (IsReadFault also)
-faults_from breaks also (Ok x) from fault = tt
-faults_from breaks also (Err fault.Disk) from there = there
-faults_from breaks also (Err (fault.NotOurs at)) from there = from at there
-faults_from breaks also (Err (fault.Full end count)) from never = never
-faults_from breaks also (Err fault.Memory) from there = there
+-- the same fault, at an offset that says more
+pub fault_from : (breaks also : ℕ → Type 0) (e : JournalFault) → ((at : ℕ) → breaks at → also at) → IsReadFault breaks e → IsReadFault also e
+fault_from breaks also fault.Disk from there = there
+fault_from breaks also (fault.NotOurs at) from there = from at there
+fault_from breaks also (fault.Full end count) from never = never
+fault_from breaks also fault.Memory from there = there
 
 pub store_from : (image : List ℕ) (start end : ℕ) (records : List (List ℕ)) → IsWritten image → HasFront image → start ≡ start_of image → AreRecords image start records end → IsClosed image end → IsStore image records end
 store_from image start end records written front is whole closed = record { written = written; front = front; whole = subst (λ s. AreRecords image s records end) is whole; closed = closed }
@@ -94,3 +90,7 @@ keeps_made old mid new looked untouched look is made records quiet stored =
 pub handed : {T : Type 0} (P : JournalFault → Type 0) (r : Result T JournalFault) (e : JournalFault) → IsErrAnd r (λ given. given ≡ e) → P e → IfErr r P
 handed P (Ok x) e never there = tt
 handed P (Err given) e is there = subst P (sym is) there
+
+-- a new store starts its records after its front, by the first start
+pub new_start : (image c : List ℕ) → c ≡ new_store image → IsStartOf c (record { place = 64; is_first = true })
+new_start image c is = subst (λ l. IsStartOf l (record { place = 64; is_first = true })) (sym is) (record { place = refl; which = refl })

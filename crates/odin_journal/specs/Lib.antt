@@ -7,3 +7,6 @@ pub mod Marks
 pub mod Moments
 pub mod Reads
 pub mod Rest
+pub mod RewriteExamples
+pub mod Rewrites
+pub mod Starts

@@ -1,6 +1,6 @@
 -- What calls on a disk leave of it.
 use Rattle.std.specs.Prelude.{◌≡◌, ℕ, max, ◌+◌, ◌<◌, ◌≤◌, IsTrue, IsFalse, List, length, slice_range, Result, OnOk}
-use Rattle.odin_outside.specs.Disk.{Telling, LeavesOnly, IsQuiet, Written, Torn}
+use Rattle.odin_outside.specs.Disk.{Telling, LeavesOnly, IsQuiet, Written, Torn, Cut}
 use Rattle.odin_outside.specs.Worked.{WorkedWithin}
 use Rattle.meaning_records.specs.Front.{file_limit}
 use Rattle.meaning_records.specs.Images.{IsNew, IsWritten}
@@ -27,6 +27,10 @@ WritesAt at bytes old new = IsTrue old.follows → Written old.seen at bytes new
 -- a crash at any moment leaves the file but for so many bytes at this offset
 abbrev pub LeavesTorn : ℕ → ℕ → Telling → Telling → Type 0
 LeavesTorn at n old new = IsQuiet old → LeavesOnly old new (Torn at n old.seen)
+
+-- a crash at any moment leaves the file, or what a cut to this size leaves of it
+abbrev pub LeavesCut : ℕ → Telling → Telling → Type 0
+LeavesCut size old new = IsQuiet old → LeavesOnly old new (Cut size old.seen)
 
 -- nothing is pending on a disk of this size
 pub record IsQuietAt (disk : Telling) (size : ℕ) : Type 0 where

@@ -8,6 +8,7 @@ use Rattle.meaning_records.specs.Images.{gate_after, with_record, IsNew, Stored,
 use Rattle.odin_journal.specs.declared.journal.Journal.{Journal}
 use Rattle.odin_journal.specs.declared.fault.JournalFault.{JournalFault}
 use Rattle.odin_journal.specs.declared.fault.JournalFault.TheVariants.{Disk}
+use Rattle.odin_journal.specs.Starts.{IsStartOf}
 
 -- nothing is pending, and what a read gives is a store with these records and this end
 pub record AtRest (disk : Telling) (records : List (List ℕ)) (end : ℕ) : Type 0 where
@@ -62,6 +63,11 @@ pub record OpensJournal (old new : Telling) (records : List (List ℕ)) (end : �
 abbrev pub OpensQuietJournal : Telling → Telling → Journal × List (List ℕ) → Type 0
 OpensQuietJournal old new opened = IsQuiet old → OpensJournal old new opened.1 opened.0.end
 
+-- and its start is the one in use
+pub record OpensStarted (old new : Telling) (opened : Journal × List (List ℕ)) : Type 0 where
+  pub opens : OpensQuietJournal old new opened
+  pub starts : IsQuiet old → IsStartOf new.seen opened.0.start
+
 -- a file that doesn't count as new is only read
 abbrev pub OnlyReads : Telling → Telling → Type 0
 OnlyReads old new = IsQuiet old → ¬ (IsNew old.seen) → Untouched old new
@@ -94,6 +100,14 @@ OpensGate end bytes old new = IsQuiet old → Written old.seen end (1 ∷ bytes)
 pub record IsReady (journal : Journal) (size : ℕ) : Type 0 where
   pub fresh : IsFalse journal.spent
   pub inside : journal.end < size
+  pub within : journal.end < file_limit
+  pub behind_front : front_size ≤ journal.start.place
+  pub before_end : journal.start.place ≤ journal.end
+
+-- A journal on a disk at rest with these records: it ends where they do, and its start is the one in use.
+pub record RestsOn (disk : Telling) (records : List (List ℕ)) (journal : Journal) : Type 0 where
+  pub rests : AtRest disk records journal.end
+  pub starts : IsStartOf disk.seen journal.start
 
 -- the adding of a record to a journal
 abbrev pub AddsTo : Journal → Journal → List ℕ → Telling → Telling → Type 0
@@ -102,7 +116,17 @@ AddsTo journal next payload old new = AddsRecord journal.end next.end payload ol
 abbrev pub LeavesAdded : Journal → List ℕ → Telling → Telling → Type 0
 LeavesAdded journal payload old new = KeepsOrAdds journal.end payload old new
 
--- what a journal is after an adding: it can be added to, or is spent
+-- what a journal is after a change: it can be changed on, or is spent
 pub record JournalAfter {T : Type 0} (journal : Journal) (size : ℕ) (result : Result T JournalFault) : Type 0 where
   pub ready : OnOk result (IsReady journal size)
   pub spent : IsErrOf result Disk → IsTrue journal.spent
+
+-- a journal that rests on records rests on one more
+abbrev pub RestsOnMore : Journal → Journal → List ℕ → Telling → Telling → Type 0
+RestsOnMore journal next payload old new = (records : List (List ℕ)) → RestsOn old records journal → RestsOn new (records ++ payload ∷ []) next
+
+-- the same after the adding of a record, on which the journal rests with the others
+pub record IsAddedTo {T : Type 0} (journal next : Journal) (payload : List ℕ) (old new : Telling) (size : ℕ) (result : Result T JournalFault) : Type 0 where
+  pub ready : OnOk result (IsReady next size)
+  pub spent : IsErrOf result Disk → IsTrue next.spent
+  pub rests : OnOk result (RestsOnMore journal next payload old new)

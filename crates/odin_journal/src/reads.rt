@@ -1,14 +1,16 @@
 // The reading of an existing store file.
 ghost use Rattle.std.specs.Prelude.{◌≡◌, ◌+◌, ◌*◌, ◌<◌, ◌≤◌, length, IfOk, IfErr, IfSome, IfNone};
-ghost use Rattle.meaning_records.specs.Front.{front_size, start_of};
+ghost use Rattle.meaning_records.specs.Front.{front_size};
 ghost use Rattle.meaning_records.specs.Images.{gate_after};
 ghost use Rattle.odin_journal.specs.Faults.{JournalFaultIsCounted, IsReadFault, nowhere};
 ghost use Rattle.odin_journal.specs.Marks.{HasMarks};
 ghost use Rattle.odin_journal.specs.Moments.{IsOnlyRead, IsPlace, IsRangeOf, Works};
-ghost use Rattle.odin_journal.specs.Reads.{BreaksFrom, BreaksHere, BreaksStore, HasNoFront, HasRecord, HasRecords, HasStart, HasStore, IsShut};
+ghost use Rattle.odin_journal.specs.Reads.{BreaksFrom, BreaksHere, BreaksStore, HasNoFront, HasRecord, HasRecords, HasStart, HasStore, IsShut, IsSpan};
+ghost use Rattle.odin_journal.specs.Starts.{IsStartOf};
 
 use crate::fault::JournalFault;
 use crate::front::FRONT_SIZE;
+use crate::start::Start;
 use byteorder::{BigEndian, ByteOrder};
 use object_values::{Bytes, Seq};
 use odin_bytes::take_u32;
@@ -78,7 +80,7 @@ pub fn read_records<D: Disk>(
     requires { IsPlace (D.size_of disk.old) size start }
     ensures whole { IfOk result (HasRecords (D.told disk.old) size start) }
     ensures closed { IfOk result (λ read. IsShut (D.told disk.old) size read.0) }
-    ensures inside { IfOk result (λ read. read.0 < size) }
+    ensures inside { IfOk result (λ read. (start ≤ read.0) × (read.0 < size)) }
     ensures left { IsOnlyRead (D.told disk.old) (D.told disk.new)
         (D.size_of disk.old) (D.size_of disk.new) result }
     ensures err { IfErr result (IsReadFault (BreaksFrom (D.told disk.old) size start)) }
@@ -100,10 +102,11 @@ pub fn read_start<D: Disk>(
     alloc: Global,
     disk: &mut D,
     size: u64,
-) -> Result<Option<u64>, JournalFault>
+) -> Result<Option<Start>, JournalFault>
     requires { size ≡ D.size_of disk.old }
     ensures some { IfOk result (λ read. IfSome read (HasStart (D.told disk.old) size)) }
-    ensures inside { IfOk result (λ read. IfSome read (λ start. start < size)) }
+    ensures inside { IfOk result (λ read. IfSome read (λ start.
+        (front_size ≤ start.place) × (start.place < size))) }
     ensures none { IfOk result (λ read. IfNone read (HasNoFront (D.told disk.old) size)) }
     ensures left { IsOnlyRead (D.told disk.old) (D.told disk.new)
         (D.size_of disk.old) (D.size_of disk.new) result }
@@ -118,17 +121,17 @@ pub fn read_start<D: Disk>(
     let Some(start) = start_in(front.as_slice()) else {
         return Ok(None);
     };
-    if start < FRONT_SIZE || start >= size {
+    if start.place < FRONT_SIZE || start.place >= size {
         return Ok(None);
     }
     Ok(Some(start))
 }
 
 // The start in use that a front tells, where its marks are those of a store.
-fn start_in(front: &[u8]) -> Option<u64>
+fn start_in(front: &[u8]) -> Option<Start>
     requires { length front.now ≡ front_size }
     ensures some { IfSome result (λ start. HasMarks front.now) }
-    ensures start { IfSome result (λ start. start ≡ start_of front.now) }
+    ensures start { IfSome result (IsStartOf front.now) }
     ensures none { IfNone result (HasMarks front.now → ⊥) }
 {
     let named = &front[1..8] == b"DINSTO1".as_slice();
@@ -137,30 +140,38 @@ fn start_in(front: &[u8]) -> Option<u64>
         return None;
     }
     if front[8] % 2 == 0 {
-        Some(BigEndian::read_u64(&front[16..24]))
+        Some(Start {
+            place: BigEndian::read_u64(&front[16..24]),
+            is_first: true,
+        })
     } else {
-        Some(BigEndian::read_u64(&front[24..32]))
+        Some(Start {
+            place: BigEndian::read_u64(&front[24..32]),
+            is_first: false,
+        })
     }
 }
 
-/// The payloads of the whole records of a file that doesn't count as new, and the closed gate that ends them.
+/// Where the records of a file start that doesn't count as new, the closed gate that ends them, and the payloads of the whole ones.
 pub fn read_store<D: Disk>(
     alloc: Global,
     disk: &mut D,
     size: u64,
-) -> Result<(u64, Seq<Bytes>), JournalFault>
+) -> Result<(Start, (u64, Seq<Bytes>)), JournalFault>
     requires { size ≡ D.size_of disk.old }
-    ensures store { IfOk result (HasStore (D.told disk.old) size) }
-    ensures inside { IfOk result (λ read. read.0 < size) }
+    ensures start { IfOk result (λ read. HasStart (D.told disk.old) size read.0) }
+    ensures store { IfOk result (λ read. HasStore (D.told disk.old) size read.1) }
+    ensures inside { IfOk result (λ read. IsSpan size read.0.place read.1.0) }
     ensures left { IsOnlyRead (D.told disk.old) (D.told disk.new)
         (D.size_of disk.old) (D.size_of disk.new) result }
     ensures err { IfErr result (IsReadFault (BreaksStore (D.told disk.old) size)) }
     ensures works { IfOk result (λ read.
-        Works 0 (2 * length read.1 + 3) (D.told disk.old) (D.told disk.new)) }
+        Works 0 (2 * length read.1.1 + 3) (D.told disk.old) (D.told disk.new)) }
     ensures cause { JournalFaultIsCounted (D.faults disk.old) (D.faults disk.new) result }
 {
     let Some(start) = read_start(alloc, disk, size)? else {
         return Err(JournalFault::NotOurs(0));
     };
-    read_records(alloc, disk, start, size)
+    let read = read_records(alloc, disk, start.place, size)?;
+    Ok((start, read))
 }

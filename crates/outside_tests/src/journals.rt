@@ -17,13 +17,13 @@ fn opened_on(alloc: Global, disk: &mut CrashDisk) -> Result<(u64, Seq<Bytes>), J
 }
 
 // A disk with this file.
-fn disk_of(alloc: Global, image: &[u8]) -> Result<CrashDisk, Memory> {
+pub(super) fn disk_of(alloc: Global, image: &[u8]) -> Result<CrashDisk, Memory> {
     let image = Bytes::from_slice(alloc, image)?;
     CrashDisk::new(alloc, image, 200, 30)
 }
 
 // The end and the records of a journal on a file.
-fn opened(alloc: Global, image: &[u8]) -> Result<(u64, Seq<Bytes>), JournalFault> {
+pub(super) fn opened(alloc: Global, image: &[u8]) -> Result<(u64, Seq<Bytes>), JournalFault> {
     let mut disk = disk_of(alloc, image)?;
     opened_on(alloc, &mut disk)
 }

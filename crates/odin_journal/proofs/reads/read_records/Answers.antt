@@ -16,6 +16,7 @@ gates-preserved g c =
     let records_are : c.push.new.self ≡ c.gates.records ++ payload ∷ [] = c.in_ok-push.ensures.ok in
     let size_is = c.in_ok-payload.ensures.left.size in
     record {
+      ordered = omega (arith, c.gates.invariant.ordered);
       inside = omega (arith, room);
       size = c.gates.invariant.size ∙ sym size_is;
       same = size_is ∙ c.gates.invariant.same;

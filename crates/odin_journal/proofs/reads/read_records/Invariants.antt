@@ -1,4 +1,4 @@
-use Rattle.std.proofs.Common.{◌≡◌, ◌<◌, ◌-◌, ◌*◌, length}
+use Rattle.std.proofs.Common.{◌≡◌, ◌≤◌, ◌<◌, ◌-◌, ◌*◌, length}
 use Rattle.odin_outside.specs.Disk.{IsQuiet}
 use Rattle.meaning_records.specs.Images.{AreRecords}
 use Rattle.odin_journal.specs.Moments.{IsQuietAt, Untouched, Works}
@@ -7,6 +7,7 @@ use Rattle.odin_journal.proofs.reads.read_records.Given as goal
 -- the records so far follow each other up to the gate, and the disk is as it was
 abbrev pub invariant-gates : goal.invariant-gates
 invariant-gates g l = record {
+  ordered : l.start ≤ l.gate;
   inside : l.gate < l.size;
   size : l.size ≡ g.D.Disk.size_of l.disk;
   same : g.D.Disk.size_of l.disk ≡ g.D.Disk.size_of l.initial.disk;

@@ -30,7 +30,7 @@ returns-in_err-loading-clause-refused g c =
     let records = c.in_ok-journal.records in
     let end = c.in_ok-journal.journal.end in
     handed (IsStoreOpenFault c.args.graph.now old mid) c.from_residual-in_err-loading.result e c.from_residual-in_err-loading.ensures.1
-    (load_fault c.args.graph.now old mid records end e c.open.ensures.untouched c.in_ok-journal.ensures.opened (subst (λ n. IsRecordLoadFault records n e) c.end.ensures c.in_err-loading.ensures.fault))
+    (load_fault c.args.graph.now old mid records end e c.open.ensures.untouched c.in_ok-journal.ensures.opened.opens (subst (λ n. IsRecordLoadFault records n e) c.end.ensures c.in_err-loading.ensures.fault))
 
 pub returns-then-has_graph-clause-any_moment : goal.returns-then-has_graph-clause-any_moment
 returns-then-has_graph-clause-any_moment g c = records_stay c.args.graph.now (g.D.Disk.told c.args.disk.now) (g.D.Disk.told c.open.new.disk) c.open.ensures.any_moment
@@ -43,7 +43,7 @@ returns-then-has_graph-clause-opened g c =
     let answered : IsTrue c.has_graph.result = search rules in
     let store = c.of-known.result in
     let holds : state_in store state.graph ≡ state = ap₂ (λ (k : Holding) (s : SourceStock). record { tables = k.tables; sources = s.texts; graph = state.graph }) c.of-known.ensures.kept c.of-known.ensures.sources in
-    opens_known c.args.graph.now old mid store c.in_ok-journal.records c.in_ok-journal.journal.end state c.open.ensures.untouched c.in_ok-journal.ensures.opened c.in_ok-loading.ensures.read c.in_ok-journal.ensures.reads
+    opens_known c.args.graph.now old mid store c.in_ok-journal.records c.in_ok-journal.journal.end state c.open.ensures.untouched c.in_ok-journal.ensures.opened.opens c.in_ok-loading.ensures.read c.in_ok-journal.ensures.reads
     (ap (λ (j : Journal). j.end) c.of-known.ensures.journal) holds (c.has_graph.ensures.yes answered)
 
 pub returns-in_err-payload-clause-any_moment : goal.returns-in_err-payload-clause-any_moment
@@ -52,7 +52,7 @@ returns-in_err-payload-clause-any_moment g c = records_stay c.args.graph.now (g.
 pub returns-in_err-payload-clause-refused : goal.returns-in_err-payload-clause-refused
 returns-in_err-payload-clause-refused g c =
     handed (IsStoreOpenFault c.args.graph.now (g.D.Disk.told c.args.disk.now) (g.D.Disk.told c.open.new.disk)) c.from_residual-in_err-payload.result fault.Memory c.from_residual-in_err-payload.ensures.1
-    (memory_fault c.args.graph.now (g.D.Disk.told c.args.disk.now) (g.D.Disk.told c.open.new.disk) c.in_ok-journal.records c.in_ok-journal.journal.end c.open.ensures.untouched c.in_ok-journal.ensures.opened)
+    (memory_fault c.args.graph.now (g.D.Disk.told c.args.disk.now) (g.D.Disk.told c.open.new.disk) c.in_ok-journal.records c.in_ok-journal.journal.end c.open.ensures.untouched c.in_ok-journal.ensures.opened.opens)
 
 pub returns-in_err-append-clause-any_moment : goal.returns-in_err-append-clause-any_moment
 returns-in_err-append-clause-any_moment g c =
@@ -61,7 +61,7 @@ returns-in_err-append-clause-any_moment g c =
     let end = c.in_ok-journal.journal.end in
     let answered : IsFalse c.has_graph.result = search rules in
     graph_added c.args.graph.now (g.D.Disk.told c.args.disk.now) mid new c.in_ok-journal.records end (state_of c.in_ok-loading.loading) c.in_ok-loading.ensures.read (c.has_graph.ensures.no answered) c.open.ensures.any_moment
-    c.in_ok-journal.ensures.opened
+    c.in_ok-journal.ensures.opened.opens
     (subst (λ b. KeepsOrAdds end b mid new) (c.as_slice.ensures ∙ c.in_ok-payload.ensures) c.append.ensures.any_moment)
 
 pub returns-clause-any_moment : goal.returns-clause-any_moment
@@ -71,7 +71,7 @@ returns-clause-any_moment g c =
     let end = c.in_ok-journal.journal.end in
     let answered : IsFalse c.has_graph.result = search rules in
     graph_added c.args.graph.now (g.D.Disk.told c.args.disk.now) mid new c.in_ok-journal.records end (state_of c.in_ok-loading.loading) c.in_ok-loading.ensures.read (c.has_graph.ensures.no answered) c.open.ensures.any_moment
-    c.in_ok-journal.ensures.opened
+    c.in_ok-journal.ensures.opened.opens
     (subst (λ b. KeepsOrAdds end b mid new) (c.as_slice.ensures ∙ c.in_ok-payload.ensures) c.append.ensures.any_moment)
 
 pub returns-in_err-append-clause-refused : goal.returns-in_err-append-clause-refused
@@ -86,7 +86,7 @@ returns-in_err-append-clause-refused g c =
     let answered : IsFalse c.has_graph.result = search rules in
     let told : IsAddFault end (length (graph_record graph)) e = subst (λ b. IsAddFault end (length b) e) (c.as_slice.ensures ∙ c.in_ok-payload.ensures) c.in_err-append.ensures.full.err in
     handed (IsStoreOpenFault graph old new) c.from_residual-in_err-append.result e c.from_residual-in_err-append.ensures.1
-    (add_fault graph old mid new records end e (state_of c.in_ok-loading.loading) c.in_ok-loading.ensures.read (c.has_graph.ensures.no answered) c.requires c.open.ensures.untouched c.in_ok-journal.ensures.opened
+    (add_fault graph old mid new records end e (state_of c.in_ok-loading.loading) c.in_ok-loading.ensures.read (c.has_graph.ensures.no answered) c.requires c.open.ensures.untouched c.in_ok-journal.ensures.opened.opens
     (λ other there. subst (λ d. IsStoreOpenFault graph old (g.D.Disk.told d) e) (sym (c.in_err-append.ensures.same (refused_of ℕ e other)).0) there) told)
 
 pub returns-clause-opened : goal.returns-clause-opened
@@ -104,7 +104,7 @@ returns-clause-opened g c =
     subst (λ (j : Journal). AddsRecord end j.end (graph_record graph) mid new) (sym c.of-added.ensures.journal)
     (subst (λ b. AddsRecord end c.append.new.self.end b mid new) (c.as_slice.ensures ∙ c.in_ok-payload.ensures) c.in_ok-append.ensures.added) in
     let work : Works (length (graph_record graph) + 6) 4 mid new = subst (λ b. Works (length b + 6) 4 mid new) (c.as_slice.ensures ∙ c.in_ok-payload.ensures) c.in_ok-append.ensures.works in
-    opens_added graph old mid new store c.in_ok-journal.records end state c.requires c.open.ensures.untouched c.in_ok-journal.ensures.opened c.in_ok-loading.ensures.read c.in_ok-journal.ensures.reads work adds holds (c.has_graph.ensures.no answered)
+    opens_added graph old mid new store c.in_ok-journal.records end state c.requires c.open.ensures.untouched c.in_ok-journal.ensures.opened.opens c.in_ok-loading.ensures.read c.in_ok-journal.ensures.reads work adds holds (c.has_graph.ensures.no answered)
 
 pub returns-in_err-journal-clause-refused : goal.returns-in_err-journal-clause-refused
 returns-in_err-journal-clause-refused g c =
