@@ -1,6 +1,7 @@
 use Rattle.std.proofs.Common.{◌≡◌, ℕ, ◌+◌, length, IsTrue, IsFalse, sym, ap, ap₂, subst, ◌∙◌, arith, rules}
 use Rattle.object_values.specs.Texts.{SourceStock}
 use Rattle.odin_journal.specs.WorkLemmas.{more_work, add_work}
+use Rattle.odin_outside.specs.Worked.{WorkedWithin}
 use Rattle.odin_journal.specs.Faults.{IsAddFault}
 use Rattle.odin_journal.specs.Moments.{Works}
 use Rattle.odin_journal.specs.Rest.{AddsRecord, KeepsOrAdds}
@@ -88,6 +89,16 @@ returns-in_err-append-clause-refused g c =
     handed (IsStoreOpenFault graph old new) c.from_residual-in_err-append.result e c.from_residual-in_err-append.ensures.1
     (add_fault graph old mid new records end e (state_of c.in_ok-loading.loading) c.in_ok-loading.ensures.read (c.has_graph.ensures.no answered) c.requires c.open.ensures.untouched c.in_ok-journal.ensures.opened.opens
     (λ other there. subst (λ d. IsStoreOpenFault graph old (g.D.Disk.told d) e) (sym (c.in_err-append.ensures.same (refused_of ℕ e other)).0) there) told)
+
+-- over an empty file the work is that of the front and of the batch of the graph
+pub returns-in_err-append-clause-works : goal.returns-in_err-append-clause-works
+returns-in_err-append-clause-works g c = λ empty.
+    let old = (g.D.Disk.told c.args.disk.now).work in
+    let mid = (g.D.Disk.told c.open.new.disk).work in
+    let new = (g.D.Disk.told c.append.new.disk).work in
+    let size : ℕ = length (graph_record c.args.graph.now) in
+    let added : WorkedWithin (size + 6) 4 mid new = subst (λ b. WorkedWithin (length b + 6) 4 mid new) (c.as_slice.ensures ∙ c.in_ok-payload.ensures) c.append.ensures.works in
+    more_work (66 + (size + 6)) 20 (72 + size) 20 old new (omega arith) (omega arith) (add_work 66 16 (size + 6) 4 old mid new (c.open.ensures.works empty) added)
 
 pub returns-clause-opened : goal.returns-clause-opened
 returns-clause-opened g c =
