@@ -1,5 +1,6 @@
-use Rattle.std.proofs.Common.{true≢false, sym, ◌∙◌}
+use Rattle.std.proofs.Common.{true≢false, sym, ◌∙◌, subst}
 use Rattle.derive_walk.specs.Settings.{world_in}
+use Rattle.derive_walk.specs.Paths.{AreToVisit}
 use Rattle.derive_walk.proofs.AheadLemmas.{level_next, survey_next}
 use Rattle.derive_walk.proofs.rounds.next_round.Goals as goal
 
@@ -18,5 +19,7 @@ returns-then-is_empty-clause-round g c = record {
 pub returns-clause-round : goal.returns-clause-round
 returns-clause-round g c =
     let w = world_in g.K.Known.kept c.args.setting.now in
+    let next : AreToVisit w c.args.walk.now c.args.node.now c.in_ok-survey.survey.unvisited =
     survey_next w c.args.walk.now c.requires.holds c.args.node.now c.in_ok-survey.survey (c.in_ok-survey.ensures w c.args.node.now c.in_ok-needed.ensures)
-    (λ e. true≢false (sym (c.is_empty-2.ensures.1 e) ∙ c.if-is_empty.false))
+    (λ e. true≢false (sym (c.is_empty-2.ensures.1 e) ∙ c.if-is_empty.false)) in
+    subst (AreToVisit w c.args.walk.now c.args.node.now) (sym c.replace-unvisited.ensures.value) next

@@ -70,13 +70,13 @@ loop-need-preserved g t c =
     let first : drop i needs ≡ k ∷ drop (i + 1) needs = at_first needs i k c.loop-need-test.true c.need-item.is in
     let unseen : heights_in walk k ≡ None = not_some (heights_in walk k) (ap is_some (sym c.height_of.ensures) ∙ sym c.is_some.ensures ∙ c.if-is_some.false) in
     let need : IsNeedIn w c.args.node k = c.loop-need.invariant.round.needed k (got_in needs i k c.loop-need-test.true c.need-item.is) in
-    let free : IsChainTo walk.path k None = subst (λ o. IsChainTo walk.path k o) c.in_default.is c.in_ok-found-2.ensures in
+    let free : IsChainTo walk.path k None = subst (λ o. IsChainTo walk.path k o) c.in_default.is c.in_ok-found.ensures in
     let same : c.in_ok-need.need ≡ k = c.in_ok-need.ensures in
-    let after : Visited w walk c.visit.new.walk k = subst (λ z. Visited w walk c.visit.new.walk z) same (subst (λ o. AfterVisit w walk c.visit.new.walk c.in_ok-need.need o) c.in_default-2.is c.in_ok-found-3.ensures.after) in
+    let after : Visited w walk c.visit.new.walk k = subst (λ z. Visited w walk c.visit.new.walk z) same (subst (λ o. AfterVisit w walk c.visit.new.walk c.in_ok-need.need o) c.in_default-2.is c.in_ok-found-2.ensures.after) in
     record {
       round = visit_one w c.args.walk.now c.rounds.walk c.args.node needs walk k (drop i needs) (drop (i + 1) needs) c.loop-need.invariant.round first c.requires.set.world need unseen free.0 c.visit.new.walk c.visit.ensures.on c.visit.ensures.holds after;
       ahead = still_ahead w walk c.visit.new.walk c.loop-need.invariant.round.so.holds c.visit.ensures.holds c.visit.ensures.on c.args.node c.next_round.new.ahead c.loop-need.invariant.ahead;
-      counted = few_then _ _ _ _ _ _ _ c.loop-need.invariant.counted c.in_ok-found-3.ensures.counted;
+      counted = few_then _ _ _ _ _ _ _ c.loop-need.invariant.counted c.in_ok-found-2.ensures.counted;
     }
 
 pub next_round-requires : goal.next_round-requires
@@ -94,7 +94,7 @@ visit-requires g t c =
     let so = c.loop-need.invariant.round.so in
     let unseen : heights_in walk k ≡ None = not_some (heights_in walk k) (ap is_some (sym c.height_of.ensures) ∙ sym c.is_some.ensures ∙ c.if-is_some.false) in
     let need : IsNeedIn w c.args.node k = c.loop-need.invariant.round.needed k (got_in needs i k c.loop-need-test.true c.need-item.is) in
-    let free : IsChainTo walk.path k None = subst (λ o. IsChainTo walk.path k o) c.in_default.is c.in_ok-found-2.ensures in
+    let free : IsChainTo walk.path k None = subst (λ o. IsChainTo walk.path k o) c.in_default.is c.in_ok-found.ensures in
     let same : c.in_ok-need.need ≡ k = c.in_ok-need.ensures in
     let next : IsNext w walk c.in_ok-need.need = subst (λ z. IsNext w walk z) (sym same) (next_need w c.args.walk.now c.args.node c.requires.set.world walk so k need unseen free) in
     let size : length walk.path ≡ length c.args.walk.now.path + 1 = longer w c.args.walk.now c.args.node walk so in
@@ -117,16 +117,16 @@ returns-in-Some-clause-after g t c =
     let k = c.need-item.result in
     let walk = c.loop-need.walk in
     let need : IsNeedIn w c.args.node k = c.loop-need.invariant.round.needed k (got_in c.as_slice-unvisited.result.now c.loop-need.need-index k c.loop-need-test.true c.need-item.is) in
-    chained w c.args.walk.now c.args.node c.requires.set.world walk c.loop-need.invariant.round.so k need c.in-Some.found (subst (λ o. IsChainTo walk.path k o) c.in-Some.is c.in_ok-found-2.ensures)
+    chained w c.args.walk.now c.args.node c.requires.set.world walk c.loop-need.invariant.round.so k need c.in-Some.found (subst (λ o. IsChainTo walk.path k o) c.in-Some.is c.in_ok-found.ensures)
 
-pub returns-in_err-found-3-clause-on : goal.returns-in_err-found-3-clause-on
-returns-in_err-found-3-clause-on g t c = goes_far c.args.walk.now c.loop-need.walk c.visit.new.walk c.loop-need.invariant.round.so.on c.visit.ensures.on
+pub returns-in_err-found-2-clause-on : goal.returns-in_err-found-2-clause-on
+returns-in_err-found-2-clause-on g t c = goes_far c.args.walk.now c.loop-need.walk c.visit.new.walk c.loop-need.invariant.round.so.on c.visit.ensures.on
 
 pub returns-in-Some-2-clause-on : goal.returns-in-Some-2-clause-on
 returns-in-Some-2-clause-on g t c = goes_far c.args.walk.now c.loop-need.walk c.visit.new.walk c.loop-need.invariant.round.so.on c.visit.ensures.on
 
-pub returns-in_err-found-clause-on : goal.returns-in_err-found-clause-on
-returns-in_err-found-clause-on g t c = goes_far c.args.walk.now c.rounds.walk c.close.new.walk c.rounds.invariant.so.on c.close.ensures.on
+pub returns-in_err-found-in-Closes-clause-on : goal.returns-in_err-found-in-Closes-clause-on
+returns-in_err-found-in-Closes-clause-on g t c = goes_far c.args.walk.now c.rounds.walk c.close.new.walk c.rounds.invariant.so.on c.close.ensures.on
 
 pub returns-in-Closes-clause-on : goal.returns-in-Closes-clause-on
 returns-in-Closes-clause-on g t c = goes_at c.args.walk.now c.close.new.walk c.truncate.new.self (goes_far c.args.walk.now c.rounds.walk c.close.new.walk c.rounds.invariant.so.on c.close.ensures.on)
@@ -134,15 +134,15 @@ returns-in-Closes-clause-on g t c = goes_at c.args.walk.now c.close.new.walk c.t
 pub returns-in-Closes-clause-after : goal.returns-in-Closes-clause-after
 returns-in-Closes-clause-after g t c =
     let w = world_in g.K.Known.kept c.args.setting.now in
-    finish w c.args.walk.now c.args.node c.rounds.walk c.close.new.walk c.rounds.invariant.so c.close.ensures.on c.in_ok-found.found c.in_ok-found.ensures.after c.truncate.new.self (c.truncate.ensures ∙ ap (λ k. take k c.close.new.walk.path) c.len-length.ensures)
+    finish w c.args.walk.now c.args.node c.rounds.walk c.close.new.walk c.rounds.invariant.so c.close.ensures.on c.in_ok-found-in-Closes.found c.in_ok-found-in-Closes.ensures.after c.truncate.new.self (c.truncate.ensures ∙ ap (λ k. take k c.close.new.walk.path) c.len-length.ensures)
 
 -- ---- looks
 
 pub returns-in_err-round-clause-counted : goal.returns-in_err-round-clause-counted
 returns-in_err-round-clause-counted g t c = few_wider _ _ _ _ _ c.rounds.invariant.counted
 
-pub returns-in_err-found-2-clause-counted : goal.returns-in_err-found-2-clause-counted
-returns-in_err-found-2-clause-counted g t c = few_wider _ _ _ _ _ c.loop-need.invariant.counted
+pub returns-in_err-found-clause-counted : goal.returns-in_err-found-clause-counted
+returns-in_err-found-clause-counted g t c = few_wider _ _ _ _ _ c.loop-need.invariant.counted
 
 pub returns-in_err-need-clause-counted : goal.returns-in_err-need-clause-counted
 returns-in_err-need-clause-counted g t c = few_wider _ _ _ _ _ c.loop-need.invariant.counted
@@ -150,18 +150,18 @@ returns-in_err-need-clause-counted g t c = few_wider _ _ _ _ _ c.loop-need.invar
 pub returns-in-Some-clause-counted : goal.returns-in-Some-clause-counted
 returns-in-Some-clause-counted g t c = c.loop-need.invariant.counted
 
-pub returns-in_err-found-3-clause-counted : goal.returns-in_err-found-3-clause-counted
-returns-in_err-found-3-clause-counted g t c =
-    let given = err_from_is_err_and _ c.from_residual-in_err-found-3.ensures.1 in
-    few_at _ _ _ _ _ _ given.1 (few_then _ _ _ _ _ _ _ c.loop-need.invariant.counted c.in_err-found-3.ensures.counted)
+pub returns-in_err-found-2-clause-counted : goal.returns-in_err-found-2-clause-counted
+returns-in_err-found-2-clause-counted g t c =
+    let given = err_from_is_err_and _ c.from_residual-in_err-found-2.ensures.1 in
+    few_at _ _ _ _ _ _ given.1 (few_then _ _ _ _ _ _ _ c.loop-need.invariant.counted c.in_err-found-2.ensures.counted)
 
 pub returns-in-Some-2-clause-counted : goal.returns-in-Some-2-clause-counted
-returns-in-Some-2-clause-counted g t c = few_then _ _ _ _ _ _ _ c.loop-need.invariant.counted c.in_ok-found-3.ensures.counted
+returns-in-Some-2-clause-counted g t c = few_then _ _ _ _ _ _ _ c.loop-need.invariant.counted c.in_ok-found-2.ensures.counted
 
-pub returns-in_err-found-clause-counted : goal.returns-in_err-found-clause-counted
-returns-in_err-found-clause-counted g t c =
-    let given = err_from_is_err_and _ c.from_residual-in_err-found.ensures.1 in
-    few_at _ _ _ _ _ _ given.1 (few_then _ _ _ _ _ _ _ c.rounds.invariant.counted c.in_err-found.ensures.counted)
+pub returns-in_err-found-in-Closes-clause-counted : goal.returns-in_err-found-in-Closes-clause-counted
+returns-in_err-found-in-Closes-clause-counted g t c =
+    let given = err_from_is_err_and _ c.from_residual-in_err-found-in-Closes.ensures.1 in
+    few_at _ _ _ _ _ _ given.1 (few_then _ _ _ _ _ _ _ c.rounds.invariant.counted c.in_err-found-in-Closes.ensures.counted)
 
 pub returns-in-Closes-clause-counted : goal.returns-in-Closes-clause-counted
-returns-in-Closes-clause-counted g t c = few_then _ _ _ _ _ _ _ c.rounds.invariant.counted c.in_ok-found.ensures.counted
+returns-in-Closes-clause-counted g t c = few_then _ _ _ _ _ _ _ c.rounds.invariant.counted c.in_ok-found-in-Closes.ensures.counted
