@@ -1,6 +1,6 @@
 -- One end of a call, and what comes of it.
 use Rattle.std.proofs.Common.{◌≡◌, ◌≢◌, ◌↔◌, ◌<◌, ◌≤◌, ◌+◌, ◌++◌, ◌∷◌, List, [], ℕ, zero, suc, get_or, Bool, true, false, cond, length, inl, inr, refl, sym, ap, subst, arith, length-append, ◌∙◌}
-use Rattle.std.specs.Prelude.{Some, None, Result, Err, IfErr, IsTrue, take}
+use Rattle.std.specs.Prelude.{Some, None, Result, Ok, Err, IfErr, IsTrue, take}
 use Rattle.object_values.specs.declared.calls.Call.{Call}
 use Rattle.object_values.specs.declared.calls.Outcome.{Outcome}
 use Rattle.object_values.specs.contracts.calls.CallPartialEq.TheImpl.{ghosts as call_eq}
@@ -203,6 +203,13 @@ store_cause result fault before now is cause = subst (KeptFaultIsCounted before 
 
 pub left_by : {T : Type 0} (result : Result T KeptFault) (fault : KeptFault) (store : Store) (size : ℕ) → result ≡ Err fault → StoreAfterKeptFault store size fault → StoreAfterDerive store size result
 left_by result fault store size is left = subst (StoreAfterDerive store size) (sym is) (record { ready = tt; left = left })
+
+-- an answer leaves a store ready that is one that was, on a disk of that size
+pub ready_by : {T : Type 0} (value : T) (store was : Store) (size before : ℕ) → store ≡ was → size ≡ before → IsReady was.journal before → StoreAfterDerive {T = T} store size (Ok value)
+ready_by value store was size before same sized ready = record {
+  ready = subst (λ n. IsReady store.journal n) (sym sized) (subst (λ (s : Store). IsReady s.journal before) (sym same) ready);
+  left = tt;
+}
 
 pub fails_at : {T D : Type 0} (result : Result T KeptFault) (told : D → Telling) (walked : Walked) (jobs : InFlight) (old : At D) (walked' : Walked) (jobs' : InFlight) (new : At D) (fault : KeptFault)
     → result ≡ Err fault → FailsToLand told walked jobs old walked' jobs' new fault → IfErr result (FailsToLand told walked jobs old walked' jobs' new)

@@ -7,6 +7,7 @@ use Rattle.kept_derive.specs.declared.fault.KeptFault.TheVariants.{Spawn, Memory
 use Rattle.kept_derive.specs.Looked.{sought_by}
 use Rattle.kept_derive.specs.Runs.{at}
 use Rattle.kept_derive.specs.Ways.{ComesTo}
+use Rattle.kept_derive.proofs.CallLemmas.{ready_by}
 use Rattle.kept_derive.proofs.WayLemmas.{may_drain}
 use Rattle.kept_derive.proofs.TurnLemmas.{none_begun, stopped_at}
 use Rattle.kept_derive.proofs.LookLemmas.{none_looked, ends_counted, way_looked, looks_at}
@@ -196,3 +197,10 @@ returns-in-Some-clause-counted g c =
           (settles_now g.D.Disk.told c.args.graph.now c.args.node.now c.args.limit first c.fly.new.core c.fly.new.jobs now c.in_ok-flown.flown comes limit none)
     ] in
     way_looked g.D.Disk.told c.args.graph.now c.args.node.now first _ c.if-running-gt0.core c.if-running-gt0.jobs end (it.found c.in-Found.is c.in-Some.found (sym c.into_result.ensures ∙ c.in-Some.is)) _ _ 0 (ends_counted _ _ c.fly.new.core c.if-running-gt0.core c.in_ok-flown.ensures.counted it.same)
+
+pub returns-in-Some-clause-left : goal.returns-in-Some-clause-left
+returns-in-Some-clause-left g c =
+    elim c.if-running-gt0.branch [
+      | then-running-gt0+in_ok-drain w ↦ ready_by c.in-Some.found c.if-running-gt0.store w.drain.new.store _ _ w.store-is (ap g.D.Disk.size_of w.disk-is) w.in_ok-drain.ensures.left.ready
+      | else-running-gt0 w ↦ ready_by c.in-Some.found c.if-running-gt0.store c.fly.new.store _ _ w.store-is (ap g.D.Disk.size_of w.disk-is) c.in_ok-flown.ensures.left.ready
+    ]
