@@ -8,7 +8,7 @@ changed, with one header changed, and with that header changed back: each peer d
 second T times, of which the median counts. Of each the median of the rounds is told, its ratio to the same of ninja (make where that isn't there), and the number of tool runs, which is the
 length of a log to which each run adds a byte. Toy tools are one small program in C; the others are gcc, for odin beside scripts of sh.
 
-odin is asked as a Makefile would ask it: odin_takes lists the files, odin_get writes the program. The three are found in FOLDER/NAME/out, the
+odin is asked in one session, which drops nothing: odin_takes lists the files, odin_get writes the program. The three are found in FOLDER/NAME/out, the
 crates of this repository where it isn't said. DIR is where the work is done: what a sync costs depends on its disk. With --keep the folders
 stay, each peer's as its last round left it, with a file `commands` that asks odin for the program with nothing changed, for a profile.
 """

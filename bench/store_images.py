@@ -3,9 +3,10 @@
 
     store_images.py PROGRAM [COUNT [SEED]]
 
-Images are made from sessions by bytes that change, cuts, splices, records that stand twice, and items that change within whole records. PROGRAM is the
-built crates/odin_bench. Each image is opened for the graph text GRAPH. Of each, both say where it isn't ours, or the sources, the calls in order, and the
-file behind the opening. It prints how many agree, and the first that don't.
+Images are made from sessions by bytes that change, cuts, splices, records that stand twice, and items that change within whole records; half of them were
+rewritten once or twice before, so that both starts are in use. PROGRAM is the built crates/odin_bench. Each image is opened for the graph text GRAPH, and
+once more opened and rewritten, wasteful or not. Of each, both say where it isn't ours, or the sources, the calls in order, and the file then.
+It prints how many agree, and the first that don't.
 """
 import os
 import random
@@ -218,13 +219,13 @@ FRONT = b"ODINSTO1" + bytes(8) + u64(64) + bytes(41)
 
 
 def opened(image):
-    """What the program is to say: the offset at which the image isn't ours, or what it stands for and the file behind the opening."""
+    """The offset at which the image isn't ours, or what it stands for, the file after the opening, and the place of its closed gate."""
     told = records_of(image)
     if isinstance(told, int):
         return told
-    state = State()
+    state, batch = State(), b"\1" + blob(GRAPH)
     if told is None:
-        return dump(state, appended(FRONT + image[65:], 64, b"\1" + blob(GRAPH)))
+        return state, appended(FRONT + image[65:], 64, batch), 64 + 5 + len(batch)
     records, end = told
     for gate, payload in records:
         try:
@@ -232,7 +233,68 @@ def opened(image):
         except NotRead:
             return gate
     if state.graph != GRAPH:
-        image = appended(image, end, b"\1" + blob(GRAPH))
+        return state, appended(image, end, batch), end + 5 + len(batch)
+    return state, image, end
+
+
+class Live:
+    """The batches of a rewritten store."""
+
+    def __init__(self, state):
+        self.payloads = [b"\1" + blob(GRAPH)]
+        self.numbers = {}
+        for name, text in sorted(state.sources.items()):
+            items = []
+            number = self.number(text, items)
+            self.payloads.append(b"".join(items) + b"\3" + blob(name) + number)
+        for call, outcome in state.calls:
+            self.payloads.append(self.kept(call, outcome))
+
+    def number(self, text, items):
+        if text not in self.numbers:
+            self.numbers[text] = len(self.numbers)
+            items.append(b"\2" + blob(b"\1" + blob(text)))
+        return u32(self.numbers[text])
+
+    def kept(self, call, outcome):
+        tool, version, words, params, parts, outs = call
+        status, lines, outputs = outcome
+        items = []
+        numbered = [u32(slot) + blob(label) + (b"\0" if body is None else b"\1" + self.number(body, items)) for slot, label, body in parts]
+        given = [blob(name) + self.number(body, items) for name, body in outputs]
+        return b"".join(items) + b"\5" + b"".join([
+            blob(tool), blob(version), many([blob(w) for w in words]), many([blob(n) + blob(v) for n, v in params]), many(numbered),
+            many([blob(o) for o in outs]), bytes([status]), many([bytes([level]) + blob(text) for level, text in lines]), many(given)])
+
+
+def rewritten(state, image, end):
+    """The file once its records are replaced by what is live, and the place of its closed gate."""
+    copy = b"".join(b"\1" + blob(payload) for payload in Live(state).payloads) + b"\0"
+    is_second = image[8] % 2 == 1
+    start = int.from_bytes(image[24:32] if is_second else image[16:24], "big")
+    if 64 + len(copy) <= start:
+        place = 64
+    elif end + 1 + len(copy) <= LIMIT:
+        place = end + 1
+    else:
+        return image, end
+    image = image[:place] + copy + image[place + len(copy):]
+    field = 16 if is_second else 24
+    image = image[:field] + u64(place) + image[field + 8:]
+    image = image[:8] + bytes([0 if is_second else 1]) + image[9:]
+    if place == 64:
+        image = image[:64 + len(copy)]
+    return image, place + len(copy) - 1
+
+
+def wanted_of(image, mode):
+    """What the program is to say of an image."""
+    told = opened(image)
+    if isinstance(told, int):
+        return told
+    state, image, end = told
+    if mode == "rewritten":
+        image, _ = rewritten(state, image, end)
     return dump(state, image)
 
 
@@ -328,7 +390,9 @@ def session(rng):
                         outs, rng.choice([0, 0, 1, 2, 3]), rng.choice([[], [(1, b"old c")], [(3, b""), (0, b"x\n")]]),
                         [rng.choice(TEXTS) for _ in outs])
     image = writer.image
-    if rng.random() < 0.1:
+    for _ in range(rng.choice([0, 0, 1, 2])):
+        image, _ = rewritten(*opened(image))
+    if rng.random() < 0.1 and image[8] == 0:
         # the records stand elsewhere, and the second start leads to them
         shift = rng.randrange(1, 9)
         image = image[:8] + bytes([rng.choice([1, 3, 255])]) + image[9:24] + u64(64 + shift) + image[32:64] + bytes(shift) + image[64:]
@@ -394,12 +458,12 @@ def mutate(rng, image, other):
     return rebuilt(image, payloads)
 
 
-def said(program, images, folder):
+def said(program, mode, images, folder):
     path = os.path.join(folder, "images")
     with open(path, "wb") as out:
         for image in images:
             out.write(blob(image))
-    answer = subprocess.run([program, "store", "images", path], stdout=subprocess.PIPE, check=True).stdout
+    answer = subprocess.run([program, "store", mode, path], stdout=subprocess.PIPE, check=True).stdout
     told, at = [], 0
     while at < len(answer):
         if answer[at] == 0:
@@ -412,6 +476,10 @@ def said(program, images, folder):
     return told
 
 
+# an image is opened, and opened and rewritten
+MODES = ("images", "rewritten")
+
+
 def main():
     program = sys.argv[1]
     count = int(sys.argv[2]) if len(sys.argv) > 2 else 100_000
@@ -420,7 +488,7 @@ def main():
     assert len(first.image) == 89
     first.put(b"a.c", b"")
     assert len(first.image) == 116
-    done = ours = wrong = new = 0
+    done = ours = wrong = new = second = 0
     with tempfile.TemporaryDirectory() as folder:
         while done < count:
             images = []
@@ -435,20 +503,23 @@ def main():
                         made = mutate(rng, made, other)
                     images.append(made)
             images = images[:count - done]
-            answers = said(program, images, folder)
+            answers = list(zip(*[said(program, mode, images, folder) for mode in MODES]))
             assert len(answers) == len(images), (len(answers), len(images))
             for image, answer in zip(images, answers):
-                wanted = opened(image)
-                ours += isinstance(wanted, bytes)
+                wanted = tuple(wanted_of(image, mode) for mode in MODES)
+                ours += isinstance(wanted[0], bytes)
                 new += records_of(image) is None
+                second += len(image) > 8 and image[8] % 2
                 if wanted != answer:
                     wrong += 1
                     if wrong <= 5:
                         print("differs", image.hex())
-                        print("  wanted", wanted.hex() if isinstance(wanted, bytes) else wanted)
-                        print("  said  ", answer.hex() if isinstance(answer, bytes) else answer)
+                        for mode, want, said_of in zip(MODES, wanted, answer):
+                            print(" ", mode, "wanted", want.hex() if isinstance(want, bytes) else want)
+                            print(" ", mode, "said  ", said_of.hex() if isinstance(said_of, bytes) else said_of)
             done += len(images)
-    print(f"{done} images, {ours} of them stores ({new} new ones), {done - ours} not ours; {done - wrong} agree, {wrong} differ")
+    print(f"{done} images, {ours} of them stores ({new} new ones), {done - ours} not ours; the second start is in use in {second}")
+    print(f"each opened, and opened and rewritten: {done - wrong} agree, {wrong} differ")
     return 1 if wrong else 0
 
 

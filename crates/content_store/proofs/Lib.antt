@@ -1,3 +1,5 @@
 mod BodyLemmas
+mod DigestLemmas
 mod IndexLemmas
+mod MarkLemmas
 pub mod Lemmas

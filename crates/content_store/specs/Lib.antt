@@ -1,3 +1,4 @@
 pub mod Bodies
+pub mod BodyMarks
 pub mod Digesting
-pub mod Index
+pub mod Marks

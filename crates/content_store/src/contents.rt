@@ -1,26 +1,20 @@
 // Bodies by number.
-ghost use Rattle.std.specs.Prelude.{◌≡◌, ◌≢◌, ◌↔◌, ◌<◌, ◌∷◌, ◌++◌, [], All, IfOk, IfNone, IfSome, IsTrue, None, OnErr, OnOk, Some, length, slice_get};
+ghost use Rattle.std.specs.Prelude.{◌≡◌, ◌<◌, ◌∷◌, ◌++◌, [], IfOk, None, OnErr, OnOk, Some, length, slice_get};
 ghost use Rattle.content_store.specs.Bodies.{EachBodyOnce, place_of_body, with_body};
-ghost use Rattle.content_store.specs.Index.{hash_of};
 
 use crate::keying::Keying;
+use crate::marks::Marks;
+use crate::sought::SoughtBody;
 use object_values::{Bytes, Copied, Memory, Text};
 use std::alloc::Global;
-use std::collections::HashMap;
-use std::hash::{FoldHasher, Hasher};
 use std::marker::{Model, PhantomData};
 
-/// Bodies, each once, numbered from 0 in the order in which they came. A body is looked up by a
-/// quick hash, and by its key only where another body has that hash. What is found is compared byte
-/// by byte.
+/// Bodies, each once, numbered from 0 in the order in which they came. A body that is alone with its
+/// length and its ends is found by these; a quick hash of all its bytes, and then its key, is taken
+/// only where others have the same. What is found is compared byte by byte.
 pub struct Contents<K: Keying> {
     bodies: Vec<Text>,
-    // the number of the first body that has the quick hash
-    first: HashMap<u64, u64>,
-    // of the bodies whose quick hash an earlier one has the number of the first that has the key
-    keyed: HashMap<[u8; 32], u64>,
-    // the numbers of the bodies whose quick hash and key earlier ones have
-    clashing: Vec<u64>,
+    marks: Marks,
     keying: PhantomData<K>,
 }
 
@@ -28,31 +22,25 @@ impl<K: Keying> Drop for Contents<K> {
     fn drop(self) {
         let Contents {
             bodies,
-            first,
-            keyed,
-            clashing,
+            marks,
             keying: _,
         } = self;
         drop(bodies);
-        drop(first);
-        drop(keyed);
-        drop(clashing);
+        drop(marks);
     }
 }
 
 impl<K: Keying> Model for Contents<K> {
-    ghost use Rattle.std.specs.Prelude.{nat_eq};
-    ghost use Rattle.std.specs.Cmp.Lexicographic.{pointwise};
-    ghost use Rattle.std.specs.HashMap.{get};
     ghost use Rattle.content_store.specs.Bodies.{Bodies};
-    ghost use Rattle.content_store.specs.Index.{IsIndex};
+    ghost use Rattle.std.specs.Prelude.{slice_get};
+    ghost use Rattle.content_store.specs.BodyMarks.{marks_of};
+    ghost use Rattle.content_store.specs.Marks.{IsIndex};
 
     ghost Value = { Bodies };
 
     ghost view = { λ c. c.bodies.items };
 
-    ghost invariant = { λ c. IsIndex K.key_of c.bodies.items
-        (get nat_eq c.first) (get (pointwise nat_eq) c.keyed) c.clashing.items };
+    ghost invariant = { λ c. IsIndex (slice_get c.bodies.items) (marks_of K.key_of) c.marks };
 }
 
 impl<K: Keying> Contents<K> {
@@ -61,9 +49,7 @@ impl<K: Keying> Contents<K> {
     {
         Contents {
             bodies: Vec::new(alloc),
-            first: HashMap::new(alloc),
-            keyed: HashMap::new(alloc),
-            clashing: Vec::new(alloc),
+            marks: Marks::new(alloc),
             keying: PhantomData,
         }
     }
@@ -94,7 +80,11 @@ impl<K: Keying> Contents<K> {
     pub fn find(&self, body: &[u8]) -> Option<u64>
         ensures { result ≡ place_of_body body.now self.now }
     {
-        self.find_hashed(text_hash(body), body)
+        self.marks.find(&SoughtBody::<K> {
+            bodies: self.bodies.as_slice(),
+            body,
+            keying: PhantomData,
+        })
     }
 
     /// The number of the body, which is shared where it is new and then has the next number.
@@ -103,12 +93,11 @@ impl<K: Keying> Contents<K> {
         ensures bodies { OnOk result (self.new ≡ with_body body.now self.old) }
         ensures err { OnErr result (self.new ≡ self.old) }
     {
-        let hash = text_hash(body.as_slice());
-        if let Some(id) = self.find_hashed(hash, body.as_slice()) {
+        if let Some(id) = self.find(body.as_slice()) {
             return Ok(id);
         }
         let copy = body.copy(alloc)?;
-        self.add(hash, copy)
+        self.add(copy)
     }
 
     /// The same for bytes, which are copied where they are new.
@@ -117,12 +106,11 @@ impl<K: Keying> Contents<K> {
         ensures bodies { OnOk result (self.new ≡ with_body body.now self.old) }
         ensures err { OnErr result (self.new ≡ self.old) }
     {
-        let hash = text_hash(body);
-        if let Some(id) = self.find_hashed(hash, body) {
+        if let Some(id) = self.find(body) {
             return Ok(id);
         }
         let copy = Text::of(Bytes::from_slice(alloc, body)?)?;
-        self.add(hash, copy)
+        self.add(copy)
     }
 
     /// Each body stands there once.
@@ -132,87 +120,26 @@ impl<K: Keying> Contents<K> {
         let _ = &self.bodies;
     }
 
-    // The number of the body, which has this quick hash.
-    fn find_hashed(&self, hash: u64, body: &[u8]) -> Option<u64>
-        requires { hash ≡ hash_of body.now }
-        ensures { result ≡ place_of_body body.now self.now }
-    {
-        let first = *self.first.get(&hash)?;
-        if is_body(&self.bodies, first, body) {
-            return Some(first);
-        }
-        let keyed = *self.keyed.get(&K::key(body))?;
-        find_from(&self.bodies, keyed, &self.clashing, body)
-    }
-
-    // Puts a body that stands nowhere, and has this quick hash, after the others.
+    // Puts a body that stands nowhere after the others.
     #[tactic(auto, using(crate::proofs::BodyLemmas::place_new))]
-    fn add(&mut self, hash: u64, body: Text) -> Result<u64, Memory>
-        requires hash { hash ≡ hash_of body }
-        requires fresh { place_of_body body self.old ≡ None }
+    fn add(&mut self, body: Text) -> Result<u64, Memory>
+        requires { place_of_body body self.old ≡ None }
         ensures number { IfOk result (λ id. place_of_body body self.new ≡ Some id) }
         ensures bodies { OnOk result (self.new ≡ self.old ++ body ∷ []) }
         ensures err { OnErr result (self.new ≡ self.old) }
     {
         let next = self.len();
         self.bodies.reserve(1)?;
-        if self.first.contains_key(&hash) {
-            let key = K::key(body.as_slice());
-            if self.keyed.contains_key(&key) {
-                self.clashing.push(next)?;
-            } else {
-                self.keyed.insert(key, next)?;
-            }
-        } else {
-            self.first.insert(hash, next)?;
-        }
+        self.marks.reserve()?;
+        self.marks.add(
+            &SoughtBody::<K> {
+                bodies: self.bodies.as_slice(),
+                body: body.as_slice(),
+                keying: PhantomData,
+            },
+            next,
+        );
         self.bodies.push(body)?;
         Ok(next)
     }
-}
-
-// A hash that is many times as quick as a digest.
-fn text_hash(body: &[u8]) -> u64
-    ensures { result ≡ hash_of body.now }
-{
-    let mut hasher = FoldHasher::default();
-    hasher.write(body);
-    hasher.finish()
-}
-
-// Whether the number's body is this one.
-fn is_body(bodies: &[Text], id: u64, body: &[u8]) -> bool
-    requires { id < length bodies.now }
-    ensures { IsTrue result ↔ (slice_get bodies.now id ≡ Some body.now) }
-{
-    bodies[id as usize].as_slice() == body
-}
-
-// Which of the first number and the others has this body.
-fn find_from(bodies: &[Text], first: u64, others: &[u64], body: &[u8]) -> Option<u64>
-    requires first { first < length bodies.now }
-    requires others { All (λ id. id < length bodies.now) others.now }
-    ensures some { IfSome result (λ id. slice_get bodies.now id ≡ Some body.now) }
-    ensures not_first { IfNone result (slice_get bodies.now first ≢ Some body.now) }
-    ensures not_others { IfNone result
-        (All (λ id. slice_get bodies.now id ≢ Some body.now) others.now) }
-{
-    if is_body(bodies, first, body) {
-        return Some(first);
-    }
-    find_among(bodies, others, body)
-}
-
-// The first of the numbers whose body is this one.
-fn find_among(bodies: &[Text], ids: &[u64], body: &[u8]) -> Option<u64>
-    requires { All (λ id. id < length bodies.now) ids.now }
-    ensures some { IfSome result (λ id. slice_get bodies.now id ≡ Some body.now) }
-    ensures none { IfNone result (All (λ id. slice_get bodies.now id ≢ Some body.now) ids.now) }
-{
-    for id in ids {
-        if is_body(bodies, *id, body) {
-            return Some(*id);
-        }
-    }
-    None
 }

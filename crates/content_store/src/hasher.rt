@@ -1,5 +1,5 @@
 // A hasher whose answers nobody can make collide.
-ghost use Rattle.std.specs.Prelude.{◌≡◌, ◌++◌};
+ghost use Rattle.std.specs.Prelude.{◌≡◌, ◌++◌, ◌+◌, ◌%◌, ◌≤◌, length};
 ghost use Rattle.content_store.specs.Digesting as digesting;
 ghost use Rattle.sha2.specs.Sha256.{sha256};
 
@@ -37,13 +37,16 @@ impl ShaHasher {
         digest_after(&self.chain, &self.block[..used])
     }
 
-    fn write_byte(&mut self, byte: u8)
-        ensures { self.new ≡ digesting.write_byte self.old byte }
+    // Writes bytes that end no later than the block.
+    fn write_piece(&mut self, piece: &[u8])
+        requires { self.old.written % 256 + length piece.now ≤ 256 }
+        ensures { self.new ≡ digesting.write self.old piece.now }
     {
         let at = (self.written % 256) as usize;
-        self.block[at] = byte;
-        self.written = self.written.wrapping_add(1);
-        if at == 255 {
+        let end = at + piece.len();
+        self.block[at..end].copy_from_slice(piece);
+        self.written = self.written.wrapping_add(piece.len() as u64);
+        if end == 256 {
             self.chain = digest_after(&self.chain, &self.block);
         }
     }
@@ -59,8 +62,12 @@ impl Hasher for ShaHasher {
     }
 
     fn write(&mut self, bytes: &[u8]) {
-        for byte in bytes {
-            self.write_byte(*byte);
+        let mut at = 0;
+        'pieces: while at < bytes.len() {
+            let room = 256 - (self.written % 256) as usize;
+            let end = bytes.len().min(at + room);
+            self.write_piece(&bytes[at..end]);
+            at = end;
         }
     }
 }

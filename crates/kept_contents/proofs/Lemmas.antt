@@ -1,12 +1,14 @@
 -- The lemmas that other crates may cite.
 -- Texts that a batch adds.
 pub use Rattle.kept_contents.proofs.Batched.{adds_append, added_once, added_from, added_new, parts_stay}
+-- Texts of a journal that is written anew.
+pub use Rattle.kept_contents.proofs.CopyLemmas.{contents_append, contents_behind, with_bodies-append, adds, adds_text, call_later}
 -- What numbers stand for is one thing.
 pub use Rattle.kept_contents.proofs.Resolved.{one_text, one_call, one_outcome}
 pub use Rattle.kept_contents.proofs.Numbers.{next_number}
 -- Heads and keys of calls.
 pub use Rattle.kept_contents.proofs.HeadLemmas.{heads_not}
-pub use Rattle.kept_contents.proofs.KeyLemmas.{key_grown, one_call_of, one_key}
+pub use Rattle.kept_contents.proofs.KeyLemmas.{key_grown, marks_grown, one_call_of, one_key}
 -- Items of lists by their places, and texts more.
 pub use Rattle.kept_contents.proofs.Items.{mapped}
 pub use Rattle.kept_contents.proofs.Contents.{grown_not, grown_twice, unmapped}

@@ -1,5 +1,6 @@
 mod Batched
 mod Contents
+mod CopyLemmas
 mod HeadLemmas
 mod IndexLemmas
 mod InputLemmas

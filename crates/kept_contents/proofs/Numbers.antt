@@ -1,8 +1,9 @@
 -- Which content a text leads to.
-use Rattle.std.proofs.Common.{◌≡◌, ◌<◌, ℕ, true, false, cond, List, [], ◌∷◌, ◌++◌, inl, inr, get_or, length, length-append, ap, sym, ◌∙◌, subst, refl, arith}
+use Rattle.std.proofs.Common.{◌≡◌, ◌<◌, ℕ, zero, suc, true, false, cond, List, [], ◌∷◌, ◌++◌, inl, inr, get_or, length, replicate, length-append, ap, sym, ◌∙◌, subst, refl, arith}
 use Rattle.std.proofs.Math.ListN.{set, length-set}
 use Rattle.std.specs.Prelude.{Option, Some, None, is_some, slice_get, IfSome, IfNone}
 use Rattle.std.proofs.lemmas.Bool.{cases_eq}
+use Rattle.std.proofs.lemmas.List.{length-replicate}
 use Rattle.std.proofs.lemmas.Option.{none-some, same_Some, slice_get-get_or}
 use Rattle.object_values.specs.declared.views.Value.{Value}
 use Rattle.object_values.specs.declared.views.Value.TheVariants.{Simple}
@@ -29,6 +30,19 @@ pub numbered_none : IsNumbered [] [] []
 numbered_none = record {
   long = refl;
   right = λ id number h. absurd (none-some (Some number) h);
+  whole = λ number text h. absurd (none-some (Simple text) h);
+}
+
+no_number : (n id number : ℕ) → slice_get (replicate {A = Option ℕ} n None) id ≡ Some (Some number) → ⊥
+no_number zero id number h = none-some (Some number) h
+no_number (suc n) zero number h = none-some number (same_Some None (Some number) h)
+no_number (suc n) (suc id) number h = no_number n id number h
+
+-- texts that are held, of which none is a content
+pub numbered_cleared : (texts : Bodies) (numbers : List (Option ℕ)) → length numbers ≡ length texts → IsNumbered [] texts (replicate (length numbers) None)
+numbered_cleared texts numbers long = record {
+  long = length-replicate (length numbers) None ∙ long;
+  right = λ id number h. absurd (no_number (length numbers) id number h);
   whole = λ number text h. absurd (none-some (Simple text) h);
 }
 

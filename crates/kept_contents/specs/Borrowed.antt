@@ -11,8 +11,8 @@ as_head q = record { tool = q.tool.now; version = q.version.now; words = q.words
 
 -- the key that a sought one finds
 abbrev pub as_key : SoughtKey → CallKey
-as_key q = record { head = q.head; digest = q.digest; parts = q.parts.now }
+as_key q = record { head = q.head; hash = q.hash; parts = q.parts.now }
 
 -- the key of a call that is held
 abbrev pub key_of : HeldCall → CallKey
-key_of held = record { head = held.head; digest = held.digest; parts = held.call.parts }
+key_of held = record { head = held.head; hash = held.hash; parts = held.call.parts }

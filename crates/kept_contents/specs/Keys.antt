@@ -1,9 +1,7 @@
--- Which key is that of a call.
-use Rattle.std.specs.Prelude.{◌≡◌, ◌⊎◌, List, [], ◌∷◌, ◌++◌, None, Some}
+-- Which key is that of a call, and its marks.
+use Rattle.std.specs.Prelude.{◌≡◌, ◌⊎◌, List, [], ◌∷◌, None, Some}
 use Rattle.std.specs.Bool.{Decides}
-use Rattle.std.specs.Hash as fed
-use Rattle.std.specs.Hash.{HashWrites}
-use Rattle.std.specs.Cmp.Lexicographic.{bytes_decides, pointwise_decides}
+use Rattle.std.specs.Cmp.Lexicographic.{pointwise_decides}
 use Rattle.std.proofs.Common.{rules}
 use Rattle.std.proofs.lemmas.Bool.Decides.{Decides-eqb}
 use Rattle.object_values.specs.Exact.{call_part_exact}
@@ -13,11 +11,13 @@ use Rattle.kept_contents.specs.declared.keys.CallKey.{CallKey}
 use Rattle.kept_contents.specs.contracts.keys.CallKeyPartialEq.TheImpl.{ghosts as key_eq}
 use Rattle.kept_contents.specs.Heads.{head_of, place_of_head}
 use Rattle.content_store.specs.Bodies.{Bodies}
-use Rattle.kept_contents.specs.Inputs.{AreHeldParts, digest_of_parts}
+use Rattle.content_store.specs.declared.marks.Mark.{Mark}
+use Rattle.content_store.specs.declared.marks.Mark.TheVariants.{Quick, Digest}
+use Rattle.kept_contents.specs.Inputs.{AreHeldParts, digest_with_head, hash_of_parts, hash_with_head}
 
 pub record IsKeyOf (heads : List CallHead) (texts : Bodies) (key : CallKey) (call : Call) : Type 0 where
   pub head : place_of_head (head_of call) heads ≡ Some key.head
-  pub digest : key.digest ≡ digest_of_parts texts call.parts
+  pub hash : key.hash ≡ hash_of_parts texts call.parts
   pub held : AreHeldParts texts call.parts
   pub parts : key.parts ≡ call.parts
 
@@ -25,10 +25,10 @@ pub record IsKeyOf (heads : List CallHead) (texts : Bodies) (key : CallKey) (cal
 abbrev pub IsUnheld : List CallHead → Bodies → Call → Type 0
 IsUnheld heads texts call = (place_of_head (head_of call) heads ≡ None) ⊎ (¬ AreHeldParts texts call.parts)
 
--- what a key feeds a hasher
-abbrev pub fed_of : CallKey → HashWrites
-fed_of key = fed.u64 key.head ++ key.digest ∷ []
+-- the marks of a key, from the cheapest on
+abbrev pub marks_of : Bodies → CallKey → List Mark
+marks_of texts key = Quick (hash_with_head key.head key.hash) ∷ Digest (digest_with_head texts key.head key.parts) ∷ []
 
 -- Its `==` answers whether two are equal.
 pub key_exact : (x y : CallKey) → Decides (key_eq.eq x y) (x ≡ y)
-key_exact x y = search (rules, Decides-eqb x.head y.head, bytes_decides x.digest y.digest, pointwise_decides call_part_exact x.parts y.parts)
+key_exact x y = search (rules, Decides-eqb x.head y.head, Decides-eqb x.hash y.hash, pointwise_decides call_part_exact x.parts y.parts)

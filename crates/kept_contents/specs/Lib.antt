@@ -1,5 +1,6 @@
 pub mod Added
 pub mod Borrowed
+pub mod Copies
 pub mod Heads
 pub mod Held
 pub mod Index

@@ -13,10 +13,10 @@ use crate::table::ContentTable;
 use object_values::{Call, Memory};
 use std::alloc::Global;
 
-/// A call with the number of its head and a digest of its inputs.
+/// A call with the number of its head and a quick hash of its inputs.
 pub struct HeldCall {
     pub head: u64,
-    pub digest: [u8; 32],
+    pub hash: u64,
     pub call: Call,
 }
 
@@ -24,7 +24,7 @@ impl Drop for HeldCall {
     fn drop(self) {
         let HeldCall {
             head: _,
-            digest: _,
+            hash: _,
             call,
         } = self;
         drop(call);
@@ -45,25 +45,25 @@ impl HeldCall {
         ensures contents { table.new.contents ≡ table.old.contents }
         ensures texts { IsGrownFrom table.old.texts table.new.texts }
     {
-        let digest = hold_parts(alloc, table, call.parts.as_slice())?;
-        HeldCall::of(alloc, heads, digest, call)
+        let hash = hold_parts(alloc, table, call.parts.as_slice())?;
+        HeldCall::of(alloc, heads, hash, call)
     }
 
-    // A call with the digest of its inputs, whose head is held from now on.
+    // A call with the hash of its inputs, whose head is held from now on.
     pub(crate) fn of(
         alloc: Global,
         heads: &mut Heads,
-        digest: [u8; 32],
+        hash: u64,
         call: Call,
     ) -> Result<Self, Memory>
         ensures head { IfOk result
             (λ held. place_of_head (head_of call) heads.new ≡ Some held.head) }
-        ensures digest { IfOk result (λ held. held.digest ≡ digest) }
+        ensures hash { IfOk result (λ held. held.hash ≡ hash) }
         ensures call { IfOk result (λ held. held.call ≡ call) }
         ensures more { AreMore heads.old heads.new }
     {
         let head = heads.hold(alloc, &call)?;
-        Ok(HeldCall { head, digest, call })
+        Ok(HeldCall { head, hash, call })
     }
 
     /// The key and the head, without memory.
@@ -71,7 +71,7 @@ impl HeldCall {
         ensures key { result.0 ≡ key_of self }
         ensures head { result.1 ≡ head_of self.call }
     {
-        let HeldCall { head, digest, call } = self;
+        let HeldCall { head, hash, call } = self;
         let Call {
             tool,
             version,
@@ -80,11 +80,7 @@ impl HeldCall {
             parts,
             outs,
         } = call;
-        let key = CallKey {
-            head,
-            digest,
-            parts,
-        };
+        let key = CallKey { head, hash, parts };
         let head = CallHead {
             tool,
             version,

@@ -1,21 +1,20 @@
 // The keys of kept calls.
-ghost use Rattle.std.specs.Prelude.{◌≡◌, IfNone, IfSome};
+ghost use Rattle.std.specs.Prelude.{◌≡◌, ◌<◌, IfNone, IfSome, Some, slice_get};
 ghost use Rattle.kept_contents.specs.Borrowed.{as_key, key_of};
-ghost use Rattle.kept_contents.specs.Keys.{IsKeyOf, IsUnheld};
+ghost use Rattle.kept_contents.specs.Keys.{IsKeyOf, IsUnheld, marks_of};
 
 use crate::heads::Heads;
 use crate::held::HeldCall;
-use crate::inputs::digest_parts;
+use crate::inputs::{digest_with_head, hash_parts, hash_with_head};
 use crate::table::ContentTable;
-use indexmap::Equivalent;
+use content_store::Mark;
 use object_values::{Call, CallPart, Seq};
-use std::hash::{Hash, Hasher};
 
-/// The key of a kept call: the number of its head, a digest of its inputs, and these. It is hashed by the number and the digest.
+/// The key of a kept call: the number of its head, a quick hash of its inputs, and these.
 #[derive(PartialEq, Eq)]
 pub struct CallKey {
     pub head: u64,
-    pub digest: [u8; 32],
+    pub hash: u64,
     pub parts: Seq<CallPart>,
 }
 
@@ -23,32 +22,18 @@ impl Drop for CallKey {
     fn drop(self) {
         let CallKey {
             head: _,
-            digest: _,
+            hash: _,
             parts,
         } = self;
         drop(parts);
     }
 }
 
-impl Hash for CallKey {
-    ghost use Rattle.std.specs.Hash.{same_Alike};
-    ghost use Rattle.kept_contents.specs.Keys.{fed_of, key_exact};
-
-    ghost hash_input = { fed_of };
-
-    ghost respects_eq = { (same_Alike fed_of key_exact).fed };
-
-    fn hash<H: Hasher>(&self, state: &mut H) {
-        self.head.hash(state);
-        state.write(&self.digest);
-    }
-}
-
-/// A key whose inputs are borrowed: it finds the key that is equal, and nothing is copied.
-#[derive(Clone, Copy, PartialEq, Eq)]
+/// A key whose inputs are borrowed: nothing is copied.
+#[derive(Clone, Copy)]
 pub struct SoughtKey<'a> {
     pub head: u64,
-    pub digest: [u8; 32],
+    pub hash: u64,
     pub parts: &'a [CallPart],
 }
 
@@ -62,12 +47,8 @@ impl<'a> SoughtKey<'a> {
         let Some(head) = heads.find(call) else {
             return None;
         };
-        match digest_parts(table, parts) {
-            Some(digest) => Some(SoughtKey {
-                head,
-                digest,
-                parts,
-            }),
+        match hash_parts(table, parts) {
+            Some(hash) => Some(SoughtKey { head, hash, parts }),
             None => None,
         }
     }
@@ -78,40 +59,30 @@ impl<'a> SoughtKey<'a> {
     {
         SoughtKey {
             head: held.head,
-            digest: held.digest,
+            hash: held.hash,
             parts: held.call.parts.as_slice(),
+        }
+    }
+
+    /// A mark, from the cheapest on: the second one is taken of the texts' numbers in this table.
+    pub fn mark(&self, table: &ContentTable, level: usize) -> Mark
+        requires { level < 2 }
+        ensures { slice_get (marks_of table.now.texts (as_key self.now)) level ≡ Some result }
+    {
+        match level {
+            0 => Mark::Quick(hash_with_head(self.head, self.hash)),
+            _ => Mark::Digest(digest_with_head(table, self.head, self.parts)),
         }
     }
 }
 
-impl Hash for SoughtKey<'_> {
-    ghost use Rattle.std.specs.Hash.{on_Alike, same_Alike};
-    ghost use Rattle.kept_contents.specs.Borrowed.{as_key};
-    ghost use Rattle.kept_contents.specs.Keys.{fed_of, key_exact};
-
-    ghost hash_input = { λ q. fed_of (as_key q) };
-
-    ghost respects_eq = { (on_Alike as_key (same_Alike fed_of key_exact)).fed };
-
-    fn hash<H: Hasher>(&self, state: &mut H) {
-        self.head.hash(state);
-        state.write(&self.digest);
-    }
-}
-
-impl Equivalent<CallKey> for SoughtKey<'_> {
-    ghost use Rattle.std.proofs.Common.{ap};
+impl SoughtKey<'_> {
     ghost use Rattle.kept_contents.specs.contracts.keys.CallKeyPartialEq.TheImpl.{ghosts as key_eq};
-    ghost use Rattle.kept_contents.specs.Borrowed.{as_key};
-    ghost use Rattle.kept_contents.specs.Keys.{fed_of, key_exact};
 
-    ghost equivalent = { λ q. key_eq.eq (as_key q) };
-
-    ghost respects_hash = { λ q k h. ap fed_of ((key_exact (as_key q) k).0 h) };
-
-    ghost respects_eq = { λ q x y h. ap (λ k. key_eq.eq k y) ((key_exact (as_key q) x).0 h) };
-
-    fn equivalent(&self, key: &CallKey) -> bool {
-        self.head == key.head && self.digest == key.digest && self.parts == key.parts.as_slice()
+    /// Whether it is this key.
+    pub fn is(&self, key: &CallKey) -> bool
+        ensures { result ≡ key_eq.eq (as_key self.now) key.now }
+    {
+        self.head == key.head && self.hash == key.hash && self.parts == key.parts.as_slice()
     }
 }

@@ -3,6 +3,7 @@
 #![tactic(auto)]
 
 mod added;
+mod copying;
 mod head;
 mod heads;
 mod held;
@@ -15,6 +16,7 @@ mod shared;
 mod table;
 
 pub use added::AddedTexts;
+pub use copying::{CopiedTexts, copy_call, copy_outcome, copy_text, share_copied};
 pub use head::CallHead;
 pub use heads::Heads;
 pub use held::HeldCall;

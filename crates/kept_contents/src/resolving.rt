@@ -6,19 +6,19 @@ ghost use Rattle.object_values.specs.declared.calls.Outcome.{Outcome as OutcomeV
 ghost use Rattle.object_values.specs.declared.views.Part.{Part as OutputValue};
 ghost use Rattle.kept_contents.specs.Heads.{AreMore};
 ghost use Rattle.kept_contents.specs.Held.{IsHeld};
-ghost use Rattle.kept_contents.specs.Inputs.{AreHeldParts, IsHeldPart, digest_of_parts, id_of};
+ghost use Rattle.kept_contents.specs.Inputs.{AreHeldParts, IsHeldPart, hash_of_parts, id_of};
 ghost use Rattle.meaning_records.specs.Tables.{IsPartOf, ArePartsOf, IsCallOf, IsOutputOf, AreOutputsOf, IsOutcomeOf};
 
 use crate::heads::Heads;
 use crate::held::HeldCall;
 use crate::inputs::feed_part;
 use crate::table::ContentTable;
-use content_store::ShaHasher;
 use object_values::{
     Call, CallPart, Copied, Memory, Outcome, Part, Seq, StoredCall, StoredOutcome, StoredOutput,
     StoredPart,
 };
 use std::alloc::Global;
+use std::hash::{FoldHasher, Hasher};
 
 /// The call of a record, which is held from now on; its inputs share the texts of the table. `None` where a content isn't there or is no text.
 pub fn call_of(
@@ -36,9 +36,9 @@ pub fn call_of(
 {
     match parts_of(alloc, table, stored.parts.as_slice())? {
         Some(found) => {
-            let (parts, digest) = found;
+            let (parts, hash) = found;
             let call = with_parts(stored, parts);
-            Ok(Some(HeldCall::of(alloc, heads, digest, call)?))
+            Ok(Some(HeldCall::of(alloc, heads, hash, call)?))
         }
         None => Ok(None),
     }
@@ -78,18 +78,18 @@ fn parts_of(
     alloc: Global,
     table: &ContentTable,
     stored: &[StoredPart],
-) -> Result<Option<(Seq<CallPart>, [u8; 32])>, Memory>
+) -> Result<Option<(Seq<CallPart>, u64)>, Memory>
     ensures some { IfOk result (λ found.
         IfSome found (λ p. ArePartsOf table.now.contents stored.now p.0)) }
-    ensures digest { IfOk result (λ found.
-        IfSome found (λ p. p.1 ≡ digest_of_parts table.now.texts p.0)) }
+    ensures hash { IfOk result (λ found.
+        IfSome found (λ p. p.1 ≡ hash_of_parts table.now.texts p.0)) }
     ensures held { IfOk result (λ found.
         IfSome found (λ p. AreHeldParts table.now.texts p.0)) }
     ensures none { IfOk result (λ found. IfNone found
         ((parts : List PartValue) → ¬ ArePartsOf table.now.contents stored.now parts)) }
 {
     let mut parts = Seq::new(alloc);
-    let mut state = ShaHasher::default();
+    let mut state = FoldHasher::default();
     for part in stored {
         let Some((made, text)) = part_of(alloc, table, part)? else {
             return Ok(None);
@@ -97,7 +97,7 @@ fn parts_of(
         feed_part(&made, text, &mut state);
         parts.push(made)?;
     }
-    Ok(Some((parts, state.digest())))
+    Ok(Some((parts, state.finish())))
 }
 
 fn part_of(

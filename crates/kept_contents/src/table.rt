@@ -1,5 +1,5 @@
 // The contents of a journal, and how a text is found among them.
-ghost use Rattle.std.specs.Prelude.{◌≡◌, ℕ, List, ◌+◌, ◌-◌, ◌<◌, ◌≤◌, ◌^◌, ◌∷◌, ◌++◌, [], IfNone, IfOk, IfSome, OnOk, None, Some, length, reverse, slice_get, slice_set, vec_capacity, vec_len};
+ghost use Rattle.std.specs.Prelude.{◌≡◌, ℕ, List, ◌+◌, ◌-◌, ◌<◌, ◌≤◌, ◌^◌, ◌∷◌, ◌++◌, [], IfNone, IfOk, IfSome, OnOk, None, Some, length, replicate, reverse, slice_get, slice_set, vec_capacity, vec_len};
 ghost use Rattle.object_values.specs.declared.views.Value.TheVariants.{Simple};
 ghost use Rattle.meaning_records.specs.Tables.{IsText, IsNoText};
 ghost use Rattle.meaning_records.specs.Numbers.{number_of};
@@ -221,6 +221,17 @@ impl ContentTable {
         }
     }
 
+    /// Takes all contents away. The texts stay held. It takes no memory.
+    pub fn clear_contents(&mut self)
+        ensures contents { self.new.contents ≡ [] }
+        ensures texts { self.new.texts ≡ self.old.texts }
+        ensures room { self.old.room ≤ self.new.room }
+    {
+        self.others = OtherIndex::new(*self.contents.allocator());
+        self.contents.clear();
+        clear_numbers(&mut self.numbers);
+    }
+
     /// Adds the next content.
     pub fn add(&mut self, alloc: Global, value: Value) -> Result<(), Memory>
         ensures contents { OnOk result (self.new.contents ≡ self.old.contents ++ value ∷ []) }
@@ -269,6 +280,13 @@ fn set_first(numbers: &mut Vec<Option<u32>>, id: u64, number: u32)
     if numbers[id as usize].is_none() {
         numbers[id as usize] = Some(number);
     }
+}
+
+// Takes each number away.
+fn clear_numbers(numbers: &mut Vec<Option<u32>>)
+    ensures { numbers.new.items ≡ replicate (length numbers.old.items) None }
+{
+    numbers.fill(None);
 }
 
 // Adds an item for which there is room.

@@ -44,6 +44,30 @@ loads_contents tables (t ∷ texts) rest next short loads = (
   loads_contents (with_content (Simple t) tables) texts rest next (λ u i. short u (inr i)) (subst (λ (l : List Value). LoadsAll (record { contents = l; calls = tables.calls }) rest next) (sym (append_assoc tables.contents (Simple t ∷ []) (contents_of texts))) loads),
 )
 
+-- ---- batches by the texts that they add
+
+pub call_by_adds : (contents : List Value) (call : Call) (outcome : Outcome) (added : Texts) → AddsTexts contents (needed_texts call outcome) [] added → (stored : StoredCall) (given : StoredOutcome)
+    → IsCallOf (contents ++ contents_of added) stored call → IsOutcomeOf (contents ++ contents_of added) given outcome
+    → IsCallBatch contents call outcome (map Content (contents_of added) ++ Kept stored given ∷ [])
+call_by_adds contents call outcome added adds stored given called came = record {
+  added = added;
+  once = added_once contents (needed_texts call outcome) [] added adds tt;
+  needed = all_in (λ (t : List ℕ). IsIn t (needed_texts call outcome)) added (added_from contents (needed_texts call outcome) added adds);
+  new = all_in (λ (t : List ℕ). IsNoText contents t) added (added_new contents (needed_texts call outcome) added adds);
+  stored = stored;
+  given = given;
+  called = called;
+  came = came;
+  items_are = refl;
+}
+
+pub put_by_adds : (contents : List Value) (name text : List ℕ) (added : Texts) → AddsOne contents text [] added → (number : ℕ) → IsText (contents ++ contents_of added) number text
+    → IsPutBatch contents name text (map Content (contents_of added) ++ Put name number ∷ [])
+put_by_adds contents name text added (inl e) number at = inl (number, subst (λ (l : List Value). IsText l number text) (ap (λ (t : Texts). contents ++ contents_of t) e ∙ append-nil contents) at, ap (λ (t : Texts). map Content (contents_of t) ++ Put name number ∷ []) e)
+put_by_adds contents name text added (inr r) number at =
+    let next : number ≡ length contents = next_number contents text number r.2 (subst (λ (t : Texts). IsText (contents ++ contents_of t) number text) r.0 at) in
+    inr (r.2, ap (λ (t : Texts). map Content (contents_of t) ++ Put name number ∷ []) r.0 ∙ ap (λ (n : ℕ). Content (Simple text) ∷ Put name n ∷ []) next)
+
 -- ---- a call
 
 short_body : (t : List ℕ) (body : Option (List ℕ)) → IfSome body (λ (b : List ℕ). length b ≤ body_limit) → IsIn t (body_of body) → length t ≤ body_limit
@@ -64,17 +88,7 @@ needed_short call outcome formed fits t i = elim (in_either t (texts_of_parts ca
 module _ (old kept : Holding) (same : kept.tables ≡ old.tables) (added : List Shared) (batch : Batch) where
   module _ (held : HeldCall) (call : Call) (held_is : held.call ≡ call) (outcome : Outcome) (may : MayKeep old.tables call outcome) (adds : AddsTexts old.tables.contents (needed_texts call outcome) [] (texts_of added)) (stored : StoredCall) (given : StoredOutcome) (called : IsCallOf (contents_with old.tables.contents added) stored call) (came : IsOutcomeOf (contents_with old.tables.contents added) given outcome) where
     call_items : IsCallBatch old.tables.contents call outcome (items_with added (Kept stored given))
-    call_items = record {
-      added = texts_of added;
-      once = added_once old.tables.contents (needed_texts call outcome) [] (texts_of added) adds tt;
-      needed = all_in (λ (t : List ℕ). IsIn t (needed_texts call outcome)) (texts_of added) (added_from old.tables.contents (needed_texts call outcome) (texts_of added) adds);
-      new = all_in (λ (t : List ℕ). IsNoText old.tables.contents t) (texts_of added) (added_new old.tables.contents (needed_texts call outcome) (texts_of added) adds);
-      stored = stored;
-      given = given;
-      called = called;
-      came = came;
-      items_are = refl;
-    }
+    call_items = call_by_adds old.tables.contents call outcome (texts_of added) adds stored given called came
 
     call_loads : LoadsAll old.tables (items_with added (Kept stored given)) (with_call call outcome (with_contents old.tables (contents_of (texts_of added))))
     call_loads = loads_contents old.tables (texts_of added) (Kept stored given ∷ []) (with_call call outcome (with_contents old.tables (contents_of (texts_of added))))
@@ -96,13 +110,7 @@ module _ (old kept : Holding) (same : kept.tables ≡ old.tables) (added : List 
 
   module _ (name text : List ℕ) (named : IsName name) (short : length text ≤ body_limit) (adds : AddsOne old.tables.contents text [] (texts_of added)) (number : ℕ) (is : IsText (contents_with old.tables.contents added) number text) where
     put_items : IsPutBatch old.tables.contents name text (items_with added (Put name number))
-    put_items = by_adds (texts_of added) adds is
-      where
-        by_adds : (texts : Texts) → AddsOne old.tables.contents text [] texts → IsText (old.tables.contents ++ contents_of texts) number text → IsPutBatch old.tables.contents name text (map Content (contents_of texts) ++ Put name number ∷ [])
-        by_adds texts (inl e) at = inl (number, subst (λ (l : List Value). IsText l number text) (ap (λ (t : Texts). old.tables.contents ++ contents_of t) e ∙ append-nil old.tables.contents) at, ap (λ (t : Texts). map Content (contents_of t) ++ Put name number ∷ []) e)
-        by_adds texts (inr r) at =
-            let next : number ≡ length old.tables.contents = next_number old.tables.contents text number r.2 (subst (λ (t : Texts). IsText (old.tables.contents ++ contents_of t) number text) r.0 at) in
-            inr (r.2, ap (λ (t : Texts). map Content (contents_of t) ++ Put name number ∷ []) r.0 ∙ ap (λ (n : ℕ). Content (Simple text) ∷ Put name n ∷ []) next)
+    put_items = put_by_adds old.tables.contents name text (texts_of added) adds number is
 
     put_short : AreShort (texts_of added)
     put_short t i = by_adds (texts_of added) adds i

@@ -1,6 +1,9 @@
 mod CallLemmas
 mod OutcomeLemmas
-mod Added
 mod BatchLemmas
 mod HeldLemmas
+mod LiveLemmas
 mod LoadLemmas
+mod TableLemmas
+mod OnceLemmas
+mod SizeLemmas

@@ -16,7 +16,7 @@ use Rattle.kept_contents.specs.declared.shared.Shared.{Shared}
 use Rattle.kept_contents.specs.declared.held.HeldCall.{HeldCall}
 use Rattle.kept_contents.specs.declared.head.CallHead.{CallHead}
 use Rattle.kept_contents.specs.declared.keys.CallKey.{CallKey}
-use Rattle.kept_tables.specs.declared.kept.Entry.{Entry}
+use Rattle.kept_tables.specs.declared.call_table.Entry.{Entry}
 use Rattle.kept_contents.specs.Added.{AreHeld, contents_with, texts_of}
 use Rattle.kept_contents.specs.Held.{IsHeld}
 use Rattle.kept_contents.specs.Keys.{IsKeyOf}

@@ -5,32 +5,28 @@ ghost use Rattle.object_values.specs.declared.calls.Outcome.{Outcome as OutcomeV
 ghost use Rattle.meaning_records.specs.Numbers.{number_of};
 ghost use Rattle.meaning_records.specs.Tables.{IsText, IsCallOf, IsOutcomeOf, kept_outcome, with_call, with_content};
 ghost use Rattle.kept_tables.specs.Loading.{LoadsItem, LoadsNothing};
-ghost use Rattle.indexmap.specs.IndexMap.{insert_entry, spare};
 ghost use Rattle.kept_contents.specs.Added.{AreHeld, contents_with};
 ghost use Rattle.kept_contents.specs.Held.{IsHeld};
 ghost use Rattle.kept_tables.specs.Holdings.{IsCommitted, IsKept, IsPrepared, MayAdd, MayKeep, held_calls_of, with_calls};
 
+use crate::call_table::{CallTable, Entry};
 use crate::calls::is_well_formed;
 use crate::loaded::Loaded;
 use crate::looks::Looks;
 use crate::outcomes::fits;
 use crate::prepared::Prepared;
-use indexmap::IndexMap;
-use kept_contents::{
-    CallHead, CallKey, ContentTable, Heads, HeldCall, Shared, SoughtKey, call_of, outcome_of,
-};
+use kept_contents::{ContentTable, Heads, HeldCall, Shared, SoughtKey, call_of, outcome_of};
 use object_values::{Call, Copied, Memory, Outcome, Text, Value};
 use std::alloc::Global;
-use std::hash::Hash;
 use std::marker::Model;
 use store_records::{Item, Recorded, StoredCall, StoredOutcome};
 
-/// What is kept: contents, each once, and the calls with their outcomes. A call is looked up by its key: a number and a digest, and where they are found the
-/// inputs are compared. Contracts see its `Tables`, and what it holds of them in memory.
+/// What is kept: contents, each once, and the calls with their outcomes. A call is looked up by its key. Contracts see its `Tables`, and what it holds of
+/// them in memory.
 pub struct Kept {
     pub(crate) contents: ContentTable,
     pub(crate) heads: Heads,
-    pub(crate) calls: IndexMap<CallKey, Entry>,
+    pub(crate) calls: CallTable,
 }
 
 impl Drop for Kept {
@@ -48,34 +44,21 @@ impl Drop for Kept {
 
 impl Model for Kept {
     ghost use Rattle.std.specs.Prelude.{All};
-    ghost use Rattle.indexmap.specs.IndexMap.{spare};
+    ghost use Rattle.kept_tables.specs.Calls.{IsCallIndex, room_of};
     ghost use Rattle.kept_tables.specs.Holdings.{Holding, IsKeptIn, kept_calls_of};
 
     ghost Value = { Holding };
 
     ghost view = { λ k. record {
-      tables = record { contents = k.contents.contents; calls = kept_calls_of k.calls.entries };
+      tables = record { contents = k.contents.contents; calls = kept_calls_of k.calls.entries.items };
       texts = k.contents.texts;
       heads = k.heads;
       room = k.contents.room;
-      call_room = spare k.calls;
+      call_room = room_of k.calls;
     } };
 
-    ghost invariant = { λ k. All (IsKeptIn k.heads k.contents.texts) k.calls.entries };
-}
-
-// What is kept under the key of a call.
-pub(crate) struct Entry {
-    pub(crate) head: CallHead,
-    pub(crate) outcome: Outcome,
-}
-
-impl Drop for Entry {
-    fn drop(self) {
-        let Entry { head, outcome } = self;
-        drop(head);
-        drop(outcome);
-    }
+    ghost invariant = { λ k. All (IsKeptIn k.heads k.contents.texts) k.calls.entries.items
+        × IsCallIndex k.contents.texts k.calls };
 }
 
 /// A kept call with its outcome.
@@ -93,7 +76,7 @@ impl Kept {
         Kept {
             contents: ContentTable::new(alloc),
             heads: Heads::new(alloc),
-            calls: IndexMap::new(alloc),
+            calls: CallTable::new(alloc),
         }
     }
 
@@ -123,7 +106,7 @@ impl Kept {
     pub fn calls(&self) -> u64
         ensures { result ≡ length self.now.tables.calls }
     {
-        self.calls.len() as u64
+        self.calls.entries.len() as u64
     }
 
     /// The call at a place, from 0, in the order in which they were kept. `None` from place `calls()` on.
@@ -131,10 +114,10 @@ impl Kept {
         ensures { IfOk result (λ found.
             option_map (λ k. (k.call, k.outcome)) found ≡ slice_get self.now.tables.calls place) }
     {
-        match self.calls.get_index(place as usize) {
-            Some((key, kept)) => {
-                let call = kept.head.call(alloc, &key.parts)?;
-                let outcome = kept.outcome.copy(alloc)?;
+        match self.calls.entries.get(place as usize) {
+            Some(kept) => {
+                let call = kept.1.head.call(alloc, &kept.0.parts)?;
+                let outcome = kept.1.outcome.copy(alloc)?;
                 Ok(Some(KeptCall { call, outcome }))
             }
             None => Ok(None),
@@ -181,7 +164,7 @@ impl Kept {
         let Some(sought) = SoughtKey::of(&self.contents, &self.heads, call) else {
             return None;
         };
-        match self.calls.get(sought) {
+        match self.calls.get(&self.contents, sought) {
             Some(kept) => Some(&kept.outcome),
             None => None,
         }
@@ -245,7 +228,8 @@ impl Kept {
         ensures { self.new.tables ≡ with_call held.call outcome self.old.tables }
     {
         let (key, head) = held.into_parts();
-        insert_within(&mut self.calls, key, Entry { head, outcome });
+        self.calls
+            .push(&self.contents, key, Entry { head, outcome });
     }
 
     // The text that is the content of a number.
@@ -318,7 +302,8 @@ impl Kept {
         requires { IsHeld self.now.heads self.now.texts held.now }
         ensures { result ≡ is_some (kept_outcome self.now.tables.calls held.now.call) }
     {
-        self.calls.contains_key(SoughtKey::of_held(held))
+        let sought = SoughtKey::of_held(held);
+        self.calls.get(&self.contents, sought).is_some()
     }
 
     // Keeps a call that isn't kept.
@@ -327,16 +312,8 @@ impl Kept {
         requires may { MayKeep self.old.tables held.call outcome }
         ensures { OnOk result (self.new.tables ≡ with_call held.call outcome self.old.tables) }
     {
-        self.calls.reserve(1)?;
+        self.calls.reserve()?;
         self.add_kept(held, outcome);
         Ok(())
     }
-}
-
-// Puts in an entry for which there is room.
-fn insert_within<K: Eq + Hash + Drop, V: Drop>(map: &mut IndexMap<K, V>, key: K, value: V)
-    requires { 0 < spare map.old }
-    ensures { map.new.entries ≡ insert_entry K.eq map.old.entries key value }
-{
-    let _ = map.insert(key, value);
 }

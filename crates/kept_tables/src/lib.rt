@@ -2,8 +2,12 @@
 //! in as it is read, and a batch is made whole, with all memory that its taking in needs, before it is written.
 #![tactic(auto)]
 
+mod call_table;
 mod calls;
 mod kept;
+mod live;
+mod live_batches;
+mod live_sizes;
 mod loaded;
 mod loading;
 mod looks;
@@ -13,6 +17,7 @@ mod preparing;
 
 pub use calls::is_well_formed;
 pub use kept::{Kept, KeptCall};
+pub use live::LiveCopy;
 pub use loaded::Loaded;
 pub use looks::Looks;
 pub use outcomes::fits;

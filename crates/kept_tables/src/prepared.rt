@@ -1,13 +1,14 @@
 // A batch that is ready to be written and taken in.
 ghost use Rattle.std.specs.Prelude.{◌≡◌};
 
+use framed_payloads::FramedPayload;
 use kept_contents::{HeldCall, Shared};
-use object_values::{Bytes, Outcome};
+use object_values::Outcome;
 use std::marker::Model;
 
 /// The bytes of a batch, with all that its taking in wants of memory.
 pub struct Prepared {
-    pub(crate) payload: Bytes,
+    pub(crate) payload: FramedPayload,
     // the texts that are added, the last one first
     pub(crate) added: Vec<Shared>,
     pub(crate) call: Option<(HeldCall, Outcome)>,
@@ -39,7 +40,14 @@ impl Prepared {
     pub fn payload(&self) -> &[u8]
         ensures { result.now ≡ self.now.payload }
     {
-        self.payload.as_slice()
+        self.payload.payload()
+    }
+
+    /// The bytes of the batch, in the buffer from which they are written.
+    pub fn framed(&self) -> &FramedPayload
+        ensures { result.now ≡ self.now.payload }
+    {
+        &self.payload
     }
 
     // The texts, the last one first, and the call.

@@ -145,7 +145,7 @@ impl Kept {
             return Err(Memory);
         }
         self.contents.reserve(added.len())?;
-        self.calls.reserve(1)?;
+        self.calls.reserve()?;
         // Taken from the end, the last one first, each content is moved into the tables in its order, and none is copied.
         let mut added = added.into_vec();
         added.reverse();

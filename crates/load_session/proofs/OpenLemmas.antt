@@ -21,7 +21,7 @@ use Rattle.odin_journal.specs.declared.fault.JournalFault.{JournalFault}
 use Rattle.odin_journal.specs.declared.fault.JournalFault.TheVariants as fault
 use Rattle.odin_store.specs.declared.store.Store.{Store}
 use Rattle.odin_store.specs.Held.{Held}
-use Rattle.odin_store.specs.Opening.{IsStoreOpenFault, OpensQuietStore, graph_record}
+use Rattle.odin_store.specs.Opening.{OpensQuietStore, graph_record}
 use Rattle.odin_engine.specs.Opened as engine
 use Rattle.load_session.specs.declared.session.Session.{Session}
 use Rattle.load_session.specs.Graph.{graph_text}
@@ -66,11 +66,15 @@ opened_new session text graph old text_is empty read opens new same =
 empty_stands : Stands [] nothing
 empty_stands = record { records = []; stored = inl (record { within = omega arith; blank = inl (omega arith) }, refl); read = refl }
 
+-- its size
+pub none_written : (old : LoadFile) → old ≡ empty_disk → length (image_of old.file) ≡ 0
+none_written old empty = subst (λ (f : LoadFile). length (image_of f.file) ≡ 0) (sym empty) refl
+
 -- how long the record of a graph is
 record_long : (text : Text) → length (graph_record text) ≡ 5 + length text
 record_long text = omega (arith, length-append text [])
 
-fails_empty : (text : Text) (after : LoadFile) (e : JournalFault) → StandsForOne → length text ≤ graph_limit → IsStoreOpenFault text (told_of_disk empty_disk) (told_of_disk after) e
+fails_empty : (text : Text) (after : LoadFile) (e : JournalFault) → StandsForOne → length text ≤ graph_limit → engine.IsEngineOpenFault told_of_disk text empty_disk after e
     → Works (72 + length (graph_record text)) 20 (told_of_disk empty_disk) (told_of_disk after) → CountAfterJournalFault 0 after.file.faults e → (after.file.faults ≢ 0 → PassesRoom after) → IsOpeningFault e
 fails_empty text after fault.Disk one short fails works cause past = elim (past (λ zero. absurd (omega arith))) [
   | inl bytes ↦ let long = record_long text in absurd (omega (arith, works.0, bytes))
@@ -81,9 +85,9 @@ fails_empty text after (fault.Full end count) one short fails works cause past =
 fails_empty text after fault.Memory one short fails works cause past = tt
 
 pub opening_fault : (text : Text) (old after : LoadFile) (e : JournalFault) → StandsForOne → length text ≤ graph_limit → old ≡ empty_disk
-    → IsStoreOpenFault text (told_of_disk old) (told_of_disk after) e → (length (image_of old.file) ≡ 0 → Works (72 + length (graph_record text)) 20 (told_of_disk old) (told_of_disk after))
+    → engine.IsEngineOpenFault told_of_disk text old after e → (length (image_of old.file) ≡ 0 → Works (72 + length (graph_record text)) 20 (told_of_disk old) (told_of_disk after))
     → CountAfterJournalFault old.file.faults after.file.faults e → (after.file.faults ≢ 0 → PassesRoom after) → IsOpeningFault e
 opening_fault text old after e one short empty fails works cause past =
-    fails_empty text after e one short (subst (λ f. IsStoreOpenFault text (told_of_disk f) (told_of_disk after) e) empty fails)
+    fails_empty text after e one short (subst (λ f. engine.IsEngineOpenFault told_of_disk text f after e) empty fails)
     (subst (λ (f : LoadFile). length (image_of f.file) ≡ 0 → Works (72 + length (graph_record text)) 20 (told_of_disk f) (told_of_disk after)) empty works refl)
     (subst (λ (f : LoadFile). CountAfterJournalFault f.file.faults after.file.faults e) empty cause) past

@@ -8,6 +8,9 @@ mod Refusals
 mod Alone
 mod Stores
 mod Writing
+mod LiveContents
+mod LiveReads
+mod LiveSizes
 mod NewTexts
 mod NumberLemmas
 pub mod Lemmas

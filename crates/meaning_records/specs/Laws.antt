@@ -1,5 +1,5 @@
 -- What the laws of kept records say.
-use Rattle.std.specs.Prelude.{◌≡◌, ◌⊎◌, ℕ, ◌≤◌, List, [], ◌∷◌, ◌++◌, length, Option, Some, IsSome, IsNone}
+use Rattle.std.specs.Prelude.{◌≡◌, ◌⊎◌, ℕ, ◌≤◌, List, [], ◌∷◌, ◌++◌, All, length, map as map_each, Option, Some, IsSome, IsNone}
 use Rattle.std.specs.FinMap as map
 use Rattle.object_values.specs.declared.views.Value.{Value}
 use Rattle.object_values.specs.declared.calls.Call.{Call}
@@ -15,7 +15,8 @@ use Rattle.meaning_records.specs.Forms.{IsOfOneThing}
 use Rattle.meaning_records.specs.Records.{item}
 use Rattle.meaning_records.specs.Tables.{Calls, kept_outcome}
 use Rattle.meaning_records.specs.Batches.{graph_batch, IsPutBatch, drop_batch, IsCallBatch}
-use Rattle.meaning_records.specs.States.{State, TakesAll, Reads}
+use Rattle.meaning_records.specs.States.{State, nothing, spell_batch, TakesAll, Reads, ReadsAll}
+use Rattle.meaning_records.specs.Live.{AreLive, IsLiveText, MayBeSources, ComeAfter, live_state}
 use Rattle.meaning_records.specs.Stands.{Stands, StandsNot, gate_behind}
 
 -- What an item is spelled tells the item, and where it ends.
@@ -63,3 +64,16 @@ pub record BatchesRead : Type 0 where
   pub call : (old : State) (call : Call) (outcome : Outcome) (items : List Item) → IsWellFormed call → OutcomeFits call outcome
       → IsNone (kept_outcome old.tables.calls call) → IsCallBatch old.tables.contents call outcome items
       → ItemsReadAs old items (old.tables.calls ++ (call, outcome) ∷ []) old.sources old.graph
+
+-- ---- a store that is written anew
+
+-- Live batches read as what they are of, where each of their items has a spelling and a store can hold it.
+abbrev pub LiveBatchesRead : Type 0
+LiveBatchesRead = (graph : Text) (sources : Texts) (calls : Calls) (batches : List (List Item)) (contents : List Value) → MayBeSources sources
+    → ComeAfter [] calls → All (All item.fits) batches → AreLive graph sources calls batches contents
+    → ReadsAll nothing (map_each spell_batch batches) (live_state graph sources calls contents)
+
+-- The live batch text has one length.
+abbrev pub LiveTextIsOne : Type 0
+LiveTextIsOne = (graph : Text) (sources : Texts) (calls : Calls) (size other : ℕ) → IsLiveText graph sources calls size → IsLiveText graph sources calls other
+    → other ≡ size

@@ -11,8 +11,10 @@ pub mod Numbers
 pub mod States
 pub mod Stands
 pub mod Batches
+pub mod Live
 pub mod Laws
 pub mod ByteExamples
 pub mod ItemExamples
 pub mod ImageExamples
 pub mod BatchExamples
+pub mod LiveExamples

@@ -2,6 +2,7 @@
 ghost use Rattle.meaning_records.specs.ByteExamples.{BytesOfItems, FirstPut, StandsBetween, UnnamedNumbers, NoBatches};
 ghost use Rattle.meaning_records.specs.ItemExamples.{EditsThatRead, EditsThatDoNot, TablesThatTell, LongContents, CallsThatRead, CallsThatDoNot};
 ghost use Rattle.meaning_records.specs.BatchExamples.{BatchesOfPuts, BatchesOfCalls};
+ghost use Rattle.meaning_records.specs.LiveExamples.{RewrittenStore};
 ghost use Rattle.meaning_records.specs.ImageExamples.{WorkedStores, WorkedFaults};
 
 /// An item of each kind, byte for byte.
@@ -67,6 +68,11 @@ pub fn batches_of_puts()
 /// What a store writes for a call: the texts that it needs and the file hasn't, each once.
 pub fn batches_of_calls()
     ensures { BatchesOfCalls }
+{}
+
+/// What a store that is written anew has in its file: each text once, before its first user.
+pub fn rewritten_store()
+    ensures { RewrittenStore }
 {}
 
 /// Store files with their sizes, and what they stand for.

@@ -1,5 +1,5 @@
 //! Laws of what an image stands for. Each is the contract of a function with an empty body.
-ghost use Rattle.meaning_records.specs.Laws.{ItemsAreOne, ReadsInOneWay, StandsForOne, EachStandsOrNot, GatesFollow, BatchesRead};
+ghost use Rattle.meaning_records.specs.Laws.{ItemsAreOne, ReadsInOneWay, StandsForOne, EachStandsOrNot, GatesFollow, BatchesRead, LiveBatchesRead, LiveTextIsOne};
 ghost use Rattle.meaning_records.specs.Numbers.{NumbersTellValues};
 
 /// What an item is spelled tells the item, and where it ends.
@@ -30,6 +30,16 @@ pub fn gates_follow()
 /// Each batch that a store writes reads as what it was asked for.
 pub fn batches_read()
     ensures { BatchesRead }
+{}
+
+/// The batches of a rewritten store read as what they are of.
+pub fn live_batches_read()
+    ensures { LiveBatchesRead }
+{}
+
+/// The live batch text has one length.
+pub fn live_text_is_one()
+    ensures { LiveTextIsOne }
 {}
 
 /// The number of a value leads back to it and stays, and of two numbers the values are equal exactly where the numbers are.

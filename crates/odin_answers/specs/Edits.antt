@@ -2,6 +2,7 @@
 use Rattle.std.specs.Prelude.{◌≡◌, ◌⊎◌, ℕ, ◌<◌, ◌≤◌, List, length, map, Option, Some, None}
 use Rattle.std.specs.FinMap.{get, insert, remove, entries}
 use Rattle.object_values.specs.Texts.{Text, Texts}
+use Rattle.odin_outside.specs.declared.tree.Tree.{Ghosts as TreeView}
 use Rattle.odin_outside.specs.Causes.{IsCounted, once_more}
 use Rattle.odin_outside.specs.Files.{Files, IsGiven}
 use Rattle.meaning_texts.specs.Limits.{body_limit}
@@ -44,8 +45,8 @@ pub record TreeTold : Type 0 where
   pub faults : ℕ
   pub reads : ℕ
 
-abbrev pub tree_of : {T : Type 0} → (T → Option Files) → (T → ℕ) → (T → ℕ) → T → TreeTold
-tree_of files faults reads tree = record { files = files tree; faults = faults tree; reads = reads tree }
+abbrev pub tree_of : {T : Type 0} → TreeView T → T → TreeTold
+tree_of view tree = record { files = view.files tree; faults = view.faults tree; reads = view.reads tree }
 
 -- It keeps its files, and the count of its faults never falls.
 pub record TreeStays (start now : TreeTold) : Type 0 where

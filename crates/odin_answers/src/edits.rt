@@ -138,7 +138,7 @@ pub fn take<D: Disk, T: Tree>(
     requires { StoreIsOpen engine.old.store (D.size_of disk.old) }
     ensures says { let old = engine.old.store.sources.texts in
         let new = engine.new.store.sources.texts in
-        let told = tree_of T.files T.faults T.reads in
+        let told = tree_of T.Tree in
         IfOk result (SaysReply (λ said.
         edits.Takes old name (told tree.old) said new (told tree.new))) }
     ensures ok { OnOk result
@@ -148,7 +148,7 @@ pub fn take<D: Disk, T: Tree>(
     ensures stays { GraphStays engine.old engine.new }
     ensures left { StoreAfter engine.new.store (D.size_of disk.new) result }
     ensures cause { JournalFaultIsCounted (D.faults disk.old) (D.faults disk.new) result }
-    ensures asked { let told = tree_of T.files T.faults T.reads in
+    ensures asked { let told = tree_of T.Tree in
         TreeIsAsked (told tree.old) (told tree.new) }
 {
     changes_follow::<D>();

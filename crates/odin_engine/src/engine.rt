@@ -1,16 +1,17 @@
 // The engine: its opening, and the edits of the sources.
-ghost use Rattle.std.specs.Prelude.{◌≡◌, ◌+◌, length, IfOk, IfErr};
+ghost use Rattle.std.specs.Prelude.{◌≡◌, ◌+◌, length, IfOk, IfErr, OnOk};
 ghost use Rattle.path_planner.specs.Ends.{plans_of};
 ghost use Rattle.odin_journal.specs.Faults.{JournalFaultIsCounted};
 ghost use Rattle.odin_journal.specs.Moments.{Works};
+ghost use Rattle.odin_journal.specs.Rest.{IsReady};
 ghost use Rattle.odin_store.specs.Held.{puts, drops};
 ghost use Rattle.odin_store.specs.OnDisk.{BeginsOnce, StoreAfter, StoreIsOpen};
-ghost use Rattle.odin_store.specs.Opening.{graph_record, IsStoreOpenFault, LeavesOpening, OpensQuietStore};
+ghost use Rattle.odin_store.specs.Opening.{graph_record, OpensQuietStore};
 ghost use Rattle.odin_store.specs.Changes.{DropBatch, MayPut, PutBatch};
 ghost use Rattle.odin_store.specs.Edited.{HasFailed, HasPut, HasDropped};
 ghost use Rattle.odin_engine.specs.Asked.{IsNodeOf, IsRefusedFor};
 ghost use Rattle.odin_engine.specs.Engaged.{GraphStays};
-ghost use Rattle.odin_engine.specs.Opened.{EngineIsNew, MayOpen};
+ghost use Rattle.odin_engine.specs.Opened.{EngineIsNew, IsEngineOpenFault, IsSettleFault, LeavesEngineOpening, LeavesSettled, MayOpen, OpensQuietEngine, Settles};
 
 use crate::asked::node_of_text;
 use crate::fault::AskFault;
@@ -66,7 +67,7 @@ impl Model for Engine {
 }
 
 impl Engine {
-    /// Opens the store in a file for the graph of this text. At most so many tools run at a time, from 1 to 64.
+    /// Opens the store in a file for the graph of this text, and compacts it where it is wasteful. At most so many tools run at a time, from 1 to 64.
     pub fn open<D: Disk>(
         alloc: Global,
         disk: &mut D,
@@ -76,17 +77,20 @@ impl Engine {
     ) -> Result<Engine, StoreFault>
         requires { MayOpen text.now graph jobs }
         ensures opened { IfOk result (λ engine.
-            OpensQuietStore text.now (D.told disk.old) (D.told disk.new) engine.store) }
+            OpensQuietEngine D.told text.now disk.old disk.new engine.store) }
         ensures new { IfOk result (EngineIsNew graph jobs (D.size_of disk.new)) }
-        ensures any_moment { LeavesOpening text.now (D.told disk.old) (D.told disk.new) }
-        ensures refused { IfErr result
-            (IsStoreOpenFault text.now (D.told disk.old) (D.told disk.new)) }
+        ensures any_moment { LeavesEngineOpening D.told text.now disk.old disk.new }
+        ensures refused { IfErr result (IsEngineOpenFault D.told text.now disk.old disk.new) }
+        // In an empty file no store is wasteful.
+        ensures empty { D.size_of disk.old ≡ 0 → IfOk result (λ engine.
+            OpensQuietStore text.now (D.told disk.old) (D.told disk.new) engine.store) }
         ensures works { D.size_of disk.old ≡ 0
             → Works (72 + length (graph_record text.now)) 20 (D.told disk.old) (D.told disk.new) }
         ensures cause { JournalFaultIsCounted (D.faults disk.old) (D.faults disk.new) result }
     {
         let plans = Plans::new(alloc, &graph)?;
-        let store = Store::open(alloc, disk, text)?;
+        let mut store = Store::open(alloc, disk, text)?;
+        settle(alloc, disk, &mut store)?;
         Ok(Engine {
             graph,
             plans,
@@ -172,4 +176,19 @@ impl Engine {
     {
         &self.plans
     }
+}
+
+// Compacts an opened store where it is wasteful. Where a copy fits in neither place it stays as it is.
+fn settle<D: Disk>(alloc: Global, disk: &mut D, store: &mut Store) -> Result<(), StoreFault>
+    requires { IsReady store.old.journal (D.size_of disk.old) }
+    ensures ok { OnOk result (Settles D.told store.old store.new disk.old disk.new) }
+    ensures any_moment { LeavesSettled D.told store.old disk.old disk.new }
+    ensures err { IfErr result (IsSettleFault store.old disk.old disk.new) }
+    ensures ready { OnOk result (IsReady store.new.journal (D.size_of disk.new)) }
+    ensures cause { JournalFaultIsCounted (D.faults disk.old) (D.faults disk.new) result }
+{
+    if store.wasteful(alloc)? {
+        let _ = store.compact(alloc, disk)?;
+    }
+    Ok(())
 }

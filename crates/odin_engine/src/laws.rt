@@ -1,8 +1,9 @@
-//! Laws of asks. Each is the contract of a function that does nothing.
+//! Laws of openings and asks. Each is the contract of a function that does nothing.
 ghost use Rattle.odin_engine.specs.AskLaws.{AnswersKeep, DiskStopsAsk, FaultsKeep};
+ghost use Rattle.odin_engine.specs.Opened.{EngineOpeningsKeepHeld};
 
 use odin_outside::Disk;
-use odin_store::laws::changes_follow;
+use odin_store::laws::{changes_follow, compactions_keep, openings_keep_held};
 
 /// An ask keeps calls, one after another, and changes nothing else; after a fault of the disk some
 /// first ones are there.
@@ -12,4 +13,12 @@ pub fn asks_keep<D: Disk>()
     ensures disk { DiskStopsAsk D.told }
 {
     changes_follow::<D>();
+}
+
+/// A crash within the opening of an engine leaves what the file stood for.
+pub fn engine_openings_keep_held<D: Disk>()
+    ensures { EngineOpeningsKeepHeld D.told }
+{
+    openings_keep_held::<D>();
+    compactions_keep::<D>();
 }

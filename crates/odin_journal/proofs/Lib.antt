@@ -2,6 +2,7 @@ mod AppendLemmas
 mod FrontLemmas
 mod MomentLemmas
 mod OpenLemmas
+mod PieceLemmas
 mod ReadLemmas
 mod ReplaceLemmas
 mod RewriteLemmas

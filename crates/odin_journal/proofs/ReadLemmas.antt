@@ -5,15 +5,13 @@ use Rattle.odin_bytes.specs.Fields.{u32_field, bytes_field, IsFieldAt}
 use Rattle.odin_bytes.specs.FieldLemmas.{body_at, field_front, u32_front, length-slice_range}
 use Rattle.meaning_records.specs.Images.{gate_after, IsOpen, IsRecord}
 use Rattle.odin_journal.proofs.AppendLemmas.{range_of_front}
+use Rattle.odin_journal.proofs.PieceLemmas.{part}
 
 -- what was read at a gate: at least a gate, and the number that stands after it
 pub record Head (image head : List ℕ) (gate count : ℕ) : Type 0 where
   pub read : head ≡ slice_range image gate (gate + count)
   pub within : gate + count ≤ length image
   pub one : slice_index head 0 ≡ 1
-
-part : (image : List ℕ) (gate count : ℕ) → slice_range image gate (gate + count) ≡ take count (drop gate image)
-part image gate count = ap (λ n. take n (drop gate image)) (let size : gate + count - gate ≡ count = omega arith in size)
 
 head_length : (image head : List ℕ) (gate count : ℕ) → Head image head gate count → length head ≡ count
 head_length image head gate count read = ap length read.read ∙ length-slice_range image gate (gate + count) read.within ∙ (let size : gate + count - gate ≡ count = omega arith in size)

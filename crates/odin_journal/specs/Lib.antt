@@ -5,6 +5,7 @@ pub mod Laws
 pub mod Faults
 pub mod Marks
 pub mod Moments
+pub mod Pieces
 pub mod Reads
 pub mod Rest
 pub mod RewriteExamples

@@ -1,8 +1,8 @@
 -- A journal on a disk at rest.
-use Rattle.std.specs.Prelude.{◌≡◌, ◌+◌, ◌≤◌, ◌<◌, ◌⊎◌, ℕ, List, [], ◌∷◌, ◌++◌, IsTrue, IsFalse, length, drop, slice_index, Result, OnOk, IsErrOf}
+use Rattle.std.specs.Prelude.{◌≡◌, ◌+◌, ◌≤◌, ◌<◌, ◌⊎◌, ℕ, List, [], ◌∷◌, ◌++◌, IsTrue, IsFalse, length, drop, slice_index, Result, OnOk, IfOk, IsErrOf}
 use Rattle.odin_outside.specs.Disk.{Telling, IsQuiet, LeavesOnly, Written}
 use Rattle.odin_bytes.specs.Fields.{bytes_field}
-use Rattle.odin_journal.specs.Moments.{Untouched}
+use Rattle.odin_journal.specs.Moments.{Untouched, Works}
 use Rattle.meaning_records.specs.Front.{file_limit, front_size, new_store}
 use Rattle.meaning_records.specs.Images.{gate_after, with_record, IsNew, Stored, IsStore}
 use Rattle.odin_journal.specs.declared.journal.Journal.{Journal}
@@ -67,6 +67,11 @@ OpensQuietJournal old new opened = IsQuiet old → OpensJournal old new opened.1
 pub record OpensStarted (old new : Telling) (opened : Journal × List (List ℕ)) : Type 0 where
   pub opens : OpensQuietJournal old new opened
   pub starts : IsQuiet old → IsStartOf new.seen opened.0.start
+
+-- The opening of an empty file is this work at most, and the journal ends where the records of a new file start.
+pub record OpensEmptyFile (old new : Telling) (result : Result (Journal × List (List ℕ)) JournalFault) : Type 0 where
+  pub works : Works 66 16 old new
+  pub end : IfOk result (λ opened. opened.0.end ≡ front_size)
 
 -- a file that doesn't count as new is only read
 abbrev pub OnlyReads : Telling → Telling → Type 0

@@ -1,7 +1,9 @@
 -- The work of calls on a disk, one after another.
-use Rattle.std.proofs.Common.{ℕ, ◌+◌, ◌≤◌, Option, Some, None, refl, arith}
+use Rattle.std.proofs.Common.{ℕ, ◌+◌, ◌*◌, ◌/◌, ◌^◌, ◌≤◌, Option, Some, None, refl, arith}
+use Rattle.std.proofs.Math.Nat.{min-le_left}
 use Rattle.odin_outside.specs.Disk.{Work}
 use Rattle.odin_outside.specs.Worked.{WorkedWithin}
+use Rattle.odin_journal.specs.Pieces.{most_reads}
 
 -- no call is no work
 pub no_work : (work : Option Work) → WorkedWithin 0 0 work work
@@ -21,3 +23,8 @@ add_work bytes calls more most None (Some mid) new first second = let no : ⊥ =
 add_work bytes calls more most (Some old) None new first second = absurd first
 add_work bytes calls more most (Some old) (Some mid) None first second = second
 add_work bytes calls more most (Some old) (Some mid) (Some new) first second = (omega (arith, first.0, second.0), omega (arith, first.1, second.1))
+
+-- records are read by two calls for each and two more at most
+pub few_reads : (bytes calls records size : ℕ) (old new : Option Work) → WorkedWithin bytes (calls + most_reads records size) old new → WorkedWithin bytes (calls + 2 + 2 * records) old new
+few_reads bytes calls records size old new within =
+    more_work bytes (calls + most_reads records size) bytes (calls + 2 + 2 * records) old new (omega arith) (omega (arith, min-le_left (2 * records + 1) (2 * (size / 2 ^ 20 + 1)))) within

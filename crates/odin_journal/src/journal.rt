@@ -1,10 +1,11 @@
 // The journal: an open gate, a length and a payload for each record, and a closed gate after the last.
-ghost use Rattle.std.specs.Prelude.{◌≡◌, ◌<◌, ◌≤◌, ◌+◌, ◌*◌, ◌^◌, ◌++◌, [], ◌∷◌, length, IfOk, IfErr, OnOk};
-ghost use Rattle.odin_bytes.specs.Fields.{bytes_field};
+ghost use Rattle.std.specs.Prelude.{◌≡◌, ◌↔◌, ◌<◌, ◌≤◌, ◌+◌, ◌-◌, ◌^◌, length, IsTrue, IfOk, IfErr, OnOk};
 ghost use Rattle.odin_outside.specs.Causes.{HasCause};
+ghost use Rattle.meaning_records.specs.Front.{file_limit};
 ghost use Rattle.odin_journal.specs.Faults.{JournalFaultIsCounted, FullIsExact, IsOpenFault, IsRefused};
 ghost use Rattle.odin_journal.specs.Moments.{Works};
-ghost use Rattle.odin_journal.specs.Rest.{AddsBytes, AddsTo, IsAddedTo, JournalAfter, IsReady, KeepsOrAddsBytes, KeepsRecords, LeavesAdded, OnlyReads, OpensGate, OpensStarted};
+ghost use Rattle.odin_journal.specs.Pieces.{most_reads};
+ghost use Rattle.odin_journal.specs.Rest.{AddsBytes, AddsTo, IsAddedTo, JournalAfter, IsReady, KeepsOrAddsBytes, KeepsRecords, LeavesAdded, OnlyReads, OpensEmptyFile, OpensGate, OpensStarted};
 ghost use Rattle.odin_journal.specs.Rewrites.{copy_size, IsFit, IsLetBe, LeavesReplaced, ReplacesWhere};
 
 use crate::fault::JournalFault;
@@ -13,8 +14,8 @@ use crate::reads::read_store;
 use crate::rewrite::{copy_records, place_for, replace, size_of_copy};
 use crate::start::Start;
 use crate::writes::write_synced;
-use object_values::{Bytes, Memory, STORE_LIMIT, Seq};
-use odin_bytes::{put_bytes, put_u8};
+use framed_payloads::FramedPayload;
+use object_values::{Bytes, STORE_LIMIT, Seq};
 use odin_outside::{Disk, Failed};
 use std::alloc::Global;
 
@@ -41,9 +42,11 @@ impl Journal {
         ensures any_moment { KeepsRecords (D.told disk.old) (D.told disk.new) }
         ensures refused { IfErr result (IsOpenFault (D.told disk.old) (D.told disk.new)) }
         ensures ready { IfOk result (λ opened. IsReady opened.0 (D.size_of disk.new)) }
-        ensures works { D.size_of disk.old ≡ 0 → Works 66 16 (D.told disk.old) (D.told disk.new) }
-        ensures reads { IfOk result (λ opened.
-            Works 66 (16 + 2 * length opened.1) (D.told disk.old) (D.told disk.new)) }
+        ensures empty { D.size_of disk.old ≡ 0
+            → OpensEmptyFile (D.told disk.old) (D.told disk.new) result }
+        ensures reads { IfOk result (λ opened. Works 66
+            (14 + most_reads (length opened.1) (opened.0.end - opened.0.start.place))
+            (D.told disk.old) (D.told disk.new)) }
         ensures cause { JournalFaultIsCounted (D.faults disk.old) (D.faults disk.new) result }
     {
         let looked = look(disk)?;
@@ -78,7 +81,7 @@ impl Journal {
         self.spent
     }
 
-    /// Adds a record. At `Ok` each crash leaves it.
+    /// Adds a record. At `Ok` each crash leaves it. A long payload is better made in its frame (`append_framed`), since this one is copied into one.
     pub fn append<D: Disk>(
         &mut self,
         alloc: Global,
@@ -97,11 +100,35 @@ impl Journal {
         ensures cause { JournalFaultIsCounted (D.faults disk.old) (D.faults disk.new) result }
     {
         let length = payload.len() as u64;
-        if self.end > STORE_LIMIT - 6 || length > STORE_LIMIT - 6 - self.end {
+        if !self.has_room(length) {
             return Err(JournalFault::Full(self.end, length));
         }
-        let bytes = behind_gate(alloc, payload)?;
-        match add(disk, self.end, bytes.as_slice()) {
+        let framed = FramedPayload::of(alloc, payload)?;
+        self.append_framed(disk, &framed)
+    }
+
+    /// Adds a record out of the buffer in which its payload was made, which is written as it is. At `Ok` each crash leaves it.
+    pub fn append_framed<D: Disk>(
+        &mut self,
+        disk: &mut D,
+        payload: &FramedPayload,
+    ) -> Result<(), JournalFault>
+        requires { IsReady self.old (D.size_of disk.old) }
+        ensures added { OnOk result
+            (AddsTo self.old self.new payload.now (D.told disk.old) (D.told disk.new)) }
+        ensures any_moment { LeavesAdded self.old payload.now (D.told disk.old) (D.told disk.new) }
+        ensures full { FullIsExact self.old.end (length payload.now) result }
+        ensures same { IsRefused result → (disk.new ≡ disk.old) × (self.new ≡ self.old) }
+        ensures state { IsAddedTo self.old self.new payload.now
+            (D.told disk.old) (D.told disk.new) (D.size_of disk.new) result }
+        ensures works { Works (length payload.now + 6) 4 (D.told disk.old) (D.told disk.new) }
+        ensures cause { JournalFaultIsCounted (D.faults disk.old) (D.faults disk.new) result }
+    {
+        let length = payload.len() as u64;
+        if !self.has_room(length) {
+            return Err(JournalFault::Full(self.end, length));
+        }
+        match add(disk, self.end, payload.as_slice()) {
             Ok(()) => {
                 self.end += 5 + length;
                 Ok(())
@@ -111,6 +138,13 @@ impl Journal {
                 Err(JournalFault::Disk)
             }
         }
+    }
+
+    // Whether a record with so long a payload fits after the end.
+    fn has_room(&self, length: u64) -> bool
+        ensures { IsTrue result ↔ (self.now.end + 6 + length ≤ file_limit) }
+    {
+        self.end <= STORE_LIMIT - 6 && length <= STORE_LIMIT - 6 - self.end
     }
 
     /// Replaces the records by these. `false` where a copy of them fits in neither place, and then nothing is changed.
@@ -154,18 +188,6 @@ impl Journal {
             }
         }
     }
-}
-
-// The length, the payload and a closed gate.
-fn behind_gate(alloc: Global, payload: &[u8]) -> Result<Bytes, Memory>
-    requires { length payload.now < 2 ^ 30 }
-    ensures { IfOk result (λ bytes. bytes ≡ bytes_field payload.now ++ 0 ∷ []) }
-{
-    let mut bytes = Bytes::new(alloc);
-    bytes.reserve_exact(payload.len() + 5)?;
-    put_bytes(&mut bytes, payload)?;
-    put_u8(&mut bytes, 0)?;
-    Ok(bytes)
 }
 
 // Puts the bytes after the closed gate at the end, and then opens it.

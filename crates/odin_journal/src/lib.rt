@@ -7,6 +7,7 @@ mod fault;
 mod front;
 mod journal;
 pub mod laws;
+mod pieces;
 mod reads;
 mod rewrite;
 mod start;

@@ -1,15 +1,16 @@
 // The reading of an existing store file.
-ghost use Rattle.std.specs.Prelude.{◌≡◌, ◌+◌, ◌*◌, ◌<◌, ◌≤◌, length, IfOk, IfErr, IfSome, IfNone};
+ghost use Rattle.std.specs.Prelude.{◌≡◌, ◌+◌, ◌-◌, ◌<◌, ◌≤◌, length, IfOk, IfErr, IfSome, IfNone};
 ghost use Rattle.meaning_records.specs.Front.{front_size};
-ghost use Rattle.meaning_records.specs.Images.{gate_after};
 ghost use Rattle.odin_journal.specs.Faults.{JournalFaultIsCounted, IsReadFault, nowhere};
 ghost use Rattle.odin_journal.specs.Marks.{HasMarks};
-ghost use Rattle.odin_journal.specs.Moments.{IsOnlyRead, IsPlace, IsRangeOf, Works};
-ghost use Rattle.odin_journal.specs.Reads.{BreaksFrom, BreaksHere, BreaksStore, HasNoFront, HasRecord, HasRecords, HasStart, HasStore, IsShut, IsSpan};
+ghost use Rattle.odin_journal.specs.Moments.{IsOnlyRead, IsPlace, Works};
+ghost use Rattle.odin_journal.specs.Pieces.{most_reads, FindsRecord, IsPieceAt, ReadsRecord};
+ghost use Rattle.odin_journal.specs.Reads.{BreaksFrom, BreaksHere, BreaksStore, HasNoFront, HasRecords, HasStart, HasStore, IsShut, IsSpan};
 ghost use Rattle.odin_journal.specs.Starts.{IsStartOf};
 
 use crate::fault::JournalFault;
 use crate::front::FRONT_SIZE;
+use crate::pieces::{Piece, read_bytes};
 use crate::start::Start;
 use byteorder::{BigEndian, ByteOrder};
 use object_values::{Bytes, Seq};
@@ -17,45 +18,26 @@ use odin_bytes::take_u32;
 use odin_outside::Disk;
 use std::alloc::Global;
 
-/// So many bytes from `at` on.
-pub fn read_bytes<D: Disk>(
-    alloc: Global,
-    disk: &mut D,
-    at: u64,
-    count: u64,
-) -> Result<Bytes, JournalFault>
-    requires { at + count ≤ D.size_of disk.old }
-    ensures bytes { IfOk result (IsRangeOf (D.told disk.old) at count) }
-    ensures length { IfOk result (λ bytes. length bytes ≡ count) }
-    ensures left { IsOnlyRead (D.told disk.old) (D.told disk.new)
-        (D.size_of disk.old) (D.size_of disk.new) result }
-    ensures err { IfErr result (IsReadFault nowhere) }
-    ensures works { Works 0 1 (D.told disk.old) (D.told disk.new) }
-    ensures cause { JournalFaultIsCounted (D.faults disk.old) (D.faults disk.new) result }
-{
-    let mut bytes = vec![in alloc; 0; count as usize]?;
-    disk.read(at, bytes.as_mut_slice())?;
-    Ok(Bytes::from_vec(bytes))
-}
-
 /// The payload of the record at a gate, where the gate is open.
 pub fn read_record<D: Disk>(
     alloc: Global,
     disk: &mut D,
+    piece: &mut Piece,
     gate: u64,
     size: u64,
 ) -> Result<Option<Bytes>, JournalFault>
-    requires { IsPlace (D.size_of disk.old) size gate }
-    ensures some { IfOk result (λ read. IfSome read (HasRecord (D.told disk.old) size gate)) }
-    ensures room { IfOk result (λ read. IfSome read (λ payload. gate_after gate payload < size)) }
+    requires place { IsPlace (D.size_of disk.old) size gate }
+    requires piece { IsPieceAt (D.told disk.old) size gate piece.old }
+    ensures some { IfOk result (λ read. IfSome read (FindsRecord (D.told disk.old) size gate)) }
     ensures none { IfOk result (λ read. IfNone read (IsShut (D.told disk.old) size gate)) }
     ensures left { IsOnlyRead (D.told disk.old) (D.told disk.new)
         (D.size_of disk.old) (D.size_of disk.new) result }
     ensures err { IfErr result (IsReadFault (BreaksHere (D.told disk.old) size gate)) }
-    ensures works { Works 0 2 (D.told disk.old) (D.told disk.new) }
+    ensures reads { IfOk result (ReadsRecord size gate piece.old piece.new
+        (D.told disk.old) (D.told disk.new)) }
     ensures cause { JournalFaultIsCounted (D.faults disk.old) (D.faults disk.new) result }
 {
-    let head = read_bytes(alloc, disk, gate, (size - gate).min(5))?;
+    let head = piece.cut(alloc, disk, gate, (size - gate).min(5), size)?;
     let bytes = head.as_slice();
     if bytes[0] != 1 {
         return Ok(None);
@@ -67,7 +49,7 @@ pub fn read_record<D: Disk>(
         return Err(JournalFault::NotOurs(gate));
     }
     drop(head);
-    Ok(Some(read_bytes(alloc, disk, gate + 5, length as u64)?))
+    Ok(Some(piece.cut(alloc, disk, gate + 5, length as u64, size)?))
 }
 
 /// The payloads of the whole records from a start on, and the closed gate that ends them.
@@ -84,13 +66,14 @@ pub fn read_records<D: Disk>(
     ensures left { IsOnlyRead (D.told disk.old) (D.told disk.new)
         (D.size_of disk.old) (D.size_of disk.new) result }
     ensures err { IfErr result (IsReadFault (BreaksFrom (D.told disk.old) size start)) }
-    ensures works { IfOk result (λ read.
-        Works 0 (2 * length read.1 + 2) (D.told disk.old) (D.told disk.new)) }
+    ensures works { IfOk result (λ read. Works 0 (most_reads (length read.1) (read.0 - start))
+        (D.told disk.old) (D.told disk.new)) }
     ensures cause { JournalFaultIsCounted (D.faults disk.old) (D.faults disk.new) result }
 {
+    let mut piece = Piece::read(alloc, disk, start, size)?;
     let mut records = Seq::new(alloc);
     let mut gate = start;
-    'gates: while let Some(payload) = read_record(alloc, disk, gate, size)? {
+    'gates: while let Some(payload) = read_record(alloc, disk, &mut piece, gate, size)? {
         gate += 5 + payload.len() as u64;
         records.push(payload)?;
     }
@@ -166,7 +149,8 @@ pub fn read_store<D: Disk>(
         (D.size_of disk.old) (D.size_of disk.new) result }
     ensures err { IfErr result (IsReadFault (BreaksStore (D.told disk.old) size)) }
     ensures works { IfOk result (λ read.
-        Works 0 (2 * length read.1.1 + 3) (D.told disk.old) (D.told disk.new)) }
+        Works 0 (1 + most_reads (length read.1.1) (read.1.0 - read.0.place))
+        (D.told disk.old) (D.told disk.new)) }
     ensures cause { JournalFaultIsCounted (D.faults disk.old) (D.faults disk.new) result }
 {
     let Some(start) = read_start(alloc, disk, size)? else {

@@ -30,7 +30,8 @@ use Rattle.odin_answers.specs.Edits.{SaysReply, TreeTold, TreeStays, TreeIsAsked
 use Rattle.odin_answers.specs.Changes.{edit_changes}
 use Rattle.odin_shell.specs.declared.stop.Stop.TheVariants as stop
 use Rattle.odin_shell.specs.Endings.{stop_of}
-use Rattle.odin_shell.specs.Filed.{DiskMeaning, HasNoRoomForLast, IsSafe}
+use Rattle.odin_outside.specs.declared.disk.Disk.{Ghosts as DiskView}
+use Rattle.odin_shell.specs.Filed.{HasNoRoomForLast, IsSafe}
 use Rattle.odin_shell.specs.Machine.{SessionState, Told, Applies, EditsByCommand, EditsByFile, AsksForObject, Step, MayEdit, MayHaveAsked, CommandMayLeave, SessionInvariant, StateAtExit, ToolsStay, told_with_stop}
 use Rattle.odin_shell.specs.Served.{telling, Answers, HaltsCommand, AnswersAsk, HaltsAsk}
 use Rattle.odin_shell.proofs.StateLemmas.{next_state, makes_next, belongs_on, Lasts, left_by, safe_made, holds_all, safe_failed, failed_last, safe_full, full_last, is_full, rests, same_tools, same_tree}
@@ -41,7 +42,7 @@ at_stop r s Q is q =
     let p = err_from_is_err_and r is in
     subst (λ v. IfErr v Q) (sym p.1) (subst Q (sym p.2) q)
 
-module _ {D : Type 0} (disk : DiskMeaning D) where
+module _ {D : Type 0} (disk : DiskView D) where
   -- ---- no change
 
   pub same_answers : (code : Engaged) (c : Command) (kept reply : List ℕ) (told : Told D)
@@ -104,7 +105,7 @@ module _ {D : Type 0} (disk : DiskMeaning D) where
         tools = tools ∙ fits.tools;
       }
 
-      pub edit_belongs : GraphStays code code' → IsReady code'.store.journal (disk.size told'.disk) → disk.faults told'.disk ≡ disk.faults told.disk → told'.tools ≡ told.tools → TreeStays told.tree told'.tree → told'.over ≡ None
+      pub edit_belongs : GraphStays code code' → IsReady code'.store.journal (disk.size_of told'.disk) → disk.faults told'.disk ≡ disk.faults told.disk → told'.tools ≡ told.tools → TreeStays told.tree told'.tree → told'.over ≡ None
           → SessionInvariant disk g text limit first start code' new told'
       edit_belongs stays ready faults tools tree within =
           belongs_on disk g text limit first start code state told fits edited code' told' goes stays ready faults (same_tools told.tools told'.tools tools fits.stay.few) tree (ap (λ (t : Spawned). t.running) tools ∙ fits.idle) within
@@ -123,7 +124,7 @@ module _ {D : Type 0} (disk : DiskMeaning D) where
         → (furthest : SessionState) × (MayEdit Asked state furthest × (furthest.tree ≡ told'.tree) × StateAtExit disk g text limit first start state furthest (told_with_stop (stop_of e) told'))
     edit_left change Asked next told' fault.Disk due failed later cause tools tree =
         let new = next_state state (change ∷ []) told'.tools told'.tree in
-        let here : IsSame code.store code.store told.disk told.disk = record { disk_is = refl; store_is = record { journal = refl; tables = refl; sources = refl; epoch = refl } } in
+        let here : IsSame code.store code.store told.disk told.disk = record { disk_is = refl; store_is = record { journal = refl; tables = refl; sources = refl; graph = refl; epoch = refl } } in
         let goes : Performs disk.told [] code.store code.store told.disk told.disk = goes_none disk.told code.store code.store told.disk told.disk here in (
           new,
           (
@@ -137,7 +138,7 @@ module _ {D : Type 0} (disk : DiskMeaning D) where
     edit_left change Asked next told' (fault.NotOurs at) due failed later cause tools tree = absurd failed
     edit_left change Asked next told' (fault.Full at size) due failed later cause tools tree =
         let new = next_state state (change ∷ []) told'.tools told'.tree in
-        let here : IsSame code.store code.store told.disk told'.disk = record { disk_is = failed.1.0.disk_is; store_is = record { journal = refl; tables = refl; sources = refl; epoch = refl } } in
+        let here : IsSame code.store code.store told.disk told'.disk = record { disk_is = failed.1.0.disk_is; store_is = record { journal = refl; tables = refl; sources = refl; graph = refl; epoch = refl } } in
         let goes : Performs disk.told [] code.store code.store told.disk told'.disk = goes_none disk.told code.store code.store told.disk told'.disk here in (
           new,
           (
@@ -148,8 +149,8 @@ module _ {D : Type 0} (disk : DiskMeaning D) where
                 (λ a s some.
                 let same_at : at ≡ a = ap (λ (p : ℕ × ℕ). p.0) (same_some some) in
                 let same_size : size ≡ s = ap (λ (p : ℕ × ℕ). p.1) (same_some some) in
-                subst (λ x. HasNoRoomForLast text (state.changes ++ change ∷ []) (disk.told start.disk) (disk.told told'.disk) x s) same_at
-                (subst (λ x. HasNoRoomForLast text (state.changes ++ change ∷ []) (disk.told start.disk) (disk.told told'.disk) at x) same_size
+                subst (λ x. HasNoRoomForLast disk.told text (state.changes ++ change ∷ []) start.disk told'.disk x s) same_at
+                (subst (λ x. HasNoRoomForLast disk.told text (state.changes ++ change ∷ []) start.disk told'.disk at x) same_size
                 (is_full disk g text limit first start code state told fits [] change code.store told'.disk failed.1.1.0 at size goes failed.1.1.1 failed.1.1.2)))
                 (full_last disk g text limit first start code state told fits [] change code.store (told_with_stop (stop.Full at size) told') goes (λ none. (let no : ⊥ = cc in no))),
           ),
@@ -201,7 +202,7 @@ module _ {D : Type 0} (disk : DiskMeaning D) where
     }
 
     -- what comes after it
-    pub asked_belongs : (given : Calls) (code' : Engaged) (told' : Told D) → Performs disk.told (keeps_of given) code.store code'.store told.disk told'.disk → GraphStays code code' → IsReady code'.store.journal (disk.size told'.disk)
+    pub asked_belongs : (given : Calls) (code' : Engaged) (told' : Told D) → Performs disk.told (keeps_of given) code.store code'.store told.disk told'.disk → GraphStays code code' → IsReady code'.store.journal (disk.size_of told'.disk)
         → disk.faults told'.disk ≡ disk.faults told.disk → ToolsStay told.tools told'.tools → told'.tree ≡ told.tree → told'.tools.running ≡ [] → told'.over ≡ None
         → SessionInvariant disk g text limit first start code' (next_state state (keeps_of given) told'.tools told'.tree) told'
     asked_belongs given code' told' goes stays ready faults stay tree idle within =
@@ -244,7 +245,7 @@ module _ {D : Type 0} (disk : DiskMeaning D) where
           next_state state (keeps_of given) told'.tools told'.tree,
           may_have_come query given told' (inr failed.came) tree,
           left_by disk g text limit first start code state told fits (told_with_stop stop.Disk told') stay (same_tree told.tree told'.tree tree) (keeps_of given)
-              (subst (λ l. IsSafe text first.held state.changes (state.changes ++ l) (disk.told start.disk) (disk.told told'.disk) (disk.faults start.disk) (disk.faults told'.disk)) (sym list)
+              (subst (λ l. IsSafe disk.told text first.held state.changes (state.changes ++ l) start.disk told'.disk (disk.faults start.disk) (disk.faults told'.disk)) (sym list)
               (safe_failed disk g text limit first start code state told fits (keeps_of failed.given ++ last ∷ []) told'.disk
               (stops_behind disk.told (keeps_of failed.given) (last ∷ []) code.store failed.mid.store told.disk failed.mid.disk told'.disk failed.goes failed.stops) later cause))
               (λ at size some. (let no : ⊥ = cc in absurd no))
@@ -259,14 +260,14 @@ module _ {D : Type 0} (disk : DiskMeaning D) where
           next_state state (keeps_of given) told'.tools told'.tree,
           may_have_come query given told' (inr failed.came) tree,
           left_by disk g text limit first start code state told fits (told_with_stop (stop.Full end size) told') stay (same_tree told.tree told'.tree tree) (keeps_of given)
-              (subst (λ l. IsSafe text first.held state.changes (state.changes ++ l) (disk.told start.disk) (disk.told told'.disk) (disk.faults start.disk) (disk.faults told'.disk)) (sym list)
+              (subst (λ l. IsSafe disk.told text first.held state.changes (state.changes ++ l) start.disk told'.disk (disk.faults start.disk) (disk.faults told'.disk)) (sym list)
               (safe_full disk g text limit first start code state told fits (keeps_of failed.given) last next told'.disk failed.goes cause))
               (λ a s some.
               let same_at : end ≡ a = ap (λ (p : ℕ × ℕ). p.0) (same_some some) in
               let same_size : size ≡ s = ap (λ (p : ℕ × ℕ). p.1) (same_some some) in
-              subst (λ l. HasNoRoomForLast text (state.changes ++ l) (disk.told start.disk) (disk.told told'.disk) a s) (sym list)
-              (subst (λ x. HasNoRoomForLast text (state.changes ++ (keeps_of failed.given ++ last ∷ [])) (disk.told start.disk) (disk.told told'.disk) x s) same_at
-              (subst (λ x. HasNoRoomForLast text (state.changes ++ (keeps_of failed.given ++ last ∷ [])) (disk.told start.disk) (disk.told told'.disk) end x) same_size
+              subst (λ l. HasNoRoomForLast disk.told text (state.changes ++ l) start.disk told'.disk a s) (sym list)
+              (subst (λ x. HasNoRoomForLast disk.told text (state.changes ++ (keeps_of failed.given ++ last ∷ [])) start.disk told'.disk x s) same_at
+              (subst (λ x. HasNoRoomForLast disk.told text (state.changes ++ (keeps_of failed.given ++ last ∷ [])) start.disk told'.disk end x) same_size
               (is_full disk g text limit first start code state told fits (keeps_of failed.given) last next told'.disk failed.items end size failed.goes failed.batch failed.over))))
               (λ quiet. subst (λ l. Lasts disk g text limit first start code state told fits l (told_with_stop (stop.Full end size) told')) (sym list)
               (full_last disk g text limit first start code state told fits (keeps_of failed.given) last next (told_with_stop (stop.Full end size) told') failed.goes (λ none. (let no : ⊥ = cc in no)) quiet)),
@@ -305,7 +306,7 @@ module _ {D : Type 0} (disk : DiskMeaning D) where
       stay : (limit : ℕ) → code.jobs ≡ limit → limit ≤ 64 → ToolsStay tools tools'
       stay limit jobs most = asked_tools tools tools' answer (reply_later code.graph code.store.sources.texts code.store.kept.tables.calls code.jobs query said replied.given tools tools' replied.is) (omega (arith, few, jobs, most))
 
-      pub ask_answers : bytes ≡ reply_text said → GraphStays code code' → IsReady code'.store.journal (disk.size now') → tools'.running ≡ [] → AnswersAsk disk code query tools now bytes code' tools' now'
+      pub ask_answers : bytes ≡ reply_text said → GraphStays code code' → IsReady code'.store.journal (disk.size_of now') → tools'.running ≡ [] → AnswersAsk disk code query tools now bytes code' tools' now'
       ask_answers bytes_are stays ready idle kept sink tree g text limit first start state body same fits =
           let told : Told D = telling sink tools tree now in
           let told' : Told D = telling sink tools' tree now' in

@@ -18,7 +18,7 @@ use Rattle.odin_store.specs.Edited.{HasFailed}
 use Rattle.odin_engine.specs.Engaged.{Engaged, GraphStays}
 use Rattle.odin_answers.specs.Edits.{SaysReply, TreeTold, TreeIsAsked, Puts, Takes, Removes}
 use Rattle.odin_answers.specs.Changes.{source_changes, EditsSource, IsPutText, MayBeTaken, HasFailedToPut}
-use Rattle.odin_shell.specs.Filed.{DiskMeaning}
+use Rattle.odin_outside.specs.declared.disk.Disk.{Ghosts as DiskView}
 use Rattle.odin_shell.specs.Machine.{SessionState, Told, CommandMayLeave}
 use Rattle.odin_shell.specs.Served.{telling, IsOnward, Answers, HaltsCommand, AnswersAsk, HaltsAsk}
 use Rattle.odin_shell.proofs.AnswerLemmas.{same_halts}
@@ -36,15 +36,15 @@ few_changes name (Some old) (Some text) = by (bytes_eq old text)
     by false = omega arith
 
 -- so the epoch rises by one at most
-pub edit_onward : {D : Type 0} (disk : DiskMeaning D) (code code' : Engaged) (now now' : D) (name : Text) (r : Result (List ℕ) JournalFault) → OnOk r (EditsSource disk.told name code.store code'.store now now')
-    → StoreAfter code'.store (disk.size now') r → JournalFaultIsCounted (disk.faults now) (disk.faults now') r → OnOk r (IsOnward disk 1 code code' now now')
+pub edit_onward : {D : Type 0} (disk : DiskView D) (code code' : Engaged) (now now' : D) (name : Text) (r : Result (List ℕ) JournalFault) → OnOk r (EditsSource disk.told name code.store code'.store now now')
+    → StoreAfter code'.store (disk.size_of now') r → JournalFaultIsCounted (disk.faults now) (disk.faults now') r → OnOk r (IsOnward disk 1 code code' now now')
 edit_onward disk code code' now now' name (Ok bytes) edited left cause =
     let few = few_changes name (get code.store.sources.texts name) (get code'.store.sources.texts name) in
     let epoch = edited.epoch in
     record { epoch = omega (arith, few, epoch); ready = left.ready; faults = cause.ok }
 edit_onward disk code code' now now' name (Err e) edited left cause = tt
 
-module _ {D : Type 0} (disk : DiskMeaning D) (code code' : Engaged) (given : Command) (kept : List ℕ) (tools : Spawned) (tree : TreeTold) (now now' : D) where
+module _ {D : Type 0} (disk : DiskView D) (code code' : Engaged) (given : Command) (kept : List ℕ) (tools : Spawned) (tree : TreeTold) (now now' : D) where
   abbrev before : SinkTold → Told D
   before sink = telling sink tools tree now
 
@@ -53,13 +53,13 @@ module _ {D : Type 0} (disk : DiskMeaning D) (code code' : Engaged) (given : Com
   abbrev after : SinkTold → Told D
   after sink = telling sink tools tree now'
 
-  made : (name : Text) (sink : SinkTold) → EditsSource disk.told name code.store code'.store now now' → GraphStays code code' → IsReady code'.store.journal (disk.size now')
+  made : (name : Text) (sink : SinkTold) → EditsSource disk.told name code.store code'.store now now' → GraphStays code code' → IsReady code'.store.journal (disk.size_of now')
       → disk.faults now' ≡ disk.faults now → IsMadeOf disk code code' (before sink) (after sink) name
   made name sink edited stays ready faults = record { edited = edited; stays = stays; ready = ready; faults = faults; tools = refl; within = refl }
 
   pub put_said : (name : Text) (count : ℕ) (text : List ℕ) → given ≡ Put name count → text ≡ kept → (r : Result (List ℕ) JournalFault)
       → IfOk r (λ bytes. SaysReply (λ said. Puts code.store.sources.texts name count text said code'.store.sources.texts) bytes) → OnOk r (EditsSource disk.told name code.store code'.store now now')
-      → GraphStays code code' → StoreAfter code'.store (disk.size now') r → JournalFaultIsCounted (disk.faults now) (disk.faults now') r
+      → GraphStays code code' → StoreAfter code'.store (disk.size_of now') r → JournalFaultIsCounted (disk.faults now) (disk.faults now') r
       → IfOk r (λ reply. (sink : SinkTold) → Answers disk code given kept (before sink) reply code' (after sink))
   put_said name count text is body (Ok bytes) says edited stays left cause = λ sink.
       subst (λ k. Answers disk code k kept (before sink) bytes code' (after sink)) (sym is)
@@ -78,7 +78,7 @@ module _ {D : Type 0} (disk : DiskMeaning D) (code code' : Engaged) (given : Com
 
   pub remove_said : (name : Text) → given ≡ Remove name → (r : Result (List ℕ) JournalFault)
       → IfOk r (λ bytes. SaysReply (λ said. Removes code.store.sources.texts name said code'.store.sources.texts) bytes) → OnOk r (EditsSource disk.told name code.store code'.store now now')
-      → GraphStays code code' → StoreAfter code'.store (disk.size now') r → JournalFaultIsCounted (disk.faults now) (disk.faults now') r
+      → GraphStays code code' → StoreAfter code'.store (disk.size_of now') r → JournalFaultIsCounted (disk.faults now) (disk.faults now') r
       → IfOk r (λ reply. (sink : SinkTold) → Answers disk code given kept (before sink) reply code' (after sink))
   remove_said name is (Ok bytes) says edited stays left cause = λ sink.
       subst (λ k. Answers disk code k kept (before sink) bytes code' (after sink)) (sym is)
@@ -99,7 +99,7 @@ module _ {D : Type 0} (disk : DiskMeaning D) (code code' : Engaged) (given : Com
     behind sink = telling sink tools tree' now'
 
     pub take_said : (r : Result (List ℕ) JournalFault) → IfOk r (λ bytes. SaysReply (λ said. Takes code.store.sources.texts name tree said code'.store.sources.texts tree') bytes)
-        → OnOk r (EditsSource disk.told name code.store code'.store now now') → GraphStays code code' → StoreAfter code'.store (disk.size now') r → JournalFaultIsCounted (disk.faults now) (disk.faults now') r
+        → OnOk r (EditsSource disk.told name code.store code'.store now now') → GraphStays code code' → StoreAfter code'.store (disk.size_of now') r → JournalFaultIsCounted (disk.faults now) (disk.faults now') r
         → IfOk r (λ reply. (sink : SinkTold) → Answers disk code given kept (before sink) reply code' (behind sink))
     take_said (Ok bytes) says edited stays left cause = λ sink.
         subst (λ k. Answers disk code k kept (before sink) bytes code' (behind sink)) (sym is)
@@ -133,7 +133,7 @@ module _ {D : Type 0} (disk : DiskMeaning D) (code code' : Engaged) (given : Com
 
 -- ---- commands that change nothing
 
-module _ {D : Type 0} (disk : DiskMeaning D) (code : Engaged) (given is_given : Command) (kept : List ℕ) (tools : Spawned) (tree : TreeTold) (now : D) (is : given ≡ is_given) where
+module _ {D : Type 0} (disk : DiskView D) (code : Engaged) (given is_given : Command) (kept : List ℕ) (tools : Spawned) (tree : TreeTold) (now : D) (is : given ≡ is_given) where
   pub shown : (bytes : List ℕ) → ((told : Told D) → Answers disk code is_given kept told bytes code told) → (sink : SinkTold) → Answers disk code given kept (telling sink tools tree now) bytes code (telling sink tools tree now)
   shown bytes answers sink = subst (λ k. Answers disk code k kept (telling sink tools tree now) bytes code (telling sink tools tree now)) (sym is) (answers (telling sink tools tree now))
 

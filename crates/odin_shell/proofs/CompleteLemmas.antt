@@ -17,9 +17,9 @@ use Rattle.odin_shell.specs.declared.ending.Ending.{Ending}
 use Rattle.odin_shell.specs.declared.ending.Ending.TheVariants.{Whole, CutShort, BadGraph, Disk, Memory, Output, Input, NotOurs, Full, Usage, TooLong, Loaded, Room}
 use Rattle.odin_shell.specs.declared.graph.Opened.TheVariants.{Ready, Refused}
 use Rattle.odin_shell.specs.Endings.{ending_status}
-use Rattle.odin_shell.specs.Filed.{DiskMeaning}
+use Rattle.odin_outside.specs.declared.disk.Disk.{Ghosts as DiskView}
 use Rattle.odin_shell.specs.Laws.{NoFault}
-use Rattle.odin_shell.specs.Objects.{SourceTold, Outside, Meaning}
+use Rattle.odin_shell.specs.Objects.{SourceTold, Outside, Views}
 use Rattle.odin_shell.specs.Machine.{Told}
 use Rattle.odin_shell.specs.Opened.{GraphIsRefused}
 use Rattle.odin_shell.specs.Run as run
@@ -43,7 +43,7 @@ full_ends : (at size : ℕ) (before now : SinkTold) (ending : Ending) → Closes
 full_ends at size before now ending (inl line) = at_end _ _ before now ending CanEnd line tt tt
 full_ends at size before now ending (inr memory) = subst CanEnd (sym memory.1) tt
 
-session_ends : {D : Type 0} (disk : DiskMeaning D) (g : Graph) (text : Text) (limit : ℕ) (input left : SourceTold) (start now : Told D) (before after : SinkTold) (due ending : Ending)
+session_ends : {D : Type 0} (disk : DiskView D) (g : Graph) (text : Text) (limit : ℕ) (input left : SourceTold) (start now : Told D) (before after : SinkTold) (due ending : Ending)
     → SessionEnds disk g text limit input left start now due → Closes due before after ending → CanEnd ending
 session_ends disk g text limit input left start now before after Whole ending ends closes = subst CanEnd (sym closes.1) tt
 session_ends disk g text limit input left start now before after CutShort ending ends closes = subst CanEnd (sym closes.1) tt
@@ -59,7 +59,7 @@ session_ends disk g text limit input left start now before after TooLong ending 
 session_ends disk g text limit input left start now before after Loaded ending ends closes = absurd ends.leaves
 session_ends disk g text limit input left start now before after Room ending ends closes = absurd ends.leaves
 
-module _ {I O T S D : Type 0} (m : Meaning I O T S D) (words : List Text) (before after : Outside I O T S D) (can : IsServable m words before after) where
+module _ {I O T S D : Type 0} (m : Views I O T S D) (words : List Text) (before after : Outside I O T S D) (can : IsServable m words before after) where
   -- ---- by how it ended
 
   module _ (one : AskedIsOne) (stands : StandsForOne) where
@@ -106,12 +106,12 @@ module _ {I O T S D : Type 0} (m : Meaning I O T S D) (words : List Text) (befor
   abbrev Comes : ℕ → Type 0
   Comes status = (status ≡ 0) ⊎ ((status ≡ 4) ⊎ (status ≡ 8))
 
-  allowed : (ending : Ending) → IfSome (m.left before.input) (AllowedBy ending) → AllowedBy ending can.input
+  allowed : (ending : Ending) → IfSome (m.source.left before.input) (AllowedBy ending) → AllowedBy ending can.input
   allowed ending exact = subst (λ i. IfSome i (AllowedBy ending)) can.left exact
 
-  module _ (opened : TreeTold) (input : NoFault (m.input_faults before.input) (m.input_faults after.input)) (output : NoFault (m.output_faults before.output) (m.output_faults after.output))
-      (disk : NoFault (m.disk.faults before.disk) (m.disk.faults after.disk)) (tree : NoFault (m.tree_faults before.tree) opened.faults) where
-    comes : (ending : Ending) → CanEnd ending → IfSome (m.left before.input) (AllowedBy ending) → OutputCount ending (m.output_faults before.output) (m.output_faults after.output)
+  module _ (opened : TreeTold) (input : NoFault (m.source.faults before.input) (m.source.faults after.input)) (output : NoFault (m.sink.faults before.output) (m.sink.faults after.output))
+      (disk : NoFault (m.disk.faults before.disk) (m.disk.faults after.disk)) (tree : NoFault (m.tree.faults before.tree) opened.faults) where
+    comes : (ending : Ending) → CanEnd ending → IfSome (m.source.left before.input) (AllowedBy ending) → OutputCount ending (m.sink.faults before.output) (m.sink.faults after.output)
         → run.ReadCounts m words before after opened ending → DiskCount ending (m.disk.faults before.disk) (m.disk.faults after.disk) → Comes (ending_status ending)
     comes Whole may exact written read kept = inl refl
     comes CutShort may exact written read kept = absurd (can.whole (allowed CutShort exact).1)
@@ -133,7 +133,7 @@ module _ {I O T S D : Type 0} (m : Meaning I O T S D) (words : List Text) (befor
     comes Loaded may exact written read kept = absurd may
     comes Room may exact written read kept = absurd may
 
-pub runs_complete : AskedIsOne → StandsForOne → {I O T S D : Type 0} (m : Meaning I O T S D) → RunsComplete m
+pub runs_complete : AskedIsOne → StandsForOne → {I O T S D : Type 0} (m : Views I O T S D) → RunsComplete m
 runs_complete one stands m words before after can status ends none =
     subst (λ n. (n ≡ 0) ⊎ ((n ≡ 4) ⊎ (n ≡ 8))) (sym ends.status_is)
     (comes m words before after can ends.ended.opened none.input none.output none.disk none.tree ends.ending (how_ends m words before after can one stands ends.ended.opened ends.ending ends.ended.how) ends.exact ends.output

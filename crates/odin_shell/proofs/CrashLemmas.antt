@@ -28,7 +28,7 @@ use Rattle.kept_derive.specs.Runs.{keeps_of, course_of}
 use Rattle.odin_answers.specs.Answers.{Agrees, IsReply, MayHaveBegun}
 use Rattle.odin_answers.specs.Laws.{IsTrueFor}
 use Rattle.odin_answers.proofs.Lemmas.{kept_first, kept_by_either}
-use Rattle.odin_shell.specs.Filed.{DiskMeaning}
+use Rattle.odin_outside.specs.declared.disk.Disk.{Ghosts as DiskView}
 use Rattle.odin_shell.specs.Language.{commands}
 use Rattle.odin_shell.specs.Machine.{SessionState, Told, Applies, Step, CommandMayLeave, StateAtExit}
 use Rattle.odin_shell.specs.Laws.{ChangesAreMade}
@@ -241,7 +241,7 @@ module _ (g : Graph) (limit : ℕ) (first : SessionState) (items : List Item) (f
     right = λ table right call o e. (let kept_true = come_true g limit table first items furthest right comes in kept_true.gives call o (kept_furthest some.k call o e));
   }
 
-pub images_hold_ours : {D : Type 0} (disk : DiskMeaning D) (g : Graph) (limit : ℕ) (text : Text) (first : SessionState) (items : List Item) (start : Told D) (acknowledged furthest : SessionState) (now : Told D)
+pub images_hold_ours : {D : Type 0} (disk : DiskView D) (g : Graph) (limit : ℕ) (text : Text) (first : SessionState) (items : List Item) (start : Told D) (acknowledged furthest : SessionState) (now : Told D)
     → first.changes ≡ [] → IsQuiet (disk.told start.disk) → SessionComesTo g limit first items furthest → StateAtExit disk g text limit first start acknowledged furthest now → LeavesOurs disk g limit first items start acknowledged furthest now
 images_hold_ours disk g limit text first items start acknowledged furthest now none quiet comes left =
     let safe = left.safe.crash quiet in

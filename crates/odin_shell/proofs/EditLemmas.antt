@@ -16,7 +16,7 @@ use Rattle.odin_store.specs.Edited.{HasFailed}
 use Rattle.odin_engine.specs.Engaged.{Engaged, GraphStays}
 use Rattle.odin_answers.specs.Edits.{SaysReply, TreeTold, TreeIsAsked, Puts, Takes, Removes}
 use Rattle.odin_answers.specs.Changes.{edit_changes, EditsSource, IsPutText, MayBeTaken, HasFailedToPut}
-use Rattle.odin_shell.specs.Filed.{DiskMeaning}
+use Rattle.odin_outside.specs.declared.disk.Disk.{Ghosts as DiskView}
 use Rattle.odin_shell.specs.Language.{commands}
 use Rattle.odin_shell.specs.Endings.{stop_of}
 use Rattle.odin_shell.specs.Machine.{Told, IsPutChange, IsTakeChange, told_with_stop}
@@ -30,12 +30,12 @@ put_any old name count body kept said new same (inl is) =
     inl (record { fits = is.fits; is = is.is; put = subst (λ (b : Text). new ≡ insert old name b) (sym (same (le-leb count body_limit is.fits))) is.put })
 put_any old name count body kept said new same (inr is) = inr is
 
-module _ {D : Type 0} (disk : DiskMeaning D) (code code' : Engaged) (told told' : Told D) where
+module _ {D : Type 0} (disk : DiskView D) (code code' : Engaged) (told told' : Told D) where
   -- a call of the store that was made
   pub record IsMadeOf (name : Text) : Type 0 where
     pub edited : EditsSource disk.told name code.store code'.store told.disk told'.disk
     pub stays : GraphStays code code'
-    pub ready : IsReady code'.store.journal (disk.size told'.disk)
+    pub ready : IsReady code'.store.journal (disk.size_of told'.disk)
     pub faults : disk.faults told'.disk ≡ disk.faults told.disk
     pub tools : told'.tools ≡ told.tools
     pub within : told'.over ≡ None

@@ -16,7 +16,7 @@ use Rattle.odin_shell.specs.declared.session.Finish.TheVariants as finish
 use Rattle.odin_shell.specs.declared.session.Session.{Session}
 use Rattle.odin_shell.specs.declared.stop.Stop.{Stop}
 use Rattle.odin_shell.specs.Endings.{ending_of}
-use Rattle.odin_shell.specs.Filed.{DiskMeaning}
+use Rattle.odin_outside.specs.declared.disk.Disk.{Ghosts as DiskView}
 use Rattle.odin_shell.specs.Held.{Keeps}
 use Rattle.odin_shell.specs.Language.{commands}
 use Rattle.odin_shell.specs.Machine.{SessionState, at_first, Told, machine as machine_of, halt_of, told_with_stop}
@@ -29,7 +29,7 @@ use Rattle.odin_shell.proofs.StateLemmas.{rests}
 use Rattle.odin_shell.proofs.ServeLemmas.{onward_none, onward_on}
 use Rattle.odin_shell.proofs.SessionLemmas.{reads_none, stopped_leaves, stopped_input, stopped_disk}
 
-module _ {D : Type 0} (disk : DiskMeaning D) where
+module _ {D : Type 0} (disk : DiskView D) where
   abbrev machine : Graph → Text → ℕ → Machine Command Engaged SessionState (Told D)
   machine = machine_of disk
 
@@ -39,7 +39,7 @@ module _ {D : Type 0} (disk : DiskMeaning D) where
     pub onward : IsOnward disk count code session.engine before.disk now.disk
     pub idle : now.tools.running ≡ []
 
-  pub none_read : (code : Engaged) (before : Told D) (left : Option (List ℕ)) (session : Session) → MayBeginSession code (disk.size before.disk) before.tools → session.engine ≡ code → Keeps session.cutter [] → IsAt code before left left 0 before session
+  pub none_read : (code : Engaged) (before : Told D) (left : Option (List ℕ)) (session : Session) → MayBeginSession code (disk.size_of before.disk) before.tools → session.engine ≡ code → Keeps session.cutter [] → IsAt code before left left 0 before session
   none_read code before left session may same keeps = record {
     reads = λ g text limit held start begins.
         subst (λ (e : Engaged). streams.Reading commands Keeps (machine g text limit) (at_first held start.tools start.tree) start left left 0 before e session.cutter) (sym same)
@@ -63,8 +63,8 @@ module _ {D : Type 0} (disk : DiskMeaning D) where
     }
 
     -- so many commands may be served more
-    pub may_serve : (input left : Option (List ℕ)) (count n : ℕ) (now : Told D) (session : Session) → MayBeginSession code (disk.size before.disk) before.tools → count + n ≤ input_limit → IsAt code before input left count now session
-        → MayServe n session.engine (disk.size now.disk) now.tools
+    pub may_serve : (input left : Option (List ℕ)) (count n : ℕ) (now : Told D) (session : Session) → MayBeginSession code (disk.size_of before.disk) before.tools → count + n ≤ input_limit → IsAt code before input left count now session
+        → MayServe n session.engine (disk.size_of now.disk) now.tools
     may_serve input left count n now session may few at =
         let first = may.first in
         let epoch = at.onward.epoch in

@@ -34,7 +34,7 @@ use Rattle.kept_derive.specs.Runs.{keeps_of, course_of}
 use Rattle.odin_answers.specs.Answers.{Agrees, HasAnswer, IsReply}
 use Rattle.odin_answers.specs.Laws.{AskedAgain}
 use Rattle.odin_answers.proofs.Lemmas.{kept_first}
-use Rattle.odin_shell.specs.Filed.{DiskMeaning}
+use Rattle.odin_outside.specs.declared.disk.Disk.{Ghosts as DiskView}
 use Rattle.odin_shell.specs.Language.{commands}
 use Rattle.odin_shell.specs.Machine.{SessionState, Told, Step, StateAtExit}
 use Rattle.odin_shell.specs.Laws.{ChangesAreMade}
@@ -262,7 +262,7 @@ module _ (again : AskedAgain) (g : Graph) (limit : ℕ) (text : Text) (reply : R
         a.answer (agrees some.k some.at_least) is;
   }
 
-pub survives : AskedAgain → {D : Type 0} (disk : DiskMeaning D) (g : Graph) (graph_text : Text) (limit : ℕ) (first : SessionState) (start : Told D) (acknowledged furthest : SessionState) (now : Told D)
+pub survives : AskedAgain → {D : Type 0} (disk : DiskView D) (g : Graph) (graph_text : Text) (limit : ℕ) (first : SessionState) (start : Told D) (acknowledged furthest : SessionState) (now : Told D)
     → first.changes ≡ [] → IsQuiet (disk.told start.disk) → GoesBeyond g limit acknowledged furthest → StateAtExit disk g graph_text limit first start acknowledged furthest now
     → (text : Text) (reply : Reply) → (a : IsAcknowledged g limit text reply first acknowledged) → (image : List ℕ) → MayBeLeft (disk.told now.disk) image → StaysAnswered g text a.old.held.sources image
 survives again disk g graph_text limit first start acknowledged furthest now none quiet beyond left text reply a image may =

@@ -1,68 +1,109 @@
 -- The store is opened, and the session over it begins, or the run ends before it.
-use Rattle.std.proofs.Common.{◌≡◌, ℕ, ◌+◌, ◌*◌, List, [], ◌++◌, length, Some, None, ap, sym, refl, ◌∙◌, subst}
-use Rattle.odin_outside.specs.Disk.{Telling}
+use Rattle.std.proofs.Common.{◌≡◌, ℕ, ◌+◌, ◌*◌, List, [], ◌++◌, length, Some, None, IsTrue, ap, sym, refl, ◌∙◌, subst, arith}
+use Rattle.odin_outside.specs.Disk.{Telling, IsQuiet, MayLeave}
 use Rattle.odin_outside.specs.Spawned.{Spawned}
-use Rattle.odin_journal.specs.Trails.{Trail}
-use Rattle.meaning_graph.specs.Graphs.{Text, Graph}
 use Rattle.odin_journal.specs.Moments.{Works}
-use Rattle.meaning_records.specs.Stands.{gate_behind}
-use Rattle.odin_store.specs.Held.{StandsFor}
-use Rattle.odin_store.specs.Keeping.{KeepsChanges}
+use Rattle.odin_journal.specs.Rewrites.{copy_size}
+use Rattle.odin_journal.specs.Trails.{Trail}
+use Rattle.odin_journal.specs.WorkLemmas.{more_work, add_work}
+use Rattle.meaning_graph.specs.Graphs.{Text, Graph}
+use Rattle.odin_store.specs.declared.store.Store.{Store}
+use Rattle.odin_store.specs.Compacting.{CompactionsKeep}
+use Rattle.odin_store.specs.Held.{Held, StandsFor}
+use Rattle.odin_store.specs.Keeping.{KeepsChanges, store_keeping}
 use Rattle.odin_store.specs.OnDisk.{held_in, state_in, IsOn}
-use Rattle.odin_store.specs.Opening.{OpensStore, OpensQuietStore, LeavesOpening}
-use Rattle.odin_store.specs.Written.{written_in, with_records, record_keeping}
+use Rattle.odin_store.specs.Written.{written_in, record_keeping}
 use Rattle.odin_store.specs.Going.{AreBatches}
-use Rattle.odin_store.proofs.Lemmas.{nothing_behind}
+use Rattle.odin_store.proofs.Lemmas.{goes_none, nothing_behind, nothing_first, same_held, same_on}
 use Rattle.odin_engine.specs.Engaged.{Engaged, IsLimit}
-use Rattle.odin_engine.specs.Opened.{EngineIsNew}
+use Rattle.odin_engine.specs.Opened.{EngineIsNew, Settles, OpensEngine, OpensQuietEngine, settled_records, settled_bytes, settled_calls}
 use Rattle.odin_shell.specs.declared.ending.Ending.{Ending}
-use Rattle.odin_shell.specs.Filed.{DiskMeaning, HasWritten}
+use Rattle.odin_outside.specs.declared.disk.Disk.{Ghosts as DiskView}
+use Rattle.odin_shell.specs.Filed.{OpensFile, WorksOver, HasWritten}
 use Rattle.odin_shell.specs.Machine.{Told}
 use Rattle.odin_shell.specs.Begun.{SessionBegins, SessionServes}
 use Rattle.odin_shell.specs.Objects.{SourceTold}
 use Rattle.odin_shell.specs.Run.{DiskCount, SessionEnds}
 use Rattle.odin_shell.proofs.StateLemmas.{same_tools, same_tree, idle_few}
 
+-- ---- what follows on the opening of a store
+
+module _ {D : Type 0} (told : D → Telling) (text : Text) (old mid new : D) (first store : Store) where
+  -- the store rests on the records that the file has then
+  settled_on : (records : List (List ℕ)) → IsOn (told mid) first records (Some text) → (settles : Settles told first store mid new) → IsOn (told new) store (settled_records settles records) (Some text)
+  settled_on records on (Settles.let_be sparing same) = subst (λ d. IsOn (told d) store records (Some text)) (sym same.disk_is) (same_on (told mid) first store records (Some text) same.store_is on)
+  settled_on records on (Settles.no_room wasteful full same) = subst (λ d. IsOn (told d) store records (Some text)) (sym same.disk_is) (same_on (told mid) first store records (Some text) same.store_is on)
+  settled_on records on (Settles.compacted wasteful compacts leaves) = compacts.on records (Some text) on
+
+  -- it holds what it held
+  settled_holds : Settles told first store mid new → held_in store ≡ held_in first
+  settled_holds (Settles.let_be sparing same) = same_held first store same.store_is
+  settled_holds (Settles.no_room wasteful full same) = same_held first store same.store_is
+  settled_holds (Settles.compacted wasteful compacts leaves) = compacts.holds
+
+  -- what was held goes on
+  settled_trail : CompactionsKeep told → (held : Held) → Trail store_keeping held (told old) [] first (told mid) → Settles told first store mid new → Trail store_keeping held (told old) [] store (told new)
+  settled_trail compactions held trail (Settles.let_be sparing same) = (goes_none told first store mid new same).grows held old [] trail
+  settled_trail compactions held trail (Settles.no_room wasteful full same) = (goes_none told first store mid new same).grows held old [] trail
+  settled_trail compactions held trail (Settles.compacted wasteful compacts leaves) = compactions.goes first store mid new compacts leaves held old [] trail
+
+  -- the work of it
+  settled_works : (calls : ℕ) (opening : List (List ℕ)) → Works (66 + written_in opening) (16 + calls + 4 * length opening) (told old) (told mid) → (settles : Settles told first store mid new)
+      → Works (66 + settled_bytes settles + written_in opening) (16 + settled_calls settles + calls + 4 * length opening) (told old) (told new)
+  settled_works calls opening works (Settles.let_be sparing same) =
+      subst (λ d. Works (66 + 0 + written_in opening) (16 + 0 + calls + 4 * length opening) (told old) (told d)) (sym same.disk_is)
+      (more_work (66 + written_in opening) (16 + calls + 4 * length opening) (66 + 0 + written_in opening) (16 + 0 + calls + 4 * length opening) (told old).work (told mid).work (omega arith) (omega arith) works)
+  settled_works calls opening works (Settles.no_room wasteful full same) =
+      subst (λ d. Works (66 + 0 + written_in opening) (16 + 0 + calls + 4 * length opening) (told old) (told d)) (sym same.disk_is)
+      (more_work (66 + written_in opening) (16 + calls + 4 * length opening) (66 + 0 + written_in opening) (16 + 0 + calls + 4 * length opening) (told old).work (told mid).work (omega arith) (omega arith) works)
+  settled_works calls opening works (Settles.compacted wasteful compacts leaves) =
+      let copy = copy_size compacts.records + 9 in
+      more_work (66 + written_in opening + copy) (16 + calls + 4 * length opening + 8) (66 + copy + written_in opening) (16 + 8 + calls + 4 * length opening) (told old).work (told new).work (omega arith) (omega arith)
+      (add_work (66 + written_in opening) (16 + calls + 4 * length opening) copy 8 (told old).work (told mid).work (told new).work works compacts.works)
+
 -- ---- what the file has after the opening
 
-module _ (text : Text) (old new : Telling) (engine : Engaged) (opens : OpensStore text old new engine.store) where
-  pub written_first : Trail record_keeping opens.records old opens.opening engine.store new → HasWritten text [] old engine.store new
-  written_first trail =
-      let all : opens.opening ≡ opens.opening ++ [] = sym (nothing_behind opens.opening) in
+module _ {D : Type 0} (told : D → Telling) (text : Text) (old new : D) (store : Store) (goes : OpensEngine told text old new store) where
+  written_first : ((image : List ℕ) → IsTrue (told new).follows → (told new).left_since (told new).moment image → MayLeave (told new) image) → HasWritten told text [] old store new
+  written_first only_now =
+      let opens = goes.opens in
+      let settles = goes.settles in
+      let over : OpensFile told text old = record { opened = new; store = store; goes = goes } in
+      let base = settled_records settles (opens.records ++ opens.opening) in
+      let on : IsOn (told new) store base (Some text) = settled_on told text old goes.mid new goes.first store (opens.records ++ opens.opening) opens.on settles in
+      let none : List (List ℕ) = [] in
+      let works : Works (66 + settled_bytes settles + written_in opens.opening) (16 + settled_calls settles + 2 * length opens.records + 4 * length opens.opening) (told old) (told new) =
+      settled_works told text old goes.mid new goes.first store (2 * length opens.records) opens.opening opens.works settles in
       record {
-        over = record {
-          records = opens.records;
-          stored = opens.stored;
-          first = opens.state;
-          read = opens.read;
-          opening = opens.opening;
-          opens = opens.opens;
-          opened = state_in engine.store (Some text);
-          reads = opens.on.read;
-        };
+        over = over;
         payloads = [];
         are = AreBatches.no_batches;
-        on = subst (λ r. IsOn new engine.store r (Some text)) (sym (nothing_behind (opens.records ++ opens.opening))) opens.on;
-        made = opens.made;
-        is_made = opens.is_made;
-        gate = opens.gate;
-        whole = opens.whole;
-        end = subst (λ l. engine.store.journal.end ≡ gate_behind opens.gate l) all opens.end;
-        bytes = subst (λ l. new.seen ≡ with_records opens.gate l opens.made) all opens.bytes;
-        trail = subst (λ l. Trail record_keeping opens.records old l engine.store new) all trail;
-        works = subst (λ (l : List (List ℕ)). Works (66 + written_in l) (16 + 2 * length opens.records + 4 * length l) old new) all opens.works;
+        on = subst (λ r. IsOn (told new) store r (Some text)) (sym (nothing_behind base)) on;
+        end = refl;
+        bytes = refl;
+        trail = record { rests = on.rests; crash = nothing_first store (told new) only_now base on.rests };
+        works = subst (λ (l : List (List ℕ)). Works (66 + settled_bytes settles + written_in l) (16 + settled_calls settles + 2 * length opens.records + 4 * length l) (told old) (told new))
+            (sym (nothing_behind opens.opening)) works;
       }
 
-  pub stood_for : StandsFor (held_in engine.store) old.seen
-  stood_for = (opens.state, record { records = opens.records; stored = opens.stored; read = opens.read }, sym opens.holds)
+  stood_for : StandsFor (held_in store) (told old).seen
+  stood_for =
+      let opens = goes.opens in
+      (opens.state, record { records = opens.records; stored = opens.stored; read = opens.read }, sym opens.holds ∙ sym (settled_holds told text old goes.mid new goes.first store goes.settles))
+
+  first_trail : KeepsChanges told → CompactionsKeep told → IsQuiet (told old) → Trail store_keeping (held_in store) (told old) [] store (told new)
+  first_trail keeping compactions quiet =
+      subst (λ h. Trail store_keeping h (told old) [] store (told new)) (sym (settled_holds told text old goes.mid new goes.first store goes.settles))
+      (settled_trail told text old goes.mid new goes.first store compactions (held_in goes.first) (keeping.opens text goes.first old goes.mid quiet goes.opens goes.crash) goes.settles)
 
 -- ---- the session
 
-module _ {D : Type 0} (disk : DiskMeaning D) (keeping : KeepsChanges disk.told) (g : Graph) (text : Text) (limit : ℕ) (engine : Engaged) (start before : Told D) where
-  pub begins : IsLimit limit → start.tools.running ≡ [] → before.sink ≡ start.sink → before.tools ≡ start.tools → before.tree ≡ start.tree → before.over ≡ None → OpensQuietStore text (disk.told start.disk) (disk.told before.disk) engine.store
-      → LeavesOpening text (disk.told start.disk) (disk.told before.disk) → EngineIsNew g limit (disk.size before.disk) engine → disk.faults before.disk ≡ disk.faults start.disk
+module _ {D : Type 0} (disk : DiskView D) (keeping : KeepsChanges disk.told) (compactions : CompactionsKeep disk.told) (g : Graph) (text : Text) (limit : ℕ) (engine : Engaged) (start before : Told D) where
+  pub begins : IsLimit limit → start.tools.running ≡ [] → before.sink ≡ start.sink → before.tools ≡ start.tools → before.tree ≡ start.tree → before.over ≡ None → OpensQuietEngine disk.told text start.disk before.disk engine.store
+      → ((image : List ℕ) → IsTrue (disk.told before.disk).follows → (disk.told before.disk).left_since (disk.told before.disk).moment image → MayLeave (disk.told before.disk) image)
+      → EngineIsNew g limit (disk.size_of before.disk) engine → disk.faults before.disk ≡ disk.faults start.disk
       → SessionBegins disk g text limit (held_in engine.store) start engine before
-  begins most idle sink tools tree within opens leaves new faults = record {
+  begins most idle sink tools tree within opens only_now new faults = record {
     sink = sink;
     fits = record {
       graph = new.graph_is;
@@ -76,17 +117,17 @@ module _ {D : Type 0} (disk : DiskMeaning D) (keeping : KeepsChanges disk.told) 
       idle = ap (λ (t : Spawned). t.running) tools ∙ idle;
       ready = new.ready;
       faults = faults;
-      trail = λ quiet. keeping.opens text engine.store start.disk before.disk quiet (opens quiet) leaves;
-      written = λ quiet. written_first text (disk.told start.disk) (disk.told before.disk) engine (opens quiet) (keeping.records text engine.store start.disk before.disk quiet (opens quiet) leaves);
+      trail = λ quiet. first_trail disk.told text start.disk before.disk engine.store (opens quiet) keeping compactions quiet;
+      written = λ quiet. written_first disk.told text start.disk before.disk engine.store (opens quiet) only_now;
       within = within;
     };
   }
 
-  pub session_ends : (input left : SourceTold) (after : Told D) (due : Ending) → OpensQuietStore text (disk.told start.disk) (disk.told before.disk) engine.store → SessionBegins disk g text limit (held_in engine.store) start engine before
+  pub session_ends : (input left : SourceTold) (after : Told D) (due : Ending) → OpensQuietEngine disk.told text start.disk before.disk engine.store → SessionBegins disk g text limit (held_in engine.store) start engine before
       → disk.faults before.disk ≡ disk.faults start.disk → SessionServes disk engine input left before after due → SessionEnds disk g text limit input left start after due
   session_ends input left after due opens begins faults served = record {
     held = held_in engine.store;
-    starts = λ quiet. stood_for text (disk.told start.disk) (disk.told before.disk) engine (opens quiet);
+    starts = λ quiet. stood_for disk.told text start.disk before.disk engine.store (opens quiet);
     leaves = served.leaves g text limit (held_in engine.store) start begins;
     read = served.read;
     counted = subst (λ n. DiskCount due n (disk.faults after.disk)) faults served.counted;

@@ -14,7 +14,7 @@ use Rattle.odin_shell.specs.declared.whole.Whole.{Whole}
 use Rattle.odin_shell.specs.declared.stop.Stop.{Stop}
 use Rattle.odin_shell.specs.declared.stop.Stop.TheVariants as stop
 use Rattle.odin_shell.specs.Endings.{stop_of}
-use Rattle.odin_shell.specs.Filed.{DiskMeaning}
+use Rattle.odin_outside.specs.declared.disk.Disk.{Ghosts as DiskView}
 use Rattle.odin_shell.specs.Machine.{SessionState, Told, SessionInvariant, StateAtExit}
 use Rattle.odin_shell.specs.Served.{telling, MayServe, IsOnward, CountsStop, Answers, HaltsCommand}
 use Rattle.odin_shell.specs.Sessions.{ServesInSession, StopsServingInSession}
@@ -22,8 +22,8 @@ use Rattle.odin_shell.proofs.StateLemmas.{rests}
 
 -- ---- how many edits were made
 
-module _ {D : Type 0} (disk : DiskMeaning D) where
-  pub onward_none : (most : ℕ) (code : Engaged) (now : D) → IsReady code.store.journal (disk.size now) → IsOnward disk most code code now now
+module _ {D : Type 0} (disk : DiskView D) where
+  pub onward_none : (most : ℕ) (code : Engaged) (now : D) → IsReady code.store.journal (disk.size_of now) → IsOnward disk most code code now now
   onward_none most code now ready = record { epoch = omega arith; ready = ready; faults = refl }
 
   pub onward_on : (most more : ℕ) (code code' code'' : Engaged) (now now' now'' : D) → IsOnward disk most code code' now now' → IsOnward disk more code' code'' now' now'' → IsOnward disk (most + more) code code'' now now''
@@ -46,8 +46,8 @@ module _ {D : Type 0} (disk : DiskMeaning D) where
   onward_as most all code code' now now' same onward = subst (λ n. IsOnward disk n code code' now now') same onward
 
   -- of so many commands one more may be served after some of them
-  pub may_go_on : (all : ℕ) (most : ℕ) (code code' : Engaged) (now now' : D) (tools tools' : Spawned) → most + 1 ≤ all → MayServe all code (disk.size now) tools → IsOnward disk most code code' now now' → tools'.running ≡ []
-      → MayServe 1 code' (disk.size now') tools'
+  pub may_go_on : (all : ℕ) (most : ℕ) (code code' : Engaged) (now now' : D) (tools tools' : Spawned) → most + 1 ≤ all → MayServe all code (disk.size_of now) tools → IsOnward disk most code code' now now' → tools'.running ≡ []
+      → MayServe 1 code' (disk.size_of now') tools'
   may_go_on all most code code' now now' tools tools' within may onward idle =
       let early = may.early in
       let one = onward.epoch in
@@ -63,7 +63,7 @@ counts_of fault.Memory before now later cause = cause
 pub counted_behind : (s : Stop) (first mid last : ℕ) → mid ≡ first → CountsStop s mid last → CountsStop s first last
 counted_behind s first mid last same counted = subst (λ n. CountsStop s n last) same counted
 
-module _ {D : Type 0} (disk : DiskMeaning D) where
+module _ {D : Type 0} (disk : DiskView D) where
   -- what the sink took is no part of it
   module _ (g : Graph) (text : Text) (limit : ℕ) (first : SessionState) (start : Told D) (s s' : SinkTold) (tools : Spawned) (tree : TreeTold) (d : D) where
     on_sink : (code : Engaged) (state : SessionState) → SessionInvariant disk g text limit first start code state (telling s tools tree d) → SessionInvariant disk g text limit first start code state (telling s' tools tree d)

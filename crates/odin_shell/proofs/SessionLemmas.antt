@@ -25,7 +25,7 @@ use Rattle.odin_shell.specs.Endings.{ending_of}
 use Rattle.odin_shell.specs.Objects.{SourceTold}
 use Rattle.odin_store.specs.Held.{Held}
 use Rattle.odin_engine.specs.Engaged.{Engaged}
-use Rattle.odin_shell.specs.Filed.{DiskMeaning}
+use Rattle.odin_outside.specs.declared.disk.Disk.{Ghosts as DiskView}
 use Rattle.odin_shell.specs.Machine.{SessionState, at_first, Told, machine as machine_of, halt_of, told_with_stop}
 use Rattle.odin_shell.specs.Sessions.{HoldsAtRest, HoldsAtHalt, ServesInSession, StopsServingInSession}
 use Rattle.odin_shell.specs.Run.{SessionLeaves, InputCount, DiskCount}
@@ -36,7 +36,7 @@ use Rattle.odin_shell.proofs.StateLemmas.{rests}
 some_taken : (piece : List ℕ) (n : ℕ) → 0 < n → n ≤ length piece → 0 < length (take n piece)
 some_taken piece n some within = let size = length-take-le n piece within in omega arith
 
-module _ {D : Type 0} (disk : DiskMeaning D) where
+module _ {D : Type 0} (disk : DiskView D) where
   abbrev machine : Graph → Text → ℕ → Machine Command Engaged SessionState (Told D)
   machine = machine_of disk
 

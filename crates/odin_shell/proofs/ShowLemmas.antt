@@ -13,7 +13,7 @@ use Rattle.odin_answers.specs.Planned.{HasSteps, IsPlanned}
 use Rattle.odin_store.specs.Held.{Held}
 use Rattle.odin_engine.specs.Engaged.{Engaged}
 use Rattle.odin_answers.specs.Edits.{SaysReply, source_lines}
-use Rattle.odin_shell.specs.Filed.{DiskMeaning}
+use Rattle.odin_outside.specs.declared.disk.Disk.{Ghosts as DiskView}
 use Rattle.odin_shell.specs.Machine.{Told}
 use Rattle.odin_shell.specs.Served.{Answers}
 use Rattle.odin_shell.proofs.AnswerLemmas.{same_answers}
@@ -32,7 +32,7 @@ refusal_said g text bytes p reply same is said =
 
 -- ---- what they show of what is held
 
-module _ {D : Type 0} (disk : DiskMeaning D) (code : Engaged) (told : Told D) (kept bytes : List ℕ) where
+module _ {D : Type 0} (disk : DiskView D) (code : Engaged) (told : Told D) (kept bytes : List ℕ) where
   pub plan_answers : (text : Text) → SaysReply (Plan code.graph text) bytes → Answers disk code (command.Plan text) kept told bytes code told
   plan_answers text says = same_answers disk code (command.Plan text) kept bytes told (λ g limit state body graph held. record {
     says = subst (λ (on : Graph). SaysReply (Plan on text) bytes) graph says;

@@ -4,7 +4,7 @@ use Rattle.std.proofs.Math.Nat.{le_refl}
 use Rattle.odin_outside.specs.Causes.{Rose}
 use Rattle.odin_outside.specs.Disk.{Telling, IsQuiet}
 use Rattle.odin_outside.specs.Spawned.{Spawned}
-use Rattle.odin_journal.specs.Trails.{after_changes, Trail, LeavesPrefix}
+use Rattle.odin_journal.specs.Trails.{after_changes, LeavesPrefix}
 use Rattle.meaning_graph.specs.Graphs.{Text, Graph}
 use Rattle.object_values.specs.declared.items.Item.{Item}
 use Rattle.meaning_records.specs.Stands.{gate_behind}
@@ -19,7 +19,9 @@ use Rattle.odin_store.specs.Written.{written_in, WorksFor, with_records, record_
 use Rattle.odin_store.proofs.Lemmas.{nothing_behind, batches_on, goes_none, stops_left, stops_more, gate-append, records-append, works_after}
 use Rattle.odin_engine.specs.Engaged.{Engaged, GraphStays}
 use Rattle.odin_answers.specs.Edits.{TreeTold, TreeStays}
-use Rattle.odin_shell.specs.Filed.{DiskMeaning, OpensFile, WorksOver, HasWritten, StopsWriting, HoldsAll, LacksLast, HasNoRoomForLast, IsSafe}
+use Rattle.odin_engine.specs.Opened.{settled_bytes, settled_calls}
+use Rattle.odin_outside.specs.declared.disk.Disk.{Ghosts as DiskView}
+use Rattle.odin_shell.specs.Filed.{OpensFile, records_at_opening, WorksOver, HasWritten, StopsWriting, HoldsAll, LacksLast, HasNoRoomForLast, IsSafe}
 use Rattle.odin_shell.specs.Machine.{SessionState, Told, Applies, SessionInvariant, StoreFailed, StateAtExit, ToolsStay}
 
 -- where none runs no more do than may
@@ -43,46 +45,45 @@ same_tree old new same = let count : new.faults ≡ old.faults = ap (λ (t : Tre
 -- ---- what the file has
 
 -- more work after that of the opening and of these batches
-works_more : (text : Text) (start : Telling) (over : OpensFile text start) (payloads more : List (List ℕ)) (mid now : Telling) → WorksOver text start over payloads mid → WorksFor more mid now → WorksOver text start over (payloads ++ more) now
-works_more text start over payloads more mid now first second =
-    subst (λ (l : List (List ℕ)). Works (66 + written_in l) (16 + 2 * length over.records + 4 * length l) start now) (append_assoc over.opening payloads more)
-    (works_after 66 (16 + 2 * length over.records) (over.opening ++ payloads) more start mid now first second)
+works_more : {D : Type 0} (told : D → Telling) (text : Text) (start : D) (over : OpensFile told text start) (payloads more : List (List ℕ)) (mid now : D) → WorksOver told text start over payloads mid → WorksFor more (told mid) (told now)
+    → WorksOver told text start over (payloads ++ more) now
+works_more told text start over payloads more mid now first second =
+    let opening = over.goes.opens.opening in
+    let bytes = 66 + settled_bytes over.goes.settles in
+    let calls = 16 + settled_calls over.goes.settles + 2 * length over.goes.opens.records in
+    subst (λ (l : List (List ℕ)). Works (bytes + written_in l) (calls + 4 * length l) (told start) (told now)) (append_assoc opening payloads more)
+    (works_after bytes calls (opening ++ payloads) more (told start) (told mid) (told now) first second)
 
 -- the batches of more changes after those that it has
 pub written_on : {D : Type 0} (told : D → Telling) (text : Text) (changes more : List Change) (start : D) (store next : Store) (disk after_changes : D)
-    → HasWritten text changes (told start) store (told disk) → Performs told more store next disk after_changes → HasWritten text (changes ++ more) (told start) next (told after_changes)
+    → HasWritten told text changes start store disk → Performs told more store next disk after_changes → HasWritten told text (changes ++ more) start next after_changes
 written_on told text changes more start store next disk after_changes w goes =
     let over = w.over in
-    let records = (over.records ++ over.opening) ++ w.payloads in
-    let others : HasBatches told more store next disk after_changes records (Some text) = goes.batches records (Some text) w.on in
-    let all = over.opening ++ w.payloads in
-    let list : all ++ others.payloads ≡ over.opening ++ (w.payloads ++ others.payloads) = append_assoc over.opening w.payloads others.payloads in
+    let base = records_at_opening over in
+    let gate = over.store.journal.end in
+    let image = (told over.opened).seen in
+    let others : HasBatches told more store next disk after_changes (base ++ w.payloads) (Some text) = goes.batches (base ++ w.payloads) (Some text) w.on in
     record {
       over = over;
       payloads = w.payloads ++ others.payloads;
-      are = batches_on over.opened (state_in store (Some text)) changes w.payloads w.are more others.payloads (state_in next (Some text)) others.are;
-      on = subst (λ r. IsOn (told after_changes) next r (Some text)) (append_assoc (over.records ++ over.opening) w.payloads others.payloads) others.on;
-      made = w.made;
-      is_made = w.is_made;
-      gate = w.gate;
-      whole = w.whole;
-      end = subst (λ l. next.journal.end ≡ gate_behind w.gate l) list (others.end ∙ ap (λ gate. gate_behind gate others.payloads) w.end ∙ sym (gate-append w.gate all others.payloads));
+      are = batches_on (state_in over.store (Some text)) (state_in store (Some text)) changes w.payloads w.are more others.payloads (state_in next (Some text)) others.are;
+      on = subst (λ r. IsOn (told after_changes) next r (Some text)) (append_assoc base w.payloads others.payloads) others.on;
+      end = others.end ∙ ap (λ place. gate_behind place others.payloads) w.end ∙ sym (gate-append gate w.payloads others.payloads);
       bytes =
-          subst (λ l. (told after_changes).seen ≡ with_records w.gate l w.made) list
-          (others.bytes ∙ ap (λ gate. with_records gate others.payloads (told disk).seen) w.end
-          ∙ ap (with_records (gate_behind w.gate all) others.payloads) w.bytes ∙ sym (records-append w.gate all others.payloads w.made));
-      trail = subst (λ l. Trail record_keeping over.records (told start) l next (told after_changes)) list (others.grows over.records start all w.trail);
-      works = works_more text (told start) over w.payloads others.payloads (told disk) (told after_changes) w.works others.works;
+          others.bytes ∙ ap (λ place. with_records place others.payloads (told disk).seen) w.end
+          ∙ ap (with_records (gate_behind gate w.payloads) others.payloads) w.bytes ∙ sym (records-append gate w.payloads others.payloads image);
+      trail = others.grows base over.opened w.payloads w.trail;
+      works = works_more told text start over w.payloads others.payloads disk after_changes w.works others.works;
     }
 
 -- and where they stop
 pub writing_stops : {D : Type 0} (told : D → Telling) (text : Text) (changes more : List Change) (start : D) (store : Store) (disk after_changes : D)
-    → HasWritten text changes (told start) store (told disk) → StopsPerforming told more store disk after_changes → StopsWriting text (changes ++ more) (told start) (told after_changes)
+    → HasWritten told text changes start store disk → StopsPerforming told more store disk after_changes → StopsWriting told text (changes ++ more) start after_changes
 writing_stops told text changes more start store disk after_changes w stops =
     let over = w.over in
-    let records = (over.records ++ over.opening) ++ w.payloads in
-    let has : HasPartialBatches told more store disk after_changes (Some text) = stops.begun records (Some text) w.on in
-    let all = over.opening ++ w.payloads in
+    let base = records_at_opening over in
+    let has : HasPartialBatches told more store disk after_changes (Some text) = stops.begun (base ++ w.payloads) (Some text) w.on in
+    let list : w.payloads ++ (has.payloads ++ has.begun) ≡ (w.payloads ++ has.payloads) ++ has.begun = sym (append_assoc w.payloads has.payloads has.begun) in
     record {
       over = over;
       made = changes ++ has.made;
@@ -90,15 +91,12 @@ writing_stops told text changes more start store disk after_changes w stops =
       whole = ap (λ l. changes ++ l) has.whole ∙ sym (append_assoc changes has.made has.rest);
       payloads = w.payloads ++ has.payloads;
       last = has.last;
-      are = batches_on over.opened (state_in store (Some text)) changes w.payloads w.are has.made has.payloads has.last has.are;
+      are = batches_on (state_in over.store (Some text)) (state_in store (Some text)) changes w.payloads w.are has.made has.payloads has.last has.are;
       begun = has.begun;
       next = has.next;
-      leaves =
-          subst (λ l. LeavesPrefix record_keeping over.records (told start) (over.opening ++ (w.payloads ++ has.payloads)) l (told after_changes))
-          (append_assoc over.opening w.payloads (has.payloads ++ has.begun) ∙ ap (λ l. over.opening ++ l) (sym (append_assoc w.payloads has.payloads has.begun)))
-          (subst (λ l. LeavesPrefix record_keeping over.records (told start) l (all ++ (has.payloads ++ has.begun)) (told after_changes)) (append_assoc over.opening w.payloads has.payloads) (has.leaves over.records start all w.trail));
-      works = subst (λ (l : List (List ℕ)). WorksOver text (told start) over l (told after_changes)) (sym (append_assoc w.payloads has.payloads has.begun))
-          (works_more text (told start) over w.payloads (has.payloads ++ has.begun) (told disk) (told after_changes) w.works has.works);
+      leaves = subst (λ l. LeavesPrefix record_keeping base (told over.opened) (w.payloads ++ has.payloads) l (told after_changes)) list (has.leaves base over.opened w.payloads w.trail);
+      works = subst (λ (l : List (List ℕ)). WorksOver told text start over l after_changes) list
+          (works_more told text start over w.payloads (has.payloads ++ has.begun) disk after_changes w.works has.works);
     }
 
 -- ---- the next state
@@ -110,10 +108,10 @@ next_state state changes tools tree = record { held = after_changes store_keepin
 pub makes_next : (state : SessionState) (changes : List Change) (tools : Spawned) (tree : TreeTold) → Applies changes state (next_state state changes tools tree)
 makes_next state changes tools tree = record { held = refl; list = refl }
 
-module _ {D : Type 0} (disk : DiskMeaning D) (g : Graph) (text : Text) (limit : ℕ) (first : SessionState) (start : Told D) (code : Engaged) (state : SessionState) (told : Told D) (fits : SessionInvariant disk g text limit first start code state told) where
+module _ {D : Type 0} (disk : DiskView D) (g : Graph) (text : Text) (limit : ℕ) (first : SessionState) (start : Told D) (code : Engaged) (state : SessionState) (told : Told D) (fits : SessionInvariant disk g text limit first start code state told) where
   -- ---- the session goes on
 
-  pub belongs_on : (changes : List Change) (code' : Engaged) (told' : Told D) → Performs disk.told changes code.store code'.store told.disk told'.disk → GraphStays code code' → IsReady code'.store.journal (disk.size told'.disk)
+  pub belongs_on : (changes : List Change) (code' : Engaged) (told' : Told D) → Performs disk.told changes code.store code'.store told.disk told'.disk → GraphStays code code' → IsReady code'.store.journal (disk.size_of told'.disk)
       → disk.faults told'.disk ≡ disk.faults told.disk → ToolsStay told.tools told'.tools → TreeStays told.tree told'.tree → told'.tools.running ≡ [] → told'.over ≡ None
       → SessionInvariant disk g text limit first start code' (next_state state changes told'.tools told'.tree) told'
   belongs_on changes code' told' goes stays ready faults stay tree idle within = record {
@@ -138,8 +136,8 @@ module _ {D : Type 0} (disk : DiskMeaning D) (g : Graph) (text : Text) (limit : 
   -- every image has all changes, or all but the last
   abbrev pub Lasts : List Change → Told D → Type 0
   Lasts changes told' =
-      HoldsAll text first.held (state.changes ++ changes) (disk.told start.disk) (disk.told told'.disk)
-      ⊎ (StoreFailed disk g text limit start told' × LacksLast first.held (state.changes ++ changes) (disk.told start.disk) (disk.told told'.disk))
+      HoldsAll disk.told text first.held (state.changes ++ changes) start.disk told'.disk
+      ⊎ (StoreFailed disk g text limit start told' × LacksLast disk.told first.held (state.changes ++ changes) start.disk told'.disk)
 
   -- what is left of the tools and the tree
   module _ (told' : Told D) (stay : ToolsStay told.tools told'.tools) (tree : TreeStays told.tree told'.tree) where
@@ -149,8 +147,8 @@ module _ {D : Type 0} (disk : DiskMeaning D) (g : Graph) (text : Text) (limit : 
     tree_counted : state.tree.faults ≤ told'.tree.faults
     tree_counted = let here : told.tree.faults ≡ state.tree.faults = ap (λ (t : TreeTold). t.faults) fits.tree in let later = tree.later in omega arith
 
-    pub left_by : (changes : List Change) → IsSafe text first.held state.changes (state.changes ++ changes) (disk.told start.disk) (disk.told told'.disk) (disk.faults start.disk) (disk.faults told'.disk)
-        → ((at size : ℕ) → told'.over ≡ Some (at, size) → HasNoRoomForLast text (state.changes ++ changes) (disk.told start.disk) (disk.told told'.disk) at size)
+    pub left_by : (changes : List Change) → IsSafe disk.told text first.held state.changes (state.changes ++ changes) start.disk told'.disk (disk.faults start.disk) (disk.faults told'.disk)
+        → ((at size : ℕ) → told'.over ≡ Some (at, size) → HasNoRoomForLast disk.told text (state.changes ++ changes) start.disk told'.disk at size)
         → (IsQuiet (disk.told start.disk) → Lasts changes told') → StateAtExit disk g text limit first start state (next_state state changes told'.tools told'.tree) told'
     left_by changes safe full lasting = record {
       tools = refl;
@@ -166,7 +164,7 @@ module _ {D : Type 0} (disk : DiskMeaning D) (g : Graph) (text : Text) (limit : 
 
   -- the changes that were made are in the file
   pub safe_made : (changes : List Change) (store : Store) (now : D) → Performs disk.told changes code.store store told.disk now → disk.faults now ≡ disk.faults told.disk
-      → IsSafe text first.held state.changes (state.changes ++ changes) (disk.told start.disk) (disk.told now) (disk.faults start.disk) (disk.faults now)
+      → IsSafe disk.told text first.held state.changes (state.changes ++ changes) start.disk now (disk.faults start.disk) (disk.faults now)
   safe_made changes store now goes faults =
       let same = faults ∙ fits.faults in
       record {
@@ -183,10 +181,10 @@ module _ {D : Type 0} (disk : DiskMeaning D) (g : Graph) (text : Text) (limit : 
 
   -- every image has them
   pub holds_all : (changes : List Change) (store : Store) (now : D) → Performs disk.told changes code.store store told.disk now → IsQuiet (disk.told start.disk)
-      → HoldsAll text first.held (state.changes ++ changes) (disk.told start.disk) (disk.told now)
+      → HoldsAll disk.told text first.held (state.changes ++ changes) start.disk now
   holds_all changes store now goes quiet =
       let all = state.changes ++ changes in
-      let same : IsSame store store now now = record { disk_is = refl; store_is = record { journal = refl; tables = refl; sources = refl; epoch = refl } } in
+      let same : IsSame store store now now = record { disk_is = refl; store_is = record { journal = refl; tables = refl; sources = refl; graph = refl; epoch = refl } } in
       record {
         store = store;
         written = written_on disk.told text state.changes changes start.disk code.store store told.disk now (fits.written quiet) goes;
@@ -196,7 +194,7 @@ module _ {D : Type 0} (disk : DiskMeaning D) (g : Graph) (text : Text) (limit : 
 
   -- the next change stopped after them: every image has all of them, and may have that
   pub lacks_last : (changes : List Change) (change : Change) (store : Store) (mid now : D) → Performs disk.told changes code.store store told.disk mid → StopsPerforming disk.told (change ∷ []) store mid now → IsQuiet (disk.told start.disk)
-      → LacksLast first.held (state.changes ++ (changes ++ change ∷ [])) (disk.told start.disk) (disk.told now)
+      → LacksLast disk.told first.held (state.changes ++ (changes ++ change ∷ [])) start.disk now
   lacks_last changes change store mid now goes stops quiet =
       let front = state.changes ++ changes in
       let list : state.changes ++ (changes ++ change ∷ []) ≡ front ++ change ∷ [] = sym (append_assoc state.changes changes (change ∷ [])) in
@@ -219,13 +217,13 @@ module _ {D : Type 0} (disk : DiskMeaning D) (g : Graph) (text : Text) (limit : 
       → IsQuiet (disk.told start.disk) → Lasts (changes ++ change ∷ []) told'
   full_last changes change store told' goes over quiet =
       let now = told'.disk in
-      let same : IsSame store store now now = record { disk_is = refl; store_is = record { journal = refl; tables = refl; sources = refl; epoch = refl } } in
+      let same : IsSame store store now now = record { disk_is = refl; store_is = record { journal = refl; tables = refl; sources = refl; graph = refl; epoch = refl } } in
       let stops : StopsPerforming disk.told (change ∷ []) store now now = stops_more disk.told [] (change ∷ []) store now now (stops_left disk.told [] store store now now (goes_none disk.told store store now now same)) in
       inr (inr over, lacks_last changes change store now now goes stops quiet)
 
   -- the disk failed at one of the changes
   pub safe_failed : (changes : List Change) (now : D) → StopsPerforming disk.told changes code.store told.disk now → disk.faults told.disk ≤ disk.faults now → Rose (disk.faults told.disk) (disk.faults now)
-      → IsSafe text first.held state.changes (state.changes ++ changes) (disk.told start.disk) (disk.told now) (disk.faults start.disk) (disk.faults now)
+      → IsSafe disk.told text first.held state.changes (state.changes ++ changes) start.disk now (disk.faults start.disk) (disk.faults now)
   safe_failed changes now stops later rose =
       let same = fits.faults in
       record {
@@ -236,7 +234,7 @@ module _ {D : Type 0} (disk : DiskMeaning D) (g : Graph) (text : Text) (limit : 
 
   -- the last of the changes was due, and its batch doesn't fit after those of the others
   pub safe_full : (changes : List Change) (change : Change) (store : Store) (now : D) → Performs disk.told changes code.store store told.disk now → disk.faults now ≡ disk.faults told.disk
-      → IsSafe text first.held state.changes (state.changes ++ (changes ++ change ∷ [])) (disk.told start.disk) (disk.told now) (disk.faults start.disk) (disk.faults now)
+      → IsSafe disk.told text first.held state.changes (state.changes ++ (changes ++ change ∷ [])) start.disk now (disk.faults start.disk) (disk.faults now)
   safe_full changes change store now goes faults =
       let same = faults ∙ fits.faults in
       record {
@@ -252,7 +250,7 @@ module _ {D : Type 0} (disk : DiskMeaning D) (g : Graph) (text : Text) (limit : 
       }
 
   pub is_full : (changes : List Change) (change : Change) (store : Store) (now : D) (items : List Item) (at size : ℕ) → Performs disk.told changes code.store store told.disk now → IsBatchOf store.kept.tables.contents change items → IsOver items store.journal.end at size
-      → HasNoRoomForLast text (state.changes ++ (changes ++ change ∷ [])) (disk.told start.disk) (disk.told now) at size
+      → HasNoRoomForLast disk.told text (state.changes ++ (changes ++ change ∷ [])) start.disk now at size
   is_full changes change store now items at size goes batch over = record {
     front = state.changes ++ changes;
     change = change;
@@ -267,11 +265,11 @@ module _ {D : Type 0} (disk : DiskMeaning D) (g : Graph) (text : Text) (limit : 
   }
 
 -- between two commands all is left as it is
-pub rests : {D : Type 0} (disk : DiskMeaning D) (g : Graph) (text : Text) (limit : ℕ) (first : SessionState) (start : Told D) (code : Engaged) (state : SessionState) (told : Told D) → SessionInvariant disk g text limit first start code state told → StateAtExit disk g text limit first start state state told
+pub rests : {D : Type 0} (disk : DiskView D) (g : Graph) (text : Text) (limit : ℕ) (first : SessionState) (start : Told D) (code : Engaged) (state : SessionState) (told : Told D) → SessionInvariant disk g text limit first start code state told → StateAtExit disk g text limit first start state state told
 rests disk g text limit first start code state told fits =
     let tools : told.tools.faults ≡ state.tools.faults = ap (λ (t : Spawned). t.faults) fits.tools in
     let tree : told.tree.faults ≡ state.tree.faults = ap (λ (t : TreeTold). t.faults) fits.tree in
-    let same : IsSame code.store code.store told.disk told.disk = record { disk_is = refl; store_is = record { journal = refl; tables = refl; sources = refl; epoch = refl } } in
+    let same : IsSame code.store code.store told.disk told.disk = record { disk_is = refl; store_is = record { journal = refl; tables = refl; sources = refl; graph = refl; epoch = refl } } in
     let goes : Performs disk.told [] code.store code.store told.disk told.disk = goes_none disk.told code.store code.store told.disk told.disk same in
     record {
       tools = fits.tools;
@@ -280,9 +278,9 @@ rests disk g text limit first start code state told fits =
       tree_counted = omega arith;
       stay = fits.stay;
       tree_stays = fits.tree_stays;
-      safe = subst (λ l. IsSafe text first.held state.changes l (disk.told start.disk) (disk.told told.disk) (disk.faults start.disk) (disk.faults told.disk)) (nothing_behind state.changes)
+      safe = subst (λ l. IsSafe disk.told text first.held state.changes l start.disk told.disk (disk.faults start.disk) (disk.faults told.disk)) (nothing_behind state.changes)
           (safe_made disk g text limit first start code state told fits [] code.store told.disk goes refl);
-      lasting = λ quiet. inl (subst (λ l. HoldsAll text first.held l (disk.told start.disk) (disk.told told.disk)) (nothing_behind state.changes)
+      lasting = λ quiet. inl (subst (λ l. HoldsAll disk.told text first.held l start.disk told.disk) (nothing_behind state.changes)
           (holds_all disk g text limit first start code state told fits [] code.store told.disk goes quiet));
       full = λ at size some. (let no : ⊥ = cc (fits.within) in absurd no);
     }

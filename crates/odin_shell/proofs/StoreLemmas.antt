@@ -15,12 +15,12 @@ use Rattle.odin_shell.specs.declared.ending.Ending.{Ending}
 use Rattle.odin_shell.specs.declared.ending.Ending.TheVariants.{Whole, CutShort, BadGraph, Disk, Memory, Output, Input, NotOurs, Full, Usage, TooLong, Loaded, Room}
 use Rattle.odin_shell.specs.Endings.{ending_status, EndingLeavesTools}
 use Rattle.odin_shell.specs.Opened.{not_ours_line, full_line}
-use Rattle.odin_shell.specs.Filed.{DiskMeaning}
+use Rattle.odin_outside.specs.declared.disk.Disk.{Ghosts as DiskView}
 use Rattle.odin_shell.specs.Language.{commands}
 use Rattle.odin_shell.specs.Held.{Keeps}
 use Rattle.odin_answers.specs.Edits.{TreeTold, TreeStays, tree_of}
 use Rattle.odin_shell.specs.Machine.{at_first, Told, ToolsStay, machine}
-use Rattle.odin_shell.specs.Objects.{Outside, Meaning}
+use Rattle.odin_shell.specs.Objects.{Outside, Views}
 use Rattle.odin_shell.specs.Run as run
 use Rattle.odin_shell.specs.Run.{LastLine, whole, cut_off, SessionLeaves, InputCount, DiskCount, OutputCount, AllowedBy, Closes, ClosesFor, SaysLastLine}
 use Rattle.meaning_commands.proofs.Lemmas.{one_command}
@@ -114,7 +114,7 @@ closes_not_ours at e line before now ending is line_is last =
 
 -- ---- a session
 
-module _ {D : Type 0} (disk : DiskMeaning D) (g : Graph) (text : Text) (limit : ℕ) (held : Held) (start now : Told D) (input left : Option (List ℕ)) where
+module _ {D : Type 0} (disk : DiskView D) (g : Graph) (text : Text) (limit : ℕ) (held : Held) (start now : Told D) (input left : Option (List ℕ)) where
   session_output : (ending : Ending) → SessionLeaves disk g text limit held ending input left start now → OutputCount ending start.sink.faults now.sink.faults
   session_output Whole (inl l) = ap (λ (s : SinkTold). s.faults) l.ends.replied.wrote
   session_output Whole (inr l) = ap (λ (s : SinkTold). s.faults) l.ends.replied.wrote
@@ -230,30 +230,30 @@ exact_due (fault.NotOurs at) input = anything input
 exact_due (fault.Full at size) input = anything input
 exact_due fault.Memory input = anything input
 
-module _ {I O T S D : Type 0} (m : Meaning I O T S D) (text : Text) (g : Graph) (limit : ℕ) (before after : Outside I O T S D) where
+module _ {I O T S D : Type 0} (m : Views I O T S D) (text : Text) (g : Graph) (limit : ℕ) (before after : Outside I O T S D) where
   abbrev old_tools : Spawned
-  old_tools = m.spawned before.tools
+  old_tools = m.tools.told before.tools
 
   abbrev new_tools : Spawned
-  new_tools = m.spawned after.tools
+  new_tools = m.tools.told after.tools
 
-  pub store_exact : (ending : Ending) → run.StoreEnds m text g limit before after ending → IfSome (m.left before.input) (AllowedBy ending)
+  pub store_exact : (ending : Ending) → run.StoreEnds m text g limit before after ending → IfSome (m.source.left before.input) (AllowedBy ending)
   store_exact ending (run.unopened e is closes same) =
-      at_fault e _ _ ending (λ due. IfSome (m.left before.input) (AllowedBy due)) closes (exact_due e (m.left before.input)) (λ other. (anything (m.left before.input), anything (m.left before.input)))
+      at_fault e _ _ ending (λ due. IfSome (m.source.left before.input) (AllowedBy due)) closes (exact_due e (m.source.left before.input)) (λ other. (anything (m.source.left before.input), anything (m.source.left before.input)))
   store_exact ending (run.served due written ends closes) =
-      at_close due written _ ending (λ e. IfSome (m.left before.input) (AllowedBy e)) closes (session_exact m.disk g text limit ends.held _ _ _ _ due ends.leaves) (λ at size p. (anything (m.left before.input), anything (m.left before.input)))
+      at_close due written _ ending (λ e. IfSome (m.source.left before.input) (AllowedBy e)) closes (session_exact m.disk g text limit ends.held _ _ _ _ due ends.leaves) (λ at size p. (anything (m.source.left before.input), anything (m.source.left before.input)))
 
-  pub store_output : (ending : Ending) → run.StoreEnds m text g limit before after ending → OutputCount ending (m.output_faults before.output) (m.output_faults after.output)
+  pub store_output : (ending : Ending) → run.StoreEnds m text g limit before after ending → OutputCount ending (m.sink.faults before.output) (m.sink.faults after.output)
   store_output ending (run.unopened e is closes same) = fault_output e _ _ ending closes
   store_output ending (run.served due written ends closes) = close_output due (run.sink m before) written (run.sink m after) ending
-      (session_output m.disk g text limit ends.held (run.told m before) (record (run.told m after) { sink = written }) (m.left before.input) (m.left after.input) due ends.leaves) closes
+      (session_output m.disk g text limit ends.held (run.told m before) (record (run.told m after) { sink = written }) (m.source.left before.input) (m.source.left after.input) due ends.leaves) closes
 
   abbrev input_count : Ending → Type 0
-  input_count ending = InputCount ending (m.input_faults before.input) (m.input_faults after.input)
+  input_count ending = InputCount ending (m.source.faults before.input) (m.source.faults after.input)
 
   pub store_input : (ending : Ending) → run.StoreEnds m text g limit before after ending → input_count ending
   store_input ending (run.unopened e is closes same) =
-      let still : m.input_faults after.input ≡ m.input_faults before.input = ap (λ (o : Outside I O T S D). m.input_faults o.input) same in
+      let still : m.source.faults after.input ≡ m.source.faults before.input = ap (λ (o : Outside I O T S D). m.source.faults o.input) same in
       at_fault e _ _ ending input_count closes (input_due e _ _ still) (λ other. (still, still))
   store_input ending (run.served due written ends closes) = at_close due written _ ending input_count closes ends.read (λ at size p. (p, p))
 
@@ -268,19 +268,19 @@ module _ {I O T S D : Type 0} (m : Meaning I O T S D) (text : Text) (g : Graph) 
   -- ---- tree and tools
 
   abbrev old_tree : TreeTold
-  old_tree = tree_of m.files m.tree_faults m.reads before.tree
+  old_tree = tree_of m.tree before.tree
 
   abbrev new_tree : TreeTold
-  new_tree = tree_of m.files m.tree_faults m.reads after.tree
+  new_tree = tree_of m.tree after.tree
 
   pub store_tree : (ending : Ending) → run.StoreEnds m text g limit before after ending → TreeStays old_tree new_tree
-  store_tree ending (run.unopened e is closes same) = same_tree old_tree new_tree (ap (λ (o : Outside I O T S D). tree_of m.files m.tree_faults m.reads o.tree) same)
+  store_tree ending (run.unopened e is closes same) = same_tree old_tree new_tree (ap (λ (o : Outside I O T S D). tree_of m.tree o.tree) same)
   store_tree ending (run.served due written ends closes) = session_tree m.disk g text limit ends.held _ _ _ _ due ends.leaves
 
   pub store_tools : (ending : Ending) → old_tools.running ≡ [] → run.StoreEnds m text g limit before after ending → ToolsStay old_tools new_tools
-  store_tools ending idle (run.unopened e is closes same) = same_tools old_tools new_tools (ap (λ (o : Outside I O T S D). m.spawned o.tools) same) (idle_few old_tools idle)
+  store_tools ending idle (run.unopened e is closes same) = same_tools old_tools new_tools (ap (λ (o : Outside I O T S D). m.tools.told o.tools) same) (idle_few old_tools idle)
   store_tools ending idle (run.served due written ends closes) = session_stay m.disk g text limit ends.held _ _ _ _ due ends.leaves
 
   pub store_idle : (ending : Ending) → old_tools.running ≡ [] → run.StoreEnds m text g limit before after ending → ¬ MayRunOn ending → new_tools.running ≡ []
-  store_idle ending idle (run.unopened e is closes same) other = ap (λ (o : Outside I O T S D). (m.spawned o.tools).running) same ∙ idle
+  store_idle ending idle (run.unopened e is closes same) other = ap (λ (o : Outside I O T S D). (m.tools.told o.tools).running) same ∙ idle
   store_idle ending idle (run.served due written ends closes) other = ends.idle (λ leaves. other (at_close due written _ ending MayRunOn closes (runs_on due leaves) (λ at size p. (tt, tt))))

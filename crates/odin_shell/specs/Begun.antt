@@ -7,7 +7,7 @@ use Rattle.odin_journal.specs.Rest.{IsReady}
 use Rattle.odin_engine.specs.Engaged.{Engaged}
 use Rattle.odin_shell.specs.declared.ending.Ending.{Ending}
 use Rattle.odin_shell.specs.Endings.{EndingLeavesTools}
-use Rattle.odin_shell.specs.Filed.{DiskMeaning}
+use Rattle.odin_outside.specs.declared.disk.Disk.{Ghosts as DiskView}
 use Rattle.odin_shell.specs.Machine.{at_first, Told, SessionInvariant}
 use Rattle.odin_shell.specs.Objects.{SourceTold}
 use Rattle.odin_shell.specs.Run.{SessionLeaves, InputCount, DiskCount}
@@ -18,7 +18,7 @@ pub record MayBeginSession (code : Engaged) (size : ℕ) (tools : Spawned) : Typ
   pub first : code.store.epoch ≡ 0
   pub idle : tools.running ≡ []
 
-module _ {D : Type 0} (disk : DiskMeaning D) where
+module _ {D : Type 0} (disk : DiskView D) where
   -- The store was opened over this graph, for so many tools at once, from what was held when the run started.
   pub record SessionBegins (g : Graph) (text : Text) (limit : ℕ) (held : Held) (start : Told D) (code : Engaged) (before : Told D) : Type 0 where
     pub sink : before.sink ≡ start.sink

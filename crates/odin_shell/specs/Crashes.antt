@@ -21,7 +21,7 @@ use Rattle.odin_store.specs.Held.{Held, StandsFor}
 use Rattle.odin_store.specs.Keeping.{store_keeping}
 use Rattle.odin_answers.specs.Answers.{Agrees}
 use Rattle.odin_answers.specs.Laws.{IsTrueFor}
-use Rattle.odin_shell.specs.Filed.{DiskMeaning}
+use Rattle.odin_outside.specs.declared.disk.Disk.{Ghosts as DiskView}
 use Rattle.odin_shell.specs.Language.{commands}
 use Rattle.odin_shell.specs.Machine.{SessionState, Told, Step, CommandMayLeave, StateAtExit}
 
@@ -77,7 +77,7 @@ pub record HoldsOurs (g : Graph) (limit : ℕ) (first : SessionState) (items : L
       → IsSome (kept_outcome first.held.calls call) ⊎ ComesByTable g limit first items table call
   pub right : (table : Table) → IsTrueFor table first.tools first.held.calls → HasMore (kept_outcome held.calls) (table_outcomes table)
 
-module _ {D : Type 0} (disk : DiskMeaning D) where
+module _ {D : Type 0} (disk : DiskView D) where
   -- At an exit of a session that began with no change, over a disk on which nothing was pending: an image that a crash since the start may
   -- have left, and one that a crash may leave now, with all that is acknowledged.
   pub record LeavesOurs (g : Graph) (limit : ℕ) (first : SessionState) (items : List Item) (start : Told D) (acknowledged furthest : SessionState) (now : Told D) : Type 0 where

@@ -26,7 +26,8 @@ use Rattle.object_values.specs.declared.replies.Reply.TheVariants as reply
 use Rattle.meaning_commands.specs.Replies.{reply_text}
 use Rattle.odin_shell.specs.declared.stop.Stop.{Stop}
 use Rattle.odin_shell.specs.declared.stop.Stop.TheVariants as stop
-use Rattle.odin_shell.specs.Filed.{DiskMeaning, HasWritten, HoldsAll, LacksLast, HasNoRoomForLast, IsSafe}
+use Rattle.odin_outside.specs.declared.disk.Disk.{Ghosts as DiskView}
+use Rattle.odin_shell.specs.Filed.{HasWritten, HoldsAll, LacksLast, HasNoRoomForLast, IsSafe}
 use Rattle.odin_answers.specs.Edits.{SaysReply, TreeTold, TreeStays, TreeIsAsked, Puts, Takes, Removes, source_lines}
 use Rattle.odin_answers.specs.Changes.{edit_changes}
 
@@ -146,7 +147,7 @@ pub record ToolsStay (start now : Spawned) : Type 0 where
   pub later : start.faults ≤ now.faults
   pub few : length now.running ≤ 64
 
-module _ {Disk : Type 0} (disk : DiskMeaning Disk) (g : Graph) (text : Text) (limit : ℕ) where
+module _ {Disk : Type 0} (disk : DiskView Disk) (g : Graph) (text : Text) (limit : ℕ) where
   -- Between two commands the engine works by this graph and this limit, 64 at most. The store holds what the state does, and rests on its
   -- file; tools and tree are told as in the state, and no tool runs. No fault of the disk was counted.
   pub record SessionInvariant (first : SessionState) (start : Told Disk) (code : Engaged) (state : SessionState) (now : Told Disk) : Type 0 where
@@ -159,10 +160,10 @@ module _ {Disk : Type 0} (disk : DiskMeaning Disk) (g : Graph) (text : Text) (li
     pub stay : ToolsStay start.tools now.tools
     pub tree_stays : TreeStays start.tree now.tree
     pub idle : now.tools.running ≡ []
-    pub ready : IsReady code.store.journal (disk.size now.disk)
+    pub ready : IsReady code.store.journal (disk.size_of now.disk)
     pub faults : disk.faults now.disk ≡ disk.faults start.disk
     pub trail : IsQuiet (disk.told start.disk) → Trail store_keeping first.held (disk.told start.disk) state.changes code.store (disk.told now.disk)
-    pub written : IsQuiet (disk.told start.disk) → HasWritten text state.changes (disk.told start.disk) code.store (disk.told now.disk)
+    pub written : IsQuiet (disk.told start.disk) → HasWritten disk.told text state.changes start.disk code.store now.disk
     pub within : now.over ≡ None
 
   -- its disk failed, or a batch didn't fit
@@ -179,10 +180,10 @@ module _ {Disk : Type 0} (disk : DiskMeaning Disk) (g : Graph) (text : Text) (li
     pub tree_counted : acknowledged.tree.faults ≤ now.tree.faults
     pub stay : ToolsStay start.tools now.tools
     pub tree_stays : TreeStays start.tree now.tree
-    pub safe : IsSafe text first.held acknowledged.changes furthest.changes (disk.told start.disk) (disk.told now.disk) (disk.faults start.disk) (disk.faults now.disk)
-    pub lasting : IsQuiet (disk.told start.disk) → HoldsAll text first.held furthest.changes (disk.told start.disk) (disk.told now.disk)
-        ⊎ (StoreFailed start now × LacksLast first.held furthest.changes (disk.told start.disk) (disk.told now.disk))
-    pub full : (at size : ℕ) → now.over ≡ Some (at, size) → HasNoRoomForLast text furthest.changes (disk.told start.disk) (disk.told now.disk) at size
+    pub safe : IsSafe disk.told text first.held acknowledged.changes furthest.changes start.disk now.disk (disk.faults start.disk) (disk.faults now.disk)
+    pub lasting : IsQuiet (disk.told start.disk) → HoldsAll disk.told text first.held furthest.changes start.disk now.disk
+        ⊎ (StoreFailed start now × LacksLast disk.told first.held furthest.changes start.disk now.disk)
+    pub full : (at size : ℕ) → now.over ≡ Some (at, size) → HasNoRoomForLast disk.told text furthest.changes start.disk now.disk at size
 
   abbrev pub machine : Machine Command Engaged SessionState (Told Disk)
   machine = record {

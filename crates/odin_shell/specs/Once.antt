@@ -17,7 +17,7 @@ use Rattle.plain_derive.specs.GivenLaws.{AreNew}
 use Rattle.kept_derive.specs.Runs.{keeps_of}
 use Rattle.odin_answers.specs.Answers.{HasAnswer, IsReply}
 use Rattle.odin_answers.specs.Laws.{IsAnsweredAtOnce}
-use Rattle.odin_shell.specs.Filed.{DiskMeaning}
+use Rattle.odin_outside.specs.declared.disk.Disk.{Ghosts as DiskView}
 use Rattle.odin_shell.specs.Language.{commands}
 use Rattle.odin_shell.specs.Machine.{SessionState, Told, Applies, Step, CommandMayLeave, StateAtExit}
 
@@ -68,7 +68,7 @@ pub record StaysAnswered (g : Graph) (text : Text) (sources : Sources) (image : 
       → IsReply g sources held.calls most text other given before now
       → IsAnsweredAtOnce g sources held.calls most text other given before now
 
-module _ {D : Type 0} (disk : DiskMeaning D) where
+module _ {D : Type 0} (disk : DiskView D) where
   -- So it is of every acknowledged answer at every exit, in each image that a crash may leave then.
   abbrev pub AnswersSurvive : Type 0
   AnswersSurvive =

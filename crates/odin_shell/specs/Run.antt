@@ -16,6 +16,7 @@ use Rattle.meaning_commands.specs.Items.{EndsInside, SaysEnd}
 use Rattle.meaning_commands.specs.Endings.{input_limit, HasRead, EndsWhole, EndsCutShort, EndsUnread, EndsAtLimit, EndsBeforeReply, EndsWithinReply, EndsAtWord}
 use Rattle.odin_store.specs.Held.{Held}
 use Rattle.odin_store.specs.Opening as store
+use Rattle.odin_engine.specs.Opened.{IsEngineOpenFault, LeavesEngineOpening}
 use Rattle.odin_shell.specs.declared.ending.Ending.{Ending}
 use Rattle.odin_shell.specs.declared.ending.Ending.TheVariants.{Whole, CutShort, BadGraph, Disk, Memory, Output, Input, NotOurs, Full, Usage, TooLong, Loaded, Room}
 use Rattle.odin_shell.specs.Endings.{ending_status, EndingLeavesTools}
@@ -26,10 +27,11 @@ use Rattle.odin_shell.specs.Words.{usage_line}
 use Rattle.odin_shell.specs.Loading.{load_lines}
 use Rattle.odin_shell.specs.Opened.{ReadsAsGraph, GraphIsRefused, not_ours_line, full_line}
 use Rattle.odin_shell.specs.Language.{commands}
-use Rattle.odin_shell.specs.Filed.{DiskMeaning, StartsFrom}
+use Rattle.odin_outside.specs.declared.disk.Disk.{Ghosts as DiskView}
+use Rattle.odin_shell.specs.Filed.{StartsFrom}
 use Rattle.odin_answers.specs.Edits.{TreeTold, TreeIsAsked, tree_of}
 use Rattle.odin_shell.specs.Machine.{at_first, Told, machine}
-use Rattle.odin_shell.specs.Objects.{SourceTold, source_of, sink_of, Outside, Meaning}
+use Rattle.odin_shell.specs.Objects.{SourceTold, source_of, sink_of, Outside, Views}
 
 -- ---- a last line
 
@@ -42,7 +44,7 @@ pub data LastLine (line : Text) (due : Ending) (before now : SinkTold) : Ending 
 
 -- What a session has read of its input and written, from what its file stood for at the start, what its tools and the tree did, and what
 -- its file has, by the way it ended. At 0 its input was read to the end, or up to the command that ends the run.
-abbrev pub SessionLeaves : {D : Type 0} → DiskMeaning D → Graph → Text → ℕ → Held → Ending → Option (List ℕ) → Option (List ℕ) → Told D → Told D → Type 0
+abbrev pub SessionLeaves : {D : Type 0} → DiskView D → Graph → Text → ℕ → Held → Ending → Option (List ℕ) → Option (List ℕ) → Told D → Told D → Type 0
 SessionLeaves disk g text limit held Whole input left start now =
     HasRead (EndsWhole commands (machine disk g text limit) (at_first held start.tools start.tree) start now) input left
     ⊎ HasRead (EndsAtWord commands (machine disk g text limit) (at_first held start.tools start.tree) start now) input left
@@ -68,7 +70,7 @@ DiskCount other before now = now ≡ before
 
 -- A session over a graph ended so, from what its file stood for, with at most so many tools at once. None runs then, but where what runs is
 -- left.
-pub record SessionEnds {D : Type 0} (disk : DiskMeaning D) (g : Graph) (text : Text) (limit : ℕ) (input left : SourceTold) (start now : Told D) (ending : Ending) : Type 0 where
+pub record SessionEnds {D : Type 0} (disk : DiskView D) (g : Graph) (text : Text) (limit : ℕ) (input left : SourceTold) (start now : Told D) (ending : Ending) : Type 0 where
   pub held : Held
   pub starts : StartsFrom (disk.told start.disk) held
   pub leaves : SessionLeaves disk g text limit held ending input.left left.left start now
@@ -127,31 +129,32 @@ OutputCount other before now = now ≡ before
 
 -- ---- a store, and the session over it
 
-module _ {I O T S D : Type 0} (m : Meaning I O T S D) where
+module _ {I O T S D : Type 0} (m : Views I O T S D) where
   abbrev pub source : Outside I O T S D → SourceTold
-  source o = source_of m.left m.input_faults o.input
+  source o = source_of m.source o.input
 
   abbrev pub sink : Outside I O T S D → SinkTold
-  sink o = sink_of m.taken m.output_faults o.output
+  sink o = sink_of m.sink o.output
 
   abbrev pub tree : Outside I O T S D → TreeTold
-  tree o = tree_of m.files m.tree_faults m.reads o.tree
+  tree o = tree_of m.tree o.tree
 
   abbrev pub disk : Outside I O T S D → Telling
   disk o = m.disk.told o.disk
 
   -- what is told of the objects of a session
   abbrev pub told : Outside I O T S D → Told D
-  told o = record { sink = sink o; tools = m.spawned o.tools; tree = tree o; disk = o.disk; over = None }
+  told o = record { sink = sink o; tools = m.tools.told o.tools; tree = tree o; disk = o.disk; over = None }
 
   -- The store was not opened for this fault: a crash leaves the records that the file had, or, where it was due, the batch of the graph after
-  -- them, and so what the file stood for. Over an empty file the work is that of a new store and of that batch at most.
+  -- them, or, where it was wasteful, the live ones, and so what the file stood for. Over an empty file the work is that of a new store and of that
+  -- batch at most.
   pub record IsUnopened (text : Text) (before after : Outside I O T S D) (fault : JournalFault) : Type 0 where
-    pub refused : store.IsStoreOpenFault text (disk before) (disk after) fault
-    pub crash : store.LeavesOpening text (disk before) (disk after)
+    pub refused : IsEngineOpenFault m.disk.told text before.disk after.disk fault
+    pub crash : LeavesEngineOpening m.disk.told text before.disk after.disk
     pub later : m.disk.faults before.disk ≤ m.disk.faults after.disk
     pub cause : CountAfterJournalFault (m.disk.faults before.disk) (m.disk.faults after.disk) fault
-    pub works : m.disk.size before.disk ≡ 0 → Works (72 + length (store.graph_record text)) 20 (disk before) (disk after)
+    pub works : m.disk.size_of before.disk ≡ 0 → Works (72 + length (store.graph_record text)) 20 (disk before) (disk after)
 
   -- Each way to end over the text of a graph, with at most so many tools at once.
   pub data StoreEnds (text : Text) (g : Graph) (limit : ℕ) (before after : Outside I O T S D) (ending : Ending) : Type 0 where
@@ -164,20 +167,20 @@ module _ {I O T S D : Type 0} (m : Meaning I O T S D) where
 
 -- ---- a run
 
-module _ {I O T S D : Type 0} (m : Meaning I O T S D) (words : List Text) (before after : Outside I O T S D) where
+module _ {I O T S D : Type 0} (m : Views I O T S D) (words : List Text) (before after : Outside I O T S D) where
   abbrev InputRose : Type 0
-  InputRose = IsCounted (m.input_faults before.input) (m.input_faults after.input)
+  InputRose = IsCounted (m.source.faults before.input) (m.source.faults after.input)
 
   abbrev InputStayed : Type 0
-  InputStayed = m.input_faults after.input ≡ m.input_faults before.input
+  InputStayed = m.source.faults after.input ≡ m.source.faults before.input
 
   -- ---- what the tree told after the reading of the graph
 
   abbrev GraphRose : TreeTold → Type 0
-  GraphRose opened = IsCounted (m.tree_faults before.tree) opened.faults
+  GraphRose opened = IsCounted (m.tree.faults before.tree) opened.faults
 
   abbrev GraphStayed : TreeTold → Type 0
-  GraphStayed opened = opened.faults ≡ m.tree_faults before.tree
+  GraphStayed opened = opened.faults ≡ m.tree.faults before.tree
 
   -- The words ask for the file of a graph, and the tree was asked for it.
   pub record AsksOnce (opened : TreeTold) : Type 0 where
@@ -189,7 +192,7 @@ module _ {I O T S D : Type 0} (m : Meaning I O T S D) (words : List Text) (befor
   -- The tree gave this of the file.
   pub record TreeGives (opened : TreeTold) (given : Option Text) : Type 0 where
     pub asks : AsksOnce opened
-    pub is : IsGiven (m.files before.tree) asks.name given
+    pub is : IsGiven (m.tree.files before.tree) asks.name given
     pub unfailed : GraphStayed opened
 
   -- The tree gave the text of a checked graph.
@@ -232,7 +235,7 @@ module _ {I O T S D : Type 0} (m : Meaning I O T S D) (words : List Text) (befor
     pub ending : Ending
     pub status_is : status ≡ ending_status ending
     pub ended : Ended ending
-    pub exact : IfSome (m.left before.input) (AllowedBy ending)
-    pub output : OutputCount ending (m.output_faults before.output) (m.output_faults after.output)
+    pub exact : IfSome (m.source.left before.input) (AllowedBy ending)
+    pub output : OutputCount ending (m.sink.faults before.output) (m.sink.faults after.output)
     pub reads : ReadCounts ended.opened ending
     pub disk : DiskCount ending (m.disk.faults before.disk) (m.disk.faults after.disk)

@@ -14,7 +14,7 @@ use Rattle.odin_answers.specs.Edits.{TreeTold}
 use Rattle.odin_shell.specs.declared.stop.Stop.{Stop}
 use Rattle.odin_shell.specs.declared.stop.Stop.TheVariants as stop
 use Rattle.odin_shell.specs.Endings.{stop_of}
-use Rattle.odin_shell.specs.Filed.{DiskMeaning}
+use Rattle.odin_outside.specs.declared.disk.Disk.{Ghosts as DiskView}
 use Rattle.odin_shell.specs.Language.{commands}
 use Rattle.odin_shell.specs.Machine.{SessionState, Told, Step, CommandMayLeave, SessionInvariant, StateAtExit, told_with_stop}
 
@@ -29,9 +29,9 @@ pub record MayServe (most : ℕ) (code : Engaged) (size : ℕ) (tools : Spawned)
   pub idle : tools.running ≡ []
 
 -- At most so many edits were made, and more can be; no fault of the disk was counted.
-pub record IsOnward {D : Type 0} (disk : DiskMeaning D) (most : ℕ) (old new : Engaged) (before after : D) : Type 0 where
+pub record IsOnward {D : Type 0} (disk : DiskView D) (most : ℕ) (old new : Engaged) (before after : D) : Type 0 where
   pub epoch : new.store.epoch ≤ old.store.epoch + most
-  pub ready : IsReady new.store.journal (disk.size after)
+  pub ready : IsReady new.store.journal (disk.size_of after)
   pub faults : disk.faults after ≡ disk.faults before
 
 -- the count of the disk's faults rises where it is why the serving stopped
@@ -39,7 +39,7 @@ abbrev pub CountsStop : Stop → ℕ → ℕ → Type 0
 CountsStop stop.Disk before after = IsCounted before after
 CountsStop other before after = after ≡ before
 
-module _ {D : Type 0} (disk : DiskMeaning D) where
+module _ {D : Type 0} (disk : DiskView D) where
   -- The command with the bytes that were kept of it gets this reply, and what comes after it fits; and it may be left before that.
   pub record HasStepped (g : Graph) (text : Text) (limit : ℕ) (first : SessionState) (start : Told D) (state : SessionState) (command : Command) (body reply : List ℕ) (code : Engaged) (now : Told D) : Type 0 where
     pub new : SessionState

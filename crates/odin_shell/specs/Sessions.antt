@@ -13,7 +13,7 @@ use Rattle.odin_shell.specs.declared.session.Finish.{Finish}
 use Rattle.odin_shell.specs.declared.session.Finish.TheVariants as finish
 use Rattle.odin_shell.specs.declared.session.Session.{Session}
 use Rattle.odin_shell.specs.Endings.{ending_of, EndingLeavesTools}
-use Rattle.odin_shell.specs.Filed.{DiskMeaning}
+use Rattle.odin_outside.specs.declared.disk.Disk.{Ghosts as DiskView}
 use Rattle.odin_shell.specs.Language.{commands}
 use Rattle.odin_shell.specs.Held.{Keeps}
 use Rattle.odin_shell.specs.Machine.{at_first, Told, machine, halt_of, told_with_stop}
@@ -28,7 +28,7 @@ pub record HoldsAtHalt (P : Graph → Text → ℕ → Type 0) (stop : Stop) (to
   pub over : (g : Graph) (text : Text) (limit : ℕ) → P g text limit
   pub idle : ¬ EndingLeavesTools (ending_of stop) → tools.running ≡ []
 
-module _ {Disk : Type 0} (disk : DiskMeaning Disk) where
+module _ {Disk : Type 0} (disk : DiskView Disk) where
   -- A command is served, and the session goes on after it.
   pub record ServesInSession (code code' : Engaged) (whole : Whole) (told told' : Told Disk) : Type 0 where
     pub on : ends_run whole.command ≡ false

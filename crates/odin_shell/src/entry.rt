@@ -2,8 +2,7 @@
 ghost use Rattle.std.specs.Prelude.{◌≡◌, ◌≢◌, [], map, string_bytes};
 ghost use Rattle.dg_reader.specs.Files.{IsRead};
 ghost use Rattle.odin_engine.specs.Engaged.{IsLimit};
-ghost use Rattle.odin_shell.specs.Filed.{disk_meaning};
-ghost use Rattle.odin_shell.specs.Objects.{sink_of, outside, meaning};
+ghost use Rattle.odin_shell.specs.Objects.{sink_of, outside, views};
 ghost use Rattle.odin_answers.specs.Edits.{TreeStays, tree_of};
 ghost use Rattle.odin_shell.specs.Machine.{ToolsStay};
 ghost use Rattle.odin_shell.specs.Run.{Closes, ClosesFor, LastLine, StoreEnds, Ended, RunEnds};
@@ -16,7 +15,7 @@ use crate::load::run_load;
 use crate::write::write_whole;
 use odin_engine::{Engine, StoreFault};
 use odin_outside::{Disk, Sink, Source, Spawner, Tree};
-use odin_store::laws::keeps_changes;
+use odin_store::laws::{compactions_keep, keeps_changes};
 use odin_words::{Work, read_words};
 use std::alloc::Global;
 use type_graph::Graph;
@@ -25,7 +24,7 @@ const USAGE: &[u8] = b"usage: odin [--jobs N] GRAPH, or odin [--jobs N] --load N
 
 /// Writes a last line where an ending is due.
 pub(crate) fn end_with<O: Sink>(output: &mut O, line: &[u8], due: Ending) -> Ending
-    ensures { let sink = sink_of O.taken O.faults in
+    ensures { let sink = sink_of O.Sink in
         LastLine line.now due (sink output.old) (sink output.new) result }
 {
     match write_whole(output, line) {
@@ -36,7 +35,7 @@ pub(crate) fn end_with<O: Sink>(output: &mut O, line: &[u8], due: Ending) -> End
 
 /// Ends a session, by the last line of a file that is full.
 pub(crate) fn close<O: Sink>(alloc: Global, output: &mut O, due: Ending) -> Ending
-    ensures { let sink = sink_of O.taken O.faults in
+    ensures { let sink = sink_of O.Sink in
         Closes due (sink output.old) (sink output.new) result }
 {
     match due {
@@ -50,7 +49,7 @@ pub(crate) fn close<O: Sink>(alloc: Global, output: &mut O, due: Ending) -> Endi
 
 /// Ends a run whose store was not opened.
 fn end_unopened<O: Sink>(alloc: Global, output: &mut O, fault: StoreFault) -> Ending
-    ensures { let sink = sink_of O.taken O.faults in
+    ensures { let sink = sink_of O.Sink in
         ClosesFor fault (sink output.old) (sink output.new) result }
 {
     match fault {
@@ -79,13 +78,13 @@ fn serve_store<I: Source, O: Sink, T: Tree, S: Spawner, D: Disk>(
     requires read { IsRead text.now graph }
     requires jobs { IsLimit jobs }
     requires idle { (S.told tools.old).running ≡ [] }
-    ensures { let on = disk_meaning D.told D.size_of D.faults in let means =
-        meaning I.left I.faults O.taken O.faults T.files T.faults T.reads S.told on in
+    ensures { let means = views I.Source O.Sink T.Tree S.Spawner D.Disk in
         let before = outside input.old output.old tree.old tools.old disk.old in
         let after = outside input.new output.new tree.new tools.new disk.new in
         StoreEnds means text.now graph jobs before after result }
 {
     keeps_changes::<D>();
+    compactions_keep::<D>();
     match Engine::open(alloc, disk, graph, text, jobs) {
         Ok(engine) => {
             let due = serve_input(alloc, engine, input, output, tree, tools, disk);
@@ -106,8 +105,7 @@ fn run_words<I: Source, O: Sink, T: Tree, D: Disk, S: Spawner>(
     tools: &mut S,
 ) -> Ending
     requires { (S.told tools.old).running ≡ [] }
-    ensures { let on = disk_meaning D.told D.size_of D.faults in let means =
-        meaning I.left I.faults O.taken O.faults T.files T.faults T.reads S.told on in
+    ensures { let means = views I.Source O.Sink T.Tree S.Spawner D.Disk in
         let before = outside input.old output.old tree.old tools.old disk.old in
         let after = outside input.new output.new tree.new tools.new disk.new in
         Ended means (map string_bytes words.now) before after result }
@@ -156,15 +154,14 @@ pub fn run<I: Source, O: Sink, T: Tree, D: Disk, S: Spawner>(
     requires { (S.told tools.old).running ≡ [] }
 
     // By the status: what was read and written, what the tools did, what the file has, and which count of faults rose.
-    ensures ends { let on = disk_meaning D.told D.size_of D.faults in let means =
-        meaning I.left I.faults O.taken O.faults T.files T.faults T.reads S.told on in
+    ensures ends { let means = views I.Source O.Sink T.Tree S.Spawner D.Disk in
         let before = outside input.old output.old tree.old tools.old disk.old in
         let after = outside input.new output.new tree.new tools.new disk.new in
         RunEnds means (map string_bytes words.now) before after result }
 
     // The tree keeps its files and the tools their answers, and no count falls. No tool runs on, but at the statuses that leave what runs: 3, 4
     // and 8, and 5 where the line of 8 could not be written.
-    ensures tree { let told = tree_of T.files T.faults T.reads in
+    ensures tree { let told = tree_of T.Tree in
         TreeStays (told tree.old) (told tree.new) }
     ensures tools { ToolsStay (S.told tools.old) (S.told tools.new) }
     ensures idle { result ≢ 3 → result ≢ 4 → result ≢ 5 → result ≢ 8

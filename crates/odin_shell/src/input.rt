@@ -3,8 +3,7 @@ ghost use Rattle.std.specs.Prelude.{◌≡◌, ◌<◌, ◌≤◌, length, vec_l
 ghost use Rattle.odin_outside.specs.Causes.{HasCause};
 ghost use Rattle.odin_outside.specs.Told.{prepended};
 ghost use Rattle.meaning_commands.specs.Endings.{IsSpent, piece_limit};
-ghost use Rattle.odin_shell.specs.Objects.{source_of, told_of};
-ghost use Rattle.odin_shell.specs.Filed.{disk_meaning};
+ghost use Rattle.odin_shell.specs.Objects.{source_of, told_by};
 ghost use Rattle.odin_shell.specs.Begun.{MayBeginSession, SessionServes};
 
 use crate::ending::Ending;
@@ -55,12 +54,11 @@ fn serve_pieces<I: Source, O: Sink, T: Tree, S: Spawner, D: Disk>(
     requires some { 0 < length buffer.old }
     requires few { length buffer.old ≤ piece_limit }
     requires may { MayBeginSession engine (D.size_of disk.old) (S.told tools.old) }
-    ensures { let source = source_of I.left I.faults in
-        let told = told_of O.taken O.faults T.files T.faults T.reads S.told in
+    ensures { let source = source_of I.Source in
+        let told = told_by O.Sink T.Tree S.Spawner in
         let before = told output.old tree.old tools.old disk.old in
         let after = told output.new tree.new tools.new disk.new in
-        let on = disk_meaning D.told D.size_of D.faults in
-        SessionServes on engine (source input.old) (source input.new) before after result }
+        SessionServes D.Disk engine (source input.old) (source input.new) before after result }
 {
     let mut session = Session::new(alloc, engine);
     let mut count: usize = 0;
@@ -94,12 +92,11 @@ pub(crate) fn serve_input<I: Source, O: Sink, T: Tree, S: Spawner, D: Disk>(
     disk: &mut D,
 ) -> Ending
     requires { MayBeginSession engine (D.size_of disk.old) (S.told tools.old) }
-    ensures { let source = source_of I.left I.faults in
-        let told = told_of O.taken O.faults T.files T.faults T.reads S.told in
+    ensures { let source = source_of I.Source in
+        let told = told_by O.Sink T.Tree S.Spawner in
         let before = told output.old tree.old tools.old disk.old in
         let after = told output.new tree.new tools.new disk.new in
-        let on = disk_meaning D.told D.size_of D.faults in
-        SessionServes on engine (source input.old) (source input.new) before after result }
+        SessionServes D.Disk engine (source input.old) (source input.new) before after result }
 {
     match make_buffer(alloc) {
         Ok(mut buffer) => {

@@ -1,6 +1,5 @@
 // Laws over inputs and sessions.
 ghost use Rattle.odin_shell.specs.Crashes.{ImagesHoldOurs};
-ghost use Rattle.odin_shell.specs.Filed.{disk_meaning};
 ghost use Rattle.odin_shell.specs.Laws.{InputIsCutOnce, SourcesStay, EachIsOpened, OpenedIsOne, HeldIsMade, KeptStaysTrue, RefusalsAreCounted, TranscriptIsOne};
 
 use odin_outside::Disk;
@@ -52,5 +51,5 @@ pub fn transcript_is_one()
 /// acknowledged; and each call that is kept in it was kept at the start, or is one of the node of an ask of the session. Where the tools answer
 /// by a table, all of them are true, and those that were not kept at the start are calls of their nodes by the table.
 pub fn images_hold_calls_of_asks<D: Disk>()
-    ensures { let on = disk_meaning D.told D.size_of D.faults in ImagesHoldOurs on }
+    ensures { ImagesHoldOurs D.Disk }
 {}

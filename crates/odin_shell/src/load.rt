@@ -51,7 +51,7 @@ fn load_lines(alloc: Global, units: u32, loaded: Loaded) -> Result<Bytes, Memory
 
 // Writes the lines of a load session that was served.
 fn tell<O: Sink>(alloc: Global, output: &mut O, units: u32, loaded: Loaded) -> Ending
-    ensures { let sink = sink_of O.taken O.faults in
+    ensures { let sink = sink_of O.Sink in
         SaysLastLine (load_lines units loaded) Ending.Loaded (sink output.old)
         (sink output.new) result }
 {
@@ -63,7 +63,7 @@ fn tell<O: Sink>(alloc: Global, output: &mut O, units: u32, loaded: Loaded) -> E
 
 // Ends a load session that failed. Its file is a store's always.
 fn end_failed<O: Sink>(alloc: Global, output: &mut O, fault: StoreFault) -> Ending
-    ensures { let sink = sink_of O.taken O.faults in
+    ensures { let sink = sink_of O.Sink in
         ClosesLoad fault (sink output.old) (sink output.new) result }
 {
     match fault {
@@ -78,7 +78,7 @@ fn end_failed<O: Sink>(alloc: Global, output: &mut O, fault: StoreFault) -> Endi
 pub(crate) fn run_load<O: Sink>(alloc: Global, output: &mut O, units: u32) -> Ending
     requires some { 1 ≤ units }
     requires few { units ≤ unit_limit }
-    ensures { let sink = sink_of O.taken O.faults in
+    ensures { let sink = sink_of O.Sink in
         LoadEnds units (sink output.old) (sink output.new) result }
 {
     match serve_load(alloc, units) {

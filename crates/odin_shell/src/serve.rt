@@ -4,8 +4,7 @@ ghost use Rattle.meaning_derive.specs.Answers as answers;
 ghost use Rattle.meaning_commands.specs.Objects.{SinkTold};
 ghost use Rattle.odin_journal.specs.Faults.{JournalFaultIsCounted};
 ghost use Rattle.odin_answers.specs.Edits.{SaysReply, tree_of};
-ghost use Rattle.odin_shell.specs.Filed.{disk_meaning};
-ghost use Rattle.odin_shell.specs.Objects.{told_of};
+ghost use Rattle.odin_shell.specs.Objects.{told_by};
 ghost use Rattle.odin_shell.specs.Served.{telling, MayServe, Answers, HaltsCommand, AnswersAsk, HaltsAsk, CountsStop, IsOnward};
 ghost use Rattle.odin_shell.specs.Sessions.{ServesInSession, StopsServingInSession};
 
@@ -30,20 +29,17 @@ pub(crate) fn serve_command<O: Sink, T: Tree, S: Spawner, D: Disk>(
     disk: &mut D,
 ) -> Result<(), Stop>
     requires { MayServe 1 engine.old (D.size_of disk.old) (S.told tools.old) }
-    ensures ok { let told = told_of O.taken O.faults T.files T.faults T.reads S.told in
+    ensures ok { let told = told_by O.Sink T.Tree S.Spawner in
         let before = told output.old tree.old tools.old disk.old in
         let after = told output.new tree.new tools.new disk.new in
-        let on = disk_meaning D.told D.size_of D.faults in
-        OnOk result (ServesInSession on engine.old engine.new whole before after) }
-    ensures err { let told = told_of O.taken O.faults T.files T.faults T.reads S.told in
+        OnOk result (ServesInSession D.Disk engine.old engine.new whole before after) }
+    ensures err { let told = told_by O.Sink T.Tree S.Spawner in
         let before = told output.old tree.old tools.old disk.old in
         let after = told output.new tree.new tools.new disk.new in
-        let on = disk_meaning D.told D.size_of D.faults in
-        IfErr result (λ stop. StopsServingInSession on stop engine.old whole before after) }
+        IfErr result (λ stop. StopsServingInSession D.Disk stop engine.old whole before after) }
     ensures counted { IfErr result
         (λ stop. CountsStop stop (D.faults disk.old) (D.faults disk.new)) }
-    ensures onward { let on = disk_meaning D.told D.size_of D.faults in
-        OnOk result (IsOnward on 1 engine.old engine.new disk.old disk.new) }
+    ensures onward { OnOk result (IsOnward D.Disk 1 engine.old engine.new disk.old disk.new) }
 {
     let last = ends_run(&whole.command);
     let reply = answer(alloc, engine, whole, tree, tools, disk)?;
@@ -64,19 +60,17 @@ fn answer<T: Tree, S: Spawner, D: Disk>(
     disk: &mut D,
 ) -> Result<Bytes, StoreFault>
     requires { MayServe 1 engine.old (D.size_of disk.old) (S.told tools.old) }
-    ensures ok { let on = disk_meaning D.told D.size_of D.faults in
-        let told = tree_of T.files T.faults T.reads in
-        IfOk result (λ reply. (sink : SinkTold) → Answers on engine.old whole.command whole.body
+    ensures ok { let told = tree_of T.Tree in
+        IfOk result (λ reply. (sink : SinkTold) → Answers D.Disk engine.old whole.command whole.body
         (telling sink (S.told tools.old) (told tree.old) disk.old) reply engine.new
         (telling sink (S.told tools.new) (told tree.new) disk.new)) }
-    ensures err { let on = disk_meaning D.told D.size_of D.faults in
-        let told = tree_of T.files T.faults T.reads in
-        IfErr result (λ why. (sink : SinkTold) → HaltsCommand on engine.old whole.command whole.body
+    ensures err { let told = tree_of T.Tree in
+        IfErr result (λ why. (sink : SinkTold) →
+        HaltsCommand D.Disk engine.old whole.command whole.body
         (telling sink (S.told tools.old) (told tree.old) disk.old) why
         (telling sink (S.told tools.new) (told tree.new) disk.new)) }
     ensures cause { JournalFaultIsCounted (D.faults disk.old) (D.faults disk.new) result }
-    ensures onward { let on = disk_meaning D.told D.size_of D.faults in
-        OnOk result (IsOnward on 1 engine.old engine.new disk.old disk.new) }
+    ensures onward { OnOk result (IsOnward D.Disk 1 engine.old engine.new disk.old disk.new) }
     ensures idle { OnOk result ((S.told tools.new).running ≡ []) }
 {
     let (command, body) = whole.into_parts();
@@ -104,15 +98,12 @@ fn ask<S: Spawner, D: Disk>(
     disk: &mut D,
 ) -> Result<Bytes, StoreFault>
     requires { MayServe 1 engine.old (D.size_of disk.old) (S.told tools.old) }
-    ensures ok { let on = disk_meaning D.told D.size_of D.faults in
-        let asks = AnswersAsk on engine.old text.now (S.told tools.old) disk.old in
+    ensures ok { let asks = AnswersAsk D.Disk engine.old text.now (S.told tools.old) disk.old in
         IfOk result (λ reply. asks reply engine.new (S.told tools.new) disk.new) }
-    ensures err { let on = disk_meaning D.told D.size_of D.faults in
-        let halts = HaltsAsk on engine.old text.now (S.told tools.old) disk.old in
+    ensures err { let halts = HaltsAsk D.Disk engine.old text.now (S.told tools.old) disk.old in
         IfErr result (λ why. halts why (S.told tools.new) disk.new) }
     ensures cause { JournalFaultIsCounted (D.faults disk.old) (D.faults disk.new) result }
-    ensures onward { let on = disk_meaning D.told D.size_of D.faults in
-        OnOk result (IsOnward on 1 engine.old engine.new disk.old disk.new) }
+    ensures onward { OnOk result (IsOnward D.Disk 1 engine.old engine.new disk.old disk.new) }
     ensures idle { OnOk result ((S.told tools.new).running ≡ []) }
 {
     let reply = answer_ask(alloc, engine, disk, text, tools)?;

@@ -1,8 +1,7 @@
 // A session between two bytes of its input.
 ghost use Rattle.std.specs.Prelude.{◌≡◌, ◌+◌, ◌≤◌, ◌<◌, [], length, take, OnOk, IfOk, IfErr};
-ghost use Rattle.odin_shell.specs.Filed.{disk_meaning};
 ghost use Rattle.odin_shell.specs.Held.{Keeps};
-ghost use Rattle.odin_shell.specs.Objects.{told_of};
+ghost use Rattle.odin_shell.specs.Objects.{told_by};
 ghost use Rattle.odin_shell.specs.Served.{CountsStop, IsOnward, MayServe};
 ghost use Rattle.odin_shell.specs.Sessions.{AdvancesSession, StopsSession, FinishesSession, StopsSessionAtEnd};
 
@@ -57,22 +56,20 @@ impl Session {
     ) -> Result<usize, Stop>
         requires some { 0 < length piece.now }
         requires may { MayServe 1 self.old.engine (D.size_of disk.old) (S.told tools.old) }
-        ensures ok { let told = told_of O.taken O.faults T.files T.faults T.reads S.told in
+        ensures ok { let told = told_by O.Sink T.Tree S.Spawner in
             let before = told output.old tree.old tools.old disk.old in
             let after = told output.new tree.new tools.new disk.new in
-            let on = disk_meaning D.told D.size_of D.faults in
-            IfOk result (λ n. AdvancesSession on (take n piece.now) before
+            IfOk result (λ n. AdvancesSession D.Disk (take n piece.now) before
             self.old after self.new) }
         ensures front { IfOk result (λ n. (0 < n) × (n ≤ length piece.now)) }
-        ensures err { let told = told_of O.taken O.faults T.files T.faults T.reads S.told in
+        ensures err { let told = told_by O.Sink T.Tree S.Spawner in
             let before = told output.old tree.old tools.old disk.old in
             let after = told output.new tree.new tools.new disk.new in
-            let on = disk_meaning D.told D.size_of D.faults in
-            IfErr result (λ stop. StopsSession on stop piece.now before self.old after) }
+            IfErr result (λ stop. StopsSession D.Disk stop piece.now before self.old after) }
         ensures counted { IfErr result (λ stop.
             CountsStop stop (D.faults disk.old) (D.faults disk.new)) }
-        ensures onward { let on = disk_meaning D.told D.size_of D.faults in
-            OnOk result (IsOnward on 1 self.old.engine self.new.engine disk.old disk.new) }
+        ensures onward { OnOk result
+            (IsOnward D.Disk 1 self.old.engine self.new.engine disk.old disk.new) }
     {
         let Front { count, whole } = self.cutter.take(alloc, piece)?;
         if let Some(whole) = whole {
@@ -93,21 +90,18 @@ impl Session {
     ) -> Result<(), Stop>
         requires { let most = length piece.now in
             MayServe most self.old.engine (D.size_of disk.old) (S.told tools.old) }
-        ensures ok { let told = told_of O.taken O.faults T.files T.faults T.reads S.told in
+        ensures ok { let told = told_by O.Sink T.Tree S.Spawner in
             let before = told output.old tree.old tools.old disk.old in
             let after = told output.new tree.new tools.new disk.new in
-            let on = disk_meaning D.told D.size_of D.faults in
-            OnOk result (AdvancesSession on piece.now before self.old after self.new) }
-        ensures err { let told = told_of O.taken O.faults T.files T.faults T.reads S.told in
+            OnOk result (AdvancesSession D.Disk piece.now before self.old after self.new) }
+        ensures err { let told = told_by O.Sink T.Tree S.Spawner in
             let before = told output.old tree.old tools.old disk.old in
             let after = told output.new tree.new tools.new disk.new in
-            let on = disk_meaning D.told D.size_of D.faults in
-            IfErr result (λ stop. StopsSession on stop piece.now before self.old after) }
+            IfErr result (λ stop. StopsSession D.Disk stop piece.now before self.old after) }
         ensures counted { IfErr result (λ stop.
             CountsStop stop (D.faults disk.old) (D.faults disk.new)) }
-        ensures onward { let on = disk_meaning D.told D.size_of D.faults in
-            let most = length piece.now in
-            OnOk result (IsOnward on most self.old.engine self.new.engine disk.old disk.new) }
+        ensures onward { let most = length piece.now in
+            OnOk result (IsOnward D.Disk most self.old.engine self.new.engine disk.old disk.new) }
     {
         let mut at = 0;
         while at < piece.len() {
@@ -126,16 +120,14 @@ impl Session {
         disk: &mut D,
     ) -> Result<Finish, Stop>
         requires { MayServe 1 self.engine (D.size_of disk.old) (S.told tools.old) }
-        ensures ok { let told = told_of O.taken O.faults T.files T.faults T.reads S.told in
+        ensures ok { let told = told_by O.Sink T.Tree S.Spawner in
             let before = told output.old tree.old tools.old disk.old in
             let after = told output.new tree.new tools.new disk.new in
-            let on = disk_meaning D.told D.size_of D.faults in
-            IfOk result (λ finish. FinishesSession on finish before self after) }
-        ensures err { let told = told_of O.taken O.faults T.files T.faults T.reads S.told in
+            IfOk result (λ finish. FinishesSession D.Disk finish before self after) }
+        ensures err { let told = told_by O.Sink T.Tree S.Spawner in
             let before = told output.old tree.old tools.old disk.old in
             let after = told output.new tree.new tools.new disk.new in
-            let on = disk_meaning D.told D.size_of D.faults in
-            IfErr result (λ stop. StopsSessionAtEnd on stop before self after) }
+            IfErr result (λ stop. StopsSessionAtEnd D.Disk stop before self after) }
         ensures counted { IfErr result (λ stop.
             CountsStop stop (D.faults disk.old) (D.faults disk.new)) }
         ensures unfailed { OnOk result (D.faults disk.new ≡ D.faults disk.old) }

@@ -1,8 +1,7 @@
 // Laws over whole sessions and whole runs.
 ghost use Rattle.odin_shell.specs.Complete.{RunsComplete};
-ghost use Rattle.odin_shell.specs.Filed.{disk_meaning};
 ghost use Rattle.odin_shell.specs.Fresh.{RunIsFresh};
-ghost use Rattle.odin_shell.specs.Objects.{meaning};
+ghost use Rattle.odin_shell.specs.Objects.{views};
 ghost use Rattle.odin_shell.specs.Once.{NeverTwice, AnswersSurvive};
 
 use meaning_records::laws::stands_for_one;
@@ -25,7 +24,7 @@ pub fn never_twice()
 /// What was answered and acknowledged stays answered: whatever image a crash leaves at an exit, over what it stands for, and the sources of
 /// then, the text is answered at once, with nothing run.
 pub fn answers_survive<D: Disk>()
-    ensures { let on = disk_meaning D.told D.size_of D.faults in AnswersSurvive on }
+    ensures { AnswersSurvive D.Disk }
 {
     asked_again();
 }
@@ -33,8 +32,7 @@ pub fn answers_survive<D: Disk>()
 /// A run comes to its end with all replies written, where its words, its graph, its store and its input are sound, and no fault is counted:
 /// but for want of memory, and for a store that is full.
 pub fn runs_complete<I: Source, O: Sink, T: Tree, S: Spawner, D: Disk>()
-    ensures { let on = disk_meaning D.told D.size_of D.faults in let means =
-        meaning I.left I.faults O.taken O.faults T.files T.faults T.reads S.told on in
+    ensures { let means = views I.Source O.Sink T.Tree S.Spawner D.Disk in
         RunsComplete means }
 {
     asked_is_one();

@@ -1,7 +1,6 @@
 // The program: it makes the objects of the outside, runs a session over them, and says how that ended.
 ghost use Rattle.std.specs.Prelude.{◌≡◌, [], map, string_bytes};
-ghost use Rattle.odin_shell.specs.Filed.{disk_meaning};
-ghost use Rattle.odin_shell.specs.Objects.{meaning, outside};
+ghost use Rattle.odin_shell.specs.Objects.{views, outside};
 ghost use Rattle.odin_start.specs.Served.{IsServed};
 
 use crate::faults::{MEMORY, cause_of, fault_of};
@@ -40,9 +39,8 @@ pub fn serve<R: Eprint, I: Source, O: Sink, T: Tree, F: RawFile + Drop, S: Syste
     tools: &mut ChildTools<S>,
 ) -> u8
     requires { (⟦<ChildTools<S> as Spawner>⟧.told tools.old).running ≡ [] }
-    ensures { let file = ⟦<FileDisk<F> as Disk>⟧ in let told = ⟦<ChildTools<S> as Spawner>⟧.told in
-        let on = disk_meaning file.told file.size_of file.faults in let means =
-        meaning I.left I.faults O.taken O.faults T.files T.faults T.reads told on in
+    ensures { let means = views I.Source O.Sink T.Tree ⟦<ChildTools<S> as Spawner>⟧
+        ⟦<FileDisk<F> as Disk>⟧ in
         let before = outside input.old output.old tree.old tools.old disk.old in
         let now = outside input.new output.new tree.new tools.new disk.new in
         IsServed means (map string_bytes words.now) before now result }

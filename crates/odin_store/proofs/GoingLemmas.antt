@@ -24,7 +24,7 @@ use Rattle.odin_store.proofs.RecordTrails.{stops_record, first_leaves, rests_lea
 use Rattle.odin_store.specs.Edited.{HasEdited, HasFailed}
 use Rattle.odin_store.proofs.WrittenLemmas.{gate-append, records-append, works_for_one, works_on}
 use Rattle.meaning_records.specs.ImageLemmas.{one_end}
-use Rattle.odin_journal.specs.Rest.{AtRest}
+use Rattle.odin_journal.specs.Rest.{RestsOn}
 use Rattle.odin_store.proofs.KeepingLemmas.{kept_on, stops_in, same_on, same_held, same_state, same_rests, left_durably}
 
 -- ---- the batches
@@ -70,7 +70,7 @@ module _ {Disk : Type 0} (told : Disk → Telling) where
           (subst (λ d. IsOn (told d) next records graph) (sym same.disk_is) (same_on (told disk) store next records graph same.store_is on));
       end = ap (λ (j : Journal). j.end) same.store_is.journal;
       bytes = ap (λ d. (told d).seen) same.disk_is;
-      grows = untouched_grows record_keeping told disk after store next same.disk_is (λ kept rests. subst (λ (j : Journal). AtRest (told disk) kept j.end) (sym same.store_is.journal) rests);
+      grows = untouched_grows record_keeping told disk after store next same.disk_is (λ kept rests. subst (λ (j : Journal). RestsOn (told disk) kept j) (sym same.store_is.journal) rests);
       works = subst (λ d. WorksFor [] (told disk) (told d)) (sym same.disk_is) (no_work (told disk).work);
     };
   }
@@ -81,7 +81,7 @@ module _ {Disk : Type 0} (told : Disk → Telling) where
   goes_one law change store next disk after holds (items, batch, appends) leaves =
       -- the records on which the store rests are those that it rested on
       let one_rest : (records kept : List (List ℕ)) → RecordsRest (told disk) store records → RecordsRest (told disk) store kept → records ≡ kept =
-      λ records kept rests others. (one_end (told disk).seen kept records store.journal.end store.journal.end others.store rests.store).0 in
+      λ records kept rests others. (one_end (told disk).seen kept records store.journal.end store.journal.end others.rests.store rests.rests.store).0 in
       record {
         holds = holds;
         grows = keeps_grows store_keeping told change disk after store next (kept_on items change store next (told disk) (told after) holds appends leaves);
@@ -92,7 +92,7 @@ module _ {Disk : Type 0} (told : Disk → Telling) where
               are = alone change items (state_in store graph) (state_in next graph) batch (last_read law records (spell_batch items) nothing (state_in store graph) (state_in next graph) on.read now.read);
               on = now;
               end = appends.end;
-              bytes = appends.bytes on.rests.quiet;
+              bytes = appends.bytes on.rests.rests.quiet;
               grows = keeps_grows record_keeping told (spell_batch items) disk after store next (record {
                 rests = λ kept rests. subst (λ r. RecordsRest (told after) next (r ++ spell_batch items ∷ [])) (one_rest records kept on.rests rests) now.rests;
                 crash = stops_record store (spell_batch items) (told disk) (told after) appends.leaves;

@@ -6,7 +6,7 @@ use Rattle.odin_journal.specs.Trails as trails
 use Rattle.odin_journal.specs.TrailLemmas.{opened_trail}
 use Rattle.object_values.specs.Texts.{Text, Texts}
 use Rattle.odin_journal.specs.declared.journal.Journal.{Journal}
-use Rattle.odin_journal.specs.Rest.{AtRest}
+use Rattle.odin_journal.specs.Rest.{RestsOn}
 use Rattle.object_values.specs.declared.items.Item.{Item}
 use Rattle.meaning_records.specs.Tables.{Tables}
 use Rattle.meaning_records.specs.Laws.{ReadsInOneWay}
@@ -39,10 +39,11 @@ kept_on items change store next old new holds appends leaves = record {
 -- a store that is as it was rests as it did
 pub same_on : (disk : Telling) (store next : Store) (records : List (List ℕ)) (graph : Option Text) → IsUnchanged store next → IsOn disk store records graph → IsOn disk next records graph
 same_on disk store next records graph same on = record {
-  rests = subst (λ (j : Journal). AtRest disk records j.end) (sym same.journal) on.rests;
+  rests = subst (λ (j : Journal). RestsOn disk records j) (sym same.journal) on.rests;
   read =
       subst (λ (t : Tables). ReadsAll nothing records (record { tables = t; sources = next.sources.texts; graph = graph })) (sym same.tables)
       (subst (λ (s : Texts). ReadsAll nothing records (record { tables = store.kept.tables; sources = s; graph = graph })) (sym same.sources) on.read);
+  last = on.last ∙ ap Some (sym same.graph);
 }
 
 pub same_state : (store next : Store) (graph : Option Text) → IsUnchanged store next → state_in next graph ≡ state_in store graph
@@ -63,6 +64,26 @@ pub left_durably : (disk : Telling) (store : Store) (held : Held) → Rests disk
 left_durably disk store held rests image left = subst (λ h. StandsFor h image) (sym rests.holds) (held_left disk store rests.records rests.graph rests.on image left)
 
 -- ---- an opened store
+
+-- a store that is as it was opened is opened so
+pub opens_same : (graph : Text) (old new : Telling) (store next : Store) → IsUnchanged store next → OpensStore graph old new store → OpensStore graph old new next
+opens_same graph old new store next same opens = record {
+  records = opens.records;
+  state = opens.state;
+  stored = opens.stored;
+  read = opens.read;
+  holds = same_held store next same ∙ opens.holds;
+  opening = opens.opening;
+  opens = opens.opens;
+  on = same_on new store next (opens.records ++ opens.opening) (Some graph) same opens.on;
+  made = opens.made;
+  is_made = opens.is_made;
+  gate = opens.gate;
+  whole = opens.whole;
+  end = ap (λ (j : Journal). j.end) same.journal ∙ opens.end;
+  bytes = opens.bytes;
+  works = opens.works;
+}
 
 opened_rests : (graph : Text) (store : Store) (old new : Telling) → OpensStore graph old new store → Rests new store (held_in store)
 opened_rests graph store old new opens = record { records = opens.records ++ opens.opening; graph = Some graph; on = opens.on; holds = refl }
@@ -101,6 +122,6 @@ module _ (law : ReadsInOneWay) (graph : Text) (store : Store) (old new : Telling
 
   pub opened_records : trails.Trail record_keeping opens.records old opens.opening store new
   opened_records = record {
-    rests = subst (λ r. AtRest new r store.journal.end) (sym (after_records opens.opening opens.records)) opens.on.rests;
+    rests = subst (λ r. RestsOn new r store.journal) (sym (after_records opens.opening opens.records)) opens.on.rests;
     crash = weaker old new (HasOpening graph opens.records) (trails.IsPrefix record_keeping opens.records 0 opens.opening) (leaves opens.records quiet opens.stored) (opening_first opens.opening opens.opens);
   }

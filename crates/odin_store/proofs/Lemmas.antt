@@ -5,3 +5,8 @@ pub use Rattle.odin_store.proofs.GoingLemmas.{nothing_behind, batches_on, goes_n
 pub use Rattle.odin_store.proofs.SourceLemmas.{put_stays, drop_stays}
 -- What is written to add records.
 pub use Rattle.odin_store.proofs.WrittenLemmas.{written-append, gate-append, records-append, works_on, works_after}
+-- A store that is as it was, and one that has no record but that of its graph.
+pub use Rattle.odin_store.proofs.KeepingLemmas.{same_held, same_on, opens_same}
+pub use Rattle.odin_store.proofs.CompactLemmas.{first_not_wasteful, held_leaves}
+-- Where nothing is begun.
+pub use Rattle.odin_store.proofs.RecordTrails.{nothing_first}

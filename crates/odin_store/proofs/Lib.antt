@@ -1,4 +1,5 @@
 mod BatchLemmas
+mod CompactLemmas
 mod GoingLemmas
 mod KeepingLemmas
 mod LoadLemmas

@@ -11,7 +11,9 @@ use Rattle.meaning_records.specs.ImageLemmas.{new_or_written, no_records, one_st
 use Rattle.odin_journal.specs.Faults as journal
 use Rattle.odin_journal.specs.WorkLemmas.{more_work, add_work}
 use Rattle.odin_journal.specs.Moments.{Untouched, Works}
-use Rattle.odin_journal.specs.Rest.{AtRest, BeforeOrAfter, OpensJournal, OnlyReads, KeepsRecords, AddsRecord, KeepsOrAdds}
+use Rattle.odin_journal.specs.Rest.{AtRest, BeforeOrAfter, OpensJournal, OnlyReads, KeepsRecords, AddsRecord, KeepsOrAdds, RestsOn, RestsOnMore}
+use Rattle.odin_journal.specs.Starts.{IsStartOf}
+use Rattle.odin_journal.specs.declared.journal.Journal.{Journal}
 use Rattle.odin_journal.specs.declared.fault.JournalFault.{JournalFault}
 use Rattle.odin_journal.specs.declared.fault.JournalFault.TheVariants as fault
 use Rattle.object_values.specs.declared.items.Item.TheVariants.{Graph}
@@ -214,9 +216,9 @@ made_of old mid records end reads quiet opened = by opened.stored
     by (inr store) = inr (store.1.written, (reads quiet (λ is_new. new_or_written old.seen is_new store.1.written)).same)
 
 -- the file's last graph is this one
-pub opens_known : (graph : Text) (old mid : Telling) (store_ : Store) (records : List (List ℕ)) (end : ℕ) (state : State) → OnlyReads old mid → (IsQuiet old → OpensJournal old mid records end) → ReadsAll nothing records state
-    → Works 66 (16 + 2 * length records) old mid → store_.journal.end ≡ end → state_in store_ state.graph ≡ state → state.graph ≡ Some graph → store.OpensQuietStore graph old mid store_
-opens_known graph old mid store_ records end state reads opens read works place holds known quiet =
+pub opens_known : (graph : Text) (old mid : Telling) (store_ : Store) (records : List (List ℕ)) (journal_ : Journal) (state : State) → OnlyReads old mid → (IsQuiet old → OpensJournal old mid records journal_.end) → (IsQuiet old → IsStartOf mid.seen journal_.start)
+    → ReadsAll nothing records state → Works 66 (16 + 2 * length records) old mid → store_.journal ≡ journal_ → store_.graph ≡ graph → state_in store_ state.graph ≡ state → state.graph ≡ Some graph → store.OpensQuietStore graph old mid store_
+opens_known graph old mid store_ records journal_ state reads opens starts read works same kept holds known quiet =
     let opened = opens quiet in
     record {
       records = records;
@@ -227,14 +229,15 @@ opens_known graph old mid store_ records end state reads opens read works place 
       opening = [];
       opens = inl (known, refl);
       on = subst (λ r. IsOn mid store_ r (Some graph)) (sym (nothing_behind records)) (record {
-        rests = subst (λ e. AtRest mid records e) (sym place) opened.rests;
+        rests = subst (λ (j : Journal). RestsOn mid records j) (sym same) (record { rests = opened.rests; starts = starts quiet });
         read = subst (λ g. ReadsAll nothing records (state_in store_ g)) known (subst (λ s. ReadsAll nothing records s) (sym holds) read);
+        last = ap Some (sym kept);
       });
       made = mid.seen;
-      is_made = made_of old mid records end reads quiet opened;
-      gate = end;
+      is_made = made_of old mid records journal_.end reads quiet opened;
+      gate = journal_.end;
       whole = opened.rests.store;
-      end = place;
+      end = ap (λ (j : Journal). j.end) same;
       bytes = refl;
       works = works_wider 66 (16 + 2 * length records) [] old mid works;
     }
@@ -244,10 +247,11 @@ opens_known graph old mid store_ records end state reads opens read works place 
     nothing_behind (x ∷ xs) = ap (λ l. x ∷ l) (nothing_behind xs)
 
 -- or it was added
-pub opens_added : (graph : Text) (old mid new : Telling) (store_ : Store) (records : List (List ℕ)) (end : ℕ) (state : State) → length graph ≤ 1048576 → OnlyReads old mid → (IsQuiet old → OpensJournal old mid records end) → ReadsAll nothing records state
+pub opens_added : (graph : Text) (old mid new : Telling) (store_ : Store) (records : List (List ℕ)) (journal_ : Journal) (state : State) → length graph ≤ 1048576 → OnlyReads old mid → (IsQuiet old → OpensJournal old mid records journal_.end)
+    → (IsQuiet old → IsStartOf mid.seen journal_.start) → ReadsAll nothing records state
     → Works 66 (16 + 2 * length records) old mid → Works (length (graph_record graph) + 6) 4 mid new
-    → AddsRecord end store_.journal.end (graph_record graph) mid new → state_in store_ state.graph ≡ state → state.graph ≢ Some graph → store.OpensQuietStore graph old new store_
-opens_added graph old mid new store_ records end state short reads opens read works added adds holds other quiet =
+    → AddsRecord journal_.end store_.journal.end (graph_record graph) mid new → RestsOnMore journal_ store_.journal (graph_record graph) mid new → store_.graph ≡ graph → state_in store_ state.graph ≡ state → state.graph ≢ Some graph → store.OpensQuietStore graph old new store_
+opens_added graph old mid new store_ records journal_ state short reads opens starts read works added adds more kept holds other quiet =
     let opened = opens quiet in
     let after : State = record { tables = state.tables; sources = state.sources; graph = Some graph } in
     let same : after ≡ state_in store_ (Some graph) = ap (λ (s : State). record { tables = s.tables; sources = s.sources; graph = Some graph }) (sym holds) in
@@ -260,12 +264,13 @@ opens_added graph old mid new store_ records end state short reads opens read wo
       opening = graph_record graph ∷ [];
       opens = inr (other, refl);
       on = record {
-        rests = adds.rests records opened.rests;
+        rests = more records (record { rests = opened.rests; starts = starts quiet });
         read = subst (λ s. ReadsAll nothing (records ++ graph_record graph ∷ []) s) same (reads_on records (graph_record graph) nothing state after read (graph_reads graph state short));
+        last = ap Some (sym kept);
       };
       made = mid.seen;
-      is_made = made_of old mid records end reads quiet opened;
-      gate = end;
+      is_made = made_of old mid records journal_.end reads quiet opened;
+      gate = journal_.end;
       whole = opened.rests.store;
       end = adds.next_is;
       bytes = adds.bytes opened.rests.quiet;

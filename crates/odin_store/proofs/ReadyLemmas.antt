@@ -10,7 +10,7 @@ use Rattle.meaning_texts.specs.Classes.{IsName}
 use Rattle.meaning_records.specs.Front.{file_limit}
 use Rattle.odin_journal.specs.Faults.{IsAddFault}
 use Rattle.odin_journal.specs.Moments.{Works}
-use Rattle.odin_journal.specs.Rest.{AddsRecord, KeepsOrAdds}
+use Rattle.odin_journal.specs.Rest.{AddsRecord, KeepsOrAdds, RestsOnMore}
 use Rattle.odin_journal.specs.declared.journal.Journal.{Journal}
 use Rattle.odin_journal.specs.declared.fault.JournalFault.{JournalFault}
 use Rattle.object_values.specs.declared.items.Item.{Item}
@@ -90,15 +90,17 @@ module _ (IsBatch : List Item → Type 0) (change : Change) (store : Store) (pay
         (subst (λ (j : Journal). KeepsOrAdds j.end (spell_batch ready.items) old new) same (subst (λ b. KeepsOrAdds journal.end b old new) spelled leaves));
   }
 
-  pub ready_adds : (journal : Journal) (after : Store) (old new : Telling) → journal ≡ store.journal → AddsRecord journal.end after.journal.end bytes old new → journal.end + 6 + length bytes ≤ file_limit
+  pub ready_adds : (journal : Journal) (after : Store) (old new : Telling) → journal ≡ store.journal → after.graph ≡ store.graph → AddsRecord journal.end after.journal.end bytes old new → RestsOnMore journal after.journal bytes old new → journal.end + 6 + length bytes ≤ file_limit
       → KeepsOrAdds journal.end bytes old new → Works (length bytes + 6) 4 old new → after.kept.tables ≡ next → after.sources.texts ≡ edited → AddsBatch IsBatch store after old new
-  ready_adds journal after old new same adds room leaves works tables sources = (
+  ready_adds journal after old new same stays adds more room leaves works tables sources = (
     ready.items,
     ready.batch,
     appends change ready.items store after old new bytes spelled
         (subst (λ (t : Tables). Makes change store.kept.tables store.sources.texts (spell_batch ready.items) t after.sources.texts) (sym tables)
         (subst (λ (s : Texts). Makes change store.kept.tables store.sources.texts (spell_batch ready.items) next s) (sym sources) ready.makes))
+        stays
         (subst (λ (j : Journal). AddsRecord j.end after.journal.end bytes old new) same adds)
+        (subst (λ (j : Journal). RestsOnMore j after.journal bytes old new) same more)
         (subst (λ (j : Journal). j.end + 6 + length bytes ≤ 1073741824) same room)
         (subst (λ (j : Journal). KeepsOrAdds j.end bytes old new) same leaves) works,
   )

@@ -22,7 +22,7 @@ after_records (payload ∷ payloads) records = after_records payloads (records +
 
 -- what a crash leaves of a disk at rest has all records
 pub rests_leave : (disk : Telling) (store : Store) (records : List (List ℕ)) → RecordsRest disk store records → (image : List ℕ) → MayLeave disk image → Stored records image
-rests_leave disk store records rests image left = inr (store.journal.end, subst (λ c. IsStore c records store.journal.end) (sym (rests.quiet.only image left)) rests.store)
+rests_leave disk store records rests image left = inr (store.journal.end, subst (λ c. IsStore c records store.journal.end) (sym (rests.rests.quiet.only image left)) rests.rests.store)
 
 -- ---- one call
 
@@ -31,12 +31,12 @@ pub nothing_first : (store : Store) (disk : Telling) → ((image : List ℕ) →
 nothing_first store disk only_now records rests =
     let all : (image : List ℕ) → MayLeave disk image → trails.IsPrefix record_keeping records 0 [] image =
     λ image left. record { k = 0; at_least = omega arith; at_most = omega arith; stands = rests_leave disk store records rests image left } in
-    no_call disk (trails.IsPrefix record_keeping records 0 []) (λ image left. all image (only_now image rests.quiet.follows left)) all
+    no_call disk (trails.IsPrefix record_keeping records 0 []) (λ image left. all image (only_now image rests.rests.quiet.follows left)) all
 
 -- a record is added
 pub adds_first : (store : Store) (payload : List ℕ) (old new : Telling) → KeepsOrAdds store.journal.end payload old new → LeavesFirst store (payload ∷ []) old new
 adds_first store payload old new leaves records rests =
-    weaker old new (BeforeOrAfter records payload) (trails.IsPrefix record_keeping records 0 (payload ∷ [])) (leaves records rests) each
+    weaker old new (BeforeOrAfter records payload) (trails.IsPrefix record_keeping records 0 (payload ∷ [])) (leaves records rests.rests) each
   where
     each : (image : List ℕ) → BeforeOrAfter records payload image → trails.IsPrefix record_keeping records 0 (payload ∷ []) image
     each image (inl stored) = record { k = 0; at_least = omega arith; at_most = omega arith; stands = stored }

@@ -1,5 +1,5 @@
 -- What a batch makes of a store, and what crashes leave of it.
-use Rattle.std.proofs.Common.{◌≡◌, ◌⊎◌, inl, inr, ℕ, ◌+◌, ◌<◌, ◌≤◌, List, [], ◌∷◌, ◌++◌, length, Option, IsTrue, Result, Ok, Err, IsErrAnd, IfErr, refl, sym, ap, subst, ◌∙◌, arith}
+use Rattle.std.proofs.Common.{◌≡◌, ◌⊎◌, inl, inr, ℕ, ◌+◌, ◌<◌, ◌≤◌, List, [], ◌∷◌, ◌++◌, length, Option, Some, IsTrue, Result, Ok, Err, IsErrAnd, IfErr, refl, sym, ap, subst, ◌∙◌, arith}
 use Rattle.odin_outside.specs.Disk.{Telling, MayLeave}
 use Rattle.odin_outside.specs.Moments.{no_call, weaker}
 use Rattle.object_values.specs.Texts.{Text, Texts}
@@ -7,7 +7,7 @@ use Rattle.meaning_records.specs.Front.{file_limit}
 use Rattle.meaning_records.specs.Images.{IsStore}
 use Rattle.odin_journal.specs.Faults.{IsAddFault}
 use Rattle.odin_journal.specs.Moments.{Works}
-use Rattle.odin_journal.specs.Rest.{BeforeOrAfter, AddsRecord, KeepsOrAdds}
+use Rattle.odin_journal.specs.Rest.{BeforeOrAfter, AddsRecord, KeepsOrAdds, RestsOnMore}
 use Rattle.odin_journal.specs.declared.fault.JournalFault.{JournalFault}
 use Rattle.odin_journal.specs.declared.fault.JournalFault.TheVariants as fault
 use Rattle.object_values.specs.declared.items.Item.{Item}
@@ -37,7 +37,7 @@ pub record Makes (change : Change) (tables : Tables) (sources : Texts) (payload 
 pub leaves_change : (change : Change) (store : Store) (old new : Telling) (payload : List ℕ) (next : Tables) (edited : Texts)
     → Makes change store.kept.tables store.sources.texts payload next edited → KeepsOrAdds store.journal.end payload old new → LeavesChange change store old new
 leaves_change change store old new payload next edited makes leaves records graph on =
-    weaker old new (BeforeOrAfter records payload) (λ image. StandsFor (held_in store) image ⊎ StandsFor (apply change (held_in store)) image) (leaves records on.rests) each
+    weaker old new (BeforeOrAfter records payload) (λ image. StandsFor (held_in store) image ⊎ StandsFor (apply change (held_in store)) image) (leaves records on.rests.rests) each
   where
     each : (image : List ℕ) → BeforeOrAfter records payload image → StandsFor (held_in store) image ⊎ StandsFor (apply change (held_in store)) image
     each image (inl stored) = inl (state_in store graph, record { records = records; stored = stored; read = on.read }, refl)
@@ -48,20 +48,20 @@ leaves_change change store old new payload next edited makes leaves records grap
 -- nothing is done: a crash leaves what is held
 pub held_left : (disk : Telling) (store : Store) (records : List (List ℕ)) (graph : Option Text) → IsOn disk store records graph → (image : List ℕ) → MayLeave disk image → StandsFor (held_in store) image
 held_left disk store records graph on image left =
-    (state_in store graph, record { records = records; stored = inr (store.journal.end, subst (λ c. IsStore c records store.journal.end) (sym (on.rests.quiet.only image left)) on.rests.store); read = on.read }, refl)
+    (state_in store graph, record { records = records; stored = inr (store.journal.end, subst (λ c. IsStore c records store.journal.end) (sym (on.rests.rests.quiet.only image left)) on.rests.rests.store); read = on.read }, refl)
 
 pub leaves_same : (change : Change) (store : Store) (disk : Telling) → ((image : List ℕ) → IsTrue disk.follows → disk.left_since disk.moment image → MayLeave disk image) → LeavesChange change store disk disk
 leaves_same change store disk only_now records graph on =
     no_call disk (λ image. StandsFor (held_in store) image ⊎ StandsFor (apply change (held_in store)) image)
-    (λ image left. inl (held_left disk store records graph on image (only_now image on.rests.quiet.follows left)))
+    (λ image left. inl (held_left disk store records graph on image (only_now image on.rests.rests.quiet.follows left)))
     (λ image left. inl (held_left disk store records graph on image left))
 
 -- the batch was added
 pub appends : (change : Change) (items : List Item) (store next : Store) (old new : Telling) (payload : List ℕ)
     → payload ≡ spell_batch items
     → Makes change store.kept.tables store.sources.texts (spell_batch items) next.kept.tables next.sources.texts
-    → AddsRecord store.journal.end next.journal.end payload old new → store.journal.end + 6 + length payload ≤ file_limit → KeepsOrAdds store.journal.end payload old new → Works (length payload + 6) 4 old new → Appends items store next old new
-appends change items store next old new payload is makes adds room leaves works =
+    → next.graph ≡ store.graph → AddsRecord store.journal.end next.journal.end payload old new → RestsOnMore store.journal next.journal payload old new → store.journal.end + 6 + length payload ≤ file_limit → KeepsOrAdds store.journal.end payload old new → Works (length payload + 6) 4 old new → Appends items store next old new
+appends change items store next old new payload is makes same adds more room leaves works =
     let bytes = spell_batch items in
     let added : AddsRecord store.journal.end next.journal.end bytes old new = subst (λ p. AddsRecord store.journal.end next.journal.end p old new) is adds in
     let fits : store.journal.end + 6 + length bytes ≤ 1073741824 = subst (λ p. store.journal.end + 6 + length p ≤ 1073741824) is room in
@@ -70,8 +70,9 @@ appends change items store next old new payload is makes adds room leaves works 
       end = added.next_is;
       room = omega arith;
       on = λ records graph on. record {
-        rests = added.rests records on.rests;
+        rests = subst (λ p. RestsOnMore store.journal next.journal p old new) is more records on.rests;
         read = reads_on records bytes nothing (state_in store graph) (state_in next graph) on.read (makes.reads graph);
+        last = on.last ∙ ap Some (sym same);
       };
       bytes = added.bytes;
       leaves = adds_first store bytes old new (subst (λ p. KeepsOrAdds store.journal.end p old new) is leaves);

@@ -7,4 +7,5 @@ pub mod Opening
 pub mod Keeping
 pub mod Going
 pub mod Edited
+pub mod Compacting
 pub mod FaultLemmas

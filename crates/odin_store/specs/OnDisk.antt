@@ -1,11 +1,11 @@
 -- A store on its disk.
-use Rattle.std.specs.Prelude.{◌≡◌, ◌⊎◌, ⊤, ℕ, ◌+◌, ◌^◌, ◌<◌, List, [], ◌∷◌, ◌++◌, length, Option, IsTrue, Result, OnOk, IsErrOf}
+use Rattle.std.specs.Prelude.{◌≡◌, ◌⊎◌, ⊤, ℕ, ◌+◌, ◌^◌, ◌<◌, List, [], ◌∷◌, ◌++◌, length, Option, Some, IsTrue, Result, OnOk, IsErrOf}
 use Rattle.odin_outside.specs.Disk.{Telling, IsQuiet, LeavesOnly}
 use Rattle.object_values.specs.Texts.{Text}
 use Rattle.meaning_records.specs.Front.{file_limit}
 use Rattle.meaning_records.specs.Images.{gate_after, with_record}
 use Rattle.odin_journal.specs.Moments.{Works}
-use Rattle.odin_journal.specs.Rest.{AtRest, IsReady}
+use Rattle.odin_journal.specs.Rest.{RestsOn, IsReady}
 use Rattle.odin_journal.specs.declared.fault.JournalFault.{JournalFault}
 use Rattle.odin_journal.specs.declared.fault.JournalFault.TheVariants as fault
 use Rattle.object_values.specs.declared.items.Item.{Item}
@@ -21,10 +21,12 @@ held_in store = record { sources = store.sources.texts; calls = store.kept.table
 abbrev pub state_in : Store → Option Text → State
 state_in store graph = record { tables = store.kept.tables; sources = store.sources.texts; graph = graph }
 
--- The store rests on a disk with these records: nothing is pending, and they read as what the store holds, with this graph as the last.
+-- The store rests on a disk with these records: nothing is pending, and they read as what the store holds, with this graph as the last,
+-- whose text it keeps.
 pub record IsOn (disk : Telling) (store : Store) (records : List (List ℕ)) (graph : Option Text) : Type 0 where
-  pub rests : AtRest disk records store.journal.end
+  pub rests : RestsOn disk records store.journal
   pub read : ReadsAll nothing records (state_in store graph)
+  pub last : graph ≡ Some store.graph
 
 -- a store that can be changed, on a disk of this size
 pub record StoreIsOpen (store : Store) (size : ℕ) : Type 0 where
@@ -74,6 +76,7 @@ pub record IsUnchanged (store next : Store) : Type 0 where
   pub journal : next.journal ≡ store.journal
   pub tables : next.kept.tables ≡ store.kept.tables
   pub sources : next.sources.texts ≡ store.sources.texts
+  pub graph : next.graph ≡ store.graph
   pub epoch : next.epoch ≡ store.epoch
 
 -- and so is its disk

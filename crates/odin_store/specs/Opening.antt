@@ -3,8 +3,8 @@ use Rattle.std.specs.Prelude.{◌≡◌, ◌≢◌, ◌⊎◌, ⊤, ℕ, ◌+◌
 use Rattle.odin_outside.specs.Disk.{Telling, IsQuiet, LeavesOnly}
 use Rattle.object_values.specs.Texts.{Text}
 use Rattle.meaning_texts.specs.Limits.{graph_limit}
-use Rattle.meaning_records.specs.Front.{file_limit, new_store}
-use Rattle.meaning_records.specs.Images.{IsNew, Stored, IsStore}
+use Rattle.meaning_records.specs.Front.{file_limit, front_size, new_store}
+use Rattle.meaning_records.specs.Images.{gate_after, IsNew, Stored, IsStore}
 use Rattle.odin_journal.specs.Moments.{Untouched, Works}
 use Rattle.odin_journal.specs.Rest.{AtRest}
 use Rattle.odin_journal.specs.declared.fault.JournalFault.{JournalFault}
@@ -51,6 +51,15 @@ OpensQuietStore graph old new store = IsQuiet old → OpensStore graph old new s
 -- no edit was counted yet
 abbrev pub IsAtFirst : Store → Type 0
 IsAtFirst store = store.epoch ≡ 0
+
+-- An opened store keeps the text of its graph, and no edit was counted yet.
+pub record IsOpened (graph : Text) (store : Store) : Type 0 where
+  pub graph_is : store.graph ≡ graph
+  pub first : IsAtFirst store
+
+-- the store has no record but that of its graph, if that
+abbrev pub EndsFirst : Text → Store → Type 0
+EndsFirst graph store = store.journal.end ≤ gate_after front_size (graph_record graph)
 
 -- the records read, and their last graph is another, if they have one
 abbrev pub HaveOther : Text → List (List ℕ) → Type 0

@@ -5,7 +5,7 @@ use Rattle.odin_journal.specs.Trails as trails
 use Rattle.meaning_records.specs.Front.{new_store}
 use Rattle.meaning_records.specs.Images.{gate_after, with_record, IsNew, IsWritten, Stored}
 use Rattle.odin_journal.specs.Moments.{Works}
-use Rattle.odin_journal.specs.Rest.{AtRest}
+use Rattle.odin_journal.specs.Rest.{RestsOn}
 use Rattle.odin_store.specs.declared.store.Store.{Store}
 
 -- the bytes that are written for records of these payloads: a payload with its length and its gate, and the closed gate after it
@@ -30,7 +30,7 @@ StoreIsMade image made = (IsNew image × (made ≡ new_store image)) ⊎ (IsWrit
 
 -- the store rests on these records, and nothing is pending
 abbrev pub RecordsRest : Telling → Store → List (List ℕ) → Type 0
-RecordsRest disk store records = AtRest disk records store.journal.end
+RecordsRest disk store records = RestsOn disk records store.journal
 
 -- each payload is one record more
 abbrev pub record_keeping : trails.Keeping (List (List ℕ)) (List ℕ) Store

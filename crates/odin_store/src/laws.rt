@@ -3,8 +3,9 @@ ghost use Rattle.odin_store.specs.Keeping.{KeepsChanges};
 ghost use Rattle.odin_store.specs.Going.{ChangesFollow, ChangesStop};
 ghost use Rattle.odin_store.specs.Edited.{EditsAreTold};
 ghost use Rattle.odin_store.specs.Opening.{OpeningsKeepHeld};
+ghost use Rattle.odin_store.specs.Compacting.{CompactionsKeep};
 
-use meaning_records::laws::reads_in_one_way;
+use meaning_records::laws::{reads_in_one_way, stands_for_one};
 use odin_outside::Disk;
 
 /// A store keeps its changes on a disk one after another.
@@ -36,4 +37,11 @@ pub fn edits_are_told<D: Disk>()
     ensures { EditsAreTold D.told }
 {
     reads_in_one_way();
+}
+
+/// Nothing that was kept is lost in a compaction.
+pub fn compactions_keep<D: Disk>()
+    ensures { CompactionsKeep D.told }
+{
+    stands_for_one();
 }

@@ -1,6 +1,7 @@
 //! The store: sources and kept calls in one file, which reopens after any crash to what was acknowledged.
 #![tactic(auto)]
 
+mod compacting;
 pub mod laws;
 mod loading;
 mod store;

@@ -21,12 +21,13 @@ use odin_journal::{Journal, JournalFault};
 use odin_outside::Disk;
 use std::alloc::Global;
 
-/// Sources and kept calls, over a disk that is lent call by call: the one of the opening, as the last call left it. After a fault of the disk it is
-/// spent. Whatever its file had, the sources are names with texts of at most 16,777,216 bytes.
+/// Sources and kept calls, for a graph, over a disk that is lent call by call: the one of the opening, as the last call left it. After a fault of the
+/// disk it is spent. Whatever its file had, the sources are names with texts of at most 16,777,216 bytes.
 pub struct Store {
-    journal: Journal,
-    kept: Kept,
-    sources: Sources,
+    pub(crate) journal: Journal,
+    pub(crate) kept: Kept,
+    pub(crate) sources: Sources,
+    pub(crate) graph: Text,
     epoch: u64,
     ghost are: { AreSources sources.texts },
 }
@@ -37,17 +38,19 @@ impl Drop for Store {
             journal,
             kept,
             sources,
+            graph,
             epoch: _,
         } = self;
         drop(journal);
         drop(kept);
         drop(sources);
+        drop(graph);
     }
 }
 
 impl Store {
     ghost use Rattle.odin_store.specs.OnDisk.{BeginsOnce, IsChangeFault, StoreAfter, StoreIsOpen, IsSame, IsUnchanged, LeavesChange};
-    ghost use Rattle.odin_store.specs.Opening.{graph_record, IsAtFirst, IsStoreOpenFault, LeavesOpening, OpensQuietStore};
+    ghost use Rattle.odin_store.specs.Opening.{graph_record, EndsFirst, IsOpened, IsStoreOpenFault, LeavesOpening, OpensQuietStore};
     ghost use Rattle.odin_store.specs.Changes.{CallBatch, DropBatch, DropsSource, KeepsCall, StoreMayKeep, MayPut, PutBatch, PutsText};
 
     /// Opens the store in a file for a graph of this text. Where the last graph text in the file is another, this one is added.
@@ -58,37 +61,40 @@ impl Store {
         ensures any_moment { LeavesOpening graph.now (D.told disk.old) (D.told disk.new) }
         ensures refused { IfErr result
             (IsStoreOpenFault graph.now (D.told disk.old) (D.told disk.new)) }
-        ensures first { IfOk result IsAtFirst }
+        ensures first { IfOk result (IsOpened graph.now) }
         ensures ready { IfOk result (λ store. IsReady store.journal (D.size_of disk.new)) }
+        ensures empty { D.size_of disk.old ≡ 0 → IfOk result (EndsFirst graph.now) }
         ensures works { D.size_of disk.old ≡ 0
             → Works (72 + length (graph_record graph.now)) 20 (D.told disk.old) (D.told disk.new) }
         ensures cause { JournalFaultIsCounted (D.faults disk.old) (D.faults disk.new) result }
     {
         let (mut journal, records) = Journal::open(alloc, disk)?;
         let loading = load_records(alloc, records, journal.end())?;
+        let text = graph_text(alloc, graph)?;
         if loading.has_graph(graph) {
-            let known = Store::of(journal, loading);
+            let known = Store::of(journal, loading, text);
             return Ok(known);
         }
         let payload = graph_payload(alloc, graph)?;
         journal.append(alloc, disk, payload.as_slice())?;
-        let added = Store::of(journal, loading);
+        let added = Store::of(journal, loading, text);
         Ok(added)
     }
 
     // What was loaded, over a journal, with no edit counted.
-    fn of(journal: Journal, loading: Loading) -> Store
+    fn of(journal: Journal, loading: Loading, graph: Text) -> Store
         requires { AreSources loading.sources.texts }
         ensures journal { result.journal ≡ journal }
         ensures kept { result.kept ≡ loading.kept }
         ensures sources { result.sources ≡ loading.sources }
-        ensures epoch { result.epoch ≡ 0 }
+        ensures opened { IsOpened graph result }
     {
         let (kept, sources) = loading.into_parts();
         Store {
             journal,
             kept,
             sources,
+            graph,
             epoch: 0,
         }
     }
@@ -119,7 +125,7 @@ impl Store {
             return Ok(false);
         }
         let (source, shared, prepared) = self.prepare_put(alloc, name, text)?;
-        self.journal.append(alloc, disk, prepared.payload())?;
+        self.journal.append_framed(disk, prepared.framed())?;
         self.kept.commit(prepared);
         let _ = self.sources.put(source, shared);
         self.epoch += 1;
@@ -180,7 +186,7 @@ impl Store {
     {
         reads_in_one_way();
         let prepared = self.kept.prepare_call(alloc, call, outcome)?;
-        self.journal.append(alloc, disk, prepared.payload())?;
+        self.journal.append_framed(disk, prepared.framed())?;
         self.kept.commit(prepared);
         Ok(())
     }
@@ -274,6 +280,13 @@ impl Store {
         let prepared = self.kept.prepare_text(alloc, name, text)?;
         Ok((source, shared, prepared))
     }
+}
+
+// The text of a graph, to be kept.
+fn graph_text(alloc: Global, graph: &[u8]) -> Result<Text, Memory>
+    ensures { IfOk result (λ text. text ≡ graph.now) }
+{
+    Text::of(Bytes::from_slice(alloc, graph)?)
 }
 
 // The bytes of the batch of a graph.

@@ -7,7 +7,7 @@ use std::alloc::Global;
 use std::test::Fail;
 
 // A front whose first start is 64, with the second one next to it.
-const FRONT: [u8; 64] =
+pub(super) const FRONT: [u8; 64] =
     *b"ODINSTO1\0\0\0\0\0\0\0\0\0\0\0\0\0\0\0\x40\0\0\0\0\0\0\0\x41\0\0\0\0\0\0\0\0\0\0\0\0\0\0\0\0\0\0\0\0\0\0\0\0\0\0\0\0\0\0\0\0";
 
 // The end and the records of a journal on a disk.

@@ -17,6 +17,8 @@ mod objects;
 #[cfg(test)]
 mod outcomes;
 #[cfg(test)]
+mod pieces;
+#[cfg(test)]
 mod rewrites;
 #[cfg(test)]
 mod spawners;

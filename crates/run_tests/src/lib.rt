@@ -3,6 +3,8 @@
 #![tactic(auto)]
 
 #[cfg(test)]
+mod compacting;
+#[cfg(test)]
 mod failing;
 #[cfg(test)]
 mod flights;

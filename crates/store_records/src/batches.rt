@@ -5,14 +5,25 @@ ghost use Rattle.meaning_records.specs.Records.{item};
 ghost use Rattle.meaning_records.specs.States.{spell_batch};
 
 use crate::groups::put_members;
+use framed_payloads::FramedPayload;
 use object_values::{Bytes, Item, Memory, Value};
 use std::alloc::Global;
 
 // Room for what an item has beside a text.
 const SMALL: usize = 1024;
 
-/// The payload of a batch.
-pub fn write_batch(alloc: Global, items: &[Item]) -> Result<Bytes, Memory>
+/// The payload of a batch, in the buffer from which it is written.
+pub fn write_batch(alloc: Global, items: &[Item]) -> Result<FramedPayload, Memory>
+    ensures spelled { IfOk result (λ payload. payload ≡ spell_batch items.now) }
+    ensures fits { OnOk result (All item.fits items.now) }
+{
+    let mut bytes = FramedPayload::begin(alloc, room_for(items))?;
+    put_members(items, &mut bytes)?;
+    FramedPayload::finish(bytes)
+}
+
+/// The payload of a batch alone.
+pub fn write_items(alloc: Global, items: &[Item]) -> Result<Bytes, Memory>
     ensures spelled { IfOk result (λ payload. payload ≡ spell_batch items.now) }
     ensures fits { OnOk result (All item.fits items.now) }
 {

@@ -10,6 +10,6 @@ mod items;
 mod nodes;
 mod recorded;
 
-pub use batches::write_batch;
+pub use batches::{write_batch, write_items};
 pub use object_values::{Item, StoredCall, StoredOutcome, StoredOutput, StoredPart};
 pub use recorded::Recorded;

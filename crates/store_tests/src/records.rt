@@ -130,7 +130,7 @@ fn is_read(alloc: Global, row: usize, bytes: &[u8]) -> Result<bool, Memory> {
     let is = is_item(row, &item);
     let items = [item];
     let written = write_batch(alloc, &items)?;
-    Ok(is && end == bytes.len() && written.as_slice() == bytes)
+    Ok(is && end == bytes.len() && written.payload() == bytes)
 }
 
 fn reads_nothing(alloc: Global, bytes: &[u8]) -> Result<bool, Memory> {
@@ -225,7 +225,8 @@ fn first_put(alloc: Global) -> Result<Bytes, Memory> {
     let text = Text::of(Bytes::new(alloc))?;
     let name = Bytes::from_slice(alloc, b"a.c")?;
     let items = [Item::Content(Value::Simple(text)), Item::Put(name, 0)];
-    write_batch(alloc, &items)
+    let written = write_batch(alloc, &items)?;
+    Bytes::from_slice(alloc, written.payload())
 }
 
 #[test]

@@ -1,4 +1,4 @@
-// What images of stores stand for.
+// What images of stores stand for, and what they are once they are rewritten.
 use crate::fault::Fault;
 use crate::store::filling::GRAPH;
 use object_values::{Bytes, Memory};
@@ -17,10 +17,27 @@ fn add_bytes(out: &mut Bytes, bytes: &[u8]) -> Result<(), Memory> {
     put_bytes(out, bytes)
 }
 
-// A disk with this image, and room for the batch of a graph and for the looks at each record.
+// A disk with this image, and room for the batch of a graph, for a copy of the records, and for the looks at each.
 fn disk_of(alloc: Global, image: &[u8]) -> Result<MemDisk, Memory> {
+    let bytes = image.len().saturating_mul(4).saturating_add(256);
     let calls = image.len().saturating_mul(4).saturating_add(64);
-    MemDisk::new(alloc, Bytes::from_slice(alloc, image)?, 256, calls)
+    MemDisk::new(alloc, Bytes::from_slice(alloc, image)?, bytes, calls)
+}
+
+/// What is done with an image.
+#[derive(Clone, Copy, PartialEq, Eq)]
+pub(crate) enum Reading {
+    Opened,
+    Rewritten,
+}
+
+// Opens the store of a disk, and rewrites it where that is asked for.
+fn store_of(alloc: Global, disk: &mut MemDisk, reading: Reading) -> Result<Store, StoreFault> {
+    let mut store = Store::open(alloc, disk, GRAPH)?;
+    if reading == Reading::Rewritten {
+        let _ = store.compact(alloc, disk)?;
+    }
+    Ok(store)
 }
 
 // What a store holds, and the file after its opening.
@@ -31,9 +48,14 @@ fn told(alloc: Global, store: &Store, file: &[u8]) -> Result<Bytes, Memory> {
 }
 
 /// Adds what an image stands for: a 1 and the bytes of that, or a 0 and where it isn't ours. Another number is an answer that shouldn't be.
-fn tell_image(alloc: Global, image: &[u8], out: &mut Bytes) -> Result<(), Memory> {
+fn tell_image(
+    alloc: Global,
+    image: &[u8],
+    reading: Reading,
+    out: &mut Bytes,
+) -> Result<(), Memory> {
     let mut disk = disk_of(alloc, image)?;
-    match Store::open(alloc, &mut disk, GRAPH) {
+    match store_of(alloc, &mut disk, reading) {
         Ok(store) => {
             put_u8(out, 1)?;
             add_bytes(out, told(alloc, &store, disk.image())?.as_slice())
@@ -46,8 +68,8 @@ fn tell_image(alloc: Global, image: &[u8], out: &mut Bytes) -> Result<(), Memory
     }
 }
 
-/// Tells of each image of a file what it stands for. Each stands after its length.
-pub(crate) fn tell_images(rt: &HostRuntime, path: &str) -> Result<(), Fault> {
+/// Tells of each image of a file what it stands for, opened or rewritten. Each stands after its length.
+pub(crate) fn tell_images(rt: &HostRuntime, path: &str, reading: Reading) -> Result<(), Fault> {
     let Ok(images) = fs::read(rt, path) else {
         return Err(Fault::File);
     };
@@ -57,7 +79,7 @@ pub(crate) fn tell_images(rt: &HostRuntime, path: &str) -> Result<(), Fault> {
         let Some((start, end)) = take_bytes(images.as_slice(), at) else {
             break;
         };
-        tell_image(rt.alloc(), &images[start..end], &mut out)?;
+        tell_image(rt.alloc(), &images[start..end], reading, &mut out)?;
         at = end;
     }
     match io::writer(rt).write_all(out.as_slice()) {

@@ -1,8 +1,8 @@
 use Rattle.std.proofs.Common.{◌<◌, length, ap, sym, ◌∙◌, subst, arith}
-use Rattle.content_store.specs.Digesting as digesting
+use Rattle.std.specs.Hash.FoldHasher as folding
 use Rattle.object_values.specs.declared.items.StoredPart.{StoredPart}
 use Rattle.meaning_records.specs.Tables.{IsPartOf}
-use Rattle.kept_contents.specs.Inputs.{digest_of_parts}
+use Rattle.kept_contents.specs.Inputs.{hash_of_parts}
 use Rattle.kept_contents.proofs.InputLemmas.{fed_next, held_more}
 use Rattle.kept_contents.proofs.Resolved.{parts_more, no_parts}
 use Rattle.kept_contents.proofs.resolving.parts_of.Goals as goal
@@ -28,9 +28,9 @@ loop-part-preserved c =
     let id = rw c.in-Some.is at c.in_ok-made.ensures.id in (
       rw c.in_ok-push.ensures.ok (parts_more contents c.args.stored.now c.loop-part.parts c.loop-part.part-index here made within c.loop-part.invariant.0 at),
       held_more texts c.loop-part.parts c.push.new.self made c.loop-part.invariant.1 held c.in_ok-push.ensures.ok,
-      fed_next texts c.loop-part.parts c.push.new.self made c.in-Some.text c.loop-part.state c.feed_part.new.state id c.loop-part.invariant.2 c.feed_part.ensures c.in_ok-push.ensures.ok,
+      fed_next folding.write folding.initial c.loop-part.state c.feed_part.new.state texts c.loop-part.parts c.push.new.self made c.in-Some.text id c.loop-part.invariant.2 c.feed_part.ensures c.in_ok-push.ensures.ok,
     )
 
-pub returns-clause-digest : goal.returns-clause-digest
-unfolding digest_of_parts
-returns-clause-digest c = c.digest.ensures ∙ ap digesting.digest c.loop-part.invariant.2
+pub returns-clause-hash : goal.returns-clause-hash
+unfolding hash_of_parts
+returns-clause-hash c = c.finish.ensures ∙ ap folding.finish c.loop-part.invariant.2

@@ -17,5 +17,5 @@ serve_input-due-requires g c = record { ready = c.in-Ok.ensures.new.ready; first
 
 pub returns-in-Ok : goal.returns-in-Ok
 returns-in-Ok g c =
-    let begun = begins _ c.keeps_changes.ensures _ _ _ _ _ _ c.requires.jobs c.requires.idle refl refl refl refl c.in-Ok.ensures.opened c.in-Ok.ensures.any_moment c.in-Ok.ensures.new c.in-Ok.ensures.cause.ok in
-    served c.serve_input-due.result _ (session_ends _ c.keeps_changes.ensures _ _ _ _ _ _ _ _ _ c.serve_input-due.result c.in-Ok.ensures.opened begun c.in-Ok.ensures.cause.ok c.serve_input-due.ensures) c.close.ensures
+    let begun = begins _ c.keeps_changes.ensures c.compactions_keep.ensures _ _ _ _ _ _ c.requires.jobs c.requires.idle refl refl refl refl c.in-Ok.ensures.opened (λ image follows left. g.met.D.Disk.only_now c.open.new.disk image follows left) c.in-Ok.ensures.new c.in-Ok.ensures.cause.ok in
+    served c.serve_input-due.result _ (session_ends _ c.keeps_changes.ensures c.compactions_keep.ensures _ _ _ _ _ _ _ _ _ c.serve_input-due.result c.in-Ok.ensures.opened begun c.in-Ok.ensures.cause.ok c.serve_input-due.ensures) c.close.ensures

@@ -2,7 +2,7 @@ use Rattle.std.proofs.Common.{ℕ, List, ◌≤◌, length, sym, ap, ◌∙◌, 
 use Rattle.odin_memory.specs.Tools.{new_tools}
 use Rattle.odin_memory.specs.declared.answers.Answers.TheVariants.{Toys}
 use Rattle.meaning_texts.specs.Limits.{graph_limit}
-use Rattle.load_session.proofs.OpenLemmas.{opened_new, opening_fault}
+use Rattle.load_session.proofs.OpenLemmas.{none_written, opened_new, opening_fault}
 use Rattle.load_session.proofs.SessionLemmas.{at_stop}
 use Rattle.load_session.proofs.session.Session.open.Goals as goal
 
@@ -16,4 +16,4 @@ returns-in_err-engine-clause-err c =
 pub returns-clause-ok : goal.returns-clause-ok
 returns-clause-ok c =
     opened_new _ c.graph_text.result.now c.in_ok-graph.graph c.in_ok-disk.disk c.graph_text.ensures c.in_ok-disk.ensures c.in_ok-graph.ensures
-    c.in_ok-engine.ensures.opened c.in_ok-engine.ensures.new (c.toy.ensures ∙ ap (new_tools Toys) c.new-2.ensures)
+    (c.in_ok-engine.ensures.empty (none_written c.in_ok-disk.disk c.in_ok-disk.ensures)) c.in_ok-engine.ensures.new (c.toy.ensures ∙ ap (new_tools Toys) c.new-2.ensures)

@@ -58,7 +58,7 @@ returns-clause-drops g c =
         epoch = omega arith;
         adds =
             ready_adds (DropBatch name) (drops name) store payload c.as_slice.result.now store.kept.tables edited ready c.as_slice.ensures store.journal _
-            (g.D.Disk.told c.args.disk.now) (g.D.Disk.told c.append.new.disk) refl c.in_ok-append.ensures.added c.in_ok-append.ensures.full.room c.append.ensures.any_moment c.in_ok-append.ensures.works refl removed;
+            (g.D.Disk.told c.args.disk.now) (g.D.Disk.told c.append.new.disk) refl refl c.in_ok-append.ensures.added c.in_ok-append.ensures.state.rests c.in_ok-append.ensures.full.room c.append.ensures.any_moment c.in_ok-append.ensures.works refl removed;
       };
       same = λ no. (let absurdity : ⊥ = cc in absurd absurdity);
     }

@@ -9,16 +9,16 @@ pub returns-in_err-prepared-clause-any_moment : goal.returns-in_err-prepared-cla
 returns-in_err-prepared-clause-any_moment g c =
     leaves_same (keeps c.args.call.now c.args.outcome.now) c.args.self.now (g.D.Disk.told c.args.disk.now) (λ image follows left. g.met.D.Disk.only_now c.args.disk.now image follows left)
 
-pub returns-in_err-append-clause-any_moment : goal.returns-in_err-append-clause-any_moment
-returns-in_err-append-clause-any_moment g c =
+pub returns-in_err-append_framed-clause-any_moment : goal.returns-in_err-append_framed-clause-any_moment
+returns-in_err-append_framed-clause-any_moment g c =
     let store = c.args.self.now in
     let call = c.args.call.now in
     let outcome = c.args.outcome.now in
     let prepared = c.in_ok-prepared.prepared in
     let batch = c.in_ok-prepared.ensures.ok in
     let ready = call_ready c.reads_in_one_way.ensures call outcome store c.prepare_call.new.self prepared c.prepare_call.ensures.same c.requires.new batch in
-    ready_leaves (CallBatch store call outcome) (keeps call outcome) store prepared.payload c.payload.result.now batch.2.next store.sources.texts ready c.payload.ensures
-    store.journal (g.D.Disk.told c.args.disk.now) (g.D.Disk.told c.append.new.disk) refl c.append.ensures.any_moment
+    ready_leaves (CallBatch store call outcome) (keeps call outcome) store prepared.payload c.framed.result.now batch.2.next store.sources.texts ready c.framed.ensures
+    store.journal (g.D.Disk.told c.args.disk.now) (g.D.Disk.told c.append_framed.new.disk) refl c.append_framed.ensures.any_moment
 
 pub returns-clause-any_moment : goal.returns-clause-any_moment
 returns-clause-any_moment g c =
@@ -28,8 +28,8 @@ returns-clause-any_moment g c =
     let prepared = c.in_ok-prepared.prepared in
     let batch = c.in_ok-prepared.ensures.ok in
     let ready = call_ready c.reads_in_one_way.ensures call outcome store c.prepare_call.new.self prepared c.prepare_call.ensures.same c.requires.new batch in
-    ready_leaves (CallBatch store call outcome) (keeps call outcome) store prepared.payload c.payload.result.now batch.2.next store.sources.texts ready c.payload.ensures
-    store.journal (g.D.Disk.told c.args.disk.now) (g.D.Disk.told c.append.new.disk) refl c.append.ensures.any_moment
+    ready_leaves (CallBatch store call outcome) (keeps call outcome) store prepared.payload c.framed.result.now batch.2.next store.sources.texts ready c.framed.ensures
+    store.journal (g.D.Disk.told c.args.disk.now) (g.D.Disk.told c.append_framed.new.disk) refl c.append_framed.ensures.any_moment
 
 pub returns-clause-keeps : goal.returns-clause-keeps
 returns-clause-keeps g c =
@@ -41,23 +41,23 @@ returns-clause-keeps g c =
     let ready = call_ready c.reads_in_one_way.ensures call outcome store c.prepare_call.new.self prepared c.prepare_call.ensures.same c.requires.new batch in
     let tables : c.commit.new.self.tables ≡ batch.2.next = c.commit.ensures batch.2.next batch.2.commits in
     record {
-      holds = ready_holds (CallBatch store call outcome) (keeps call outcome) store prepared.payload c.payload.result.now batch.2.next store.sources.texts ready c.payload.ensures c.commit.new.self.tables store.sources.texts tables refl;
+      holds = ready_holds (CallBatch store call outcome) (keeps call outcome) store prepared.payload c.framed.result.now batch.2.next store.sources.texts ready c.framed.ensures c.commit.new.self.tables store.sources.texts tables refl;
       epoch = refl;
       adds =
-          ready_adds (CallBatch store call outcome) (keeps call outcome) store prepared.payload c.payload.result.now batch.2.next store.sources.texts ready c.payload.ensures store.journal _
-          (g.D.Disk.told c.args.disk.now) (g.D.Disk.told c.append.new.disk) refl c.in_ok-append.ensures.added c.in_ok-append.ensures.full.room c.append.ensures.any_moment c.in_ok-append.ensures.works tables refl;
+          ready_adds (CallBatch store call outcome) (keeps call outcome) store prepared.payload c.framed.result.now batch.2.next store.sources.texts ready c.framed.ensures store.journal _
+          (g.D.Disk.told c.args.disk.now) (g.D.Disk.told c.append_framed.new.disk) refl refl c.in_ok-append_framed.ensures.added c.in_ok-append_framed.ensures.state.rests c.in_ok-append_framed.ensures.full.room c.append_framed.ensures.any_moment c.in_ok-append_framed.ensures.works tables refl;
     }
 
-pub returns-in_err-append-clause-begins : goal.returns-in_err-append-clause-begins
-returns-in_err-append-clause-begins g c =
+pub returns-in_err-append_framed-clause-begins : goal.returns-in_err-append_framed-clause-begins
+returns-in_err-append_framed-clause-begins g c =
     let store = c.args.self.now in
     let call = c.args.call.now in
     let outcome = c.args.outcome.now in
     let prepared = c.in_ok-prepared.prepared in
     let batch = c.in_ok-prepared.ensures.ok in
     let ready = call_ready c.reads_in_one_way.ensures call outcome store c.prepare_call.new.self prepared c.prepare_call.ensures.same c.requires.new batch in
-    ready_begins (CallBatch store call outcome) (keeps call outcome) store prepared.payload c.payload.result.now batch.2.next store.sources.texts ready c.payload.ensures
-    store.journal (g.D.Disk.told c.args.disk.now) (g.D.Disk.told c.append.new.disk) refl c.append.ensures.any_moment c.append.ensures.works
+    ready_begins (CallBatch store call outcome) (keeps call outcome) store prepared.payload c.framed.result.now batch.2.next store.sources.texts ready c.framed.ensures
+    store.journal (g.D.Disk.told c.args.disk.now) (g.D.Disk.told c.append_framed.new.disk) refl c.append_framed.ensures.any_moment c.append_framed.ensures.works
 
 pub returns-clause-begins : goal.returns-clause-begins
 returns-clause-begins g c =
@@ -67,8 +67,8 @@ returns-clause-begins g c =
     let prepared = c.in_ok-prepared.prepared in
     let batch = c.in_ok-prepared.ensures.ok in
     let ready = call_ready c.reads_in_one_way.ensures call outcome store c.prepare_call.new.self prepared c.prepare_call.ensures.same c.requires.new batch in
-    ready_begins (CallBatch store call outcome) (keeps call outcome) store prepared.payload c.payload.result.now batch.2.next store.sources.texts ready c.payload.ensures
-    store.journal (g.D.Disk.told c.args.disk.now) (g.D.Disk.told c.append.new.disk) refl c.append.ensures.any_moment c.append.ensures.works
+    ready_begins (CallBatch store call outcome) (keeps call outcome) store prepared.payload c.framed.result.now batch.2.next store.sources.texts ready c.framed.ensures
+    store.journal (g.D.Disk.told c.args.disk.now) (g.D.Disk.told c.append_framed.new.disk) refl c.append_framed.ensures.any_moment c.append_framed.ensures.works
 
 pub returns-in_err-prepared-clause-begins : goal.returns-in_err-prepared-clause-begins
 returns-in_err-prepared-clause-begins g c =

@@ -1,10 +1,10 @@
-use Rattle.std.proofs.Common.{◌≡◌, ℕ, ◌+◌, length, IsTrue, IsFalse, sym, ap, ap₂, subst, ◌∙◌, arith, rules}
+use Rattle.std.proofs.Common.{◌≡◌, ℕ, ◌+◌, length, IsTrue, IsFalse, sym, ap₂, subst, ◌∙◌, arith, rules}
 use Rattle.object_values.specs.Texts.{SourceStock}
-use Rattle.odin_journal.specs.WorkLemmas.{more_work, add_work}
+use Rattle.odin_journal.specs.WorkLemmas.{more_work, add_work, few_reads}
 use Rattle.odin_outside.specs.Worked.{WorkedWithin}
 use Rattle.odin_journal.specs.Faults.{IsAddFault}
 use Rattle.odin_journal.specs.Moments.{Works}
-use Rattle.odin_journal.specs.Rest.{AddsRecord, KeepsOrAdds}
+use Rattle.odin_journal.specs.Rest.{AddsRecord, KeepsOrAdds, RestsOnMore}
 use Rattle.odin_journal.specs.declared.journal.Journal.{Journal}
 use Rattle.odin_journal.specs.declared.fault.JournalFault.TheVariants as fault
 use Rattle.meaning_records.specs.States.{State}
@@ -44,8 +44,16 @@ returns-then-has_graph-clause-opened g c =
     let answered : IsTrue c.has_graph.result = search rules in
     let store = c.of-known.result in
     let holds : state_in store state.graph ≡ state = ap₂ (λ (k : Holding) (s : SourceStock). record { tables = k.tables; sources = s.texts; graph = state.graph }) c.of-known.ensures.kept c.of-known.ensures.sources in
-    opens_known c.args.graph.now old mid store c.in_ok-journal.records c.in_ok-journal.journal.end state c.open.ensures.untouched c.in_ok-journal.ensures.opened.opens c.in_ok-loading.ensures.read c.in_ok-journal.ensures.reads
-    (ap (λ (j : Journal). j.end) c.of-known.ensures.journal) holds (c.has_graph.ensures.yes answered)
+    opens_known c.args.graph.now old mid store c.in_ok-journal.records c.in_ok-journal.journal state c.open.ensures.untouched c.in_ok-journal.ensures.opened.opens c.in_ok-journal.ensures.opened.starts c.in_ok-loading.ensures.read
+    (few_reads 66 14 (length c.in_ok-journal.records) _ old.work mid.work c.in_ok-journal.ensures.reads) c.of-known.ensures.journal (c.of-known.ensures.opened.graph_is ∙ c.in_ok-text.ensures) holds (c.has_graph.ensures.yes answered)
+
+pub returns-in_err-text-clause-any_moment : goal.returns-in_err-text-clause-any_moment
+returns-in_err-text-clause-any_moment g c = records_stay c.args.graph.now (g.D.Disk.told c.args.disk.now) (g.D.Disk.told c.open.new.disk) c.open.ensures.any_moment
+
+pub returns-in_err-text-clause-refused : goal.returns-in_err-text-clause-refused
+returns-in_err-text-clause-refused g c =
+    handed (IsStoreOpenFault c.args.graph.now (g.D.Disk.told c.args.disk.now) (g.D.Disk.told c.open.new.disk)) c.from_residual-in_err-text.result fault.Memory c.from_residual-in_err-text.ensures.1
+    (memory_fault c.args.graph.now (g.D.Disk.told c.args.disk.now) (g.D.Disk.told c.open.new.disk) c.in_ok-journal.records c.in_ok-journal.journal.end c.open.ensures.untouched c.in_ok-journal.ensures.opened.opens)
 
 pub returns-in_err-payload-clause-any_moment : goal.returns-in_err-payload-clause-any_moment
 returns-in_err-payload-clause-any_moment g c = records_stay c.args.graph.now (g.D.Disk.told c.args.disk.now) (g.D.Disk.told c.open.new.disk) c.open.ensures.any_moment
@@ -98,7 +106,7 @@ returns-in_err-append-clause-works g c = λ empty.
     let new = (g.D.Disk.told c.append.new.disk).work in
     let size : ℕ = length (graph_record c.args.graph.now) in
     let added : WorkedWithin (size + 6) 4 mid new = subst (λ b. WorkedWithin (length b + 6) 4 mid new) (c.as_slice.ensures ∙ c.in_ok-payload.ensures) c.append.ensures.works in
-    more_work (66 + (size + 6)) 20 (72 + size) 20 old new (omega arith) (omega arith) (add_work 66 16 (size + 6) 4 old mid new (c.open.ensures.works empty) added)
+    more_work (66 + (size + 6)) 20 (72 + size) 20 old new (omega arith) (omega arith) (add_work 66 16 (size + 6) 4 old mid new (c.open.ensures.empty empty).works added)
 
 pub returns-clause-opened : goal.returns-clause-opened
 returns-clause-opened g c =
@@ -115,7 +123,11 @@ returns-clause-opened g c =
     subst (λ (j : Journal). AddsRecord end j.end (graph_record graph) mid new) (sym c.of-added.ensures.journal)
     (subst (λ b. AddsRecord end c.append.new.self.end b mid new) (c.as_slice.ensures ∙ c.in_ok-payload.ensures) c.in_ok-append.ensures.added) in
     let work : Works (length (graph_record graph) + 6) 4 mid new = subst (λ b. Works (length b + 6) 4 mid new) (c.as_slice.ensures ∙ c.in_ok-payload.ensures) c.in_ok-append.ensures.works in
-    opens_added graph old mid new store c.in_ok-journal.records end state c.requires c.open.ensures.untouched c.in_ok-journal.ensures.opened.opens c.in_ok-loading.ensures.read c.in_ok-journal.ensures.reads work adds holds (c.has_graph.ensures.no answered)
+    let more : RestsOnMore c.in_ok-journal.journal store.journal (graph_record graph) mid new =
+    subst (λ (j : Journal). RestsOnMore c.in_ok-journal.journal j (graph_record graph) mid new) (sym c.of-added.ensures.journal)
+    (subst (λ b. RestsOnMore c.in_ok-journal.journal c.append.new.self b mid new) (c.as_slice.ensures ∙ c.in_ok-payload.ensures) c.in_ok-append.ensures.state.rests) in
+    opens_added graph old mid new store c.in_ok-journal.records c.in_ok-journal.journal state c.requires c.open.ensures.untouched c.in_ok-journal.ensures.opened.opens c.in_ok-journal.ensures.opened.starts c.in_ok-loading.ensures.read
+    (few_reads 66 14 (length c.in_ok-journal.records) _ old.work mid.work c.in_ok-journal.ensures.reads) work adds more (c.of-added.ensures.opened.graph_is ∙ c.in_ok-text.ensures) holds (c.has_graph.ensures.no answered)
 
 pub returns-in_err-journal-clause-refused : goal.returns-in_err-journal-clause-refused
 returns-in_err-journal-clause-refused g c =
@@ -137,4 +149,4 @@ returns-clause-works g c empty =
     let new = g.D.Disk.told c.append.new.disk in
     let bytes = graph_record c.args.graph.now in
     let added : Works (length bytes + 6) 4 mid new = subst (λ b. Works (length b + 6) 4 mid new) (c.as_slice.ensures ∙ c.in_ok-payload.ensures) c.in_ok-append.ensures.works in
-    more_work (66 + (length bytes + 6)) 20 (72 + length bytes) 20 old.work new.work (omega arith) (omega arith) (add_work 66 16 (length bytes + 6) 4 old.work mid.work new.work (c.open.ensures.works empty) added)
+    more_work (66 + (length bytes + 6)) 20 (72 + length bytes) 20 old.work new.work (omega arith) (omega arith) (add_work 66 16 (length bytes + 6) 4 old.work mid.work new.work (c.open.ensures.empty empty).works added)

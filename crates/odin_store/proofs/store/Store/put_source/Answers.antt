@@ -9,28 +9,28 @@ use Rattle.odin_store.proofs.StoreLemmas.{handed}
 use Rattle.odin_store.proofs.ReadyLemmas.{put_ready, ready_leaves, ready_begins, ready_fault, ready_adds, ready_holds}
 use Rattle.odin_store.proofs.store.Store.put_source.Goals as goal
 
-pub returns-in_err-append-clause-any_moment : goal.returns-in_err-append-clause-any_moment
-returns-in_err-append-clause-any_moment g c =
+pub returns-in_err-append_framed-clause-any_moment : goal.returns-in_err-append_framed-clause-any_moment
+returns-in_err-append_framed-clause-any_moment g c =
     let store = c.args.self.now in
     let mid = c.prepare_put.new.self in
     let same = c.prepare_put.ensures.same in
     let prepared = c.in_ok-source.prepared in
     let ready = put_ready c.args.name.now c.args.text.now store mid prepared same c.in_ok-source.ensures.batch in
-    ready_leaves (PutBatch store c.args.name.now c.args.text.now) (puts c.args.name.now c.args.text.now) store prepared.payload c.payload.result.now c.in_ok-source.ensures.batch.2.next
-    (map.insert store.sources.texts c.args.name.now c.args.text.now) ready c.payload.ensures mid.journal (g.D.Disk.told c.args.disk.now) (g.D.Disk.told c.append.new.disk) same.journal c.append.ensures.any_moment
+    ready_leaves (PutBatch store c.args.name.now c.args.text.now) (puts c.args.name.now c.args.text.now) store prepared.payload c.framed.result.now c.in_ok-source.ensures.batch.2.next
+    (map.insert store.sources.texts c.args.name.now c.args.text.now) ready c.framed.ensures mid.journal (g.D.Disk.told c.args.disk.now) (g.D.Disk.told c.append_framed.new.disk) same.journal c.append_framed.ensures.any_moment
 
-pub returns-in_err-append-clause-fault : goal.returns-in_err-append-clause-fault
-returns-in_err-append-clause-fault g c =
+pub returns-in_err-append_framed-clause-fault : goal.returns-in_err-append_framed-clause-fault
+returns-in_err-append_framed-clause-fault g c =
     let store = c.args.self.now in
     let mid = c.prepare_put.new.self in
     let same = c.prepare_put.ensures.same in
     let prepared = c.in_ok-source.prepared in
-    let e = c.in_err-append.field-0.0 in
+    let e = c.in_err-append_framed.field-0.0 in
     let ready = put_ready c.args.name.now c.args.text.now store mid prepared same c.in_ok-source.ensures.batch in
     let answered : IsFalse c.has_text.result = search rules in
-    handed (IsChangeFault (PutBatch store c.args.name.now c.args.text.now) (puts c.args.name.now c.args.text.now) store) c.from_residual-in_err-append.result e c.from_residual-in_err-append.ensures.1
-    (ready_fault (PutBatch store c.args.name.now c.args.text.now) (puts c.args.name.now c.args.text.now) store prepared.payload c.payload.result.now c.in_ok-source.ensures.batch.2.next
-    (map.insert store.sources.texts c.args.name.now c.args.text.now) ready c.payload.ensures mid.journal same.journal (c.has_text.ensures.no answered) e c.in_err-append.ensures.full.err)
+    handed (IsChangeFault (PutBatch store c.args.name.now c.args.text.now) (puts c.args.name.now c.args.text.now) store) c.from_residual-in_err-append_framed.result e c.from_residual-in_err-append_framed.ensures.1
+    (ready_fault (PutBatch store c.args.name.now c.args.text.now) (puts c.args.name.now c.args.text.now) store prepared.payload c.framed.result.now c.in_ok-source.ensures.batch.2.next
+    (map.insert store.sources.texts c.args.name.now c.args.text.now) ready c.framed.ensures mid.journal same.journal (c.has_text.ensures.no answered) e c.in_err-append_framed.ensures.full.err)
 
 pub returns-clause-any_moment : goal.returns-clause-any_moment
 returns-clause-any_moment g c =
@@ -39,8 +39,8 @@ returns-clause-any_moment g c =
     let same = c.prepare_put.ensures.same in
     let prepared = c.in_ok-source.prepared in
     let ready = put_ready c.args.name.now c.args.text.now store mid prepared same c.in_ok-source.ensures.batch in
-    ready_leaves (PutBatch store c.args.name.now c.args.text.now) (puts c.args.name.now c.args.text.now) store prepared.payload c.payload.result.now c.in_ok-source.ensures.batch.2.next
-    (map.insert store.sources.texts c.args.name.now c.args.text.now) ready c.payload.ensures mid.journal (g.D.Disk.told c.args.disk.now) (g.D.Disk.told c.append.new.disk) same.journal c.append.ensures.any_moment
+    ready_leaves (PutBatch store c.args.name.now c.args.text.now) (puts c.args.name.now c.args.text.now) store prepared.payload c.framed.result.now c.in_ok-source.ensures.batch.2.next
+    (map.insert store.sources.texts c.args.name.now c.args.text.now) ready c.framed.ensures mid.journal (g.D.Disk.told c.args.disk.now) (g.D.Disk.told c.append_framed.new.disk) same.journal c.append_framed.ensures.any_moment
 
 pub returns-clause-puts : goal.returns-clause-puts
 returns-clause-puts g c =
@@ -62,11 +62,11 @@ returns-clause-puts g c =
     record {
       exact = (λ yes. other, λ differ. search rules);
       edits = λ yes. record {
-        holds = ready_holds (PutBatch store name text) (puts name text) store prepared.payload c.payload.result.now batch.2.next edited ready c.payload.ensures c.commit.new.self.tables c.put.new.self.texts tables put;
+        holds = ready_holds (PutBatch store name text) (puts name text) store prepared.payload c.framed.result.now batch.2.next edited ready c.framed.ensures c.commit.new.self.tables c.put.new.self.texts tables put;
         epoch = omega (arith, same.epoch);
         adds =
-            ready_adds (PutBatch store name text) (puts name text) store prepared.payload c.payload.result.now batch.2.next edited ready c.payload.ensures mid.journal _
-            (g.D.Disk.told c.args.disk.now) (g.D.Disk.told c.append.new.disk) same.journal c.in_ok-append.ensures.added c.in_ok-append.ensures.full.room c.append.ensures.any_moment c.in_ok-append.ensures.works tables put;
+            ready_adds (PutBatch store name text) (puts name text) store prepared.payload c.framed.result.now batch.2.next edited ready c.framed.ensures mid.journal _
+            (g.D.Disk.told c.args.disk.now) (g.D.Disk.told c.append_framed.new.disk) same.journal same.graph c.in_ok-append_framed.ensures.added c.in_ok-append_framed.ensures.state.rests c.in_ok-append_framed.ensures.full.room c.append_framed.ensures.any_moment c.in_ok-append_framed.ensures.works tables put;
       };
       same = λ no. (let absurdity : ⊥ = cc in absurd absurdity);
     }
@@ -81,15 +81,15 @@ invariant_of-self-2 g c =
     ∙ ap₂ (λ n t. map.insert store.sources.texts n t) c.in_ok-source.ensures.name c.in_ok-source.ensures.text in
     record { are = subst AreSources (sym put) (put_stays store.sources.texts name text store.are c.in_ok-source.ensures.named c.requires.short) }
 
-pub returns-in_err-append-clause-begins : goal.returns-in_err-append-clause-begins
-returns-in_err-append-clause-begins g c =
+pub returns-in_err-append_framed-clause-begins : goal.returns-in_err-append_framed-clause-begins
+returns-in_err-append_framed-clause-begins g c =
     let store = c.args.self.now in
     let mid = c.prepare_put.new.self in
     let same = c.prepare_put.ensures.same in
     let prepared = c.in_ok-source.prepared in
     let ready = put_ready c.args.name.now c.args.text.now store mid prepared same c.in_ok-source.ensures.batch in
-    ready_begins (PutBatch store c.args.name.now c.args.text.now) (puts c.args.name.now c.args.text.now) store prepared.payload c.payload.result.now c.in_ok-source.ensures.batch.2.next
-    (map.insert store.sources.texts c.args.name.now c.args.text.now) ready c.payload.ensures mid.journal (g.D.Disk.told c.args.disk.now) (g.D.Disk.told c.append.new.disk) same.journal c.append.ensures.any_moment c.append.ensures.works
+    ready_begins (PutBatch store c.args.name.now c.args.text.now) (puts c.args.name.now c.args.text.now) store prepared.payload c.framed.result.now c.in_ok-source.ensures.batch.2.next
+    (map.insert store.sources.texts c.args.name.now c.args.text.now) ready c.framed.ensures mid.journal (g.D.Disk.told c.args.disk.now) (g.D.Disk.told c.append_framed.new.disk) same.journal c.append_framed.ensures.any_moment c.append_framed.ensures.works
 
 pub returns-clause-begins : goal.returns-clause-begins
 returns-clause-begins g c =
@@ -98,5 +98,5 @@ returns-clause-begins g c =
     let same = c.prepare_put.ensures.same in
     let prepared = c.in_ok-source.prepared in
     let ready = put_ready c.args.name.now c.args.text.now store mid prepared same c.in_ok-source.ensures.batch in
-    ready_begins (PutBatch store c.args.name.now c.args.text.now) (puts c.args.name.now c.args.text.now) store prepared.payload c.payload.result.now c.in_ok-source.ensures.batch.2.next
-    (map.insert store.sources.texts c.args.name.now c.args.text.now) ready c.payload.ensures mid.journal (g.D.Disk.told c.args.disk.now) (g.D.Disk.told c.append.new.disk) same.journal c.append.ensures.any_moment c.append.ensures.works
+    ready_begins (PutBatch store c.args.name.now c.args.text.now) (puts c.args.name.now c.args.text.now) store prepared.payload c.framed.result.now c.in_ok-source.ensures.batch.2.next
+    (map.insert store.sources.texts c.args.name.now c.args.text.now) ready c.framed.ensures mid.journal (g.D.Disk.told c.args.disk.now) (g.D.Disk.told c.append_framed.new.disk) same.journal c.append_framed.ensures.any_moment c.append_framed.ensures.works

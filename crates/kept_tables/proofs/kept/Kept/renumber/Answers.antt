@@ -1,0 +1,4 @@
+use Rattle.kept_tables.proofs.kept.Kept.renumber.Goals as goal
+
+pub invariant_of-self : goal.invariant_of-self
+invariant_of-self c = rw (c.push_all.ensures.texts, c.clear_contents.ensures.texts) c.self.invariant

@@ -1,0 +1,161 @@
+// What is kept, as a store that is written anew has it.
+ghost use Rattle.std.specs.Prelude.{◌≡◌, ◌^◌, ◌≤◌, [], IfOk, OnOk, length, reverse};
+ghost use Rattle.meaning_records.specs.Batches.{contents_of};
+ghost use Rattle.meaning_records.specs.Live.{AreLive, ComeAfter, IsKeptBatch, IsLiveText, MayBeSources};
+ghost use Rattle.kept_contents.specs.Added.{AreHeld, texts_of};
+ghost use Rattle.kept_tables.specs.Batching.{AddsLiveBatches};
+ghost use Rattle.kept_tables.specs.Live.{CopiesLive, IsRenumbering, ReadsAsLive};
+
+use crate::kept::Kept;
+use crate::live_batches::LiveBatches;
+use crate::live_sizes::size_of_batches;
+use kept_contents::{CopiedTexts, Shared, share_copied};
+use meaning_records::laws::live_batches_read;
+use object_values::{Bytes, Memory, Seq, Sources};
+use std::alloc::Global;
+use std::marker::Model;
+
+/// The batches of a rewritten store, with all memory that the taking over of their numbers wants. Contracts see the payloads, and the contents that they have.
+pub struct LiveCopy {
+    payloads: Seq<Bytes>,
+    // the texts of the contents, the last one first
+    added: Vec<Shared>,
+}
+
+impl Drop for LiveCopy {
+    fn drop(self) {
+        let LiveCopy { payloads, added } = self;
+        drop(payloads);
+        drop(added);
+    }
+}
+
+impl Model for LiveCopy {
+    ghost use Rattle.std.specs.Prelude.{reverse};
+    ghost use Rattle.meaning_records.specs.Batches.{contents_of};
+    ghost use Rattle.kept_contents.specs.Added.{texts_of};
+    ghost use Rattle.kept_tables.specs.Live.{LivePayloads};
+
+    ghost Value = { LivePayloads };
+
+    ghost view = { λ c. record {
+      payloads = c.payloads;
+      contents = contents_of (texts_of (reverse c.added.items));
+      added = c.added.items;
+    } };
+}
+
+impl LiveCopy {
+    /// The payloads of the batches, in their order.
+    pub fn payloads(&self) -> &[Bytes]
+        ensures { result.now ≡ self.now.payloads }
+    {
+        self.payloads.as_slice()
+    }
+
+    // The texts of the contents, the last one first.
+    fn into_added(self) -> Vec<Shared>
+        ensures added { result.items ≡ self.added }
+        ensures contents { contents_of (texts_of (reverse self.added)) ≡ self.contents }
+    {
+        let LiveCopy { payloads, added } = self;
+        drop(payloads);
+        added
+    }
+}
+
+impl Kept {
+    /// How many bytes the payloads of a rewritten store have together. No payload is written.
+    pub fn live_text(&self, alloc: Global, graph: &[u8], sources: &Sources) -> Result<u64, Memory>
+        ensures { IfOk result
+            (IsLiveText graph.now sources.now.texts self.now.tables.calls) }
+    {
+        let live = self.live_batches(alloc, graph, sources)?;
+        size_of_batches(alloc, live.batches.as_slice())
+    }
+
+    /// The batches of a rewritten store, with all memory that `renumber` wants.
+    pub fn copy_live(
+        &mut self,
+        alloc: Global,
+        graph: &[u8],
+        sources: &Sources,
+    ) -> Result<LiveCopy, Memory>
+        requires { MayBeSources sources.now.texts }
+        ensures live { IfOk result
+            (CopiesLive graph.now sources.now.texts self.old.tables.calls) }
+        ensures reads { IfOk result
+            (ReadsAsLive graph.now sources.now.texts self.old.tables.calls) }
+        ensures may { IfOk result (IsRenumbering self.new) }
+        ensures tables { self.new.tables ≡ self.old.tables }
+    {
+        live_batches_read();
+        self.come_one_by_one();
+        let live = self.live_batches(alloc, graph, sources)?;
+        let payloads = live.write_payloads(alloc)?;
+        let added = self.hold_copied(alloc, &live.texts)?;
+        Ok(LiveCopy { payloads, added })
+    }
+
+    /// Takes over the contents of a rewritten store. It takes no memory.
+    pub fn renumber(&mut self, copy: LiveCopy)
+        requires { IsRenumbering self.old copy }
+        ensures contents { self.new.tables.contents ≡ copy.contents }
+        ensures calls { self.new.tables.calls ≡ self.old.tables.calls }
+    {
+        self.contents.clear_contents();
+        self.contents.push_all(copy.into_added());
+    }
+
+    // The items of the batches of a rewritten store.
+    fn live_batches(
+        &self,
+        alloc: Global,
+        graph: &[u8],
+        sources: &Sources,
+    ) -> Result<LiveBatches, Memory>
+        ensures { IfOk result (λ live. AreLive graph.now sources.now.texts self.now.tables.calls
+            live.batches (contents_of live.texts)) }
+    {
+        let mut live = LiveBatches::of_graph(alloc, graph)?;
+        live.add_sources(alloc, sources)?;
+        self.add_calls(alloc, &mut live)?;
+        Ok(live)
+    }
+
+    // A batch for each kept call.
+    fn add_calls(&self, alloc: Global, live: &mut LiveBatches) -> Result<(), Memory>
+        ensures { OnOk result
+            (AddsLiveBatches IsKeptBatch self.now.tables.calls live.old live.new) }
+    {
+        for place in 0..self.calls() {
+            if let Some(kept) = self.call_at(alloc, place)? {
+                live.add_call(alloc, kept)?;
+            }
+        }
+        Ok(())
+    }
+
+    // The kept calls may be kept one after another.
+    fn come_one_by_one(&self)
+        ensures { ComeAfter [] self.now.tables.calls }
+    {
+        let _ = self.calls.entries.len();
+    }
+
+    // The texts of a copy, the last one first, with room for them as contents.
+    fn hold_copied(&mut self, alloc: Global, texts: &CopiedTexts) -> Result<Vec<Shared>, Memory>
+        ensures texts { IfOk result (λ added. texts_of (reverse added.items) ≡ texts.now) }
+        ensures held { IfOk result (λ added. AreHeld self.new.texts added.items) }
+        ensures room { IfOk result (λ added. length added.items ≤ self.new.room) }
+        ensures few { IfOk result (λ added. length added.items ≤ 2 ^ 32) }
+        ensures tables { self.new.tables ≡ self.old.tables }
+    {
+        let added = share_copied(alloc, &mut self.contents, texts)?;
+        if added.len() > u32::MAX as usize {
+            return Err(Memory);
+        }
+        self.contents.reserve(added.len())?;
+        Ok(added)
+    }
+}

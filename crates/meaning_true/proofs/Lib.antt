@@ -1,0 +1,7 @@
+mod Settling
+mod Renewing
+mod RolesLocal
+mod Closing
+mod Staying
+mod Looking
+mod Seeing

@@ -1,0 +1,11 @@
+//! The check of a node's record: whether the needs of now are those that it was settled by, and what it comes to then.
+#![tactic(auto)]
+
+mod check;
+mod comparing;
+pub mod laws;
+mod renewing;
+mod verdict;
+
+pub use check::check_record;
+pub use verdict::{Now, Verdict};
