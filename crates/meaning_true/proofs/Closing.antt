@@ -17,8 +17,8 @@ use Rattle.meaning_tasks.specs.Maps.{IsResultOf, IsResultMap}
 use Rattle.meaning_tasks.specs.Laws.{IsSameUnder}
 use Rattle.meaning_tasks.proofs.Lemmas.{local, task_free}
 use Rattle.meaning_derive.specs.Derive.{Outcomes, outcome_for}
-use Rattle.object_records.specs.declared.facts.FactDep.{FactDep}
-use Rattle.object_records.specs.declared.facts.Fact.{Fact}
+use Rattle.object_values.specs.declared.facts.FactDep.{FactDep}
+use Rattle.object_values.specs.declared.facts.Fact.{Fact}
 use Rattle.meaning_true.specs.Facts.{RecordIsTrue, DepsAreAlike, known_of_deps, results_seen, view_seen}
 use Rattle.meaning_true.specs.Closed.{IsClosedBy}
 use Rattle.meaning_true.proofs.Settling.{seen_values, known_agrees}

@@ -15,8 +15,8 @@ use Rattle.meaning_tasks.specs.Laws.{AgreeAt}
 use Rattle.meaning_tasks.proofs.Lemmas.{same_flat, full_needs_stay}
 use Rattle.meaning_derive.specs.Derive.{Sources, text_of, Outcomes, derive, derived, HasHeight}
 use Rattle.meaning_derive.proofs.Lemmas.{grows_to, height_above}
-use Rattle.object_records.specs.declared.facts.FactDep.{FactDep}
-use Rattle.object_records.specs.declared.facts.Fact.{Fact}
+use Rattle.object_values.specs.declared.facts.FactDep.{FactDep}
+use Rattle.object_values.specs.declared.facts.Fact.{Fact}
 use Rattle.meaning_true.specs.Facts.{RecordIsTrue, IsAsSeen, needs_in, counted_in, view_of_record}
 use Rattle.meaning_true.specs.Checked.{RecordHolds, IsDepAt}
 use Rattle.meaning_true.proofs.Settling.{true_settles}

@@ -3,8 +3,8 @@ use Rattle.std.proofs.Common.{◌≡◌, Bool, true, false, cond, List, [], ◌�
 use Rattle.std.specs.Prelude.{Some, option_map}
 use Rattle.object_values.specs.contracts.nodes.NodePartialEq.TheImpl.{ghosts as node_eq}
 use Rattle.object_values.specs.Exact.{node_exact}
-use Rattle.object_records.specs.declared.facts.FactDep.{FactDep}
-use Rattle.object_records.specs.declared.facts.Fact.{Fact}
+use Rattle.object_values.specs.declared.facts.FactDep.{FactDep}
+use Rattle.object_values.specs.declared.facts.Fact.{Fact}
 use Rattle.meaning_texts.specs.Lists.{IsIn}
 use Rattle.meaning_graph.specs.Graphs.{Graph}
 use Rattle.meaning_tasks.specs.Maps.{IsResultOf}

@@ -21,8 +21,8 @@ use Rattle.meaning_tasks.proofs.Lemmas.{local, task_free}
 use Rattle.meaning_derive.specs.Derive.{Sources, text_of, Outcomes, outcome_for, derive}
 use Rattle.meaning_derive.specs.Laws.{HasMore}
 use Rattle.meaning_derive.proofs.Lemmas.{from_settled}
-use Rattle.object_records.specs.declared.facts.FactDep.{FactDep}
-use Rattle.object_records.specs.declared.facts.Fact.{Fact}
+use Rattle.object_values.specs.declared.facts.FactDep.{FactDep}
+use Rattle.object_values.specs.declared.facts.Fact.{Fact}
 use Rattle.meaning_true.specs.Facts.{RecordIsTrue, IsAsSeen, needs_in, known_of_deps, results_seen, view_seen, counted_in, view_of_record}
 use Rattle.meaning_true.specs.Laws.{Settled}
 

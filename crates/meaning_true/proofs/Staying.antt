@@ -13,8 +13,8 @@ use Rattle.meaning_tasks.proofs.Lemmas.{full_needs_stay}
 use Rattle.meaning_derive.specs.Derive.{Sources, text_of, Outcomes, derived}
 use Rattle.meaning_derive.specs.Laws.{HasMore}
 use Rattle.meaning_derive.proofs.Lemmas.{derive_more, same_height}
-use Rattle.object_records.specs.declared.facts.FactDep.{FactDep}
-use Rattle.object_records.specs.declared.facts.Fact.{Fact}
+use Rattle.object_values.specs.declared.facts.FactDep.{FactDep}
+use Rattle.object_values.specs.declared.facts.Fact.{Fact}
 use Rattle.meaning_true.specs.Facts.{RecordIsTrue, needs_in, need_of}
 use Rattle.meaning_true.specs.Checked.{RecordHolds}
 use Rattle.meaning_true.proofs.Settling.{has_result}

@@ -8,8 +8,8 @@ use Rattle.meaning_graph.specs.Graphs.{Graph}
 use Rattle.meaning_tasks.specs.Needs.{Results, Needs, values_of, nodes_of}
 use Rattle.meaning_derive.specs.Derive.{Sources, Outcomes, derive, derived, HasHeight}
 use Rattle.meaning_derive.specs.Laws.{HasMore}
-use Rattle.object_records.specs.declared.facts.FactDep.{FactDep}
-use Rattle.object_records.specs.declared.facts.Fact.{Fact}
+use Rattle.object_values.specs.declared.facts.FactDep.{FactDep}
+use Rattle.object_values.specs.declared.facts.Fact.{Fact}
 use Rattle.meaning_true.specs.Facts.{RecordIsTrue, IsAsSeen, needs_in, view_of_record}
 
 -- The deps are the node's needs, each as it was seen, and this is its result, at its height.

@@ -12,8 +12,8 @@ use Rattle.meaning_tasks.specs.Calls.{call_of}
 use Rattle.meaning_tasks.specs.Settle.{stepped_own, settled}
 use Rattle.meaning_tasks.specs.Maps.{IsResultOf}
 use Rattle.meaning_derive.specs.Derive.{Outcomes, outcome_for}
-use Rattle.object_records.specs.declared.facts.FactDep.{FactDep}
-use Rattle.object_records.specs.declared.facts.Fact.{Fact}
+use Rattle.object_values.specs.declared.facts.FactDep.{FactDep}
+use Rattle.object_values.specs.declared.facts.Fact.{Fact}
 use Rattle.meaning_true.specs.Facts.{RecordIsTrue, needs_in}
 
 -- a dep with the value of the node's result, which is one of the node

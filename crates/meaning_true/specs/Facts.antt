@@ -7,10 +7,10 @@ use Rattle.object_values.specs.contracts.nodes.NodePartialEq.TheImpl.{ghosts as 
 use Rattle.object_values.specs.declared.views.Value.{Value}
 use Rattle.object_values.specs.declared.views.View.{View}
 use Rattle.object_values.specs.declared.calls.Outcome.{Outcome}
-use Rattle.object_records.specs.declared.records.Role.{Role}
-use Rattle.object_records.specs.declared.records.Role.TheVariants.{Needed, Reached}
-use Rattle.object_records.specs.declared.facts.FactDep.{FactDep}
-use Rattle.object_records.specs.declared.facts.Fact.{Fact}
+use Rattle.object_values.specs.declared.records.Role.{Role}
+use Rattle.object_values.specs.declared.records.Role.TheVariants.{Needed, Reached}
+use Rattle.object_values.specs.declared.facts.FactDep.{FactDep}
+use Rattle.object_values.specs.declared.facts.Fact.{Fact}
 use Rattle.meaning_texts.specs.Lists.{IsIn}
 use Rattle.meaning_graph.specs.Graphs.{Text, Graph}
 use Rattle.meaning_tasks.specs.Nodes.{Fits}

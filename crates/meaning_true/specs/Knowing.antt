@@ -11,8 +11,8 @@ use Rattle.meaning_tasks.specs.Needs.{Needs, nodes_of}
 use Rattle.meaning_derive.specs.Derive.{Sources, Outcomes, derived, HasHeight}
 use Rattle.meaning_derive.specs.Chains.{AreDifferent, IsNeed}
 use Rattle.meaning_derive.specs.Calls.{Runs}
-use Rattle.object_records.specs.declared.facts.FactDep.{FactDep}
-use Rattle.object_records.specs.declared.facts.Fact.{Fact}
+use Rattle.object_values.specs.declared.facts.FactDep.{FactDep}
+use Rattle.object_values.specs.declared.facts.Fact.{Fact}
 use Rattle.meaning_true.specs.Facts.{RecordIsTrue, IsAsSeen, needs_in}
 use Rattle.meaning_true.specs.Checked.{RecordHolds}
 

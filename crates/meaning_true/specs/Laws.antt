@@ -6,8 +6,8 @@ use Rattle.meaning_tasks.specs.Maps.{IsResultOf}
 use Rattle.meaning_tasks.specs.Needs.{Needs, nodes_of}
 use Rattle.meaning_derive.specs.Derive.{Sources, Outcomes, derive}
 use Rattle.meaning_derive.specs.Laws.{HasMore}
-use Rattle.object_records.specs.declared.facts.FactDep.{FactDep}
-use Rattle.object_records.specs.declared.facts.Fact.{Fact}
+use Rattle.object_values.specs.declared.facts.FactDep.{FactDep}
+use Rattle.object_values.specs.declared.facts.Fact.{Fact}
 use Rattle.meaning_true.specs.Facts.{RecordIsTrue, IsAsSeen, needs_in, view_seen, view_of_record}
 
 -- Where each dep of a true record is as it was seen at a height, the deps are the node's needs there, and one height up the node has the

@@ -1,10 +1,11 @@
-//! The values that the object manager works on: nodes and objects, declarations, calls and jobs, and the sources by name.
+//! The values that the object manager works on: nodes and objects, declarations, calls and jobs, records of nodes, and the sources by name.
 #![tactic(auto)]
 
 mod block;
 pub mod calls;
 mod exact;
 pub mod expressions;
+pub mod facts;
 pub mod graph;
 pub mod items;
 pub mod jobs;
@@ -12,6 +13,7 @@ mod limits;
 pub mod messages;
 pub mod nodes;
 mod places;
+pub mod records;
 pub mod replies;
 mod sources;
 mod text;
@@ -19,6 +21,7 @@ pub mod views;
 
 pub use calls::{Call, CallPart, Outcome, OwnLine};
 pub use expressions::{ExprStep, Expression, Line, Lines};
+pub use facts::{Fact, FactDep, Fresh, RenewedNode};
 pub use graph::{
     Decl, Extra, GraphFault, Kind, Make, MakerDecl, PartDecl, SuffixDecl, ToolDecl, TypeDecl,
 };
@@ -31,6 +34,7 @@ pub use limits::{
 };
 pub use messages::{Message, Status};
 pub use nodes::{Node, ParamValue, Step};
+pub use records::{Dep, NodeRecord, Renewed, Role, Seen};
 pub use replies::{Reply, ShownBody};
 pub use sequences::{
     Bytes, Copied, Exact, Memory, Seq, SharedSeq, ShortSeq, copy_five, copy_two, same, when_done,

@@ -1,5 +1,6 @@
-// Texts that share their bytes.
-ghost use Rattle.std.specs.Prelude.{◌≡◌, ◌↔◌, [], length, IsTrue, IfOk};
+// Texts that share the buffer of which they are parts.
+ghost use Rattle.std.specs.Prelude.{◌≡◌, ◌↔◌, ◌≤◌, [], length, IsTrue, IfOk};
+ghost use Rattle.std.specs.List.{slice_range};
 
 use sequences::{Bytes, Copied, Memory};
 use std::alloc::Global;
@@ -7,26 +8,35 @@ use std::hash::{Hash, Hasher};
 use std::marker::Model;
 use std::rc::RcSlice;
 
-/// Bytes that never change, which contracts see as their list. A copy is a count: it shares them.
+/// Bytes that never change, which contracts see as their list: a buffer, or a part of one. A copy is a count: it shares the buffer.
 pub struct Text {
-    bytes: RcSlice<u8>,
+    buffer: RcSlice<u8>,
+    from: usize,
+    to: usize,
 }
 
 // By hand: a drop is one call, where a derived one is opened field by field at each early return.
 impl Drop for Text {
     fn drop(self) {
-        let Text { bytes } = self;
-        drop(bytes);
+        let Text {
+            buffer,
+            from: _,
+            to: _,
+        } = self;
+        drop(buffer);
     }
 }
 
 impl Model for Text {
-    ghost use Rattle.std.specs.Prelude.{ℕ, List};
+    ghost use Rattle.std.specs.Prelude.{ℕ, List, ◌≤◌, length};
+    ghost use Rattle.std.specs.List.{slice_range};
     ghost use Rattle.std.specs.Rc.{rc_slice_items};
 
     ghost Value = { List ℕ };
 
-    ghost view = { λ t. rc_slice_items t.bytes };
+    ghost view = { λ t. slice_range (rc_slice_items t.buffer) t.from t.to };
+
+    ghost invariant = { λ t. (t.from ≤ t.to) × (t.to ≤ length (rc_slice_items t.buffer)) };
 }
 
 impl Text {
@@ -34,21 +44,37 @@ impl Text {
     pub fn of(bytes: Bytes) -> Result<Self, Memory>
         ensures { IfOk result (λ text. text ≡ bytes) }
     {
+        let to = bytes.len();
         Ok(Text {
-            bytes: RcSlice::from_vec(bytes.into_vec()?)?,
+            buffer: RcSlice::from_vec(bytes.into_vec()?)?,
+            from: 0,
+            to,
         })
     }
 
     pub fn as_slice(&self) -> &[u8]
         ensures { result.now ≡ self.now }
     {
-        self.bytes.as_slice()
+        &self.buffer.as_slice()[self.from..self.to]
     }
 
     pub fn len(&self) -> usize
         ensures { result ≡ length self.now }
     {
-        self.bytes.len()
+        self.to - self.from
+    }
+
+    /// The bytes from one place to another. No byte is copied, and the buffer stays as long as any part of it.
+    pub fn part(&self, from: usize, to: usize) -> Result<Self, Memory>
+        requires from { from ≤ to }
+        requires to { to ≤ length self.now }
+        ensures { IfOk result (λ part. part ≡ slice_range self.now from to) }
+    {
+        Ok(Text {
+            buffer: self.buffer.clone()?,
+            from: self.from + from,
+            to: self.from + to,
+        })
     }
 
     pub fn is_empty(&self) -> bool
@@ -61,7 +87,9 @@ impl Text {
 impl Copied for Text {
     fn copy(&self, _alloc: Global) -> Result<Self, Memory> {
         Ok(Text {
-            bytes: self.bytes.clone()?,
+            buffer: self.buffer.clone()?,
+            from: self.from,
+            to: self.to,
         })
     }
 }

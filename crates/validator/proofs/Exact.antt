@@ -4,11 +4,11 @@ use Rattle.std.specs.Prelude.{Option, Some, None, option_map}
 use Rattle.std.proofs.lemmas.Bool.Decides.{Decides-eqb}
 use Rattle.object_values.specs.contracts.nodes.NodePartialEq.TheImpl.{ghosts as node_eq}
 use Rattle.object_values.specs.Exact.{node_exact}
-use Rattle.object_records.specs.declared.records.Seen.{Seen}
-use Rattle.object_records.specs.declared.records.Seen.TheVariants.{Nothing, Kept, New}
-use Rattle.object_records.specs.declared.records.Dep.{Dep}
-use Rattle.object_records.specs.declared.records.NodeRecord.{NodeRecord}
-use Rattle.object_records.specs.declared.records.Renewed.{Renewed}
+use Rattle.object_values.specs.declared.records.Seen.{Seen}
+use Rattle.object_values.specs.declared.records.Seen.TheVariants.{Nothing, Kept, New}
+use Rattle.object_values.specs.declared.records.Dep.{Dep}
+use Rattle.object_values.specs.declared.records.NodeRecord.{NodeRecord}
+use Rattle.object_values.specs.declared.records.Renewed.{Renewed}
 use Rattle.validator.specs.declared.verdict.Now.{Now}
 use Rattle.validator.specs.declared.verdict.Verdict.TheVariants.{Current, Stale}
 use Rattle.validator.specs.Verdicts.{same_seen, is_same, difference, verdict_by}

@@ -1,7 +1,7 @@
 -- Places of lists that are gone through side by side.
 use Rattle.std.proofs.Common.{◌≡◌, ℕ, suc, ◌+◌, ◌<◌, true, false, cond, List, [], ◌∷◌, ap, refl, arith, drop, get_or, length, add-one, drop-cons}
 use Rattle.std.specs.Prelude.{Option, Some, None, option_map}
-use Rattle.object_records.specs.declared.records.Dep.{Dep}
+use Rattle.object_values.specs.declared.records.Dep.{Dep}
 use Rattle.validator.specs.declared.verdict.Now.{Now}
 use Rattle.validator.specs.Verdicts.{is_same, difference}
 

@@ -1,9 +1,9 @@
 -- What a check of a record says, place by place.
 use Rattle.std.specs.Prelude.{◌≡◌, ◌≢◌, ⊤, ℕ, suc, List, [], ◌∷◌, take}
-use Rattle.object_records.specs.declared.records.Seen.TheVariants.{New}
-use Rattle.object_records.specs.declared.records.Dep.{Dep}
-use Rattle.object_records.specs.declared.records.NodeRecord.{NodeRecord}
-use Rattle.object_records.specs.declared.records.Renewed.{Renewed}
+use Rattle.object_values.specs.declared.records.Seen.TheVariants.{New}
+use Rattle.object_values.specs.declared.records.Dep.{Dep}
+use Rattle.object_values.specs.declared.records.NodeRecord.{NodeRecord}
+use Rattle.object_values.specs.declared.records.Renewed.{Renewed}
 use Rattle.validator.specs.declared.verdict.Now.{Now}
 use Rattle.validator.specs.declared.verdict.Verdict.TheVariants.{Current, Stale}
 use Rattle.validator.specs.Verdicts.{renewed_by, verdict_of}

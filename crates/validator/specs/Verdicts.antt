@@ -3,13 +3,13 @@ use Rattle.std.specs.Prelude.{ℕ, suc, ◌+◌, Bool, true, false, cond, ◌&&�
 use Rattle.object_values.specs.declared.messages.Status.{Status}
 use Rattle.object_values.specs.declared.messages.Message.{Message}
 use Rattle.object_values.specs.contracts.nodes.NodePartialEq.TheImpl.{ghosts as node_eq}
-use Rattle.object_records.specs.declared.records.Role.{Role}
-use Rattle.object_records.specs.declared.records.Role.TheVariants.{Needed, Reached}
-use Rattle.object_records.specs.declared.records.Seen.{Seen}
-use Rattle.object_records.specs.declared.records.Seen.TheVariants.{Nothing, Kept}
-use Rattle.object_records.specs.declared.records.Dep.{Dep}
-use Rattle.object_records.specs.declared.records.Renewed.{Renewed}
-use Rattle.object_records.specs.declared.records.NodeRecord.{NodeRecord}
+use Rattle.object_values.specs.declared.records.Role.{Role}
+use Rattle.object_values.specs.declared.records.Role.TheVariants.{Needed, Reached}
+use Rattle.object_values.specs.declared.records.Seen.{Seen}
+use Rattle.object_values.specs.declared.records.Seen.TheVariants.{Nothing, Kept}
+use Rattle.object_values.specs.declared.records.Dep.{Dep}
+use Rattle.object_values.specs.declared.records.Renewed.{Renewed}
+use Rattle.object_values.specs.declared.records.NodeRecord.{NodeRecord}
 use Rattle.meaning_tasks.specs.Values.{worst, inherit}
 use Rattle.validator.specs.declared.verdict.Now.{Now}
 use Rattle.validator.specs.declared.verdict.Verdict.{Verdict}

@@ -3,7 +3,7 @@ ghost use Rattle.std.specs.Prelude.{◌≡◌, ◌<◌, ◌^◌, IfNone, length}
 ghost use Rattle.validator.specs.Verdicts.{difference, is_same, same_seen};
 
 use crate::verdict::Now;
-use object_records::{Dep, Seen};
+use object_values::{Dep, Seen};
 
 fn same_seen(then: Seen, now: Seen) -> bool
     ensures { result ≡ same_seen then now }

@@ -5,8 +5,7 @@ ghost use Rattle.meaning_tasks.specs.Values.{inherit};
 ghost use Rattle.validator.specs.Verdicts.{adding, first_at, highest, messages_added, renewed_by, worst_with};
 
 use crate::verdict::Now;
-use object_records::{Dep, NodeRecord, Renewed, Role};
-use object_values::{Memory, Message, SharedSeq, Status};
+use object_values::{Dep, Memory, Message, NodeRecord, Renewed, Role, SharedSeq, Status};
 use odin_nodes::{Inherited, worst};
 use std::alloc::Global;
 

@@ -1,6 +1,9 @@
 // What a record says, with the values themselves.
+use crate::messages::{Message, Status};
+use crate::nodes::Node;
 use crate::records::{Renewed, Role};
-use object_values::{Message, Node, Seq, SharedSeq, Status, Value};
+use crate::views::Value;
+use sequences::{Seq, SharedSeq};
 
 /// A need in its role, with the value that was seen of it, none at `Abort`.
 #[derive(Drop)]

@@ -1,5 +1,7 @@
-// A record as it is kept, with contents by number.
-use object_values::{Copied, Memory, Message, Node, Seq, SharedSeq, Status};
+// The record of a node as it is kept, with contents by number: so that the node need not be settled again while its needs are as they were seen.
+use crate::messages::{Message, Status};
+use crate::nodes::Node;
+use sequences::{Copied, Memory, Seq, SharedSeq};
 use std::alloc::Global;
 
 /// What a need adds: its status and messages, or neither, as a reached source.
