@@ -85,7 +85,7 @@ impl Kept {
     pub fn load_item(
         &mut self,
         alloc: Global,
-        payload: &[u8],
+        payload: &Text,
         at: usize,
     ) -> Result<Option<(Loaded, usize)>, Memory>
         ensures some { IfOk result (λ read. IfSome read (λ given.

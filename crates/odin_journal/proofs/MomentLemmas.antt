@@ -6,6 +6,10 @@ use Rattle.odin_outside.specs.Steps.{cut_step}
 use Rattle.odin_outside.specs.Moments.{follows_on, leaves_by_one_call, then, after_look}
 use Rattle.odin_journal.specs.Moments.{Untouched}
 
+pub on_ok : {T E P : Type 0} (r : Result T E) → P → OnOk r P
+on_ok (Ok x) holds = holds
+on_ok (Err e) holds = tt
+
 pub on_ok_two : {T E P Q R : Type 0} (r : Result T E) → (P → Q → R) → OnOk r P → OnOk r Q → OnOk r R
 on_ok_two (Ok x) f p q = f p q
 on_ok_two (Err e) f p q = tt

@@ -22,22 +22,12 @@ range_of_range l from n at count begins ends =
     ∙ sym (range_of_front (drop from l) n (at - from) (at - from + count) (omega arith) inside)
     ∙ part (drop from l) (at - from) count ∙ ap (take count) (drop-drop (at - from) from l) ∙ ap (λ k. take count (drop k l)) place ∙ sym (part l at count)
 
--- its first bytes
-pub first_of_piece : (piece : Piece) (at count : ℕ) (bytes : List ℕ) → piece.from ≡ at → count ≤ length piece.bytes.items → bytes ≡ take count piece.bytes.items → IsInPiece piece at count bytes
-first_of_piece piece at count bytes from long is =
-    let zero : at - piece.from ≡ 0 = omega (arith, from) in
-    record {
-      begins = omega (arith, from);
-      ends = omega (arith, from, long);
-      same = is ∙ sym (part piece.bytes.items 0 count) ∙ ap (λ k. slice_range piece.bytes.items k (k + count)) (sym zero);
-    }
-
 -- what a piece has is what the disk has there
 pub cut_of_piece : (disk : Telling) (size place at count : ℕ) (piece : Piece) (bytes : List ℕ) → IsPieceAt disk size place piece → IsInPiece piece at count bytes → IsCutOf disk at count bytes
 cut_of_piece disk size place at count piece bytes stands inside = record {
-  long = ap length inside.same ∙ length-slice_range piece.bytes.items (at - piece.from) (at - piece.from + count) (omega (arith, inside.begins, inside.ends)) ∙ omega arith;
+  long = ap length inside.same ∙ length-slice_range piece.bytes (at - piece.from) (at - piece.from + count) (omega (arith, inside.within.begins, inside.within.ends)) ∙ omega arith;
   same = λ quiet. inside.same ∙ ap (λ l. slice_range l (at - piece.from) (at - piece.from + count)) (stands.is.same quiet.follows)
-      ∙ range_of_range disk.seen piece.from (length piece.bytes.items) at count inside.begins inside.ends;
+      ∙ range_of_range disk.seen piece.from (length piece.bytes) at count inside.within.begins inside.within.ends;
 }
 
 -- a call that changes nothing of what a read gives leaves a piece one of the disk
@@ -48,7 +38,7 @@ piece_on old new size place piece gives stands = record {
     full = stands.is.full;
     same = λ follows.
         let before : IsTrue old.follows = subst (λ b. IsTrue b) gives.follows follows in
-        stands.is.same before ∙ ap (λ l. slice_range l piece.from (piece.from + length piece.bytes.items)) (sym (gives.same before));
+        stands.is.same before ∙ ap (λ l. slice_range l piece.from (piece.from + length piece.bytes)) (sym (gives.same before));
   };
   no_later = stands.no_later;
 }

@@ -16,12 +16,18 @@ pub record Head (image head : List ℕ) (gate count : ℕ) : Type 0 where
 head_length : (image head : List ℕ) (gate count : ℕ) → Head image head gate count → length head ≡ count
 head_length image head gate count read = ap length read.read ∙ length-slice_range image gate (gate + count) read.within ∙ (let size : gate + count - gate ≡ count = omega arith in size)
 
+-- the first byte that was read there
+pub first_there : (image head : List ℕ) (gate count : ℕ) → head ≡ slice_range image gate (gate + count) → 0 < count → slice_index image gate ≡ slice_index head 0
+first_there image head gate count read some =
+    ap (λ n. slice_index image n) (let all : gate ≡ gate + 0 = omega arith in all) ∙ sym (get_or-drop gate image 0 0) ∙ sym (get_or-take count (drop gate image) 0 0 some)
+    ∙ ap (λ l. slice_index l 0) (sym (read ∙ part image gate count))
+
 pub opened : (image head : List ℕ) (gate count : ℕ) → Head image head gate count → 0 < count → IsOpen image gate
 opened image head gate count read some =
     let within = read.within in
     record {
       within = omega arith;
-      one = ap (λ n. slice_index image n) (let all : gate ≡ gate + 0 = omega arith in all) ∙ sym (get_or-drop gate image 0 0) ∙ sym (get_or-take count (drop gate image) 0 0 some) ∙ ap (λ l. slice_index l 0) (sym (read.read ∙ part image gate count)) ∙ read.one;
+      one = first_there image head gate count read.read some ∙ read.one;
     }
 
 -- the length after the gate, in the image

@@ -10,22 +10,30 @@ use Rattle.odin_journal.specs.declared.pieces.Piece.{Piece}
 abbrev pub piece_size : ℕ
 piece_size = 2 ^ 20
 
+-- bytes that a read gives from an offset on
+abbrev pub IsSeenAt : Telling → ℕ → List ℕ → Type 0
+IsSeenAt disk from bytes = IsTrue disk.follows → bytes ≡ slice_range disk.seen from (from + length bytes)
+
 -- A piece of what a read gives on a disk of this size, from its offset on: as many bytes as one call reads, or all up to the end.
 pub record IsPiece (disk : Telling) (size : ℕ) (piece : Piece) : Type 0 where
   pub inside : piece.from ≤ size
-  pub full : length piece.bytes.items ≡ min piece_size (size - piece.from)
-  pub same : IsTrue disk.follows → piece.bytes.items ≡ slice_range disk.seen piece.from (piece.from + length piece.bytes.items)
+  pub full : length piece.bytes ≡ min piece_size (size - piece.from)
+  pub same : IsSeenAt disk piece.from piece.bytes
 
 -- such a piece, from a place on or from one before it
 pub record IsPieceAt (disk : Telling) (size place : ℕ) (piece : Piece) : Type 0 where
   pub is : IsPiece disk size piece
   pub no_later : piece.from ≤ place
 
--- so many bytes that a piece has, from an offset on
-pub record IsInPiece (piece : Piece) (at count : ℕ) (bytes : List ℕ) : Type 0 where
+-- a piece has so many bytes from an offset on
+pub record IsWithin (piece : Piece) (at count : ℕ) : Type 0 where
   pub begins : piece.from ≤ at
-  pub ends : at + count ≤ piece.from + length piece.bytes.items
-  pub same : bytes ≡ slice_range piece.bytes.items (at - piece.from) (at - piece.from + count)
+  pub ends : at + count ≤ piece.from + length piece.bytes
+
+-- these are they
+pub record IsInPiece (piece : Piece) (at count : ℕ) (bytes : List ℕ) : Type 0 where
+  pub within : IsWithin piece at count
+  pub same : bytes ≡ slice_range piece.bytes (at - piece.from) (at - piece.from + count)
 
 -- so many bytes of what a read gives from an offset on
 pub record IsCutOf (disk : Telling) (at count : ℕ) (bytes : List ℕ) : Type 0 where

@@ -15,7 +15,7 @@ use crate::rewrite::{copy_records, place_for, replace, size_of_copy};
 use crate::start::Start;
 use crate::writes::write_synced;
 use framed_payloads::FramedPayload;
-use object_values::{Bytes, STORE_LIMIT, Seq};
+use object_values::{Bytes, STORE_LIMIT, Seq, Text};
 use odin_outside::{Disk, Failed};
 use std::alloc::Global;
 
@@ -34,8 +34,8 @@ pub struct Journal {
 }
 
 impl Journal {
-    /// Opens the journal in a file and gives its whole records. It makes a file that counts as new a store, and repairs nothing else.
-    pub fn open<D: Disk>(alloc: Global, disk: &mut D) -> Result<(Journal, Seq<Bytes>), JournalFault>
+    /// Opens the journal in a file and gives its whole records, which share the buffers into which it was read. It makes a file that counts as new a store, and repairs nothing else.
+    pub fn open<D: Disk>(alloc: Global, disk: &mut D) -> Result<(Journal, Seq<Text>), JournalFault>
         ensures opened { IfOk result (OpensStarted (D.told disk.old) (D.told disk.new)) }
         // A file that doesn't count as new is only read, whatever the answer.
         ensures untouched { OnlyReads (D.told disk.old) (D.told disk.new) }

@@ -1,21 +1,21 @@
 // Pieces of a store file: many bytes that one call reads, and of which records are cut.
-ghost use Rattle.std.specs.Prelude.{◌≡◌, ◌+◌, ◌<◌, ◌≤◌, length, IfOk, IfErr, IfSome, IfNone, OnOk};
+ghost use Rattle.std.specs.Prelude.{◌≡◌, ◌↔◌, ◌+◌, ◌^◌, ◌<◌, ◌≤◌, IfErr, IfOk, IsTrue, OnOk};
 ghost use Rattle.odin_journal.specs.Faults.{JournalFaultIsCounted, IsReadFault, nowhere};
 ghost use Rattle.odin_journal.specs.Moments.{IsOnlyRead, IsPlace, Works};
-ghost use Rattle.odin_journal.specs.Pieces.{GivesOn, IsCutOf, IsInPiece, IsPieceAt, ReadsOn};
+ghost use Rattle.odin_journal.specs.Pieces.{GivesOn, IsCutOf, IsInPiece, IsPieceAt, IsSeenAt, IsWithin, ReadsOn};
 
 use crate::fault::JournalFault;
-use object_values::Bytes;
+use object_values::{Bytes, Memory, Text};
 use odin_outside::Disk;
 use std::alloc::Global;
 
-/// How many bytes one call reads: so many that the call costs little beside them, and so few that one buffer serves for all.
+/// How many bytes one call reads: so many that the call costs little beside them, and so few that what is cut of them keeps little else in memory.
 const PIECE_SIZE: u64 = 1_048_576;
 
-/// Bytes of a file that one call read, from an offset on.
+/// Bytes of a file that one call read, from an offset on. What is cut of them shares their buffer.
 pub struct Piece {
     from: u64,
-    bytes: Vec<u8>,
+    bytes: Text,
 }
 
 impl Drop for Piece {
@@ -42,12 +42,12 @@ impl Piece {
         ensures works { Works 0 1 (D.told disk.old) (D.told disk.new) }
         ensures cause { JournalFaultIsCounted (D.faults disk.old) (D.faults disk.new) result }
     {
-        let mut piece = Piece {
+        let count = (size - from).min(PIECE_SIZE);
+        let bytes = read_bytes(alloc, disk, from, count)?;
+        Ok(Piece {
             from,
-            bytes: Vec::new(alloc),
-        };
-        piece.move_to(disk, from, size)?;
-        Ok(piece)
+            bytes: Text::of(bytes)?,
+        })
     }
 
     /// So many bytes from an offset on: cut out of this piece or of the next one, which takes its place, or, where no piece has so many, read alone.
@@ -58,7 +58,7 @@ impl Piece {
         at: u64,
         count: u64,
         size: u64,
-    ) -> Result<Bytes, JournalFault>
+    ) -> Result<Text, JournalFault>
         requires place { IsPlace (D.size_of disk.old) size at }
         requires inside { at + count ≤ size }
         requires piece { IsPieceAt (D.told disk.old) size at self.old }
@@ -71,43 +71,33 @@ impl Piece {
         ensures cause { JournalFaultIsCounted (D.faults disk.old) (D.faults disk.new) result }
     {
         if count > PIECE_SIZE {
-            return read_bytes(alloc, disk, at, count);
+            let bytes = read_bytes(alloc, disk, at, count)?;
+            return Ok(Text::of(bytes)?);
         }
-        if let Some(bytes) = self.find(at, count) {
-            return Ok(Bytes::from_slice(alloc, bytes)?);
+        if self.has(at, count) {
+            return Ok(self.part(at, count)?);
         }
-        self.move_to(disk, at, size)?;
-        let bytes = &self.bytes.as_slice()[..count as usize];
-        Ok(Bytes::from_slice(alloc, bytes)?)
+        *self = Piece::read(alloc, disk, at, size)?;
+        Ok(self.part(at, count)?)
     }
 
-    // So many bytes from an offset on, where the piece has them all.
-    fn find(&self, at: u64, count: u64) -> Option<&[u8]>
-        ensures some { IfSome result (λ bytes. IsInPiece self.now at count bytes.now) }
-        ensures none { IfNone result (self.now.from ≤ at
-            → self.now.from + length self.now.bytes.items < at + count) }
+    // Whether it has so many bytes from an offset on.
+    fn has(&self, at: u64, count: u64) -> bool
+        requires { at + count < 2 ^ 64 }
+        ensures { IsTrue result ↔ IsWithin self.now at count }
     {
-        let start = at.checked_sub(self.from)?;
-        let rest = self.bytes.as_slice().get(start as usize..)?;
-        rest.get(..count as usize)
+        self.from <= at && at + count <= self.from.saturating_add(self.bytes.len() as u64)
     }
 
-    // Makes it the piece from an offset on. Its memory is used again.
-    fn move_to<D: Disk>(&mut self, disk: &mut D, from: u64, size: u64) -> Result<(), JournalFault>
-        requires { IsPlace (D.size_of disk.old) size from }
-        ensures piece { OnOk result (IsPieceAt (D.told disk.new) size from self.new) }
-        ensures from { OnOk result (self.new.from ≡ from) }
-        ensures left { IsOnlyRead (D.told disk.old) (D.told disk.new)
-            (D.size_of disk.old) (D.size_of disk.new) result }
-        ensures err { IfErr result (IsReadFault nowhere) }
-        ensures works { Works 0 1 (D.told disk.old) (D.told disk.new) }
-        ensures cause { JournalFaultIsCounted (D.faults disk.old) (D.faults disk.new) result }
+    // So many of its bytes, from an offset on.
+    fn part(&self, at: u64, count: u64) -> Result<Text, Memory>
+        requires fits { at + count < 2 ^ 64 }
+        requires within { IsWithin self.now at count }
+        ensures { IfOk result (IsInPiece self.now at count) }
     {
-        let count = (size - from).min(PIECE_SIZE);
-        self.bytes.resize(count as usize, 0)?;
-        disk.read(from, self.bytes.as_mut_slice())?;
-        self.from = from;
-        Ok(())
+        let start = at - self.from;
+        let end = at + count - self.from;
+        self.bytes.part(start as usize, end as usize)
     }
 }
 
@@ -120,6 +110,7 @@ pub fn read_bytes<D: Disk>(
 ) -> Result<Bytes, JournalFault>
     requires { at + count ≤ D.size_of disk.old }
     ensures bytes { IfOk result (IsCutOf (D.told disk.old) at count) }
+    ensures seen { IfOk result (IsSeenAt (D.told disk.new) at) }
     ensures gives { GivesOn (D.told disk.old) (D.told disk.new) }
     ensures left { IsOnlyRead (D.told disk.old) (D.told disk.new)
         (D.size_of disk.old) (D.size_of disk.new) result }

@@ -13,7 +13,7 @@ use crate::front::FRONT_SIZE;
 use crate::pieces::{Piece, read_bytes};
 use crate::start::Start;
 use byteorder::{BigEndian, ByteOrder};
-use object_values::{Bytes, Seq};
+use object_values::{Seq, Text};
 use odin_bytes::take_u32;
 use odin_outside::Disk;
 use std::alloc::Global;
@@ -25,7 +25,7 @@ pub fn read_record<D: Disk>(
     piece: &mut Piece,
     gate: u64,
     size: u64,
-) -> Result<Option<Bytes>, JournalFault>
+) -> Result<Option<Text>, JournalFault>
     requires place { IsPlace (D.size_of disk.old) size gate }
     requires piece { IsPieceAt (D.told disk.old) size gate piece.old }
     ensures some { IfOk result (λ read. IfSome read (FindsRecord (D.told disk.old) size gate)) }
@@ -58,7 +58,7 @@ pub fn read_records<D: Disk>(
     disk: &mut D,
     start: u64,
     size: u64,
-) -> Result<(u64, Seq<Bytes>), JournalFault>
+) -> Result<(u64, Seq<Text>), JournalFault>
     requires { IsPlace (D.size_of disk.old) size start }
     ensures whole { IfOk result (HasRecords (D.told disk.old) size start) }
     ensures closed { IfOk result (λ read. IsShut (D.told disk.old) size read.0) }
@@ -140,7 +140,7 @@ pub fn read_store<D: Disk>(
     alloc: Global,
     disk: &mut D,
     size: u64,
-) -> Result<(Start, (u64, Seq<Bytes>)), JournalFault>
+) -> Result<(Start, (u64, Seq<Text>)), JournalFault>
     requires { size ≡ D.size_of disk.old }
     ensures start { IfOk result (λ read. HasStart (D.told disk.old) size read.0) }
     ensures store { IfOk result (λ read. HasStore (D.told disk.old) size read.1) }

@@ -61,6 +61,11 @@ pub record IsOpened (graph : Text) (store : Store) : Type 0 where
 abbrev pub EndsFirst : Text → Store → Type 0
 EndsFirst graph store = store.journal.end ≤ gate_after front_size (graph_record graph)
 
+-- an opened store of a file of this size
+pub record IsAtStart (graph : Text) (size : ℕ) (store : Store) : Type 0 where
+  pub opened : IsOpened graph store
+  pub empty : size ≡ 0 → EndsFirst graph store
+
 -- the records read, and their last graph is another, if they have one
 abbrev pub HaveOther : Text → List (List ℕ) → Type 0
 HaveOther graph records = (state : State) × ReadsAll nothing records state × (state.graph ≢ Some graph)

@@ -5,7 +5,7 @@ ghost use Rattle.odin_store.specs.Loading.{state_of, TakesItem, TakesNone, Reads
 
 use kept_tables::{Kept, Loaded};
 use meaning_records::laws::reads_in_one_way;
-use object_values::{Bytes, Memory, Seq, Sources};
+use object_values::{Bytes, Memory, Seq, Sources, Text};
 use odin_journal::JournalFault;
 use std::alloc::Global;
 
@@ -69,7 +69,7 @@ impl Loading {
     fn load_item(
         &mut self,
         alloc: Global,
-        payload: &[u8],
+        payload: &Text,
         at: usize,
     ) -> Result<Option<usize>, Memory>
         ensures some { IfOk result (λ read. IfSome read (λ end.
@@ -98,7 +98,7 @@ impl Loading {
     }
 
     // Takes a payload in. Where it doesn't read, what was loaded is used no more.
-    fn load(&mut self, alloc: Global, payload: &[u8]) -> Result<bool, Memory>
+    fn load(&mut self, alloc: Global, payload: &Text) -> Result<bool, Memory>
         ensures read { IfOk result (λ reads. IsTrue reads
             → Reads (state_of self.old) payload.now (state_of self.new)) }
         ensures unread { IfOk result (λ reads. IsFalse reads
@@ -117,7 +117,7 @@ impl Loading {
 }
 
 /// What these records make of nothing, the first one first. Each is let go once it is loaded. The closed gate after them stands at `end`.
-pub fn load_records(alloc: Global, records: Seq<Bytes>, end: u64) -> Result<Loading, JournalFault>
+pub fn load_records(alloc: Global, records: Seq<Text>, end: u64) -> Result<Loading, JournalFault>
     ensures read { IfOk result (λ loading. ReadsAll nothing records (state_of loading)) }
     ensures fault { IfErr result (IsRecordLoadFault records end) }
 {
@@ -126,15 +126,15 @@ pub fn load_records(alloc: Global, records: Seq<Bytes>, end: u64) -> Result<Load
     let mut left = records.into_vec();
     left.reverse();
     'records: while let Some(payload) = left.pop() {
-        if !loading.load(alloc, payload.as_slice())? {
-            return Err(JournalFault::NotOurs(gate_before(end, payload.as_slice(), &left)));
+        if !loading.load(alloc, &payload)? {
+            return Err(JournalFault::NotOurs(gate_before(end, &payload, &left)));
         }
     }
     Ok(loading)
 }
 
 // The gate of a record with others after it, where the closed gate after them all stands at `end`.
-fn gate_before(end: u64, payload: &[u8], behind: &[Bytes]) -> u64
+fn gate_before(end: u64, payload: &Text, behind: &[Text]) -> u64
     ensures { result ≡ end - records_size (payload.now ∷ behind.now) }
 {
     let mut gate = end.saturating_sub(payload.len() as u64).saturating_sub(5);

@@ -50,7 +50,7 @@ impl Drop for Store {
 
 impl Store {
     ghost use Rattle.odin_store.specs.OnDisk.{BeginsOnce, IsChangeFault, StoreAfter, StoreIsOpen, IsSame, IsUnchanged, LeavesChange};
-    ghost use Rattle.odin_store.specs.Opening.{graph_record, EndsFirst, IsOpened, IsStoreOpenFault, LeavesOpening, OpensQuietStore};
+    ghost use Rattle.odin_store.specs.Opening.{graph_record, IsAtStart, IsOpened, IsStoreOpenFault, LeavesOpening, OpensQuietStore};
     ghost use Rattle.odin_store.specs.Changes.{CallBatch, DropBatch, DropsSource, KeepsCall, StoreMayKeep, MayPut, PutBatch, PutsText};
 
     /// Opens the store in a file for a graph of this text. Where the last graph text in the file is another, this one is added.
@@ -61,9 +61,8 @@ impl Store {
         ensures any_moment { LeavesOpening graph.now (D.told disk.old) (D.told disk.new) }
         ensures refused { IfErr result
             (IsStoreOpenFault graph.now (D.told disk.old) (D.told disk.new)) }
-        ensures first { IfOk result (IsOpened graph.now) }
+        ensures first { IfOk result (IsAtStart graph.now (D.size_of disk.old)) }
         ensures ready { IfOk result (λ store. IsReady store.journal (D.size_of disk.new)) }
-        ensures empty { D.size_of disk.old ≡ 0 → IfOk result (EndsFirst graph.now) }
         ensures works { D.size_of disk.old ≡ 0
             → Works (72 + length (graph_record graph.now)) 20 (D.told disk.old) (D.told disk.new) }
         ensures cause { JournalFaultIsCounted (D.faults disk.old) (D.faults disk.new) result }

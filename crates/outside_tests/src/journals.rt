@@ -1,6 +1,6 @@
 // A journal's bytes, stops within the adding of a record, and files that aren't ours.
 use super::disks::crashed;
-use object_values::{Bytes, Memory, Seq};
+use object_values::{Bytes, Memory, Seq, Text};
 use odin_fakes::CrashDisk;
 use odin_journal::{Journal, JournalFault};
 use std::alloc::Global;
@@ -11,7 +11,7 @@ pub(super) const FRONT: [u8; 64] =
     *b"ODINSTO1\0\0\0\0\0\0\0\0\0\0\0\0\0\0\0\x40\0\0\0\0\0\0\0\x41\0\0\0\0\0\0\0\0\0\0\0\0\0\0\0\0\0\0\0\0\0\0\0\0\0\0\0\0\0\0\0\0";
 
 // The end and the records of a journal on a disk.
-fn opened_on(alloc: Global, disk: &mut CrashDisk) -> Result<(u64, Seq<Bytes>), JournalFault> {
+fn opened_on(alloc: Global, disk: &mut CrashDisk) -> Result<(u64, Seq<Text>), JournalFault> {
     let (journal, records) = Journal::open(alloc, disk)?;
     Ok((journal.end(), records))
 }
@@ -23,7 +23,7 @@ pub(super) fn disk_of(alloc: Global, image: &[u8]) -> Result<CrashDisk, Memory> 
 }
 
 // The end and the records of a journal on a file.
-pub(super) fn opened(alloc: Global, image: &[u8]) -> Result<(u64, Seq<Bytes>), JournalFault> {
+pub(super) fn opened(alloc: Global, image: &[u8]) -> Result<(u64, Seq<Text>), JournalFault> {
     let mut disk = disk_of(alloc, image)?;
     opened_on(alloc, &mut disk)
 }
@@ -43,7 +43,7 @@ fn added(alloc: Global, disk: &mut CrashDisk) -> Result<(u64, u64, bool), Journa
 }
 
 // Whether `hi` is the only record.
-fn is_hi(records: &[Bytes]) -> bool {
+fn is_hi(records: &[Text]) -> bool {
     match records {
         [record] => record.as_slice() == b"hi".as_slice(),
         _ => false,

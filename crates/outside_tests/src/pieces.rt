@@ -1,6 +1,6 @@
 // A journal that is read by pieces: a record across the end of a piece, one that is longer than a piece, and one after it.
 use super::journals::FRONT;
-use object_values::{Bytes, Memory};
+use object_values::{Bytes, Memory, Text};
 use odin_fakes::CrashDisk;
 use odin_journal::{Journal, JournalFault};
 use std::alloc::Global;
@@ -33,7 +33,7 @@ fn store(alloc: Global) -> Result<Bytes, Memory> {
 }
 
 // Whether a record is the one at its place.
-fn is_whole(alloc: Global, record: usize, length: u32, read: &[Bytes]) -> Result<bool, Memory> {
+fn is_whole(alloc: Global, record: usize, length: u32, read: &[Text]) -> Result<bool, Memory> {
     let wanted = payload(alloc, length, record)?;
     match read.get(record) {
         Some(there) => Ok(there.as_slice() == wanted.as_slice()),
@@ -42,7 +42,7 @@ fn is_whole(alloc: Global, record: usize, length: u32, read: &[Bytes]) -> Result
 }
 
 // Whether all records are there, and no others.
-fn are_whole(alloc: Global, read: &[Bytes]) -> Result<bool, Memory> {
+fn are_whole(alloc: Global, read: &[Text]) -> Result<bool, Memory> {
     for (record, length) in LENGTHS.iter().enumerate() {
         if !is_whole(alloc, record, *length, read)? {
             return Ok(false);

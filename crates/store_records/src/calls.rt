@@ -3,7 +3,7 @@
 use crate::recorded::Recorded;
 use object_values::{
     Bytes, Memory, OwnLine, ParamValue, Seq, Status, StoredCall, StoredOutcome, StoredOutput,
-    StoredPart,
+    StoredPart, Text,
 };
 use std::alloc::Global;
 
@@ -19,7 +19,7 @@ impl Recorded for StoredPart {
         self.content.put(out)
     }
 
-    fn take(alloc: Global, from: &[u8], at: usize) -> Result<Option<(Self, usize)>, Memory> {
+    fn take(alloc: Global, from: &Text, at: usize) -> Result<Option<(Self, usize)>, Memory> {
         let Some(((slot, (label, content)), end)) = Recorded::take(alloc, from, at)? else {
             return Ok(None);
         };
@@ -49,7 +49,7 @@ impl Recorded for StoredCall {
         self.outs.put(out)
     }
 
-    fn take(alloc: Global, from: &[u8], at: usize) -> Result<Option<(Self, usize)>, Memory> {
+    fn take(alloc: Global, from: &Text, at: usize) -> Result<Option<(Self, usize)>, Memory> {
         let Some(((tool, (version, (words, (params, (parts, outs))))), end)) = Recorded::take(
             alloc, from, at,
         )?
@@ -81,7 +81,7 @@ impl Recorded for OwnLine {
         self.text.put(out)
     }
 
-    fn take(alloc: Global, from: &[u8], at: usize) -> Result<Option<(Self, usize)>, Memory> {
+    fn take(alloc: Global, from: &Text, at: usize) -> Result<Option<(Self, usize)>, Memory> {
         let Some(((level, text), end)) = Recorded::take(alloc, from, at)? else {
             return Ok(None);
         };
@@ -103,7 +103,7 @@ impl Recorded for StoredOutput {
         self.content.put(out)
     }
 
-    fn take(alloc: Global, from: &[u8], at: usize) -> Result<Option<(Self, usize)>, Memory> {
+    fn take(alloc: Global, from: &Text, at: usize) -> Result<Option<(Self, usize)>, Memory> {
         let Some(((name, content), end)) = Recorded::take(alloc, from, at)? else {
             return Ok(None);
         };
@@ -126,7 +126,7 @@ impl Recorded for StoredOutcome {
         self.outputs.put(out)
     }
 
-    fn take(alloc: Global, from: &[u8], at: usize) -> Result<Option<(Self, usize)>, Memory> {
+    fn take(alloc: Global, from: &Text, at: usize) -> Result<Option<(Self, usize)>, Memory> {
         let Some(((status, (lines, outputs)), end)) = Recorded::take(alloc, from, at)? else {
             return Ok(None);
         };

@@ -4,7 +4,7 @@ ghost use Rattle.object_values.specs.declared.views.Value.TheVariants.{Simple};
 ghost use Rattle.meaning_records.specs.Forms.{ParsesAt, StandsNowhere};
 ghost use Rattle.meaning_records.specs.Records.{content};
 
-use crate::fields::take_body;
+use crate::places::take_body;
 use crate::recorded::Recorded;
 use object_values::{Bytes, Memory, Text, Value};
 use odin_bytes::{put_u8, put_u32};
@@ -50,7 +50,7 @@ fn put_other(value: &Value, out: &mut Bytes) -> Result<(), Memory>
     value.put(out)
 }
 
-pub fn take_content(alloc: Global, from: &[u8], at: usize) -> Result<Option<(Value, usize)>, Memory>
+pub fn take_content(alloc: Global, from: &Text, at: usize) -> Result<Option<(Value, usize)>, Memory>
     ensures some { IfOk result (λ taken. IfSome taken (λ t. ParsesAt content from.now at t.1 t.0)) }
     ensures none { IfOk result (λ taken. IfNone taken (StandsNowhere content from.now at)) }
 {

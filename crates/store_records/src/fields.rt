@@ -2,13 +2,12 @@
 ghost use Rattle.std.specs.Prelude.{◌≡◌, ◌≢◌, ◌++◌, ◌^◌, ◌<◌, length, OnOk, IfSome, IfNone};
 ghost use Rattle.object_values.specs.declared.messages.Status.{Status};
 ghost use Rattle.odin_bytes.specs.Fields.{bytes_field};
-ghost use Rattle.meaning_records.specs.Forms.{bytes, StandsNowhere};
 ghost use Rattle.meaning_records.specs.Records.{status_number};
-ghost use Rattle.store_records.specs.Bodies.{HasBody};
 
+use crate::places::{take_body, take_u8, take_u32};
 use crate::recorded::Recorded;
 use object_values::{Bytes, Memory, Status, Text};
-use odin_bytes::{put_bytes, put_u8, put_u32, take_u8, take_u32};
+use odin_bytes::{put_bytes, put_u8, put_u32};
 use std::alloc::Global;
 
 impl Recorded for u32 {
@@ -21,7 +20,7 @@ impl Recorded for u32 {
         put_u32(out, *self)
     }
 
-    fn take(_alloc: Global, from: &[u8], at: usize) -> Result<Option<(Self, usize)>, Memory> {
+    fn take(_alloc: Global, from: &Text, at: usize) -> Result<Option<(Self, usize)>, Memory> {
         Ok(take_u32(from, at))
     }
 
@@ -38,11 +37,11 @@ impl Recorded for Bytes {
         put_field(self.as_slice(), out)
     }
 
-    fn take(alloc: Global, from: &[u8], at: usize) -> Result<Option<(Self, usize)>, Memory> {
+    fn take(alloc: Global, from: &Text, at: usize) -> Result<Option<(Self, usize)>, Memory> {
         let Some((start, end)) = take_body(from, at) else {
             return Ok(None);
         };
-        Ok(Some((Bytes::from_slice(alloc, &from[start..end])?, end)))
+        Ok(Some((Bytes::from_slice(alloc, &from.as_slice()[start..end])?, end)))
     }
 
     ghost one = { one_bytes };
@@ -58,11 +57,11 @@ impl Recorded for Text {
         put_field(self.as_slice(), out)
     }
 
-    fn take(alloc: Global, from: &[u8], at: usize) -> Result<Option<(Self, usize)>, Memory> {
-        let Some((bytes, end)) = Bytes::take(alloc, from, at)? else {
+    fn take(_alloc: Global, from: &Text, at: usize) -> Result<Option<(Self, usize)>, Memory> {
+        let Some((start, end)) = take_body(from, at) else {
             return Ok(None);
         };
-        Ok(Some((Text::of(bytes)?, end)))
+        Ok(Some((from.part(start, end)?, end)))
     }
 
     ghost one = { one_bytes };
@@ -78,7 +77,7 @@ impl Recorded for Status {
         put_u8(out, byte_of(*self))
     }
 
-    fn take(_alloc: Global, from: &[u8], at: usize) -> Result<Option<(Self, usize)>, Memory> {
+    fn take(_alloc: Global, from: &Text, at: usize) -> Result<Option<(Self, usize)>, Memory> {
         let Some((byte, end)) = take_u8(from, at) else {
             return Ok(None);
         };
@@ -124,16 +123,4 @@ fn status_of(byte: u8) -> Option<Status>
         3 => Some(Status::Abort),
         _ => None,
     }
-}
-
-/// Where the body of a field of bytes starts, and where it ends.
-pub fn take_body(from: &[u8], at: usize) -> Option<(usize, usize)>
-    ensures some { IfSome result (λ body. HasBody from.now at body.0 body.1) }
-    ensures none { IfNone result (StandsNowhere bytes from.now at) }
-{
-    let (length, start) = take_u32(from, at)?;
-    if from.len() - start < length as usize {
-        return None;
-    }
-    Some((start, start + length as usize))
 }

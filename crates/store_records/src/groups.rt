@@ -3,9 +3,10 @@ ghost use Rattle.std.specs.Prelude.{◌≡◌, ◌++◌, OnOk};
 ghost use Rattle.std.specs.List.{All, flat_map};
 ghost use Rattle.meaning_records.specs.Forms.{list_of};
 
+use crate::places::{take_u8, take_u32};
 use crate::recorded::Recorded;
-use object_values::{Bytes, Copied, Memory, Seq, ShortSeq};
-use odin_bytes::{put_u8, put_u32, take_u8, take_u32};
+use object_values::{Bytes, Copied, Memory, Seq, ShortSeq, Text};
+use odin_bytes::{put_u8, put_u32};
 use std::alloc::Global;
 
 impl<A: Recorded, B: Recorded> Recorded for (A, B) {
@@ -19,7 +20,7 @@ impl<A: Recorded, B: Recorded> Recorded for (A, B) {
         self.1.put(out)
     }
 
-    fn take(alloc: Global, from: &[u8], at: usize) -> Result<Option<(Self, usize)>, Memory> {
+    fn take(alloc: Global, from: &Text, at: usize) -> Result<Option<(Self, usize)>, Memory> {
         let Some((first, middle)) = A::take(alloc, from, at)? else {
             return Ok(None);
         };
@@ -42,7 +43,7 @@ impl<T: Recorded> Recorded for Seq<T> {
         put_list(self.as_slice(), out)
     }
 
-    fn take(alloc: Global, from: &[u8], at: usize) -> Result<Option<(Self, usize)>, Memory> {
+    fn take(alloc: Global, from: &Text, at: usize) -> Result<Option<(Self, usize)>, Memory> {
         let Some((count, start)) = take_u32(from, at) else {
             return Ok(None);
         };
@@ -71,7 +72,7 @@ impl<T: Recorded + Copied + Default> Recorded for ShortSeq<T> {
         put_list(self.as_slice(), out)
     }
 
-    fn take(alloc: Global, from: &[u8], at: usize) -> Result<Option<(Self, usize)>, Memory> {
+    fn take(alloc: Global, from: &Text, at: usize) -> Result<Option<(Self, usize)>, Memory> {
         let Some((members, end)) = Seq::<T>::take(alloc, from, at)? else {
             return Ok(None);
         };
@@ -97,7 +98,7 @@ impl<T: Recorded> Recorded for Option<T> {
         }
     }
 
-    fn take(alloc: Global, from: &[u8], at: usize) -> Result<Option<(Self, usize)>, Memory> {
+    fn take(alloc: Global, from: &Text, at: usize) -> Result<Option<(Self, usize)>, Memory> {
         let Some((kind, start)) = take_u8(from, at) else {
             return Ok(None);
         };

@@ -1,9 +1,10 @@
 // The items of batches.
 
 use crate::contents::{put_content, take_content};
+use crate::places::take_u8;
 use crate::recorded::Recorded;
-use object_values::{Bytes, Item, Memory, StoredCall, StoredOutcome};
-use odin_bytes::{put_u8, take_u8};
+use object_values::{Bytes, Item, Memory, StoredCall, StoredOutcome, Text};
+use odin_bytes::put_u8;
 use std::alloc::Global;
 
 type KeptFields = (StoredCall, StoredOutcome);
@@ -41,7 +42,7 @@ impl Recorded for Item {
         }
     }
 
-    fn take(alloc: Global, from: &[u8], at: usize) -> Result<Option<(Self, usize)>, Memory> {
+    fn take(alloc: Global, from: &Text, at: usize) -> Result<Option<(Self, usize)>, Memory> {
         let Some((kind, start)) = take_u8(from, at) else {
             return Ok(None);
         };

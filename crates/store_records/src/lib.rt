@@ -8,6 +8,7 @@ mod fields;
 mod groups;
 mod items;
 mod nodes;
+mod places;
 mod recorded;
 
 pub use batches::{write_batch, write_items};

@@ -1,8 +1,9 @@
 // Nodes and values.
 
+use crate::places::take_u8;
 use crate::recorded::Recorded;
 use object_values::{Bytes, Memory, Node, ParamValue, Part, Seq, Step, Text, Value};
-use odin_bytes::{put_u8, take_u8};
+use odin_bytes::put_u8;
 use std::alloc::Global;
 
 impl Recorded for ParamValue {
@@ -16,7 +17,7 @@ impl Recorded for ParamValue {
         self.value.put(out)
     }
 
-    fn take(alloc: Global, from: &[u8], at: usize) -> Result<Option<(Self, usize)>, Memory> {
+    fn take(alloc: Global, from: &Text, at: usize) -> Result<Option<(Self, usize)>, Memory> {
         let Some(((param, value), end)) = Recorded::take(alloc, from, at)? else {
             return Ok(None);
         };
@@ -46,7 +47,7 @@ impl Recorded for Step {
         }
     }
 
-    fn take(alloc: Global, from: &[u8], at: usize) -> Result<Option<(Self, usize)>, Memory> {
+    fn take(alloc: Global, from: &Text, at: usize) -> Result<Option<(Self, usize)>, Memory> {
         let Some((kind, start)) = take_u8(from, at) else {
             return Ok(None);
         };
@@ -82,7 +83,7 @@ impl Recorded for Node {
         self.steps.put(out)
     }
 
-    fn take(alloc: Global, from: &[u8], at: usize) -> Result<Option<(Self, usize)>, Memory> {
+    fn take(alloc: Global, from: &Text, at: usize) -> Result<Option<(Self, usize)>, Memory> {
         let Some(((source, (params, steps)), end)) = Recorded::take(alloc, from, at)? else {
             return Ok(None);
         };
@@ -108,7 +109,7 @@ impl Recorded for Part {
         self.body.put(out)
     }
 
-    fn take(alloc: Global, from: &[u8], at: usize) -> Result<Option<(Self, usize)>, Memory> {
+    fn take(alloc: Global, from: &Text, at: usize) -> Result<Option<(Self, usize)>, Memory> {
         let Some(((name, body), end)) = Recorded::take(alloc, from, at)? else {
             return Ok(None);
         };
@@ -142,7 +143,7 @@ impl Recorded for Value {
         }
     }
 
-    fn take(alloc: Global, from: &[u8], at: usize) -> Result<Option<(Self, usize)>, Memory> {
+    fn take(alloc: Global, from: &Text, at: usize) -> Result<Option<(Self, usize)>, Memory> {
         let Some((kind, start)) = take_u8(from, at) else {
             return Ok(None);
         };

@@ -2,7 +2,7 @@
 ghost use Rattle.std.specs.Prelude.{◌≡◌, ◌++◌, OnOk, IfOk, IfSome, IfNone};
 ghost use Rattle.meaning_records.specs.Forms.{Form, IsOfOneThing, ParsesAt, StandsNowhere};
 
-use object_values::{Bytes, Memory};
+use object_values::{Bytes, Memory, Text};
 use std::alloc::Global;
 
 /// A thing with a form in store files. docs/engineer/store-format.md has the table of forms.
@@ -15,8 +15,8 @@ pub trait Recorded: Sized + Drop {
         ensures ok { OnOk result (out.new ≡ out.old ++ form.spell self.now) }
         ensures fits { OnOk result (form.fits self.now) };
 
-    /// The thing at a place, and the place after it. `None` exactly where none stands there.
-    fn take(alloc: Global, from: &[u8], at: usize) -> Result<Option<(Self, usize)>, Memory>
+    /// The thing at a place, and the place after it. `None` exactly where none stands there. A text of it shares the buffer.
+    fn take(alloc: Global, from: &Text, at: usize) -> Result<Option<(Self, usize)>, Memory>
         ensures some { IfOk result
             (λ taken. IfSome taken (λ t. ParsesAt form from.now at t.1 t.0)) }
         ensures none { IfOk result (λ taken. IfNone taken (StandsNowhere form from.now at)) };

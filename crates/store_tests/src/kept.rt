@@ -32,7 +32,7 @@ fn put(alloc: Global, kept: &mut Kept, name: &[u8], bytes: &[u8]) -> Result<Byte
 }
 
 // How many items of a payload are read, and whether they reach its end.
-fn load_all(alloc: Global, kept: &mut Kept, payload: &[u8]) -> Result<(u32, bool), Memory> {
+fn load_all(alloc: Global, kept: &mut Kept, payload: &Text) -> Result<(u32, bool), Memory> {
     let mut at = 0;
     let mut items: u32 = 0;
     for _ in 0..payload.len() {
@@ -98,10 +98,11 @@ fn a_first_put_is_a_content_and_its_name(rt: HostRuntime) -> Result<(), Fail> {
 
 #[test]
 fn a_put_is_read_with_its_text(rt: HostRuntime) -> Result<(), Fail> {
+    let payload = text(rt.alloc(), FIRST_PUT)?;
     let mut kept = Kept::new(rt.alloc());
-    let first = kept.load_item(rt.alloc(), FIRST_PUT, 0)?;
+    let first = kept.load_item(rt.alloc(), &payload, 0)?;
     assert!(rt; matches!(first, Some((Loaded::Content, 10))));
-    let second = kept.load_item(rt.alloc(), FIRST_PUT, 10)?;
+    let second = kept.load_item(rt.alloc(), &payload, 10)?;
     let is_put = match &second {
         Some((Loaded::Put(name, text), 22)) => name.as_slice() == b"a.c".as_slice()
             && text.is_empty(),
@@ -109,7 +110,7 @@ fn a_put_is_read_with_its_text(rt: HostRuntime) -> Result<(), Fail> {
     };
     assert!(rt; is_put);
     let mut other = Kept::new(rt.alloc());
-    let ahead = other.load_item(rt.alloc(), FIRST_PUT, 10)?;
+    let ahead = other.load_item(rt.alloc(), &payload, 10)?;
     assert!(rt; ahead.is_none());
     Ok(())
 }
@@ -122,20 +123,20 @@ fn a_call_is_kept_once_and_read_by_others(rt: HostRuntime) -> Result<(), Fail> {
     let outcome = outcome_of(alloc, b"int a;")?;
     assert!(rt; kept.may_keep(&call, &outcome));
     let prepared = kept.prepare_call(alloc, &call, &outcome)?;
-    let payload = Bytes::from_slice(alloc, prepared.payload())?;
+    let payload = text(alloc, prepared.payload())?;
     let before = kept.outcome(alloc, &call)?;
     assert!(rt; before.is_none() && kept.calls() == 0);
     kept.commit(prepared);
     let after = kept.outcome(alloc, &call)?;
     assert!(rt; after == Some(outcome.copy(alloc)?) && kept.calls() == 1);
     let mut other = Kept::new(alloc);
-    let read = load_all(alloc, &mut other, payload.as_slice())?;
+    let read = load_all(alloc, &mut other, &payload)?;
     assert!(rt; read == (2, true));
     let found = other.call_at(alloc, 0)?;
     assert!(rt; found.is_some_and(|found| found.call == call && found.outcome == outcome));
     let behind = (other.call_at(alloc, 1)?, other.call_at(alloc, u64::MAX)?);
     assert!(rt; behind.0.is_none() && behind.1.is_none());
-    let again = load_all(alloc, &mut other, payload.as_slice())?;
+    let again = load_all(alloc, &mut other, &payload)?;
     assert!(rt; again == (1, false));
     Ok(())
 }

@@ -33,9 +33,13 @@ const CONTENTS: [(&[u8], u64); 9] = [
     (TEXT, 4),
 ];
 
+fn text_of(alloc: Global, bytes: &[u8]) -> Result<Text, Memory> {
+    Text::of(Bytes::from_slice(alloc, bytes)?)
+}
+
 // The value of a content.
 fn value_of(alloc: Global, content: &[u8]) -> Result<Option<Value>, Memory> {
-    match Item::take(alloc, content, 0)? {
+    match Item::take(alloc, &text_of(alloc, content)?, 0)? {
         Some((Item::Content(value), _)) => Ok(Some(value)),
         _ => Ok(None),
     }
@@ -44,7 +48,7 @@ fn value_of(alloc: Global, content: &[u8]) -> Result<Option<Value>, Memory> {
 // Reads the contents, one after another, and says whether each was read.
 fn are_read(alloc: Global, kept: &mut Kept) -> Result<bool, Memory> {
     for (content, _) in &CONTENTS {
-        if kept.load_item(alloc, content, 0)?.is_none() {
+        if kept.load_item(alloc, &text_of(alloc, content)?, 0)?.is_none() {
             return Ok(false);
         }
     }

@@ -122,9 +122,13 @@ fn is_item(row: usize, item: &Item) -> bool {
     }
 }
 
+fn text_of(alloc: Global, bytes: &[u8]) -> Result<Text, Memory> {
+    Text::of(Bytes::from_slice(alloc, bytes)?)
+}
+
 // Whether the item of a row is read from its bytes, up to their end, and is written as these bytes.
 fn is_read(alloc: Global, row: usize, bytes: &[u8]) -> Result<bool, Memory> {
-    let Some((item, end)) = Item::take(alloc, bytes, 0)? else {
+    let Some((item, end)) = Item::take(alloc, &text_of(alloc, bytes)?, 0)? else {
         return Ok(false);
     };
     let is = is_item(row, &item);
@@ -134,7 +138,7 @@ fn is_read(alloc: Global, row: usize, bytes: &[u8]) -> Result<bool, Memory> {
 }
 
 fn reads_nothing(alloc: Global, bytes: &[u8]) -> Result<bool, Memory> {
-    Ok(Item::take(alloc, bytes, 0)?.is_none())
+    Ok(Item::take(alloc, &text_of(alloc, bytes)?, 0)?.is_none())
 }
 
 #[test]
@@ -233,12 +237,13 @@ fn first_put(alloc: Global) -> Result<Bytes, Memory> {
 fn a_batch_is_its_items(rt: HostRuntime) -> Result<(), Fail> {
     let payload = first_put(rt.alloc())?;
     assert!(rt; payload.as_slice() == FIRST_PUT);
-    let Some((content, end)) = Item::take(rt.alloc(), FIRST_PUT, 0)? else {
+    let payload = text_of(rt.alloc(), FIRST_PUT)?;
+    let Some((content, end)) = Item::take(rt.alloc(), &payload, 0)? else {
         return Err("no content".into());
     };
     assert!(rt; is_item(1, &content));
-    assert!(rt; Item::take(rt.alloc(), FIRST_PUT, end)?.is_some());
-    assert!(rt; Item::take(rt.alloc(), FIRST_PUT, 22)?.is_none());
-    assert!(rt; Item::take(rt.alloc(), FIRST_PUT, usize::MAX)?.is_none());
+    assert!(rt; Item::take(rt.alloc(), &payload, end)?.is_some());
+    assert!(rt; Item::take(rt.alloc(), &payload, 22)?.is_none());
+    assert!(rt; Item::take(rt.alloc(), &payload, usize::MAX)?.is_none());
     Ok(())
 }

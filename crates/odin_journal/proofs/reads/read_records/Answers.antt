@@ -2,7 +2,7 @@ use Rattle.std.proofs.Common.{◌≡◌, ◌++◌, ◌∷◌, ◌+◌, ◌-◌, 
 use Rattle.meaning_records.specs.Images.{gate_after, IsRecord, AreRecords}
 use Rattle.odin_journal.specs.Pieces.{ReadsOn}
 use Rattle.odin_journal.specs.WorkLemmas.{add_work}
-use Rattle.odin_journal.proofs.MomentLemmas.{untouched_on}
+use Rattle.odin_journal.proofs.MomentLemmas.{on_ok, untouched_on}
 use Rattle.odin_journal.proofs.AppendLemmas.{one_more}
 use Rattle.odin_journal.proofs.PieceLemmas.{no_reads, reads_less, reads_both, all_reads}
 use Rattle.odin_journal.proofs.reads.read_records.Goals as goal
@@ -44,6 +44,14 @@ gates-preserved g c =
           (reads_both (2 * length c.gates.records) 2 size start (gate - start) (5 + length payload) c.in_ok-piece.piece c.gates.piece c.read_record.new.piece _ mid new c.gates.invariant.reads next);
       faults = c.in_ok-payload.ensures.cause.ok ∙ c.gates.invariant.faults;
     }
+
+pub returns-in_err-push-clause-left : goal.returns-in_err-push-clause-left
+returns-in_err-push-clause-left g c = record {
+  untouched = λ quiet.
+      let first = c.gates.invariant.untouched quiet in
+      untouched_on (g.D.Disk.told c.args.disk.now) (g.D.Disk.told c.gates.disk) (g.D.Disk.told c.read_record.new.disk) first (c.read_record.ensures.left.untouched first.quiet);
+  size = on_ok c.from_residual-in_err-push.result (c.in_ok-payload.ensures.left.size ∙ c.gates.invariant.same);
+}
 
 pub gates-init : goal.gates-init
 gates-init g c = record {

@@ -1,4 +1,4 @@
-use Rattle.std.proofs.Common.{◌∷◌, ◌-◌, IsTrue, IsFalse, ap, ap₂, subst, ◌∙◌, rules}
+use Rattle.std.proofs.Common.{◌∷◌, ◌-◌, IsTrue, IsFalse, ap, ◌∙◌, rules}
 use mathlib.Core.List.{reverse}
 use Rattle.meaning_records.specs.States.{Reads}
 use Rattle.odin_store.specs.Loading.{state_of, ReadsNot, records_size}
@@ -11,9 +11,9 @@ returns-then-not-branch-clause-fault c =
     let payload = c.in-Some.payload in
     let last = rw c.in-Some.is at c.pop.ensures.items in
     let answered : IsFalse c.in_ok-load.field-0 = search rules in
-    let unread : ReadsNot now payload = subst (ReadsNot now) c.as_slice.ensures (c.in_ok-load.ensures.unread answered) in
+    let unread : ReadsNot now payload = c.in_ok-load.ensures.unread answered in
     breaks_there c.args.records c.records.left.items c.pop.new.self.items payload now c.args.end c.gate_before.result c.records.invariant last unread
-    (c.gate_before.ensures ∙ ap₂ (λ p b. c.args.end - records_size (p ∷ b)) c.as_slice-then-not-branch.ensures c.deref.ensures.value)
+    (c.gate_before.ensures ∙ ap (λ rest. c.args.end - records_size (payload ∷ rest)) c.deref.ensures.value)
 
 pub records-preserved : goal.records-preserved
 records-preserved c =
@@ -22,7 +22,7 @@ records-preserved c =
     let payload = c.in-Some.payload in
     let last = rw c.in-Some.is at c.pop.ensures.items in
     let answered : IsTrue c.in_ok-load.field-0 = search rules in
-    let reads : Reads now payload next = subst (λ p. Reads now p next) c.as_slice.ensures (c.in_ok-load.ensures.read answered) in
+    let reads : Reads now payload next = c.in_ok-load.ensures.read answered in
     more_loaded c.args.records c.records.left.items c.pop.new.self.items payload now next c.records.invariant last reads
 
 pub records-init : goal.records-init

@@ -33,7 +33,7 @@ returns-in_err-settle-clause-works g c = λ zero.
     let text = c.args.text.now in
     let first = c.in_ok-store.store in
     fails_works g.D.Disk.told text c.args.disk.now c.open.new.disk c.settle.new.disk first c.in_err-settle.field-0.0 (72 + length (graph_record text)) 20
-    (λ wasteful. first_not_wasteful text first c.in_ok-store.ensures.first.graph_is (c.in_ok-store.ensures.empty zero) wasteful) c.in_err-settle.ensures.err (c.open.ensures.works zero)
+    (λ wasteful. first_not_wasteful text first c.in_ok-store.ensures.first.opened.graph_is (c.in_ok-store.ensures.first.empty zero) wasteful) c.in_err-settle.ensures.err (c.open.ensures.works zero)
 
 pub returns-clause-opened : goal.returns-clause-opened
 returns-clause-opened g c =
@@ -43,7 +43,7 @@ pub returns-clause-new : goal.returns-clause-new
 returns-clause-new g c = record {
   graph_is = refl;
   jobs_is = refl;
-  first = settled_epoch g.D.Disk.told c.args.text.now c.args.disk.now c.open.new.disk c.settle.new.disk c.in_ok-store.store c.settle.new.store c.in_ok-settle.ensures.ok ∙ c.in_ok-store.ensures.first.first;
+  first = settled_epoch g.D.Disk.told c.args.text.now c.args.disk.now c.open.new.disk c.settle.new.disk c.in_ok-store.store c.settle.new.store c.in_ok-settle.ensures.ok ∙ c.in_ok-store.ensures.first.opened.first;
   ready = c.in_ok-settle.ensures.ready;
 }
 
@@ -56,11 +56,11 @@ returns-clause-empty g c = λ zero.
     let text = c.args.text.now in
     let first = c.in_ok-store.store in
     stays_opened g.D.Disk.told text c.args.disk.now c.open.new.disk c.settle.new.disk first c.settle.new.store
-    (λ wasteful. first_not_wasteful text first c.in_ok-store.ensures.first.graph_is (c.in_ok-store.ensures.empty zero) wasteful) c.in_ok-store.ensures.opened c.in_ok-settle.ensures.ok
+    (λ wasteful. first_not_wasteful text first c.in_ok-store.ensures.first.opened.graph_is (c.in_ok-store.ensures.first.empty zero) wasteful) c.in_ok-store.ensures.opened c.in_ok-settle.ensures.ok
 
 pub returns-clause-works : goal.returns-clause-works
 returns-clause-works g c = λ zero.
     let text = c.args.text.now in
     let first = c.in_ok-store.store in
     stays_works g.D.Disk.told text c.args.disk.now c.open.new.disk c.settle.new.disk first c.settle.new.store (72 + length (graph_record text)) 20
-    (λ wasteful. first_not_wasteful text first c.in_ok-store.ensures.first.graph_is (c.in_ok-store.ensures.empty zero) wasteful) c.in_ok-settle.ensures.ok (c.open.ensures.works zero)
+    (λ wasteful. first_not_wasteful text first c.in_ok-store.ensures.first.opened.graph_is (c.in_ok-store.ensures.first.empty zero) wasteful) c.in_ok-settle.ensures.ok (c.open.ensures.works zero)

@@ -1,4 +1,4 @@
-use Rattle.std.proofs.Common.{◌≡◌, ◌≢◌, ◌<◌, [], length, arith}
+use Rattle.std.proofs.Common.{◌≡◌, ◌≢◌, ◌<◌, ◌≤◌, [], length, arith}
 use Rattle.std.proofs.lemmas.Grind.{common_steps}
 use Rattle.std.proofs.lemmas.Bool.Decides.{nat_tests}
 use Rattle.odin_store.specs.Loading.{state_of}
@@ -28,7 +28,8 @@ items-preserved c =
 pub returns-clause-read : goal.returns-clause-read
 returns-clause-read c answered =
     let some : c.args.payload.now ≢ [] = λ empty. grind (arith, common_steps, nat_tests) in
-    all_read c.args.payload.now c.items.at (state_of c.args.self.now) (state_of c.items.self) some c.items-test.false c.items.invariant.inside c.items.invariant.before
+    let passed : length c.args.payload.now ≤ c.items.at = omega (arith, c.items-test.false, c.len.ensures) in
+    all_read c.args.payload.now c.items.at (state_of c.args.self.now) (state_of c.items.self) some passed c.items.invariant.inside c.items.invariant.before
 
 pub returns-clause-unread : goal.returns-clause-unread
 returns-clause-unread c answered =

@@ -1,4 +1,4 @@
-use Rattle.std.proofs.Common.{◌≡◌, ℕ, ◌+◌, length, IsTrue, IsFalse, sym, ap₂, subst, ◌∙◌, arith, rules}
+use Rattle.std.proofs.Common.{◌≡◌, ℕ, ◌+◌, length, IsTrue, IsFalse, sym, ap, ap₂, subst, ◌∙◌, arith, rules}
 use Rattle.object_values.specs.Texts.{SourceStock}
 use Rattle.odin_journal.specs.WorkLemmas.{more_work, add_work, few_reads}
 use Rattle.odin_outside.specs.Worked.{WorkedWithin}
@@ -11,7 +11,7 @@ use Rattle.meaning_records.specs.States.{State}
 use Rattle.kept_tables.specs.Holdings.{Holding}
 use Rattle.odin_store.specs.Loading.{state_of, IsRecordLoadFault}
 use Rattle.odin_store.specs.OnDisk.{state_in}
-use Rattle.odin_store.specs.Opening.{graph_record, IsStoreOpenFault}
+use Rattle.odin_store.specs.Opening.{graph_record, IsOpened, IsStoreOpenFault}
 use Rattle.odin_store.proofs.StoreLemmas.{handed}
 use Rattle.odin_store.proofs.SourceLemmas.{sources_read}
 use Rattle.odin_store.proofs.OpenLemmas.{records_stay, graph_added, journal_fault, load_fault, memory_fault, add_fault, refused_of, opens_known, opens_added}
@@ -150,3 +150,28 @@ returns-clause-works g c empty =
     let bytes = graph_record c.args.graph.now in
     let added : Works (length bytes + 6) 4 mid new = subst (λ b. Works (length b + 6) 4 mid new) (c.as_slice.ensures ∙ c.in_ok-payload.ensures) c.in_ok-append.ensures.works in
     more_work (66 + (length bytes + 6)) 20 (72 + length bytes) 20 old.work new.work (omega arith) (omega arith) (add_work 66 16 (length bytes + 6) 4 old.work mid.work new.work (c.open.ensures.empty empty).works added)
+
+pub returns-then-has_graph-clause-first : goal.returns-then-has_graph-clause-first
+returns-then-has_graph-clause-first g c = record {
+  opened = subst (λ text. IsOpened text c.of-known.result) c.in_ok-text.ensures c.of-known.ensures.opened;
+  empty = λ zero.
+      let end = ap (λ (j : Journal). j.end) c.of-known.ensures.journal ∙ (c.in_ok-journal.ensures.empty zero).end in
+      omega (arith, end);
+}
+
+pub returns-then-has_graph-clause-works : goal.returns-then-has_graph-clause-works
+returns-then-has_graph-clause-works g c empty =
+    let old = g.D.Disk.told c.args.disk.now in
+    let mid = g.D.Disk.told c.open.new.disk in
+    let size : ℕ = length (graph_record c.args.graph.now) in
+    more_work 66 16 (72 + size) 20 old.work mid.work (omega arith) (omega arith) (c.open.ensures.empty empty).works
+
+pub returns-clause-first : goal.returns-clause-first
+returns-clause-first g c = record {
+  opened = subst (λ text. IsOpened text c.of-added.result) c.in_ok-text.ensures c.of-added.ensures.opened;
+  empty = λ zero.
+      let first = (c.in_ok-journal.ensures.empty zero).end in
+      let next = ap (λ (j : Journal). j.end) c.of-added.ensures.journal ∙ c.in_ok-append.ensures.added.next_is in
+      let long = ap length (c.as_slice.ensures ∙ c.in_ok-payload.ensures) in
+      omega (arith, first, next, long);
+}
