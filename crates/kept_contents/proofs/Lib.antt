@@ -1,3 +1,4 @@
+mod AddedPlaces
 mod Batched
 mod Contents
 mod CopyLemmas

@@ -1,13 +1,7 @@
--- Heads and keys that are borrowed.
-use Rattle.kept_contents.specs.declared.head.BorrowedHead.{BorrowedHead}
-use Rattle.kept_contents.specs.declared.head.CallHead.{CallHead}
+-- Keys that are borrowed.
 use Rattle.kept_contents.specs.declared.held.HeldCall.{HeldCall}
 use Rattle.kept_contents.specs.declared.keys.CallKey.{CallKey}
 use Rattle.kept_contents.specs.declared.keys.SoughtKey.{SoughtKey}
-
--- the head that a borrowed one finds
-abbrev pub as_head : BorrowedHead → CallHead
-as_head q = record { tool = q.tool.now; version = q.version.now; words = q.words.now; params = q.params.now; outs = q.outs.now }
 
 -- the key that a sought one finds
 abbrev pub as_key : SoughtKey → CallKey

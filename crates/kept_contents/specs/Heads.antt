@@ -1,8 +1,9 @@
 -- The heads of calls.
-use Rattle.std.specs.Prelude.{◌≡◌, ℕ, List, [], ◌∷◌, ◌++◌, Option}
+use Rattle.std.specs.Prelude.{◌≡◌, ℕ, List, [], ◌∷◌, ◌++◌, Option, slice_get}
 use Rattle.std.specs.Bool.{Decides}
 use Rattle.std.specs.Hash as fed
 use Rattle.std.specs.Hash.{HashWrites}
+use Rattle.std.specs.Hash.FoldHasher as folding
 use Rattle.sequences.specs.Fed.{bytes_fed}
 use Rattle.std.specs.Cmp.Lexicographic.{bytes_decides, pointwise_decides}
 use Rattle.std.specs.List.{fold, position}
@@ -12,6 +13,10 @@ use Rattle.object_values.specs.declared.nodes.ParamValue.{ParamValue}
 use Rattle.object_values.specs.declared.calls.Call.{Call}
 use Rattle.object_values.specs.declared.calls.CallPart.{CallPart}
 use Rattle.content_store.specs.Digesting as digesting
+use Rattle.content_store.specs.Marks.{IsIndex}
+use Rattle.content_store.specs.declared.marks.Mark.{Mark}
+use Rattle.content_store.specs.declared.marks.Mark.TheVariants.{Quick, Digest}
+use Rattle.content_store.specs.declared.marks.Marks.{Marks}
 use Rattle.kept_contents.specs.declared.head.CallHead.{CallHead}
 use Rattle.kept_contents.specs.contracts.head.CallHeadPartialEq.TheImpl.{ghosts as head_eq}
 
@@ -32,7 +37,7 @@ place_of_head head heads = position (head_eq.eq head) heads
 abbrev pub AreMore : List CallHead → List CallHead → Type 0
 AreMore old new = (later : List CallHead) × (new ≡ old ++ later)
 
--- ---- what is digested of a head
+-- ---- the marks of a head, by which its number is found
 
 abbrev pair_fed : ParamValue → HashWrites
 pair_fed p = bytes_fed p.param ++ bytes_fed p.value
@@ -43,12 +48,19 @@ fed_of head =
     ++ fed.slice bytes_fed head.words ++ fed.slice pair_fed head.params
     ++ fed.slice bytes_fed head.outs
 
+unfoldable pub hash_of : CallHead → ℕ
+hash_of head = folding.finish (fold folding.write folding.initial (fed_of head))
+
 unfoldable pub digest_of : CallHead → List ℕ
 digest_of head = digesting.digest (fold digesting.write digesting.initial (fed_of head))
 
--- what a head feeds a hasher: its digest
-abbrev pub hashed_of : CallHead → HashWrites
-hashed_of head = digest_of head ∷ []
+-- from the cheapest on
+abbrev pub marks_of : CallHead → List Mark
+marks_of head = Quick (hash_of head) ∷ Digest (digest_of head) ∷ []
+
+-- Each head stands once, and is found by its marks.
+abbrev pub IsHeadIndex : List CallHead → Marks → Type 0
+IsHeadIndex heads marks = IsIndex (slice_get heads) marks_of marks
 
 -- Its `==` answers whether two are equal.
 pub head_exact : (x y : CallHead) → Decides (head_eq.eq x y) (x ≡ y)

@@ -1,14 +1,13 @@
 // The heads of calls: all of a call but its inputs.
 ghost use Rattle.std.specs.Prelude.{◌≡◌, IfOk};
-ghost use Rattle.kept_contents.specs.Borrowed.{as_head};
 ghost use Rattle.std.specs.List.{fold};
-ghost use Rattle.kept_contents.specs.Heads.{call_with, digest_of, fed_of, head_of};
+ghost use Rattle.kept_contents.specs.contracts.head.CallHeadPartialEq.TheImpl.{ghosts as head_eq};
+ghost use Rattle.kept_contents.specs.Heads.{call_with, digest_of, fed_of, hash_of, head_of};
 
 use content_store::ShaHasher;
-use indexmap::Equivalent;
 use object_values::{Bytes, Call, CallPart, Copied, Memory, ParamValue, Seq, copy_five};
 use std::alloc::Global;
-use std::hash::{Hash, Hasher};
+use std::hash::{FoldHasher, Hash, Hasher};
 
 /// The tool of a call with all that it gets but its inputs. The calls of a graph have few heads.
 #[derive(PartialEq, Eq)]
@@ -60,16 +59,15 @@ impl CallHead {
         })
     }
 
-    fn borrowed(&self) -> BorrowedHead<'_>
-        ensures { as_head result ≡ self.now }
+    /// Whether a call has this head.
+    pub(crate) fn is_of(&self, call: &Call) -> bool
+        ensures { result ≡ head_eq.eq (head_of call.now) self.now }
     {
-        BorrowedHead {
-            tool: &self.tool,
-            version: &self.version,
-            words: &self.words,
-            params: &self.params,
-            outs: &self.outs,
-        }
+        call.tool == self.tool
+            && call.version == self.version
+            && call.words == self.words
+            && call.params == self.params
+            && call.outs == self.outs
     }
 
     /// The call that has this head and these inputs.
@@ -97,93 +95,31 @@ impl CallHead {
     }
 }
 
-impl Hash for CallHead {
-    ghost use Rattle.std.specs.Hash.{same_Alike};
-    ghost use Rattle.kept_contents.specs.Heads.{hashed_of, head_exact};
-
-    ghost hash_input = { hashed_of };
-
-    ghost respects_eq = { (same_Alike hashed_of head_exact).fed };
-
-    fn hash<H: Hasher>(&self, state: &mut H) {
-        state.write(&self.borrowed().digest());
-    }
+/// A quick hash of a call's head.
+pub(crate) fn hash_head(call: &Call) -> u64
+    ensures { result ≡ hash_of (head_of call.now) }
+{
+    let mut state = FoldHasher::default();
+    feed_head(call, &mut state);
+    state.finish()
 }
 
-/// The head of a borrowed call: it finds the head that is equal, and nothing is copied.
-#[derive(Clone, Copy, PartialEq, Eq)]
-pub struct BorrowedHead<'a> {
-    pub tool: &'a Bytes,
-    pub version: &'a Bytes,
-    pub words: &'a Seq<Bytes>,
-    pub params: &'a Seq<ParamValue>,
-    pub outs: &'a Seq<Bytes>,
+/// A digest of a call's head.
+pub(crate) fn digest_head(call: &Call) -> [u8; 32]
+    ensures { result ≡ digest_of (head_of call.now) }
+{
+    let mut state = ShaHasher::default();
+    feed_head(call, &mut state);
+    state.digest()
 }
 
-impl<'a> BorrowedHead<'a> {
-    /// The head of a call.
-    pub fn of(call: &'a Call) -> Self
-        ensures { as_head result ≡ head_of call.now }
-    {
-        BorrowedHead {
-            tool: &call.tool,
-            version: &call.version,
-            words: &call.words,
-            params: &call.params,
-            outs: &call.outs,
-        }
-    }
-
-    fn digest(&self) -> [u8; 32]
-        ensures { result ≡ digest_of (as_head self.now) }
-    {
-        let mut state = ShaHasher::default();
-        self.feed(&mut state);
-        state.digest()
-    }
-
-    fn feed<H: Hasher>(&self, state: &mut H)
-        ensures { state.new ≡ fold H.write state.old (fed_of (as_head self.now)) }
-    {
-        self.tool.hash(state);
-        self.version.hash(state);
-        self.words.hash(state);
-        self.params.hash(state);
-        self.outs.hash(state);
-    }
-}
-
-impl Hash for BorrowedHead<'_> {
-    ghost use Rattle.std.specs.Hash.{on_Alike, same_Alike};
-    ghost use Rattle.kept_contents.specs.Heads.{hashed_of, head_exact};
-    ghost use Rattle.kept_contents.specs.Borrowed.{as_head};
-
-    ghost hash_input = { λ q. hashed_of (as_head q) };
-
-    ghost respects_eq = { (on_Alike as_head (same_Alike hashed_of head_exact)).fed };
-
-    fn hash<H: Hasher>(&self, state: &mut H) {
-        state.write(&self.digest());
-    }
-}
-
-impl Equivalent<CallHead> for BorrowedHead<'_> {
-    ghost use Rattle.std.proofs.Common.{ap};
-    ghost use Rattle.kept_contents.specs.contracts.head.CallHeadPartialEq.TheImpl.{ghosts as head_eq};
-    ghost use Rattle.kept_contents.specs.Heads.{hashed_of, head_exact};
-    ghost use Rattle.kept_contents.specs.Borrowed.{as_head};
-
-    ghost equivalent = { λ q. head_eq.eq (as_head q) };
-
-    ghost respects_hash = { λ q k h. ap hashed_of ((head_exact (as_head q) k).0 h) };
-
-    ghost respects_eq = { λ q x y h. ap (λ k. head_eq.eq k y) ((head_exact (as_head q) x).0 h) };
-
-    fn equivalent(&self, key: &CallHead) -> bool {
-        *self.tool == key.tool
-            && *self.version == key.version
-            && *self.words == key.words
-            && *self.params == key.params
-            && *self.outs == key.outs
-    }
+// Feeds all of a call but its inputs.
+fn feed_head<H: Hasher>(call: &Call, state: &mut H)
+    ensures { state.new ≡ fold H.write state.old (fed_of (head_of call.now)) }
+{
+    call.tool.hash(state);
+    call.version.hash(state);
+    call.words.hash(state);
+    call.params.hash(state);
+    call.outs.hash(state);
 }
