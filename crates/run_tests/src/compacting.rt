@@ -28,7 +28,7 @@ fn add_put(commands: &mut Vec<u8>, name: &[u8], number: u32) -> Result<(), Memor
     commands.extend_from_slice(name)?;
     commands.extend_from_slice(b" 4096\n")?;
     commands.extend_from_slice(&number.to_be_bytes())?;
-    commands.extend_from_slice(&[b'x'; 4092])?;
+    commands.resize(commands.len().saturating_add(4092), b'x')?;
     Ok(())
 }
 
@@ -142,17 +142,20 @@ fn holds(alloc: Global, image: &[u8]) -> Result<bool, Memory> {
     answers(alloc, &mut disk)
 }
 
+// Whether the file of an opening has the size of the one before, and whether it is short: the copy is put after the records, then before the start in use,
+// and then the store isn't wasteful.
+const FILES: &[(bool, bool)] = &[(false, false), (false, true), (true, true)];
+
 #[test]
 fn a_rewritten_store_holds_what_it_held(rt: HostRuntime) -> Result<(), Fail> {
     let mut image = wasteful(rt.alloc())?;
-    let mut sizes = Vec::new(rt.alloc());
-    for _ in 0..3 {
+    for (stays, is_short) in FILES {
         let mut disk = wide_disk(rt.alloc(), image.as_slice())?;
         assert!(rt; answers(rt.alloc(), &mut disk)?);
-        image = disk.image().to_vec(rt.alloc())?;
-        sizes.push(image.len())?;
+        let next = disk.image().to_vec(rt.alloc())?;
+        assert!(rt; (next.len() == image.len()) == *stays && (next.len() < 1 << 14) == *is_short);
+        image = next;
     }
-    assert!(rt; sizes[0] > 1 << 20 && sizes[1] < 1 << 14 && sizes[2] == sizes[1]);
     Ok(())
 }
 
