@@ -48,7 +48,10 @@ fn value_of(alloc: Global, content: &[u8]) -> Result<Option<Value>, Memory> {
 // Reads the contents, one after another, and says whether each was read.
 fn are_read(alloc: Global, kept: &mut Kept) -> Result<bool, Memory> {
     for (content, _) in &CONTENTS {
-        if kept.load_item(alloc, &text_of(alloc, content)?, 0)?.is_none() {
+        if kept
+            .load_item(alloc, &text_of(alloc, content)?, 0)?
+            .is_none()
+        {
             return Ok(false);
         }
     }
