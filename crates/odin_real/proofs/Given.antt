@@ -1,6 +1,5 @@
 -- What is answered of a file, from what was opened of it.
-use Rattle.std.proofs.Common.{◌≡◌, ℕ, Bool, true, false, IsTrue, List, Option, Some, None, Result, Ok, Err, IfOk, IfSome, take, ap, sym, refl, subst}
-use Rattle.std.specs.Prelude.{IsSome}
+use Rattle.std.proofs.Common.{◌≡◌, ℕ, Bool, true, false, IsTrue, List, Option, Some, None, Result, Ok, Err, IfOk, IfSome, length, take, ap, sym, refl, subst}
 use Rattle.std.specs.Option.{option_map}
 use Rattle.std.specs.IoError.{error_kind}
 use Rattle.std.specs.FinMap.{get}
@@ -17,14 +16,12 @@ use Rattle.odin_outside.specs.declared.tree.TreeFault.TheVariants as tree
 use Rattle.odin_real.specs.declared.fault.SystemFault.TheVariants.{Failed, Memory}
 use Rattle.odin_real.specs.Answers.{tree_fault, faults_after}
 
-by_got : (got : Option (List ℕ)) (front : List ℕ) → IsSome got → IfSome got (λ left. front ≡ take given_file_limit left) → Some front ≡ option_map (λ body. take given_file_limit body) got
-by_got None front some same = cc
-by_got (Some left) front some same = ap Some same
-
 -- the front of what is left of it
-pub given_front : {T : Type 0} (remaining : T → Option (List ℕ)) (bodies : Option Files) (path : List ℕ) (reader : T) (front : List ℕ) → IsOpened remaining bodies path (Some reader) → IfSome (remaining reader) (λ left. front ≡ take given_file_limit left) → IsGiven bodies path (Some front)
-given_front remaining None path reader front opened same = tt
-given_front remaining (Some files) path reader front opened same = by_got (get files path) front opened.0 (subst (λ got. IfSome got (λ left. front ≡ take given_file_limit left)) opened.1 same)
+pub given_front : {T : Type 0} (remaining : T → Option (List ℕ)) (bodies : Option Files) (path : List ℕ) (reader : T) (size : ℕ) (front : List ℕ) → IsOpened remaining bodies path (Some (reader, size)) → IfSome (remaining reader) (λ left. size ≡ length left → front ≡ take given_file_limit left) → IsGiven bodies path (Some front)
+given_front remaining None path reader size front opened same = tt
+given_front remaining (Some files) path reader size front (body, got, left, long) same =
+    let is : size ≡ length body → front ≡ take given_file_limit body = subst (λ known. IfSome known (λ rest. size ≡ length rest → front ≡ take given_file_limit rest)) left same in
+    subst (λ known. Some front ≡ option_map (λ xs. take given_file_limit xs) known) (sym got) (ap Some (is long))
 
 -- nothing where none was opened
 pub given_none : {T : Type 0} (remaining : T → Option (List ℕ)) (bodies : Option Files) (path : List ℕ) → IsOpened remaining bodies path None → IsGiven bodies path None

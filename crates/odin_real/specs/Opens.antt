@@ -1,22 +1,26 @@
 -- What is told of files that are only read.
-use Rattle.std.specs.Prelude.{◌≡◌, ◌↔◌, ⊤, ℕ, ◌+◌, ◌≤◌, Bool, IsTrue, true, false, List, Option, Some, None, IsSome}
+use Rattle.std.specs.Prelude.{◌≡◌, ◌↔◌, ⊤, ℕ, ◌+◌, ◌≤◌, Bool, IsTrue, true, false, List, length, min, nat_eq, Option, Some, None, IsSome, if◌then◌else◌}
 use Rattle.std.specs.FinMap.{get}
 use Rattle.std.specs.IoError.{error_kind}
 use Rattle.std.specs.declared.io.Error.{Error}
 use Rattle.std.specs.declared.io.ErrorKind.{ErrorKind}
 use Rattle.std.specs.declared.io.ErrorKind.TheVariants.{NotFound, NotADirectory, FilesystemLoop, InvalidFilename}
-use Rattle.odin_outside.specs.Files.{Files}
+use Rattle.odin_outside.specs.Files.{Files, given_file_limit}
 
 -- a file is told at the path, or none is
 abbrev pub IsStanding : Option Files → List ℕ → Bool → Type 0
 IsStanding None path found = ⊤
 IsStanding (Some files) path found = IsTrue found ↔ IsSome (get files path)
 
--- what is left of what was opened is the body that is told at the path; nothing was opened only where none is
-abbrev pub IsOpened : {T : Type 0} → (T → Option (List ℕ)) → Option Files → List ℕ → Option T → Type 0
+-- what is left of what was opened is the body that is told at the path, and the size is its length; nothing was opened only where none is
+abbrev pub IsOpened : {T : Type 0} → (T → Option (List ℕ)) → Option Files → List ℕ → Option (T × ℕ) → Type 0
 IsOpened remaining None path opened = ⊤
 IsOpened remaining (Some files) path None = get files path ≡ None
-IsOpened remaining (Some files) path (Some reader) = IsSome (get files path) × (remaining reader ≡ get files path)
+IsOpened remaining (Some files) path (Some (reader, size)) = (body : List ℕ) × (get files path ≡ Some body) × (remaining reader ≡ Some body) × (size ≡ length body)
+
+-- how many bytes are read of what has this size: all that may be given, where none is told
+abbrev pub most_read : ℕ → ℕ
+most_read size = if nat_eq size 0 then given_file_limit else min given_file_limit size
 
 -- the kinds of errors that say that no file is at the path; the last is that of a name that the system can't have
 abbrev pub says_absent : ErrorKind → Bool

@@ -22,8 +22,8 @@ pub trait RawFiles {
         ensures kept { bodies self.new ≡ bodies self.old }
         ensures counted { opened self.new ≡ opened self.old };
 
-    /// Opens what stands there. `None` is said where that is no file.
-    fn open(&mut self, path: &str) -> io::Result<Option<Self::Opened>>
+    /// Opens what stands there, and gives its size with it. `None` is said where that is no file.
+    fn open(&mut self, path: &str) -> io::Result<Option<(Self::Opened, u64)>>
         ensures ok { IfOk result (IsOpened Self.Opened.remaining (bodies self.old) path.now) }
         ensures absent { IfErr result (IsAbsentIn (bodies self.old) path.now) }
         ensures kept { bodies self.new ≡ bodies self.old }

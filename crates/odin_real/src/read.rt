@@ -1,8 +1,8 @@
 // The front of a file.
-ghost use Rattle.std.specs.Prelude.{◌≡◌, take, Err, IfOk, IfErr, IsOk, IfSome};
+ghost use Rattle.std.specs.Prelude.{◌≡◌, take, length, Err, IfOk, IfErr, IsOk, IfSome};
 ghost use Rattle.std.specs.Str.{IsUtf8};
 ghost use Rattle.odin_outside.specs.Files.{IsGiven, given_file_limit};
-ghost use Rattle.odin_real.specs.Opens.{HasOpened, IsAbsentIn, IsOpened, says_absent};
+ghost use Rattle.odin_real.specs.Opens.{HasOpened, IsAbsentIn, IsOpened, most_read, says_absent};
 ghost use Rattle.odin_real.specs.Answers.{answer_of_error};
 
 use crate::fault::SystemFault;
@@ -28,16 +28,30 @@ pub fn text_of(bytes: &[u8]) -> Result<&str, SystemFault>
     }
 }
 
-/// The first 16,777,217 bytes of what a reader has left, or all where that is shorter. No byte after them is read.
-pub fn read_front<R: Read + Drop>(alloc: Global, reader: R) -> Result<Bytes, SystemFault>
-    ensures { IfOk result (λ front.
-        IfSome (R.remaining reader) (λ left. front ≡ take given_file_limit left)) }
+/// The first 16,777,217 bytes of what a reader of this size has left, or all where that is shorter. No byte after them is read, and none after the size:
+/// so a file's end is known without a read that finds nothing. Files of the system that tell no size, as those of its processes, are read to their end.
+pub fn read_front<R: Read + Drop>(
+    alloc: Global,
+    reader: R,
+    size: u64,
+) -> Result<Bytes, SystemFault>
+    ensures { IfOk result (λ front. IfSome (R.remaining reader)
+        (λ left. size ≡ length left → front ≡ take given_file_limit left)) }
 {
     let mut front = Vec::new(alloc);
-    match reader.take(LIMIT).read_to_end(&mut front) {
+    // A byte more, so that the buffer doesn't grow once it is full.
+    front.reserve(LIMIT.min(size) as usize + 1)?;
+    match reader.take(most_read(size)).read_to_end(&mut front) {
         Ok(_) => Ok(Bytes::from_vec(front)),
         Err(error) => Err(error.into()),
     }
+}
+
+// How many bytes are read of a reader of this size at most.
+fn most_read(size: u64) -> u64
+    ensures { result ≡ most_read size }
+{
+    if size == 0 { LIMIT } else { LIMIT.min(size) }
 }
 
 // Whether such an error says that no file is at the path.
@@ -62,7 +76,7 @@ fn answer_at(error: io::Error) -> Result<Option<Bytes>, SystemFault>
 }
 
 // Opens the file at a path, where one stands there. What stands there is asked first, since opening a device may do something.
-fn open_file<R: RawFiles>(files: &mut R, path: &str) -> io::Result<Option<R::Opened>>
+fn open_file<R: RawFiles>(files: &mut R, path: &str) -> io::Result<Option<(R::Opened, u64)>>
     ensures ok { IfOk result (IsOpened R.Opened.remaining (R.bodies files.old) path.now) }
     ensures absent { IfErr result (IsAbsentIn (R.bodies files.old) path.now) }
     ensures kept { R.bodies files.new ≡ R.bodies files.old }
@@ -86,7 +100,7 @@ pub fn read_raw<R: RawFiles>(
     ensures counted { HasOpened (R.opened files.old) (R.opened files.new) }
 {
     match open_file(files, path) {
-        Ok(Some(file)) => Ok(Some(read_front(alloc, file)?)),
+        Ok(Some((file, size))) => Ok(Some(read_front(alloc, file, size)?)),
         Ok(None) => Ok(None),
         Err(error) => answer_at(error),
     }

@@ -4,10 +4,11 @@ use std::fs::{self, OpenFile, OpenOptions};
 use std::io::{self, ErrorKind};
 use std::rt::Files;
 
-// What is open, where it is a file.
-fn regular<F: OpenFile + Drop>(file: F) -> io::Result<Option<F>> {
-    Ok(if file.metadata()?.is_file() {
-        Some(file)
+// What is open, where it is a file, with its size.
+fn regular<F: OpenFile + Drop>(file: F) -> io::Result<Option<(F, u64)>> {
+    let about = file.metadata()?;
+    Ok(if about.is_file() {
+        Some((file, about.len()))
     } else {
         None
     })
@@ -27,7 +28,7 @@ impl<R: Files> RawFiles for R {
         Ok(fs::metadata(self, path)?.is_file())
     }
 
-    fn open(&mut self, path: &str) -> io::Result<Option<R::File>> {
+    fn open(&mut self, path: &str) -> io::Result<Option<(R::File, u64)>> {
         regular(fs::open(self, path)?)
     }
 }
@@ -73,7 +74,7 @@ impl<'a, R: Files> RawFiles for Outputs<'a, R> {
         Ok(fs::metadata(self.rt, path)?.is_file())
     }
 
-    fn open(&mut self, path: &str) -> io::Result<Option<R::File>> {
+    fn open(&mut self, path: &str) -> io::Result<Option<(R::File, u64)>> {
         regular(open_at_once(self.rt, path)?)
     }
 }

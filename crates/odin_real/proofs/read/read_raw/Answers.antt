@@ -7,4 +7,4 @@ pub returns-in_ok-read_front-in-Ok-Some-clause-ok :
     goal.returns-in_ok-read_front-in-Ok-Some-clause-ok
 returns-in_ok-read_front-in-Ok-Some-clause-ok g c =
     let opened = subst (IsOpened g.R.Opened.Read.remaining (g.R.RawFiles.bodies c.args.files.now) c.args.path.now) c.in-Ok-Some.field-0-is c.in-Ok-Some.ensures.ok in
-    given_front g.R.Opened.Read.remaining (g.R.RawFiles.bodies c.args.files.now) c.args.path.now c.in-Ok-Some.file _ opened c.in_ok-read_front-in-Ok-Some.ensures
+    given_front g.R.Opened.Read.remaining (g.R.RawFiles.bodies c.args.files.now) c.args.path.now c.in-Ok-Some.file c.in-Ok-Some.size _ opened c.in_ok-read_front-in-Ok-Some.ensures
