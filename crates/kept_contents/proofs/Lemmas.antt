@@ -2,7 +2,7 @@
 -- Texts that a batch adds.
 pub use Rattle.kept_contents.proofs.Batched.{adds_append, added_once, added_from, added_new, parts_stay}
 -- Texts of a journal that is written anew.
-pub use Rattle.kept_contents.proofs.CopyLemmas.{contents_append, contents_behind, with_bodies-append, adds, adds_text, call_later}
+pub use Rattle.kept_contents.proofs.CopyLemmas.{contents_append, contents_behind, with_bodies-append, adds, adds_text, call_later, copied_parts, parts_texts, copied_outputs, outputs_texts}
 -- What numbers stand for is one thing.
 pub use Rattle.kept_contents.proofs.Resolved.{one_text, one_call, one_outcome}
 pub use Rattle.kept_contents.proofs.Numbers.{next_number}

@@ -1,7 +1,6 @@
 -- Live batches, one after another.
 use Rattle.std.proofs.Common.{◌≡◌, ◌+◌, ◌≤◌, ◌<◌, ℕ, zero, suc, List, [], ◌∷◌, ◌++◌, length, map, take, drop, append-nil, append_assoc, ap, sym, ◌∙◌, subst, refl, arith}
 use Rattle.std.specs.Prelude.{Some, None, slice_get}
-use Rattle.std.specs.List.{flat_map}
 use Rattle.std.specs.FinMap as names
 use Rattle.std.proofs.lemmas.List.{take_more, map-append, drop-append-le, length-take-le}
 use Rattle.std.proofs.lemmas.Option.{none-some, slice_get_within, get_or_from_slice_get}
@@ -45,14 +44,17 @@ more_from texts from i text items next le at before grown =
     ∙ ap (map Content) (sym (contents_append (drop from (take i texts)) (text ∷ [])))
     ∙ ap (λ (l : Bodies). map Content (contents_of l)) (sym rest)
 
+-- what a batch adds to the contents
+pub contents_grown : (base new : Bodies) (last : Item) → content_in last ≡ [] → (added : Bodies) → new ≡ base ++ added → contents_of new ≡ contents_after (contents_of base) (batch_of added last)
+contents_grown base new last none added is = ap contents_of is ∙ contents_append base added ∙ ap (λ (l : List Value). contents_of base ++ l) (sym (contents_in (contents_of added) last none))
+
 module _ (base new : Bodies) (last : Item) (none : content_in last ≡ []) (items : List Item) (made : items ≡ batch_of (drop (length base) new) last) where
-  -- what a batch adds to the contents
   contents_added : (added : Bodies) → new ≡ base ++ added → (items ≡ batch_of added last) × (contents_of new ≡ contents_after (contents_of base) items)
   contents_added added is =
       let cut : drop (length base) new ≡ added = ap (drop (length base)) is ∙ dropped base added in
       let whole : items ≡ batch_of added last = made ∙ ap (λ (l : Bodies). batch_of l last) cut in (
         whole,
-        ap contents_of is ∙ contents_append base added ∙ ap (λ (l : List Value). contents_of base ++ l) (sym (contents_in (contents_of added) last none) ∙ ap (flat_map content_in) (sym whole)),
+        contents_grown base new last none added is ∙ ap (contents_after (contents_of base)) (sym whole),
       )
 
 -- ---- one batch
@@ -111,7 +113,7 @@ module _ {T : Type 0} (IsBatch : List Value → T → List Item → Type 0) wher
   pub adds_none : (live : LiveBatches) → AddsLiveBatches IsBatch [] live live
   adds_none live = record { more = []; are = refl; batches = sym (append-nil live.batches) }
 
-  batches_push : (contents : List Value) (things : List T) (batches : List (List Item)) (middle : List Value) (thing : T) (items : List Item) (after : List Value) → AreBatchesOf IsBatch contents things batches middle
+  pub batches_push : (contents : List Value) (things : List T) (batches : List (List Item)) (middle : List Value) (thing : T) (items : List Item) (after : List Value) → AreBatchesOf IsBatch contents things batches middle
       → IsBatch middle thing items → after ≡ contents_after middle items → AreBatchesOf IsBatch contents (things ++ thing ∷ []) (batches ++ items ∷ []) after
   batches_push contents [] [] middle thing items after are is e = (subst (λ (l : List Value). IsBatch l thing items) are is, e ∙ ap (λ (l : List Value). contents_after l items) are)
   batches_push contents [] (b ∷ batches) middle thing items after are is e = absurd are

@@ -4,6 +4,7 @@
 
 mod call_table;
 mod calls;
+mod item_sizes;
 mod kept;
 mod live;
 mod live_batches;

@@ -8,7 +8,7 @@ ghost use Rattle.kept_tables.specs.Live.{CopiesLive, IsRenumbering, ReadsAsLive}
 
 use crate::kept::Kept;
 use crate::live_batches::LiveBatches;
-use crate::live_sizes::size_of_batches;
+use crate::live_sizes::LiveSize;
 use kept_contents::{CopiedTexts, Shared, share_copied};
 use meaning_records::laws::live_batches_read;
 use object_values::{Bytes, Memory, Seq, Sources};
@@ -65,13 +65,15 @@ impl LiveCopy {
 }
 
 impl Kept {
-    /// How many bytes the payloads of a rewritten store have together. No payload is written.
+    /// How many bytes the payloads of a rewritten store have together. No payload is written, and nothing that is kept is copied.
     pub fn live_text(&self, alloc: Global, graph: &[u8], sources: &Sources) -> Result<u64, Memory>
         ensures { IfOk result
             (IsLiveText graph.now sources.now.texts self.now.tables.calls) }
     {
-        let live = self.live_batches(alloc, graph, sources)?;
-        size_of_batches(alloc, live.batches.as_slice())
+        let mut live = LiveSize::of_graph(alloc, graph)?;
+        live.add_sources(alloc, sources)?;
+        live.add_calls(alloc, self.calls.entries.as_slice())?;
+        live.total()
     }
 
     /// The batches of a rewritten store, with all memory that `renumber` wants.

@@ -1,9 +1,7 @@
-use Rattle.std.proofs.Common.{◌≡◌, ◌++◌, ◌∷◌, [], ap, ◌∙◌, subst, sym}
-use Rattle.std.specs.Prelude.{IsNone, None}
-use Rattle.std.specs.Map.{lookup}
+use Rattle.std.proofs.Common.{◌≡◌, ◌++◌, ◌∷◌, [], ap, subst, sym}
+use Rattle.std.specs.Prelude.{IsNone}
 use Rattle.meaning_records.specs.Tables.{kept_outcome, with_call}
 use Rattle.kept_contents.specs.declared.keys.CallKey.{CallKey}
-use Rattle.kept_contents.specs.contracts.keys.CallKeyPartialEq.TheImpl.{ghosts as key_eq}
 use Rattle.kept_contents.specs.Borrowed.{key_of}
 use Rattle.kept_contents.specs.Heads.{head_of}
 use Rattle.kept_contents.specs.Held.{IsHeld}
