@@ -3,9 +3,11 @@
 
 mod direct;
 mod distances;
+mod planned;
 mod plans;
 mod route;
 mod sources;
 mod takers;
 
+pub use planned::PlannedGraph;
 pub use plans::Plans;
