@@ -16,7 +16,7 @@ use object_values::{
     Bytes, Copied, ExprStep, Expression, Memory, Node, ParamValue, Seq, ShortSeq, Step, Text,
     when_done,
 };
-use path_planner::Plans;
+use path_planner::{PlannedGraph, Plans};
 use std::alloc::Global;
 use type_graph::Graph;
 
@@ -34,22 +34,21 @@ pub fn node_of(
     ensures err { IfErr result (IsNodeRefusal graph.now expression.now) }
 {
     let copy = expression.copy(alloc)?;
-    node_from(alloc, graph, plans, copy)
+    node_from(alloc, &PlannedGraph::new(graph, plans), copy)
 }
 
 /// The same of an expression that is given away: its name and its parameters become those of the node.
 pub fn node_from(
     alloc: Global,
-    graph: &Graph,
-    plans: &Plans,
+    planned: &PlannedGraph<'_>,
     expression: Expression,
 ) -> Result<Node, NodeFault>
-    requires made { plans.now ≡ plans_of graph.now }
     requires few { length expression.steps < 2 ^ 32 }
-    ensures ok { IfOk result (λ node. node_of graph.now expression ≡ is_node node) }
-    ensures fits { IfOk result (λ node. IsCanonical expression → Fits graph.now node) }
-    ensures err { IfErr result (IsNodeRefusal graph.now expression) }
+    ensures ok { IfOk result (λ node. node_of planned.now expression ≡ is_node node) }
+    ensures fits { IfOk result (λ node. IsCanonical expression → Fits planned.now node) }
+    ensures err { IfErr result (IsNodeRefusal planned.now expression) }
 {
+    let graph = planned.graph();
     if let Some(unknown) = unknown_param(graph, expression.params.as_slice()) {
         return Err(NodeFault::UnknownParam(unknown.param.copy(alloc)?));
     }
@@ -59,7 +58,7 @@ pub fn node_from(
         steps,
     } = expression;
     let mut reached = Reached::start(alloc, graph, source, params);
-    let done = reached.add_steps(alloc, graph, plans, steps.as_slice());
+    let done = reached.add_steps(alloc, planned, steps.as_slice());
     when_done(done, reached.into_node())
 }
 
@@ -114,20 +113,18 @@ impl Reached {
     fn add_steps(
         &mut self,
         alloc: Global,
-        graph: &Graph,
-        plans: &Plans,
+        planned: &PlannedGraph<'_>,
         steps: &[ExprStep],
     ) -> Result<(), NodeFault>
-        requires made { plans.now ≡ plans_of graph.now }
         requires few { length steps.now < 2 ^ 32 }
-        requires typed { IsTyped graph.now self.old }
-        ensures ok { let answer = steps_on graph.now 1 (is_node self.old.node) steps.now in
+        requires typed { IsTyped planned.now self.old }
+        ensures ok { let answer = steps_on planned.now 1 (is_node self.old.node) steps.now in
             OnOk result (answer ≡ is_node self.new.node) }
-        ensures err { let answer = steps_on graph.now 1 (is_node self.old.node) steps.now in
+        ensures err { let answer = steps_on planned.now 1 (is_node self.old.node) steps.now in
             IfErr result (IsFaultOfAnswer answer) }
     {
         for (before, step) in steps.iter().enumerate() {
-            self.add_step(alloc, graph, plans, before as u32 + 1, step)?;
+            self.add_step(alloc, planned, before as u32 + 1, step)?;
         }
         Ok(())
     }
@@ -136,24 +133,22 @@ impl Reached {
     fn add_step(
         &mut self,
         alloc: Global,
-        graph: &Graph,
-        plans: &Plans,
+        planned: &PlannedGraph<'_>,
         number: u32,
         step: &ExprStep,
     ) -> Result<(), NodeFault>
-        requires made { plans.now ≡ plans_of graph.now }
-        requires typed { IsTyped graph.now self.old }
-        ensures ok { let answer = step_on graph.now self.old.node number step.now in
-            OnOk result (IsMade graph.now answer self.new) }
-        ensures err { let answer = step_on graph.now self.old.node number step.now in
+        requires typed { IsTyped planned.now self.old }
+        ensures ok { let answer = step_on planned.now self.old.node number step.now in
+            OnOk result (IsMade planned.now answer self.new) }
+        ensures err { let answer = step_on planned.now self.old.node number step.now in
             IfErr result (IsFaultOfAnswer answer) }
     {
         match step {
-            ExprStep::To(name) => match graph.type_named(name.as_slice()) {
-                Some(to) => self.go_to(alloc, graph, plans, number, to),
+            ExprStep::To(name) => match planned.graph().type_named(name.as_slice()) {
+                Some(to) => self.go_to(alloc, planned, number, to),
                 None => Err(NodeFault::UnknownType(name.copy(alloc)?)),
             },
-            ExprStep::Pick(key) => self.pick(alloc, graph, number, key),
+            ExprStep::Pick(key) => self.pick(alloc, planned.graph(), number, key),
         }
     }
 
@@ -161,21 +156,19 @@ impl Reached {
     fn go_to(
         &mut self,
         alloc: Global,
-        graph: &Graph,
-        plans: &Plans,
+        planned: &PlannedGraph<'_>,
         number: u32,
         to: u32,
     ) -> Result<(), NodeFault>
-        requires made { plans.now ≡ plans_of graph.now }
-        requires typed { IsTyped graph.now self.old }
-        requires to { to < length (types graph.now) }
-        ensures ok { let answer = node_or_no_path number (onward graph.now self.old.node to) in
-            OnOk result (IsMade graph.now answer self.new) }
-        ensures err { let answer = node_or_no_path number (onward graph.now self.old.node to) in
+        requires typed { IsTyped planned.now self.old }
+        requires to { to < length (types planned.now) }
+        ensures ok { let answer = node_or_no_path number (onward planned.now self.old.node to) in
+            OnOk result (IsMade planned.now answer self.new) }
+        ensures err { let answer = node_or_no_path number (onward planned.now self.old.node to) in
             IfErr result (IsFaultOfAnswer answer) }
     {
-        let Some((maker, at)) = plans.direct(graph, self.at, to) else {
-            return self.go_along(alloc, graph, plans, number, to);
+        let Some((maker, at)) = planned.direct(self.at, to) else {
+            return self.go_along(alloc, planned, number, to);
         };
         self.node.steps.push(Step::Maker(maker))?;
         self.at = at;
@@ -186,23 +179,21 @@ impl Reached {
     fn go_along(
         &mut self,
         alloc: Global,
-        graph: &Graph,
-        plans: &Plans,
+        planned: &PlannedGraph<'_>,
         number: u32,
         to: u32,
     ) -> Result<(), NodeFault>
-        requires made { plans.now ≡ plans_of graph.now }
-        requires typed { IsTyped graph.now self.old }
-        requires to { to < length (types graph.now) }
-        ensures ok { let answer = node_or_no_path number (onward graph.now self.old.node to) in
-            OnOk result (IsMade graph.now answer self.new) }
-        ensures err { let answer = node_or_no_path number (onward graph.now self.old.node to) in
+        requires typed { IsTyped planned.now self.old }
+        requires to { to < length (types planned.now) }
+        ensures ok { let answer = node_or_no_path number (onward planned.now self.old.node to) in
+            OnOk result (IsMade planned.now answer self.new) }
+        ensures err { let answer = node_or_no_path number (onward planned.now self.old.node to) in
             IfErr result (IsFaultOfAnswer answer) }
     {
-        let Some(path) = plans.plan(alloc, graph, self.at, to)? else {
+        let Some(path) = planned.plan(alloc, self.at, to)? else {
             return Err(NodeFault::NoPath(number));
         };
-        let Some(at) = type_along(graph, plans, self.at, path.as_slice()) else {
+        let Some(at) = type_along(planned, self.at, path.as_slice()) else {
             // Each maker of a path takes what the one before it makes.
             unreachable!();
         };

@@ -3,12 +3,11 @@ ghost use Rattle.std.specs.Prelude.{◌≡◌, ◌<◌, Some, length, map, slice
 ghost use Rattle.meaning_graph.specs.Graphs.{types, makers};
 ghost use Rattle.meaning_graph.specs.Paths.{made_of};
 ghost use Rattle.meaning_tasks.specs.Nodes.{step_type, type_after, reached_type, type_of as type_of_node};
-ghost use Rattle.path_planner.specs.Ends.{plans_of};
 
 use crate::classes::has_words_of_class;
 use crate::picks::picked_type;
 use object_values::{Node, Step};
-use path_planner::Plans;
+use path_planner::PlannedGraph;
 use type_graph::Graph;
 
 /// The type of a node that fits the graph, and none of another one.
@@ -42,14 +41,13 @@ fn type_after(graph: &Graph, from: u32, steps: &[Step]) -> Option<u32>
 }
 
 /// The type after a path of makers that begins at a type.
-pub(crate) fn type_along(graph: &Graph, plans: &Plans, from: u32, path: &[u32]) -> Option<u32>
-    requires made { plans.now ≡ plans_of graph.now }
-    requires from { from < length (types graph.now) }
-    ensures { result ≡ type_after graph.now (Some from) (map Step.Maker path.now) }
+pub(crate) fn type_along(planned: &PlannedGraph<'_>, from: u32, path: &[u32]) -> Option<u32>
+    requires from { from < length (types planned.now) }
+    ensures { result ≡ type_after planned.now (Some from) (map Step.Maker path.now) }
 {
     let mut at = from;
     for maker in path {
-        at = plans.made_type(graph, at, *maker)?;
+        at = planned.made_type(at, *maker)?;
     }
     Some(at)
 }

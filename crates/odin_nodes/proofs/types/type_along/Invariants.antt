@@ -5,4 +5,4 @@ use Rattle.odin_nodes.proofs.TypeLemmas.{IsFollowed}
 use Rattle.odin_nodes.proofs.types.type_along.Given as goal
 
 abbrev pub invariant-loop-maker : goal.invariant-loop-maker
-invariant-loop-maker l = IsFollowed l.graph l.fn.from (map Maker l.path) l.maker-index l.at
+invariant-loop-maker l = IsFollowed l.planned l.fn.from (map Maker l.path) l.maker-index l.at

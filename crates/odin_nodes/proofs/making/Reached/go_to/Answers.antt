@@ -8,11 +8,11 @@ use Rattle.odin_nodes.proofs.MakeLemmas.{made_by_path}
 use Rattle.odin_nodes.proofs.making.Reached.go_to.Goals as goal
 
 pub direct-requires-clause-from : goal.direct-requires-clause-from
-direct-requires-clause-from c = reached_below c.args.graph.now c.args.self.now.node c.args.self.now.at c.requires.typed
+direct-requires-clause-from c = reached_below c.args.planned.now c.args.self.now.node c.args.self.now.at c.requires.typed
 
 pub returns-clause-ok : goal.returns-clause-ok
 returns-clause-ok c =
-    made_by_path c.args.graph.now c.args.self.now.node c.args.self.now.at c.requires.typed c.args.number c.args.to (c.in-Some.maker ∷ []) c.push.new.self c.in-Some.at
+    made_by_path c.args.planned.now c.args.self.now.node c.args.self.now.at c.requires.typed c.args.number c.args.to (c.in-Some.maker ∷ []) c.push.new.self c.in-Some.at
     c.in_ok-push.ensures.ok
     (sym c.in-Some.ensures.path)
-    (c.in-Some.ensures.makes ∙ sym (type_after_none c.args.graph.now (step_type c.args.graph.now c.args.self.now.at (Maker c.in-Some.maker))))
+    (c.in-Some.ensures.makes ∙ sym (type_after_none c.args.planned.now (step_type c.args.planned.now c.args.self.now.at (Maker c.in-Some.maker))))
