@@ -3,32 +3,28 @@ ghost use Rattle.std.specs.Prelude.{◌≡◌, ◌++◌, IfOk, OnOk, option_to_l
 ghost use Rattle.object_values.specs.declared.graph.MakerDecl.{MakerDecl as MakerValue};
 ghost use Rattle.meaning_tasks.specs.Tasks.{scan_node, tool_task};
 ghost use Rattle.meaning_tasks.specs.Needs.{scan_needs, values_of};
-ghost use Rattle.path_planner.specs.Ends.{plans_of};
 
 use crate::results::Results;
 use crate::sources::is_present;
 use object_values::{Bytes, Copied, Memory, Node, Seq, ShortSeq, ToolDecl};
 use odin_bytes::Name;
 use odin_nodes::onward_from;
-use path_planner::Plans;
+use path_planner::PlannedGraph;
 use std::alloc::Global;
-use type_graph::Graph;
 
 /// Puts the scan node of a reached name that is present. That of the own source isn't repeated.
 pub fn put_reached_scan<R: Results>(
     alloc: Global,
-    graph: &Graph,
-    plans: &Plans,
+    planned: &PlannedGraph<'_>,
     node: &Node,
     tool: &ToolDecl,
     seen: &R,
     name: &Name,
     scans: &mut Seq<Node>,
 ) -> Result<(), Memory>
-    requires made { plans.now ≡ plans_of graph.now }
     ensures { let known = values_of (R.results seen.now) in
         OnOk result ((m : MakerValue) → scans.new ≡
-        scans.old ++ scan_needs (tool_task graph.now node.now m tool.now) known name.now) }
+        scans.old ++ scan_needs (tool_task planned.now node.now m tool.now) known name.now) }
 {
     if name.as_slice() == node.source.as_slice() {
         return Ok(());
@@ -36,24 +32,22 @@ pub fn put_reached_scan<R: Results>(
     if !is_present(alloc, name.as_slice(), seen)? {
         return Ok(());
     }
-    put_scan(alloc, graph, plans, node, tool, name.as_slice(), scans)
+    put_scan(alloc, planned, node, tool, name.as_slice(), scans)
 }
 
 /// Puts the scan node of a name, where it has one.
 pub fn put_scan(
     alloc: Global,
-    graph: &Graph,
-    plans: &Plans,
+    planned: &PlannedGraph<'_>,
     node: &Node,
     tool: &ToolDecl,
     name: &[u8],
     scans: &mut Seq<Node>,
 ) -> Result<(), Memory>
-    requires made { plans.now ≡ plans_of graph.now }
-    ensures { let scan = scan_node graph.now node.now tool.now.closure name.now in
+    ensures { let scan = scan_node planned.now node.now tool.now.closure name.now in
         OnOk result (scans.new ≡ scans.old ++ option_to_list scan) }
 {
-    if let Some(scan) = scan_node(alloc, graph, plans, node, tool, name)? {
+    if let Some(scan) = scan_node(alloc, planned, node, tool, name)? {
         scans.push(scan)?;
     }
     Ok(())
@@ -63,15 +57,13 @@ pub fn put_scan(
 /// no path leads from the name to it.
 pub fn scan_node(
     alloc: Global,
-    graph: &Graph,
-    plans: &Plans,
+    planned: &PlannedGraph<'_>,
     node: &Node,
     tool: &ToolDecl,
     name: &[u8],
 ) -> Result<Option<Node>, Memory>
-    requires made { plans.now ≡ plans_of graph.now }
     ensures { IfOk result (λ scan. scan ≡
-        scan_node graph.now node.now tool.now.closure name.now) }
+        scan_node planned.now node.now tool.now.closure name.now) }
 {
     let Some(of) = &tool.closure else {
         return Ok(None);
@@ -81,5 +73,5 @@ pub fn scan_node(
         params: node.params.copy(alloc)?,
         steps: ShortSeq::new(alloc),
     };
-    onward_from(alloc, graph, plans, named, of.as_slice())
+    onward_from(alloc, planned, named, of.as_slice())
 }
