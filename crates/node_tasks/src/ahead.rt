@@ -7,18 +7,16 @@ ghost use Rattle.meaning_graph.specs.Graphs.{Graph as GraphValue};
 ghost use Rattle.meaning_tasks.specs.Nodes.{Fits, base_of};
 ghost use Rattle.meaning_tasks.specs.Tasks.{Task as TaskValue, scan_node, tool_task, tooled};
 ghost use Rattle.meaning_tasks.specs.Needs.{Results as ResultMap, Known as KnownValues, values_of, has_value};
-ghost use Rattle.path_planner.specs.Ends.{plans_of};
 ghost use Rattle.node_tasks.specs.Ahead.{AreInSight, AreLed, IsAhead, IsInSight, IsLedOn, IsLevel, IsOfLevel, IsReachedScan, IsUnseen};
 
 use crate::base::base_of;
 use crate::task::tool_at;
 use dynamic_inputs::Names;
 use object_values::{Memory, Node, Seq, ToolDecl};
-use path_planner::Plans;
+use path_planner::PlannedGraph;
 use std::alloc::Global;
 use std::mem;
 use task_needs::{Results, is_present, scan_node, source_node, told_lines, value_of};
-use type_graph::Graph;
 
 /// The nodes that were visited.
 pub trait VisitedNodes {
@@ -78,27 +76,25 @@ impl Ahead {
     pub fn level<R: Results, V: VisitedNodes>(
         &mut self,
         alloc: Global,
-        graph: &Graph,
-        plans: &Plans,
+        planned: &PlannedGraph<'_>,
         node: &Node,
         seen: &R,
         visited: &V,
     ) -> Result<Seq<Node>, Memory>
-        requires made { plans.now ≡ plans_of graph.now }
-        requires fits { Fits graph.now node.now }
-        requires ahead { IsAhead graph.now node.now (R.results seen.now) self.old }
-        ensures ahead { IsAhead graph.now node.now (R.results seen.now) self.new }
+        requires fits { Fits planned.now node.now }
+        requires ahead { IsAhead planned.now node.now (R.results seen.now) self.old }
+        ensures ahead { IsAhead planned.now node.now (R.results seen.now) self.new }
         ensures level { let before = V.visited visited.now in
-            IfOk result (IsLevel graph.now node.now (R.results seen.now) before) }
+            IfOk result (IsLevel planned.now node.now (R.results seen.now) before) }
     {
-        let Some((_, tool)) = tool_at(graph, node) else {
+        let Some((_, tool)) = tool_at(planned.graph(), node) else {
             return Ok(Seq::new(alloc));
         };
         let base = base_of(alloc, node)?;
         let Some(_) = value_of(seen, &base) else {
             return Ok(Seq::new(alloc));
         };
-        let level = follow(alloc, graph, plans, node, tool, seen, visited, self)?;
+        let level = follow(alloc, planned, node, tool, seen, visited, self)?;
         level.in_order()
     }
 }
@@ -166,25 +162,23 @@ fn by_names(nodes: Seq<Node>) -> Seq<Node>
 // alone, where that was not visited, since no name is told before it.
 fn follow<R: Results, V: VisitedNodes>(
     alloc: Global,
-    graph: &Graph,
-    plans: &Plans,
+    planned: &PlannedGraph<'_>,
     node: &Node,
     tool: &ToolDecl,
     seen: &R,
     visited: &V,
     ahead: &mut Ahead,
 ) -> Result<Level, Memory>
-    requires made { plans.now ≡ plans_of graph.now }
     requires valued { has_value (values_of (R.results seen.now) (base_of node.now)) ≡ true }
-    requires led { (m : MakerValue) → let t = tooled (tool_task graph.now node.now m tool.now) in
+    requires led { (m : MakerValue) → let t = tooled (tool_task planned.now node.now m tool.now) in
         AreLed t (values_of (R.results seen.now)) ahead.old.names }
-    ensures led { (m : MakerValue) → let t = tooled (tool_task graph.now node.now m tool.now) in
+    ensures led { (m : MakerValue) → let t = tooled (tool_task planned.now node.now m tool.now) in
         AreLed t (values_of (R.results seen.now)) ahead.new.names }
-    ensures level { (m : MakerValue) → let t = tooled (tool_task graph.now node.now m tool.now) in
+    ensures level { (m : MakerValue) → let t = tooled (tool_task planned.now node.now m tool.now) in
         let known = values_of (R.results seen.now) in
         IfOk result (IsOfLevel t known (V.visited visited.now)) }
 {
-    if let Some(scan) = tell_own(alloc, graph, plans, node, tool, seen, visited, ahead)? {
+    if let Some(scan) = tell_own(alloc, planned, node, tool, seen, visited, ahead)? {
         let mut level = Level::new(alloc);
         level.scans.push(scan)?;
         return Ok(level);
@@ -193,7 +187,7 @@ fn follow<R: Results, V: VisitedNodes>(
     let names = &mut ahead.names;
     let looked = ahead.looked;
     let mut level = look_at_all(
-        alloc, graph, plans, node, tool, seen, visited, untold, looked, names,
+        alloc, planned, node, tool, seen, visited, untold, looked, names,
     )?;
     ahead.looked = ahead.names.len();
     ahead.untold = mem::replace(&mut level.untold, Seq::new(alloc));
@@ -203,21 +197,19 @@ fn follow<R: Results, V: VisitedNodes>(
 // Tells the own lines once the own scan node was visited. Before that the scan node is given.
 fn tell_own<R: Results, V: VisitedNodes>(
     alloc: Global,
-    graph: &Graph,
-    plans: &Plans,
+    planned: &PlannedGraph<'_>,
     node: &Node,
     tool: &ToolDecl,
     seen: &R,
     visited: &V,
     ahead: &mut Ahead,
 ) -> Result<Option<Node>, Memory>
-    requires made { plans.now ≡ plans_of graph.now }
     requires valued { has_value (values_of (R.results seen.now) (base_of node.now)) ≡ true }
-    requires led { (m : MakerValue) → let t = tooled (tool_task graph.now node.now m tool.now) in
+    requires led { (m : MakerValue) → let t = tooled (tool_task planned.now node.now m tool.now) in
         AreLed t (values_of (R.results seen.now)) ahead.old.names }
-    ensures led { (m : MakerValue) → let t = tooled (tool_task graph.now node.now m tool.now) in
+    ensures led { (m : MakerValue) → let t = tooled (tool_task planned.now node.now m tool.now) in
         AreLed t (values_of (R.results seen.now)) ahead.new.names }
-    ensures scan { (m : MakerValue) → let t = tooled (tool_task graph.now node.now m tool.now) in
+    ensures scan { (m : MakerValue) → let t = tooled (tool_task planned.now node.now m tool.now) in
         let known = values_of (R.results seen.now) in
         IfOk result (λ found. IfSome found (IsInSight t known (V.visited visited.now))) }
 {
@@ -225,10 +217,10 @@ fn tell_own<R: Results, V: VisitedNodes>(
         return Ok(None);
     }
     let root = node.source.as_slice();
-    if let Some(scan) = unvisited_scan(alloc, graph, plans, node, tool, root, visited)? {
+    if let Some(scan) = unvisited_scan(alloc, planned, node, tool, root, visited)? {
         return Ok(Some(scan));
     }
-    let lines = told_lines(alloc, graph, plans, node, tool, root, seen)?;
+    let lines = told_lines(alloc, planned, node, tool, root, seen)?;
     ahead.names.add_all(alloc, lines.as_slice())?;
     ahead.own = true;
     Ok(None)
@@ -238,8 +230,7 @@ fn tell_own<R: Results, V: VisitedNodes>(
 // meanwhile.
 fn look_at_all<R: Results, V: VisitedNodes>(
     alloc: Global,
-    graph: &Graph,
-    plans: &Plans,
+    planned: &PlannedGraph<'_>,
     node: &Node,
     tool: &ToolDecl,
     seen: &R,
@@ -248,26 +239,25 @@ fn look_at_all<R: Results, V: VisitedNodes>(
     from: usize,
     names: &mut Names,
 ) -> Result<Level, Memory>
-    requires made { plans.now ≡ plans_of graph.now }
     requires valued { has_value (values_of (R.results seen.now) (base_of node.now)) ≡ true }
-    requires led { (m : MakerValue) → let t = tooled (tool_task graph.now node.now m tool.now) in
+    requires led { (m : MakerValue) → let t = tooled (tool_task planned.now node.now m tool.now) in
         AreLed t (values_of (R.results seen.now)) names.old }
-    ensures led { (m : MakerValue) → let t = tooled (tool_task graph.now node.now m tool.now) in
+    ensures led { (m : MakerValue) → let t = tooled (tool_task planned.now node.now m tool.now) in
         AreLed t (values_of (R.results seen.now)) names.new }
-    ensures level { (m : MakerValue) → let t = tooled (tool_task graph.now node.now m tool.now) in
+    ensures level { (m : MakerValue) → let t = tooled (tool_task planned.now node.now m tool.now) in
         let known = values_of (R.results seen.now) in
         IfOk result (IsOfLevel t known (V.visited visited.now)) }
 {
     let mut level = Level::new(alloc);
     for place in untold {
         look(
-            alloc, graph, plans, node, tool, seen, visited, *place, names, &mut level,
+            alloc, planned, node, tool, seen, visited, *place, names, &mut level,
         )?;
     }
     let mut place = from;
     'names: while place < names.len() {
         look(
-            alloc, graph, plans, node, tool, seen, visited, place, names, &mut level,
+            alloc, planned, node, tool, seen, visited, place, names, &mut level,
         )?;
         place += 1;
     }
@@ -278,8 +268,7 @@ fn look_at_all<R: Results, V: VisitedNodes>(
 // else it is told its lines.
 fn look<R: Results, V: VisitedNodes>(
     alloc: Global,
-    graph: &Graph,
-    plans: &Plans,
+    planned: &PlannedGraph<'_>,
     node: &Node,
     tool: &ToolDecl,
     seen: &R,
@@ -288,13 +277,12 @@ fn look<R: Results, V: VisitedNodes>(
     names: &mut Names,
     level: &mut Level,
 ) -> Result<(), Memory>
-    requires made { plans.now ≡ plans_of graph.now }
     requires valued { has_value (values_of (R.results seen.now) (base_of node.now)) ≡ true }
-    requires led { (m : MakerValue) → let t = tooled (tool_task graph.now node.now m tool.now) in
+    requires led { (m : MakerValue) → let t = tooled (tool_task planned.now node.now m tool.now) in
         AreLed t (values_of (R.results seen.now)) names.old }
-    ensures on { (m : MakerValue) → let t = tooled (tool_task graph.now node.now m tool.now) in
+    ensures on { (m : MakerValue) → let t = tooled (tool_task planned.now node.now m tool.now) in
         IsLedOn t (values_of (R.results seen.now)) names.old names.new }
-    ensures level { (m : MakerValue) → let t = tooled (tool_task graph.now node.now m tool.now) in
+    ensures level { (m : MakerValue) → let t = tooled (tool_task planned.now node.now m tool.now) in
         let known = values_of (R.results seen.now) in
         let before = V.visited visited.now in
         OnOk result (IsOfLevel t known before level.old → IsOfLevel t known before level.new) }
@@ -308,11 +296,11 @@ fn look<R: Results, V: VisitedNodes>(
         level.untold.push(place)?;
         return level.sources.push(source);
     }
-    if let Some(scan) = reached_scan(alloc, graph, plans, node, tool, name, seen, visited)? {
+    if let Some(scan) = reached_scan(alloc, planned, node, tool, name, seen, visited)? {
         level.untold.push(place)?;
         return level.scans.push(scan);
     }
-    let lines = told_lines(alloc, graph, plans, node, tool, name, seen)?;
+    let lines = told_lines(alloc, planned, node, tool, name, seen)?;
     names.add_all(alloc, lines.as_slice())
 }
 
@@ -320,16 +308,14 @@ fn look<R: Results, V: VisitedNodes>(
 // isn't repeated.
 fn reached_scan<R: Results, V: VisitedNodes>(
     alloc: Global,
-    graph: &Graph,
-    plans: &Plans,
+    planned: &PlannedGraph<'_>,
     node: &Node,
     tool: &ToolDecl,
     name: &[u8],
     seen: &R,
     visited: &V,
 ) -> Result<Option<Node>, Memory>
-    requires made { plans.now ≡ plans_of graph.now }
-    ensures { (m : MakerValue) → let t = tool_task graph.now node.now m tool.now in
+    ensures { (m : MakerValue) → let t = tool_task planned.now node.now m tool.now in
         let known = values_of (R.results seen.now) in
         let before = V.visited visited.now in
         IfOk result (λ found. IfSome found (IsReachedScan t known name.now before)) }
@@ -340,24 +326,22 @@ fn reached_scan<R: Results, V: VisitedNodes>(
     if !is_present(alloc, name, seen)? {
         return Ok(None);
     }
-    unvisited_scan(alloc, graph, plans, node, tool, name, visited)
+    unvisited_scan(alloc, planned, node, tool, name, visited)
 }
 
 // The scan node of a name, where it has one that was not visited.
 fn unvisited_scan<V: VisitedNodes>(
     alloc: Global,
-    graph: &Graph,
-    plans: &Plans,
+    planned: &PlannedGraph<'_>,
     node: &Node,
     tool: &ToolDecl,
     name: &[u8],
     visited: &V,
 ) -> Result<Option<Node>, Memory>
-    requires made { plans.now ≡ plans_of graph.now }
-    ensures { let scan = scan_node graph.now node.now tool.now.closure name.now in
+    ensures { let scan = scan_node planned.now node.now tool.now.closure name.now in
         IfOk result (λ found. IfSome found (IsUnseen (V.visited visited.now) scan)) }
 {
-    let Some(scan) = scan_node(alloc, graph, plans, node, tool, name)? else {
+    let Some(scan) = scan_node(alloc, planned, node, tool, name)? else {
         return Ok(None);
     };
     if visited.has(&scan) {

@@ -20,7 +20,7 @@ use crate::task::tool_at;
 use crate::tool::extras_of;
 use object_values::{Call, CallPart, Copied, MakerDecl, Memory, Node, Seq, ToolDecl};
 use odin_bytes::Name;
-use path_planner::Plans;
+use path_planner::{PlannedGraph, Plans};
 use std::alloc::Global;
 use task_needs::{Counted, Led, Results, call_parts};
 use type_graph::Graph;
@@ -41,10 +41,28 @@ pub fn call_for<R: Results>(
     requires needed { IsNeeded graph.now node.now (R.results seen.now) needed.now }
     ensures { IfOk result (CallOf graph.now node.now (R.results seen.now)) }
 {
+    let planned = PlannedGraph::new(graph, plans);
+    call_in(alloc, &planned, node, needed, seen)
+}
+
+/// The same in a graph with its plans.
+pub fn call_in<R: Results>(
+    alloc: Global,
+    planned: &PlannedGraph<'_>,
+    node: &Node,
+    needed: &Needed,
+    seen: &R,
+) -> Result<Option<Call>, Memory>
+    requires spellable { IsSpellable planned.now }
+    requires fits { Fits planned.now node.now }
+    requires needed { IsNeeded planned.now node.now (R.results seen.now) needed.now }
+    ensures { IfOk result (CallOf planned.now node.now (R.results seen.now)) }
+{
+    let graph = planned.graph();
     let Some((maker, tool)) = tool_at(graph, node) else {
         return Ok(None);
     };
-    let extras = extras_of(alloc, graph, plans, node, tool)?;
+    let extras = extras_of(alloc, planned, node, tool)?;
     if !is_run(extras.as_slice(), &needed.counted, seen) {
         return Ok(None);
     }

@@ -2,11 +2,10 @@
 ghost use Rattle.std.specs.Prelude.{◌≡◌, ◌∷◌, [], None, IfOk};
 ghost use Rattle.meaning_tasks.specs.Labels.{label_of as label_of_node, abort_message, no_path};
 ghost use Rattle.meaning_tasks.specs.Tasks.{led_to};
-ghost use Rattle.path_planner.specs.Ends.{plans_of};
 
 use object_values::{Bytes, Memory, Node};
 use odin_nodes::onward;
-use path_planner::Plans;
+use path_planner::PlannedGraph;
 use std::alloc::Global;
 use task_needs::{Led, abort_message};
 use type_graph::Graph;
@@ -14,18 +13,16 @@ use type_graph::Graph;
 /// From a node along the chosen path to the type of a name. The message is one of the first node.
 pub(crate) fn led_to(
     alloc: Global,
-    graph: &Graph,
-    plans: &Plans,
+    planned: &PlannedGraph<'_>,
     node: &Node,
     of: &[u8],
     from: &Node,
 ) -> Result<Led, Memory>
-    requires made { plans.now ≡ plans_of graph.now }
-    ensures { IfOk result (λ led. led ≡ led_to graph.now node.now of.now from.now) }
+    ensures { IfOk result (λ led. led ≡ led_to planned.now node.now of.now from.now) }
 {
-    match onward(alloc, graph, plans, from, of)? {
+    match onward(alloc, planned, from, of)? {
         Some(further) => Ok(Led::to(alloc, further)),
-        None => no_path(alloc, graph, node, of),
+        None => no_path(alloc, planned.graph(), node, of),
     }
 }
 

@@ -22,7 +22,7 @@ mod task;
 mod tool;
 
 pub use ahead::{Ahead, VisitedNodes};
-pub use calling::call_for;
+pub use calling::{call_for, call_in};
 pub use needed::{Needed, needs};
-pub use settling::{Settled, settle, settle_whole};
+pub use settling::{Settled, settle, settle_in, settle_whole};
 pub use task_needs::Results;

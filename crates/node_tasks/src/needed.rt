@@ -11,7 +11,7 @@ use crate::names::reached_names;
 use crate::needing::counted_needs;
 use object_values::{Memory, Node, Seq};
 use odin_bytes::Name;
-use path_planner::Plans;
+use path_planner::{PlannedGraph, Plans};
 use std::alloc::Global;
 use task_needs::{Counted, Results, listed};
 use type_graph::Graph;
@@ -35,17 +35,15 @@ impl Needed {
     /// Finds what a node needs once these results are known.
     pub fn find<R: Results>(
         alloc: Global,
-        graph: &Graph,
-        plans: &Plans,
+        planned: &PlannedGraph<'_>,
         node: &Node,
         seen: &R,
     ) -> Result<Self, Memory>
-        requires made { plans.now ≡ plans_of graph.now }
-        requires fits { Fits graph.now node.now }
-        ensures { IfOk result (IsNeeded graph.now node.now (R.results seen.now)) }
+        requires fits { Fits planned.now node.now }
+        ensures { IfOk result (IsNeeded planned.now node.now (R.results seen.now)) }
     {
-        let names = reached_names(alloc, graph, plans, node, seen)?;
-        let counted = counted_needs(alloc, graph, plans, node, seen, names.as_slice())?;
+        let names = reached_names(alloc, planned, node, seen)?;
+        let counted = counted_needs(alloc, planned, node, seen, names.as_slice())?;
         Ok(Needed { names, counted })
     }
 
@@ -71,6 +69,6 @@ pub fn needs<R: Results>(
     requires fits { Fits graph.now node.now }
     ensures { IfOk result (Needs graph.now node.now (R.results seen.now)) }
 {
-    let needed = Needed::find(alloc, graph, plans, node, seen)?;
+    let needed = Needed::find(alloc, &PlannedGraph::new(graph, plans), node, seen)?;
     needed.nodes(alloc, seen)
 }

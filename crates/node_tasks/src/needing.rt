@@ -4,7 +4,6 @@ ghost use Rattle.object_values.specs.declared.graph.MakerDecl.{MakerDecl as Make
 ghost use Rattle.meaning_tasks.specs.Nodes.{Fits, base_of, onward_named};
 ghost use Rattle.meaning_tasks.specs.Tasks.{pack_part, extra_led, led_nodes, scan_node, tool_task, tooled, task_of};
 ghost use Rattle.meaning_tasks.specs.Needs.{values_of, has_value, picked_element, scan_needs, part_nodes, counted_needs};
-ghost use Rattle.path_planner.specs.Ends.{plans_of};
 ghost use Rattle.task_needs.specs.Counting.{nodes_in};
 
 use crate::base::base_of;
@@ -13,27 +12,24 @@ use crate::tool::extras_of;
 use object_values::{Bytes, Memory, Node, PartDecl, Seq, ToolDecl};
 use odin_bytes::Name;
 use odin_nodes::{Picked, onward, pick};
-use path_planner::Plans;
+use path_planner::PlannedGraph;
 use std::alloc::Global;
 use task_needs::{Counted, Led, Results, put_copy, put_reached_scan, put_scan, value_of};
-use type_graph::Graph;
 
 /// The needs but the reached sources, given the reached names.
 pub(crate) fn counted_needs<R: Results>(
     alloc: Global,
-    graph: &Graph,
-    plans: &Plans,
+    planned: &PlannedGraph<'_>,
     node: &Node,
     seen: &R,
     names: &[Name],
 ) -> Result<Counted, Memory>
-    requires made { plans.now ≡ plans_of graph.now }
-    requires fits { Fits graph.now node.now }
+    requires fits { Fits planned.now node.now }
     ensures { let known = values_of (R.results seen.now) in
         IfOk result (λ counted. nodes_in known counted ≡
-        counted_needs (task_of graph.now node.now) known names.now) }
+        counted_needs (task_of planned.now node.now) known names.now) }
 {
-    match task_at(graph, node) {
+    match task_at(planned.graph(), node) {
         TaskAt::Given => Ok(Counted::new(alloc)),
         TaskAt::Picked(key) => {
             let nodes = picked_needs(alloc, node, key.as_slice(), seen)?;
@@ -44,10 +40,10 @@ pub(crate) fn counted_needs<R: Results>(
             Ok(Counted::only_alone(alloc, nodes))
         }
         TaskAt::Packed(parts) => {
-            let nodes = part_nodes(alloc, graph, plans, node, parts)?;
+            let nodes = part_nodes(alloc, planned, node, parts)?;
             Ok(Counted::only_alone(alloc, nodes))
         }
-        TaskAt::Tooled(_, tool) => tool_needs(alloc, graph, plans, node, tool, seen, names),
+        TaskAt::Tooled(_, tool) => tool_needs(alloc, planned, node, tool, seen, names),
     }
 }
 
@@ -94,36 +90,32 @@ fn picked_element<'a, R: Results>(base: &Node, key: &[u8], seen: &'a R) -> Optio
 // The nodes of the parts, where paths lead to them.
 fn part_nodes(
     alloc: Global,
-    graph: &Graph,
-    plans: &Plans,
+    planned: &PlannedGraph<'_>,
     node: &Node,
     parts: &[PartDecl],
 ) -> Result<Seq<Node>, Memory>
-    requires made { plans.now ≡ plans_of graph.now }
     ensures { IfOk result (λ needs. needs ≡
-        part_nodes (map (pack_part graph.now node.now) parts.now)) }
+        part_nodes (map (pack_part planned.now node.now) parts.now)) }
 {
     let base = base_of(alloc, node)?;
     let mut needs = Seq::new(alloc);
     for part in parts {
-        put_onward(alloc, graph, plans, &base, &part.of, &mut needs)?;
+        put_onward(alloc, planned, &base, &part.of, &mut needs)?;
     }
     Ok(needs)
 }
 
 fn put_onward(
     alloc: Global,
-    graph: &Graph,
-    plans: &Plans,
+    planned: &PlannedGraph<'_>,
     from: &Node,
     of: &Bytes,
     needs: &mut Seq<Node>,
 ) -> Result<(), Memory>
-    requires made { plans.now ≡ plans_of graph.now }
     ensures { OnOk result (needs.new ≡
-        needs.old ++ option_to_list (onward_named graph.now from.now of.now)) }
+        needs.old ++ option_to_list (onward_named planned.now from.now of.now)) }
 {
-    if let Some(further) = onward(alloc, graph, plans, from, of.as_slice())? {
+    if let Some(further) = onward(alloc, planned, from, of.as_slice())? {
         needs.push(further)?;
     }
     Ok(())
@@ -135,17 +127,15 @@ fn put_onward(
 // value, that alone is needed.
 fn tool_needs<R: Results>(
     alloc: Global,
-    graph: &Graph,
-    plans: &Plans,
+    planned: &PlannedGraph<'_>,
     node: &Node,
     tool: &ToolDecl,
     seen: &R,
     names: &[Name],
 ) -> Result<Counted, Memory>
-    requires made { plans.now ≡ plans_of graph.now }
     ensures { let known = values_of (R.results seen.now) in
         IfOk result (λ counted. (m : MakerValue) → nodes_in known counted ≡
-        counted_needs (tooled (tool_task graph.now node.now m tool.now)) known names.now) }
+        counted_needs (tooled (tool_task planned.now node.now m tool.now)) known names.now) }
 {
     let mut whole = Seq::new(alloc);
     let mut alone = room_for_scans(alloc, names)?;
@@ -153,8 +143,8 @@ fn tool_needs<R: Results>(
     if !valued {
         return Ok(Counted { whole, alone });
     }
-    put_extras(alloc, graph, plans, node, tool, &mut whole)?;
-    put_scans(alloc, graph, plans, node, tool, seen, names, &mut alone)?;
+    put_extras(alloc, planned, node, tool, &mut whole)?;
+    put_scans(alloc, planned, node, tool, seen, names, &mut alone)?;
     Ok(Counted { whole, alone })
 }
 
@@ -185,17 +175,15 @@ fn put_base<R: Results>(
 
 fn put_extras(
     alloc: Global,
-    graph: &Graph,
-    plans: &Plans,
+    planned: &PlannedGraph<'_>,
     node: &Node,
     tool: &ToolDecl,
     whole: &mut Seq<Node>,
 ) -> Result<(), Memory>
-    requires made { plans.now ≡ plans_of graph.now }
-    ensures { let extras = map (extra_led graph.now node.now) tool.now.extras in
+    ensures { let extras = map (extra_led planned.now node.now) tool.now.extras in
         OnOk result (whole.new ≡ whole.old ++ led_nodes extras) }
 {
-    let extras = extras_of(alloc, graph, plans, node, tool)?;
+    let extras = extras_of(alloc, planned, node, tool)?;
     put_led_nodes(alloc, extras.as_slice(), whole)
 }
 
@@ -220,31 +208,21 @@ fn put_led_node(alloc: Global, extra: &Led, whole: &mut Seq<Node>) -> Result<(),
 // The scan node of the own source, and those of the reached names.
 fn put_scans<R: Results>(
     alloc: Global,
-    graph: &Graph,
-    plans: &Plans,
+    planned: &PlannedGraph<'_>,
     node: &Node,
     tool: &ToolDecl,
     seen: &R,
     names: &[Name],
     scans: &mut Seq<Node>,
 ) -> Result<(), Memory>
-    requires made { plans.now ≡ plans_of graph.now }
     ensures { let known = values_of (R.results seen.now) in
-        let own = scan_node graph.now node.now tool.now.closure node.now.source in
+        let own = scan_node planned.now node.now tool.now.closure node.now.source in
         OnOk result ((m : MakerValue) → scans.new ≡ scans.old ++ (option_to_list own
-        ++ flat_map (scan_needs (tool_task graph.now node.now m tool.now) known) names.now)) }
+        ++ flat_map (scan_needs (tool_task planned.now node.now m tool.now) known) names.now)) }
 {
-    put_scan(
-        alloc,
-        graph,
-        plans,
-        node,
-        tool,
-        node.source.as_slice(),
-        scans,
-    )?;
+    put_scan(alloc, planned, node, tool, node.source.as_slice(), scans)?;
     for name in names {
-        put_reached_scan(alloc, graph, plans, node, tool, seen, name, scans)?;
+        put_reached_scan(alloc, planned, node, tool, seen, name, scans)?;
     }
     Ok(())
 }

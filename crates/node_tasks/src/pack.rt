@@ -4,36 +4,32 @@ ghost use Rattle.meaning_tasks.specs.Tasks.{pack_part};
 ghost use Rattle.meaning_tasks.specs.Needs.{values_of};
 ghost use Rattle.meaning_tasks.specs.Calls.{text_in};
 ghost use Rattle.meaning_tasks.specs.Settle.{named_body, packed_own};
-ghost use Rattle.path_planner.specs.Ends.{plans_of};
 
 use crate::base::base_of;
 use crate::gathering::put_messages;
 use crate::led::led_to;
 use crate::own::Own;
 use object_values::{Bytes, Copied, Memory, Node, Part, PartDecl, Seq, Value};
-use path_planner::Plans;
+use path_planner::PlannedGraph;
 use std::alloc::Global;
 use task_needs::{Results, value_of};
-use type_graph::Graph;
 
 /// The compound of the values of the parts.
 pub(crate) fn packed_own<R: Results>(
     alloc: Global,
-    graph: &Graph,
-    plans: &Plans,
+    planned: &PlannedGraph<'_>,
     node: &Node,
     parts: &[PartDecl],
     seen: &R,
 ) -> Result<Own, Memory>
-    requires made { plans.now ≡ plans_of graph.now }
-    ensures { let packs = map (pack_part graph.now node.now) parts.now in
+    ensures { let packs = map (pack_part planned.now node.now) parts.now in
         IfOk result (λ own. own ≡ packed_own (values_of (R.results seen.now)) packs) }
 {
     let base = base_of(alloc, node)?;
     let mut bodies = Seq::new(alloc);
     let mut missing = Seq::new(alloc);
     for part in parts {
-        let led = led_to(alloc, graph, plans, node, part.of.as_slice(), &base)?;
+        let led = led_to(alloc, planned, node, part.of.as_slice(), &base)?;
         put_messages(alloc, led.missing(), &mut missing)?;
         put_body(alloc, &part.name, led.node(), seen, &mut bodies)?;
     }

@@ -13,7 +13,7 @@ use crate::needed::Needed;
 use crate::own::Own;
 use crate::stepping::stepped_own;
 use object_values::{Memory, Message, Node, Outcome, Seq, Status, Value, View};
-use path_planner::Plans;
+use path_planner::{PlannedGraph, Plans};
 use std::alloc::Global;
 use task_needs::{Counted, Results, Taken};
 use type_graph::Graph;
@@ -59,21 +59,19 @@ impl Settled {
 /// outcome of its call.
 pub fn settle_whole<R: Results>(
     alloc: Global,
-    graph: &Graph,
-    plans: &Plans,
+    planned: &PlannedGraph<'_>,
     node: &Node,
     needed: &Needed,
     seen: &R,
     outcome: Option<&Outcome>,
 ) -> Result<Settled, Memory>
-    requires made { plans.now ≡ plans_of graph.now }
-    requires fits { Fits graph.now node.now }
-    requires needed { IsNeeded graph.now node.now (R.results seen.now) needed.now }
+    requires fits { Fits planned.now node.now }
+    requires needed { IsNeeded planned.now node.now (R.results seen.now) needed.now }
     ensures { let given = option_map (λ o. o.now) outcome.entry in
-        IfOk result (SettlesSo graph.now node.now (R.results seen.now) given) }
+        IfOk result (SettlesSo planned.now node.now (R.results seen.now) given) }
 {
     let reached = as_count(needed.names.len())?;
-    let own = stepped_own(alloc, graph, plans, node, seen, outcome)?;
+    let own = stepped_own(alloc, planned, node, seen, outcome)?;
     over_needs(alloc, &needed.counted, seen, own, reached)
 }
 
@@ -95,7 +93,27 @@ pub fn settle<R: Results>(
         IfOk result (λ view. (texts : SourceLookup) →
         Settles graph.now texts node.now (R.results seen.now) given view) }
 {
-    let whole = settle_whole(alloc, graph, plans, node, needed, seen, outcome)?;
+    let planned = PlannedGraph::new(graph, plans);
+    settle_in(alloc, &planned, node, needed, seen, outcome)
+}
+
+/// The same in a graph with its plans.
+pub fn settle_in<R: Results>(
+    alloc: Global,
+    planned: &PlannedGraph<'_>,
+    node: &Node,
+    needed: &Needed,
+    seen: &R,
+    outcome: Option<&Outcome>,
+) -> Result<View, Memory>
+    requires fits { Fits planned.now node.now }
+    requires needed { IsNeeded planned.now node.now (R.results seen.now) needed.now }
+    requires stepped { node.now.steps ≢ [] }
+    ensures { let given = option_map (λ o. o.now) outcome.entry in
+        IfOk result (λ view. (texts : SourceLookup) →
+        Settles planned.now texts node.now (R.results seen.now) given view) }
+{
+    let whole = settle_whole(alloc, planned, node, needed, seen, outcome)?;
     Ok(whole.into_view())
 }
 

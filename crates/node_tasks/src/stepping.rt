@@ -6,7 +6,6 @@ ghost use Rattle.meaning_tasks.specs.Nodes.{Fits};
 ghost use Rattle.meaning_tasks.specs.Tasks.{aborted, each_own, extra_led, is_compound, led_missing, read_own, task_of};
 ghost use Rattle.meaning_tasks.specs.Needs.{values_of, where_valued};
 ghost use Rattle.meaning_tasks.specs.Settle.{mapped_own, outcome_own, picked_own, stepped_own};
-ghost use Rattle.path_planner.specs.Ends.{plans_of};
 
 use crate::base::base_of;
 use crate::each::each_own;
@@ -21,7 +20,7 @@ use crate::task::{TaskAt, task_at};
 use crate::tool::extras_of;
 use object_values::{MakerDecl, Memory, Node, Outcome, Seq, ToolDecl};
 use odin_nodes::label_of;
-use path_planner::Plans;
+use path_planner::PlannedGraph;
 use std::alloc::Global;
 use task_needs::{Results, value_of};
 use type_graph::Graph;
@@ -29,29 +28,28 @@ use type_graph::Graph;
 /// What the node itself gives, from what is known of its needs and from the outcome of its call.
 pub(crate) fn stepped_own<R: Results>(
     alloc: Global,
-    graph: &Graph,
-    plans: &Plans,
+    planned: &PlannedGraph<'_>,
     node: &Node,
     seen: &R,
     outcome: Option<&Outcome>,
 ) -> Result<Own, Memory>
-    requires made { plans.now ≡ plans_of graph.now }
-    requires fits { Fits graph.now node.now }
+    requires fits { Fits planned.now node.now }
     ensures { let given = option_map (λ o. o.now) outcome.entry in
-        let label = label_of_node graph.now node.now in
+        let label = label_of_node planned.now node.now in
         let known = values_of (R.results seen.now) in
-        IfOk result (λ own. own ≡ stepped_own label (task_of graph.now node.now) known given) }
+        IfOk result (λ own. own ≡ stepped_own label (task_of planned.now node.now) known given) }
 {
+    let graph = planned.graph();
     let base = base_of(alloc, node)?;
     match task_at(graph, node) {
         TaskAt::Given => Ok(Own::aborted(Seq::new(alloc))),
         TaskAt::Picked(key) => picked_own(alloc, graph, node, &base, key, seen),
-        TaskAt::Read(of) => read_from(alloc, graph, plans, node, &base, of, seen),
-        TaskAt::Each(of) => each_from(alloc, graph, plans, node, &base, of, seen),
-        TaskAt::Packed(parts) => packed_own(alloc, graph, plans, node, parts, seen),
+        TaskAt::Read(of) => read_from(alloc, planned, node, &base, of, seen),
+        TaskAt::Each(of) => each_from(alloc, planned, node, &base, of, seen),
+        TaskAt::Packed(parts) => packed_own(alloc, planned, node, parts, seen),
         TaskAt::Tooled(maker, tool) => match outcome {
             Some(outcome) => run_own(alloc, graph, node, maker, outcome),
-            None => not_run(alloc, graph, plans, node, &base, tool, seen),
+            None => not_run(alloc, planned, node, &base, tool, seen),
         },
     }
 }
@@ -59,20 +57,18 @@ pub(crate) fn stepped_own<R: Results>(
 // What is read from the base.
 fn read_from<R: Results>(
     alloc: Global,
-    graph: &Graph,
-    plans: &Plans,
+    planned: &PlannedGraph<'_>,
     node: &Node,
     base: &Node,
     of: &[u8],
     seen: &R,
 ) -> Result<Own, Memory>
-    requires made { plans.now ≡ plans_of graph.now }
     ensures { let known = values_of (R.results seen.now) base.now in
-        let read = read_own graph.now node.now of.now in
+        let read = read_own planned.now node.now of.now in
         IfOk result (λ own. own ≡ mapped_own read known) }
 {
     match value_of(seen, base) {
-        Some(value) => read_own(alloc, graph, plans, node, of, value),
+        Some(value) => read_own(alloc, planned, node, of, value),
         None => Ok(Own::aborted(Seq::new(alloc))),
     }
 }
@@ -80,20 +76,18 @@ fn read_from<R: Results>(
 // The references of the base, led on.
 fn each_from<R: Results>(
     alloc: Global,
-    graph: &Graph,
-    plans: &Plans,
+    planned: &PlannedGraph<'_>,
     node: &Node,
     base: &Node,
     of: &[u8],
     seen: &R,
 ) -> Result<Own, Memory>
-    requires made { plans.now ≡ plans_of graph.now }
     ensures { let known = values_of (R.results seen.now) base.now in
-        let each = each_own graph.now node.now of.now in
+        let each = each_own planned.now node.now of.now in
         IfOk result (λ own. own ≡ mapped_own each known) }
 {
     match value_of(seen, base) {
-        Some(value) => each_own(alloc, graph, plans, node, of, value),
+        Some(value) => each_own(alloc, planned, node, of, value),
         None => Ok(Own::aborted(Seq::new(alloc))),
     }
 }
@@ -117,22 +111,20 @@ fn run_own(
 // A tool that isn't run: where the base has a value, what lacks a path is told.
 fn not_run<R: Results>(
     alloc: Global,
-    graph: &Graph,
-    plans: &Plans,
+    planned: &PlannedGraph<'_>,
     node: &Node,
     base: &Node,
     tool: &ToolDecl,
     seen: &R,
 ) -> Result<Own, Memory>
-    requires made { plans.now ≡ plans_of graph.now }
     ensures { let known = values_of (R.results seen.now) base.now in
-        let missing = led_missing (map (extra_led graph.now node.now) tool.now.extras) in
+        let missing = led_missing (map (extra_led planned.now node.now) tool.now.extras) in
         IfOk result (λ own. own ≡ aborted (where_valued known missing)) }
 {
     if value_of(seen, base).is_none() {
         return Ok(Own::aborted(Seq::new(alloc)));
     }
-    let extras = extras_of(alloc, graph, plans, node, tool)?;
+    let extras = extras_of(alloc, planned, node, tool)?;
     let missing = missing_of(alloc, extras.as_slice())?;
     Ok(Own::aborted(missing))
 }

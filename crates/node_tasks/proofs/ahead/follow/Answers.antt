@@ -9,7 +9,7 @@ use Rattle.node_tasks.proofs.ahead.follow.Goals as goal
 
 pub returns-in-Some-clause-level : goal.returns-in-Some-clause-level
 returns-in-Some-clause-level g c m =
-    let t = tooled (tool_task c.args.graph.now c.args.node.now m c.args.tool.now) in
+    let t = tooled (tool_task c.args.planned.now c.args.node.now m c.args.tool.now) in
     let known : Known = values_of (g.R.Results.results c.args.seen.now) in
     let before = g.V.VisitedNodes.visited c.args.visited.now in
     let after : Level = record { untold = c.new-level.result.untold; scans = c.push.new.self; sources = c.new-level.result.sources } in

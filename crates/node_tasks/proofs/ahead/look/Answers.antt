@@ -11,7 +11,7 @@ use Rattle.node_tasks.proofs.ahead.look.Goals as goal
 
 pub returns-then-not-has-clause-level : goal.returns-then-not-has-clause-level
 returns-then-not-has-clause-level g c m =
-    let t : ToolTask = tool_task c.args.graph.now c.args.node.now m c.args.tool.now in
+    let t : ToolTask = tool_task c.args.planned.now c.args.node.now m c.args.tool.now in
     let known : Known = values_of (g.R.Results.results c.args.seen.now) in
     let before : Node → Bool = g.V.VisitedNodes.visited c.args.visited.now in
     let after : Level = record { untold = c.push.new.self; scans = c.args.level.now.scans; sources = c.push-then-not-has.new.self } in
@@ -22,7 +22,7 @@ returns-then-not-has-clause-level g c m =
 
 pub returns-in-Some-2-clause-level : goal.returns-in-Some-2-clause-level
 returns-in-Some-2-clause-level g c m =
-    let t : ToolTask = tool_task c.args.graph.now c.args.node.now m c.args.tool.now in
+    let t : ToolTask = tool_task c.args.planned.now c.args.node.now m c.args.tool.now in
     let known : Known = values_of (g.R.Results.results c.args.seen.now) in
     let before : Node → Bool = g.V.VisitedNodes.visited c.args.visited.now in
     let after : Level = record { untold = c.push-in-Some-2.new.self; scans = c.push-in-Some-2-2.new.self; sources = c.args.level.now.sources } in
@@ -35,7 +35,7 @@ returns-in-Some-2-clause-level g c m =
 
 pub returns-clause-on : goal.returns-clause-on
 returns-clause-on g c m =
-    let t : ToolTask = tool_task c.args.graph.now c.args.node.now m c.args.tool.now in
+    let t : ToolTask = tool_task c.args.planned.now c.args.node.now m c.args.tool.now in
     let known : Known = values_of (g.R.Results.results c.args.seen.now) in
     let reached : Reached (own_lines (tooled t) known) (other_lines (tooled t) known) c.as_slice-name.result.now =
     subst (Reached (own_lines (tooled t) known) (other_lines (tooled t) known)) (sym c.as_slice-name.ensures.bytes) (c.requires.led m c.in-Some.name.now c.in-Some.ensures.one) in

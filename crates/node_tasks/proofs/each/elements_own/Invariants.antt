@@ -4,6 +4,6 @@ use Rattle.node_tasks.proofs.each.elements_own.Given as goal
 
 abbrev pub invariant-loop-element : goal.invariant-loop-element
 invariant-loop-element l = record {
-  nodes_are : l.nodes ≡ led_nodes (map (led_to l.graph l.node l.of) (take l.element-index l.elements));
-  missing_are : l.missing ≡ led_missing (map (led_to l.graph l.node l.of) (take l.element-index l.elements));
+  nodes_are : l.nodes ≡ led_nodes (map (led_to l.planned l.node l.of) (take l.element-index l.elements));
+  missing_are : l.missing ≡ led_missing (map (led_to l.planned l.node l.of) (take l.element-index l.elements));
 }

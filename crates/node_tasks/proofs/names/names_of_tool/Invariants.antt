@@ -10,8 +10,8 @@ use Rattle.node_tasks.proofs.names.names_of_tool.Given as goal
 
 abbrev pub invariant-told : goal.invariant-told
 invariant-told g l =
-    (m : MakerDecl) → Tells l.node.source (own_lines (tooled (tool_task l.graph l.node m l.tool)) (values_of (g.R.Results.results l.seen)))
-    (other_lines (tooled (tool_task l.graph l.node m l.tool)) (values_of (g.R.Results.results l.seen))) l.closure
+    (m : MakerDecl) → Tells l.node.source (own_lines (tooled (tool_task l.planned l.node m l.tool)) (values_of (g.R.Results.results l.seen)))
+    (other_lines (tooled (tool_task l.planned l.node m l.tool)) (values_of (g.R.Results.results l.seen))) l.closure
 
 abbrev pub decreases-told : goal.decreases-told
-decreases-told g l = length (untold_of (all_names l.graph l.node l.tool (g.R.Results.results l.seen) (g.R.Results.nodes l.seen)) l.closure)
+decreases-told g l = length (untold_of (all_names l.planned l.node l.tool (g.R.Results.results l.seen) (g.R.Results.nodes l.seen)) l.closure)

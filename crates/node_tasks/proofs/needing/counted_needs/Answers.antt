@@ -14,17 +14,17 @@ returns-in_ok-nodes-in-Picked g c =
     let known : Known = values_of (g.R.Results.results c.args.seen.now) in
     let base : Node = base_of c.args.node.now in
     ap (nodes_in known) c.only_alone.ensures ∙ c.in_ok-nodes-in-Picked.ensures ∙ ap (λ (key : Text). base ∷ picked_element key (known base)) c.as_slice.ensures
-    ∙ sym (picked_counted_are (base_of c.args.node.now) c.in-Picked.key.now known c.args.names.now) ∙ sym (ap (λ t. counted_needs t known c.args.names.now) c.in-Picked.ensures)
+    ∙ sym (picked_counted_are (base_of c.args.node.now) c.in-Picked.key.now known c.args.names.now) ∙ sym (ap (λ t. counted_needs t known c.args.names.now) (rw c.graph.ensures at c.in-Picked.ensures))
 
 pub returns-in_ok-nodes-in-Packed : goal.returns-in_ok-nodes-in-Packed
 returns-in_ok-nodes-in-Packed g c =
     let known : Known = values_of (g.R.Results.results c.args.seen.now) in
-    let packs : List PackPart = map (pack_part c.args.graph.now c.args.node.now) c.in-Packed.parts.now in
+    let packs : List PackPart = map (pack_part c.args.planned.now c.args.node.now) c.in-Packed.parts.now in
     ap (nodes_in known) c.only_alone-in-Packed.ensures ∙ c.in_ok-nodes-in-Packed.ensures
-    ∙ sym (packed_counted_are packs known c.args.names.now) ∙ sym (ap (λ t. counted_needs t known c.args.names.now) c.in-Packed.ensures)
+    ∙ sym (packed_counted_are packs known c.args.names.now) ∙ sym (ap (λ t. counted_needs t known c.args.names.now) (rw c.graph.ensures at c.in-Packed.ensures))
 
 pub returns-in-Tooled : goal.returns-in-Tooled
 returns-in-Tooled g c =
     let known : Known = values_of (g.R.Results.results c.args.seen.now) in
     ok_on c.tool_needs.result _ _ c.tool_needs.ensures
-    (λ counted e. e c.in-Tooled.field-0.now ∙ sym (ap (λ t. counted_needs t known c.args.names.now) c.in-Tooled.ensures))
+    (λ counted e. e c.in-Tooled.field-0.now ∙ sym (ap (λ t. counted_needs t known c.args.names.now) (rw c.graph.ensures at c.in-Tooled.ensures)))

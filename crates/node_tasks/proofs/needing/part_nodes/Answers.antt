@@ -9,5 +9,5 @@ use Rattle.node_tasks.proofs.needing.part_nodes.Goals as goal
 pub returns : goal.returns
 returns c =
     c.loop-part.invariant
-    ∙ ap (flat_map (λ (p : PartDecl). option_to_list (onward_named c.args.graph.now c.in_ok-base.base p.of))) (take_all c.loop-part.part-index c.args.parts.now (omega arith))
-    ∙ part_nodes_are c.args.graph.now c.args.node.now c.in_ok-base.base c.args.parts.now c.in_ok-base.ensures
+    ∙ ap (flat_map (λ (p : PartDecl). option_to_list (onward_named c.args.planned.now c.in_ok-base.base p.of))) (take_all c.loop-part.part-index c.args.parts.now (omega arith))
+    ∙ part_nodes_are c.args.planned.now c.args.node.now c.in_ok-base.base c.args.parts.now c.in_ok-base.ensures

@@ -5,4 +5,4 @@ use Rattle.meaning_tasks.specs.Nodes.{onward_named}
 use Rattle.node_tasks.proofs.needing.part_nodes.Given as goal
 
 abbrev pub invariant-loop-part : goal.invariant-loop-part
-invariant-loop-part l = l.needs ≡ flat_map (λ (p : PartDecl). option_to_list (onward_named l.graph l.base p.of)) (take l.part-index l.parts)
+invariant-loop-part l = l.needs ≡ flat_map (λ (p : PartDecl). option_to_list (onward_named l.planned l.base p.of)) (take l.part-index l.parts)

@@ -6,4 +6,4 @@ use Rattle.node_tasks.proofs.needing.put_scans.Given as goal
 
 abbrev pub invariant-loop-name : goal.invariant-loop-name
 invariant-loop-name g l =
-    (m : MakerDecl) → l.scans ≡ l.initial.scans ++ flat_map (scan_needs (tool_task l.graph l.node m l.tool) (values_of (g.R.Results.results l.seen))) (take l.name-index l.names)
+    (m : MakerDecl) → l.scans ≡ l.initial.scans ++ flat_map (scan_needs (tool_task l.planned l.node m l.tool) (values_of (g.R.Results.results l.seen))) (take l.name-index l.names)

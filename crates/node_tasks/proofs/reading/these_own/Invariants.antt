@@ -4,6 +4,6 @@ use Rattle.node_tasks.proofs.reading.these_own.Given as goal
 
 abbrev pub invariant-loop-line : goal.invariant-loop-line
 invariant-loop-line l = record {
-  nodes_are : l.nodes ≡ led_nodes (map (line_led l.graph l.node l.of) (take l.line-index l.lines));
-  missing_are : l.missing ≡ led_missing (map (line_led l.graph l.node l.of) (take l.line-index l.lines));
+  nodes_are : l.nodes ≡ led_nodes (map (line_led l.planned l.node l.of) (take l.line-index l.lines));
+  missing_are : l.missing ≡ led_missing (map (line_led l.planned l.node l.of) (take l.line-index l.lines));
 }

@@ -8,6 +8,6 @@ pub returns : goal.returns
 returns g c =
     let known : Known = values_of (g.R.Results.results c.args.seen.now) in
     let needed = c.args.needed.now in
-    settles_if_ok c.args.graph.now c.args.node.now (g.R.Results.results c.args.seen.now) _ needed.names (nodes_in known needed.counted) c.in_ok-own.own c.requires.needed.reached c.requires.needed.counted
+    settles_if_ok c.args.planned.now c.args.node.now (g.R.Results.results c.args.seen.now) _ needed.names (nodes_in known needed.counted) c.in_ok-own.own c.requires.needed.reached c.requires.needed.counted
     c.in_ok-own.ensures c.in_ok-reached.reached (c.in_ok-reached.ensures ∙ c.len.ensures) c.over_needs.result c.over_needs.ensures.view c.over_needs.ensures.status
     c.over_needs.ensures.messages c.over_needs.ensures.reached

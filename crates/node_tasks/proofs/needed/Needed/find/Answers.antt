@@ -6,5 +6,5 @@ use Rattle.node_tasks.proofs.needed.Needed.find.Goals as goal
 pub returns : goal.returns
 returns g c = record {
   reached = c.in_ok-names.ensures;
-  counted = c.in_ok-counted.ensures ∙ ap (counted_needs (task_of c.args.graph.now c.args.node.now) (values_of (g.R.Results.results c.args.seen.now))) c.as_slice.ensures;
+  counted = c.in_ok-counted.ensures ∙ ap (counted_needs (task_of c.args.planned.now c.args.node.now) (values_of (g.R.Results.results c.args.seen.now))) c.as_slice.ensures;
 }
