@@ -10,7 +10,7 @@ use crate::known::Known;
 use crate::looking::at_height;
 use crate::setting::Setting;
 use crate::walk::Walk;
-use node_tasks::needs;
+use node_tasks::Needed;
 use object_values::{Copied, HEIGHT_LIMIT, Memory, Node, Seq};
 use std::alloc::Global;
 
@@ -55,7 +55,8 @@ fn step_down<K: Known>(
     let Some(last) = chain.as_slice().last() else {
         return Ok(());
     };
-    let needs = needs(alloc, setting.graph, setting.plans, last, &walk.done)?;
+    let needed = Needed::find(alloc, setting.planned, last, &walk.done)?;
+    let needs = needed.nodes(alloc, &walk.done)?;
     let Some(need) = at_height(&walk.done, &walk.waiting, needs.as_slice(), height) else {
         return Ok(());
     };

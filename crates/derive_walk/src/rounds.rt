@@ -43,19 +43,19 @@ pub(crate) fn next_round<K: Known>(
 ) -> Result<Round, Memory>
     requires set { IsSetting K.kept setting.now }
     requires holds { HoldsIn (world_in K.kept setting.now) walk.now }
-    requires fits { Fits setting.now.graph.now node.now }
+    requires fits { Fits setting.now.planned.now node.now }
     requires ahead { IsAheadIn (world_in K.kept setting.now) walk.now node.now ahead.old }
     ensures ahead { IsAheadIn (world_in K.kept setting.now) walk.now node.now ahead.new }
     ensures round { let w = world_in K.kept setting.now in
         IfOk result (IsRound w walk.now node.now) }
 {
     if rounds >= WHOLE_ROUNDS {
-        let level = ahead.level(alloc, setting.graph, setting.plans, node, &walk.done, walk)?;
+        let level = ahead.level(alloc, setting.planned, node, &walk.done, walk)?;
         if !level.is_empty() {
             return Ok(Round::Visits(level));
         }
     }
-    let needed = Needed::find(alloc, setting.graph, setting.plans, node, &walk.done)?;
+    let needed = Needed::find(alloc, setting.planned, node, &walk.done)?;
     let mut survey = survey_needs(alloc, walk, &needed)?;
     if survey.unvisited.is_empty() {
         return Ok(Round::Closes(needed, survey));

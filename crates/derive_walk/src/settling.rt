@@ -16,7 +16,7 @@ use crate::done::Table;
 use crate::known::Known;
 use crate::setting::Setting;
 use crate::wanted::Wanted;
-use node_tasks::{Needed, call_for, settle};
+use node_tasks::{Needed, call_in, settle_in};
 use object_values::{
     Bytes, Call, Copied, Memory, Message, Node, Outcome, Seq, SharedSeq, Sources, Status, Text,
     Value, View,
@@ -45,18 +45,18 @@ pub(crate) fn settle_node<K: Known, L: Ledger>(
     steps: &mut Steps<L>,
 ) -> Result<Closed, Memory>
     requires set { IsSetting K.kept setting.now }
-    requires fits { Fits setting.now.graph.now node.now }
-    requires needed { IsNeeded setting.now.graph.now node.now (results_of done.now) needed.now }
+    requires fits { Fits setting.now.planned.now node.now }
+    requires needed { IsNeeded setting.now.planned.now node.now (results_of done.now) needed.now }
     requires outside { AreOutside (world_in K.kept setting.now) wanted.now }
     ensures closed { let w = world_in K.kept setting.now in
         IfOk result (NodeIsClosed w node.now (results_of done.now)) }
     ensures counted { LooksOnce wanted.now node.now steps.old steps.new result }
 {
     if node.steps.is_empty() {
-        let view = source_view(alloc, setting.graph, setting.sources, node)?;
+        let view = source_view(alloc, setting.planned.graph(), setting.sources, node)?;
         return Ok(Closed::Settled(view));
     }
-    let Some(call) = call_for(alloc, setting.graph, setting.plans, node, needed, done)? else {
+    let Some(call) = call_in(alloc, setting.planned, node, needed, done)? else {
         let view = settle_by(alloc, setting, done, node, needed, None)?;
         return Ok(Closed::Settled(view));
     };
@@ -75,10 +75,10 @@ fn settle_call<K: Known, L: Ledger>(
     steps: &mut Steps<L>,
 ) -> Result<Closed, Memory>
     requires set { IsSetting K.kept setting.now }
-    requires fits { Fits setting.now.graph.now node.now }
-    requires needed { IsNeeded setting.now.graph.now node.now (results_of done.now) needed.now }
+    requires fits { Fits setting.now.planned.now node.now }
+    requires needed { IsNeeded setting.now.planned.now node.now (results_of done.now) needed.now }
     requires outside { AreOutside (world_in K.kept setting.now) wanted.now }
-    requires called { CallOf setting.now.graph.now node.now (results_of done.now) (Some call) }
+    requires called { CallOf setting.now.planned.now node.now (results_of done.now) (Some call) }
     requires stepped { node.now.steps ≢ [] }
     ensures closed { let w = world_in K.kept setting.now in
         IfOk result (NodeIsClosed w node.now (results_of done.now)) }
@@ -108,22 +108,14 @@ fn settle_by<K: Known>(
     outcome: Option<&Outcome>,
 ) -> Result<View, Memory>
     requires set { IsSetting K.kept setting.now }
-    requires fits { Fits setting.now.graph.now node.now }
-    requires needed { IsNeeded setting.now.graph.now node.now (results_of done.now) needed.now }
+    requires fits { Fits setting.now.planned.now node.now }
+    requires needed { IsNeeded setting.now.planned.now node.now (results_of done.now) needed.now }
     requires stepped { node.now.steps ≢ [] }
     ensures { let given = option_map (λ o. o.now) outcome.entry in
         let w = world_in K.kept setting.now in
         IfOk result (SettlesIn w node.now (results_of done.now) given) }
 {
-    settle(
-        alloc,
-        setting.graph,
-        setting.plans,
-        node,
-        needed,
-        done,
-        outcome,
-    )
+    settle_in(alloc, setting.planned, node, needed, done, outcome)
 }
 
 /// The view of a source: its text, or that there is none.

@@ -7,7 +7,6 @@ ghost use Rattle.meaning_calls.specs.Outcomes.{OutcomeFits};
 ghost use Rattle.meaning_tasks.specs.Nodes.{Fits};
 ghost use Rattle.meaning_derive.specs.Derive.{Sources as SourceTexts, Outcomes};
 ghost use Rattle.meaning_derive.specs.Given.{AreSources, OutcomesFit};
-ghost use Rattle.path_planner.specs.Ends.{plans_of};
 ghost use Rattle.derive_walk.specs.Outcomes.{after};
 ghost use Rattle.derive_walk.specs.Looks.{LooksAreFew, lost, met_by, met_in};
 ghost use Rattle.derive_walk.specs.Paths.{HasEmptyPath, AfterRoot};
@@ -29,11 +28,10 @@ use crate::walk::Walk;
 use crate::wanted::Wanted;
 use object_values::{Call, Copied, Memory, Node, Outcome, Seq, Sources};
 use odin_outside::Steps;
-use path_planner::Plans;
+use path_planner::PlannedGraph;
 use std::alloc::Global;
 use std::marker::Model;
 use std::sync::ledger::Ledger;
-use type_graph::Graph;
 
 /// The derivation of a root as far as outcomes of calls are known. Contracts see the root, the
 /// nodes that have results, the outcomes that were given, the wanted calls, and the result.
@@ -97,32 +95,29 @@ impl Walker {
     pub fn advance<K: Known, L: Ledger>(
         &mut self,
         alloc: Global,
-        graph: &Graph,
-        plans: &Plans,
+        planned: &PlannedGraph<'_>,
         sources: &Sources,
         known: &K,
         steps: &mut Steps<L>,
     ) -> Result<(), Memory>
-        requires spellable { IsSpellable graph.now }
-        requires made { plans.now ≡ plans_of graph.now }
+        requires spellable { IsSpellable planned.now }
         requires sources { AreSources sources.now.texts }
         requires right { let by = after (K.kept known.now) self.old.given in
-            IsRight (world graph.now sources.now.texts by) self.old }
+            IsRight (world planned.now sources.now.texts by) self.old }
         ensures on { ExtendsWalk self.old self.new }
         ensures right { let by = after (K.kept known.now) self.new.given in
-            IsRight (world graph.now sources.now.texts by) self.new }
+            IsRight (world planned.now sources.now.texts by) self.new }
         ensures advanced { let by = after (K.kept known.now) self.new.given in
-            OnOk result (IsAdvanced (world graph.now sources.now.texts by) self.new) }
+            OnOk result (IsAdvanced (world planned.now sources.now.texts by) self.new) }
         ensures counted { LooksAreFew (met_by self.old) (met_by self.new)
             steps.old steps.new (lost result) }
     {
         if self.result.is_some() {
             return Ok(());
         }
-        graph.checked();
+        planned.graph().checked();
         let setting = Setting {
-            graph,
-            plans,
+            planned,
             sources,
             known,
             given: &self.given,
@@ -187,7 +182,7 @@ fn walk_from_root<K: Known, L: Ledger>(
 ) -> Result<Option<Found>, Memory>
     requires set { IsSetting K.kept setting.now }
     requires holds { HoldsIn (world_in K.kept setting.now) walk.old }
-    requires fits { Fits setting.now.graph.now walk.old.root }
+    requires fits { Fits setting.now.planned.now walk.old.root }
     requires start { HasEmptyPath walk.old }
     ensures on { GoesOnFrom walk.old walk.new }
     ensures holds { HoldsIn (world_in K.kept setting.now) walk.new }
@@ -196,7 +191,7 @@ fn walk_from_root<K: Known, L: Ledger>(
         steps.new (lost result) }
 {
     if walk.root.steps.is_empty() {
-        let view = source_view(alloc, setting.graph, setting.sources, &walk.root)?;
+        let view = source_view(alloc, setting.planned.graph(), setting.sources, &walk.root)?;
         return Ok(Some(Found::Answer(view)));
     }
     if height_of(&walk.done, &walk.waiting, &walk.root).is_some() {

@@ -9,7 +9,7 @@ pub loop-count-init : goal.loop-count-init
 loop-count-init g c =
     let w = world_in g.K.Known.kept c.args.setting.now in
     record {
-      down = start_down w c.requires.set.world c.args.walk.now c.requires.holds c.requires.tall c.in_ok-chain.chain c.in_ok-chain.ensures;
+      down = start_down w c.requires.set c.args.walk.now c.requires.holds c.requires.tall c.in_ok-chain.chain c.in_ok-chain.ensures;
       long = ap length c.in_ok-chain.ensures ∙ sym c.len-count.ensures;
       falling = ap (λ k. height_limit + k) c.len-count.ensures;
     }

@@ -14,8 +14,8 @@ returns-in_default-at_height-clause-longer g c =
     let down = c.requires.down in
     let got : Some c.in-Some.last.now ≡ slice_get c.args.chain.now (length c.args.chain.now - 1) = cc (c.in-Some.ensures.value, c.as_slice.ensures) in
     let same : c.in-Some.last.now ≡ down.last = last_node c.args.chain.now down.front down.last c.in-Some.last.now down.is got in
-    let listed : Needs w.graph down.last (results_of c.args.walk.now.done) c.in_ok-needs.needs = subst (λ z. Needs w.graph z (results_of c.args.walk.now.done) c.in_ok-needs.needs) same c.in_ok-needs.ensures in
-    let there = need_there w c.requires.set.world c.args.walk.now c.requires.holds c.args.chain.now c.args.height down c.requires.high c.in_ok-needs.needs listed in
+    let listed : Needs w.graph down.last (results_of c.args.walk.now.done) c.in_ok-needs.needs = subst (λ z. Needs w.graph z (results_of c.args.walk.now.done) c.in_ok-needs.needs) same (c.in_ok-needs.ensures w.graph c.in-Some.last.now c.in_ok-needed.ensures) in
+    let there = need_there w c.requires.set c.args.walk.now c.requires.holds c.args.chain.now c.args.height down c.requires.high c.in_ok-needs.needs listed in
     some_is_none (of_height (heights_in c.args.walk.now) c.args.height c.in_ok-needs.needs) there.0 there.1 (sym (ap (λ l. of_height (heights_in c.args.walk.now) c.args.height l) c.as_slice-2.ensures) ∙ sym c.in_default-at_height.ensures)
 
 pub returns-in_default-at_height-clause-down : goal.returns-in_default-at_height-clause-down
@@ -24,8 +24,8 @@ returns-in_default-at_height-clause-down g c =
     let down = c.requires.down in
     let got : Some c.in-Some.last.now ≡ slice_get c.args.chain.now (length c.args.chain.now - 1) = cc (c.in-Some.ensures.value, c.as_slice.ensures) in
     let same : c.in-Some.last.now ≡ down.last = last_node c.args.chain.now down.front down.last c.in-Some.last.now down.is got in
-    let listed : Needs w.graph down.last (results_of c.args.walk.now.done) c.in_ok-needs.needs = subst (λ z. Needs w.graph z (results_of c.args.walk.now.done) c.in_ok-needs.needs) same c.in_ok-needs.ensures in
-    let there = need_there w c.requires.set.world c.args.walk.now c.requires.holds c.args.chain.now c.args.height down c.requires.high c.in_ok-needs.needs listed in
+    let listed : Needs w.graph down.last (results_of c.args.walk.now.done) c.in_ok-needs.needs = subst (λ z. Needs w.graph z (results_of c.args.walk.now.done) c.in_ok-needs.needs) same (c.in_ok-needs.ensures w.graph c.in-Some.last.now c.in_ok-needed.ensures) in
+    let there = need_there w c.requires.set c.args.walk.now c.requires.holds c.args.chain.now c.args.height down c.requires.high c.in_ok-needs.needs listed in
     some_is_none (of_height (heights_in c.args.walk.now) c.args.height c.in_ok-needs.needs) there.0 there.1 (sym (ap (λ l. of_height (heights_in c.args.walk.now) c.args.height l) c.as_slice-2.ensures) ∙ sym c.in_default-at_height.ensures)
 
 pub returns-clause-down : goal.returns-clause-down
@@ -34,7 +34,7 @@ returns-clause-down g c =
     let down = c.requires.down in
     let got : Some c.in-Some.last.now ≡ slice_get c.args.chain.now (length c.args.chain.now - 1) = cc (c.in-Some.ensures.value, c.as_slice.ensures) in
     let same : c.in-Some.last.now ≡ down.last = last_node c.args.chain.now down.front down.last c.in-Some.last.now down.is got in
-    let listed : Needs w.graph down.last (results_of c.args.walk.now.done) c.in_ok-needs.needs = subst (λ z. Needs w.graph z (results_of c.args.walk.now.done) c.in_ok-needs.needs) same c.in_ok-needs.ensures in
+    let listed : Needs w.graph down.last (results_of c.args.walk.now.done) c.in_ok-needs.needs = subst (λ z. Needs w.graph z (results_of c.args.walk.now.done) c.in_ok-needs.needs) same (c.in_ok-needs.ensures w.graph c.in-Some.last.now c.in_ok-needed.ensures) in
     let found : of_height (heights_in c.args.walk.now) c.args.height c.in_ok-needs.needs ≡ Some c.in-Some-at_height.need.now = sym (ap (λ l. of_height (heights_in c.args.walk.now) c.args.height l) c.as_slice-2.ensures) ∙ sym c.in-Some-at_height.ensures in
     let same_need : c.in_ok-copy.field-0 ≡ c.in-Some-at_height.need.now = c.in_ok-copy.ensures in
-    on_ok c.push.result c.push.ensures.ok (λ e. one_lower w c.requires.set.world c.args.walk.now c.requires.holds c.args.chain.now c.args.height down c.requires.high c.in_ok-needs.needs listed c.in-Some-at_height.need.now found c.push.new.self (e ∙ ap (λ z. c.args.chain.now ++ z ∷ []) same_need))
+    on_ok c.push.result c.push.ensures.ok (λ e. one_lower w c.requires.set c.args.walk.now c.requires.holds c.args.chain.now c.args.height down c.requires.high c.in_ok-needs.needs listed c.in-Some-at_height.need.now found c.push.new.self (e ∙ ap (λ z. c.args.chain.now ++ z ∷ []) same_need))

@@ -20,7 +20,7 @@ rounds-init g t c =
     let w = world_in g.K.Known.kept c.args.setting.now in
     record {
       so = start w c.args.walk.now c.args.node c.requires.holds c.requires.next c.push.new.self (c.in_ok-push.ensures.ok ∙ ap (λ z. c.args.walk.now.path ++ z ∷ []) c.in_ok-copy.ensures);
-      ahead = c.new-ahead.ensures c.args.setting.now.graph.now c.args.node (results_of c.args.walk.now.done);
+      ahead = c.new-ahead.ensures c.args.setting.now.planned.now c.args.node (results_of c.args.walk.now.done);
       length = c.len-length.ensures;
       counted = record { later = omega arith; each = omega arith };
     }
@@ -74,7 +74,7 @@ loop-need-preserved g t c =
     let same : c.in_ok-need.need ≡ k = c.in_ok-need.ensures in
     let after : Visited w walk c.visit.new.walk k = subst (λ z. Visited w walk c.visit.new.walk z) same (subst (λ o. AfterVisit w walk c.visit.new.walk c.in_ok-need.need o) c.in_default-2.is c.in_ok-found-2.ensures.after) in
     record {
-      round = visit_one w c.args.walk.now c.rounds.walk c.args.node needs walk k (drop i needs) (drop (i + 1) needs) c.loop-need.invariant.round first c.requires.set.world need unseen free.0 c.visit.new.walk c.visit.ensures.on c.visit.ensures.holds after;
+      round = visit_one w c.args.walk.now c.rounds.walk c.args.node needs walk k (drop i needs) (drop (i + 1) needs) c.loop-need.invariant.round first c.requires.set need unseen free.0 c.visit.new.walk c.visit.ensures.on c.visit.ensures.holds after;
       ahead = still_ahead w walk c.visit.new.walk c.loop-need.invariant.round.so.holds c.visit.ensures.holds c.visit.ensures.on c.args.node c.next_round.new.ahead c.loop-need.invariant.ahead;
       counted = few_then _ _ _ _ _ _ _ c.loop-need.invariant.counted c.in_ok-found-2.ensures.counted;
     }
@@ -96,7 +96,7 @@ visit-requires g t c =
     let need : IsNeedIn w c.args.node k = c.loop-need.invariant.round.needed k (got_in needs i k c.loop-need-test.true c.need-item.is) in
     let free : IsChainTo walk.path k None = subst (λ o. IsChainTo walk.path k o) c.in_default.is c.in_ok-found.ensures in
     let same : c.in_ok-need.need ≡ k = c.in_ok-need.ensures in
-    let next : IsNext w walk c.in_ok-need.need = subst (λ z. IsNext w walk z) (sym same) (next_need w c.args.walk.now c.args.node c.requires.set.world walk so k need unseen free) in
+    let next : IsNext w walk c.in_ok-need.need = subst (λ z. IsNext w walk z) (sym same) (next_need w c.args.walk.now c.args.node c.requires.set walk so k need unseen free) in
     let size : length walk.path ≡ length c.args.walk.now.path + 1 = longer w c.args.walk.now c.args.node walk so in
     let short : length c.args.walk.now.path < 64 = room w c.args.walk.now c.args.node c.requires.next in
     λ κs lt. (omega (arith, size, short), (search rules, (search rules, (c.requires.set, (so.holds, next)))))
@@ -117,7 +117,7 @@ returns-in-Some-clause-after g t c =
     let k = c.need-item.result in
     let walk = c.loop-need.walk in
     let need : IsNeedIn w c.args.node k = c.loop-need.invariant.round.needed k (got_in c.as_slice-unvisited.result.now c.loop-need.need-index k c.loop-need-test.true c.need-item.is) in
-    chained w c.args.walk.now c.args.node c.requires.set.world walk c.loop-need.invariant.round.so k need c.in-Some.found (subst (λ o. IsChainTo walk.path k o) c.in-Some.is c.in_ok-found.ensures)
+    chained w c.args.walk.now c.args.node c.requires.set walk c.loop-need.invariant.round.so k need c.in-Some.found (subst (λ o. IsChainTo walk.path k o) c.in-Some.is c.in_ok-found.ensures)
 
 pub returns-in_err-found-2-clause-on : goal.returns-in_err-found-2-clause-on
 returns-in_err-found-2-clause-on g t c = goes_far c.args.walk.now c.loop-need.walk c.visit.new.walk c.loop-need.invariant.round.so.on c.visit.ensures.on

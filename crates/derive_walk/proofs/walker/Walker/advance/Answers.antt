@@ -11,11 +11,8 @@ use Rattle.derive_walk.proofs.walker.Walker.advance.Goals as goal
 pub walk_from_root-requires-clause-set : goal.walk_from_root-requires-clause-set
 walk_from_root-requires-clause-set g c =
     let kept = g.K.Known.kept c.args.known.now in
-    let right : IsRight (world c.args.graph.now c.args.sources.now.texts (after kept c.self.inside.given)) (seen_so c.self.inside.walk c.self.inside.given c.self.inside.result) = subst (λ (s : Walked). IsRight (world c.args.graph.now c.args.sources.now.texts (after kept s.given)) s) (sym c.self.view_is) c.requires.right in
-    record {
-      made = c.requires.made;
-      world = record { spellable = c.requires.spellable; checked = c.checked.ensures; sources = c.requires.sources; fit = right.fit };
-    }
+    let right : IsRight (world c.args.planned.now c.args.sources.now.texts (after kept c.self.inside.given)) (seen_so c.self.inside.walk c.self.inside.given c.self.inside.result) = subst (λ (s : Walked). IsRight (world c.args.planned.now c.args.sources.now.texts (after kept s.given)) s) (sym c.self.view_is) c.requires.right in
+    record { spellable = c.requires.spellable; checked = rw c.graph.ensures at c.checked.ensures; sources = c.requires.sources; fit = right.fit }
 
 pub returns-in_err-self-inside-clause-on : goal.returns-in_err-self-inside-clause-on
 returns-in_err-self-inside-clause-on g c =
@@ -24,8 +21,8 @@ returns-in_err-self-inside-clause-on g c =
 pub returns-in_err-self-inside-clause-right : goal.returns-in_err-self-inside-clause-right
 returns-in_err-self-inside-clause-right g c =
     let kept = g.K.Known.kept c.args.known.now in
-    let w = world c.args.graph.now c.args.sources.now.texts (after kept c.self.inside.given) in
-    let right : IsRight (world c.args.graph.now c.args.sources.now.texts (after kept c.self.inside.given)) (seen_so c.self.inside.walk c.self.inside.given c.self.inside.result) = subst (λ (s : Walked). IsRight (world c.args.graph.now c.args.sources.now.texts (after kept s.given)) s) (sym c.self.view_is) c.requires.right in
+    let w = world c.args.planned.now c.args.sources.now.texts (after kept c.self.inside.given) in
+    let right : IsRight (world c.args.planned.now c.args.sources.now.texts (after kept c.self.inside.given)) (seen_so c.self.inside.walk c.self.inside.given c.self.inside.result) = subst (λ (s : Walked). IsRight (world c.args.planned.now c.args.sources.now.texts (after kept s.given)) s) (sym c.self.view_is) c.requires.right in
     stays_right _ c.walk_from_root.new.walk c.walk_from_root.ensures.on c.self.inside.given c.self.inside.result w right c.walk_from_root.ensures.holds c.self.inside.result
     (still_found _ c.walk_from_root.new.walk c.walk_from_root.ensures.on c.self.inside.given c.self.inside.result w right)
 
@@ -36,8 +33,8 @@ returns-clause-on g c =
 pub returns-clause-right : goal.returns-clause-right
 returns-clause-right g c =
     let kept = g.K.Known.kept c.args.known.now in
-    let w = world c.args.graph.now c.args.sources.now.texts (after kept c.self.inside.given) in
-    let right : IsRight (world c.args.graph.now c.args.sources.now.texts (after kept c.self.inside.given)) (seen_so c.self.inside.walk c.self.inside.given c.self.inside.result) = subst (λ (s : Walked). IsRight (world c.args.graph.now c.args.sources.now.texts (after kept s.given)) s) (sym c.self.view_is) c.requires.right in
+    let w = world c.args.planned.now c.args.sources.now.texts (after kept c.self.inside.given) in
+    let right : IsRight (world c.args.planned.now c.args.sources.now.texts (after kept c.self.inside.given)) (seen_so c.self.inside.walk c.self.inside.given c.self.inside.result) = subst (λ (s : Walked). IsRight (world c.args.planned.now c.args.sources.now.texts (after kept s.given)) s) (sym c.self.view_is) c.requires.right in
     stays_right _ c.walk_from_root.new.walk c.walk_from_root.ensures.on c.self.inside.given c.self.inside.result w right c.walk_from_root.ensures.holds c.in_ok-self-inside.field-0
     (found_of w c.walk_from_root.new.walk.root c.walk_from_root.new.walk.wanted c.in_ok-self-inside.field-0 c.in_ok-self-inside.ensures.after)
 
