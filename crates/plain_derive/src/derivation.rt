@@ -11,7 +11,7 @@ use crate::running::run_wanted;
 use derive_walk::{Found, NothingKept, Walker};
 use object_values::{Copied, Node, Sources};
 use odin_outside::{Spawner, Steps};
-use path_planner::Plans;
+use path_planner::{PlannedGraph, Plans};
 use std::alloc::Global;
 use std::marker::Brand;
 use std::sync::ledger::{Blank, Ledger};
@@ -38,35 +38,34 @@ pub fn derive_plain<S: Spawner>(
         (S.told tools.old) (S.told tools.new)) }
     ensures rest { ComeToRest (S.told tools.old) (S.told tools.new) result }
 {
-    derive_counted::<S, Brand>(alloc, graph, plans, sources, node, tools, Blank::new(1))
+    let planned = PlannedGraph::new(graph, plans);
+    derive_counted::<S, Brand>(alloc, &planned, sources, node, tools, Blank::new(1))
 }
 
 // The same with a counter of steps, which nobody reads.
 fn derive_counted<S: Spawner, L: Ledger>(
     alloc: Global,
-    graph: &Graph,
-    plans: &Plans,
+    planned: &PlannedGraph<'_>,
     sources: &Sources,
     node: &Node,
     tools: &mut S,
     blank: Blank,
 ) -> Result<Found, PlainFault>
     requires blank { (blank.name ≡ L.name) × (blank.parts ≡ L.parts) × (0 < L.parts) }
-    requires spellable { IsSpellable graph.now }
-    requires made { plans.now ≡ plans_of graph.now }
-    requires fits { Fits graph.now node.now }
+    requires spellable { IsSpellable planned.now }
+    requires fits { Fits planned.now node.now }
     requires sources { AreSources sources.now.texts }
     requires idle { (S.told tools.old).running ≡ [] }
-    ensures found { IfOk result (HasDerived graph.now sources.now.texts node.now
+    ensures found { IfOk result (HasDerived planned.now sources.now.texts node.now
         (S.told tools.old) (S.told tools.new)) }
-    ensures given_up { IfErr result (HasGivenUp graph.now sources.now.texts node.now
+    ensures given_up { IfErr result (HasGivenUp planned.now sources.now.texts node.now
         (S.told tools.old) (S.told tools.new)) }
 {
     let mut steps: Steps<L> = Steps::new(blank);
     let mut walker = Walker::new(alloc, node.copy(alloc)?);
     // Bounded, so that no proof of an end is owed: no derivation comes to so many turns, and one that did would say that memory is wanted.
     for _ in 0..u64::MAX {
-        walker.advance(alloc, graph, plans, sources, &NothingKept, &mut steps)?;
+        walker.advance(alloc, planned, sources, &NothingKept, &mut steps)?;
         if walker.result().is_some() {
             break;
         }

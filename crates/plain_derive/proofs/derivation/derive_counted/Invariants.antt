@@ -5,7 +5,7 @@ use Rattle.plain_derive.proofs.derivation.derive_counted.Given as goal
 
 abbrev pub invariant-loop : goal.invariant-loop
 invariant-loop g l = record {
-  way : IsOnWay l.graph l.sources.texts l.node (g.S.Spawner.told l.fn.tools) l.walker (g.S.Spawner.told l.tools);
+  way : IsOnWay l.planned l.sources.texts l.node (g.S.Spawner.told l.fn.tools) l.walker (g.S.Spawner.told l.tools);
   none : l.walker.result ≡ None;
   idle : (g.S.Spawner.told l.tools).running ≡ [];
 }
