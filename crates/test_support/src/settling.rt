@@ -3,37 +3,33 @@ ghost use Rattle.std.specs.Prelude.{◌≡◌, ◌≢◌, [], IfOk, option_map};
 ghost use Rattle.meaning_tasks.specs.Nodes.{Fits};
 ghost use Rattle.meaning_calls.specs.Outcomes.{outcome_of};
 ghost use Rattle.meaning_tasks.specs.Settle.{Settles, SourceLookup};
-ghost use Rattle.path_planner.specs.Ends.{plans_of};
 ghost use Rattle.node_tasks.specs.Needed.{IsNeeded};
 
-use node_tasks::{Needed, Results, settle};
+use node_tasks::{Needed, Results, settle_in};
 use object_values::{Call, Memory, Node, Outcome, Raw, View};
-use path_planner::Plans;
+use path_planner::PlannedGraph;
 use std::alloc::Global;
 use tool_calls::outcome_of;
-use type_graph::Graph;
 
 /// What a node with steps settles to, where its tool, if one is run, leaves this.
 pub fn settle_after<R: Results>(
     alloc: Global,
-    graph: &Graph,
-    plans: &Plans,
+    planned: &PlannedGraph<'_>,
     node: &Node,
     needed: &Needed,
     seen: &R,
     call: Option<&Call>,
     left: &Raw,
 ) -> Result<View, Memory>
-    requires made { plans.now ≡ plans_of graph.now }
-    requires fits { Fits graph.now node.now }
-    requires needed { IsNeeded graph.now node.now (R.results seen.now) needed.now }
+    requires fits { Fits planned.now node.now }
+    requires needed { IsNeeded planned.now node.now (R.results seen.now) needed.now }
     requires stepped { node.now.steps ≢ [] }
     ensures { let outcome = option_map (λ c. outcome_of c.now left.now) call.entry in
         IfOk result (λ view. (texts : SourceLookup) →
-        Settles graph.now texts node.now (R.results seen.now) outcome view) }
+        Settles planned.now texts node.now (R.results seen.now) outcome view) }
 {
     let outcome = outcome_after(alloc, call, left)?;
-    settle(alloc, graph, plans, node, needed, seen, outcome.as_ref())
+    settle_in(alloc, planned, node, needed, seen, outcome.as_ref())
 }
 
 fn outcome_after(alloc: Global, call: Option<&Call>, left: &Raw) -> Result<Option<Outcome>, Memory>
