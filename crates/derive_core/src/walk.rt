@@ -19,7 +19,7 @@ use derive_walk::{Found, Walker};
 use kept_tables::Looks;
 use object_values::{Call, Memory, Node, Outcome, Sources};
 use odin_outside::Steps;
-use path_planner::Plans;
+use path_planner::{PlannedGraph, Plans};
 use std::alloc::Global;
 use std::marker::Model;
 use std::sync::ledger::Ledger;
@@ -83,9 +83,34 @@ impl Core {
         ensures counted { LooksAreFew (met_by self.old) (met_by self.new)
             steps.old steps.new (lost result) }
     {
+        let planned = PlannedGraph::new(graph, plans);
+        self.advance_in(alloc, &planned, sources, looks, steps)
+    }
+
+    /// The same in a graph with its plans.
+    pub fn advance_in<L: Ledger>(
+        &mut self,
+        alloc: Global,
+        planned: &PlannedGraph<'_>,
+        sources: &Sources,
+        looks: &Looks<'_>,
+        steps: &mut Steps<L>,
+    ) -> Result<(), Memory>
+        requires spellable { IsSpellable planned.now }
+        requires sources { AreSources sources.now.texts }
+        requires right { let calls = looks.now.kept.now.tables.calls in
+            IsRight (kept_world planned.now sources.now.texts calls self.old.given) self.old }
+        ensures on { ExtendsWalk self.old self.new }
+        ensures right { let calls = looks.now.kept.now.tables.calls in
+            IsRight (kept_world planned.now sources.now.texts calls self.new.given) self.new }
+        ensures advanced { let calls = looks.now.kept.now.tables.calls in
+            OnOk result (IsAdvanced
+            (kept_world planned.now sources.now.texts calls self.new.given) self.new) }
+        ensures counted { LooksAreFew (met_by self.old) (met_by self.new)
+            steps.old steps.new (lost result) }
+    {
         let known = KeptCalls { looks };
-        self.walker
-            .advance(alloc, graph, plans, sources, &known, steps)
+        self.walker.advance(alloc, planned, sources, &known, steps)
     }
 
     /// The outcome of a wanted call, which is wanted no more. After want of memory all is as before.
