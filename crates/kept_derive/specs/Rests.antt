@@ -5,14 +5,12 @@ use Rattle.odin_outside.specs.Spawned.{Spawned}
 use Rattle.meaning_graph.specs.Graphs.{Graph}
 use Rattle.meaning_graph.specs.Grammar.{IsSpellable}
 use Rattle.meaning_tasks.specs.Nodes.{Fits}
-use Rattle.path_planner.specs.Ends.{Planned, plans_of}
 use Rattle.kept_derive.specs.declared.fault.KeptFault.{KeptFault}
 use Rattle.kept_derive.specs.declared.fault.KeptFault.TheVariants.{Spawn}
 
--- The node is one of the graph, which has these plans.
-pub record IsDerivable (g : Graph) (plans : Planned) (n : Node) : Type 0 where
+-- The node is one of the graph.
+pub record IsDerivable (g : Graph) (n : Node) : Type 0 where
   pub spellable : IsSpellable g
-  pub made : plans ≡ plans_of g
   pub fits : Fits g n
 
 -- the faults that leave what runs: all but a tool that was not started, or whose end was lost

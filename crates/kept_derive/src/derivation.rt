@@ -1,5 +1,5 @@
 // Derivation of a node over what a store keeps.
-ghost use Rattle.std.specs.Prelude.{◌≡◌, IfOk, IfErr};
+ghost use Rattle.std.specs.Prelude.{IfOk, IfErr};
 ghost use Rattle.kept_derive.specs.Calls.{MayDerive};
 ghost use Rattle.kept_derive.specs.Faults.{KeptFaultIsCounted, StoreAfterDerive};
 ghost use Rattle.kept_derive.specs.Looked.{AreLooks};
@@ -16,17 +16,15 @@ use object_values::{Copied, Node};
 use odin_outside::{Disk, Spawner, Steps};
 use odin_store::Store;
 use odin_store::laws::changes_follow;
-use path_planner::Plans;
+use path_planner::PlannedGraph;
 use std::alloc::Global;
 use std::sync::ledger::Ledger;
-use type_graph::Graph;
 
 /// The view of the node, or the chain for which it is refused. Each look at a kept call is a step. At most `limit` tools run at once; after
 /// `Spawn` none does, and after the other faults what runs is left.
 pub fn derive_kept<D: Disk, S: Spawner, L: Ledger>(
     alloc: Global,
-    graph: &Graph,
-    plans: &Plans,
+    planned: &PlannedGraph<'_>,
     store: &mut Store,
     disk: &mut D,
     node: &Node,
@@ -34,25 +32,27 @@ pub fn derive_kept<D: Disk, S: Spawner, L: Ledger>(
     tools: &mut S,
     steps: &mut Steps<L>,
 ) -> Result<Found, KeptFault>
-    requires derivable { IsDerivable graph.now plans.now node.now }
+    requires derivable { IsDerivable planned.now node.now }
     requires may { MayDerive store.old (D.size_of disk.old) limit (S.told tools.old) }
-    ensures found { let old = at store.old disk.old (S.told tools.old) in IfOk result
-        (HasFound D.told graph.now node.now limit old (at store.new disk.new (S.told tools.new))) }
-    ensures stopped { let old = at store.old disk.old (S.told tools.old) in IfErr result
-        (IsStopped D.told graph.now node.now limit old (at store.new disk.new (S.told tools.new))) }
+    ensures found { let old = at store.old disk.old (S.told tools.old) in
+        IfOk result (HasFound D.told planned.now node.now limit
+        old (at store.new disk.new (S.told tools.new))) }
+    ensures stopped { let old = at store.old disk.old (S.told tools.old) in
+        IfErr result (IsStopped D.told planned.now node.now limit
+        old (at store.new disk.new (S.told tools.new))) }
     ensures left { StoreAfterDerive store.new (D.size_of disk.new) result }
     ensures cause { KeptFaultIsCounted (D.faults disk.old) (D.faults disk.new) result }
     ensures rest { ComesToRest LeavesTools limit (S.told tools.old) (S.told tools.new) result }
     ensures counted { let old = at store.old disk.old (S.told tools.old) in
-        AreLooks D.told graph.now node.now limit old (at store.new disk.new (S.told tools.new))
+        AreLooks D.told planned.now node.now limit old (at store.new disk.new (S.told tools.new))
         steps.old steps.new result }
 {
-    graph.checked();
+    planned.graph().checked();
     changes_follow::<D>();
     let mut core = Core::new(alloc, node.copy(alloc)?);
     let mut jobs = Jobs::new(alloc, limit);
     let flown = fly(
-        alloc, graph, plans, &mut core, &mut jobs, store, disk, tools, steps,
+        alloc, planned, &mut core, &mut jobs, store, disk, tools, steps,
     )?;
     if jobs.running() > 0 {
         drain(alloc, &mut core, &mut jobs, store, disk, tools)?;

@@ -1,7 +1,6 @@
 // The tools of a derivation: started, waited for, and drained.
-ghost use Rattle.std.specs.Prelude.{◌≡◌, ◌≤◌, length, OnOk, IfOk, IfErr, option_map};
+ghost use Rattle.std.specs.Prelude.{◌≤◌, length, OnOk, IfOk, IfErr, option_map};
 ghost use Rattle.meaning_graph.specs.Grammar.{IsSpellable};
-ghost use Rattle.path_planner.specs.Ends.{plans_of};
 ghost use Rattle.derive_walk.specs.Looks.{LooksAreFew, lost, met_by};
 ghost use Rattle.derive_walk.specs.Walks.{IsRight, IsAdvanced, ExtendsWalk};
 ghost use Rattle.kept_derive.specs.Calls.{IsIdle, MayDrain};
@@ -20,10 +19,9 @@ use object_values::{Call, Memory};
 use odin_outside::{Disk, Spawner, Steps};
 use odin_store::Store;
 use odin_store::laws::changes_follow;
-use path_planner::Plans;
+use path_planner::PlannedGraph;
 use std::alloc::Global;
 use std::sync::ledger::Ledger;
-use type_graph::Graph;
 
 /// What a flight came to: something was found of the root, or a tool was not started or its end lost.
 #[derive(Clone, Copy, PartialEq, Eq)]
@@ -36,8 +34,7 @@ pub(crate) enum Flown {
 /// started; or, where a slot is free and an outcome came since, the walk goes on; or an end is waited for.
 pub(crate) fn fly<D: Disk, S: Spawner, L: Ledger>(
     alloc: Global,
-    graph: &Graph,
-    plans: &Plans,
+    planned: &PlannedGraph<'_>,
     core: &mut Core,
     jobs: &mut Jobs,
     store: &mut Store,
@@ -45,22 +42,22 @@ pub(crate) fn fly<D: Disk, S: Spawner, L: Ledger>(
     tools: &mut S,
     steps: &mut Steps<L>,
 ) -> Result<Flown, KeptFault>
-    requires derivable { IsDerivable graph.now plans.now core.old.root }
+    requires derivable { IsDerivable planned.now core.old.root }
     requires unbegun { IsUnbegun core.old jobs.old }
     requires idle { IsIdle store.old (D.size_of disk.old) (S.told tools.old) }
     ensures flown { let old = at store.old disk.old (S.told tools.old) in
-        IfOk result (HasFlown D.told graph.now core.old.root jobs.old.limit old
+        IfOk result (HasFlown D.told planned.now core.old.root jobs.old.limit old
         core.new jobs.new (at store.new disk.new (S.told tools.new))) }
     ensures stopped { let old = at store.old disk.old (S.told tools.old) in
-        IfErr result (IsStopped D.told graph.now core.old.root jobs.old.limit
+        IfErr result (IsStopped D.told planned.now core.old.root jobs.old.limit
         old (at store.new disk.new (S.told tools.new))) }
     ensures left { StoreAfterDerive store.new (D.size_of disk.new) result }
     ensures cause { KeptFaultIsCounted (D.faults disk.old) (D.faults disk.new) result }
     ensures counted { let old = at store.old disk.old (S.told tools.old) in
-        FlightLooks D.told graph.now core.old.root jobs.old.limit
+        FlightLooks D.told planned.now core.old.root jobs.old.limit
         old (at store.new disk.new (S.told tools.new)) core.new steps.old steps.new result }
 {
-    graph.checked();
+    planned.graph().checked();
     store.kept().fit();
     changes_follow::<D>();
     let mut fresh = false;
@@ -78,7 +75,7 @@ pub(crate) fn fly<D: Disk, S: Spawner, L: Ledger>(
                 Landed::Lost => return Ok(Flown::Cut),
             }
         } else {
-            advance(alloc, core, graph, plans, store, steps)?;
+            advance(alloc, core, planned, store, steps)?;
             if core.result().is_some() {
                 return Ok(Flown::Found);
             }
@@ -135,21 +132,19 @@ pub(crate) fn drain<D: Disk, S: Spawner>(
 fn advance<L: Ledger>(
     alloc: Global,
     core: &mut Core,
-    graph: &Graph,
-    plans: &Plans,
+    planned: &PlannedGraph<'_>,
     store: &Store,
     steps: &mut Steps<L>,
 ) -> Result<(), Memory>
-    requires spellable { IsSpellable graph.now }
-    requires made { plans.now ≡ plans_of graph.now }
-    requires right { IsRight (store_world graph.now store.now core.old.given) core.old }
+    requires spellable { IsSpellable planned.now }
+    requires right { IsRight (store_world planned.now store.now core.old.given) core.old }
     ensures on { ExtendsWalk core.old core.new }
-    ensures right { IsRight (store_world graph.now store.now core.new.given) core.new }
+    ensures right { IsRight (store_world planned.now store.now core.new.given) core.new }
     ensures advanced { OnOk result
-        (IsAdvanced (store_world graph.now store.now core.new.given) core.new) }
+        (IsAdvanced (store_world planned.now store.now core.new.given) core.new) }
     ensures counted { LooksAreFew (met_by core.old) (met_by core.new)
         steps.old steps.new (lost result) }
 {
     let looks = store.kept().looks();
-    core.advance(alloc, graph, plans, store.sources(), &looks, steps)
+    core.advance_in(alloc, planned, store.sources(), &looks, steps)
 }

@@ -6,11 +6,11 @@ use Rattle.derive_walk.specs.Walks.{IsAdvanced}
 use Rattle.derive_core.specs.Kept.{kept_world}
 use Rattle.kept_derive.proofs.flight.advance.Goals as goal
 
-pub advance-requires-clause-sources : goal.advance-requires-clause-sources
-advance-requires-clause-sources g c = subst AreSources (sym (ap (λ z. z.texts) c.sources.ensures)) c.args.store.now.are
+pub advance_in-requires-clause-sources : goal.advance_in-requires-clause-sources
+advance_in-requires-clause-sources g c = subst AreSources (sym (ap (λ z. z.texts) c.sources.ensures)) c.args.store.now.are
 
 pub returns-clause-advanced : goal.returns-clause-advanced
 returns-clause-advanced g c =
     let sources = ap (λ z. z.texts) c.sources.ensures in
     let calls = ap (λ (z : Tables). z.calls) (c.looks-looks.ensures ∙ ap (λ (z : Holding). z.tables) c.kept.ensures) in
-    subst (λ w. OnOk c.advance.result (IsAdvanced w c.advance.new.self)) (λ i. kept_world c.args.graph.now (sources i) (calls i) c.advance.new.self.given) c.advance.ensures.advanced
+    subst (λ w. OnOk c.advance_in.result (IsAdvanced w c.advance_in.new.self)) (λ i. kept_world c.args.planned.now (sources i) (calls i) c.advance_in.new.self.given) c.advance_in.ensures.advanced

@@ -49,10 +49,10 @@ returns-in-Err-Memory-clause-counted g c = gives_up_looked g.D.Disk.told _ _ _ _
 pub land-requires : goal.land-requires
 land-requires g c =
     let next = subst (λ l. IsNextStart l c.loop.jobs None) c.wanted.ensures c.in_default.ensures in
-    let fresh : IsFresh (store_world c.args.graph.now c.loop.store c.loop.core.given) c.loop.core c.loop.jobs =
+    let fresh : IsFresh (store_world c.args.planned.now c.loop.store c.loop.core.given) c.loop.core c.loop.jobs =
     elim c.if-fresh.branch [ then-fresh w ↦ inr (c.loop.invariant.fresh w.if-fresh.true) | else-fresh w ↦ inl (w.is_full.ensures.0 (sym w.value-is ∙ c.if-is_full.true)) ] in
     record {
-      may = may_drain g.D.Disk.told _ _ _ _ _ _ _ c.loop.invariant.way c.requires.derivable.spellable c.checked.ensures c.loop.store.are c.requires.idle.none _ c.loop.invariant.ready;
+      may = may_drain g.D.Disk.told _ _ _ _ _ _ _ c.loop.invariant.way c.requires.derivable.spellable (rw c.graph.ensures at c.checked.ensures) c.loop.store.are c.requires.idle.none _ c.loop.invariant.ready;
       one = one_runs g.D.Disk.told _ _ _ _ _ _ _ c.loop.invariant.way (subst (λ k. 0 < k) (sym c.loop.invariant.limit) c.requires.unbegun.some) c.loop.invariant.still next fresh;
     }
 
@@ -60,7 +60,7 @@ pub returns-in_err-land-clause-stopped : goal.returns-in_err-land-clause-stopped
 returns-in_err-land-clause-stopped g c =
     let given = err_from_is_err_and _ c.from_residual.ensures.1 in
     let next = subst (λ l. IsNextStart l c.loop.jobs None) c.wanted.ensures c.in_default.ensures in
-    let fresh : IsFresh (store_world c.args.graph.now c.loop.store c.loop.core.given) c.loop.core c.loop.jobs =
+    let fresh : IsFresh (store_world c.args.planned.now c.loop.store c.loop.core.given) c.loop.core c.loop.jobs =
     elim c.if-fresh.branch [ then-fresh w ↦ inr (c.loop.invariant.fresh w.if-fresh.true) | else-fresh w ↦ inl (w.is_full.ensures.0 (sym w.value-is ∙ c.if-is_full.true)) ] in
     let may = may_wait g.D.Disk.told _ _ _ _ _ _ _ c.loop.invariant.way c.loop.invariant.still next fresh in
     stopped_at _ _ _ _ _ _ _ _ _ (given.1 ∙ ap (λ f. Err f) given.2) c.loop.invariant.limit (fails g.D.Disk.told _ _ _ _ _ _ _ c.loop.invariant.way may c.changes_follow.ensures _ _ _ _ c.in_err-land.ensures.fails)
@@ -69,7 +69,7 @@ pub returns-in_err-land-clause-counted : goal.returns-in_err-land-clause-counted
 returns-in_err-land-clause-counted g c =
     let given = err_from_is_err_and _ c.from_residual.ensures.1 in
     let next = subst (λ l. IsNextStart l c.loop.jobs None) c.wanted.ensures c.in_default.ensures in
-    let fresh : IsFresh (store_world c.args.graph.now c.loop.store c.loop.core.given) c.loop.core c.loop.jobs =
+    let fresh : IsFresh (store_world c.args.planned.now c.loop.store c.loop.core.given) c.loop.core c.loop.jobs =
     elim c.if-fresh.branch [ then-fresh w ↦ inr (c.loop.invariant.fresh w.if-fresh.true) | else-fresh w ↦ inl (w.is_full.ensures.0 (sym w.value-is ∙ c.if-is_full.true)) ] in
     let may = may_wait g.D.Disk.told _ _ _ _ _ _ _ c.loop.invariant.way c.loop.invariant.still next fresh in
     flight_looks_at _ _ _ _ _ _ _ _ _ _ _ _ (given.1 ∙ ap (λ f. Err f) given.2) c.loop.invariant.limit (fails_looked g.D.Disk.told _ _ _ _ _ _ _ c.loop.invariant.way may _ _ _ _ _ _ c.in_err-land.ensures.fails c.loop.invariant.counted)
@@ -77,7 +77,7 @@ returns-in_err-land-clause-counted g c =
 pub returns-in-Lost-clause-flown : goal.returns-in-Lost-clause-flown
 returns-in-Lost-clause-flown g c =
     let next = subst (λ l. IsNextStart l c.loop.jobs None) c.wanted.ensures c.in_default.ensures in
-    let fresh : IsFresh (store_world c.args.graph.now c.loop.store c.loop.core.given) c.loop.core c.loop.jobs =
+    let fresh : IsFresh (store_world c.args.planned.now c.loop.store c.loop.core.given) c.loop.core c.loop.jobs =
     elim c.if-fresh.branch [ then-fresh w ↦ inr (c.loop.invariant.fresh w.if-fresh.true) | else-fresh w ↦ inl (w.is_full.ensures.0 (sym w.value-is ∙ c.if-is_full.true)) ] in
     let may = may_wait g.D.Disk.told _ _ _ _ _ _ _ c.loop.invariant.way c.loop.invariant.still next fresh in
     record {
@@ -115,12 +115,12 @@ returns-then-is_some-clause-flown g c = record {
 pub loop-preserved : goal.loop-preserved
 loop-preserved g c =
     let first = at c.args.store.now c.args.disk.now (g.S.Spawner.told c.args.tools.now) in
-    let it : IsFlying g.D.Disk.told g.D.Disk.size_of g.D.Disk.faults c.args.graph.now c.args.core.now.root c.args.jobs.now.limit first c.args.steps.now c.match-next_call.core c.match-next_call.jobs c.match-next_call.store c.match-next_call.disk
+    let it : IsFlying g.D.Disk.told g.D.Disk.size_of g.D.Disk.faults c.args.planned.now c.args.core.now.root c.args.jobs.now.limit first c.args.steps.now c.match-next_call.core c.match-next_call.jobs c.match-next_call.store c.match-next_call.disk
     (g.S.Spawner.told c.match-next_call.tools) c.match-next_call.steps c.match-next_call.fresh =
     elim c.match-next_call.branch [
       | in-Some+in-Ok w ↦
           let next = subst (λ l. IsStartable l c.loop.jobs w.in-Some.call.now) c.wanted.ensures w.in-Some.ensures in
-          flying_moves g.D.Disk.told g.D.Disk.size_of g.D.Disk.faults c.args.graph.now c.args.core.now.root c.args.jobs.now.limit first c.args.steps.now w.core-is w.jobs-is w.store-is w.disk-is (ap g.S.Spawner.told w.tools-is) w.steps-is w.fresh-is (record {
+          flying_moves g.D.Disk.told g.D.Disk.size_of g.D.Disk.faults c.args.planned.now c.args.core.now.root c.args.jobs.now.limit first c.args.steps.now w.core-is w.jobs-is w.store-is w.disk-is (ap g.S.Spawner.told w.tools-is) w.steps-is w.fresh-is (record {
             way = starts g.D.Disk.told _ _ _ _ _ _ c.loop.invariant.way c.loop.invariant.still w.in-Some.call.now _ _ next w.in-Ok.ensures.ok;
             still = c.loop.invariant.still;
             fresh = c.loop.invariant.fresh;
@@ -131,14 +131,14 @@ loop-preserved g c =
           })
       | in_default+then-is_full+in_ok-land+in-Kept w ↦
           let next = subst (λ l. IsNextStart l c.loop.jobs None) c.wanted.ensures w.in_default.ensures in
-          let fresh : IsFresh (store_world c.args.graph.now c.loop.store c.loop.core.given) c.loop.core c.loop.jobs =
+          let fresh : IsFresh (store_world c.args.planned.now c.loop.store c.loop.core.given) c.loop.core c.loop.jobs =
           elim w.if-fresh.branch [ then-fresh v ↦ inr (c.loop.invariant.fresh v.if-fresh.true) | else-fresh v ↦ inl (v.is_full.ensures.0 (sym v.value-is ∙ w.if-is_full.true)) ] in
           let may = may_wait g.D.Disk.told _ _ _ _ _ _ _ c.loop.invariant.way c.loop.invariant.still next fresh in
-          let drain = may_drain g.D.Disk.told _ _ _ _ _ _ _ c.loop.invariant.way c.requires.derivable.spellable c.checked.ensures c.loop.store.are c.requires.idle.none _ c.loop.invariant.ready in
+          let drain = may_drain g.D.Disk.told _ _ _ _ _ _ _ c.loop.invariant.way c.requires.derivable.spellable (rw c.graph.ensures at c.checked.ensures) c.loop.store.are c.requires.idle.none _ c.loop.invariant.ready in
           let has = kept_is g.D.Disk.told _ _ _ _ _ _ _ w.in-Kept.is w.in_ok-land.ensures.lands in
-          flying_moves g.D.Disk.told g.D.Disk.size_of g.D.Disk.faults c.args.graph.now c.args.core.now.root c.args.jobs.now.limit first c.args.steps.now w.core-is w.jobs-is w.store-is w.disk-is (ap g.S.Spawner.told w.tools-is) w.steps-is w.fresh-is (record {
+          flying_moves g.D.Disk.told g.D.Disk.size_of g.D.Disk.faults c.args.planned.now c.args.core.now.root c.args.jobs.now.limit first c.args.steps.now w.core-is w.jobs-is w.store-is w.disk-is (ap g.S.Spawner.told w.tools-is) w.steps-is w.fresh-is (record {
             way = lands g.D.Disk.told _ _ _ _ _ _ _ c.loop.invariant.way may c.changes_follow.ensures _ _ _ has
-                (w.in_ok-land.ensures.right c.args.graph.now c.args.store.now.sources.texts (known_in c.args.store.now) c.loop.invariant.way.right);
+                (w.in_ok-land.ensures.right c.args.planned.now c.args.store.now.sources.texts (known_in c.args.store.now) c.loop.invariant.way.right);
             still = has.given.result ∙ c.loop.invariant.still;
             fresh = λ e. let no : false ≡ true = e in cc;
             ready = w.in_ok-land.ensures.left.ready;
@@ -148,7 +148,7 @@ loop-preserved g c =
           })
       | in_default+else-is_full+in_ok-advance+else-is_some w ↦
           let still : w.advance.new.core.result ≡ None = search rules in
-          flying_moves g.D.Disk.told g.D.Disk.size_of g.D.Disk.faults c.args.graph.now c.args.core.now.root c.args.jobs.now.limit first c.args.steps.now w.core-is w.jobs-is w.store-is w.disk-is (ap g.S.Spawner.told w.tools-is) w.steps-is w.fresh-is (record {
+          flying_moves g.D.Disk.told g.D.Disk.size_of g.D.Disk.faults c.args.planned.now c.args.core.now.root c.args.jobs.now.limit first c.args.steps.now w.core-is w.jobs-is w.store-is w.disk-is (ap g.S.Spawner.told w.tools-is) w.steps-is w.fresh-is (record {
             way = advances g.D.Disk.told _ _ _ _ _ _ c.loop.invariant.way _ w.in_ok-advance.ensures.on w.in_ok-advance.ensures.right w.in_ok-advance.ensures.advanced;
             still = still;
             fresh = λ e. w.in_ok-advance.ensures.advanced;

@@ -10,9 +10,9 @@ use Rattle.kept_derive.proofs.flight.fly.Given as goal
 
 abbrev pub invariant-loop : goal.invariant-loop
 invariant-loop g l = record {
-  way : IsOnWay g.D.Disk.told l.graph l.fn.core.root on_course (at l.fn.store l.fn.disk (g.S.Spawner.told l.fn.tools)) l.core l.jobs (at l.store l.disk (g.S.Spawner.told l.tools));
+  way : IsOnWay g.D.Disk.told l.planned l.fn.core.root on_course (at l.fn.store l.fn.disk (g.S.Spawner.told l.fn.tools)) l.core l.jobs (at l.store l.disk (g.S.Spawner.told l.tools));
   still : l.core.result ≡ None;
-  fresh : IsTrue l.fresh → IsAdvanced (store_world l.graph l.store l.core.given) l.core;
+  fresh : IsTrue l.fresh → IsAdvanced (store_world l.planned l.store l.core.given) l.core;
   ready : IsReady l.store.journal (g.D.Disk.size_of l.disk);
   limit : l.jobs.limit ≡ l.fn.jobs.limit;
   cause : g.D.Disk.faults l.disk ≡ g.D.Disk.faults l.fn.disk;
