@@ -14,6 +14,7 @@ use crate::fault::AskFault;
 use kept_derive::{Found, KeptFault, derive_kept};
 use object_values::{Node, View};
 use odin_outside::{Disk, Spawner, Steps};
+use path_planner::PlannedGraph;
 use std::alloc::Global;
 use std::sync::ledger::Ledger;
 
@@ -69,10 +70,10 @@ impl Engine {
         ensures rest { ComesToRest LeavesKept self.old.jobs
             (S.told tools.old) (S.told tools.new) result }
     {
+        let planned = PlannedGraph::new(&self.graph, &self.plans);
         derive_kept(
             alloc,
-            &self.graph,
-            &self.plans,
+            &planned,
             &mut self.store,
             disk,
             node,

@@ -1,31 +1,27 @@
 // What a text asks for.
-ghost use Rattle.std.specs.Prelude.{◌≡◌, ◌<◌, ◌^◌, length, IfOk, IfErr};
+ghost use Rattle.std.specs.Prelude.{◌<◌, ◌^◌, length, IfOk, IfErr};
 ghost use Rattle.meaning_texts.specs.Expressions.{ExpressionText};
 ghost use Rattle.meaning_graph.specs.Graphs.{Text};
 ghost use Rattle.odin_engine.specs.Asked.{IsNodeOf, IsRefusedFor, IsFaultOf, IsStepFault};
-ghost use Rattle.path_planner.specs.Ends.{plans_of};
 
 use crate::fault::AskFault;
 use object_values::{Expression, Node};
 use odin_nodes::{NodeFault, node_from};
-use path_planner::Plans;
+use path_planner::PlannedGraph;
 use request_parser::{ExpressionFault, read_expression};
 use std::alloc::Global;
-use type_graph::Graph;
 
 /// The node that a text asks for, or why it asks for none.
 pub(crate) fn node_of_text(
     alloc: Global,
-    graph: &Graph,
-    plans: &Plans,
+    planned: &PlannedGraph<'_>,
     text: &[u8],
 ) -> Result<Node, AskFault>
-    requires made { plans.now ≡ plans_of graph.now }
-    ensures ok { IfOk result (IsNodeOf graph.now text.now) }
-    ensures err { IfErr result (IsRefusedFor graph.now text.now) }
+    ensures ok { IfOk result (IsNodeOf planned.now text.now) }
+    ensures err { IfErr result (IsRefusedFor planned.now text.now) }
 {
     match read_expression(alloc, text) {
-        Ok(expression) => node_by(alloc, graph, plans, expression),
+        Ok(expression) => node_by(alloc, planned, expression),
         Err(fault) => Err(no_expression(fault)),
     }
 }
@@ -33,18 +29,16 @@ pub(crate) fn node_of_text(
 // The node of an expression, or why it has none.
 fn node_by(
     alloc: Global,
-    graph: &Graph,
-    plans: &Plans,
+    planned: &PlannedGraph<'_>,
     expression: Expression,
 ) -> Result<Node, AskFault>
-    requires made { plans.now ≡ plans_of graph.now }
     requires few { length expression.steps < 2 ^ 32 }
     ensures ok { IfOk result (λ node. (text : Text) → ExpressionText text expression →
-        IsNodeOf graph.now text node) }
+        IsNodeOf planned.now text node) }
     ensures err { IfErr result (λ fault. (text : Text) → ExpressionText text expression →
-        IsRefusedFor graph.now text fault) }
+        IsRefusedFor planned.now text fault) }
 {
-    match node_from(alloc, graph, plans, expression) {
+    match node_from(alloc, planned, expression) {
         Ok(node) => Ok(node),
         Err(fault) => Err(no_node(fault)),
     }

@@ -1,6 +1,5 @@
 // The engine: its opening, and the edits of the sources.
 ghost use Rattle.std.specs.Prelude.{◌≡◌, ◌+◌, length, IfOk, IfErr, OnOk};
-ghost use Rattle.path_planner.specs.Ends.{plans_of};
 ghost use Rattle.odin_journal.specs.Faults.{JournalFaultIsCounted};
 ghost use Rattle.odin_journal.specs.Moments.{Works};
 ghost use Rattle.odin_journal.specs.Rest.{IsReady};
@@ -20,7 +19,7 @@ use odin_bytes::Name;
 use odin_outside::Disk;
 use odin_store::laws::edits_are_told;
 use odin_store::{Store, StoreFault};
-use path_planner::Plans;
+use path_planner::{PlannedGraph, Plans};
 use std::alloc::Global;
 use std::marker::Model;
 use type_graph::Graph;
@@ -149,7 +148,7 @@ impl Engine {
         ensures ok { IfOk result (IsNodeOf self.now.graph text.now) }
         ensures err { IfErr result (IsRefusedFor self.now.graph text.now) }
     {
-        node_of_text(alloc, &self.graph, &self.plans, text)
+        node_of_text(alloc, &self.planned(), text)
     }
 
     pub fn store(&self) -> &Store
@@ -171,10 +170,10 @@ impl Engine {
         self.jobs
     }
 
-    pub(crate) fn plans(&self) -> &Plans
-        ensures { result.now ≡ plans_of self.now.graph }
+    fn planned(&self) -> PlannedGraph<'_>
+        ensures { result ≡ self.now.graph }
     {
-        &self.plans
+        PlannedGraph::new(&self.graph, &self.plans)
     }
 }
 
