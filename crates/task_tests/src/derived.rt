@@ -1,8 +1,7 @@
 // Nodes that are derived from sources by tools, with nothing kept.
-ghost use Rattle.std.specs.Prelude.{◌≡◌, OnOk, IfOk};
+ghost use Rattle.std.specs.Prelude.{OnOk, IfOk};
 ghost use Rattle.meaning_graph.specs.Grammar.{IsSpellable};
 ghost use Rattle.meaning_derive.specs.Given.{AreSources};
-ghost use Rattle.path_planner.specs.Ends.{plans_of};
 
 use super::graphs::{C_UNITS, Text};
 use super::held::{Held, Said};
@@ -11,7 +10,7 @@ use super::shown::is_view;
 use object_values::{BODY_LIMIT, Bytes, Memory, Seq, Sources, Status};
 use odin_bytes::is_name;
 use odin_fakes::TableTools;
-use path_planner::Plans;
+use path_planner::{PlannedGraph, Plans};
 use plain_derive::{Found, derive_plain};
 use std::alloc::Global;
 use std::test::Fail;
@@ -83,14 +82,14 @@ fn sources_of(alloc: Global, rows: &[(Text, Text)]) -> Result<Sources, Memory>
 }
 
 // Whether the node of the row has its view, by just so many tools.
-fn derives(alloc: Global, graph: &Graph, plans: &Plans, row: &Row) -> Result<bool, Fault>
+fn derives(alloc: Global, graph: &Graph, row: &Row) -> Result<bool, Fault>
     requires spellable { IsSpellable graph.now }
-    requires made { plans.now ≡ plans_of graph.now }
 {
+    let plans = Plans::new(alloc, graph)?;
     let sources = sources_of(alloc, row.sources)?;
-    let node = node_in(alloc, graph, plans, row.node)?;
+    let node = node_in(alloc, &PlannedGraph::new(graph, &plans), row.node)?;
     let mut tools = TableTools::toy(alloc, Seq::new(alloc));
-    match derive_plain(alloc, graph, plans, &sources, &node, &mut tools) {
+    match derive_plain(alloc, graph, &plans, &sources, &node, &mut tools) {
         Ok(Found::Answer(view)) => {
             Ok(tools.starts() == row.starts && is_view(alloc, graph, &view, row.view)?)
         }
@@ -102,8 +101,7 @@ fn derives(alloc: Global, graph: &Graph, plans: &Plans, row: &Row) -> Result<boo
 fn comes_out(alloc: Global, row: &Row) -> Result<bool, Fault> {
     let text = text_of(alloc, &[C_UNITS])?;
     let graph = graph_of(alloc, text.as_slice())?;
-    let plans = Plans::new(alloc, &graph)?;
-    derives(alloc, &graph, &plans, row)
+    derives(alloc, &graph, row)
 }
 
 #[test]

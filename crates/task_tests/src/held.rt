@@ -1,15 +1,11 @@
 // Results as tables name them.
-ghost use Rattle.std.specs.Prelude.{◌≡◌};
-ghost use Rattle.path_planner.specs.Ends.{plans_of};
-
 use super::graphs::Text;
 use object_values::{
     Bytes, Memory, Message, Node, Part, Seq, SharedSeq, Status, Text as SharedText, Value, View,
 };
-use path_planner::Plans;
+use path_planner::PlannedGraph;
 use std::alloc::Global;
 use test_support::{Fault, Table, body_of, node_in};
-use type_graph::Graph;
 
 // A message: its level, its label and its text.
 pub(super) type Said = (Status, Text, Text);
@@ -70,12 +66,10 @@ fn messages_of(alloc: Global, all: &[Said]) -> Result<SharedSeq<Message>, Memory
     SharedSeq::of(messages)
 }
 
-fn nodes_of(alloc: Global, graph: &Graph, plans: &Plans, texts: &[Text]) -> Result<Seq<Node>, Fault>
-    requires made { plans.now ≡ plans_of graph.now }
-{
+fn nodes_of(alloc: Global, planned: &PlannedGraph<'_>, texts: &[Text]) -> Result<Seq<Node>, Fault> {
     let mut nodes = Seq::new(alloc);
     for text in texts {
-        nodes.push(node_in(alloc, graph, plans, text)?)?;
+        nodes.push(node_in(alloc, planned, text)?)?;
     }
     Ok(nodes)
 }
@@ -95,9 +89,7 @@ fn parts_of(alloc: Global, rows: &[(Text, Text)]) -> Result<Seq<Part>, Memory> {
     Ok(parts)
 }
 
-fn value_of(alloc: Global, graph: &Graph, plans: &Plans, held: Held) -> Result<Option<Value>, Fault>
-    requires made { plans.now ≡ plans_of graph.now }
-{
+fn value_of(alloc: Global, planned: &PlannedGraph<'_>, held: Held) -> Result<Option<Value>, Fault> {
     match held {
         Held::Simple(text) => Ok(Some(Value::Simple(body_of(alloc, text)?))),
         Held::Repeated(text, count) => {
@@ -105,18 +97,16 @@ fn value_of(alloc: Global, graph: &Graph, plans: &Plans, held: Held) -> Result<O
             Ok(Some(Value::Simple(body_of(alloc, bytes.as_slice())?)))
         }
         Held::Warned(text, _) => Ok(Some(Value::Simple(body_of(alloc, text)?))),
-        Held::List(texts) => Ok(Some(Value::List(nodes_of(alloc, graph, plans, texts)?))),
+        Held::List(texts) => Ok(Some(Value::List(nodes_of(alloc, planned, texts)?))),
         Held::Compound(rows) => Ok(Some(Value::Compound(parts_of(alloc, rows)?))),
         Held::Aborted(_) => Ok(None),
     }
 }
 
-fn view_of(alloc: Global, graph: &Graph, plans: &Plans, held: Held) -> Result<View, Fault>
-    requires made { plans.now ≡ plans_of graph.now }
-{
+fn view_of(alloc: Global, planned: &PlannedGraph<'_>, held: Held) -> Result<View, Fault> {
     let messages = messages_of(alloc, said_of(held))?;
     Ok(View {
-        value: value_of(alloc, graph, plans, held)?,
+        value: value_of(alloc, planned, held)?,
         status: status_of(held),
         messages,
     })
@@ -124,16 +114,13 @@ fn view_of(alloc: Global, graph: &Graph, plans: &Plans, held: Held) -> Result<Vi
 
 fn put_result(
     alloc: Global,
-    graph: &Graph,
-    plans: &Plans,
+    planned: &PlannedGraph<'_>,
     text: &[u8],
     held: Held,
     table: &mut Table,
-) -> Result<(), Fault>
-    requires made { plans.now ≡ plans_of graph.now }
-{
-    let node = node_in(alloc, graph, plans, text)?;
-    let view = view_of(alloc, graph, plans, held)?;
+) -> Result<(), Fault> {
+    let node = node_in(alloc, planned, text)?;
+    let view = view_of(alloc, planned, held)?;
     table.put(node, view)?;
     Ok(())
 }
@@ -141,15 +128,12 @@ fn put_result(
 // Adds what is found of nodes to a table.
 pub(super) fn put_results(
     alloc: Global,
-    graph: &Graph,
-    plans: &Plans,
+    planned: &PlannedGraph<'_>,
     results: &[(Text, Held)],
     table: &mut Table,
-) -> Result<(), Fault>
-    requires made { plans.now ≡ plans_of graph.now }
-{
+) -> Result<(), Fault> {
     for (text, held) in results {
-        put_result(alloc, graph, plans, text, *held, table)?;
+        put_result(alloc, planned, text, *held, table)?;
     }
     Ok(())
 }

@@ -1,7 +1,7 @@
 // Texts that have no node.
 use super::graphs::{C_UNITS, Decls, KITS, Text};
 use super::rows::text_of;
-use path_planner::Plans;
+use path_planner::{PlannedGraph, Plans};
 use std::alloc::Global;
 use std::test::Fail;
 use test_support::{Fault, graph_of, node_in};
@@ -22,7 +22,7 @@ fn is_refused(alloc: Global, pieces: &[Decls], text: &[u8]) -> Result<bool, Faul
     let written = text_of(alloc, pieces)?;
     let graph = graph_of(alloc, written.as_slice())?;
     let plans = Plans::new(alloc, &graph)?;
-    match node_in(alloc, &graph, &plans, text) {
+    match node_in(alloc, &PlannedGraph::new(&graph, &plans), text) {
         Err(fault) => Ok(fault == Fault::Node),
         Ok(_) => Ok(false),
     }

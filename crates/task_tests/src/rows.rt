@@ -1,17 +1,15 @@
 // Rows: a node of a graph over results, with what it comes to.
-ghost use Rattle.std.specs.Prelude.{◌≡◌, ◌≢◌, []};
+ghost use Rattle.std.specs.Prelude.{◌≢◌, []};
 ghost use Rattle.meaning_graph.specs.Grammar.{IsSpellable};
 ghost use Rattle.meaning_tasks.specs.Nodes.{Fits};
-ghost use Rattle.path_planner.specs.Ends.{plans_of};
 
 use super::graphs::{Decls, Text};
 use super::held::{Held, Results, put_results};
 use super::shown::{are_nodes, is_call, is_view};
 use object_values::{Bytes, End, FileBody, Memory, Node, Raw, Seq};
-use path_planner::Plans;
+use path_planner::{PlannedGraph, Plans};
 use std::alloc::Global;
 use test_support::{Fault, Table, body_of, call_node, graph_of, node_in, settle_after};
-use type_graph::Graph;
 
 // A graph, the text of a node, and results. Then the texts of its needs, the file `call` of its
 // tool, the files that the tool leaves, and what the node settles to.
@@ -76,39 +74,36 @@ pub(super) fn run_row(alloc: Global, row: &Row) -> Result<Comes, Fault> {
     let text = text_of(alloc, row.graph)?;
     let graph = graph_of(alloc, text.as_slice())?;
     let plans = Plans::new(alloc, &graph)?;
-    run_in(alloc, &graph, &plans, row)
+    run_in(alloc, &PlannedGraph::new(&graph, &plans), row)
 }
 
-fn run_in(alloc: Global, graph: &Graph, plans: &Plans, row: &Row) -> Result<Comes, Fault>
-    requires spellable { IsSpellable graph.now }
-    requires made { plans.now ≡ plans_of graph.now }
+fn run_in(alloc: Global, planned: &PlannedGraph<'_>, row: &Row) -> Result<Comes, Fault>
+    requires spellable { IsSpellable planned.now }
 {
     let mut table = Table::new(alloc);
-    put_results(alloc, graph, plans, row.results, &mut table)?;
-    let node = node_in(alloc, graph, plans, row.node)?;
+    put_results(alloc, planned, row.results, &mut table)?;
+    let node = node_in(alloc, planned, row.node)?;
     if node.steps.is_empty() {
         return Ok(Comes::WithoutSteps);
     }
-    Ok(run_over(alloc, graph, plans, &node, &table, row)?)
+    Ok(run_over(alloc, planned, &node, &table, row)?)
 }
 
 fn run_over(
     alloc: Global,
-    graph: &Graph,
-    plans: &Plans,
+    planned: &PlannedGraph<'_>,
     node: &Node,
     table: &Table,
     row: &Row,
 ) -> Result<Comes, Memory>
-    requires spellable { IsSpellable graph.now }
-    requires made { plans.now ≡ plans_of graph.now }
-    requires fits { Fits graph.now node.now }
+    requires spellable { IsSpellable planned.now }
+    requires fits { Fits planned.now node.now }
     requires stepped { node.now.steps ≢ [] }
 {
-    let Some(called) = call_node(alloc, graph, plans, node, table)? else {
+    let Some(called) = call_node(alloc, planned, node, table)? else {
         return Ok(Comes::WithoutResults);
     };
-    if !are_nodes(alloc, graph, called.needs.as_slice(), row.needs)? {
+    if !are_nodes(alloc, planned.graph(), called.needs.as_slice(), row.needs)? {
         return Ok(Comes::WithOtherNeeds);
     }
     if !is_call(alloc, called.call.as_ref(), row.call)? {
@@ -117,15 +112,14 @@ fn run_over(
     let left = left_of(alloc, row.left)?;
     let view = settle_after(
         alloc,
-        graph,
-        plans,
+        planned,
         node,
         &called.needed,
         table,
         called.call.as_ref(),
         &left,
     )?;
-    if !is_view(alloc, graph, &view, row.view)? {
+    if !is_view(alloc, planned.graph(), &view, row.view)? {
         return Ok(Comes::WithAnotherView);
     }
     Ok(Comes::AsWanted)
