@@ -1,13 +1,9 @@
 // Results of nodes by their texts.
-ghost use Rattle.std.specs.Prelude.{◌≡◌};
-ghost use Rattle.path_planner.specs.Ends.{plans_of};
-
 use crate::fault::Fault;
 use object_values::{Bytes, Node, Seq, SharedSeq, Status, Value, View};
-use path_planner::Plans;
+use path_planner::PlannedGraph;
 use std::alloc::Global;
 use test_support::{Table, body_of, node_in};
-use type_graph::Graph;
 
 /// The graph of units with its compounds.
 pub(crate) const GRAPH: &[u8] =
@@ -15,20 +11,17 @@ pub(crate) const GRAPH: &[u8] =
 
 fn put_value(
     alloc: Global,
-    graph: &Graph,
-    plans: &Plans,
+    planned: &PlannedGraph<'_>,
     text: &[u8],
     value: Value,
     table: &mut Table,
-) -> Result<(), Fault>
-    requires made { plans.now ≡ plans_of graph.now }
-{
+) -> Result<(), Fault> {
     let view = View {
         value: Some(value),
         status: Status::Ok,
         messages: SharedSeq::new(),
     };
-    let node = node_in(alloc, graph, plans, text)?;
+    let node = node_in(alloc, planned, text)?;
     table.put(node, view)?;
     Ok(())
 }
@@ -36,48 +29,39 @@ fn put_value(
 /// Adds that the node of a text is an object with these bytes.
 pub(crate) fn put_text(
     alloc: Global,
-    graph: &Graph,
-    plans: &Plans,
+    planned: &PlannedGraph<'_>,
     text: &[u8],
     body: &[u8],
     table: &mut Table,
-) -> Result<(), Fault>
-    requires made { plans.now ≡ plans_of graph.now }
-{
+) -> Result<(), Fault> {
     let value = Value::Simple(body_of(alloc, body)?);
-    put_value(alloc, graph, plans, text, value, table)
+    put_value(alloc, planned, text, value, table)
 }
 
 /// Adds that the node of a text is a list of these nodes.
 pub(crate) fn put_list(
     alloc: Global,
-    graph: &Graph,
-    plans: &Plans,
+    planned: &PlannedGraph<'_>,
     text: &[u8],
     nodes: Seq<Node>,
     table: &mut Table,
-) -> Result<(), Fault>
-    requires made { plans.now ≡ plans_of graph.now }
-{
-    put_value(alloc, graph, plans, text, Value::List(nodes), table)
+) -> Result<(), Fault> {
+    put_value(alloc, planned, text, Value::List(nodes), table)
 }
 
 /// Adds a header with the names that its scan gives.
 pub(crate) fn put_header(
     alloc: Global,
-    graph: &Graph,
-    plans: &Plans,
+    planned: &PlannedGraph<'_>,
     number: u32,
     body: &[u8],
     names: &[u8],
     table: &mut Table,
-) -> Result<(), Fault>
-    requires made { plans.now ≡ plans_of graph.now }
-{
+) -> Result<(), Fault> {
     let source = format!(in alloc; "h{number}.h")?;
-    put_text(alloc, graph, plans, source.as_bytes(), body, table)?;
+    put_text(alloc, planned, source.as_bytes(), body, table)?;
     let scan = format!(in alloc; "h{number}.h:inc")?;
-    put_text(alloc, graph, plans, scan.as_bytes(), names, table)
+    put_text(alloc, planned, scan.as_bytes(), names, table)
 }
 
 /// The names of the first headers, in lines.

@@ -1,17 +1,14 @@
 // Many calls that are kept together.
-ghost use Rattle.std.specs.Prelude.{◌≡◌};
 ghost use Rattle.meaning_graph.specs.Grammar.{IsSpellable};
 ghost use Rattle.meaning_tasks.specs.Nodes.{Fits};
-ghost use Rattle.path_planner.specs.Ends.{plans_of};
 
 use crate::fault::Fault;
 use crate::tasks::filling::{GRAPH, names_of, put_header, put_text};
 use crate::tasks::repeating::{Counts, parts_of};
 use object_values::{Bytes, Call, Node, Seq};
-use path_planner::Plans;
+use path_planner::{PlannedGraph, Plans};
 use std::alloc::Global;
 use test_support::{Table, call_node, graph_of, node_in};
-use type_graph::Graph;
 
 // The headers that each unit includes.
 const HEADERS: u32 = 12;
@@ -29,12 +26,10 @@ fn text_of(alloc: Global, number: u32) -> Result<Bytes, Fault> {
     Ok(text)
 }
 
-fn put_headers(alloc: Global, graph: &Graph, plans: &Plans, table: &mut Table) -> Result<(), Fault>
-    requires made { plans.now ≡ plans_of graph.now }
-{
+fn put_headers(alloc: Global, planned: &PlannedGraph<'_>, table: &mut Table) -> Result<(), Fault> {
     for number in 0..HEADERS {
         let text = text_of(alloc, number)?;
-        put_header(alloc, graph, plans, number, text.as_slice(), b"", table)?;
+        put_header(alloc, planned, number, text.as_slice(), b"", table)?;
     }
     Ok(())
 }
@@ -42,40 +37,27 @@ fn put_headers(alloc: Global, graph: &Graph, plans: &Plans, table: &mut Table) -
 // A unit that includes all headers.
 fn put_unit(
     alloc: Global,
-    graph: &Graph,
-    plans: &Plans,
+    planned: &PlannedGraph<'_>,
     number: u32,
     names: &[u8],
     table: &mut Table,
-) -> Result<(), Fault>
-    requires made { plans.now ≡ plans_of graph.now }
-{
+) -> Result<(), Fault> {
     let text = text_of(alloc, number)?;
     let source = format!(in alloc; "u{number}.c")?;
-    put_text(
-        alloc,
-        graph,
-        plans,
-        source.as_bytes(),
-        text.as_slice(),
-        table,
-    )?;
+    put_text(alloc, planned, source.as_bytes(), text.as_slice(), table)?;
     let scan = format!(in alloc; "u{number}.c:inc")?;
-    put_text(alloc, graph, plans, scan.as_bytes(), names, table)
+    put_text(alloc, planned, scan.as_bytes(), names, table)
 }
 
 fn put_units(
     alloc: Global,
-    graph: &Graph,
-    plans: &Plans,
+    planned: &PlannedGraph<'_>,
     count: u32,
     table: &mut Table,
-) -> Result<(), Fault>
-    requires made { plans.now ≡ plans_of graph.now }
-{
+) -> Result<(), Fault> {
     let names = names_of(alloc, HEADERS)?;
     for number in 0..count {
-        put_unit(alloc, graph, plans, number, names.as_slice(), table)?;
+        put_unit(alloc, planned, number, names.as_slice(), table)?;
     }
     Ok(())
 }
@@ -83,17 +65,15 @@ fn put_units(
 // Adds the call of the node, and counts its needs.
 fn put_call(
     alloc: Global,
-    graph: &Graph,
-    plans: &Plans,
+    planned: &PlannedGraph<'_>,
     node: &Node,
     table: &Table,
     calls: &mut Seq<Call>,
 ) -> Result<usize, Fault>
-    requires spellable { IsSpellable graph.now }
-    requires made { plans.now ≡ plans_of graph.now }
-    requires fits { Fits graph.now node.now }
+    requires spellable { IsSpellable planned.now }
+    requires fits { Fits planned.now node.now }
 {
-    let Some(called) = call_node(alloc, graph, plans, node, table)? else {
+    let Some(called) = call_node(alloc, planned, node, table)? else {
         return Err(Fault::Rows);
     };
     let needs = called.needs.len();
@@ -106,20 +86,18 @@ fn put_call(
 
 fn put_calls(
     alloc: Global,
-    graph: &Graph,
-    plans: &Plans,
+    planned: &PlannedGraph<'_>,
     count: u32,
     table: &Table,
     calls: &mut Seq<Call>,
 ) -> Result<usize, Fault>
-    requires spellable { IsSpellable graph.now }
-    requires made { plans.now ≡ plans_of graph.now }
+    requires spellable { IsSpellable planned.now }
 {
     let mut needs: usize = 0;
     for number in 0..count {
         let text = format!(in alloc; "u{number}.c:o")?;
-        let node = node_in(alloc, graph, plans, text.as_bytes())?;
-        needs = needs.saturating_add(put_call(alloc, graph, plans, &node, table, calls)?);
+        let node = node_in(alloc, planned, text.as_bytes())?;
+        needs = needs.saturating_add(put_call(alloc, planned, &node, table, calls)?);
     }
     Ok(needs)
 }
@@ -132,15 +110,14 @@ fn parts_in(calls: &[Call]) -> usize {
     parts
 }
 
-fn calls_in(alloc: Global, graph: &Graph, plans: &Plans, count: u32) -> Result<Counts, Fault>
-    requires spellable { IsSpellable graph.now }
-    requires made { plans.now ≡ plans_of graph.now }
+fn calls_in(alloc: Global, planned: &PlannedGraph<'_>, count: u32) -> Result<Counts, Fault>
+    requires spellable { IsSpellable planned.now }
 {
     let mut table = Table::new(alloc);
-    put_headers(alloc, graph, plans, &mut table)?;
-    put_units(alloc, graph, plans, count, &mut table)?;
+    put_headers(alloc, planned, &mut table)?;
+    put_units(alloc, planned, count, &mut table)?;
     let mut calls = Seq::new(alloc);
-    let needs = put_calls(alloc, graph, plans, count, &table, &mut calls)?;
+    let needs = put_calls(alloc, planned, count, &table, &mut calls)?;
     Ok(Counts {
         needs,
         parts: parts_in(calls.as_slice()),
@@ -151,5 +128,5 @@ fn calls_in(alloc: Global, graph: &Graph, plans: &Plans, count: u32) -> Result<C
 pub(crate) fn calls(alloc: Global, count: u32) -> Result<Counts, Fault> {
     let graph = graph_of(alloc, GRAPH)?;
     let plans = Plans::new(alloc, &graph)?;
-    calls_in(alloc, &graph, &plans, count)
+    calls_in(alloc, &PlannedGraph::new(&graph, &plans), count)
 }

@@ -1,15 +1,13 @@
 // A node that is looked at again and again.
-ghost use Rattle.std.specs.Prelude.{◌≡◌, ◌≢◌, []};
+ghost use Rattle.std.specs.Prelude.{◌≢◌, []};
 ghost use Rattle.meaning_graph.specs.Grammar.{IsSpellable};
 ghost use Rattle.meaning_tasks.specs.Nodes.{Fits};
-ghost use Rattle.path_planner.specs.Ends.{plans_of};
 
 use crate::fault::Fault;
 use object_values::{Bytes, Call, End, FileBody, Memory, Node, Raw, Seq};
-use path_planner::Plans;
+use path_planner::PlannedGraph;
 use std::alloc::Global;
 use test_support::{Table, body_of, call_node, node_in, settle_after};
-use type_graph::Graph;
 
 // How often each node is looked at.
 const TIMES: u32 = 10;
@@ -55,24 +53,21 @@ fn left_of(alloc: Global, name: &[u8]) -> Result<Raw, Memory> {
 // The needs, the call, and what the node settles to, once.
 fn looked(
     alloc: Global,
-    graph: &Graph,
-    plans: &Plans,
+    planned: &PlannedGraph<'_>,
     node: &Node,
     table: &Table,
     left: &Raw,
 ) -> Result<Counts, Fault>
-    requires spellable { IsSpellable graph.now }
-    requires made { plans.now ≡ plans_of graph.now }
-    requires fits { Fits graph.now node.now }
+    requires spellable { IsSpellable planned.now }
+    requires fits { Fits planned.now node.now }
     requires stepped { node.now.steps ≢ [] }
 {
-    let Some(called) = call_node(alloc, graph, plans, node, table)? else {
+    let Some(called) = call_node(alloc, planned, node, table)? else {
         return Err(Fault::Rows);
     };
     let view = settle_after(
         alloc,
-        graph,
-        plans,
+        planned,
         node,
         &called.needed,
         table,
@@ -91,23 +86,21 @@ fn looked(
 /// The needs and parts of the node of a text, which is looked at ten times.
 pub(crate) fn repeated(
     alloc: Global,
-    graph: &Graph,
-    plans: &Plans,
+    planned: &PlannedGraph<'_>,
     text: &[u8],
     table: &Table,
     output: &[u8],
 ) -> Result<Counts, Fault>
-    requires spellable { IsSpellable graph.now }
-    requires made { plans.now ≡ plans_of graph.now }
+    requires spellable { IsSpellable planned.now }
 {
-    let node = node_in(alloc, graph, plans, text)?;
+    let node = node_in(alloc, planned, text)?;
     if node.steps.is_empty() {
         return Err(Fault::Rows);
     }
     let left = left_of(alloc, output)?;
     let mut counts = Counts::NONE;
     for _ in 0..TIMES {
-        counts = counts.with(looked(alloc, graph, plans, &node, table, &left)?);
+        counts = counts.with(looked(alloc, planned, &node, table, &left)?);
     }
     Ok(counts)
 }
