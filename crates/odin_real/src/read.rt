@@ -30,11 +30,7 @@ pub fn text_of(bytes: &[u8]) -> Result<&str, SystemFault>
 
 /// The first 16,777,217 bytes of what a reader of this size has left, or all where that is shorter. No byte after them is read, and none after the size:
 /// so a file's end is known without a read that finds nothing. Files of the system that tell no size, as those of its processes, are read to their end.
-pub fn read_front<R: Read + Drop>(
-    alloc: Global,
-    reader: R,
-    size: u64,
-) -> Result<Bytes, SystemFault>
+pub fn read_front<R: Read + Drop>(alloc: Global, reader: R, size: u64) -> Result<Bytes, SystemFault>
     ensures { IfOk result (λ front. IfSome (R.remaining reader)
         (λ left. size ≡ length left → front ≡ take given_file_limit left)) }
 {

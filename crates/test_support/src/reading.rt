@@ -1,5 +1,5 @@
 // Graphs and nodes by their texts.
-ghost use Rattle.std.specs.Prelude.{◌≡◌, ◌<◌, IfOk};
+ghost use Rattle.std.specs.Prelude.{◌<◌, IfOk};
 ghost use Rattle.meaning_texts.specs.Expressions.{IsCanonical};
 ghost use Rattle.meaning_graph.specs.Grammar.{IsSpellable};
 ghost use Rattle.meaning_tasks.specs.Nodes.{Fits};

@@ -1,11 +1,11 @@
--- The graph with its plans is seen as the graph.
+use Rattle.std.proofs.Common.{subst}
+use Rattle.std.specs.Prelude.{OnOk}
+use Rattle.derive_walk.specs.Walks.{IsAdvanced}
+use Rattle.derive_core.specs.Kept.{kept_world}
 use Rattle.derive_core.proofs.walk.Core.advance.Goals as goal
 
-pub advance_in-requires-clause-right : goal.advance_in-requires-clause-right
-advance_in-requires-clause-right g c = rw c.new-planned.ensures c.requires.right
-
-pub returns-clause-right : goal.returns-clause-right
-returns-clause-right g c = rw c.new-planned.ensures at c.advance_in.ensures.right
-
+-- the pair is seen as its graph
 pub returns-clause-advanced : goal.returns-clause-advanced
-returns-clause-advanced g c = rw c.new-planned.ensures at c.advance_in.ensures.advanced
+returns-clause-advanced g c =
+    let walk = c.advance_in.new.self in
+    subst (λ graph. OnOk c.advance_in.result (IsAdvanced (kept_world graph c.args.sources.now.texts c.args.looks.now.kept.now.tables.calls walk.given) walk)) c.new-planned.ensures c.advance_in.ensures.advanced
