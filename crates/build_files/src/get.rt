@@ -6,9 +6,10 @@ ghost use Rattle.build_files.specs.GetFaults as faults;
 
 use crate::answers::{exit_status, last_answer};
 use crate::files::{Files, files_of};
+use crate::messages::lines_of;
 use crate::words::{Asked, read_words};
 use object_values::{Bytes, Memory, Message, Part};
-use odin_commands::{Reply, ShownBody, read_replies, write_each_message};
+use odin_commands::{Reply, ShownBody, read_replies};
 use std::alloc::Global;
 use std::env::Env;
 use std::io::{Read, Write};
@@ -24,7 +25,7 @@ pub enum Fault {
     System,
     #[error("odin_get: out of memory")]
     Memory,
-    #[error("usage: odin_get [-o FILE] [-m]")]
+    #[error("usage: odin_get [-o FILE] [-m] [-l]")]
     Words,
 }
 
@@ -119,10 +120,9 @@ fn print_files(rt: &HostRuntime, files: &Files) -> Result<(), Fault> {
     Ok(())
 }
 
-/// Tells the messages on standard error.
-fn tell_messages(rt: &HostRuntime, messages: &[Message]) -> Result<(), Fault> {
-    let mut text = Bytes::new(rt.alloc());
-    write_each_message(messages, &mut text)?;
+/// Shows the messages on standard error.
+fn show_messages(rt: &HostRuntime, messages: &[Message], labelled: bool) -> Result<(), Fault> {
+    let text = lines_of(rt.alloc(), messages, labelled)?;
     rt.stderr().write_all(text.as_slice())?;
     Ok(())
 }
@@ -142,7 +142,7 @@ fn write_object(
         None => print_files(rt, &files)?,
     }
     if asked.messages {
-        tell_messages(rt, messages)?;
+        show_messages(rt, messages, asked.labels)?;
     }
     Ok(())
 }

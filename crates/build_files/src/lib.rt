@@ -3,10 +3,14 @@
 #![tactic(auto)]
 
 mod answers;
+mod examples;
 pub mod files;
 pub mod get;
+pub mod laws;
 pub mod listed;
+pub mod messages;
 mod paths;
+pub mod shown;
 pub mod takes;
 pub mod walk;
 mod words;

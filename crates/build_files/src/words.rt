@@ -1,5 +1,5 @@
 // The words of the program, read by `clap`.
-ghost use Rattle.std.specs.Prelude.{◌≡◌, ◌≢◌, ◌↔◌, IsTrue, codes, Some, IfOk, IfErr, IfSome, IfNone, [], map, string_bytes};
+ghost use Rattle.std.specs.Prelude.{◌≡◌, ◌≢◌, ◌↔◌, ◌⊎◌, IsTrue, codes, Some, IfOk, IfErr, IfSome, IfNone, [], map, string_bytes};
 ghost use Rattle.std.specs.Option.{option_copied};
 ghost use Rattle.clap.specs.Words.{fault_of, matches_of, first_of, rows_of, found_of, kind_of};
 ghost use Rattle.build_files.specs.Command.{command, AsksForFile};
@@ -9,11 +9,12 @@ use clap::{Arg, ArgAction, ArgMatches, Command, Error};
 use object_values::Memory;
 use std::alloc::Global;
 
-/// What the words ask for: where the object goes, and whether its messages are told.
+/// What the words ask for: where the object goes, whether its messages are shown, and whether with their labels.
 #[derive(Clone, Copy)]
 pub struct Asked<'a> {
     pub file: Option<&'a str>,
     pub messages: bool,
+    pub labels: bool,
 }
 
 /// The words by the command.
@@ -28,10 +29,14 @@ fn matches<'a>(alloc: Global, words: &'a [String]) -> Result<ArgMatches<'a>, Err
     let messages = Arg::new(alloc, "messages")
         .short('m')
         .action(ArgAction::SetTrue);
+    let labels = Arg::new(alloc, "labels")
+        .short('l')
+        .action(ArgAction::SetTrue);
     let command = Command::new(alloc, "odin_get")
         .disable_help_flag(true)
         .arg(file)?
-        .arg(messages)?;
+        .arg(messages)?
+        .arg(labels)?;
     command.try_get_matches_from(words)
 }
 
@@ -43,28 +48,42 @@ fn value_of<'a>(found: &ArgMatches<'a>, id: &str) -> Option<&'a str>
     found.get_str(id)
 }
 
-/// Whether the flag for the messages stands among the words.
-fn wants_messages(found: &ArgMatches<'_>) -> bool
+/// Whether a flag stands among the words.
+fn has_flag(found: &ArgMatches<'_>, id: &str) -> bool
     ensures { let rows = rows_of (found_of found.now) in
-        IsTrue result ↔ (first_of (codes "messages") rows ≡ Some (codes "true")) }
+        IsTrue result ↔ (first_of id.now rows ≡ Some (codes "true")) }
 {
-    match value_of(found, "messages") {
+    match value_of(found, id) {
         Some(word) => word == "true",
         None => false,
     }
 }
 
+/// Whether messages are asked for: by a flag of their own, or by that of their labels.
+fn has_message_flag(found: &ArgMatches<'_>) -> bool
+    ensures { let rows = rows_of (found_of found.now) in
+        IsTrue result ↔ (first_of (codes "messages") rows ≡ Some (codes "true"))
+        ⊎ (first_of (codes "labels") rows ≡ Some (codes "true")) }
+{
+    if has_flag(found, "messages") {
+        return true;
+    }
+    has_flag(found, "labels")
+}
+
 /// What the words ask for, of which the first is the program's name. `None` is said where they are not accepted.
 pub fn read_words<'a>(alloc: Global, words: &'a [String]) -> Result<Option<Asked<'a>>, Memory>
     ensures asked { IfOk result (λ found. IfSome found (λ asked.
-        AsksForFile (map string_bytes words.entry.now) (option_copied asked.file) asked.messages)) }
+        AsksForFile (map string_bytes words.entry.now) (option_copied asked.file)
+        asked.messages asked.labels)) }
     ensures none { IfOk result (λ found. IfNone found
         (fault_of command (map string_bytes words.entry.now) ≢ [])) }
 {
     match matches(alloc, words) {
         Ok(found) => Ok(Some(Asked {
             file: value_of(&found, "file"),
-            messages: wants_messages(&found),
+            messages: has_message_flag(&found),
+            labels: has_flag(&found, "labels"),
         })),
         Err(error) => match error.kind() {
             ErrorKind::OutOfMemory => Err(Memory),

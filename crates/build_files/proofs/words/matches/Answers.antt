@@ -5,7 +5,7 @@ use Rattle.clap.specs.declared.error.Error.{Error}
 use Rattle.clap.specs.declared.error.ErrorKind.TheVariants.{OutOfMemory}
 use Rattle.clap.specs.Simple.{app_of_fields}
 use Rattle.clap.proofs.OnLiterals.{clap_on_literals}
-use Rattle.build_files.specs.Command.{bare_odin_get, file, messages, command}
+use Rattle.build_files.specs.Command.{bare_odin_get, file, messages, labels, command}
 use Rattle.build_files.proofs.words.matches.Goals as goal
 
 free : is_simple_and_free command ≡ true
@@ -29,9 +29,11 @@ unfolding no_help
 command_is c =
     let file_is : rule_of c.action-file.result ≡ file = search rules in
     let messages_is : rule_of c.action-messages.result ≡ messages = search rules in
-    let bare_is : app_of c.disable_help_flag.result ≡ bare_odin_get = ap app_of_fields c.disable_help_flag.ensures ∙ ap no_help c.new-3.ensures.app in
+    let labels_is : rule_of c.action-labels.result ≡ labels = search rules in
+    let bare_is : app_of c.disable_help_flag.result ≡ bare_odin_get = ap app_of_fields c.disable_help_flag.ensures ∙ ap no_help c.new-4.ensures.app in
     c.in_ok-command.ensures.shape (search rules)
-    ∙ ap₂ with_rule (c.in_ok-arg.ensures.shape (search rules) ∙ ap₂ with_rule bare_is file_is) messages_is
+    ∙ ap₂ with_rule (c.in_ok-arg-2.ensures.shape (search rules)
+    ∙ ap₂ with_rule (c.in_ok-arg.ensures.shape (search rules) ∙ ap₂ with_rule bare_is file_is) messages_is) labels_is
 
 accepted_by : {T : Type 0} (kinds : Kinds) (r : Result T Error) → FailsBy kinds r → IfOk r (λ _. kinds ≡ [])
 accepted_by kinds (Ok m) h = h
