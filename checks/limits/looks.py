@@ -142,8 +142,13 @@ def put_on_loop(bench, row, folder):
     return folder
 
 
-FILTER_LINES = {"odin_get": {3: "odin_get: read or write fault", 4: "odin_get: out of memory"}, "odin": LINES,
+# How the line of a status begins: what comes after a space at its end is of the system.
+FILTER_LINES = {"odin_get": {3: "odin_get: cannot ", 4: "odin_get: out of memory"}, "odin": LINES,
                 "odin_takes": {3: "odin_takes: read or write fault", 4: "odin_takes: out of memory"}}
+
+
+# what a file has that is written over, and what the object in it is (`OBJECT` of rows.py)
+OLD, MADE = b"old\n", b"x" * 65536
 
 
 def run_filter(bench, row, folder):
@@ -164,14 +169,26 @@ def filter_faults(bench, row):
     """How a run that serves no session ended, and what isn't as it is wanted."""
     folder = bench.folder(row)
     before = {*os.listdir(folder), "made", "many"}
+    is_file = "made" in row.words
+    if is_file:
+        with open(os.path.join(folder, "made"), "wb") as file:
+            file.write(OLD)
+        os.chmod(os.path.join(folder, "made"), 0o666)
     status, errors = run_filter(bench, row, folder)
     os.chmod(folder, 0o755)
+    if status is not None and status < 0:
+        before.add(".made.0")
     line = FILTER_LINES[row.words[0]].get(status, "") if row.says is None else row.says
     faults = []
     if named(status) not in row.wanted:
         faults.append("ends with %s, and not %s" % (named(status), " or ".join(row.wanted)))
-    if errors != line:
+    if not (errors.startswith(line) if line.endswith(" ") else errors == line):
         faults.append("says %r on standard error, and not %r" % (errors[-200:], line))
     if left := set(os.listdir(folder)) - before:
         faults.append("%s stands there" % sorted(left))
+    if is_file:
+        with open(os.path.join(folder, "made"), "rb") as file:
+            held = file.read()
+        if held != (MADE if status == 0 else OLD):
+            faults.append("the file has %d bytes, %r" % (len(held), held[:20]))
     return named(status), faults

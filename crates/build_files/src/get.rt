@@ -7,6 +7,7 @@ ghost use Rattle.build_files.specs.GetFaults as faults;
 use crate::answers::{exit_status, last_answer};
 use crate::files::{Files, files_of};
 use crate::messages::lines_of;
+use crate::whole::write_whole;
 use crate::words::{Asked, read_words};
 use object_values::{Bytes, Memory, Message, Part};
 use odin_commands::{Reply, ShownBody, read_replies};
@@ -21,8 +22,10 @@ use thiserror::Error;
 pub enum Fault {
     #[error("odin_get: no replies on the input")]
     Replies,
-    #[error("odin_get: read or write fault")]
-    System,
+    #[error("odin_get: cannot read standard input: {0}")]
+    Input(String),
+    #[error("odin_get: cannot write {place}: {cause}")]
+    Output { place: String, cause: String },
     #[error("odin_get: out of memory")]
     Memory,
     #[error("usage: odin_get [-o FILE] [-m] [-l]")]
@@ -35,26 +38,49 @@ impl From<Memory> for Fault {
     }
 }
 
-impl From<io::Error> for Fault {
-    fn from(error: io::Error) -> Self {
-        if error.kind() == io::ErrorKind::OutOfMemory {
-            Fault::Memory
-        } else {
-            Fault::System
-        }
-    }
-}
-
 impl Fault {
     pub fn status(&self) -> u8
         ensures { result ≡ faults.get_fault_status self.now }
     {
         match self {
             Fault::Replies => 2,
-            Fault::System => 3,
+            Fault::Input(_) | Fault::Output { .. } => 3,
             Fault::Memory => 4,
             Fault::Words => 9,
         }
+    }
+}
+
+/// The text of a cause, without the number that the system has for it.
+fn cause_of(alloc: Global, error: &io::Error) -> Result<String, Memory> {
+    let text = format!(in alloc; "{error}").map_err(|_| Memory)?;
+    match text.split_once(" (os error ") {
+        Some((cause, _)) => String::from_str(alloc, cause).map_err(|_| Memory),
+        None => Ok(text),
+    }
+}
+
+fn input_fault(alloc: Global, error: &io::Error) -> Fault {
+    if error.kind() == io::ErrorKind::OutOfMemory {
+        return Fault::Memory;
+    }
+    match cause_of(alloc, error) {
+        Ok(cause) => Fault::Input(cause),
+        Err(Memory) => Fault::Memory,
+    }
+}
+
+/// The fault of a write to a place: a file or a folder by its path, or a stream by its name.
+fn output_fault(alloc: Global, place: &str, error: &io::Error) -> Fault {
+    if error.kind() == io::ErrorKind::OutOfMemory {
+        return Fault::Memory;
+    }
+    let Ok(place) = String::from_str(alloc, place) else {
+        return Fault::Memory;
+    };
+    match cause_of(alloc, error) {
+        Ok(cause) => Fault::Output { place, cause },
+        Err(Memory) => Fault::Memory,
     }
 }
 
@@ -73,29 +99,45 @@ fn words_of<R: Env + AllocGlobal>(rt: &R) -> Result<Vec<String>, Fault> {
 /// All of the input.
 fn read_input(rt: &HostRuntime) -> Result<Bytes, Fault> {
     let mut text = Vec::new(rt.alloc());
-    rt.reader().read_to_end(&mut text)?;
-    Ok(Bytes::from_vec(text))
+    match rt.reader().read_to_end(&mut text) {
+        Ok(_) => Ok(Bytes::from_vec(text)),
+        Err(error) => Err(input_fault(rt.alloc(), &error)),
+    }
+}
+
+fn write_file(rt: &HostRuntime, path: &str, body: &[u8]) -> Result<(), Fault> {
+    match write_whole(rt, path, body) {
+        Ok(()) => Ok(()),
+        Err(error) => Err(output_fault(rt.alloc(), path, &error)),
+    }
 }
 
 /// Writes a file of a folder.
 fn write_part(rt: &HostRuntime, folder: &str, part: &Part) -> Result<(), Fault> {
     let Ok(name) = std::str::from_utf8(part.name.as_slice()) else {
-        return Err(Fault::System);
+        let error = io::Error::from(io::ErrorKind::InvalidFilename);
+        return Err(output_fault(rt.alloc(), folder, &error));
     };
     let path = format!(in rt.alloc(); "{folder}/{name}").map_err(|_| Fault::Memory)?;
-    fs::write(rt, path.as_str(), part.body.as_slice())?;
-    Ok(())
+    write_file(rt, path.as_str(), part.body.as_slice())
 }
 
-/// Writes the files below a path. What the files have then is no clause, since the system doesn't tell it.
+fn make_folder(rt: &HostRuntime, path: &str) -> Result<(), Fault> {
+    match fs::create_dir_all(rt, path) {
+        Ok(()) => Ok(()),
+        Err(error) => Err(output_fault(rt.alloc(), path, &error)),
+    }
+}
+
+/// Writes the files below a path, each whole. What the files have then is no clause, since the system doesn't tell it.
 pub fn write_files(rt: &HostRuntime, path: &str, files: &Files) -> Result<(), Fault>
     ensures { files.now ≡ Nothing → IsOk result }
 {
     match files {
         Files::Nothing => {}
-        Files::File(text) => fs::write(rt, path, text.as_slice())?,
+        Files::File(text) => write_file(rt, path, text.as_slice())?,
         Files::Folder(parts) => {
-            fs::create_dir_all(rt, path)?;
+            make_folder(rt, path)?;
             for part in parts.as_slice() {
                 write_part(rt, path, part)?;
             }
@@ -104,9 +146,8 @@ pub fn write_files(rt: &HostRuntime, path: &str, files: &Files) -> Result<(), Fa
     Ok(())
 }
 
-/// Writes the files to standard output, one after another.
-fn print_files(rt: &HostRuntime, files: &Files) -> Result<(), Fault> {
-    let mut out = io::writer(rt);
+/// Writes the files to a stream, one after another.
+fn print_each<W: Write>(out: &mut W, files: &Files) -> io::Result<()> {
     match files {
         Files::Nothing => {}
         Files::File(text) => out.write_all(text.as_slice())?,
@@ -116,15 +157,23 @@ fn print_files(rt: &HostRuntime, files: &Files) -> Result<(), Fault> {
             }
         }
     }
-    out.flush()?;
-    Ok(())
+    out.flush()
+}
+
+fn print_files(rt: &HostRuntime, files: &Files) -> Result<(), Fault> {
+    match print_each(&mut io::writer(rt), files) {
+        Ok(()) => Ok(()),
+        Err(error) => Err(output_fault(rt.alloc(), "standard output", &error)),
+    }
 }
 
 /// Shows the messages on standard error.
 fn show_messages(rt: &HostRuntime, messages: &[Message], labelled: bool) -> Result<(), Fault> {
     let text = lines_of(rt.alloc(), messages, labelled)?;
-    rt.stderr().write_all(text.as_slice())?;
-    Ok(())
+    match rt.stderr().write_all(text.as_slice()) {
+        Ok(()) => Ok(()),
+        Err(error) => Err(output_fault(rt.alloc(), "standard error", &error)),
+    }
 }
 
 /// Writes what an object is shown with.

@@ -13,4 +13,5 @@ mod paths;
 pub mod shown;
 pub mod takes;
 pub mod walk;
+mod whole;
 mod words;

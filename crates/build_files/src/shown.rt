@@ -139,11 +139,11 @@ fn write_shown_byte(left: u8, byte: u8, out: &mut Bytes) -> Result<(), Memory>
     }
 }
 
-// The loop holds how many bytes of a character are left, as the definition does: no text is looked at twice.
 /// Adds the text at the end, as a person is shown it. Where memory is wanted, it leaves what it began.
 pub fn write_shown(text: &[u8], out: &mut Bytes) -> Result<(), Memory>
     ensures { OnOk result (out.new ≡ out.old ++ meaning.shown text.now) }
 {
+    // How many bytes of a character are left, as in the definition.
     let mut left = 0;
     for (place, byte) in text.iter().enumerate() {
         left = stay_count(left, &text[place..]);
