@@ -55,7 +55,7 @@ size_of a b c d =
     else if four_stay a b c d then 4
     else 0
 
--- Behind the end of a text stands 0, which continues nothing.
+-- After the end of a text stands 0, which continues nothing.
 unfoldable pub staying_size : List ℕ → ℕ
 staying_size text =
     size_of (slice_index text 0) (slice_index text 1) (slice_index text 2) (slice_index text 3)
@@ -79,7 +79,7 @@ abbrev pub stay_count : ℕ → List ℕ → ℕ
 stay_count zero text = staying_size text
 stay_count (suc more) text = suc more
 
--- the text behind a place in a character of which so many bytes are left
+-- the text after a place in a character of which so many bytes are left
 abbrev pub shown_after : ℕ → List ℕ → List ℕ
 shown_after left [] = []
 shown_after left (b ∷ rest) =
@@ -108,7 +108,7 @@ first_byte text =
 abbrev pub first_size : List ℕ → ℕ
 first_size text = spelled_size (slice_index text 0) (slice_index text 1)
 
--- the text behind a place in a spelling of which so many bytes are left
+-- the text after a place in a spelling of which so many bytes are left
 abbrev pub unshown_after : ℕ → List ℕ → List ℕ
 unshown_after left [] = []
 unshown_after zero (b ∷ rest) = first_byte (b ∷ rest) ∷ unshown_after (first_size (b ∷ rest) - 1) rest

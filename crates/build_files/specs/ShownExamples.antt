@@ -24,7 +24,7 @@ pub record NoCharacters : Type 0 where
   pub surrogate : shown (0xED ∷ 0xA0 ∷ 0x80 ∷ []) ≡ codes "\\xed\\xa0\\x80"
   pub past : shown (0xF4 ∷ 0x90 ∷ 0x80 ∷ 0x80 ∷ []) ≡ codes "\\xf4\\x90\\x80\\x80"
 
--- a control of two bytes, and one that turns all behind it from right to left
+-- a control of two bytes, and one that turns all after it from right to left
 pub record Movers : Type 0 where
   pub control : shown (0xC2 ∷ 0x9B ∷ []) ≡ codes "\\xc2\\x9b"
   pub override : shown (0xE2 ∷ 0x80 ∷ 0xAE ∷ 97 ∷ []) ≡ codes "\\xe2\\x80\\xaea"

@@ -14,7 +14,7 @@ pub record BeginsStill (a b c : ℕ) : Type 0 where
   pub turn : a ≡ 226 → b ≡ 128 → c < 168 ⊎ 174 < c
   pub isolate : a ≡ 226 → b ≡ 129 → c < 166 ⊎ 169 < c
 
--- nor at any place behind it
+-- nor at any place after it
 abbrev pub MovesNothing : List ℕ → Type 0
 MovesNothing [] = ⊤
 MovesNothing (b ∷ rest) = BeginsStill b (slice_index rest 0) (slice_index rest 1) × MovesNothing rest

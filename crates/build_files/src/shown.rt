@@ -63,7 +63,7 @@ fn four_stay(a: u8, b: u8, c: u8, d: u8) -> bool
     matches!(code, 0x10000..=0x10FFFF)
 }
 
-/// The byte at a place, and 0 behind the end.
+/// The byte at a place, and 0 after the end.
 fn byte_at(text: &[u8], place: usize) -> u8
     ensures { result ≡ slice_index text.now place }
 {
