@@ -53,6 +53,8 @@ def main():
     # a signal ends it as an exit does, so that nothing stays mounted
     for number in (signal.SIGTERM, signal.SIGHUP):
         signal.signal(number, lambda number, _: sys.exit(128 + number))
+    # a shell that starts it in the background has this one ignored, and so would each session
+    signal.signal(signal.SIGINT, signal.default_int_handler)
     with tempfile.TemporaryDirectory() as work, contextlib.closing(Bench(asked.odin, work)) as bench:
         for row in all_rows(bench, asked.seed):
             if asked.words and not any(it in row.name for it in asked.words):
