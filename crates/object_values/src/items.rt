@@ -1,7 +1,7 @@
 // The items of batches, as a store file has them: texts stand in contents of their own, and a call has their numbers.
 use crate::calls::OwnLine;
-use crate::messages::Status;
-use crate::nodes::ParamValue;
+use crate::messages::{Message, Status};
+use crate::nodes::{Node, ParamValue};
 use crate::views::Value;
 use sequences::{Bytes, Seq};
 
@@ -37,6 +37,27 @@ pub struct StoredOutcome {
     pub status: Status,
     pub lines: Seq<OwnLine>,
     pub outputs: Seq<StoredOutput>,
+}
+
+/// A need of a node, and the number of the content that was seen of it: none where it had no value.
+#[derive(Drop)]
+pub struct StoredDep {
+    pub node: Node,
+    pub content: Option<u32>,
+}
+
+/// The record of a node whose values stand in contents. The last `reached` of its deps are reached sources.
+#[derive(Drop)]
+pub struct StoredRecord {
+    pub node: Node,
+    pub deps: Seq<StoredDep>,
+    pub reached: u32,
+    pub value: Option<u32>,
+    pub own_status: Status,
+    pub own_messages: Seq<Message>,
+    pub status: Status,
+    pub messages: Seq<Message>,
+    pub height: u32,
 }
 
 /// An item of a batch: one variant a row of the table of items in docs/engineer/store-format.md.

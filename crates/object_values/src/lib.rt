@@ -25,7 +25,9 @@ pub use facts::{Fact, FactDep, Fresh, RenewedNode};
 pub use graph::{
     Decl, Extra, GraphFault, Kind, Make, MakerDecl, PartDecl, SuffixDecl, ToolDecl, TypeDecl,
 };
-pub use items::{Item, StoredCall, StoredOutcome, StoredOutput, StoredPart};
+pub use items::{
+    Item, StoredCall, StoredDep, StoredOutcome, StoredOutput, StoredPart, StoredRecord,
+};
 pub use jobs::{End, FileBody, Job, Raw};
 pub use limits::{
     BODY_LIMIT, COMMAND_LIMIT, DECLARATION_LIMIT, ELEMENT_BOUND, EXPRESSION_LIMIT, GRAPH_LIMIT,
