@@ -8,7 +8,7 @@ use Rattle.odin_store.specs.declared.store.Store.{Store}
 use Rattle.kept_derive.specs.declared.fault.KeptFault.{KeptFault}
 use Rattle.kept_derive.specs.declared.fault.KeptFault.TheVariants.{Disk, Full, Memory}
 
--- A change never finds that a file is not ours.
+-- That a file is not a store's no change finds: this row is for no fault that comes (`FileIsOurs`).
 abbrev pub of_store : JournalFault → KeptFault
 of_store store.Disk = Disk
 of_store (store.NotOurs at) = Memory

@@ -1,4 +1,8 @@
 // Why a node was not derived.
+ghost use Rattle.std.specs.Prelude.{◌≡◌};
+ghost use Rattle.odin_journal.specs.Faults.{FileIsOurs};
+ghost use Rattle.kept_derive.specs.Faults.{of_store};
+
 use object_values::Memory;
 use odin_store::StoreFault;
 
@@ -23,17 +27,16 @@ impl From<Memory> for KeptFault {
     }
 }
 
-impl From<StoreFault> for KeptFault {
-    ghost use Rattle.kept_derive.specs.Faults.{of_store};
-    ghost use Rattle.std.specs.Prelude.{◌≡◌};
-
-    ghost from_gives = { λ given fault. fault ≡ of_store given };
-
-    fn from(fault: StoreFault) -> Self {
+impl KeptFault {
+    // The fault of a change.
+    pub(crate) fn of_change(fault: StoreFault) -> Self
+        requires { FileIsOurs fault }
+        ensures { result ≡ of_store fault }
+    {
         match fault {
             StoreFault::Disk => KeptFault::Disk,
-            // Never comes: only an opening finds a file that isn't ours, and no clause of a change has it.
-            StoreFault::NotOurs(_) => KeptFault::Memory,
+            // Only an opening finds a file that isn't a store's.
+            StoreFault::NotOurs(_) => unreachable!(),
             StoreFault::Full(end, count) => KeptFault::Full(end, count),
             StoreFault::Memory => KeptFault::Memory,
         }

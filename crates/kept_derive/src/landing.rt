@@ -54,7 +54,9 @@ pub(crate) fn land<D: Disk, S: Spawner>(
         Err(JobFault::Spawn) => return Ok(Landed::Lost),
         Err(JobFault::Memory) => return Err(KeptFault::Memory),
     };
-    store.keep_call(alloc, disk, &call, &outcome)?;
+    if let Err(fault) = store.keep_call(alloc, disk, &call, &outcome) {
+        return Err(KeptFault::of_change(fault));
+    }
     core.give(&call, outcome)?;
     Ok(Landed::Kept)
 }

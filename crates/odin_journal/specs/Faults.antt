@@ -25,6 +25,11 @@ IsReadFault breaks (fault.NotOurs at) = breaks at
 IsReadFault breaks (fault.Full end count) = ⊥
 IsReadFault breaks other = ⊤
 
+-- a fault of a file that is a store's
+abbrev pub FileIsOurs : JournalFault → Type 0
+FileIsOurs (fault.NotOurs at) = ⊥
+FileIsOurs other = ⊤
+
 -- at no offset
 abbrev pub nowhere : ℕ → Type 0
 nowhere at = ⊥

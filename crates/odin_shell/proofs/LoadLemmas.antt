@@ -21,7 +21,7 @@ pub record OfLoads (P : Ending → Type 0) : Type 0 where
 
 at_load_fault : (e : JournalFault) (before now : SinkTold) (ending : Ending) (P : Ending → Type 0) → OfLoads P → ClosesLoad e before now ending → P ending
 at_load_fault fault.Disk before now ending P each closes = subst P (sym closes.1) each.room
-at_load_fault (fault.NotOurs at) before now ending P each closes = subst P (sym closes.1) each.memory
+at_load_fault (fault.NotOurs at) before now ending P each closes = absurd closes
 at_load_fault (fault.Full at size) before now ending P each closes = at_says (full_line at size) (Full at size) before now ending P closes (each.full at size) each.output each.memory
 at_load_fault fault.Memory before now ending P each closes = subst P (sym closes.1) each.memory
 
@@ -31,7 +31,7 @@ at_load units before now ending P each (load_failed e is closes) = at_load_fault
 
 fault_output : (e : JournalFault) (before now : SinkTold) (ending : Ending) → ClosesLoad e before now ending → OutputCount ending before.faults now.faults
 fault_output fault.Disk before now ending closes = subst (λ e. OutputCount e before.faults now.faults) (sym closes.1) (ap (λ (s : SinkTold). s.faults) closes.0)
-fault_output (fault.NotOurs at) before now ending closes = subst (λ e. OutputCount e before.faults now.faults) (sym closes.1) (ap (λ (s : SinkTold). s.faults) closes.0)
+fault_output (fault.NotOurs at) before now ending closes = absurd closes
 fault_output (fault.Full at size) before now ending closes = says_output (full_line at size) (Full at size) before now ending (λ e. e) closes
 fault_output fault.Memory before now ending closes = subst (λ e. OutputCount e before.faults now.faults) (sym closes.1) (ap (λ (s : SinkTold). s.faults) closes.0)
 

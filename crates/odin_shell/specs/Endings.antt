@@ -37,7 +37,8 @@ ending_of stop.Output = Output
 ending_of (stop.Full at size) = Full at size
 ending_of stop.Quit = Whole
 
--- why the serving stops where the store failed; a change never finds that a file is not ours
+-- Why the serving stops where the store failed. That a file is not a store's no command finds: this row is for no fault that comes
+-- (`FileIsOurs`).
 abbrev pub stop_of : JournalFault → Stop
 stop_of fault.Disk = stop.Disk
 stop_of (fault.NotOurs at) = stop.Memory

@@ -96,10 +96,10 @@ ClosesFor fault.Memory before now ending = (now ≡ before) × (ending ≡ Memor
 
 -- ---- a load session
 
--- What is written where a load session failed so. Where its own disk has no more room nothing is. That its file is not ours never comes.
+-- What is written where a load session failed so. Where its own disk has no more room nothing is. Its file is a store's.
 abbrev pub ClosesLoad : JournalFault → SinkTold → SinkTold → Ending → Type 0
 ClosesLoad fault.Disk before now ending = (now ≡ before) × (ending ≡ Room)
-ClosesLoad (fault.NotOurs at) before now ending = (now ≡ before) × (ending ≡ Memory)
+ClosesLoad (fault.NotOurs at) before now ending = ⊥
 ClosesLoad (fault.Full at size) before now ending = SaysLastLine (full_line at size) (Full at size) before now ending
 ClosesLoad fault.Memory before now ending = (now ≡ before) × (ending ≡ Memory)
 

@@ -4,7 +4,7 @@ ghost use Rattle.odin_shell.specs.Endings.{ending_status};
 
 /// How a run ends. Each way has one status.
 #[derive(Clone, Copy)]
-pub(crate) enum Ending {
+pub enum Ending {
     Whole,
     CutShort,
     BadGraph,
@@ -25,7 +25,8 @@ pub(crate) enum Ending {
 }
 
 impl Ending {
-    pub(crate) fn status(self) -> u8
+    /// The exit status, from 0 to 10.
+    pub fn status(self) -> u8
         ensures { result ≡ ending_status self }
     {
         match self {

@@ -19,4 +19,5 @@ mod stop;
 mod whole;
 mod write;
 
+pub use ending::Ending;
 pub use entry::run;

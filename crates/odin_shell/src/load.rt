@@ -3,6 +3,7 @@ ghost use Rattle.std.specs.Prelude.{◌≡◌, ◌≤◌, ◌++◌, OnOk, IfOk};
 ghost use Rattle.meaning_texts.specs.Limits.{unit_limit};
 ghost use Rattle.odin_shell.specs.Loading.{spaced, counts_line, load_lines};
 ghost use Rattle.odin_shell.specs.Objects.{sink_of};
+ghost use Rattle.odin_journal.specs.Faults.{FileIsOurs};
 ghost use Rattle.odin_shell.specs.Run.{SaysLastLine, ClosesLoad, LoadEnds};
 
 use crate::ending::Ending;
@@ -61,16 +62,18 @@ fn tell<O: Sink>(alloc: Global, output: &mut O, units: u32, loaded: Loaded) -> E
     }
 }
 
-// Ends a load session that failed. Its file is a store's always.
+// Ends a load session that failed.
 fn end_failed<O: Sink>(alloc: Global, output: &mut O, fault: StoreFault) -> Ending
+    requires { FileIsOurs fault }
     ensures { let sink = sink_of O.Sink in
         ClosesLoad fault (sink output.old) (sink output.new) result }
 {
     match fault {
         StoreFault::Disk => Ending::Room,
         StoreFault::Full(at, size) => close(alloc, output, Ending::Full(at, size)),
-        // The first never comes here: the disk of a load is empty at its opening.
-        StoreFault::NotOurs(_) | StoreFault::Memory => Ending::Memory,
+        StoreFault::Memory => Ending::Memory,
+        // The disk of a load is empty at its opening.
+        StoreFault::NotOurs(_) => unreachable!(),
     }
 }
 

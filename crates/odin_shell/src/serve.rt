@@ -2,7 +2,7 @@
 ghost use Rattle.std.specs.Prelude.{◌≡◌, [], IfOk, OnOk, IfErr};
 ghost use Rattle.meaning_derive.specs.Answers as answers;
 ghost use Rattle.meaning_commands.specs.Objects.{SinkTold};
-ghost use Rattle.odin_journal.specs.Faults.{JournalFaultIsCounted};
+ghost use Rattle.odin_journal.specs.Faults.{FileIsOurs, JournalFaultIsCounted};
 ghost use Rattle.odin_answers.specs.Edits.{SaysReply, tree_of};
 ghost use Rattle.odin_shell.specs.Objects.{told_by};
 ghost use Rattle.odin_shell.specs.Served.{telling, MayServe, Answers, HaltsCommand, AnswersAsk, HaltsAsk, CountsStop, IsOnward};
@@ -42,7 +42,10 @@ pub(crate) fn serve_command<O: Sink, T: Tree, S: Spawner, D: Disk>(
     ensures onward { OnOk result (IsOnward D.Disk 1 engine.old engine.new disk.old disk.new) }
 {
     let last = ends_run(&whole.command);
-    let reply = answer(alloc, engine, whole, tree, tools, disk)?;
+    let reply = match answer(alloc, engine, whole, tree, tools, disk) {
+        Ok(reply) => reply,
+        Err(fault) => return Err(Stop::of_store(fault)),
+    };
     write_whole(output, reply.as_slice())?;
     if last {
         return Err(Stop::Quit);
@@ -70,6 +73,7 @@ fn answer<T: Tree, S: Spawner, D: Disk>(
         (telling sink (S.told tools.old) (told tree.old) disk.old) why
         (telling sink (S.told tools.new) (told tree.new) disk.new)) }
     ensures cause { JournalFaultIsCounted (D.faults disk.old) (D.faults disk.new) result }
+    ensures ours { IfErr result FileIsOurs }
     ensures onward { OnOk result (IsOnward D.Disk 1 engine.old engine.new disk.old disk.new) }
     ensures idle { OnOk result ((S.told tools.new).running ≡ []) }
 {
@@ -103,6 +107,7 @@ fn ask<S: Spawner, D: Disk>(
     ensures err { let halts = HaltsAsk D.Disk engine.old text.now (S.told tools.old) disk.old in
         IfErr result (λ why. halts why (S.told tools.new) disk.new) }
     ensures cause { JournalFaultIsCounted (D.faults disk.old) (D.faults disk.new) result }
+    ensures ours { IfErr result FileIsOurs }
     ensures onward { OnOk result (IsOnward D.Disk 1 engine.old engine.new disk.old disk.new) }
     ensures idle { OnOk result ((S.told tools.new).running ≡ []) }
 {

@@ -1,6 +1,7 @@
 // Why serving stopped.
 ghost use Rattle.std.specs.Prelude.{◌≡◌};
-ghost use Rattle.odin_shell.specs.Endings.{ending_of};
+ghost use Rattle.odin_journal.specs.Faults.{FileIsOurs};
+ghost use Rattle.odin_shell.specs.Endings.{ending_of, stop_of};
 
 use crate::ending::Ending;
 use object_values::Memory;
@@ -20,6 +21,20 @@ pub(crate) enum Stop {
 }
 
 impl Stop {
+    // Why serving stops where the store failed.
+    pub(crate) fn of_store(fault: StoreFault) -> Self
+        requires { FileIsOurs fault }
+        ensures { result ≡ stop_of fault }
+    {
+        match fault {
+            StoreFault::Disk => Stop::Disk,
+            // Only an opening finds a file that isn't a store's.
+            StoreFault::NotOurs(_) => unreachable!(),
+            StoreFault::Full(at, size) => Stop::Full(at, size),
+            StoreFault::Memory => Stop::Memory,
+        }
+    }
+
     pub(crate) fn ending(self) -> Ending
         ensures { result ≡ ending_of self }
     {
@@ -50,20 +65,5 @@ impl From<Failed> for Stop {
 
     fn from(_: Failed) -> Self {
         Stop::Output
-    }
-}
-
-impl From<StoreFault> for Stop {
-    ghost use Rattle.odin_shell.specs.Endings.{stop_of};
-
-    ghost from_gives = { λ fault stop. stop ≡ stop_of fault };
-
-    fn from(fault: StoreFault) -> Self {
-        match fault {
-            StoreFault::Disk => Stop::Disk,
-            // The first never comes here: only an opening finds a file that isn't ours.
-            StoreFault::NotOurs(_) | StoreFault::Memory => Stop::Memory,
-            StoreFault::Full(at, size) => Stop::Full(at, size),
-        }
     }
 }

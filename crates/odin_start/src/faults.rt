@@ -1,6 +1,8 @@
 // What the program says of its exit status.
-ghost use Rattle.std.specs.Prelude.{◌≡◌, ◌≢◌, Some, None};
-ghost use Rattle.odin_start.specs.Lines.{in_use_line};
+ghost use Rattle.std.specs.Prelude.{◌≡◌, ◌≢◌, None};
+ghost use Rattle.odin_shell.specs.declared.ending.Ending.{Ending as EndingValue};
+ghost use Rattle.odin_shell.specs.Endings.{ending_status};
+ghost use Rattle.odin_start.specs.Lines.{in_use_line, line_of};
 
 use thiserror::Error;
 
@@ -29,14 +31,9 @@ pub enum Fault {
     TooLong,
 }
 
-/// The fault that an exit status stands for, where standard error tells one: 2 and 9 have written a line of their own.
+/// The fault that an exit status stands for, where standard error tells one: 2, 7, 8 and 9 have written a line of their own.
 pub fn fault_of(status: u8) -> Option<Fault>
-    ensures cut_short { status ≡ 1 → result ≡ Some Fault.CutShort }
-    ensures disk { status ≡ 3 → result ≡ Some Fault.Disk }
-    ensures memory { status ≡ 4 → result ≡ Some Fault.Memory }
-    ensures output { status ≡ 5 → result ≡ Some Fault.Output }
-    ensures input { status ≡ 6 → result ≡ Some Fault.Input }
-    ensures too_long { status ≡ 10 → result ≡ Some Fault.TooLong }
+    ensures ends { (ending : EndingValue) → status ≡ ending_status ending → result ≡ line_of ending }
     ensures none { status ≢ 1 → status ≢ 3 → status ≢ 4 → status ≢ 5 → status ≢ 6 → status ≢ 10
         → result ≡ None }
 {

@@ -21,8 +21,8 @@ use Rattle.derive_walk.specs.NothingFits.{nothing_fits}
 use Rattle.derive_walk.specs.Walks.{Walked, new_walk, IsRight, OutcomeIsGiven, IsAdvanced, FindsOrWants, ExtendsWalk as WalkGoesOn}
 use Rattle.derive_walk.specs.Worlds.{World, world}
 use Rattle.job_runner.specs.Made.{IsOutcomeOfCall}
-use Rattle.plain_derive.specs.declared.fault.PlainFault.{PlainFault}
-use Rattle.plain_derive.specs.declared.fault.PlainFault.TheVariants.{Memory}
+use Rattle.job_runner.specs.declared.fault.JobFault.{JobFault}
+use Rattle.job_runner.specs.declared.fault.JobFault.TheVariants.{Memory}
 use Rattle.plain_derive.specs.Logs.{closed, IsCut, IsOutOfMemory, after_calls, IsRefusedAtOnce, HasDerived, HasGivenUp}
 use Rattle.plain_derive.specs.Given.{calls_of, AreGiven}
 use Rattle.plain_derive.specs.Ways.{IsSoFar, StopsWalk}
@@ -83,10 +83,10 @@ module _ (g : Graph) (s : Sources) (n : Node) (before : Spawned) (walked : Walke
   -- ---- it is given up
 
   -- Memory was wanting, or a wanted call was given up.
-  abbrev pub IsStop : PlainFault → Spawned → Type 0
+  abbrev pub IsStop : JobFault → Spawned → Type 0
   IsStop fault now = IsOutOfMemory fault mid now ⊎ ((call : Call) × IsIn call walked.wanted × IsCut fault call mid now)
 
-  pub given_up : (fault : PlainFault) (now : Spawned) → IsStop fault now → (IsRefusedAtOnce g s n → now ≡ before) → HasGivenUp g s n before now fault
+  pub given_up : (fault : JobFault) (now : Spawned) → IsStop fault now → (IsRefusedAtOnce g s n → now ≡ before) → HasGivenUp g s n before now fault
   given_up fault now stop untouched =
       let way = go_by before.answer walked.given so.came in
       record {
@@ -158,14 +158,14 @@ module _ (g : Graph) (s : Sources) (n : Node) (before : Spawned) (walked : Walke
 
 -- ---- as the answers say it
 
-pub stopped_at : {T : Type 0} (r : Result T PlainFault) (walked : Walked) (before now : Spawned) (fault : PlainFault) → r ≡ Err fault → StopsWalk walked before now fault → IfErr r (StopsWalk walked before now)
+pub stopped_at : {T : Type 0} (r : Result T JobFault) (walked : Walked) (before now : Spawned) (fault : JobFault) → r ≡ Err fault → StopsWalk walked before now fault → IfErr r (StopsWalk walked before now)
 stopped_at r walked before now fault is stops = subst (λ x. IfErr x (StopsWalk walked before now)) (sym is) stops
 
-pub given_up_at : {T : Type 0} (r : Result T PlainFault) (g : Graph) (s : Sources) (n : Node) (before now : Spawned) (fault : PlainFault) → r ≡ Err fault → HasGivenUp g s n before now fault → IfErr r (HasGivenUp g s n before now)
+pub given_up_at : {T : Type 0} (r : Result T JobFault) (g : Graph) (s : Sources) (n : Node) (before now : Spawned) (fault : JobFault) → r ≡ Err fault → HasGivenUp g s n before now fault → IfErr r (HasGivenUp g s n before now)
 given_up_at r g s n before now fault is cut = subst (λ x. IfErr x (HasGivenUp g s n before now)) (sym is) cut
 
 -- what stops each derivation on its way
-pub stops : (walked : Walked) (mid now : Spawned) (fault : PlainFault) → IsOutOfMemory fault mid now ⊎ ((call : Call) × IsIn call walked.wanted × IsCut fault call mid now) → StopsWalk walked mid now fault
+pub stops : (walked : Walked) (mid now : Spawned) (fault : JobFault) → IsOutOfMemory fault mid now ⊎ ((call : Call) × IsIn call walked.wanted × IsCut fault call mid now) → StopsWalk walked mid now fault
 stops walked mid now fault stop = λ g s n first calm so. given_up g s n first walked mid so fault now stop (λ r. absurd (calm r))
 
 -- it is given up before anything is done

@@ -13,8 +13,8 @@ use Rattle.odin_outside.specs.declared.spawner.FinishFault.TheVariants.{Failed, 
 use Rattle.meaning_calls.specs.Jobs.{job_of}
 use Rattle.meaning_calls.specs.Outcomes.{outcome_of}
 use Rattle.meaning_derive.specs.Given.{table_outcomes}
-use Rattle.plain_derive.specs.declared.fault.PlainFault.{PlainFault}
-use Rattle.plain_derive.specs.Faults.{of_finish}
+use Rattle.job_runner.specs.declared.fault.JobFault.{JobFault}
+use Rattle.job_runner.specs.Faults.{job_fault_of_finish}
 use Rattle.plain_derive.specs.Logs.{spawned_after_start, closed, HasLostEnd, IsCut}
 use Rattle.odin_outside.specs.Causes.{IsCounted}
 use Rattle.odin_outside.specs.Spawned.{Table, Spawned, IsRunning, IsLeastFree, begun, noted, StopsJob, Ends, Loses, IsAnswerToJob}
@@ -106,10 +106,10 @@ module _ (old mid new : Spawned) (slot : ℕ) (job : Job) (call : Call) (idle : 
         is = closed_is ended l.job (Lost ended) new.faults l.stops ∙ ap (λ k. record (closed old call (Lost k)) { faults = new.faults }) first;
       }
 
-  pub cut_told : (fault : FinishFault) → ((s : ℕ) → IsEnd fault (Failed s) → Loses mid s new) → (IsEnd fault Memory → new ≡ mid) → IsCut (of_finish fault) call old new
+  pub cut_told : (fault : FinishFault) → ((s : ℕ) → IsEnd fault (Failed s) → Loses mid s new) → (IsEnd fault Memory → new ≡ mid) → IsCut (job_fault_of_finish fault) call old new
   cut_told (Failed ended) lost same = inr (lost_told ended (lost ended refl))
   cut_told Memory lost same = inr (inl (same refl ∙ started_is))
 
 -- What was given up is so at the fault that is answered.
-pub cut_at : {T : Type 0} (r : Result T PlainFault) (call : Call) (old new : Spawned) (fault : PlainFault) → r ≡ Err fault → IsCut fault call old new → IfErr r (λ f. IsCut f call old new)
+pub cut_at : {T : Type 0} (r : Result T JobFault) (call : Call) (old new : Spawned) (fault : JobFault) → r ≡ Err fault → IsCut fault call old new → IfErr r (λ f. IsCut f call old new)
 cut_at r call old new fault is cut = subst (λ x. IfErr x (λ f. IsCut f call old new)) (sym is) cut

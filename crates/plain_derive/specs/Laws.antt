@@ -11,8 +11,8 @@ use Rattle.meaning_derive.specs.Calls.{IsCallFrom}
 use Rattle.derive_walk.specs.Calls.{AreOnce}
 use Rattle.derive_walk.specs.declared.found.Found.{Found}
 use Rattle.derive_walk.specs.Founds.{IsFound}
-use Rattle.plain_derive.specs.declared.fault.PlainFault.{PlainFault}
-use Rattle.plain_derive.specs.declared.fault.PlainFault.TheVariants.{Spawn, Memory}
+use Rattle.job_runner.specs.declared.fault.JobFault.{JobFault}
+use Rattle.job_runner.specs.declared.fault.JobFault.TheVariants.{Spawn, Memory}
 use Rattle.plain_derive.specs.Logs.{among, AreMade, HasMade, IsPartialRun}
 
 -- What is found by the calls that were made is found by all outcomes.
@@ -48,12 +48,12 @@ MadeCountsNone =
     (before now : Spawned) → HasMade g s outcomes n calls before now → now.faults ≡ before.faults
 
 -- how the count of faults goes on: want of memory is no fault
-abbrev pub CountedFor : PlainFault → Spawned → Spawned → Type 0
+abbrev pub CountedFor : JobFault → Spawned → Spawned → Type 0
 CountedFor Memory before now = now.faults ≡ before.faults
 CountedFor Spawn before now = IsCounted before.faults now.faults
 
 -- One that was given up counted its fault.
 abbrev pub GivenUpIsCounted : Type 0
 GivenUpIsCounted =
-    (g : Graph) (s : Sources) (outcomes : Outcomes) (n : Node) (fault : PlainFault)
+    (g : Graph) (s : Sources) (outcomes : Outcomes) (n : Node) (fault : JobFault)
     (before now : Spawned) → IsPartialRun g s outcomes n fault before now → CountedFor fault before now

@@ -1,4 +1,3 @@
-pub mod Faults
 pub mod Made
 pub mod Given
 pub mod Logs

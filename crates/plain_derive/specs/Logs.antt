@@ -14,8 +14,8 @@ use Rattle.derive_walk.specs.Calls.{call_in}
 use Rattle.derive_walk.specs.declared.found.Found.{Found}
 use Rattle.derive_walk.specs.Founds.{IsFound}
 use Rattle.derive_walk.specs.Outcomes.{nothing_known}
-use Rattle.plain_derive.specs.declared.fault.PlainFault.{PlainFault}
-use Rattle.plain_derive.specs.declared.fault.PlainFault.TheVariants.{Spawn, Memory}
+use Rattle.job_runner.specs.declared.fault.JobFault.{JobFault}
+use Rattle.job_runner.specs.declared.fault.JobFault.TheVariants.{Spawn, Memory}
 use Rattle.plain_derive.specs.Given.{IsRefusedBy}
 use Rattle.plain_derive.specs.Made.{AreGivenBy}
 
@@ -40,13 +40,13 @@ pub record HasLostEnd (call : Call) (before now : Spawned) : Type 0 where
 -- What is left of a call that was given up. Memory may be wanting before its start, before its end,
 -- and after it. Otherwise it was not started, or its end was lost: then it has not ended, and the
 -- fault was counted.
-abbrev pub IsCut : PlainFault → Call → Spawned → Spawned → Type 0
+abbrev pub IsCut : JobFault → Call → Spawned → Spawned → Type 0
 IsCut Memory call before now =
     (now ≡ before) ⊎ ((now ≡ spawned_after_start before call) ⊎ (now ≡ closed before call (Ended 0)))
 IsCut Spawn call before now = Fails before now ⊎ HasLostEnd call before now
 
 -- Memory was wanting, and nothing happened.
-pub record IsOutOfMemory (fault : PlainFault) (before now : Spawned) : Type 0 where
+pub record IsOutOfMemory (fault : JobFault) (before now : Spawned) : Type 0 where
   pub memory : fault ≡ Memory
   pub same : now ≡ before
 
@@ -84,13 +84,13 @@ pub record HasMade (g : Graph) (s : Sources) (outcomes : Outcomes) (n : Node) (c
 
 -- The next call of the derivation, after these, was given up.
 pub record NextIsCut (g : Graph) (s : Sources) (outcomes : Outcomes) (n : Node) (calls : List Call)
-    (fault : PlainFault) (before now : Spawned) : Type 0 where
+    (fault : JobFault) (before now : Spawned) : Type 0 where
   pub call : Call
   pub stops : IsFrontier g s (among outcomes calls) n call
   pub cut : IsCut fault call before now
 
 -- Calls of the derivation were made, and then memory was wanting, or the next one was given up.
-pub record IsPartialRun (g : Graph) (s : Sources) (outcomes : Outcomes) (n : Node) (fault : PlainFault)
+pub record IsPartialRun (g : Graph) (s : Sources) (outcomes : Outcomes) (n : Node) (fault : JobFault)
     (before now : Spawned) : Type 0 where
   pub calls : List Call
   pub are : AreMade g s outcomes n calls
@@ -112,13 +112,13 @@ pub record HasDerived (g : Graph) (s : Sources) (n : Node) (before now : Spawned
 
 -- By outcomes that the tools gave the derivation was begun, and then given up.
 pub record HasGivenUp (g : Graph) (s : Sources) (n : Node) (before now : Spawned)
-    (fault : PlainFault) : Type 0 where
+    (fault : JobFault) : Type 0 where
   pub outcomes : Outcomes
   pub given : AreGivenBy before.answer outcomes
   pub begun : IsPartialRun g s outcomes n fault before now
 
 -- The tools answer as before, at most one of them runs, and none unless memory was wanting.
-pub record ComeToRest (before now : Spawned) (result : Result Found PlainFault) : Type 0 where
+pub record ComeToRest (before now : Spawned) (result : Result Found JobFault) : Type 0 where
   pub answer : now.answer ≡ before.answer
   pub one : length now.running ≤ 1
   pub idle : result ≢ Err Memory → now.running ≡ []

@@ -7,7 +7,7 @@ use Rattle.meaning_derive.specs.Derive.{Sources}
 use Rattle.derive_walk.specs.Outcomes.{nothing_known, after}
 use Rattle.derive_walk.specs.Walks.{Walked, IsRight}
 use Rattle.derive_walk.specs.Worlds.{world}
-use Rattle.plain_derive.specs.declared.fault.PlainFault.{PlainFault}
+use Rattle.job_runner.specs.declared.fault.JobFault.{JobFault}
 use Rattle.plain_derive.specs.Given.{calls_of, AreGiven, HaveCome}
 use Rattle.plain_derive.specs.Logs.{after_calls, IsRefusedAtOnce, HasGivenUp}
 
@@ -27,7 +27,7 @@ ExtendsDerivation old before new now =
     (g : Graph) (s : Sources) (n : Node) (first : Spawned)
     → IsSoFar g s n first old before → IsSoFar g s n first new now
 
-abbrev pub StopsWalk : Walked → Spawned → Spawned → PlainFault → Type 0
+abbrev pub StopsWalk : Walked → Spawned → Spawned → JobFault → Type 0
 StopsWalk old before now fault =
     (g : Graph) (s : Sources) (n : Node) (first : Spawned) → ¬ IsRefusedAtOnce g s n
     → IsSoFar g s n first old before → HasGivenUp g s n first now fault

@@ -6,9 +6,9 @@ ghost use Rattle.meaning_derive.specs.Given.{AreSources};
 ghost use Rattle.path_planner.specs.Ends.{plans_of};
 ghost use Rattle.plain_derive.specs.Logs.{HasDerived, HasGivenUp, ComeToRest};
 
-use crate::fault::PlainFault;
 use crate::running::run_wanted;
 use derive_walk::{Found, NothingKept, Walker};
+use job_runner::JobFault;
 use object_values::{Copied, Node, Sources};
 use odin_outside::{Spawner, Steps};
 use path_planner::{PlannedGraph, Plans};
@@ -26,7 +26,7 @@ pub fn derive_plain<S: Spawner>(
     sources: &Sources,
     node: &Node,
     tools: &mut S,
-) -> Result<Found, PlainFault>
+) -> Result<Found, JobFault>
     requires spellable { IsSpellable graph.now }
     requires made { plans.now ≡ plans_of graph.now }
     requires fits { Fits graph.now node.now }
@@ -50,7 +50,7 @@ fn derive_counted<S: Spawner, L: Ledger>(
     node: &Node,
     tools: &mut S,
     blank: Blank,
-) -> Result<Found, PlainFault>
+) -> Result<Found, JobFault>
     requires blank { (blank.name ≡ L.name) × (blank.parts ≡ L.parts) × (0 < L.parts) }
     requires spellable { IsSpellable planned.now }
     requires fits { Fits planned.now node.now }
@@ -73,6 +73,6 @@ fn derive_counted<S: Spawner, L: Ledger>(
     }
     match walker.into_result() {
         Some(found) => Ok(found),
-        None => Err(PlainFault::Memory),
+        None => Err(JobFault::Memory),
     }
 }

@@ -5,8 +5,8 @@ ghost use Rattle.job_runner.specs.Made.{IsOutcomeOfCall};
 ghost use Rattle.plain_derive.specs.Logs.{closed, IsCut};
 ghost use Rattle.plain_derive.specs.Ways.{ExtendsDerivation, StopsWalk};
 
-use crate::fault::PlainFault;
 use derive_walk::Walker;
+use job_runner::JobFault;
 use object_values::{Call, Copied, Outcome};
 use odin_outside::Spawner;
 use std::alloc::Global;
@@ -17,7 +17,7 @@ pub(crate) fn run_wanted<S: Spawner>(
     alloc: Global,
     walker: &mut Walker,
     tools: &mut S,
-) -> Result<(), PlainFault>
+) -> Result<(), JobFault>
     requires idle { (S.told tools.old).running ≡ [] }
     requires none { walker.old.result ≡ None }
     ensures on { OnOk result
@@ -34,11 +34,7 @@ pub(crate) fn run_wanted<S: Spawner>(
 }
 
 // Runs the first wanted call, if there is one.
-fn run_first<S: Spawner>(
-    alloc: Global,
-    walker: &mut Walker,
-    tools: &mut S,
-) -> Result<(), PlainFault>
+fn run_first<S: Spawner>(alloc: Global, walker: &mut Walker, tools: &mut S) -> Result<(), JobFault>
     requires idle { (S.told tools.old).running ≡ [] }
     requires none { walker.old.result ≡ None }
     ensures on { OnOk result
@@ -57,11 +53,7 @@ fn run_first<S: Spawner>(
 }
 
 /// Runs the tool of a call to its end, while no other runs.
-pub fn run_call<S: Spawner>(
-    alloc: Global,
-    call: &Call,
-    tools: &mut S,
-) -> Result<Outcome, PlainFault>
+pub fn run_call<S: Spawner>(alloc: Global, call: &Call, tools: &mut S) -> Result<Outcome, JobFault>
     requires { (S.told tools.old).running ≡ [] }
     ensures outcome { IfOk result (IsOutcomeOfCall (S.told tools.old).answer call.now) }
     ensures made { OnOk result (S.told tools.new ≡ closed (S.told tools.old) call.now (Ended 0)) }
