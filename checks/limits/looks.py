@@ -144,7 +144,7 @@ def put_on_loop(bench, row, folder):
 
 # How the line of a status begins: what comes after a space at its end is of the system.
 FILTER_LINES = {"odin_get": {3: "odin_get: cannot ", 4: "odin_get: out of memory"}, "odin": LINES,
-                "odin_takes": {3: "odin_takes: read or write fault", 4: "odin_takes: out of memory"}}
+                "odin_takes": {3: "odin_takes: cannot ", 4: "odin_takes: out of memory"}}
 
 
 # what a file has that is written over, and what the object in it is (`OBJECT` of rows.py)

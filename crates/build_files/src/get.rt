@@ -5,6 +5,7 @@ ghost use Rattle.build_files.specs.declared.files.Files.TheVariants.{Nothing};
 ghost use Rattle.build_files.specs.GetFaults as faults;
 
 use crate::answers::{exit_status, last_answer};
+use crate::causes::Cause;
 use crate::files::{Files, files_of};
 use crate::messages::lines_of;
 use crate::whole::write_whole;
@@ -22,10 +23,10 @@ use thiserror::Error;
 pub enum Fault {
     #[error("odin_get: no replies on the input")]
     Replies,
-    #[error("odin_get: cannot read standard input: {0}")]
-    Input(String),
-    #[error("odin_get: cannot write {place}: {cause}")]
-    Output { place: String, cause: String },
+    #[error("odin_get: cannot read {0}")]
+    Input(Cause),
+    #[error("odin_get: cannot write {0}")]
+    Output(Cause),
     #[error("odin_get: out of memory")]
     Memory,
     #[error("usage: odin_get [-o FILE] [-m] [-l]")]
@@ -44,42 +45,23 @@ impl Fault {
     {
         match self {
             Fault::Replies => 2,
-            Fault::Input(_) | Fault::Output { .. } => 3,
+            Fault::Input(_) | Fault::Output(_) => 3,
             Fault::Memory => 4,
             Fault::Words => 9,
         }
     }
 }
 
-/// The text of a cause, without the number that the system has for it.
-fn cause_of(alloc: Global, error: &io::Error) -> Result<String, Memory> {
-    let text = format!(in alloc; "{error}").map_err(|_| Memory)?;
-    match text.split_once(" (os error ") {
-        Some((cause, _)) => String::from_str(alloc, cause).map_err(|_| Memory),
-        None => Ok(text),
-    }
-}
-
 fn input_fault(alloc: Global, error: &io::Error) -> Fault {
-    if error.kind() == io::ErrorKind::OutOfMemory {
-        return Fault::Memory;
-    }
-    match cause_of(alloc, error) {
+    match Cause::at(alloc, "standard input", error) {
         Ok(cause) => Fault::Input(cause),
         Err(Memory) => Fault::Memory,
     }
 }
 
-/// The fault of a write to a place: a file or a folder by its path, or a stream by its name.
 fn output_fault(alloc: Global, place: &str, error: &io::Error) -> Fault {
-    if error.kind() == io::ErrorKind::OutOfMemory {
-        return Fault::Memory;
-    }
-    let Ok(place) = String::from_str(alloc, place) else {
-        return Fault::Memory;
-    };
-    match cause_of(alloc, error) {
-        Ok(cause) => Fault::Output { place, cause },
+    match Cause::at(alloc, place, error) {
+        Ok(cause) => Fault::Output(cause),
         Err(Memory) => Fault::Memory,
     }
 }

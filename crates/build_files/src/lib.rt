@@ -3,6 +3,7 @@
 #![tactic(auto)]
 
 mod answers;
+pub mod causes;
 mod examples;
 pub mod files;
 pub mod get;

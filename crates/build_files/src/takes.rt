@@ -2,10 +2,12 @@
 ghost use Rattle.std.specs.Prelude.{◌≡◌, ◌≤◌, true, false, IfOk};
 ghost use Rattle.build_files.specs.TakeFaults as meaning;
 
+use crate::causes::Cause;
 use crate::listed::{listed, write_takes};
 use crate::paths::tidy;
 use crate::walk::{Found, take_below};
 use object_values::{Bytes, Memory};
+use std::alloc::Global;
 use std::env::Env;
 use std::io::Write;
 use std::{env, io};
@@ -14,8 +16,10 @@ use thiserror::Error;
 /// Why a run ended with nothing printed.
 #[derive(Debug, Drop, Error)]
 pub enum Fault {
-    #[error("odin_takes: read or write fault")]
-    System,
+    #[error("odin_takes: cannot read {0}")]
+    Input(Cause),
+    #[error("odin_takes: cannot write {0}")]
+    Output(Cause),
     #[error("odin_takes: out of memory")]
     Memory,
     #[error("usage: odin_takes FOLDER..")]
@@ -28,13 +32,18 @@ impl From<Memory> for Fault {
     }
 }
 
-impl From<io::Error> for Fault {
-    fn from(error: io::Error) -> Self {
-        if error.kind() == io::ErrorKind::OutOfMemory {
-            Fault::Memory
-        } else {
-            Fault::System
-        }
+/// The fault of a look at a folder, or at what stands in it.
+pub(crate) fn input_fault(alloc: Global, place: &str, error: &io::Error) -> Fault {
+    match Cause::at(alloc, place, error) {
+        Ok(cause) => Fault::Input(cause),
+        Err(Memory) => Fault::Memory,
+    }
+}
+
+fn output_fault(alloc: Global, error: &io::Error) -> Fault {
+    match Cause::at(alloc, "standard output", error) {
+        Ok(cause) => Fault::Output(cause),
+        Err(Memory) => Fault::Memory,
     }
 }
 
@@ -43,7 +52,7 @@ impl Fault {
         ensures { result ≡ meaning.takes_fault_status self.now }
     {
         match self {
-            Fault::System => 3,
+            Fault::Input(_) | Fault::Output(_) => 3,
             Fault::Memory => 4,
             Fault::Words => 9,
         }
@@ -94,6 +103,14 @@ fn find(rt: &HostRuntime, words: &[String]) -> Result<Found, Fault> {
     Ok(found)
 }
 
+fn print(rt: &HostRuntime, lines: &[u8]) -> Result<(), Fault> {
+    let mut out = io::writer(rt);
+    match out.write_all(lines).and_then(|()| out.flush()) {
+        Ok(()) => Ok(()),
+        Err(error) => Err(output_fault(rt.alloc(), &error)),
+    }
+}
+
 /// The exit status of a run with the words of the program. What it printed is no clause, since the system tells neither its words nor what stands in its
 /// folders.
 pub fn run(rt: &HostRuntime) -> Result<u8, Fault>
@@ -105,8 +122,6 @@ pub fn run(rt: &HostRuntime) -> Result<u8, Fault>
     let names = listed(found.into_names())?;
     let mut lines = Bytes::new(rt.alloc());
     write_takes(names.as_slice(), &mut lines)?;
-    let mut out = io::writer(rt);
-    out.write_all(lines.as_slice())?;
-    out.flush()?;
+    print(rt, lines.as_slice())?;
     Ok(status)
 }

@@ -3,9 +3,10 @@ ghost use Rattle.std.specs.Prelude.{◌≡◌};
 ghost use Rattle.build_files.specs.Found.{FindsMore};
 
 use crate::paths::{add_step, leads};
-use crate::takes::Fault;
+use crate::takes::{Fault, input_fault};
 use object_values::{Bytes, Copied, Memory};
 use odin_bytes::{Name, read_name};
+use std::alloc::Global;
 use std::{fs, io};
 
 /// What was found below the folders.
@@ -44,12 +45,23 @@ impl Found {
     }
 }
 
-/// The path as the system takes it: the current folder is `.`.
-fn text_of(path: &[u8]) -> Result<&str, Fault> {
+/// The path as the system takes it: the current folder is `.`. Of words and names that are texts all paths are texts.
+fn text_of(alloc: Global, path: &[u8]) -> Result<&str, Fault> {
     if path.is_empty() {
         return Ok(".");
     }
-    std::str::from_utf8(path).map_err(|_| Fault::System)
+    match std::str::from_utf8(path) {
+        Ok(text) => Ok(text),
+        Err(_) => {
+            let error = io::Error::from(io::ErrorKind::InvalidFilename);
+            Err(input_fault(alloc, "a path", &error))
+        }
+    }
+}
+
+/// Tells on standard error what is passed over. Where that is closed nobody reads it, and the names are found all the same.
+fn tell(rt: &HostRuntime, what: &str, place: &str) {
+    let _ = eprintln!(rt; "odin_takes: {what}{place}");
 }
 
 /// Whether a path leads to a file at last, and not to a folder or a device.
@@ -67,8 +79,8 @@ fn take_file(rt: &HostRuntime, path: &[u8], found: &mut Found) -> Result<(), Fau
         Some(name) => found.names.push(name).map_err(|_| Fault::Memory),
         None => {
             found.odd = true;
-            let text = text_of(path)?;
-            eprintln!(rt; "odin_takes: no name: {text}")?;
+            let text = text_of(rt.alloc(), path)?;
+            tell(rt, "no name: ", text);
             Ok(())
         }
     }
@@ -88,7 +100,7 @@ fn take_entry(
         return folders.push(path).map_err(|_| Fault::Memory);
     }
     let is_file = kind.is_file()
-        || (kind.is_symlink() && leads_to_file(rt, text_of(path.as_slice())?));
+        || (kind.is_symlink() && leads_to_file(rt, text_of(rt.alloc(), path.as_slice())?));
     if is_file {
         take_file(rt, path.as_slice(), found)?;
     }
@@ -105,23 +117,32 @@ fn take_folder(
 ) -> Result<(), Fault>
     ensures { FindsMore found.old found.new }
 {
-    for entry in fs::read_dir(rt, text_of(folder.as_slice())?)? {
+    let place = text_of(rt.alloc(), folder.as_slice())?;
+    let entries = match fs::read_dir(rt, place) {
+        Ok(entries) => entries,
+        Err(error) => return Err(input_fault(rt.alloc(), place, &error)),
+    };
+    for entry in entries {
         let entry = match entry {
             Ok(entry) => entry,
             Err(error) => {
                 if error.kind() == io::ErrorKind::InvalidFilename {
                     found.odd = true;
-                    eprintln!(rt; "odin_takes: a name that is no text")?;
+                    tell(rt, "a name that is no text", "");
                     continue;
                 }
-                return Err(error.into());
+                return Err(input_fault(rt.alloc(), place, &error));
             }
         };
         let name = entry.file_name().as_bytes();
         if leads(name) {
             let mut path = folder.copy(rt.alloc())?;
             add_step(&mut path, name)?;
-            take_entry(rt, path, entry.file_type()?, folders, found)?;
+            let kind = match entry.file_type() {
+                Ok(kind) => kind,
+                Err(error) => return Err(input_fault(rt.alloc(), place, &error)),
+            };
+            take_entry(rt, path, kind, folders, found)?;
         }
     }
     Ok(())
@@ -132,10 +153,10 @@ fn take_folder(
 pub fn take_below(rt: &HostRuntime, folder: Bytes, found: &mut Found) -> Result<(), Fault>
     ensures { FindsMore found.old found.new }
 {
-    if !is_folder(rt, text_of(folder.as_slice())?) {
+    let place = text_of(rt.alloc(), folder.as_slice())?;
+    if !is_folder(rt, place) {
         found.missing = true;
-        let name = text_of(folder.as_slice())?;
-        eprintln!(rt; "odin_takes: no folder: {name}")?;
+        tell(rt, "no folder: ", place);
         return Ok(());
     }
     let mut folders = Vec::new(rt.alloc());
