@@ -1,5 +1,6 @@
 -- Worked bytes of records, and bytes that are of no record.
 use Rattle.std.specs.Prelude.{◌≡◌, ℕ, List, [], ◌∷◌, ◌++◌, Some, None, codes}
+use Rattle.object_values.specs.declared.messages.Message.{Message}
 use Rattle.object_values.specs.declared.messages.Status.{Status}
 use Rattle.object_values.specs.declared.messages.Status.TheVariants.{Ok, Warning, Error, Abort}
 use Rattle.object_values.specs.declared.nodes.ParamValue.{ParamValue}
@@ -10,9 +11,11 @@ use Rattle.object_values.specs.declared.views.Value.TheVariants.{Simple, List as
 use Rattle.object_values.specs.declared.calls.OwnLine.{OwnLine}
 use Rattle.object_values.specs.declared.items.StoredCall.{StoredCall}
 use Rattle.object_values.specs.declared.items.StoredOutcome.{StoredOutcome}
+use Rattle.object_values.specs.declared.items.StoredDep.{StoredDep}
+use Rattle.object_values.specs.declared.items.StoredRecord.{StoredRecord}
 use Rattle.object_values.specs.declared.items.Item.TheVariants.{Graph, Content, Put, Dropped, Kept}
 use Rattle.meaning_records.specs.Forms.{bytes, number, both, option_of, ParsesAt, StandsNowhere}
-use Rattle.meaning_records.specs.Records.{status, step, value, line, item}
+use Rattle.meaning_records.specs.Records.{status, step, value, line, message, dep, node_record, item}
 use Rattle.meaning_records.specs.States.{State, spell_batch, Reads}
 
 -- ---- the bytes of items
@@ -80,6 +83,77 @@ pub record BytesOfItems : Type 0 where
   pub put : item.spell (Put (codes "a.c") 16909060) ≡ 3 ∷ text 3 (codes "a.c") ++ 1 ∷ 2 ∷ 3 ∷ 4 ∷ []
   pub drop : item.spell (Dropped (codes "a.c")) ≡ 4 ∷ text 3 (codes "a.c")
   pub kept : item.spell (Kept stored_call stored_outcome) ≡ 5 ∷ call_bytes ++ outcome_bytes
+
+-- ---- the bytes of a record of a node
+
+-- a source that was there, and one that was absent and is a reached source
+abbrev pub ex_present_dep : StoredDep
+ex_present_dep = record { node = record { source = codes "a.c"; params = []; steps = [] }; content = Some 3 }
+
+abbrev pub ex_absent_dep : StoredDep
+ex_absent_dep = record { node = record { source = codes "x.h"; params = []; steps = [] }; content = None }
+
+-- the message of its call, and that of a need
+abbrev pub ex_own_message : Message
+ex_own_message = record { label = codes "a"; level = Warning; text = codes "own" }
+
+abbrev pub ex_need_message : Message
+ex_need_message = record { label = codes "b"; level = Error; text = codes "need" }
+
+-- a node whose call has warned, over a need with an error
+abbrev pub ex_node_record : StoredRecord
+ex_node_record = record {
+  node = first_element;
+  deps = ex_present_dep ∷ ex_absent_dep ∷ [];
+  reached = 1;
+  value = Some 5;
+  own_status = Warning;
+  own_messages = ex_own_message ∷ [];
+  status = Error;
+  messages = ex_need_message ∷ ex_own_message ∷ [];
+  height = 4;
+}
+
+-- a node at abort, which has no value
+abbrev pub ex_aborted_record : StoredRecord
+ex_aborted_record = record {
+  node = record { source = codes "m.x"; params = []; steps = Maker 7 ∷ [] };
+  deps = [];
+  reached = 0;
+  value = None;
+  own_status = Abort;
+  own_messages = [];
+  status = Abort;
+  messages = ex_need_message ∷ [];
+  height = 64;
+}
+
+abbrev pub node_bytes : List ℕ
+node_bytes = text 3 (codes "a.c") ++ four 1 ++ text 5 (codes "debug") ++ text 1 (codes "1") ++ four 2 ++ 1 ∷ 0 ∷ 0 ∷ 1 ∷ 2 ∷ [] ++ 2 ∷ text 1 (codes "1")
+
+abbrev pub own_message_bytes : List ℕ
+own_message_bytes = text 1 (codes "a") ++ 1 ∷ text 3 (codes "own")
+
+abbrev pub need_message_bytes : List ℕ
+need_message_bytes = text 1 (codes "b") ++ 2 ∷ text 4 (codes "need")
+
+abbrev pub present_dep_bytes : List ℕ
+present_dep_bytes = text 3 (codes "a.c") ++ four 0 ++ four 0 ++ 1 ∷ four 3
+
+abbrev pub absent_dep_bytes : List ℕ
+absent_dep_bytes = text 3 (codes "x.h") ++ four 0 ++ four 0 ++ 0 ∷ []
+
+pub record BytesOfNodeRecords : Type 0 where
+  pub need_message : message.spell ex_need_message ≡ need_message_bytes
+  pub present_dep : dep.spell ex_present_dep ≡ present_dep_bytes
+  pub absent_dep : dep.spell ex_absent_dep ≡ absent_dep_bytes
+  pub warned : node_record.spell ex_node_record
+      ≡ node_bytes ++ four 2 ++ present_dep_bytes ++ absent_dep_bytes ++ four 1 ++ 1 ∷ four 5
+      ++ 1 ∷ four 1 ++ own_message_bytes ++ 2 ∷ four 2 ++ need_message_bytes ++ own_message_bytes ++ four 4
+  pub aborted : node_record.spell ex_aborted_record
+      ≡ text 3 (codes "m.x") ++ four 0 ++ four 1 ++ 1 ∷ four 7 ++ four 0 ++ four 0 ++ 0 ∷ 3 ∷ four 0 ++ 3 ∷ four 1 ++ need_message_bytes ++ four 64
+
+-- ---- a batch, and a thing between others
 
 -- the first put of an empty text over a store that holds a graph alone: 22 bytes
 abbrev pub FirstPut : Type 0

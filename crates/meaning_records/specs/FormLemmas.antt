@@ -1,6 +1,7 @@
 -- Each form is of one thing: what it spells tells the thing, and where it ends.
 use Rattle.std.proofs.Common.{◌≡◌, ℕ, zero, suc, List, [], ◌∷◌, ◌++◌, length, flat_map, Option, Some, None, refl, sym, ap, ap₂, ◌∙◌, append_assoc, All}
 use Rattle.std.proofs.lemmas.List.Elements.{All-head, All-tail}
+use Rattle.object_values.specs.declared.messages.Message.{Message}
 use Rattle.object_values.specs.declared.messages.Status.{Status}
 use Rattle.object_values.specs.declared.messages.Status.TheVariants.{Ok, Warning, Error, Abort}
 use Rattle.object_values.specs.declared.nodes.ParamValue.{ParamValue}
@@ -17,9 +18,11 @@ use Rattle.object_values.specs.declared.items.StoredPart.{StoredPart}
 use Rattle.object_values.specs.declared.items.StoredCall.{StoredCall}
 use Rattle.object_values.specs.declared.items.StoredOutput.{StoredOutput}
 use Rattle.object_values.specs.declared.items.StoredOutcome.{StoredOutcome}
+use Rattle.object_values.specs.declared.items.StoredDep.{StoredDep}
+use Rattle.object_values.specs.declared.items.StoredRecord.{StoredRecord}
 use Rattle.object_values.specs.declared.items.Item.TheVariants.{Graph, Content, Put, Dropped, Kept}
 use Rattle.meaning_records.specs.Forms.{Form, IsOfOneThing, bytes, number, both, by_parts, list_of, option_of}
-use Rattle.meaning_records.specs.Records.{status_number, status, pair, step, node, part, value, stored_part, call, line, output, outcome, content, item}
+use Rattle.meaning_records.specs.Records.{status_number, status, pair, step, node, part, value, stored_part, call, line, output, outcome, message, dep, node_record, content, item}
 
 -- ---- forms of things that have no parts
 
@@ -191,6 +194,62 @@ unfolding join_outcome
 one_outcome =
     one_by_parts (λ (o : StoredOutcome). (o.status, (o.lines, o.outputs))) (both status (both (list_of line) (list_of output))) (λ a b e. ap join_outcome e)
     (one_both status (both (list_of line) (list_of output)) one_status (one_both (list_of line) (list_of output) (one_list line one_line) (one_list output one_output)))
+
+-- ---- records of nodes
+
+join_message : List ℕ × (Status × List ℕ) → Message
+join_message t = record { label = t.0; level = t.1.0; text = t.1.1 }
+
+pub one_message : IsOfOneThing message
+unfolding join_message
+one_message =
+    one_by_parts (λ (m : Message). (m.label, (m.level, m.text))) (both bytes (both status bytes)) (λ a b e. ap join_message e)
+    (one_both bytes (both status bytes) one_bytes (one_both status bytes one_status one_bytes))
+
+join_dep : Node × Option ℕ → StoredDep
+join_dep t = record { node = t.0; content = t.1 }
+
+pub one_dep : IsOfOneThing dep
+unfolding join_dep
+one_dep =
+    one_by_parts (λ (d : StoredDep). (d.node, d.content)) (both node (option_of number)) (λ a b e. ap join_dep e)
+    (one_both node (option_of number) one_node (one_option number one_number))
+
+-- the present part of a record
+one_present : IsOfOneThing (both status (both (list_of message) number))
+one_present =
+    one_both status (both (list_of message) number) one_status
+    (one_both (list_of message) number (one_list message one_message) one_number)
+
+-- what stands after a record's deps
+one_tail_of_record : IsOfOneThing (both number (both (option_of number) (both status (both (list_of message) (both status (both (list_of message) number))))))
+one_tail_of_record =
+    one_both number (both (option_of number) (both status (both (list_of message) (both status (both (list_of message) number))))) one_number
+    (one_both (option_of number) (both status (both (list_of message) (both status (both (list_of message) number)))) (one_option number one_number)
+    (one_both status (both (list_of message) (both status (both (list_of message) number))) one_status
+    (one_both (list_of message) (both status (both (list_of message) number)) (one_list message one_message) one_present)))
+
+join_record : Node × (List StoredDep × (ℕ × (Option ℕ × (Status × (List Message × (Status × (List Message × ℕ))))))) → StoredRecord
+join_record t = record {
+  node = t.0;
+  deps = t.1.0;
+  reached = t.1.1.0;
+  value = t.1.1.1.0;
+  own_status = t.1.1.1.1.0;
+  own_messages = t.1.1.1.1.1.0;
+  status = t.1.1.1.1.1.1.0;
+  messages = t.1.1.1.1.1.1.1.0;
+  height = t.1.1.1.1.1.1.1.1;
+}
+
+pub one_node_record : IsOfOneThing node_record
+unfolding join_record
+one_node_record =
+    one_by_parts (λ (r : StoredRecord). (r.node, (r.deps, (r.reached, (r.value, (r.own_status, (r.own_messages, (r.status, (r.messages, r.height)))))))))
+    (both node (both (list_of dep) (both number (both (option_of number)
+    (both status (both (list_of message) (both status (both (list_of message) number)))))))) (λ a b e. ap join_record e)
+    (one_both node (both (list_of dep) (both number (both (option_of number) (both status (both (list_of message) (both status (both (list_of message) number))))))) one_node
+    (one_both (list_of dep) (both number (both (option_of number) (both status (both (list_of message) (both status (both (list_of message) number)))))) (one_list dep one_dep) one_tail_of_record))
 
 -- ---- items
 

@@ -12,7 +12,7 @@ use Rattle.meaning_calls.specs.Outcomes.{OutcomeFits}
 use Rattle.object_values.specs.declared.items.Item.{Item}
 use Rattle.meaning_records.specs.Images.{AreRecords}
 use Rattle.meaning_records.specs.Forms.{IsOfOneThing}
-use Rattle.meaning_records.specs.Records.{item}
+use Rattle.meaning_records.specs.Records.{message, dep, node_record, item}
 use Rattle.meaning_records.specs.Tables.{Calls, kept_outcome}
 use Rattle.meaning_records.specs.Batches.{graph_batch, IsPutBatch, drop_batch, IsCallBatch}
 use Rattle.meaning_records.specs.States.{State, nothing, spell_batch, TakesAll, Reads, ReadsAll}
@@ -22,6 +22,12 @@ use Rattle.meaning_records.specs.Stands.{Stands, StandsNot, gate_behind}
 -- What an item is spelled tells the item, and where it ends.
 abbrev pub ItemsAreOne : Type 0
 ItemsAreOne = IsOfOneThing item
+
+-- What the record of a node and its parts are spelled tells them, and where they end.
+pub record NodeRecordsAreOne : Type 0 where
+  pub message : IsOfOneThing message
+  pub dep : IsOfOneThing dep
+  pub node_record : IsOfOneThing node_record
 
 -- A payload reads in one way at most after what is kept.
 abbrev pub ReadsInOneWay : Type 0

@@ -1,5 +1,6 @@
 -- The records of a store file: a line for each row of the table of records in docs/engineer/store-format.md.
 use Rattle.std.specs.Prelude.{⊤, ℕ, List, [], ◌∷◌}
+use Rattle.object_values.specs.declared.messages.Message.{Message}
 use Rattle.object_values.specs.declared.messages.Status.{Status}
 use Rattle.object_values.specs.declared.messages.Status.TheVariants.{Ok, Warning, Error, Abort}
 use Rattle.object_values.specs.declared.nodes.ParamValue.{ParamValue}
@@ -14,6 +15,8 @@ use Rattle.object_values.specs.declared.items.StoredPart.{StoredPart}
 use Rattle.object_values.specs.declared.items.StoredCall.{StoredCall}
 use Rattle.object_values.specs.declared.items.StoredOutput.{StoredOutput}
 use Rattle.object_values.specs.declared.items.StoredOutcome.{StoredOutcome}
+use Rattle.object_values.specs.declared.items.StoredDep.{StoredDep}
+use Rattle.object_values.specs.declared.items.StoredRecord.{StoredRecord}
 use Rattle.object_values.specs.declared.items.Item.{Item}
 use Rattle.object_values.specs.declared.items.Item.TheVariants.{Graph, Content, Put, Dropped, Kept}
 use Rattle.meaning_records.specs.Forms.{Form, bytes, number, both, by_parts, list_of, option_of}
@@ -82,6 +85,20 @@ output = by_parts (λ o. (o.name, o.content)) (both bytes number)
 
 abbrev pub outcome : Form StoredOutcome
 outcome = by_parts (λ o. (o.status, (o.lines, o.outputs))) (both status (both (list_of line) (list_of output)))
+
+-- ---- records of nodes
+
+abbrev pub message : Form Message
+message = by_parts (λ m. (m.label, (m.level, m.text))) (both bytes (both status bytes))
+
+abbrev pub dep : Form StoredDep
+dep = by_parts (λ d. (d.node, d.content)) (both node (option_of number))
+
+abbrev pub node_record : Form StoredRecord
+node_record =
+    by_parts (λ r. (r.node, (r.deps, (r.reached, (r.value, (r.own_status, (r.own_messages, (r.status, (r.messages, r.height)))))))))
+    (both node (both (list_of dep) (both number (both (option_of number)
+    (both status (both (list_of message) (both status (both (list_of message) number))))))))
 
 -- ---- items
 

@@ -1,5 +1,5 @@
 //! Worked examples of records. Each is the contract of a function with an empty body.
-ghost use Rattle.meaning_records.specs.ByteExamples.{BytesOfItems, FirstPut, StandsBetween, UnnamedNumbers, NoBatches};
+ghost use Rattle.meaning_records.specs.ByteExamples.{BytesOfItems, BytesOfNodeRecords, FirstPut, StandsBetween, UnnamedNumbers, NoBatches};
 ghost use Rattle.meaning_records.specs.ItemExamples.{EditsThatRead, EditsThatDoNot, TablesThatTell, LongContents, CallsThatRead, CallsThatDoNot};
 ghost use Rattle.meaning_records.specs.BatchExamples.{BatchesOfPuts, BatchesOfCalls};
 ghost use Rattle.meaning_records.specs.LiveExamples.{RewrittenStore};
@@ -8,6 +8,11 @@ ghost use Rattle.meaning_records.specs.ImageExamples.{WorkedStores, WorkedFaults
 /// An item of each kind, byte for byte.
 pub fn bytes_of_items()
     ensures { BytesOfItems }
+{}
+
+/// Records of nodes and their parts, byte for byte.
+pub fn bytes_of_node_records()
+    ensures { BytesOfNodeRecords }
 {}
 
 /// The first put of an empty text over a store that holds a graph alone.

@@ -1,10 +1,15 @@
 //! Laws of what an image stands for. Each is the contract of a function with an empty body.
-ghost use Rattle.meaning_records.specs.Laws.{ItemsAreOne, ReadsInOneWay, StandsForOne, EachStandsOrNot, GatesFollow, BatchesRead, LiveBatchesRead, LiveTextIsOne};
+ghost use Rattle.meaning_records.specs.Laws.{ItemsAreOne, NodeRecordsAreOne, ReadsInOneWay, StandsForOne, EachStandsOrNot, GatesFollow, BatchesRead, LiveBatchesRead, LiveTextIsOne};
 ghost use Rattle.meaning_records.specs.Numbers.{NumbersTellValues};
 
 /// What an item is spelled tells the item, and where it ends.
 pub fn items_are_one()
     ensures { ItemsAreOne }
+{}
+
+/// What the record of a node is spelled tells the record, and where it ends.
+pub fn node_records_are_one()
+    ensures { NodeRecordsAreOne }
 {}
 
 /// A payload reads in one way at most after what is kept.
