@@ -59,7 +59,7 @@ stays : (texts later : Bodies) (c : Content) → IsHeldIn texts c → IsHeldIn (
 stays texts later (Text s) h = place_kept s.text texts later s.id h
 stays texts later (Other v) h = h
 
-all_stay : (texts later : Bodies) (items : List Content) → All (IsHeldIn texts) items → All (IsHeldIn (texts ++ later)) items
+pub all_stay : (texts later : Bodies) (items : List Content) → All (IsHeldIn texts) items → All (IsHeldIn (texts ++ later)) items
 all_stay texts later items held = All-weaker (IsHeldIn texts) (IsHeldIn (texts ++ later)) (stays texts later) items held
 
 pub held_with : (body : List ℕ) (texts : Bodies) (items : List Content) → All (IsHeldIn texts) items → All (IsHeldIn (with_body body texts)) items

@@ -17,11 +17,11 @@ use Rattle.content_store.specs.Bodies.{Bodies, place_of_body, with_body}
 use Rattle.content_store.proofs.Lemmas.{place_stands, none_nowhere, body_kept, goes_behind}
 use Rattle.meaning_records.specs.Tables.{IsText, IsPartOf, ArePartsOf, IsCallOf, IsOutputOf, AreOutputsOf}
 use Rattle.meaning_records.specs.Batches.{body_of, contents_of}
-use Rattle.kept_contents.specs.declared.shared.Shared.{Shared}
-use Rattle.kept_contents.specs.Stocks.{IsGrownFrom}
-use Rattle.kept_contents.specs.Added.{texts_of, texts_of_parts, texts_of_outputs, AreHeld, AddsOne, AddsTexts}
+use Rattle.kept_contents.specs.declared.shared.Content.{Content}
+use Rattle.kept_contents.specs.Stocks.{IsGrownFrom, IsHeldIn, value_of, values_of_contents}
+use Rattle.kept_contents.specs.Added.{texts_of_parts, texts_of_outputs, AreHeld, AddsOne, AddsTexts}
 use Rattle.kept_contents.specs.Copies.{with_bodies}
-use Rattle.kept_contents.proofs.Batched.{held_kept, new_held}
+use Rattle.kept_contents.proofs.Batched.{contents_append, held_kept, new_held, place_in}
 use Rattle.kept_contents.proofs.Items.{mapped}
 use Rattle.kept_contents.proofs.Numbers.{same_text}
 use Rattle.kept_contents.proofs.Resolved.{parts_push, parts_kept, outputs_push, outputs_kept}
@@ -31,9 +31,6 @@ Texts = List (List ℕ)
 
 -- ---- texts as contents
 
-pub contents_append : (xs ys : Texts) → contents_of (xs ++ ys) ≡ contents_of xs ++ contents_of ys
-contents_append xs ys = map-append Simple xs ys
-
 pub text_there : (texts : Bodies) (text : List ℕ) (n : ℕ) → place_of_body text texts ≡ Some n → IsText (contents_of texts) n text
 text_there texts text n at = mapped Simple texts text n (place_stands text texts n at)
 
@@ -41,11 +38,6 @@ stands_there : (texts : Bodies) (text : List ℕ) (n : ℕ) → IsText (contents
 stands_there [] text n is = absurd (none-some (Simple text) is)
 stands_there (t ∷ texts) text zero is = ap Some (same_text t text (same_Some (Simple t) (Simple text) is))
 stands_there (t ∷ texts) text (suc n) is = stands_there texts text n is
-
-place_in : (texts : Bodies) (text : List ℕ) → IsIn text texts → (n : ℕ) × (slice_get texts n ≡ Some text)
-place_in [] text i = absurd i
-place_in (t ∷ texts) text (inl same) = (0, ap Some (sym same))
-place_in (t ∷ texts) text (inr i) = let there = place_in texts text i in (suc there.0, there.1)
 
 stands_right : (xs ys : Bodies) (text : List ℕ) (n : ℕ) → slice_get ys n ≡ Some text → (k : ℕ) × (slice_get (xs ++ ys) k ≡ Some text)
 stands_right [] ys text n h = (n, h)
@@ -68,36 +60,36 @@ pub contents_behind : (xs : Texts) (old new : Bodies) → new ≡ with_bodies xs
 contents_behind xs old new is = let b = all_behind xs old in (b.0, ap contents_of (is ∙ b.1) ∙ contents_append old b.0)
 
 -- what is added to the texts of the batches before
-adds_one : (base added : Bodies) (text : List ℕ) → (next : Bodies) × (with_body text (base ++ added) ≡ base ++ next) × AddsOne (contents_of base) text added next
+adds_one : (base added : Bodies) (text : List ℕ) → (next : Bodies) × (with_body text (base ++ added) ≡ base ++ next) × AddsOne (contents_of base) (Simple text) (contents_of added) (contents_of next)
 adds_one base added text = by_place (place_of_body text (base ++ added)) refl
   where
-    by_place : (found : Option ℕ) → place_of_body text (base ++ added) ≡ found → (next : Bodies) × (with_body text (base ++ added) ≡ base ++ next) × AddsOne (contents_of base) text added next
+    by_place : (found : Option ℕ) → place_of_body text (base ++ added) ≡ found → (next : Bodies) × (with_body text (base ++ added) ≡ base ++ next) × AddsOne (contents_of base) (Simple text) (contents_of added) (contents_of next)
     by_place (Some n) at = (added, ap (λ (o : Option ℕ). cond (is_some o) (base ++ added) ((base ++ added) ++ text ∷ [])) at, inl refl)
     by_place None none = (
       added ++ text ∷ [],
       ap (λ (o : Option ℕ). cond (is_some o) (base ++ added) ((base ++ added) ++ text ∷ [])) none ∙ append_assoc base added (text ∷ []),
       inr (
-        refl,
-        λ i. let there = place_in added text i in let whole = stands_right base added text there.0 there.1 in none_nowhere text (base ++ added) whole.0 none whole.1,
+        contents_append added (text ∷ []),
+        λ i. let there = place_in (contents_of added) (Simple text) i in let whole = stands_right base added text there.0 (stands_there added text there.0 there.1) in none_nowhere text (base ++ added) whole.0 none whole.1,
         λ n is. none_nowhere text (base ++ added) n none (body_kept base added text n (stands_there base text n is)),
       ),
     )
 
-adds_all : (base : Bodies) (xs : Texts) (added : Bodies) → (next : Bodies) × (with_bodies xs (base ++ added) ≡ base ++ next) × AddsTexts (contents_of base) xs added next
+adds_all : (base : Bodies) (xs : Texts) (added : Bodies) → (next : Bodies) × (with_bodies xs (base ++ added) ≡ base ++ next) × AddsTexts (contents_of base) xs (contents_of added) (contents_of next)
 adds_all base [] added = (added, refl, refl)
 adds_all base (x ∷ xs) added =
     let one = adds_one base added x in
     let rest = adds_all base xs one.0 in
-    (rest.0, ap (with_bodies xs) one.1 ∙ rest.1, (one.0, one.2, rest.2))
+    (rest.0, ap (with_bodies xs) one.1 ∙ rest.1, (contents_of one.0, one.2, rest.2))
 
 -- what a batch adds that needs these texts
-pub adds : (base : Bodies) (xs : Texts) → (added : Bodies) × (with_bodies xs base ≡ base ++ added) × AddsTexts (contents_of base) xs [] added
+pub adds : (base : Bodies) (xs : Texts) → (added : Bodies) × (with_bodies xs base ≡ base ++ added) × AddsTexts (contents_of base) xs [] (contents_of added)
 adds base xs =
     let all = adds_all base xs [] in
     (all.0, ap (with_bodies xs) (sym (append-nil base)) ∙ all.1, all.2)
 
 -- one text
-pub adds_text : (base : Bodies) (text : List ℕ) → (added : Bodies) × (with_body text base ≡ base ++ added) × AddsOne (contents_of base) text [] added
+pub adds_text : (base : Bodies) (text : List ℕ) → (added : Bodies) × (with_body text base ≡ base ++ added) × AddsOne (contents_of base) (Simple text) [] (contents_of added)
 adds_text base text =
     let one = adds_one base [] text in
     (one.0, ap (with_body text) (sym (append-nil base)) ∙ one.1, one.2)
@@ -153,16 +145,18 @@ module _ (outputs : List Part) (i : ℕ) (here : Part) (lt : i < length outputs)
 
 -- ---- texts that are held in a table
 
-pub held_next : (texts : Bodies) (i : ℕ) (text : List ℕ) (added next : List Shared) (s : Shared) → slice_get texts i ≡ Some text → s.text ≡ text → texts_of added ≡ take i texts → next ≡ added ++ s ∷ []
-    → texts_of next ≡ take (i + 1) texts
-held_next texts i text added next s at same before grown =
-    ap texts_of grown
-    ∙ map-append (λ (x : Shared). x.text) added (s ∷ [])
-    ∙ ap (λ (l : Bodies). l ++ s.text ∷ []) before
-    ∙ ap (λ (t : List ℕ). take i texts ++ t ∷ []) (same ∙ sym (get_or_from_slice_get texts i text text at))
-    ∙ sym (take_more texts i text (slice_get_within texts i text at))
+pub held_next : (texts : Bodies) (i : ℕ) (text : List ℕ) (added next : List Content) (c : Content) → slice_get texts i ≡ Some text → value_of c ≡ Simple text → values_of_contents added ≡ contents_of (take i texts) → next ≡ added ++ c ∷ []
+    → values_of_contents next ≡ contents_of (take (i + 1) texts)
+held_next texts i text added next c at same before grown =
+    let taken : take (i + 1) texts ≡ take i texts ++ text ∷ [] = take_more texts i text (slice_get_within texts i text at) ∙ ap (λ (t : List ℕ). take i texts ++ t ∷ []) (get_or_from_slice_get texts i text text at) in
+    ap values_of_contents grown
+    ∙ map-append value_of added (c ∷ [])
+    ∙ ap (λ (l : List Value). l ++ value_of c ∷ []) before
+    ∙ ap (λ (v : Value). contents_of (take i texts) ++ v ∷ []) same
+    ∙ sym (contents_append (take i texts) (text ∷ []))
+    ∙ ap contents_of (sym taken)
 
-pub held_more : (old new : Bodies) (text : List ℕ) (added next : List Shared) (s : Shared) → IsGrownFrom old new → AreHeld old added → place_of_body text new ≡ Some s.id → s.text ≡ text → next ≡ added ++ s ∷ [] → AreHeld new next
-held_more old new text added next s grown held at same pushed =
+pub held_more : (old new : Bodies) (added next : List Content) (c : Content) → IsGrownFrom old new → AreHeld old added → IsHeldIn new c → next ≡ added ++ c ∷ [] → AreHeld new next
+held_more old new added next c grown held at pushed =
     let still = subst (λ (b : Bodies). AreHeld b added) (sym grown.1) (held_kept old grown.0 added held) in
-    new_held new added next s still (ap (λ (b : List ℕ). place_of_body b new) same ∙ at) pushed
+    new_held new added next c still at pushed

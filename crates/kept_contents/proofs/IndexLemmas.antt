@@ -47,6 +47,12 @@ empty_index first nowhere = record {
   clashing_right = λ k d h. absurd (omega (arith, h));
 }
 
+-- the same by another table
+pub index_alike : (contents : List Value) (first next : List ℕ → Option ℕ) (clashing later : List ℕ) → ((key : List ℕ) → next key ≡ first key) → later ≡ clashing → IsIndexOf contents first clashing → IsIndexOf contents next later
+index_alike contents first next clashing later same still is =
+    let alike : next ≡ first = λ i key. same key i in
+    subst (λ (l : List ℕ). IsIndexOf contents next l) (sym still) (subst (λ (f : List ℕ → Option ℕ). IsIndexOf contents f clashing) (sym alike) is)
+
 -- whether what stands at a number is the value
 module _ (items : List Content) (number : ℕ) (value : Value) (other : IsOther value) (is : IsNumber (values_of_contents items) number) where
   abbrev Answers : Bool → Type 0
@@ -146,6 +152,20 @@ module _ (contents : List Value) (first : List ℕ → Option ℕ) (clashing : L
         first_right = λ key n e. grown contents value n (is.first_right key n e);
         clashing_right = All-push (IsNumber (contents ++ value ∷ [])) clashing (length contents) (All-weaker (IsNumber contents) (IsNumber (contents ++ value ∷ [])) (grown contents value) clashing is.clashing_right) (value, number_behind value contents fresh);
       }
+
+-- a value that isn't there, by its digest and its number: after others of its digest, and as the first
+module _ (first : List ℕ → Option ℕ) (clashing : List ℕ) (digest : List ℕ) (number : ℕ) where
+  pub put_clashing : (later : List ℕ) → later ≡ clashing ++ number ∷ [] → is_some (first digest) ≡ true → (contents : List Value) (value : Value) → IsIndexOf contents first clashing → IsOther value → number_of value contents ≡ None
+      → digest ≡ digest_of value → number ≡ length contents → IsIndexOf (contents ++ value ∷ []) first later
+  put_clashing later grown taken contents value is other fresh its at =
+      subst (λ (l : List ℕ). IsIndexOf (contents ++ value ∷ []) first l) (sym (grown ∙ ap (λ (n : ℕ). clashing ++ n ∷ []) at))
+      (more_clashing contents first clashing is value other fresh (some_there (first (digest_of value)) (subst (λ (d : List ℕ). is_some (first d) ≡ true) its taken)))
+
+  pub put_first : (next : List ℕ → Option ℕ) → ((key : List ℕ) → next key ≡ cond (pointwise nat_eq digest key) (Some number) (first key)) → is_some (first digest) ≡ false → (contents : List Value) (value : Value) → IsIndexOf contents first clashing
+      → IsOther value → number_of value contents ≡ None → digest ≡ digest_of value → number ≡ length contents → IsIndexOf (contents ++ value ∷ []) next clashing
+  put_first next led free contents value is other fresh its at =
+      more_first contents first clashing is value other fresh next (none_there (first (digest_of value)) (subst (λ (d : List ℕ). is_some (first d) ≡ false) its free))
+      (λ key. led key ∙ (λ i. cond (pointwise nat_eq (its i) key) (Some (at i)) (first key)))
 
 -- what a hasher was fed from its beginning
 pub fed_from : {S : Type 0} (write : S → List ℕ → S) (initial start end : S) (fed : HashWrites) → start ≡ initial → end ≡ fold write start fed → end ≡ fold write initial fed

@@ -1,17 +1,14 @@
--- Texts that a batch brings: those that the file hasn't, each once.
-use Rattle.std.specs.Prelude.{◌≡◌, ◌⊎◌, ℕ, List, [], ◌∷◌, ◌++◌, Some, All, map}
+-- Contents that a batch brings: those that the file hasn't, each once.
+use Rattle.std.specs.Prelude.{◌≡◌, ◌⊎◌, ⊤, ℕ, List, [], ◌∷◌, ◌++◌, Some, All, map, slice_get}
 use Rattle.std.specs.List.{flat_map}
 use Rattle.object_values.specs.declared.calls.CallPart.{CallPart}
 use Rattle.object_values.specs.declared.views.Part.{Part}
 use Rattle.object_values.specs.declared.views.Value.{Value}
 use Rattle.meaning_texts.specs.Lists.{IsIn}
-use Rattle.content_store.specs.Bodies.{Bodies, place_of_body}
-use Rattle.meaning_records.specs.Tables.{IsNoText}
+use Rattle.content_store.specs.Bodies.{Bodies}
 use Rattle.meaning_records.specs.Batches.{body_of, contents_of}
-use Rattle.kept_contents.specs.declared.shared.Shared.{Shared}
-
-abbrev pub texts_of : List Shared → List (List ℕ)
-texts_of added = map (λ (s : Shared). s.text) added
+use Rattle.kept_contents.specs.declared.shared.Content.{Content}
+use Rattle.kept_contents.specs.Stocks.{IsHeldIn, values_of_contents}
 
 -- the texts that a call needs, and those of its outputs
 abbrev pub texts_of_parts : List CallPart → List (List ℕ)
@@ -21,18 +18,35 @@ abbrev pub texts_of_outputs : List Part → List (List ℕ)
 texts_of_outputs outputs = map (λ (o : Part). o.body) outputs
 
 -- the contents with those that are added
-abbrev pub contents_with : List Value → List Shared → List Value
-contents_with contents added = contents ++ contents_of (texts_of added)
+abbrev pub contents_with : List Value → List Content → List Value
+contents_with contents added = contents ++ values_of_contents added
 
--- each is held in memory under its number
-abbrev pub AreHeld : Bodies → List Shared → Type 0
-AreHeld texts added = All (λ (s : Shared). place_of_body s.text texts ≡ Some s.id) added
+-- each text is held in memory under its number
+abbrev pub AreHeld : Bodies → List Content → Type 0
+AreHeld texts added = All (IsHeldIn texts) added
 
--- A text is added where neither the file nor the batch has it.
-abbrev pub AddsOne : List Value → List ℕ → List (List ℕ) → List (List ℕ) → Type 0
-AddsOne contents text old new = (new ≡ old) ⊎ ((new ≡ old ++ text ∷ []) × (¬ IsIn text old) × IsNoText contents text)
+-- the content of this number is this value
+abbrev pub IsContent : List Value → ℕ → Value → Type 0
+IsContent contents number value = slice_get contents number ≡ Some value
+
+-- the value is no content
+abbrev pub IsNoContent : List Value → Value → Type 0
+IsNoContent contents value = (number : ℕ) → ¬ IsContent contents number value
+
+-- A value is added where neither the file nor the batch has it.
+abbrev pub AddsOne : List Value → Value → List Value → List Value → Type 0
+AddsOne contents value old new = (new ≡ old) ⊎ ((new ≡ old ++ value ∷ []) × (¬ IsIn value old) × IsNoContent contents value)
+
+-- one value after another
+abbrev pub AddsAll : List Value → List Value → List Value → List Value → Type 0
+AddsAll contents [] old new = new ≡ old
+AddsAll contents (value ∷ values) old new = (next : List Value) × AddsOne contents value old next × AddsAll contents values next new
 
 -- one text after another
-abbrev pub AddsTexts : List Value → List (List ℕ) → List (List ℕ) → List (List ℕ) → Type 0
-AddsTexts contents [] old new = new ≡ old
-AddsTexts contents (text ∷ texts) old new = (next : List (List ℕ)) × AddsOne contents text old next × AddsTexts contents texts next new
+abbrev pub AddsTexts : List Value → List (List ℕ) → List Value → List Value → Type 0
+AddsTexts contents texts old new = AddsAll contents (contents_of texts) old new
+
+-- each once
+abbrev pub EachOnce : List Value → Type 0
+EachOnce [] = ⊤
+EachOnce (value ∷ values) = (¬ IsIn value values) × EachOnce values

@@ -1,6 +1,6 @@
 -- How lists and compounds are found among contents: a digest leads to the first value that has it, and the later ones clash.
-use Rattle.std.specs.Prelude.{◌≡◌, ◌⊎◌, ℕ, List, ◌++◌, Option, Some, All, Contains, nat_eq}
-use Rattle.std.specs.HashMap.{get}
+use Rattle.std.specs.Prelude.{◌≡◌, ◌⊎◌, ◌-◌, ℕ, min, List, [], ◌∷◌, ◌++◌, length, Option, Some, None, All, Contains, nat_eq, vec_capacity, vec_len}
+use Rattle.std.specs.HashMap.{get, spare}
 use Rattle.std.specs.List.{flat_map, fold}
 use Rattle.std.specs.Hash as fed
 use Rattle.std.specs.Hash.{HashWrites}
@@ -52,3 +52,12 @@ pub record IsIndexOf (contents : List Value) (first : List ℕ → Option ℕ) (
 
 abbrev pub IsIndexed : List Value → OtherIndex → Type 0
 IsIndexed contents index = IsIndexOf contents (get (pointwise nat_eq) index.first) index.clashing.items
+
+-- for how many more there is room
+abbrev pub room_of : OtherIndex → ℕ
+room_of index = min (spare index.first) (vec_capacity index.clashing - vec_len index.clashing)
+
+-- Where it isn't there, the value of this digest is taken in as the next content.
+abbrev pub TakesIn : OtherIndex → List ℕ → ℕ → OtherIndex → Type 0
+TakesIn old digest number new = (contents : List Value) (value : Value) → IsIndexed contents old → IsOther value → number_of value contents ≡ None
+    → digest ≡ digest_of value → number ≡ length contents → IsIndexed (contents ++ value ∷ []) new

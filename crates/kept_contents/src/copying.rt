@@ -3,11 +3,11 @@ ghost use Rattle.std.specs.Prelude.{◌≡◌, IfOk, OnOk, reverse};
 ghost use Rattle.meaning_records.specs.Tables.{IsText, IsPartOf, ArePartsOf, IsCallOf, IsOutputOf, AreOutputsOf, IsOutcomeOf};
 ghost use Rattle.meaning_records.specs.Batches.{body_of, contents_of};
 ghost use Rattle.content_store.specs.Bodies.{with_body};
-ghost use Rattle.kept_contents.specs.Stocks.{IsGrownFrom};
-ghost use Rattle.kept_contents.specs.Added.{AreHeld, texts_of, texts_of_parts, texts_of_outputs};
+ghost use Rattle.kept_contents.specs.Stocks.{IsGrownFrom, values_of_contents};
+ghost use Rattle.kept_contents.specs.Added.{AreHeld, texts_of_parts, texts_of_outputs};
 ghost use Rattle.kept_contents.specs.Copies.{with_bodies};
 
-use crate::shared::Shared;
+use crate::shared::Content;
 use crate::table::ContentTable;
 use content_store::{Contents, ShaKeys};
 use object_values::{
@@ -140,13 +140,14 @@ fn copy_output(
     })
 }
 
-/// The same texts, held in a table under their numbers in memory, the last one first.
+/// The same texts as contents, held in a table under their numbers in memory, the last one first.
 pub fn share_copied(
     alloc: Global,
     table: &mut ContentTable,
     texts: &CopiedTexts,
-) -> Result<Vec<Shared>, Memory>
-    ensures texts { IfOk result (λ added. texts_of (reverse added.items) ≡ texts.now) }
+) -> Result<Vec<Content>, Memory>
+    ensures texts { IfOk result (λ added.
+        values_of_contents (reverse added.items) ≡ contents_of texts.now) }
     ensures held { IfOk result (λ added. AreHeld table.new.texts added.items) }
     ensures contents { table.new.contents ≡ table.old.contents }
     ensures grown { IsGrownFrom table.old.texts table.new.texts }
@@ -161,15 +162,16 @@ fn hold_copied(
     alloc: Global,
     table: &mut ContentTable,
     texts: &CopiedTexts,
-) -> Result<Vec<Shared>, Memory>
-    ensures texts { IfOk result (λ added. texts_of added.items ≡ texts.now) }
+) -> Result<Vec<Content>, Memory>
+    ensures texts { IfOk result (λ added.
+        values_of_contents added.items ≡ contents_of texts.now) }
     ensures held { IfOk result (λ added. AreHeld table.new.texts added.items) }
     ensures contents { table.new.contents ≡ table.old.contents }
     ensures grown { IsGrownFrom table.old.texts table.new.texts }
 {
     let mut added = Vec::new(alloc);
     for id in 0..texts.len() {
-        added.push(table.share(alloc, texts.text(id))?)?;
+        added.push(Content::Text(table.share(alloc, texts.text(id))?))?;
     }
     Ok(added)
 }

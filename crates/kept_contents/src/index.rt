@@ -1,11 +1,13 @@
 // The numbers of lists and compounds.
-ghost use Rattle.std.specs.Prelude.{◌≡◌, ◌≢◌, ◌↔◌, ◌∷◌, ◌++◌, [], All, IfNone, IfSome, IsTrue, OnErr, OnOk, Some};
+ghost use Rattle.std.specs.Prelude.{◌≡◌, ◌≢◌, ◌↔◌, ◌+◌, ◌<◌, ◌≤◌, ◌∷◌, ◌++◌, [], All, IfNone, IfSome, IsTrue, List, OnOk, Some};
 ghost use Rattle.std.specs.List.{flat_map, fold};
+ghost use Rattle.object_values.specs.declared.views.Value.{Value as ContentValue};
 ghost use Rattle.meaning_records.specs.Numbers.{number_of};
-ghost use Rattle.kept_contents.specs.Index.{IsIndexed, IsNumber, digest_of, nodes_fed, part_fed, parts_fed, value_fed};
+ghost use Rattle.kept_contents.specs.Index.{IsIndexed, IsNumber, TakesIn, digest_of, nodes_fed, part_fed, parts_fed, room_of, value_fed};
 ghost use Rattle.kept_contents.specs.Stocks.{IsOther, values_of_contents};
 
 use crate::shared::Content;
+use crate::within::{insert_within, push_within};
 use content_store::ShaHasher;
 use object_values::{Memory, Node, Part, Seq, Value};
 use std::alloc::Global;
@@ -47,29 +49,60 @@ impl OtherIndex {
         self.find_digested(&digest_of(value), contents, value)
     }
 
-    /// Takes in the list or the compound that is the next content.
-    pub fn add(&mut self, contents: &[Content], value: &Value) -> Result<(), Memory>
-        requires index { IsIndexed (values_of_contents contents.now) self.old }
-        requires other { IsOther value.now }
-        ensures ok { OnOk result
-            (IsIndexed (values_of_contents contents.now ++ value.now ∷ []) self.new) }
-        ensures err { OnErr result (IsIndexed (values_of_contents contents.now) self.new) }
+    /// Makes room for so many more.
+    pub fn reserve(&mut self, more: usize) -> Result<(), Memory>
+        ensures room { OnOk result (more ≤ room_of self.new) }
+        ensures same { (contents : List ContentValue) → IsIndexed contents self.old
+            → IsIndexed contents self.new }
     {
-        let digest = digest_of(value);
-        if self.find_digested(&digest, contents, value).is_some() {
-            return Ok(());
-        }
-        let number = contents.len() as u64;
-        if self.first.contains_key(&digest) {
-            self.clashing.push(number)?;
-        } else {
-            self.first.insert(digest, number)?;
-        }
+        self.first.reserve(more)?;
+        self.clashing.reserve(more)?;
         Ok(())
     }
 
+    /// Takes in the list or the compound that is the next content. It takes no memory.
+    pub fn add(&mut self, contents: &[Content], value: &Value)
+        requires index { IsIndexed (values_of_contents contents.now) self.old }
+        requires other { IsOther value.now }
+        requires room { 0 < room_of self.old }
+        ensures index { IsIndexed (values_of_contents contents.now ++ value.now ∷ []) self.new }
+        ensures room { room_of self.old ≤ room_of self.new + 1 }
+    {
+        let digest = digest_of(value);
+        if self.find_digested(&digest, contents, value).is_none() {
+            self.put(digest, contents.len() as u64);
+        }
+    }
+
+    // Takes in a list or a compound that isn't there, by its digest and its number. It takes no memory.
+    pub(crate) fn put(&mut self, digest: [u8; 32], number: u64)
+        requires { 0 < room_of self.old }
+        ensures index { TakesIn self.old digest number self.new }
+        ensures room { room_of self.old ≤ room_of self.new + 1 }
+    {
+        if self.first.contains_key(&digest) {
+            push_within(&mut self.clashing, number);
+        } else {
+            insert_within(&mut self.first, digest, number);
+        }
+    }
+
+    /// Takes all numbers away. It takes no memory.
+    pub fn clear(&mut self)
+        ensures index { IsIndexed [] self.new }
+        ensures room { room_of self.old ≤ room_of self.new }
+    {
+        self.first.clear();
+        self.clashing.clear();
+    }
+
     // The number of the value that has this digest.
-    fn find_digested(&self, digest: &[u8; 32], contents: &[Content], value: &Value) -> Option<u64>
+    pub(crate) fn find_digested(
+        &self,
+        digest: &[u8; 32],
+        contents: &[Content],
+        value: &Value,
+    ) -> Option<u64>
         requires index { IsIndexed (values_of_contents contents.now) self.now }
         requires other { IsOther value.now }
         requires digest { digest.now ≡ digest_of value.now }
@@ -83,7 +116,7 @@ impl OtherIndex {
 }
 
 // Nothing rests on it but time.
-fn digest_of(value: &Value) -> [u8; 32]
+pub(crate) fn digest_of(value: &Value) -> [u8; 32]
     ensures { result ≡ digest_of value.now }
 {
     let mut state = ShaHasher::default();

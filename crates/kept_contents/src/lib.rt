@@ -14,14 +14,15 @@ mod numbering;
 mod resolving;
 mod shared;
 mod table;
+mod within;
 
-pub use added::AddedTexts;
+pub use added::AddedContents;
 pub use copying::{CopiedTexts, copy_call, copy_outcome, copy_text, share_copied};
 pub use head::CallHead;
 pub use heads::Heads;
 pub use held::HeldCall;
 pub use keys::{CallKey, SoughtKey};
-pub use numbering::{number_text, stored_call, stored_outcome};
+pub use numbering::{number_text, number_value, stored_call, stored_outcome};
 pub use resolving::{call_of, outcome_of};
 pub use shared::{Content, Shared};
 pub use table::ContentTable;

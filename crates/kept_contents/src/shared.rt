@@ -1,5 +1,9 @@
 // What is held in memory: texts by number, and the contents that are texts or others.
-use object_values::{Text, Value};
+ghost use Rattle.std.specs.Prelude.{◌≡◌, IfOk};
+ghost use Rattle.kept_contents.specs.Stocks.{value_of};
+
+use object_values::{Copied, Memory, Text, Value};
+use std::alloc::Global;
 
 /// A text with its number in memory.
 #[derive(Drop)]
@@ -13,4 +17,16 @@ pub struct Shared {
 pub enum Content {
     Text(Shared),
     Other(Value),
+}
+
+impl Content {
+    /// The value that it is. It shares the bytes of texts and of parts.
+    pub fn value(&self, alloc: Global) -> Result<Value, Memory>
+        ensures { IfOk result (λ value. value ≡ value_of self.now) }
+    {
+        match self {
+            Content::Text(shared) => Ok(Value::Simple(shared.text.copy(alloc)?)),
+            Content::Other(value) => value.copy(alloc),
+        }
+    }
 }

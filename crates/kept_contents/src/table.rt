@@ -1,14 +1,16 @@
 // The contents of a journal, and how a text is found among them.
-ghost use Rattle.std.specs.Prelude.{◌≡◌, ℕ, List, ◌+◌, ◌-◌, ◌<◌, ◌≤◌, ◌^◌, ◌∷◌, ◌++◌, [], IfNone, IfOk, IfSome, OnOk, None, Some, length, replicate, reverse, slice_get, slice_set, vec_capacity, vec_len};
+ghost use Rattle.std.specs.Prelude.{◌≡◌, ℕ, List, ◌+◌, ◌<◌, ◌≤◌, ◌^◌, ◌∷◌, ◌++◌, [], IfNone, IfOk, IfSome, OnOk, None, Some, length, replicate, reverse, slice_get, slice_set};
 ghost use Rattle.object_values.specs.declared.views.Value.TheVariants.{Simple};
 ghost use Rattle.meaning_records.specs.Tables.{IsText, IsNoText};
 ghost use Rattle.meaning_records.specs.Numbers.{number_of};
-ghost use Rattle.kept_contents.specs.Stocks.{IsGrownFrom, IsOther};
+ghost use Rattle.kept_contents.specs.Index.{digest_of};
+ghost use Rattle.kept_contents.specs.Stocks.{IsGrownFrom, IsHeldIn, IsOther, value_of};
 ghost use Rattle.kept_contents.specs.Added.{AreHeld, contents_with};
 ghost use Rattle.content_store.specs.Bodies.{place_of_body};
 
 use crate::index::OtherIndex;
 use crate::shared::{Content, Shared};
+use crate::within::push_within;
 use content_store::{Contents, ShaKeys};
 use object_values::{Copied, Memory, Text, Value};
 use std::alloc::Global;
@@ -41,8 +43,8 @@ impl Drop for ContentTable {
 }
 
 impl Model for ContentTable {
-    ghost use Rattle.std.specs.Prelude.{◌-◌, All, vec_len, vec_capacity};
-    ghost use Rattle.kept_contents.specs.Index.{IsIndexed};
+    ghost use Rattle.std.specs.Prelude.{◌-◌, All, min, vec_len, vec_capacity};
+    ghost use Rattle.kept_contents.specs.Index.{IsIndexed, room_of};
     ghost use Rattle.kept_contents.specs.Stocks.{ContentStock, IsNumbered, IsHeldIn, values_of_contents};
 
     ghost Value = { ContentStock };
@@ -50,7 +52,7 @@ impl Model for ContentTable {
     ghost view = { λ t. record {
       contents = values_of_contents t.contents.items;
       texts = t.texts;
-      room = vec_capacity t.contents - vec_len t.contents;
+      room = min (vec_capacity t.contents - vec_len t.contents) (room_of t.others);
     } };
 
     ghost invariant = { λ t. IsNumbered (values_of_contents t.contents.items) t.texts t.numbers.items
@@ -121,6 +123,16 @@ impl ContentTable {
         }
     }
 
+    // The number of a list or a compound that has this digest.
+    pub(crate) fn number_of_other(&self, digest: &[u8; 32], value: &Value) -> Option<u64>
+        requires other { IsOther value.now }
+        requires digest { digest.now ≡ digest_of value.now }
+        ensures { result ≡ number_of value.now self.now.contents }
+    {
+        self.others
+            .find_digested(digest, self.contents.as_slice(), value)
+    }
+
     fn text_number(&self, text: &[u8]) -> Option<u64>
         ensures { result ≡ number_of (Simple text.now) self.now.contents }
     {
@@ -136,10 +148,7 @@ impl ContentTable {
         requires { number < length self.now.contents }
         ensures { IfOk result (λ value. slice_get self.now.contents number ≡ Some value) }
     {
-        match &self.contents[number as usize] {
-            Content::Text(shared) => Ok(Value::Simple(shared.text.copy(alloc)?)),
-            Content::Other(value) => value.copy(alloc),
-        }
+        self.contents[number as usize].value(alloc)
     }
 
     /// Holds a text in memory, once. The contents stay.
@@ -190,11 +199,26 @@ impl ContentTable {
         ensures texts { self.new.texts ≡ self.old.texts }
     {
         self.contents.reserve(more)?;
+        self.others.reserve(more)?;
         Ok(())
     }
 
-    /// Adds a text that is held as the next content. It takes no memory.
-    pub fn push(&mut self, shared: Shared)
+    /// Adds the next content, whose text is held where it is one. It takes no memory.
+    pub fn push(&mut self, content: Content)
+        requires held { IsHeldIn self.old.texts content }
+        requires room { 0 < self.old.room }
+        requires few { length self.old.contents < 2 ^ 32 }
+        ensures contents { self.new.contents ≡ self.old.contents ++ value_of content ∷ [] }
+        ensures texts { self.new.texts ≡ self.old.texts }
+        ensures room { self.old.room ≤ self.new.room + 1 }
+    {
+        match content {
+            Content::Text(shared) => self.push_text(shared),
+            Content::Other(value) => self.push_other(value),
+        }
+    }
+
+    fn push_text(&mut self, shared: Shared)
         requires held { place_of_body shared.text self.old.texts ≡ Some shared.id }
         requires room { 0 < self.old.room }
         requires few { length self.old.contents < 2 ^ 32 }
@@ -206,8 +230,19 @@ impl ContentTable {
         push_within(&mut self.contents, Content::Text(shared));
     }
 
-    /// Adds texts that are held as the next contents, the last of the list first. It takes no memory.
-    pub fn push_all(&mut self, added: Vec<Shared>)
+    fn push_other(&mut self, value: Value)
+        requires other { IsOther value }
+        requires room { 0 < self.old.room }
+        ensures contents { self.new.contents ≡ self.old.contents ++ value ∷ [] }
+        ensures texts { self.new.texts ≡ self.old.texts }
+        ensures room { self.old.room ≤ self.new.room + 1 }
+    {
+        self.others.add(self.contents.as_slice(), &value);
+        push_within(&mut self.contents, Content::Other(value));
+    }
+
+    /// Adds the next contents, whose texts are held, the last of the list first. It takes no memory.
+    pub fn push_all(&mut self, added: Vec<Content>)
         requires held { AreHeld self.old.texts added.items }
         requires room { length added.items ≤ self.old.room }
         requires few { length self.old.contents + length added.items ≤ 2 ^ 32 }
@@ -216,8 +251,8 @@ impl ContentTable {
         ensures texts { self.new.texts ≡ self.old.texts }
     {
         let mut added = added;
-        while let Some(shared) = added.pop() {
-            self.push(shared);
+        while let Some(content) = added.pop() {
+            self.push(content);
         }
     }
 
@@ -227,7 +262,7 @@ impl ContentTable {
         ensures texts { self.new.texts ≡ self.old.texts }
         ensures room { self.old.room ≤ self.new.room }
     {
-        self.others = OtherIndex::new(*self.contents.allocator());
+        self.others.clear();
         self.contents.clear();
         clear_numbers(&mut self.numbers);
     }
@@ -253,7 +288,7 @@ impl ContentTable {
         }
         let shared = self.share(alloc, text)?;
         self.reserve(1)?;
-        self.push(shared);
+        self.push_text(shared);
         Ok(())
     }
 
@@ -262,9 +297,8 @@ impl ContentTable {
         ensures contents { OnOk result (self.new.contents ≡ self.old.contents ++ value ∷ []) }
         ensures texts { IsGrownFrom self.old.texts self.new.texts }
     {
-        self.contents.reserve(1)?;
-        self.others.add(self.contents.as_slice(), &value)?;
-        push_within(&mut self.contents, Content::Other(value));
+        self.reserve(1)?;
+        self.push_other(value);
         Ok(())
     }
 }
@@ -287,14 +321,4 @@ fn clear_numbers(numbers: &mut Vec<Option<u32>>)
     ensures { numbers.new.items ≡ replicate (length numbers.old.items) None }
 {
     numbers.fill(None);
-}
-
-// Adds an item for which there is room.
-fn push_within<T: Drop>(items: &mut Vec<T>, item: T)
-    requires { vec_len items.old < vec_capacity items.old }
-    ensures items { items.new.items ≡ items.old.items ++ item ∷ [] }
-    ensures room { vec_capacity items.old - vec_len items.old
-        ≤ (vec_capacity items.new - vec_len items.new) + 1 }
-{
-    let _ = items.push(item);
 }

@@ -17,56 +17,63 @@ use Rattle.object_values.specs.declared.items.StoredCall.{StoredCall}
 use Rattle.object_values.specs.declared.items.StoredOutcome.{StoredOutcome}
 use Rattle.object_values.specs.declared.items.Item.{Item}
 use Rattle.object_values.specs.declared.items.Item.TheVariants.{Content, Put, Kept}
-use Rattle.meaning_records.specs.Tables.{Tables, IsText, IsNoText, IsCallOf, IsOutcomeOf, LoadsAll, Calls, with_content, with_call}
+use Rattle.meaning_records.specs.Tables.{Tables, IsShort, IsText, IsNoText, IsCallOf, IsOutcomeOf, LoadsAll, Calls, with_content, with_call}
 use Rattle.meaning_records.specs.Batches.{contents_of, body_of, needed_texts, IsPutBatch, IsCallBatch}
-use Rattle.kept_contents.specs.declared.shared.Shared.{Shared}
+use Rattle.kept_contents.specs.declared.shared.Content.{Content as Held}
 use Rattle.kept_contents.specs.declared.held.HeldCall.{HeldCall}
-use Rattle.kept_contents.specs.Added.{texts_of, texts_of_parts, texts_of_outputs, contents_with, AddsOne, AddsTexts}
-use Rattle.kept_contents.proofs.Lemmas.{added_once, added_from, added_new, next_number, parts_stay}
+use Rattle.kept_contents.specs.Added.{texts_of_parts, texts_of_outputs, contents_with, AddsOne, AddsAll, AddsTexts}
+use Rattle.kept_contents.specs.Stocks.{values_of_contents}
+use Rattle.kept_contents.proofs.Lemmas.{added_from, next_number, parts_stay, texts_added, texts_from, texts_new, texts_once}
 use Rattle.kept_tables.specs.Holdings.{Holding, Batch, MayKeep, MakesBatch, PreparesSome, items_with, with_batch, with_calls, held_calls_of}
 
 abbrev Texts : Type 0
 Texts = List (List ℕ)
 
-abbrev AreShort : Texts → Type 0
-AreShort texts = (t : List ℕ) → IsIn t texts → length t ≤ body_limit
+abbrev AreShort : List Value → Type 0
+AreShort values = (v : Value) → IsIn v values → IsShort v
+
+texts_short : (texts : Texts) → ((t : List ℕ) → IsIn t texts → length t ≤ body_limit) → AreShort (contents_of texts)
+texts_short texts short v i = let m = from_map Simple v texts i in subst IsShort (sym m.2) (short m.0 m.1)
 
 -- the tables with contents more
 abbrev with_contents : Tables → List Value → Tables
 with_contents tables more = record { contents = tables.contents ++ more; calls = tables.calls }
 
 -- contents come first, and then the rest
-loads_contents : (tables : Tables) (texts : Texts) (rest : List Item) (next : Tables) → AreShort texts → LoadsAll (with_contents tables (contents_of texts)) rest next → LoadsAll tables (map Content (contents_of texts) ++ rest) next
+loads_contents : (tables : Tables) (values : List Value) (rest : List Item) (next : Tables) → AreShort values → LoadsAll (with_contents tables values) rest next → LoadsAll tables (map Content values ++ rest) next
 loads_contents tables [] rest next short loads = subst (λ (l : List Value). LoadsAll (record { contents = l; calls = tables.calls }) rest next) (append-nil tables.contents) loads
-loads_contents tables (t ∷ texts) rest next short loads = (
-  with_content (Simple t) tables,
-  (short t (inl refl), refl),
-  loads_contents (with_content (Simple t) tables) texts rest next (λ u i. short u (inr i)) (subst (λ (l : List Value). LoadsAll (record { contents = l; calls = tables.calls }) rest next) (sym (append_assoc tables.contents (Simple t ∷ []) (contents_of texts))) loads),
+loads_contents tables (v ∷ values) rest next short loads = (
+  with_content v tables,
+  (short v (inl refl), refl),
+  loads_contents (with_content v tables) values rest next (λ u i. short u (inr i)) (subst (λ (l : List Value). LoadsAll (record { contents = l; calls = tables.calls }) rest next) (sym (append_assoc tables.contents (v ∷ []) values)) loads),
 )
 
--- ---- batches by the texts that they add
+-- ---- batches by the contents that they add
 
-pub call_by_adds : (contents : List Value) (call : Call) (outcome : Outcome) (added : Texts) → AddsTexts contents (needed_texts call outcome) [] added → (stored : StoredCall) (given : StoredOutcome)
-    → IsCallOf (contents ++ contents_of added) stored call → IsOutcomeOf (contents ++ contents_of added) given outcome
-    → IsCallBatch contents call outcome (map Content (contents_of added) ++ Kept stored given ∷ [])
-call_by_adds contents call outcome added adds stored given called came = record {
-  added = added;
-  once = added_once contents (needed_texts call outcome) [] added adds tt;
-  needed = all_in (λ (t : List ℕ). IsIn t (needed_texts call outcome)) added (added_from contents (needed_texts call outcome) added adds);
-  new = all_in (λ (t : List ℕ). IsNoText contents t) added (added_new contents (needed_texts call outcome) added adds);
-  stored = stored;
-  given = given;
-  called = called;
-  came = came;
-  items_are = refl;
-}
+pub call_by_adds : (contents : List Value) (call : Call) (outcome : Outcome) (values : List Value) → AddsTexts contents (needed_texts call outcome) [] values → (stored : StoredCall) (given : StoredOutcome)
+    → IsCallOf (contents ++ values) stored call → IsOutcomeOf (contents ++ values) given outcome
+    → IsCallBatch contents call outcome (map Content values ++ Kept stored given ∷ [])
+call_by_adds contents call outcome values adds stored given called came =
+    let t = texts_added contents (needed_texts call outcome) values adds in
+    let adds_texts = subst (λ (l : List Value). AddsTexts contents (needed_texts call outcome) [] l) t.1 adds in
+    record {
+      added = t.0;
+      once = texts_once contents (needed_texts call outcome) t.0 adds_texts;
+      needed = all_in (λ (x : List ℕ). IsIn x (needed_texts call outcome)) t.0 (texts_from contents (needed_texts call outcome) t.0 adds_texts);
+      new = all_in (λ (x : List ℕ). IsNoText contents x) t.0 (texts_new contents (needed_texts call outcome) t.0 adds_texts);
+      stored = stored;
+      given = given;
+      called = subst (λ (l : List Value). IsCallOf (contents ++ l) stored call) t.1 called;
+      came = subst (λ (l : List Value). IsOutcomeOf (contents ++ l) given outcome) t.1 came;
+      items_are = ap (λ (l : List Value). map Content l ++ Kept stored given ∷ []) t.1;
+    }
 
-pub put_by_adds : (contents : List Value) (name text : List ℕ) (added : Texts) → AddsOne contents text [] added → (number : ℕ) → IsText (contents ++ contents_of added) number text
-    → IsPutBatch contents name text (map Content (contents_of added) ++ Put name number ∷ [])
-put_by_adds contents name text added (inl e) number at = inl (number, subst (λ (l : List Value). IsText l number text) (ap (λ (t : Texts). contents ++ contents_of t) e ∙ append-nil contents) at, ap (λ (t : Texts). map Content (contents_of t) ++ Put name number ∷ []) e)
-put_by_adds contents name text added (inr r) number at =
-    let next : number ≡ length contents = next_number contents text number r.2 (subst (λ (t : Texts). IsText (contents ++ contents_of t) number text) r.0 at) in
-    inr (r.2, ap (λ (t : Texts). map Content (contents_of t) ++ Put name number ∷ []) r.0 ∙ ap (λ (n : ℕ). Content (Simple text) ∷ Put name n ∷ []) next)
+pub put_by_adds : (contents : List Value) (name text : List ℕ) (values : List Value) → AddsOne contents (Simple text) [] values → (number : ℕ) → IsText (contents ++ values) number text
+    → IsPutBatch contents name text (map Content values ++ Put name number ∷ [])
+put_by_adds contents name text values (inl e) number at = inl (number, subst (λ (l : List Value). IsText l number text) (ap (λ (l : List Value). contents ++ l) e ∙ append-nil contents) at, ap (λ (l : List Value). map Content l ++ Put name number ∷ []) e)
+put_by_adds contents name text values (inr r) number at =
+    let next : number ≡ length contents = next_number contents text number r.2 (subst (λ (l : List Value). IsText (contents ++ l) number text) r.0 at) in
+    inr (r.2, ap (λ (l : List Value). map Content l ++ Put name number ∷ []) r.0 ∙ ap (λ (n : ℕ). Content (Simple text) ∷ Put name n ∷ []) next)
 
 -- ---- a call
 
@@ -75,7 +82,7 @@ short_body t None short i = absurd i
 short_body t (Some b) short (inl e) = subst (λ (x : List ℕ). length x ≤ body_limit) (sym e) short
 short_body t (Some b) short (inr i) = absurd i
 
-needed_short : (call : Call) (outcome : Outcome) → IsWellFormed call → OutcomeFits call outcome → AreShort (needed_texts call outcome)
+needed_short : (call : Call) (outcome : Outcome) → IsWellFormed call → OutcomeFits call outcome → (t : List ℕ) → IsIn t (needed_texts call outcome) → length t ≤ body_limit
 needed_short call outcome formed fits t i = elim (in_either t (texts_of_parts call.parts) (texts_of_outputs outcome.outputs) i) [
   | inl k ↦
       let f = from_flat (λ (p : CallPart). body_of p.body) t call.parts k in
@@ -85,15 +92,15 @@ needed_short call outcome formed fits t i = elim (in_either t (texts_of_parts ca
       subst (λ (x : List ℕ). length x ≤ body_limit) (sym f.2) (in_all (λ (p : Part). length p.body ≤ body_limit) outcome.outputs fits.short f.0 f.1)
 ]
 
-module _ (old kept : Holding) (same : kept.tables ≡ old.tables) (added : List Shared) (batch : Batch) where
-  module _ (held : HeldCall) (call : Call) (held_is : held.call ≡ call) (outcome : Outcome) (may : MayKeep old.tables call outcome) (adds : AddsTexts old.tables.contents (needed_texts call outcome) [] (texts_of added)) (stored : StoredCall) (given : StoredOutcome) (called : IsCallOf (contents_with old.tables.contents added) stored call) (came : IsOutcomeOf (contents_with old.tables.contents added) given outcome) where
+module _ (old kept : Holding) (same : kept.tables ≡ old.tables) (added : List Held) (batch : Batch) where
+  module _ (held : HeldCall) (call : Call) (held_is : held.call ≡ call) (outcome : Outcome) (may : MayKeep old.tables call outcome) (adds : AddsTexts old.tables.contents (needed_texts call outcome) [] (values_of_contents added)) (stored : StoredCall) (given : StoredOutcome) (called : IsCallOf (contents_with old.tables.contents added) stored call) (came : IsOutcomeOf (contents_with old.tables.contents added) given outcome) where
     call_items : IsCallBatch old.tables.contents call outcome (items_with added (Kept stored given))
-    call_items = call_by_adds old.tables.contents call outcome (texts_of added) adds stored given called came
+    call_items = call_by_adds old.tables.contents call outcome (values_of_contents added) adds stored given called came
 
-    call_loads : LoadsAll old.tables (items_with added (Kept stored given)) (with_call call outcome (with_contents old.tables (contents_of (texts_of added))))
-    call_loads = loads_contents old.tables (texts_of added) (Kept stored given ∷ []) (with_call call outcome (with_contents old.tables (contents_of (texts_of added))))
-        (λ t i. needed_short call outcome may.formed may.fits t (added_from old.tables.contents (needed_texts call outcome) (texts_of added) adds t i))
-        (with_call call outcome (with_contents old.tables (contents_of (texts_of added))), (call, outcome, record { called = called; came = came; formed = may.formed; fits = may.fits; new = may.new }, refl), refl)
+    call_loads : LoadsAll old.tables (items_with added (Kept stored given)) (with_call call outcome (with_contents old.tables (values_of_contents added)))
+    call_loads = loads_contents old.tables (values_of_contents added) (Kept stored given ∷ []) (with_call call outcome (with_contents old.tables (values_of_contents added)))
+        (λ v i. texts_short (needed_texts call outcome) (needed_short call outcome may.formed may.fits) v (added_from old.tables.contents (contents_of (needed_texts call outcome)) (values_of_contents added) adds v i))
+        (with_call call outcome (with_contents old.tables (values_of_contents added)), (call, outcome, record { called = called; came = came; formed = may.formed; fits = may.fits; new = may.new }, refl), refl)
 
     pub call_prepared : MakesBatch added (Kept stored given) (Some (held, outcome)) kept batch → PreparesSome (IsCallBatch old.tables.contents call outcome) kept batch
     call_prepared makes = (
@@ -108,17 +115,17 @@ module _ (old kept : Holding) (same : kept.tables ≡ old.tables) (added : List 
       },
     )
 
-  module _ (name text : List ℕ) (named : IsName name) (short : length text ≤ body_limit) (adds : AddsOne old.tables.contents text [] (texts_of added)) (number : ℕ) (is : IsText (contents_with old.tables.contents added) number text) where
+  module _ (name text : List ℕ) (named : IsName name) (short : length text ≤ body_limit) (adds : AddsOne old.tables.contents (Simple text) [] (values_of_contents added)) (number : ℕ) (is : IsText (contents_with old.tables.contents added) number text) where
     put_items : IsPutBatch old.tables.contents name text (items_with added (Put name number))
-    put_items = put_by_adds old.tables.contents name text (texts_of added) adds number is
+    put_items = put_by_adds old.tables.contents name text (values_of_contents added) adds number is
 
-    put_short : AreShort (texts_of added)
-    put_short t i = by_adds (texts_of added) adds i
+    put_short : AreShort (values_of_contents added)
+    put_short v i = by_adds (values_of_contents added) adds i
       where
-        by_adds : (texts : Texts) → AddsOne old.tables.contents text [] texts → IsIn t texts → length t ≤ body_limit
-        by_adds texts (inl e) h = absurd (subst (IsIn t) e h)
-        by_adds texts (inr r) h = elim (subst (IsIn t) r.0 h) [
-          | inl same_text ↦ subst (λ (x : List ℕ). length x ≤ body_limit) (sym same_text) short
+        by_adds : (values : List Value) → AddsOne old.tables.contents (Simple text) [] values → IsIn v values → IsShort v
+        by_adds values (inl e) h = absurd (subst (IsIn v) e h)
+        by_adds values (inr r) h = elim (subst (IsIn v) r.0 h) [
+          | inl same ↦ subst IsShort (sym same) short
           | inr none ↦ absurd none
         ]
 
@@ -130,7 +137,7 @@ module _ (old kept : Holding) (same : kept.tables ≡ old.tables) (added : List 
         fit = makes.fit;
         spelled = makes.spelled;
         next = with_batch kept.tables batch;
-        loads = rw (same, makes.added_is, makes.call_is, append-nil old.tables.calls) (loads_contents old.tables (texts_of added) (Put name number ∷ []) (with_contents old.tables (contents_of (texts_of added))) put_short (with_contents old.tables (contents_of (texts_of added)), (named, (text, is), refl), refl));
+        loads = rw (same, makes.added_is, makes.call_is, append-nil old.tables.calls) (loads_contents old.tables (values_of_contents added) (Put name number ∷ []) (with_contents old.tables (values_of_contents added)) put_short (with_contents old.tables (values_of_contents added), (named, (text, is), refl), refl));
         commits = makes.commits;
       },
     )
@@ -141,7 +148,7 @@ pub if_ok : {T E : Type 0} {P Q : T → Type 0} (r : Result T E) → IfOk r P �
 if_ok (Ok x) p then = then x p
 if_ok (Err e) p then = tt
 
-pub call_stays : (contents : List Value) (xs : Texts) (old new : List Shared) (stored : StoredCall) (call : Call) → AddsTexts contents xs (texts_of old) (texts_of new) → IsCallOf (contents_with contents old) stored call → IsCallOf (contents_with contents new) stored call
+pub call_stays : (contents xs : List Value) (old new : List Held) (stored : StoredCall) (call : Call) → AddsAll contents xs (values_of_contents old) (values_of_contents new) → IsCallOf (contents_with contents old) stored call → IsCallOf (contents_with contents new) stored call
 call_stays contents xs old new stored call adds is = record {
   tool = is.tool;
   version = is.version;
@@ -153,8 +160,8 @@ call_stays contents xs old new stored call adds is = record {
 
 -- ---- taking in
 
-pub committed : (old middle new : Tables) (batch : Batch) (added : List Shared) (call : Option (HeldCall × Outcome)) → added ≡ batch.added → call ≡ batch.call → middle.contents ≡ contents_with old.contents (reverse added) → middle.calls ≡ old.calls → new ≡ with_calls middle (held_calls_of call) → new ≡ with_batch old batch
+pub committed : (old middle new : Tables) (batch : Batch) (added : List Held) (call : Option (HeldCall × Outcome)) → added ≡ batch.added → call ≡ batch.call → middle.contents ≡ contents_with old.contents (reverse added) → middle.calls ≡ old.calls → new ≡ with_calls middle (held_calls_of call) → new ≡ with_batch old batch
 committed old middle new batch added call added_is call_is contents calls new_is =
-    let a : middle.contents ≡ contents_with old.contents (reverse batch.added) = contents ∙ ap (λ (l : List Shared). contents_with old.contents (reverse l)) added_is in
+    let a : middle.contents ≡ contents_with old.contents (reverse batch.added) = contents ∙ ap (λ (l : List Held). contents_with old.contents (reverse l)) added_is in
     let b : middle.calls ++ held_calls_of call ≡ old.calls ++ held_calls_of batch.call = ap (λ (l : Calls). l ++ held_calls_of call) calls ∙ ap (λ (o : Option (HeldCall × Outcome)). old.calls ++ held_calls_of o) call_is in
     new_is ∙ (λ i. record { contents = a i; calls = b i })

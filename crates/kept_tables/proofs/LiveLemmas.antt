@@ -69,7 +69,7 @@ module _ (old new : LiveBatches) (items : List Item) (grown : new.batches ≡ ol
       let there = subst (λ (l : List Value). IsText l number text) (ap contents_of new_is ∙ contents_append old.texts a.0) is in
       record {
         items = items;
-        is = subst (λ (l : List Item). IsPutBatch (contents_of old.texts) name text l) (sym whole.0) (put_by_adds (contents_of old.texts) name text a.0 a.2 number there);
+        is = subst (λ (l : List Item). IsPutBatch (contents_of old.texts) name text l) (sym whole.0) (put_by_adds (contents_of old.texts) name text (contents_of a.0) a.2 number there);
         batches = grown;
         contents = whole.1;
       }
@@ -84,7 +84,7 @@ module _ (old new : LiveBatches) (items : List Item) (grown : new.batches ≡ ol
       let later = subst (λ (l : List Value). IsCallOf l stored call) (sym behind.1) (call_later (contents_of middle) (contents_of behind.0) stored call called) in
       let both : contents_of new.texts ≡ contents_of old.texts ++ contents_of a.0 = ap contents_of new_is ∙ contents_append old.texts a.0 in
       let whole = contents_added old.texts new.texts (Kept stored given) refl items made a.0 new_is in
-      let batch = call_by_adds (contents_of old.texts) call outcome a.0 a.2 stored given (subst (λ (l : List Value). IsCallOf l stored call) both later) (subst (λ (l : List Value). IsOutcomeOf l given outcome) both came) in
+      let batch = call_by_adds (contents_of old.texts) call outcome (contents_of a.0) a.2 stored given (subst (λ (l : List Value). IsCallOf l stored call) both later) (subst (λ (l : List Value). IsOutcomeOf l given outcome) both came) in
       record {
         items = items;
         is = subst (λ (l : List Item). IsCallBatch (contents_of old.texts) call outcome l) (sym whole.0) batch;

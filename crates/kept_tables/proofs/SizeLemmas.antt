@@ -169,7 +169,7 @@ put_counted old new name text n texts is grown =
     let new_is : new.texts ≡ old.texts ++ a.0 = texts ∙ a.1 in
     let there = subst (λ (l : List Value). IsText l n text) (ap contents_of new_is ∙ contents_append old.texts a.0) is in
     let long = put_long name n in
-    counts_last old new a.0 new_is (Put name n) refl (omega (arith, long)) (put_by_adds (contents_of old.texts) name text a.0 a.2 n there)
+    counts_last old new a.0 new_is (Put name n) refl (omega (arith, long)) (put_by_adds (contents_of old.texts) name text (contents_of a.0) a.2 n there)
 
 kept_long : (head : CallHead) (outcome : Outcome) (parts : List StoredPart) (outputs : List StoredOutput) (stored : StoredCall) (given : StoredOutcome)
     → stored ≡ record { tool = head.tool; version = head.version; words = head.words; params = head.params; parts = parts; outs = head.outs } → given ≡ record { status = outcome.status; lines = outcome.lines; outputs = outputs }
@@ -211,7 +211,7 @@ call_counted old new middle head parts outcome p q first second (stored, are, lo
     let both : contents_of new.texts ≡ contents_of old.texts ++ contents_of a.0 = ap contents_of new_is ∙ contents_append old.texts a.0 in
     let size = kept_long head outcome stored outs kept given refl refl in
     counts_last old new a.0 new_is (Kept kept given) refl (omega (arith, size))
-    (call_by_adds (contents_of old.texts) call outcome a.0 a.2 kept given (subst (λ (l : List Value). IsCallOf l kept call) both later) (subst (λ (l : List Value). IsOutcomeOf l given outcome) both came))
+    (call_by_adds (contents_of old.texts) call outcome (contents_of a.0) a.2 kept given (subst (λ (l : List Value). IsCallOf l kept call) both later) (subst (λ (l : List Value). IsOutcomeOf l given outcome) both came))
 
 -- ---- many batches
 

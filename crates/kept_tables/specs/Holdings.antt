@@ -7,17 +7,17 @@ use Rattle.meaning_calls.specs.Jobs.{IsWellFormed}
 use Rattle.meaning_calls.specs.Outcomes.{OutcomeFits}
 use Rattle.content_store.specs.Bodies.{Bodies}
 use Rattle.object_values.specs.declared.items.Item.{Item}
-use Rattle.object_values.specs.declared.items.Item.TheVariants.{Content}
+use Rattle.object_values.specs.declared.items.Item.TheVariants as item_of
 use Rattle.meaning_records.specs.Records.{item}
-use Rattle.meaning_records.specs.Batches.{contents_of}
 use Rattle.meaning_records.specs.States.{spell_batch}
 use Rattle.meaning_records.specs.Tables.{Tables, Calls, LoadsAll, kept_outcome}
-use Rattle.kept_contents.specs.declared.shared.Shared.{Shared}
+use Rattle.kept_contents.specs.declared.shared.Content.{Content}
 use Rattle.kept_contents.specs.declared.held.HeldCall.{HeldCall}
 use Rattle.kept_contents.specs.declared.head.CallHead.{CallHead}
 use Rattle.kept_contents.specs.declared.keys.CallKey.{CallKey}
 use Rattle.kept_tables.specs.declared.call_table.Entry.{Entry}
-use Rattle.kept_contents.specs.Added.{AreHeld, contents_with, texts_of}
+use Rattle.kept_contents.specs.Added.{AreHeld, contents_with}
+use Rattle.kept_contents.specs.Stocks.{values_of_contents}
 use Rattle.kept_contents.specs.Held.{IsHeld}
 use Rattle.kept_contents.specs.Keys.{IsKeyOf}
 use Rattle.kept_contents.specs.Heads.{call_with}
@@ -30,10 +30,10 @@ pub record Holding : Type 0 where
   pub room : ℕ
   pub call_room : ℕ
 
--- the bytes of a batch, the texts that it adds, the last one first, and the call that it keeps
+-- the bytes of a batch, the contents that it adds, the last one first, and the call that it keeps
 pub record Batch : Type 0 where
   pub payload : List ℕ
-  pub added : List Shared
+  pub added : List Content
   pub call : Option (HeldCall × Outcome)
 
 abbrev pub held_calls_of : Option (HeldCall × Outcome) → Calls
@@ -72,16 +72,16 @@ pub record Commits (kept : Holding) (batch : Batch) (next : Tables) : Type 0 whe
   pub call : MayAdd kept batch.call
   pub next_is : next ≡ with_batch kept.tables batch
 
--- the contents of the texts that a batch adds
-abbrev pub items_of_texts : List Shared → List Item
-items_of_texts added = map Content (contents_of (texts_of added))
+-- the items of the contents that a batch adds
+abbrev pub items_of_contents : List Content → List Item
+items_of_contents added = map item_of.Content (values_of_contents added)
 
 -- and the item after them
-abbrev pub items_with : List Shared → Item → List Item
-items_with added last = items_of_texts added ++ last ∷ []
+abbrev pub items_with : List Content → Item → List Item
+items_with added last = items_of_contents added ++ last ∷ []
 
 -- A batch has the bytes of these items, and may be taken in.
-pub record MakesBatch (added : List Shared) (last : Item) (call : Option (HeldCall × Outcome)) (kept : Holding) (batch : Batch) : Type 0 where
+pub record MakesBatch (added : List Content) (last : Item) (call : Option (HeldCall × Outcome)) (kept : Holding) (batch : Batch) : Type 0 where
   pub fit : All item.fits (items_with added last)
   pub spelled : batch.payload ≡ spell_batch (items_with added last)
   pub added_is : reverse batch.added ≡ added

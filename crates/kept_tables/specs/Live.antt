@@ -6,15 +6,15 @@ use Rattle.object_values.specs.declared.items.Item.{Item}
 use Rattle.meaning_records.specs.Tables.{Calls}
 use Rattle.meaning_records.specs.States.{spell_batch, nothing, ReadsAll}
 use Rattle.meaning_records.specs.Live.{AreLive, live_state}
-use Rattle.kept_contents.specs.declared.shared.Shared.{Shared}
+use Rattle.kept_contents.specs.declared.shared.Content.{Content}
 use Rattle.kept_contents.specs.Added.{AreHeld}
 use Rattle.kept_tables.specs.Holdings.{Holding}
 
--- the payloads of the batches, their contents, and the texts that these are, the last one first
+-- the payloads of the batches, their contents, and these as they are held, the last one first
 pub record LivePayloads : Type 0 where
   pub payloads : List (List ℕ)
   pub contents : List Value
-  pub added : List Shared
+  pub added : List Content
 
 -- The payloads are those of the live batches.
 pub record CopiesLive (graph : Text) (sources : Texts) (calls : Calls) (copy : LivePayloads) : Type 0 where

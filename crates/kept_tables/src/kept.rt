@@ -15,7 +15,7 @@ use crate::loaded::Loaded;
 use crate::looks::Looks;
 use crate::outcomes::fits;
 use crate::prepared::Prepared;
-use kept_contents::{ContentTable, Heads, HeldCall, Shared, SoughtKey, call_of, outcome_of};
+use kept_contents::{Content, ContentTable, Heads, HeldCall, SoughtKey, call_of, outcome_of};
 use object_values::{Call, Copied, Memory, Outcome, Text, Value};
 use std::alloc::Global;
 use std::marker::Model;
@@ -190,12 +190,12 @@ impl Kept {
         ensures { IsCommitted self.old prepared self.new.tables }
     {
         let (added, call) = prepared.into_parts();
-        self.add_texts(added);
+        self.add_contents(added);
         self.add_call(call);
     }
 
-    // Adds texts that are held, the last of the list first.
-    fn add_texts(&mut self, added: Vec<Shared>)
+    // Adds contents whose texts are held, the last of the list first.
+    fn add_contents(&mut self, added: Vec<Content>)
         requires held { AreHeld self.old.texts added.items }
         requires room { length added.items ≤ self.old.room }
         requires few { length self.old.tables.contents + length added.items ≤ 2 ^ 32 }

@@ -2,14 +2,15 @@
 ghost use Rattle.std.specs.Prelude.{◌≡◌, ◌^◌, ◌≤◌, [], IfOk, OnOk, length, reverse};
 ghost use Rattle.meaning_records.specs.Batches.{contents_of};
 ghost use Rattle.meaning_records.specs.Live.{AreLive, ComeAfter, IsKeptBatch, IsLiveText, MayBeSources};
-ghost use Rattle.kept_contents.specs.Added.{AreHeld, texts_of};
+ghost use Rattle.kept_contents.specs.Added.{AreHeld};
+ghost use Rattle.kept_contents.specs.Stocks.{values_of_contents};
 ghost use Rattle.kept_tables.specs.Batching.{AddsLiveBatches};
 ghost use Rattle.kept_tables.specs.Live.{CopiesLive, IsRenumbering, ReadsAsLive};
 
 use crate::kept::Kept;
 use crate::live_batches::LiveBatches;
 use crate::live_sizes::LiveSize;
-use kept_contents::{CopiedTexts, Shared, share_copied};
+use kept_contents::{Content, CopiedTexts, share_copied};
 use meaning_records::laws::live_batches_read;
 use object_values::{Bytes, Memory, Seq, Sources};
 use std::alloc::Global;
@@ -18,8 +19,8 @@ use std::marker::Model;
 /// The batches of a rewritten store, with all memory that the taking over of their numbers wants. Contracts see the payloads, and the contents that they have.
 pub struct LiveCopy {
     payloads: Seq<Bytes>,
-    // the texts of the contents, the last one first
-    added: Vec<Shared>,
+    // the contents, the last one first
+    added: Vec<Content>,
 }
 
 impl Drop for LiveCopy {
@@ -32,15 +33,14 @@ impl Drop for LiveCopy {
 
 impl Model for LiveCopy {
     ghost use Rattle.std.specs.Prelude.{reverse};
-    ghost use Rattle.meaning_records.specs.Batches.{contents_of};
-    ghost use Rattle.kept_contents.specs.Added.{texts_of};
+    ghost use Rattle.kept_contents.specs.Stocks.{values_of_contents};
     ghost use Rattle.kept_tables.specs.Live.{LivePayloads};
 
     ghost Value = { LivePayloads };
 
     ghost view = { λ c. record {
       payloads = c.payloads;
-      contents = contents_of (texts_of (reverse c.added.items));
+      contents = values_of_contents (reverse c.added.items);
       added = c.added.items;
     } };
 }
@@ -53,10 +53,10 @@ impl LiveCopy {
         self.payloads.as_slice()
     }
 
-    // The texts of the contents, the last one first.
-    fn into_added(self) -> Vec<Shared>
+    // The contents, the last one first.
+    fn into_added(self) -> Vec<Content>
         ensures added { result.items ≡ self.added }
-        ensures contents { contents_of (texts_of (reverse self.added)) ≡ self.contents }
+        ensures contents { values_of_contents (reverse self.added) ≡ self.contents }
     {
         let LiveCopy { payloads, added } = self;
         drop(payloads);
@@ -145,9 +145,10 @@ impl Kept {
         let _ = self.calls.entries.len();
     }
 
-    // The texts of a copy, the last one first, with room for them as contents.
-    fn hold_copied(&mut self, alloc: Global, texts: &CopiedTexts) -> Result<Vec<Shared>, Memory>
-        ensures texts { IfOk result (λ added. texts_of (reverse added.items) ≡ texts.now) }
+    // The texts of a copy as contents, the last one first, with room for them.
+    fn hold_copied(&mut self, alloc: Global, texts: &CopiedTexts) -> Result<Vec<Content>, Memory>
+        ensures texts { IfOk result (λ added.
+            values_of_contents (reverse added.items) ≡ contents_of texts.now) }
         ensures held { IfOk result (λ added. AreHeld self.new.texts added.items) }
         ensures room { IfOk result (λ added. length added.items ≤ self.new.room) }
         ensures few { IfOk result (λ added. length added.items ≤ 2 ^ 32) }

@@ -2,15 +2,15 @@
 ghost use Rattle.std.specs.Prelude.{◌≡◌};
 
 use framed_payloads::FramedPayload;
-use kept_contents::{HeldCall, Shared};
+use kept_contents::{Content, HeldCall};
 use object_values::Outcome;
 use std::marker::Model;
 
 /// The bytes of a batch, with all that its taking in wants of memory.
 pub struct Prepared {
     pub(crate) payload: FramedPayload,
-    // the texts that are added, the last one first
-    pub(crate) added: Vec<Shared>,
+    // the contents that are added, the last one first
+    pub(crate) added: Vec<Content>,
     pub(crate) call: Option<(HeldCall, Outcome)>,
 }
 
@@ -50,8 +50,8 @@ impl Prepared {
         &self.payload
     }
 
-    // The texts, the last one first, and the call.
-    pub(crate) fn into_parts(self) -> (Vec<Shared>, Option<(HeldCall, Outcome)>)
+    // The contents, the last one first, and the call.
+    pub(crate) fn into_parts(self) -> (Vec<Content>, Option<(HeldCall, Outcome)>)
         ensures added { result.0.items ≡ self.added }
         ensures call { result.1 ≡ self.call }
     {

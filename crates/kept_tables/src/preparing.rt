@@ -1,17 +1,18 @@
 // Batches, made whole with all memory that their taking in wants.
 ghost use Rattle.std.specs.Prelude.{◌≡◌, ◌≤◌, length, IfOk, OnOk};
+ghost use Rattle.object_values.specs.declared.views.Value.TheVariants.{Simple};
 ghost use Rattle.meaning_texts.specs.Limits.{body_limit};
 ghost use Rattle.meaning_records.specs.Batches.{IsPutBatch, IsCallBatch};
 ghost use Rattle.meaning_records.specs.Tables.{IsCallOf, IsText, IsOutcomeOf};
 ghost use Rattle.kept_contents.specs.Held.{IsHeld};
-ghost use Rattle.kept_contents.specs.Stocks.{IsGrownFrom};
-ghost use Rattle.kept_contents.specs.Added.{AddsOne, AddsTexts, AreHeld, contents_with, texts_of, texts_of_outputs, texts_of_parts};
-ghost use Rattle.kept_tables.specs.Holdings.{MakesBatch, MayKeep, MayKeepSome, PreparesSome, items_of_texts, items_with};
+ghost use Rattle.kept_contents.specs.Stocks.{IsGrownFrom, values_of_contents};
+ghost use Rattle.kept_contents.specs.Added.{AddsOne, AddsTexts, AreHeld, contents_with, texts_of_outputs, texts_of_parts};
+ghost use Rattle.kept_tables.specs.Holdings.{MakesBatch, MayKeep, MayKeepSome, PreparesSome, items_of_contents, items_with};
 
 use crate::kept::Kept;
 use crate::prepared::Prepared;
-use kept_contents::{AddedTexts, HeldCall, Shared, number_text, stored_call, stored_outcome};
-use object_values::{Call, Copied, Memory, Outcome, Seq, Text, Value};
+use kept_contents::{AddedContents, Content, HeldCall, number_text, stored_call, stored_outcome};
+use object_values::{Call, Copied, Memory, Outcome, Seq, Text};
 use odin_bytes::Name;
 use std::alloc::Global;
 use store_records::{Item, StoredCall, StoredOutcome, write_batch};
@@ -29,7 +30,7 @@ impl Kept {
             (PreparesSome (IsPutBatch self.old.tables.contents name.now text.now) self.new) }
         ensures same { self.new.tables ≡ self.old.tables }
     {
-        let mut added = AddedTexts::new(alloc);
+        let mut added = AddedContents::new(alloc);
         let number = self.number_text(alloc, &mut added, text)?;
         let name = name.copy(alloc)?.into_bytes();
         self.prepare(alloc, added, Item::Put(name, number), None)
@@ -48,7 +49,7 @@ impl Kept {
         ensures same { self.new.tables ≡ self.old.tables }
     {
         let held = self.hold(alloc, call)?;
-        let mut added = AddedTexts::new(alloc);
+        let mut added = AddedContents::new(alloc);
         let stored = self.stored_call(alloc, &mut added, call)?;
         let given = self.stored_outcome(alloc, &mut added, outcome)?;
         let kept = (held, outcome.copy(alloc)?);
@@ -69,14 +70,14 @@ impl Kept {
     fn number_text(
         &mut self,
         alloc: Global,
-        added: &mut AddedTexts,
+        added: &mut AddedContents,
         text: &Text,
     ) -> Result<u32, Memory>
         requires { AreHeld self.old.texts added.old }
         ensures number { IfOk result (λ n.
             IsText (contents_with self.old.tables.contents added.new) n text.now) }
-        ensures adds { OnOk result (AddsOne self.old.tables.contents text.now
-            (texts_of added.old) (texts_of added.new)) }
+        ensures adds { OnOk result (AddsOne self.old.tables.contents (Simple text.now)
+            (values_of_contents added.old) (values_of_contents added.new)) }
         ensures held { OnOk result (AreHeld self.new.texts added.new) }
         ensures same { self.new.tables ≡ self.old.tables }
     {
@@ -87,7 +88,7 @@ impl Kept {
     fn stored_call(
         &mut self,
         alloc: Global,
-        added: &mut AddedTexts,
+        added: &mut AddedContents,
         call: &Call,
     ) -> Result<StoredCall, Memory>
         requires { AreHeld self.old.texts added.old }
@@ -95,7 +96,7 @@ impl Kept {
             IsCallOf (contents_with self.old.tables.contents added.new) stored call.now) }
         ensures adds { OnOk result
             (AddsTexts self.old.tables.contents (texts_of_parts call.now.parts)
-            (texts_of added.old) (texts_of added.new)) }
+            (values_of_contents added.old) (values_of_contents added.new)) }
         ensures held { OnOk result (AreHeld self.new.texts added.new) }
         ensures same { self.new.tables ≡ self.old.tables }
         ensures heads { self.new.heads ≡ self.old.heads }
@@ -108,7 +109,7 @@ impl Kept {
     fn stored_outcome(
         &mut self,
         alloc: Global,
-        added: &mut AddedTexts,
+        added: &mut AddedContents,
         outcome: &Outcome,
     ) -> Result<StoredOutcome, Memory>
         requires { AreHeld self.old.texts added.old }
@@ -116,7 +117,7 @@ impl Kept {
             IsOutcomeOf (contents_with self.old.tables.contents added.new) stored outcome.now) }
         ensures adds { OnOk result
             (AddsTexts self.old.tables.contents (texts_of_outputs outcome.now.outputs)
-            (texts_of added.old) (texts_of added.new)) }
+            (values_of_contents added.old) (values_of_contents added.new)) }
         ensures held { OnOk result (AreHeld self.new.texts added.new) }
         ensures same { self.new.tables ≡ self.old.tables }
         ensures heads { self.new.heads ≡ self.old.heads }
@@ -125,11 +126,11 @@ impl Kept {
         stored_outcome(alloc, &mut self.contents, added, outcome)
     }
 
-    // The batch of these texts and the item after them.
+    // The batch of these contents and the item after them.
     fn prepare(
         &mut self,
         alloc: Global,
-        added: AddedTexts,
+        added: AddedContents,
         last: Item,
         call: Option<(HeldCall, Outcome)>,
     ) -> Result<Prepared, Memory>
@@ -157,8 +158,8 @@ impl Kept {
     }
 }
 
-// The contents of the texts, and the item after them.
-fn items_of(alloc: Global, added: &[Shared], last: Item) -> Result<Seq<Item>, Memory>
+// The items of contents, and the item after them.
+fn items_of(alloc: Global, added: &[Content], last: Item) -> Result<Seq<Item>, Memory>
     ensures { IfOk result (λ items. items ≡ items_with added.now last) }
 {
     let mut items = contents_of(alloc, added)?;
@@ -166,12 +167,12 @@ fn items_of(alloc: Global, added: &[Shared], last: Item) -> Result<Seq<Item>, Me
     Ok(items)
 }
 
-fn contents_of(alloc: Global, added: &[Shared]) -> Result<Seq<Item>, Memory>
-    ensures { IfOk result (λ items. items ≡ items_of_texts added.now) }
+fn contents_of(alloc: Global, added: &[Content]) -> Result<Seq<Item>, Memory>
+    ensures { IfOk result (λ items. items ≡ items_of_contents added.now) }
 {
     let mut items = Seq::new(alloc);
-    for shared in added {
-        items.push(Item::Content(Value::Simple(shared.text.copy(alloc)?)))?;
+    for content in added {
+        items.push(Item::Content(content.value(alloc)?))?;
     }
     Ok(items)
 }

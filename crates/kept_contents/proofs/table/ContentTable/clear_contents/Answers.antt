@@ -5,5 +5,5 @@ use Rattle.kept_contents.proofs.table.ContentTable.clear_contents.Goals as goal
 
 pub invariant_of-self : goal.invariant_of-self
 invariant_of-self c =
-    rw (c.clear.ensures.items, c.clear_numbers.ensures)
-    (numbered_cleared c.self.inside.texts c.self.inside.numbers.items c.self.invariant.0.long, All-nil (IsHeldIn c.self.inside.texts), c.new.ensures)
+    rw (c.clear-2.ensures.items, c.clear_numbers.ensures)
+    (numbered_cleared c.self.inside.texts c.self.inside.numbers.items c.self.invariant.0.long, All-nil (IsHeldIn c.self.inside.texts), c.clear.ensures.index)

@@ -1,7 +1,9 @@
 use Rattle.std.proofs.Common.{◌≡◌, [], ap, ◌∙◌}
 use Rattle.meaning_records.specs.Tables.{Tables}
-use Rattle.kept_contents.specs.Added.{texts_of, texts_of_parts, texts_of_outputs}
-use Rattle.kept_contents.proofs.Lemmas.{adds_append, grown_twice}
+use Rattle.meaning_records.specs.Batches.{contents_of}
+use Rattle.kept_contents.specs.Added.{texts_of_parts, texts_of_outputs}
+use Rattle.kept_contents.specs.Stocks.{values_of_contents}
+use Rattle.kept_contents.proofs.Lemmas.{grown_twice, texts_append}
 use Rattle.kept_tables.proofs.BatchLemmas.{if_ok, call_prepared, call_stays}
 use Rattle.kept_tables.proofs.HeldLemmas.{held_grown}
 use Rattle.kept_tables.proofs.kept.Kept.prepare_call.Goals as goal
@@ -24,8 +26,8 @@ returns-clause-ok c =
     let same : c.prepare.new.self.tables ≡ c.args.self.now.tables = c.prepare.ensures.same ∙ c.stored_outcome.ensures.same ∙ c.stored_call.ensures.same ∙ c.hold.ensures.same in
     let front = rw (first, c.new-added.ensures) at c.in_ok-stored.ensures.adds in
     let back = rw before at c.in_ok-given.ensures.adds in
-    let adds = adds_append contents (texts_of_parts c.args.call.now.parts) (texts_of_outputs outcome.outputs) [] (texts_of c.stored_call.new.added) (texts_of c.stored_outcome.new.added) front back in
-    let called = call_stays contents (texts_of_outputs outcome.outputs) c.stored_call.new.added c.stored_outcome.new.added c.in_ok-stored.stored c.args.call.now back (rw first at c.in_ok-stored.ensures.call) in
+    let adds = texts_append contents (texts_of_parts c.args.call.now.parts) (texts_of_outputs outcome.outputs) [] (values_of_contents c.stored_call.new.added) (values_of_contents c.stored_outcome.new.added) front back in
+    let called = call_stays contents (contents_of (texts_of_outputs outcome.outputs)) c.stored_call.new.added c.stored_outcome.new.added c.in_ok-stored.stored c.args.call.now back (rw first at c.in_ok-stored.ensures.call) in
     let came = rw before at c.in_ok-given.ensures.outcome in
     let made = rw c.in_ok-copy.ensures at c.prepare.ensures.made in
     if_ok c.prepare.result made (λ batch makes. call_prepared c.args.self.now c.prepare.new.self same c.stored_outcome.new.added batch held c.args.call.now c.in_ok-held.ensures.call outcome c.requires adds c.in_ok-stored.stored c.in_ok-given.given called came makes)

@@ -10,7 +10,7 @@ use Rattle.kept_contents.specs.Stocks.{ContentStock, values_of_contents}
 use Rattle.kept_contents.proofs.Contents.{held_push, values_long, values_push}
 use Rattle.kept_contents.proofs.IndexLemmas.{index_stays}
 use Rattle.kept_contents.proofs.Numbers.{id_within, pushed}
-use Rattle.kept_contents.proofs.table.ContentTable.push.Goals as goal
+use Rattle.kept_contents.proofs.table.ContentTable.push_text.Goals as goal
 
 pub set_first-requires : goal.set_first-requires
 set_first-requires c =
