@@ -17,6 +17,8 @@ mod images;
 #[cfg(test)]
 mod kept;
 #[cfg(test)]
+mod node_records;
+#[cfg(test)]
 mod numbers;
 #[cfg(test)]
 mod records;
