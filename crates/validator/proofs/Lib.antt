@@ -1,2 +1,6 @@
 mod Places
 mod Exact
+mod TypesBelow
+mod DeclaredLemmas
+mod FitLemmas
+mod Results

@@ -1,2 +1,5 @@
 pub mod Verdicts
 pub mod Laws
+pub mod Fitting
+pub mod FitLaws
+pub mod FitExamples
