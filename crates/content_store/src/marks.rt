@@ -1,5 +1,5 @@
 // Numbers by marks, the quickest first.
-ghost use Rattle.std.specs.Prelude.{◌≡◌, ◌↔◌, ◌<◌, ◌-◌, ◌%◌, ◌^◌, ◌∷◌, ◌++◌, [], List, ℕ, All, IfNone, IfSome, IsTrue, None, OnOk, Some, length, slice_get, vec_capacity, vec_len};
+ghost use Rattle.std.specs.Prelude.{◌≡◌, ◌↔◌, ◌<◌, ◌≤◌, ◌+◌, ◌-◌, ◌%◌, ◌^◌, ◌∷◌, ◌++◌, [], List, ℕ, All, IfNone, IfSome, IsTrue, None, OnOk, Some, length, slice_get, vec_capacity, vec_len};
 ghost use Rattle.std.specs.HashMap.{Updates, spare};
 ghost use Rattle.content_store.specs.declared.marks.Mark.{Mark as MarkValue};
 ghost use Rattle.content_store.specs.Marks.{Finds, KeepsNumbers, first_free, leads, room_of};
@@ -94,10 +94,29 @@ impl Marks {
         ensures room { OnOk result (0 < room_of self.new) }
         ensures kept { KeepsNumbers self.old self.new }
     {
-        self.quick.reserve(1)?;
-        self.digests.reserve(1)?;
-        self.clashing.reserve(1)?;
+        self.reserve_more(1)
+    }
+
+    /// Makes room for so many more. None is lost where memory is wanting.
+    pub fn reserve_more(&mut self, more: usize) -> Result<(), Memory>
+        ensures room { OnOk result (more ≤ room_of self.new) }
+        ensures least { room_of self.old ≤ room_of self.new }
+        ensures kept { KeepsNumbers self.old self.new }
+    {
+        self.quick.reserve(more)?;
+        self.digests.reserve(more)?;
+        self.clashing.reserve(more)?;
         Ok(())
+    }
+
+    /// Forgets all numbers. The room stays.
+    pub fn clear(&mut self)
+        ensures forgotten { (marks : List MarkValue) (i : ℕ) → ¬ Finds self.new marks i }
+        ensures room { room_of self.old ≤ room_of self.new }
+    {
+        self.quick.clear();
+        self.digests.clear();
+        self.clashing.clear();
     }
 
     /// Adds a number of what has these marks. It takes no memory.
@@ -105,6 +124,7 @@ impl Marks {
         requires { 0 < room_of self.old }
         ensures added { Finds self.new (S.marks sought.now) number }
         ensures kept { KeepsNumbers self.old self.new }
+        ensures room { room_of self.old ≤ room_of self.new + 1 }
     {
         match self.free_mark(sought) {
             Some(mark) => self.put(mark, number),
@@ -143,6 +163,7 @@ impl Marks {
         ensures kept { (other : MarkValue) (i : ℕ) → leads self.old other ≡ Some i
             → leads self.new other ≡ Some i }
         ensures clashing { self.new.clashing.items ≡ self.old.clashing.items }
+        ensures less { room_of self.old ≤ room_of self.new + 1 }
     {
         match mark {
             Mark::Quick(hash) => insert_within(&mut self.quick, low_bits(hash), number),
@@ -173,7 +194,8 @@ fn find_among<S: Sought>(numbers: &[u64], sought: &S) -> Option<u64>
 // Puts in an entry for which there is room.
 fn insert_within<K: Eq + Hash + Drop>(map: &mut HashMap<K, u64>, key: K, number: u64)
     requires { 0 < spare map.old }
-    ensures { Updates K.eq map.old map.new key (Some number) }
+    ensures updates { Updates K.eq map.old map.new key (Some number) }
+    ensures room { spare map.old ≤ spare map.new + 1 }
 {
     let _ = map.insert(key, number);
 }
@@ -181,7 +203,9 @@ fn insert_within<K: Eq + Hash + Drop>(map: &mut HashMap<K, u64>, key: K, number:
 // Adds a number for which there is room.
 fn push_within(numbers: &mut Vec<u64>, number: u64)
     requires { 0 < vec_capacity numbers.old - vec_len numbers.old }
-    ensures { numbers.new.items ≡ numbers.old.items ++ number ∷ [] }
+    ensures items { numbers.new.items ≡ numbers.old.items ++ number ∷ [] }
+    ensures room { vec_capacity numbers.old - vec_len numbers.old
+        ≤ (vec_capacity numbers.new - vec_len numbers.new) + 1 }
 {
     let _ = numbers.push(number);
 }
