@@ -14,6 +14,7 @@ mod MadeLemmas
 mod OnceLemmas
 mod OpenedLemmas
 mod OpeningLemmas
+mod OursLemmas
 mod RunLemmas
 mod ServeLemmas
 mod SessionLemmas
