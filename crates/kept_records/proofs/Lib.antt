@@ -1,0 +1,3 @@
+mod RecordLemmas
+mod PlaceLemmas
+pub mod Lemmas

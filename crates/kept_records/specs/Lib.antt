@@ -1,0 +1,3 @@
+pub mod Records
+pub mod NodeMarks
+pub mod Laws
