@@ -54,8 +54,9 @@ pub(crate) fn land<D: Disk, S: Spawner>(
         Err(JobFault::Spawn) => return Ok(Landed::Lost),
         Err(JobFault::Memory) => return Err(KeptFault::Memory),
     };
-    if let Err(fault) = store.keep_call(alloc, disk, &call, &outcome) {
-        return Err(KeptFault::of_change(fault));
+    match store.keep_call(alloc, disk, &call, &outcome) {
+        Ok(()) => {}
+        Err(fault) => return Err(KeptFault::of_change(fault)),
     }
     core.give(&call, outcome)?;
     Ok(Landed::Kept)
