@@ -3,8 +3,6 @@
 #![tactic(auto)]
 
 #[cfg(test)]
-mod added;
-#[cfg(test)]
 mod contents;
 #[cfg(test)]
 mod crashes;
