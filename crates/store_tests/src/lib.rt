@@ -19,6 +19,8 @@ mod node_records;
 #[cfg(test)]
 mod numbers;
 #[cfg(test)]
+mod record_tables;
+#[cfg(test)]
 mod records;
 #[cfg(test)]
 mod room;
