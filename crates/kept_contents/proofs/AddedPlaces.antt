@@ -1,6 +1,6 @@
 -- The places of the texts among the contents that a batch adds, with one content more.
 use Rattle.std.proofs.Common.{◌≡◌, ◌∷◌, ◌++◌, ℕ, Bool, true, false, cond, List, [], length, sym, ◌∙◌, subst, refl, true≢false}
-use Rattle.std.specs.Prelude.{◌≢◌, Option, Some, None, All, nat_eq, slice_get}
+use Rattle.std.specs.Prelude.{Option, Some, None, All, nat_eq, slice_get}
 use Rattle.std.proofs.lemmas.Bool.Decides.{Decides-eqb}
 use Rattle.std.proofs.lemmas.Option.{none-some, same_Some}
 use Rattle.std.proofs.lemmas.List.Elements.{All-push}

@@ -1,5 +1,5 @@
 -- Contents that a batch adds.
-use Rattle.std.proofs.Common.{◌≡◌, ◌≢◌, ◌+◌, ◌<◌, ℕ, zero, suc, take, get_or, List, [], ◌∷◌, ◌++◌, ◌⊎◌, inl, inr, length, append-nil, append_assoc, ap, sym, ◌∙◌, subst, refl, arith}
+use Rattle.std.proofs.Common.{◌≡◌, ◌+◌, ◌<◌, ℕ, suc, take, get_or, List, [], ◌∷◌, ◌++◌, ◌⊎◌, inl, inr, length, append-nil, append_assoc, ap, sym, ◌∙◌, subst, refl, arith}
 use Rattle.std.specs.Prelude.{None, Some, slice_get, All, Result, Ok, Err, IfOk, OnOk}
 use Rattle.std.proofs.lemmas.Grind.{flat_map-append}
 use Rattle.std.proofs.lemmas.List.{take_more, map-append}

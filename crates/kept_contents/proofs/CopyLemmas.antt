@@ -12,7 +12,6 @@ use Rattle.object_values.specs.declared.calls.Call.{Call}
 use Rattle.object_values.specs.declared.items.StoredPart.{StoredPart}
 use Rattle.object_values.specs.declared.items.StoredOutput.{StoredOutput}
 use Rattle.object_values.specs.declared.items.StoredCall.{StoredCall}
-use Rattle.meaning_texts.specs.Lists.{IsIn}
 use Rattle.content_store.specs.Bodies.{Bodies, place_of_body, with_body}
 use Rattle.content_store.proofs.Lemmas.{place_stands, none_nowhere, body_kept, goes_behind}
 use Rattle.meaning_records.specs.Tables.{IsText, IsPartOf, ArePartsOf, IsCallOf, IsOutputOf, AreOutputsOf}

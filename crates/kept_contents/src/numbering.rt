@@ -79,7 +79,7 @@ pub fn number_text(
         IsText (contents_with table.new.contents added.new) n text.now) }
     ensures adds { OnOk result
         (AddsOne table.old.contents (Simple text.now)
-            (values_of_contents added.old) (values_of_contents added.new)) }
+        (values_of_contents added.old) (values_of_contents added.new)) }
     ensures held { OnOk result (AreHeld table.new.texts added.new) }
     ensures contents { table.new.contents ≡ table.old.contents }
     ensures texts { IsGrownFrom table.old.texts table.new.texts }
@@ -100,7 +100,7 @@ fn number_shared(
         IsText (contents_with table.now.contents added.new) n shared.text) }
     ensures adds { OnOk result
         (AddsOne table.now.contents (Simple shared.text)
-            (values_of_contents added.old) (values_of_contents added.new)) }
+        (values_of_contents added.old) (values_of_contents added.new)) }
     ensures held { OnOk result (AreHeld table.now.texts added.new) }
 {
     if let Some(number) = table.number(&shared) {
