@@ -1,5 +1,5 @@
 -- A command served: its reply after its change, and where it stops.
-use Rattle.std.proofs.Common.{◌≡◌, ℕ, ◌+◌, ◌≤◌, true, false, List, [], ap, refl, ◌∙◌, subst, arith}
+use Rattle.std.proofs.Common.{◌≡◌, ℕ, ◌+◌, ◌≤◌, true, false, List, [], ap, refl, sym, ◌∙◌, subst, arith}
 use Rattle.odin_outside.specs.Spawned.{Spawned}
 use Rattle.meaning_graph.specs.Graphs.{Text, Graph}
 use Rattle.meaning_commands.specs.Objects.{SinkTold, took, TookPart}
@@ -59,6 +59,10 @@ counts_of fault.Disk before now later cause = record { later = later; rose = cau
 counts_of (fault.NotOurs at) before now later cause = cause
 counts_of (fault.Full at size) before now later cause = cause
 counts_of fault.Memory before now later cause = cause
+
+-- the same of what the fault is turned into
+pub counts_as : (why : JournalFault) (stop : Stop) (before now : ℕ) → stop ≡ stop_of why → before ≤ now → CountAfterJournalFault before now why → CountsStop stop before now
+counts_as why stop before now is later cause = subst (λ s. CountsStop s before now) (sym is) (counts_of why before now later cause)
 
 pub counted_behind : (s : Stop) (first mid last : ℕ) → mid ≡ first → CountsStop s mid last → CountsStop s first last
 counted_behind s first mid last same counted = subst (λ n. CountsStop s n last) same counted
@@ -172,3 +176,7 @@ module _ {D : Type 0} (disk : DiskView D) where
       idle = λ stays. absurd (stays tt);
       over = λ g text limit first start state body same fits. (let left = halts g text limit first start state body same fits in record { furthest = left.furthest; may = left.may; wrote = refl; exit = left.exit });
     }
+
+    pub stops_as : (why : JournalFault) (stop : Stop) → stop ≡ stop_of why → HaltsCommand disk code whole.command whole.body (telling s tools tree d) why (telling s tools' tree' d')
+        → StopsServingInSession disk stop code whole (telling s tools tree d) (telling s tools' tree' d')
+    stops_as why stop is halts = subst (λ st. StopsServingInSession disk st code whole (telling s tools tree d) (telling s tools' tree' d')) (sym is) (stops_answer why halts)

@@ -4,9 +4,11 @@ use Rattle.meaning_commands.specs.Replies.{reply_text}
 use Rattle.odin_bytes.specs.declared.commands.Command.TheVariants as command
 use Rattle.meaning_derive.specs.Answers as answers
 use Rattle.odin_journal.specs.declared.fault.JournalFault.TheVariants as fault
+use Rattle.odin_store.specs.Held.{drops}
 use Rattle.odin_answers.specs.Edits.{SaysReply}
 use Rattle.odin_shell.proofs.AnswerLemmas.{at_stop, same_answers}
 use Rattle.odin_shell.proofs.CommandLemmas.{edit_onward, put_said, put_unsaid, remove_said, remove_unsaid, take_said, take_unsaid, ask_said, ask_unsaid, shown, unshown}
+use Rattle.odin_shell.proofs.OursLemmas.{put_ours, change_ours}
 use Rattle.odin_shell.proofs.ShowLemmas.{plan_answers, sources_answers, kept_answers}
 use Rattle.odin_shell.proofs.serve.answer.Goals as goal
 
@@ -46,6 +48,15 @@ returns-in-Take-clause-onward g c = edit_onward _ _ _ _ _ c.in-Take.name c.take.
 
 pub returns-in-Remove-clause-onward : goal.returns-in-Remove-clause-onward
 returns-in-Remove-clause-onward g c = edit_onward _ _ _ _ _ c.in-Remove.name c.remove.result c.remove.ensures.ok c.remove.ensures.left c.remove.ensures.cause
+
+pub returns-in-Put-clause-ours : goal.returns-in-Put-clause-ours
+returns-in-Put-clause-ours g c = put_ours _ _ _ _ _ _ _ c.put.result c.put.ensures.err
+
+pub returns-in-Take-clause-ours : goal.returns-in-Take-clause-ours
+returns-in-Take-clause-ours g c = put_ours _ _ _ _ _ _ _ c.take.result c.take.ensures.err
+
+pub returns-in-Remove-clause-ours : goal.returns-in-Remove-clause-ours
+returns-in-Remove-clause-ours g c = change_ours g.D.Disk.told (drops c.in-Remove.name) c.args.engine.now.store c.remove.new.engine.store c.args.disk.now c.remove.new.disk c.remove.result c.remove.ensures.err
 
 -- ---- asks
 

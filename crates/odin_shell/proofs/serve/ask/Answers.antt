@@ -1,6 +1,7 @@
 use Rattle.std.proofs.Common.{[]}
 use Rattle.odin_journal.specs.declared.fault.JournalFault.TheVariants as fault
 use Rattle.odin_shell.proofs.AnswerLemmas.{at_stop, ask_answers, unsaid, ask_halts}
+use Rattle.odin_shell.proofs.OursLemmas.{ask_ours}
 use Rattle.odin_shell.proofs.serve.ask.Goals as goal
 
 pub returns-in_err-reply-clause-err : goal.returns-in_err-reply-clause-err
@@ -17,3 +18,6 @@ pub returns-clause-ok : goal.returns-clause-ok
 returns-clause-ok g c =
     ask_answers _ _ _ _ _ _ _ _ c.in_ok-reply.reply _ c.in_ok-reply.ensures.ok c.in_ok-reply.ensures.rest.answer c.in_ok-reply.ensures.rest.few c.in_ok-reply.ensures.cause.ok
     c.in_ok-text_of.ensures c.in_ok-reply.ensures.stays c.in_ok-reply.ensures.left.ready c.in_ok-reply.ensures.rest.idle
+
+pub returns-in_err-reply-clause-ours : goal.returns-in_err-reply-clause-ours
+returns-in_err-reply-clause-ours g c = at_stop _ c.in_err-reply.field-0.0 _ c.from_residual.ensures.1 (ask_ours _ _ _ _ _ _ c.in_err-reply.field-0.0 c.in_err-reply.ensures.err)
