@@ -173,13 +173,16 @@ fn opened(alloc: Global, count: u32) -> Result<Vec<u8>, Memory> {
 // The calls of a rewriting, which are the last ones of an opening.
 const REWRITING: usize = 8;
 
+// What a stop leaves of the calls since the last sync: four ways of the first of them, and then by chance.
+const CHOICES: &[u64] = &[0, 1, 2, 3, 7, 15, 23, 31, 39, 47, 55, 63];
+
 // Whether what is held is held in each file that a stop within the rewriting of an opening leaves.
 fn stops_well(alloc: Global, image: &[u8]) -> Result<bool, Memory> {
     let mut disk = wide_disk(alloc, image)?;
     let _ = run_on(alloc, UNITS, &mut disk, b"")?;
     for moment in disk.calls().saturating_sub(REWRITING)..=disk.calls() {
-        for choice in 0..3 {
-            let left = crashed(alloc, &disk, moment, choice)?;
+        for choice in CHOICES {
+            let left = crashed(alloc, &disk, moment, *choice)?;
             if !holds(alloc, left.as_slice())? {
                 return Ok(false);
             }
