@@ -1,6 +1,5 @@
 mod Places
 mod Exact
 mod TypesBelow
-mod DeclaredLemmas
 mod FitLemmas
 mod Results

@@ -53,7 +53,6 @@ fn value_fits(graph: &Graph, number: u32, value: Option<&Value>) -> bool
 }
 
 // The kind of the type of a number. `None` for `text`, which isn't declared and is simple.
-#[tactic(auto, using(crate::proofs::DeclaredLemmas::from_first, crate::proofs::DeclaredLemmas::other_passed, crate::proofs::DeclaredLemmas::type_here, crate::proofs::DeclaredLemmas::type_passed, crate::proofs::DeclaredLemmas::none_left))]
 fn declared_kind(decls: &[Decl], number: u32) -> Option<&Kind>
     ensures { option_copied result ≡ declared_at decls.now number }
 {
