@@ -1,0 +1,5 @@
+mod Words
+mod Steps
+mod Lines
+mod ReadBack
+mod Firsts

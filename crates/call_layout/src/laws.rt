@@ -1,0 +1,12 @@
+//! Laws of what is read of a call and of its layout. Each is the contract of a function with an empty body.
+ghost use Rattle.call_layout.specs.Laws.{CallIsReadBack, StaysBelowIsTested};
+
+/// What is told of a call is read back from its file `call`.
+pub fn call_is_read_back()
+    ensures { CallIsReadBack }
+{}
+
+/// The computed test holds of the paths that stay below alone.
+pub fn stays_below_is_tested()
+    ensures { StaysBelowIsTested }
+{}
