@@ -1,7 +1,7 @@
 -- The first part of a label, and folders of labels.
-use Rattle.std.proofs.Common.{◌≡◌, ℕ, zero, suc, ◌+◌, ◌<◌, Bool, true, false, List, [], ◌∷◌, ◌++◌, length, take, get_or, Option, Some, None, refl, sym, ap, ◌∙◌, subst, arith, append-nil, append_assoc}
+use Rattle.std.proofs.Common.{◌≡◌, ℕ, zero, suc, ◌+◌, ◌<◌, Bool, true, false, List, [], ◌∷◌, ◌++◌, length, take, get_or, Option, Some, None, Result, Ok, Err, IfErr, refl, sym, ap, ◌∙◌, subst, arith, append-nil, append_assoc}
 use Rattle.std.specs.Prelude.{is_some, ◌==◌, ◌&&◌, nat_eq, bytes_eq}
-use Rattle.std.proofs.lemmas.Bool.{and_from}
+use Rattle.std.proofs.lemmas.Bool.{and_from, and_parts, eqb-true}
 use Rattle.std.proofs.lemmas.List.Folds.{list_any_at}
 use Rattle.std.proofs.lemmas.Slice.Eq.{bytes_eq-Decides}
 use Rattle.call_layout.specs.declared.told.PartTold.{PartTold}
@@ -38,6 +38,12 @@ long_there : (folder rest : List ℕ) → length folder < length (folder ++ 47 �
 long_there [] rest = omega arith
 long_there (b ∷ folder) rest = let shorter = long_there folder rest in omega (arith, shorter)
 
+pub slash_at : (parts : List PartTold) (label : List ℕ) (at : ℕ) → has_folder_at parts label at ≡ true → get_or label at 0 ≡ 47
+slash_at parts label at says = eqb-true (get_or label at 0) 47 (and_parts (get_or label at 0 == 47) (has_label parts (take at label)) says).0
+
+pub label_at : (parts : List PartTold) (label : List ℕ) (at : ℕ) → has_folder_at parts label at ≡ true → has_label parts (take at label) ≡ true
+label_at parts label at says = (and_parts (get_or label at 0 == 47) (has_label parts (take at label)) says).1
+
 none_at : (parts : List PartTold) (folder rest : List ℕ) → has_folder_at parts (folder ++ 47 ∷ rest) (length folder) ≡ false → has_label parts folder ≡ false
 none_at parts folder rest none =
     subst (λ f. has_label parts f ≡ false) (take_there folder rest)
@@ -62,6 +68,11 @@ fault_at outs parts i part (NoText told) lt is there cause = (part.label, (is_ha
 fault_at outs parts i part (Taken told) lt is there cause = (part.label, (is_had parts i part lt is there, cause))
 fault_at outs parts i part (Under folder told) lt is there cause = (part.label, (is_had parts i part lt is there, cause))
 fault_at outs parts i part Memory lt is there cause = tt
+
+pub fault_in : {T : Type 0} (outs : List (List ℕ)) (parts : List PartTold) (i : ℕ) (part : PartTold) (checked : Result T LayoutFault) → i < length parts → part ≡ get_or parts i part
+    → IfErr checked (λ _. part.is_there ≡ true) → IfErr checked (IsCauseAt outs parts part.label) → IfErr checked (IsFaultOf outs parts)
+fault_in outs parts i part (Ok done) lt is there cause = tt
+fault_in outs parts i part (Err fault) lt is there cause = fault_at outs parts i part fault lt is there cause
 
 -- ---- one part more
 

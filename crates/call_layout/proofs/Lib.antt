@@ -1,5 +1,6 @@
-mod Words
+mod WordCuts
 mod Steps
 mod Lines
 mod ReadBack
 mod Firsts
+mod Standing

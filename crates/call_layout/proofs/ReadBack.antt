@@ -20,7 +20,7 @@ use Rattle.meaning_calls.specs.Jobs.{IsLabel, IsPartOfClass, IsWellFormed, tool_
 use Rattle.call_layout.specs.declared.told.PartTold.{PartTold}
 use Rattle.call_layout.specs.declared.told.CallTold.{CallTold}
 use Rattle.call_layout.specs.Told.{part_told, call_told, after_front, cut_word, part_of, read_part, with_part, with_out, put_line, put_lines, then_lines, if_whole, read_cut, nothing_told, read_text, read_headed, read_call}
-use Rattle.call_layout.proofs.Words.{cut_there}
+use Rattle.call_layout.proofs.WordCuts.{cut_there}
 
 -- ---- bytes that words don't have
 
@@ -44,11 +44,11 @@ onto_digits (suc k) n acc e =
       | inr t ↦ rw t (onto_digits k (n / 10) (digit_glyph false (n % 10) ∷ acc) more)
     ]
 
-decimal_digits : (n : ℕ) → list_all is_digit (decimal n) ≡ true
+pub decimal_digits : (n : ℕ) → list_all is_digit (decimal n) ≡ true
 unfolding digits
 decimal_digits n = onto_digits 64 n [] refl
 
-decimal_lacks : (c : ℕ) → is_digit c ≡ false → (n : ℕ) → HasNo c (decimal n)
+pub decimal_lacks : (c : ℕ) → is_digit c ≡ false → (n : ℕ) → HasNo c (decimal n)
 decimal_lacks c none n = HasNo-pass is_digit c none (decimal n) (decimal_digits n)
 
 file_lacks : (c : ℕ) → 45 ≢ c → 105 ≢ c → is_digit c ≡ false → (number : ℕ) (body : Option (List ℕ)) → HasNo c (part_file number body)
@@ -61,7 +61,7 @@ label_lacks (b ∷ rest) is = ((All-head (λ b. (b ≢ 32) × (b ≢ 10)) b rest
 
 -- ---- no line has an LF
 
-space : 32 ≢ 10
+space : ◌≢◌ {A = ℕ} 32 10
 space = λ e. cc
 
 tool_lacks : (call : Call) → IsWellFormed call → HasNoLf (tool_line call)

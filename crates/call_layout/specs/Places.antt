@@ -9,7 +9,7 @@ Files = List ℕ → Option (List ℕ)
 
 -- the file of a part stands at a path, too
 abbrev pub with_file : List ℕ → List ℕ → Files → Files
-with_file part path files = λ other. if bytes_eq other path then files part else files other
+with_file part path files = λ other. if bytes_eq path other then files part else files other
 
 -- Only the first part of a label is put there.
 abbrev pub with_placed : Files → Placed → Files

@@ -20,11 +20,10 @@ fn part_file(alloc: Global, number: u64) -> Result<String, Memory>
 /// The system's words for a cause, without the number that it has for it.
 fn cause_of(alloc: Global, error: &Error) -> Result<Bytes, Memory> {
     let text = format!(in alloc; "{error}").map_err(|_| Memory)?;
-    let cause = match text.split_once(" (os error ") {
-        Some((cause, _)) => cause,
-        None => text.as_str(),
-    };
-    Bytes::from_slice(alloc, cause.as_bytes())
+    match text.split_once(" (os error ") {
+        Some((cause, _)) => Bytes::from_slice(alloc, cause.as_bytes()),
+        None => Bytes::from_slice(alloc, text.as_bytes()),
+    }
 }
 
 /// The fault of a place.

@@ -185,7 +185,10 @@ fn check_parts(alloc: Global, outs: &[Bytes], firsts: &Firsts) -> Result<(), Lay
     ensures err { IfErr result (IsFaultOf outs.now firsts.now.parts.now) }
 {
     for part in firsts.parts {
-        check_part(alloc, outs, firsts, part)?;
+        let checked = check_part(alloc, outs, firsts, part);
+        if checked.is_err() {
+            return checked;
+        }
     }
     Ok(())
 }

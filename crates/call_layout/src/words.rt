@@ -4,7 +4,7 @@ ghost use Rattle.clap.specs.Words.{FailsBy, all_of, fault_of, found_of, matches_
 ghost use Rattle.call_layout.specs.Command.{command};
 
 use clap::{Arg, ArgAction, ArgMatches, Command, Error};
-use std::alloc::Global;
+use std::alloc::{AllocError, Global};
 
 /// The words by the command.
 fn matches<'a>(alloc: Global, words: &'a [String]) -> Result<ArgMatches<'a>, Error>
@@ -26,6 +26,18 @@ fn matches<'a>(alloc: Global, words: &'a [String]) -> Result<ArgMatches<'a>, Err
     command.try_get_matches_from(words)
 }
 
+/// The values of the words.
+fn values_of<'a>(alloc: Global, found: &ArgMatches<'a>) -> Result<Vec<&'a str>, AllocError>
+    ensures { let rows = rows_of (found_of found.now) in IfOk result (λ values.
+        map (λ word. word.now) values.items ≡ unwrap_or (all_of (codes "words") rows) []) }
+{
+    let mut values = Vec::new(alloc);
+    if let Some(words) = found.get_strs("words") {
+        values.extend_from_slice(words)?;
+    }
+    Ok(values)
+}
+
 /// The script's label, and the words that it is given: those after it, whatever they are. An error that shows help or the version is none.
 pub fn read_words<'a>(alloc: Global, words: &'a [String]) -> Result<Vec<&'a str>, Error>
     ensures given { IfOk result (λ given. map (λ word. word.now) given.items ≡
@@ -34,9 +46,5 @@ pub fn read_words<'a>(alloc: Global, words: &'a [String]) -> Result<Vec<&'a str>
     ensures kinds { FailsBy (fault_of command (map string_bytes words.entry.now)) result }
 {
     let found = matches(alloc, words)?;
-    let mut given = Vec::new(alloc);
-    if let Some(words) = found.get_strs("words") {
-        given.extend_from_slice(words)?;
-    }
-    Ok(given)
+    Ok(values_of(alloc, &found)?)
 }

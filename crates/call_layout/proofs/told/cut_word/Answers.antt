@@ -1,4 +1,4 @@
-use Rattle.call_layout.proofs.Words.{cut_by}
+use Rattle.call_layout.proofs.WordCuts.{cut_by}
 use Rattle.call_layout.proofs.told.cut_word.Goals as goal
 
 pub returns : goal.returns
