@@ -1,5 +1,7 @@
 -- The first part of a label, and folders of labels.
-use Rattle.std.proofs.Common.{◌≡◌, ℕ, zero, suc, ◌+◌, ◌<◌, Bool, true, false, List, [], ◌∷◌, ◌++◌, length, take, get_or, Option, Some, None, Result, Ok, Err, IfErr, refl, sym, ap, ◌∙◌, subst, arith, append-nil, append_assoc}
+use Rattle.std.proofs.Common.{◌≡◌, ℕ, zero, suc, ◌+◌, ◌<◌, Bool, true, false, List, [], ◌∷◌, ◌++◌, length, take, get_or, Option, Some, None, Result, Ok, Err, IfErr, OnOk, is_err, ◌≤◌, refl, sym, ap, ◌∙◌, subst, arith, append-nil, append_assoc}
+use Rattle.std.specs.List.{All}
+use Rattle.std.proofs.lemmas.List.Elements.{All-nil, All-cons, All-head, All-tail}
 use Rattle.std.specs.Prelude.{is_some, ◌==◌, ◌&&◌, nat_eq, bytes_eq}
 use Rattle.std.proofs.lemmas.Bool.{and_from, and_parts, eqb-true}
 use Rattle.std.proofs.lemmas.List.Folds.{list_any_at}
@@ -73,6 +75,15 @@ pub fault_in : {T : Type 0} (outs : List (List ℕ)) (parts : List PartTold) (i 
     → IfErr checked (λ _. part.is_there ≡ true) → IfErr checked (IsCauseAt outs parts part.label) → IfErr checked (IsFaultOf outs parts)
 fault_in outs parts i part (Ok done) lt is there cause = tt
 fault_in outs parts i part (Err fault) lt is there cause = fault_at outs parts i part fault lt is there cause
+
+pub done_of : {T : Type 0} (checked : Result T LayoutFault) (P : Type 0) → is_err checked ≡ false → OnOk checked P → P
+done_of (Ok done) P fine h = h
+done_of (Err fault) P fine h = let clash : ⊥ = cc in absurd clash
+
+pub all_of_them : (P : PartTold → Type 0) (parts : List PartTold) (i : ℕ) → length parts ≤ i → All P (take i parts) → All P parts
+all_of_them P [] i at are = All-nil P
+all_of_them P (part ∷ rest) zero at are = absurd (omega arith)
+all_of_them P (part ∷ rest) (suc i) at are = All-cons P part rest (All-head P part (take i rest) are) (all_of_them P rest i (omega arith) (All-tail P part (take i rest) are))
 
 -- ---- one part more
 
