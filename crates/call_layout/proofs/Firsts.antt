@@ -80,10 +80,10 @@ pub done_of : {T : Type 0} (checked : Result T LayoutFault) (P : Type 0) → is_
 done_of (Ok done) P fine h = h
 done_of (Err fault) P fine h = let clash : ⊥ = cc in absurd clash
 
-pub all_of_them : (P : PartTold → Type 0) (parts : List PartTold) (i : ℕ) → length parts ≤ i → All P (take i parts) → All P parts
+pub all_of_them : {X : Type 0} (P : X → Type 0) (xs : List X) (i : ℕ) → length xs ≤ i → All P (take i xs) → All P xs
 all_of_them P [] i at are = All-nil P
-all_of_them P (part ∷ rest) zero at are = absurd (omega arith)
-all_of_them P (part ∷ rest) (suc i) at are = All-cons P part rest (All-head P part (take i rest) are) (all_of_them P rest i (omega arith) (All-tail P part (take i rest) are))
+all_of_them P (x ∷ xs) zero at are = absurd (omega arith)
+all_of_them P (x ∷ xs) (suc i) at are = All-cons P x xs (All-head P x (take i xs) are) (all_of_them P xs i (omega arith) (All-tail P x (take i xs) are))
 
 -- ---- one part more
 

@@ -32,9 +32,10 @@ fn values_of<'a>(alloc: Global, found: &ArgMatches<'a>) -> Result<Vec<&'a str>, 
         map (λ word. word.now) values.items ≡ unwrap_or (all_of (codes "words") rows) []) }
 {
     let mut values = Vec::new(alloc);
-    if let Some(words) = found.get_strs("words") {
-        values.extend_from_slice(words)?;
-    }
+    let Some(words) = found.get_strs("words") else {
+        return Ok(values);
+    };
+    values.extend_from_slice(words)?;
     Ok(values)
 }
 
