@@ -3,7 +3,7 @@ ghost use Rattle.std.specs.Prelude.{◌≡◌, ◌↔◌, Option, List, ℕ, IsT
 ghost use Rattle.call_layout.specs.Places.{Files, with_file};
 
 use std::fs;
-use std::io::{self, Error, ErrorKind};
+use std::io;
 use std::rt::Files;
 
 /// What is done with the files of the folder in which a tool is started.
@@ -43,11 +43,8 @@ fn make_above<R: Files>(rt: &R, path: &str) -> io::Result<()> {
     }
 }
 
-/// Copies a file to where nothing stands, not even a link.
-fn copy_new<R: Files>(rt: &R, part: &str, path: &str) -> io::Result<()> {
-    if fs::symlink_metadata(rt, path).is_ok() {
-        return Err(Error::from(ErrorKind::AlreadyExists));
-    }
+/// Copies a file.
+fn copy_file<R: Files>(rt: &R, part: &str, path: &str) -> io::Result<()> {
     match fs::copy(rt, part, path) {
         Ok(_) => Ok(()),
         Err(error) => Err(error),
@@ -59,12 +56,18 @@ impl<'a, R: Files + AllocGlobal> Place for Here<'a, R> {
 
     ghost files = { λ _. None };
 
-    /// The same file gets a second name, which takes no bytes; where a file system has no such names, a copy is made.
+    /// The same file gets a second name, which takes no bytes; where a file system has no such names, a copy is made. A copy would be written into what
+    /// stands there, or to where a link leads, so none is made then.
     fn put(&mut self, part: &str, path: &str) -> io::Result<()> {
         make_above(self.rt, path)?;
         match fs::hard_link(self.rt, part, path) {
             Ok(()) => Ok(()),
-            Err(_) => copy_new(self.rt, part, path),
+            Err(error) => {
+                if fs::symlink_metadata(self.rt, path).is_ok() {
+                    return Err(error);
+                }
+                copy_file(self.rt, part, path)
+            }
         }
     }
 

@@ -1,4 +1,8 @@
 // A run of the program.
+ghost use Rattle.std.specs.Prelude.{◌≡◌, ◌+◌, ◌∷◌, ◌++◌, ℕ, Some, pos, codes, map, IfOk};
+ghost use Rattle.std.specs.Process.{command_program, command_args, exit_code, exit_signal};
+ghost use Rattle.call_layout.specs.Layout.{has_label};
+
 use crate::faults::{Fault, MEMORY, Told};
 use crate::laying::{fault_of, lay_out};
 use crate::layout::layout_of;
@@ -57,14 +61,21 @@ fn read_told(rt: &HostRuntime) -> Result<CallTold, Fault> {
     }
 }
 
-fn has_script(parts: &[PartTold], script: &str) -> bool {
+/// Whether a part that is there has the label of the script.
+fn has_script(parts: &[PartTold], script: &str) -> bool
+    ensures { result ≡ has_label parts.now script.now }
+{
     parts
         .iter()
         .any(|part| part.is_there && part.label.as_slice() == script.as_bytes())
 }
 
 /// The command that runs a script of the current folder by `sh`.
-fn script_command(alloc: Global, script: &str, words: &[&str]) -> Result<Command, Fault> {
+fn script_command(alloc: Global, script: &str, words: &[&str]) -> Result<Command, Fault>
+    ensures program { IfOk result (λ command. command_program command ≡ codes "sh") }
+    ensures words { IfOk result (λ command. command_args command ≡
+        (codes "./" ++ script.now) ∷ map (λ word. word.now) words.now) }
+{
     let path = format!(in alloc; "./{script}").map_err(|_| Fault::Memory)?;
     let mut command = Command::new(alloc, "sh").map_err(|_| Fault::Memory)?;
     command.arg(path.as_str()).map_err(|_| Fault::Memory)?;
@@ -75,7 +86,10 @@ fn script_command(alloc: Global, script: &str, words: &[&str]) -> Result<Command
 }
 
 /// The status that tells how a script ended: its own, or that of a signal as a shell has it.
-fn status_of(status: ExitStatus) -> u8 {
+fn status_of(status: ExitStatus) -> u8
+    ensures code { (n : ℕ) → exit_code status ≡ Some (pos n) → result ≡ n }
+    ensures signal { (n : ℕ) → exit_signal status ≡ Some (pos n) → result ≡ 128 + n }
+{
     match status.code() {
         Some(code) => (code.cast_unsigned() % 256) as u8,
         None => match status.signal() {
