@@ -1,6 +1,6 @@
 -- Lines that are read one by one.
-use Rattle.std.proofs.Common.{◌≡◌, ◌≢◌, ℕ, List, [], ◌∷◌, Option, Some, None, refl, sym, ap, ◌∙◌}
-use Rattle.meaning_texts.specs.Lines.{LineCut, cut_lines}
+use Rattle.std.proofs.Common.{◌≡◌, ◌≢◌, ℕ, List, [], ◌∷◌, Option, Some, None, refl, ap, ◌∙◌}
+use Rattle.meaning_texts.specs.Lines.{cut_lines}
 use Rattle.odin_bytes.specs.Words.{IsFirstLine}
 use Rattle.call_layout.specs.declared.told.CallTold.{CallTold}
 use Rattle.call_layout.specs.Told.{put_line, put_lines, then_lines, if_whole, read_cut, read_text}

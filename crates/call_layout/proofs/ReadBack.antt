@@ -1,10 +1,10 @@
 -- What is told of a call is read back from its file.
-use Rattle.std.proofs.Common.{◌≡◌, ◌≢◌, ℕ, zero, suc, ◌+◌, ◌/◌, ◌%◌, ◌<◌, Bool, true, false, not, List, [], ◌∷◌, ◌++◌, length, map, Option, Some, None, is_some, option_map, refl, sym, ap, ◌∙◌, append-nil, append_assoc, length-append, arith, inl, inr}
-use Rattle.std.specs.Prelude.{◌==◌, nat_eq, codes, decimal, bytes_eq, if◌then◌else◌}
+use Rattle.std.proofs.Common.{◌≡◌, ◌≢◌, ℕ, zero, suc, ◌+◌, ◌/◌, ◌%◌, ◌<◌, true, false, not, List, [], ◌∷◌, ◌++◌, length, map, Option, Some, None, is_some, option_map, refl, sym, ap, ◌∙◌, append-nil, append_assoc, length-append, arith, inl, inr}
+use Rattle.std.specs.Prelude.{nat_eq, codes, decimal, if◌then◌else◌}
 use Rattle.std.specs.Fmt.{digits, digits_onto, digit_glyph}
 use Rattle.std.specs.List.{list_all, All, flat_map}
 use Rattle.std.specs.Option.{option_and_then}
-use Rattle.std.proofs.lemmas.Bool.{cases_Bool, cond-true, and_from, lt-ltb, le-leb}
+use Rattle.std.proofs.lemmas.Bool.{cases_Bool, and_from, lt-ltb, le-leb}
 use Rattle.std.proofs.lemmas.List.Elements.{All-head, All-tail, All-nil, All-cons, All-append, All-map, All-weaker}
 use Rattle.std.proofs.lemmas.List.Sums.{list_all-from_AllPass}
 use Rattle.std.proofs.lemmas.Slice.Eq.{bytes_eq-Decides}
@@ -14,12 +14,11 @@ use Rattle.object_values.specs.declared.calls.Call.{Call}
 use Rattle.meaning_texts.specs.Classes.{is_digit, is_key_byte, is_name_byte, is_value_byte, IsId}
 use Rattle.meaning_texts.specs.Expressions.{IsParamOfClass}
 use Rattle.meaning_texts.specs.Lists.{HasNo}
-use Rattle.meaning_texts.specs.Lines.{HasNoLf, LineCut, cut_lines, with_lf}
+use Rattle.meaning_texts.specs.Lines.{HasNoLf, cut_lines, with_lf}
 use Rattle.meaning_texts.proofs.Lemmas.{HasNo-append, HasNo-pass, cut_full}
 use Rattle.meaning_calls.specs.Jobs.{IsLabel, IsPartOfClass, IsWellFormed, tool_line, param_line, part_line, part_lines, part_file, body_name, out_file, out_line, call_text}
-use Rattle.call_layout.specs.declared.told.PartTold.{PartTold}
 use Rattle.call_layout.specs.declared.told.CallTold.{CallTold}
-use Rattle.call_layout.specs.Told.{part_told, call_told, after_front, cut_word, part_of, read_part, with_part, with_out, put_line, put_lines, then_lines, if_whole, read_cut, nothing_told, read_text, read_headed, read_call}
+use Rattle.call_layout.specs.Told.{part_told, call_told, after_front, cut_word, part_of, read_part, with_part, with_out, put_line, put_lines, then_lines, read_cut, nothing_told, read_headed, read_call}
 use Rattle.call_layout.proofs.WordCuts.{cut_there}
 
 -- ---- bytes that words don't have

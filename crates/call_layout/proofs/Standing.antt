@@ -1,20 +1,19 @@
 -- Where parts stand once they are laid out.
 use Rattle.std.proofs.Common.{◌≡◌, ◌≢◌, ℕ, zero, suc, ◌+◌, ◌<◌, ◌/◌, ◌%◌, Bool, true, false, not, List, [], ◌∷◌, ◌++◌, length, take, get_or, Option, Some, None, option_map, refl, sym, ap, ◌∙◌, subst, arith, inl, inr}
-use Rattle.std.specs.Prelude.{◌==◌, ◌&&◌, ◌||◌, nat_eq, bytes_eq, is_some, unwrap_or, decimal, if◌then◌else◌, All}
+use Rattle.std.specs.Prelude.{◌==◌, ◌&&◌, nat_eq, bytes_eq, is_some, unwrap_or, decimal, if◌then◌else◌, All}
 use Rattle.std.specs.Fmt.{digits, digits_onto, digit_glyph}
-use Rattle.std.specs.List.{list_any, list_all, fold}
-use Rattle.std.proofs.lemmas.Bool.{cases_Bool, cond-true, cond-false, and_parts, and_from, or_parts, or_left, both_ways, ne_eqb}
+use Rattle.std.specs.List.{list_any}
+use Rattle.std.proofs.lemmas.Bool.{cases_Bool, and_parts, and_from, or_parts, or_left, both_ways, ne_eqb}
 use Rattle.std.proofs.lemmas.List.Elements.{All-head, All-tail, All-weaker}
 use Rattle.std.proofs.lemmas.List.Folds.{list_any_none}
 use Rattle.std.proofs.lemmas.List.Sums.{fold_more}
 use Rattle.std.proofs.lemmas.Slice.Eq.{bytes_eq-Decides}
-use Rattle.meaning_texts.specs.Classes.{is_digit}
 use Rattle.meaning_texts.specs.Lists.{is_empty}
 use Rattle.meaning_calls.specs.Jobs.{body_name}
 use Rattle.call_layout.specs.declared.told.PartTold.{PartTold}
 use Rattle.call_layout.specs.declared.layout.Placed.{Placed}
 use Rattle.call_layout.specs.Labels.{first_of_steps, is_part_file, is_own_name, is_taken}
-use Rattle.call_layout.specs.Layout.{stands_at, has_label, first_number, placed_of, placed_from, placed_parts, PartCanStand, AllCanStand, CanStand}
+use Rattle.call_layout.specs.Layout.{stands_at, has_label, first_number, placed_of, placed_from, placed_parts, PartCanStand, AllCanStand}
 use Rattle.call_layout.specs.Places.{Files, with_file, with_placed, laid, HasFirstBytes}
 use Rattle.call_layout.proofs.Steps.{one_step}
 use Rattle.call_layout.proofs.ReadBack.{decimal_digits, decimal_lacks}

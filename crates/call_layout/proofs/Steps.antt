@@ -1,6 +1,6 @@
 -- The steps of a path.
 use Rattle.std.proofs.Common.{◌≡◌, ◌≢◌, ℕ, Bool, true, false, not, List, [], ◌∷◌, ◌++◌, refl, sym, ap, ◌∙◌}
-use Rattle.std.specs.Prelude.{◌==◌, ◌&&◌, ◌||◌, ◌↔◌, IsTrue, All, codes, bytes_eq}
+use Rattle.std.specs.Prelude.{◌==◌, ◌&&◌, ◌↔◌, IsTrue, All, codes, bytes_eq}
 use Rattle.std.specs.List.{list_all, list_any, onto_first}
 use Rattle.std.proofs.lemmas.Bool.{cond-false, ne_eqb, eqb-false, both_ways, not-true, not_from_false, and_parts, and_from, or_parts, or_from}
 use Rattle.std.proofs.lemmas.List.Elements.{All-nil, All-cons, All-weaker}
@@ -9,7 +9,7 @@ use Rattle.std.proofs.lemmas.List.Sums.{AllPass-from_list_all, list_all-from_All
 use Rattle.std.proofs.lemmas.Slice.Eq.{bytes_eq-Decides}
 use Rattle.meaning_texts.specs.Lists.{HasNo, is_empty}
 use Rattle.odin_bytes.specs.Words.{IsCutAt}
-use Rattle.call_layout.specs.Labels.{steps_of, first_of_steps, first_step, LeadsDown, StaysBelow, is_dots, leads_down, stays_below}
+use Rattle.call_layout.specs.Labels.{steps_of, LeadsDown, StaysBelow, is_dots, leads_down, stays_below}
 
 steps_there : (before behind : List ℕ) → HasNo 47 before → steps_of (before ++ 47 ∷ behind) ≡ before ∷ steps_of behind
 steps_there [] behind none = refl

@@ -1,7 +1,7 @@
 -- Words that are cut at a space.
 use Rattle.std.proofs.Common.{◌≡◌, ℕ, List, [], ◌∷◌, ◌++◌, Option, Some, None, IfSome, IfNone, option_map, Bor, refl, sym, ap, ◌∙◌}
 use Rattle.std.specs.Prelude.{◌==◌}
-use Rattle.std.proofs.lemmas.Bool.{cond-true, cond-false, ne_eqb}
+use Rattle.std.proofs.lemmas.Bool.{cond-false, ne_eqb}
 use Rattle.meaning_texts.specs.Lists.{HasNo}
 use Rattle.odin_bytes.specs.Words.{IsCutAt}
 use Rattle.call_layout.specs.Told.{cut_word}

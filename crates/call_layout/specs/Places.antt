@@ -1,5 +1,5 @@
 -- The files of a folder, as far as they are told, and what the layout of a call makes of them.
-use Rattle.std.specs.Prelude.{◌≡◌, ℕ, Bool, ◌==◌, All, List, fold, Option, None, bytes_eq, if◌then◌else◌, IfSome, option_map}
+use Rattle.std.specs.Prelude.{◌≡◌, ℕ, ◌==◌, List, fold, Option, bytes_eq, if◌then◌else◌, IfSome}
 use Rattle.meaning_calls.specs.Jobs.{body_name}
 use Rattle.call_layout.specs.declared.layout.Placed.{Placed}
 

@@ -110,7 +110,11 @@ impl Fault {
                 put_label(label.as_slice(), b"two parts with other bytes", &mut line)?;
             }
             Fault::NoScript(label) => {
-                put_label(label.as_slice(), b"no part of the call is this script", &mut line)?;
+                put_label(
+                    label.as_slice(),
+                    b"no part of the call is this script",
+                    &mut line,
+                )?;
             }
             Fault::System { place, cause } => {
                 put_label(place.as_slice(), cause.as_slice(), &mut line)?;

@@ -2,9 +2,8 @@
 ghost use Rattle.std.specs.Prelude.{◌≡◌, ◌↔◌, Option, List, ℕ, IsTrue, IfOk, OnOk, IfSome, option_map};
 ghost use Rattle.call_layout.specs.Places.{Files, with_file};
 
-use std::fs;
-use std::io;
 use std::rt::Files;
+use std::{fs, io};
 
 /// What is done with the files of the folder in which a tool is started.
 pub trait Place {

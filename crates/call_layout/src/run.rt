@@ -65,9 +65,7 @@ fn read_told(rt: &HostRuntime) -> Result<CallTold, Fault> {
 fn has_script(parts: &[PartTold], script: &str) -> bool
     ensures { result ≡ has_label parts.now script.now }
 {
-    parts
-        .iter()
-        .any(|part| part.is_there && part.label.as_slice() == script.as_bytes())
+    parts.iter().any(|part| part.is_there && part.label.as_slice() == script.as_bytes())
 }
 
 /// The command that runs a script of the current folder by `sh`.

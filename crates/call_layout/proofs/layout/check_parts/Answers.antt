@@ -1,5 +1,4 @@
 use Rattle.std.proofs.Common.{◌∙◌, sym, subst}
-use Rattle.std.specs.List.{All}
 use Rattle.std.proofs.lemmas.List.Elements.{All-more}
 use Rattle.call_layout.specs.Layout.{PartCanStand}
 use Rattle.call_layout.proofs.Firsts.{fault_in, done_of, all_of_them}
