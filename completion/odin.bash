@@ -25,3 +25,4 @@ _odin_get() {
 complete -o filenames -F _odin odin
 complete -o filenames -F _odin_get odin_get
 complete -o filenames -A directory odin_takes
+complete -o filenames -A file odin_lay

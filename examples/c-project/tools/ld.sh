@@ -1,8 +1,3 @@
 # Links the objects, which are the parts of slot 0 in their order.
 export LC_ALL=C
-: > warnings
-set --
-while read -r word slot file label; do
-    [ "$word $slot" = 'part 0' ] && set -- "$@" "$file"
-done < call
-gcc -o out.exe "$@" 2> warnings || exit 2
+gcc -o out.exe $(sed -n 's,^part 0 i[0-9]* ,./,p' call) 2> warnings || exit 2

@@ -1,0 +1,6 @@
+mod WordCuts
+mod Steps
+mod Lines
+mod ReadBack
+mod Firsts
+mod Standing
