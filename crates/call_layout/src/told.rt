@@ -60,7 +60,7 @@ fn is_there(alloc: Global, number: u64, file: &[u8]) -> Result<Option<bool>, Mem
     let mut name = Bytes::new(alloc);
     name.push(b'i')?;
     write_number(number, &mut name)?;
-    if name.as_slice().first() == file.first() {
+    if name.as_slice() == file {
         Ok(Some(true))
     } else {
         Ok(None)
