@@ -1,13 +1,20 @@
 # Completion of bash for the programs: their options, numbers that `--jobs` often has, files and folders.
+
+# Offers the lines of a text.
+_odin_offer() {
+    COMPREPLY=()
+    [ -z "$1" ] || mapfile -t COMPREPLY <<< "$1"
+}
+
 _odin() {
     local word=$2 before=$3
     case $before in
-    --jobs) mapfile -t COMPREPLY < <(compgen -W "1 2 4 8 16 32 64 $(nproc 2>/dev/null)" -- "$word") ;;
-    --load) mapfile -t COMPREPLY < <(compgen -W '40 200 2000' -- "$word") ;;
+    --jobs) _odin_offer "$(compgen -W "1 2 4 8 16 32 64 $(nproc 2> /dev/null)" -- "$word")" ;;
+    --load) _odin_offer "$(compgen -W '40 200 2000' -- "$word")" ;;
     *)
         case $word in
-        -*) mapfile -t COMPREPLY < <(compgen -W '--jobs --load' -- "$word") ;;
-        *) mapfile -t COMPREPLY < <(compgen -f -- "$word") ;;
+        -*) _odin_offer "$(compgen -W '--jobs --load' -- "$word")" ;;
+        *) _odin_offer "$(compgen -f -- "$word")" ;;
         esac
         ;;
     esac
@@ -16,9 +23,9 @@ _odin() {
 _odin_get() {
     local word=$2 before=$3
     if [ "$before" = -o ]; then
-        mapfile -t COMPREPLY < <(compgen -f -- "$word")
+        _odin_offer "$(compgen -f -- "$word")"
     else
-        mapfile -t COMPREPLY < <(compgen -W '-o -m -l' -- "$word")
+        _odin_offer "$(compgen -W '-o -m -l' -- "$word")"
     fi
 }
 
