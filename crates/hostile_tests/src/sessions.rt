@@ -7,11 +7,7 @@ use std::alloc::Global;
 pub type Text = &'static [u8];
 
 /// Commands with their replies, and what `sources` replies after them.
-pub struct Step {
-    commands: Text,
-    replies: Text,
-    sources: Text,
-}
+pub type Step = (Text, Text, Text);
 
 const OBJECT: Text = b"object ok simple 4\nx=1\n\nmessages 0\n";
 
@@ -23,41 +19,17 @@ const OLD: Text = b"sources 2\na.c 11\nm.sm 4\n";
 
 /// A program is linked, its unit gets a warning, and then its old text back.
 pub const THERE_AND_BACK: &[Step] = &[
-    Step {
-        commands: b"put m.sm 4\na.c\n",
-        replies: b"put m.sm 4\n",
-        sources: b"sources 1\nm.sm 4\n",
-    },
-    Step {
-        commands: b"put a.c 4\nx=1\n",
-        replies: b"put a.c 4\n",
-        sources: ONE,
-    },
-    Step {
-        commands: b"ask m.sm:exe\n",
-        replies: OBJECT,
-        sources: ONE,
-    },
-    Step {
-        commands: b"put a.c 11\nx=1\n//!old\n",
-        replies: b"put a.c 11\n",
-        sources: OLD,
-    },
-    Step {
-        commands: b"ask m.sm:exe\n",
-        replies: WARNING,
-        sources: OLD,
-    },
-    Step {
-        commands: b"put a.c 4\nx=1\n",
-        replies: b"put a.c 4\n",
-        sources: ONE,
-    },
-    Step {
-        commands: b"ask m.sm:exe\n",
-        replies: OBJECT,
-        sources: ONE,
-    },
+    (
+        b"put m.sm 4\na.c\n",
+        b"put m.sm 4\n",
+        b"sources 1\nm.sm 4\n",
+    ),
+    (b"put a.c 4\nx=1\n", b"put a.c 4\n", ONE),
+    (b"ask m.sm:exe\n", OBJECT, ONE),
+    (b"put a.c 11\nx=1\n//!old\n", b"put a.c 11\n", OLD),
+    (b"ask m.sm:exe\n", WARNING, OLD),
+    (b"put a.c 4\nx=1\n", b"put a.c 4\n", ONE),
+    (b"ask m.sm:exe\n", OBJECT, ONE),
 ];
 
 const LINKED: Text = b"object ok simple 8\nx=1\ny=2\n\nmessages 0\n";
@@ -66,31 +38,19 @@ const TWO: Text = b"sources 3\na.c 4\nb.c 4\nm.sm 8\n";
 
 /// Two units are linked, and asked for again.
 pub const TWO_UNITS: &[Step] = &[
-    Step {
-        commands: b"put m.sm 8\na.c\nb.c\n",
-        replies: b"put m.sm 8\n",
-        sources: b"sources 1\nm.sm 8\n",
-    },
-    Step {
-        commands: b"put a.c 4\nx=1\n",
-        replies: b"put a.c 4\n",
-        sources: b"sources 2\na.c 4\nm.sm 8\n",
-    },
-    Step {
-        commands: b"put b.c 4\ny=2\n",
-        replies: b"put b.c 4\n",
-        sources: TWO,
-    },
-    Step {
-        commands: b"ask m.sm:exe\n",
-        replies: LINKED,
-        sources: TWO,
-    },
-    Step {
-        commands: b"ask m.sm:exe\n",
-        replies: LINKED,
-        sources: TWO,
-    },
+    (
+        b"put m.sm 8\na.c\nb.c\n",
+        b"put m.sm 8\n",
+        b"sources 1\nm.sm 8\n",
+    ),
+    (
+        b"put a.c 4\nx=1\n",
+        b"put a.c 4\n",
+        b"sources 2\na.c 4\nm.sm 8\n",
+    ),
+    (b"put b.c 4\ny=2\n", b"put b.c 4\n", TWO),
+    (b"ask m.sm:exe\n", LINKED, TWO),
+    (b"ask m.sm:exe\n", LINKED, TWO),
 ];
 
 /// How many tools each of the sessions starts.
@@ -109,8 +69,8 @@ pub fn behind(steps: &[Step], count: usize) -> &[Step] {
 /// The commands of some steps.
 pub fn commands_of(alloc: Global, steps: &[Step]) -> Result<Vec<u8>, Memory> {
     let mut text = Vec::new(alloc);
-    for step in steps {
-        text.extend_from_slice(step.commands)?;
+    for (commands, _, _) in steps {
+        text.extend_from_slice(commands)?;
     }
     Ok(text)
 }
@@ -118,8 +78,8 @@ pub fn commands_of(alloc: Global, steps: &[Step]) -> Result<Vec<u8>, Memory> {
 /// The replies of some steps.
 pub fn replies_of(alloc: Global, steps: &[Step]) -> Result<Vec<u8>, Memory> {
     let mut text = Vec::new(alloc);
-    for step in steps {
-        text.extend_from_slice(step.replies)?;
+    for (_, replies, _) in steps {
+        text.extend_from_slice(replies)?;
     }
     Ok(text)
 }
@@ -127,7 +87,7 @@ pub fn replies_of(alloc: Global, steps: &[Step]) -> Result<Vec<u8>, Memory> {
 // What `sources` replies after some steps.
 fn sources_after(steps: &[Step]) -> Text {
     match steps.last() {
-        Some(step) => step.sources,
+        Some((_, _, sources)) => sources,
         None => b"sources 0\n",
     }
 }
