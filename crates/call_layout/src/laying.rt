@@ -69,8 +69,8 @@ fn check_twins<P: Place>(place: &mut P, alloc: Global, placed: &[Placed]) -> Res
 
 /// Puts a part at its label, where it is the first one with it.
 fn put_part<P: Place>(place: &mut P, alloc: Global, placed: &Placed) -> Result<(), Fault>
-    ensures { OnOk result
-        (P.files place.new ≡ option_map (λ files. with_placed files placed.now) (P.files place.old)) }
+    ensures { let put = option_map (λ files. with_placed files placed.now) in
+        OnOk result (P.files place.new ≡ put (P.files place.old)) }
 {
     if placed.first != placed.number {
         return Ok(());

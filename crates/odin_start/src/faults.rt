@@ -33,7 +33,8 @@ pub enum Fault {
 
 /// The fault that an exit status stands for, where standard error tells one: 2, 7, 8 and 9 have written a line of their own.
 pub fn fault_of(status: u8) -> Option<Fault>
-    ensures ends { (ending : EndingValue) → status ≡ ending_status ending → result ≡ line_of ending }
+    ensures ends { (ending : EndingValue) → status ≡ ending_status ending
+        → result ≡ line_of ending }
     ensures none { status ≢ 1 → status ≢ 3 → status ≢ 4 → status ≢ 5 → status ≢ 6 → status ≢ 10
         → result ≡ None }
 {
