@@ -169,6 +169,10 @@ fn scripts_leave_their_files(rt: HostRuntime) -> Result<(), Fail> {
 
 #[test]
 fn an_end_waits_for_no_program_that_was_left_behind(rt: HostRuntime) -> Result<(), Fail> {
+    // An earlier run in this folder left one.
+    if fs::exists(&rt, "late")? {
+        fs::remove_file(&rt, "late")?;
+    }
     let mut tools = tools_of(&rt);
     let text = b"d=$(cd ../../.. && pwd); (sleep 2; : > \"$d/late\") & echo now > out.a";
     let left = left_by(rt.alloc(), &mut tools, text)?;
