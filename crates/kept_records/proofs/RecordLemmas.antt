@@ -1,6 +1,6 @@
 -- Records that are put and renewed.
-use Rattle.std.proofs.Common.{◌≡◌, ◌≢◌, ℕ, zero, suc, Bool, true, false, cond, List, [], ◌∷◌, ◌++◌, ap, ap₂, sym, ◌∙◌, refl, true≢false}
-use Rattle.std.specs.Prelude.{Option, Some, None, IsSome, option_map, map}
+use Rattle.std.proofs.Common.{◌≡◌, ◌≢◌, ℕ, Bool, true, false, cond, List, [], ◌∷◌, ◌++◌, ap, sym, ◌∙◌, refl}
+use Rattle.std.specs.Prelude.{Some, None, IsSome, option_map, map}
 use Rattle.std.proofs.lemmas.Option.{none-some}
 use Rattle.object_values.specs.Exact.{node_exact}
 use Rattle.object_values.specs.declared.nodes.Node.{Node}
