@@ -4,8 +4,8 @@
     store_images.py PROGRAM [COUNT [SEED]]
 
 Images are made from sessions by bytes that change, cuts, splices, records that stand twice, and items that change within whole records; half of them were
-rewritten once or twice before, so that both starts are in use. PROGRAM is the built crates/odin_bench. Each image is opened for the graph text GRAPH, and
-once more opened and rewritten, wasteful or not. Of each, both say where it isn't ours, or the sources, the calls in order, and the file then.
+rewritten once or twice before, so that both starts are in use. PROGRAM is the built crates/odin_bench. Each image is opened for the graph text GRAPH. Of
+each, both say where it isn't ours, or the sources, the calls and the records of nodes in order, and the file then.
 It prints how many agree, and the first that don't.
 """
 import os
@@ -15,7 +15,11 @@ import subprocess
 import sys
 import tempfile
 
-GRAPH = b"type c simple;"
+from image_records import ABORT, HIGHEST, Fit, Record, is_id, is_name, is_value
+
+GRAPH = (b'type h simple; type c simple is h; type o simple; type l list of h; type k compound (p o, q c); suffix .h h; suffix .c c; param d; '
+         b'tool cc 1 from c to o run "cc"; read rd from h to l; pack pk from c to k;')
+FIT = Fit(GRAPH)
 LIMIT = 1 << 30
 BODY = 1 << 24
 
@@ -83,33 +87,33 @@ class Fields:
     def call(self):
         return (self.bytes(), self.bytes(), self.list(self.bytes), self.list(self.pair), self.list(self.part), self.list(self.bytes))
 
+    def message(self):
+        return (self.bytes(), self.named(range(4)), self.bytes())
+
+    def dep(self):
+        return (self.node(), self.option(self.u32))
+
+    def record(self):
+        return Record(self.node(), self.list(self.dep), self.u32(), self.option(self.u32), self.named(range(4)), self.list(self.message),
+                      self.named(range(4)), self.list(self.message), self.u32())
+
     def outcome(self):
         return (self.named(range(4)), self.list(lambda: (self.named(range(4)), self.bytes())), self.list(lambda: (self.bytes(), self.u32())))
 
 
-LETTERS = frozenset(b"ABCDEFGHIJKLMNOPQRSTUVWXYZabcdefghijklmnopqrstuvwxyz")
-DIGITS = frozenset(b"0123456789")
-
-
-def is_name(text):
-    return 1 <= len(text) <= 255 and all(b in LETTERS or b in DIGITS or b in b"._-/" for b in text)
-
-
-def is_id(text):
-    return 1 <= len(text) <= 255 and text[0] in LETTERS and all(b in LETTERS or b in DIGITS or b == 95 for b in text)
-
-
-def is_value(text):
-    return all(0x21 <= b <= 0x7E and b not in b"+:%" for b in text)
-
-
 class State:
-    def __init__(self):
+    """What is kept: `counted` is the graph text for which the file is opened, by which records of nodes count."""
+
+    def __init__(self, counted=GRAPH):
+        self.counted = counted
         self.contents = []
         self.sources = {}
         self.calls = []
         self.kept = set()
         self.graph = None
+        # the last record of each node since that graph; and the gate of each that doesn't fit, also where it was replaced
+        self.records = {}
+        self.unfit = []
 
     def text(self, number):
         if number >= len(self.contents):
@@ -143,10 +147,26 @@ class State:
         self.kept.add(whole)
         self.calls.append((whole, (status, lines, outputs)))
 
-    def item(self, fields):
-        kind = fields.named(range(1, 6))
+    def seen(self, number):
+        if number is None:
+            return None
+        if number >= len(self.contents):
+            raise NotRead
+        return self.contents[number]
+
+    def note(self, read, gate):
+        said = read._replace(deps=[(node, self.seen(number)) for node, number in read.deps], value=self.seen(read.value))
+        formed = read.reached <= len(read.deps) and 1 <= read.height <= HIGHEST and (read.value is None) == (read.status == ABORT)
+        if self.graph is None or not formed:
+            raise NotRead
+        self.records[whole_node(read.node)] = read
+        if self.graph == self.counted and not FIT.fits(said):
+            self.unfit.append(gate)
+
+    def item(self, fields, gate):
+        kind = fields.named(range(1, 7))
         if kind == 1:
-            self.graph = fields.bytes()
+            self.graph, self.records, self.unfit = fields.bytes(), {}, []
         elif kind == 2:
             self.content(fields.bytes())
         elif kind == 3:
@@ -159,15 +179,32 @@ class State:
             if not is_name(name) or name not in self.sources:
                 raise NotRead
             del self.sources[name]
-        else:
+        elif kind == 5:
             self.keep(fields.call(), fields.outcome())
+        else:
+            self.note(fields.record(), gate)
 
-    def payload(self, payload):
-        if not payload:
-            raise NotRead
-        fields = Fields(payload)
-        while fields.at < len(payload):
-            self.item(fields)
+    def payload(self, payload, gate=0):
+        """Takes a payload in; where it doesn't read, gives the gate that isn't ours, which is an earlier one where a record that counts doesn't fit."""
+        first = self.first_unfit()
+        try:
+            if not payload:
+                raise NotRead
+            fields = Fields(payload)
+            while fields.at < len(payload):
+                self.item(fields, gate)
+        except NotRead:
+            return gate if first is None else first
+        return None
+
+    def first_unfit(self):
+        """The gate of the first record that counts and doesn't fit, or none."""
+        return self.unfit[0] if self.unfit else None
+
+
+def whole_node(node):
+    name, params, steps = node
+    return name, tuple(params), tuple(steps)
 
 
 def u32(n):
@@ -228,11 +265,13 @@ def opened(image):
         return state, appended(FRONT + image[65:], 64, batch), 64 + 5 + len(batch)
     records, end = told
     for gate, payload in records:
-        try:
-            state.payload(payload)
-        except NotRead:
-            return gate
+        fault = state.payload(payload, gate)
+        if fault is not None:
+            return fault
+    if state.first_unfit() is not None:
+        return state.first_unfit()
     if state.graph != GRAPH:
+        state.records = {}
         return state, appended(image, end, batch), end + 5 + len(batch)
     return state, image, end
 
@@ -295,6 +334,7 @@ def wanted_of(image, mode):
     state, image, end = told
     if mode == "rewritten":
         image, _ = rewritten(state, image, end)
+        state.records = {}
     return dump(state, image)
 
 
@@ -308,22 +348,41 @@ def dump_call(call, outcome):
         many([blob(name) + blob(body) for name, body in outputs])])
 
 
+def spell_node(node):
+    name, params, steps = node
+    return blob(name) + many([blob(n) + blob(v) for n, v in params]) + many([b"\1" + u32(it) if isinstance(it, int) else b"\2" + blob(it) for it in steps])
+
+
+def spell_messages(messages):
+    return many([blob(label) + bytes([level]) + blob(text) for label, level, text in messages])
+
+
+def spell_number(number):
+    return b"\0" if number is None else b"\1" + u32(number)
+
+
+def spell_record(record):
+    return b"".join([spell_node(record.node), many([spell_node(node) + spell_number(seen) for node, seen in record.deps]), u32(record.reached),
+                     spell_number(record.value), bytes([record.own_status]), spell_messages(record.own_messages), bytes([record.status]),
+                     spell_messages(record.messages), u32(record.height)])
+
+
 def dump(state, image):
     return b"".join([many([blob(name) + blob(text) for name, text in sorted(state.sources.items())]),
-                     many([dump_call(*kept) for kept in state.calls]), blob(image)])
+                     many([dump_call(*kept) for kept in state.calls]), many([spell_record(it) for it in state.records.values()]), blob(image)])
 
 
 # ---- images of sessions, written by the same tables
 
 class Writer:
-    def __init__(self):
+    def __init__(self, graph=GRAPH):
         self.image = FRONT
         self.end = 64
         self.numbers = {}
         self.count = 0
         self.sources = {}
         self.kept = set()
-        self.batch([b"\1" + blob(GRAPH)])
+        self.batch([b"\1" + blob(graph)])
 
     def batch(self, items):
         payload = b"".join(items)
@@ -363,6 +422,36 @@ class Writer:
                             + many([bytes([level]) + blob(text) for level, text in lines]) + many(outputs)])
 
 
+    def note(self, record):
+        self.batch([b"\6" + spell_record(record)])
+
+
+NODES = [(b"a.c", [], [0]), (b"b.c", [(b"d", b"1")], [0]), (b"a.h", [], [1]), (b"b.c", [], [2]), (b"b.c", [], [2, b"p"]), (b"a.c", [], []), (b"x.h", [], [1, b"1"])]
+BAD_NODES = [(b"a.h", [], [0]), (b"a c", [], []), (b"a.c", [], [3]), (b"a.c", [(b"1", b"")], [0]), (b"a.c", [], [b"p"]), (b"a.h", [], [1, b"0"])]
+MESSAGES = [[], [(b"a.c:o", 1, b"old c")], [(b"", 3, b""), (b"b.c", 2, b"x\n")]]
+
+
+def noted(rng, state):
+    """The record of a node after what is kept, as most files have them, and sometimes as none has."""
+    count = len(state.contents)
+
+    def node():
+        return rng.choice(BAD_NODES if rng.random() < 0.02 else NODES)
+
+    def number():
+        return rng.choice([None, rng.randrange(count + (rng.random() < 0.03))]) if count else None
+
+    deps = [(node(), number()) for _ in range(rng.choice([0, 1, 1, 2, 4]))]
+    of, value = node(), number()
+    if rng.random() < 0.9:
+        fitting = [k for k, content in enumerate(state.contents) if FIT.type_of(of) and FIT.is_of_type(FIT.type_of(of), content)]
+        value = rng.choice([None, *fitting, *fitting])
+    status = ABORT if (value is None) != (rng.random() < 0.03) else rng.choice([0, 1, 2])
+    reached = rng.randrange(len(deps) + 1) + (rng.random() < 0.03)
+    height = rng.choice([0, 65]) if rng.random() < 0.03 else rng.choice([1, 2, 64])
+    return Record(of, deps, reached, value, rng.randrange(4), rng.choice(MESSAGES), status, rng.choice(MESSAGES), height)
+
+
 TEXTS = [b"", b"\n", b"x=1\n", b"include a.h\n", b"w1=2\n", b"text " * 3]
 NAMES = [b"a.c", b"b.c", b"a.h", b"m/x-1_", b"z"]
 
@@ -371,17 +460,23 @@ def session(rng):
     writer = Writer()
     for _ in range(rng.randrange(1, 9)):
         what = rng.random()
-        if what < 0.45:
+        if what < 0.35:
             writer.put(rng.choice(NAMES), rng.choice(TEXTS))
-        elif what < 0.6:
+        elif what < 0.45:
             writer.drop(rng.choice(NAMES))
-        elif what < 0.65:
+        elif what < 0.48:
             writer.batch([b"\1" + blob(rng.choice([GRAPH, b"", b"param d;"]))])
-        elif what < 0.72:
+        elif what < 0.58:
             writer.count += 1
             writer.batch([b"\2" + blob(rng.choice([
                 b"\2" + many([blob(b"m") + many([blob(b"d") + blob(b"1")]) + many([b"\1" + u32(3), b"\2" + blob(b"k")])]),
-                b"\2" + many([]), b"\3" + many([blob(b"p") + blob(b"xy")]), b"\1" + blob(b"x=1\n")]))])
+                b"\2" + many([spell_node(NODES[5]), spell_node((b"a.h", [], []))]), b"\2" + many([]), b"\3" + many([blob(b"p") + blob(b"xy")]),
+                b"\3" + many([blob(b"p") + blob(b"xy"), blob(b"q") + blob(b"")]), b"\1" + blob(b"x=1\n")]))])
+        elif what < 0.85:
+            told = opened(writer.image)
+            if isinstance(told, int):
+                break
+            writer.note(noted(rng, told[0]))
         else:
             outs = rng.choice([[b"o"], [b"o", b"warn"], []])
             writer.keep(rng.choice([b"cc", b"ld"]), rng.choice([b"1", b"2.0"]), rng.choice([[], [b"cc"], [b"ld", b"-o x"]]),
@@ -391,7 +486,9 @@ def session(rng):
                         [rng.choice(TEXTS) for _ in outs])
     image = writer.image
     for _ in range(rng.choice([0, 0, 1, 2])):
-        image, _ = rewritten(*opened(image))
+        told = opened(image)
+        if not isinstance(told, int):
+            image, _ = rewritten(*told)
     if rng.random() < 0.1 and image[8] == 0:
         # the records stand elsewhere, and the second start leads to them
         shift = rng.randrange(1, 9)
@@ -476,15 +573,15 @@ def said(program, mode, images, folder):
     return told
 
 
-# an image is opened, and opened and rewritten
-MODES = ("images", "rewritten")
+# an image is opened; a rewritten store has no records of nodes yet, and one with records isn't rewritten
+MODES = ("images",)
 
 
 def main():
     program = sys.argv[1]
     count = int(sys.argv[2]) if len(sys.argv) > 2 else 100_000
     rng = random.Random(int(sys.argv[3]) if len(sys.argv) > 3 else 1)
-    first = Writer()
+    first = Writer(b"type c simple;")
     assert len(first.image) == 89
     first.put(b"a.c", b"")
     assert len(first.image) == 116
@@ -519,7 +616,7 @@ def main():
                             print(" ", mode, "said  ", said_of.hex() if isinstance(said_of, bytes) else said_of)
             done += len(images)
     print(f"{done} images, {ours} of them stores ({new} new ones), {done - ours} not ours; the second start is in use in {second}")
-    print(f"each opened, and opened and rewritten: {done - wrong} agree, {wrong} differ")
+    print(f"each opened: {done - wrong} agree, {wrong} differ")
     return 1 if wrong else 0
 
 

@@ -7,7 +7,7 @@ import sys
 from collections import namedtuple
 
 sys.path.insert(0, os.path.join(os.path.dirname(os.path.dirname(os.path.dirname(os.path.abspath(__file__)))), "bench"))
-from store_images import Fields, NotRead, State, records_of  # noqa: E402
+from store_images import Fields, State, records_of  # noqa: E402
 
 from toys import Call, Outcome  # noqa: E402
 
@@ -28,8 +28,10 @@ def items_of(at, payload):
             fields.bytes(), fields.u32()
         elif kind == 4:
             fields.bytes()
-        else:
+        elif kind == 5:
             fields.call(), fields.outcome()
+        else:
+            fields.record()
     return kind, body
 
 
@@ -49,13 +51,11 @@ class Stands:
     """The sources and the kept calls, with their outcomes, that a file stands for; or the offset `fault` at which it isn't ours."""
 
     def __init__(self, image):
-        state, told = State(), records_of(image)
+        state, told = State(None), records_of(image)
         self.fault = told if isinstance(told, int) else None
         for at, payload in told[0] if isinstance(told, tuple) else []:
-            try:
-                state.payload(payload)
-            except NotRead:
-                self.fault = at
+            self.fault = state.payload(payload, at)
+            if self.fault is not None:
                 break
         self.sources = dict(state.sources)
         self.calls = dict(stored(*pair) for pair in state.calls)

@@ -4,4 +4,4 @@ mod PathLemmas
 mod LineLemmas
 mod ListedLemmas
 mod FoundLemmas
-mod ShownLemmas
+mod MessageLemmas

@@ -6,7 +6,5 @@ pub mod TakeFaults
 pub mod Found
 pub mod Listed
 pub mod Paths
-pub mod Shown
-pub mod ShownExamples
-pub mod ShownLaws
 pub mod MessageLines
+pub mod LineLaws

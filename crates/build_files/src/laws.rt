@@ -1,12 +1,12 @@
-//! Laws of what a person is shown. Each is the contract of a function with an empty body.
-ghost use Rattle.build_files.specs.ShownLaws.{ShownIsReadBack, ShownMovesNothing};
+//! Laws of the lines of messages. Each is the contract of a function with an empty body.
+ghost use Rattle.build_files.specs.LineLaws.{LabelledLineTellsMessage, LineTellsText};
 
-/// What is shown has no control and no character that moves it.
-pub fn shown_moves_nothing()
-    ensures { ShownMovesNothing }
+/// A line tells its text, but for a `./` in front.
+pub fn line_tells_text()
+    ensures { LineTellsText }
 {}
 
-/// The bytes of a text follow from what is shown of it.
-pub fn shown_is_read_back()
-    ensures { ShownIsReadBack }
+/// A line with its label tells the message.
+pub fn labelled_line_tells_message()
+    ensures { LabelledLineTellsMessage }
 {}

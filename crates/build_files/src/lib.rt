@@ -4,14 +4,12 @@
 
 mod answers;
 pub mod causes;
-mod examples;
 pub mod files;
 pub mod get;
 pub mod laws;
 pub mod listed;
 pub mod messages;
 mod paths;
-pub mod shown;
 pub mod takes;
 pub mod walk;
 mod whole;

@@ -4,9 +4,9 @@ ghost use Rattle.meaning_texts.specs.Lines.{with_lf};
 ghost use Rattle.meaning_commands.specs.Replies.{status_word};
 ghost use Rattle.build_files.specs.MessageLines as meaning;
 
-use crate::shown::write_shown;
 use indexmap::IndexSet;
 use object_values::{Bytes, Memory, Message, Status};
+use shown_texts::shown::write_shown;
 use std::alloc::Global;
 
 fn word_of(status: Status) -> &'static [u8]
@@ -30,15 +30,50 @@ fn write_label(message: &Message, out: &mut Bytes) -> Result<(), Memory>
     out.push(b' ')
 }
 
+fn reaches_colon(text: &[u8]) -> bool
+    ensures { result ≡ meaning.reaches_colon text.now }
+{
+    for byte in text {
+        match *byte {
+            b':' => return true,
+            b' ' => return false,
+            _ => {}
+        }
+    }
+    false
+}
+
+fn begins_with_path(text: &[u8]) -> bool
+    ensures { result ≡ meaning.begins_with_path text.now }
+{
+    match text.first() {
+        None | Some(b':' | b'/') => false,
+        Some(_) => reaches_colon(text),
+    }
+}
+
+/// The text without a `./` before a path.
+fn without_here(text: &[u8]) -> &[u8]
+    ensures { result.now ≡ meaning.without_here text.now }
+{
+    match text {
+        [b'.', b'/', path @ ..] if begins_with_path(path) => path,
+        _ => text,
+    }
+}
+
 /// The line of a message, without LF.
 fn line_of(alloc: Global, message: &Message, labelled: bool) -> Result<Bytes, Memory>
     ensures { IfOk result (λ line. line ≡ meaning.message_line labelled message.now) }
 {
+    let text = message.text.as_slice();
     let mut line = Bytes::new(alloc);
     if labelled {
         write_label(message, &mut line)?;
+        write_shown(text, &mut line)?;
+    } else {
+        write_shown(without_here(text), &mut line)?;
     }
-    write_shown(message.text.as_slice(), &mut line)?;
     Ok(line)
 }
 

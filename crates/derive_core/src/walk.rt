@@ -109,6 +109,7 @@ impl Core {
         ensures counted { LooksAreFew (met_by self.old) (met_by self.new)
             steps.old steps.new (lost result) }
     {
+        planned.graph().checked();
         let known = KeptCalls { looks };
         self.walker.advance(alloc, planned, sources, &known, steps)
     }

@@ -5,11 +5,12 @@ use Rattle.meaning_tasks.specs.Nodes.{Fits}
 use Rattle.derive_walk.specs.declared.found.Found.{Found}
 use Rattle.derive_walk.specs.Calls.{GivenOutcomes}
 use Rattle.derive_walk.specs.declared.walk.Walk.{Walk}
-use Rattle.derive_walk.specs.Founds.{IsFound}
-use Rattle.derive_walk.specs.States.{HoldsIn, GoesOnFrom}
-use Rattle.derive_walk.specs.Walks.{Walked, IsRight, ExtendsWalk}
+use Rattle.meaning_derive.specs.Given.{OutcomesFit}
+use Rattle.derive_walk.specs.Founds.{IsFound, NodesFit}
+use Rattle.derive_walk.specs.States.{IsFormedIn, HoldsIn, GoesOnFrom}
+use Rattle.derive_walk.specs.Walks.{Walked, IsFormed, IsRight, ExtendsWalk}
 use Rattle.derive_walk.specs.Worlds.{World}
-use Rattle.derive_walk.proofs.RootLemmas.{right_at_end}
+use Rattle.derive_walk.proofs.RootLemmas.{formed_at_end, right_at_end}
 
 -- the walk as its callers see it
 abbrev pub seen_so : Walk → GivenOutcomes → Option Found → Walked
@@ -24,6 +25,12 @@ module _ (start new : Walk) (on : GoesOnFrom start new) (given : GivenOutcomes) 
     stays = λ there. absurd (true≢false (sym there ∙ none));
   })
 
+  -- what is formed
+  pub stays_formed : (w : World) → OutcomesFit w.outcomes → IsFormedIn w new → (result : Option Found) → IfSome result (NodesFit w.graph)
+      → IsFormed w.graph w.outcomes (seen_so new given result)
+  stays_formed w fit formed result found = formed_at_end w new formed fit given result found
+
+  -- what is right
   pub stays_right : (w : World) → IsRight w (seen_so start given old) → HoldsIn w new → (result : Option Found) → IfSome result (IsFound w.graph w.sources w.outcomes new.root) → IsRight w (seen_so new given result)
   stays_right w right holds result found = right_at_end w new holds right.fit (subst (λ r. Fits w.graph r) (sym on.root) right.root) given result found
 

@@ -1,50 +1,38 @@
 -- What is visited next, and what stays as the walk goes on.
-use Rattle.std.proofs.Common.{◌≡◌, List, [], inl, inr, sym, ap, ◌∙◌, subst, is_some}
-use Rattle.std.specs.Prelude.{None, option_map}
+use Rattle.std.proofs.Common.{◌≡◌, List, [], sym, ap, subst, is_some}
+use Rattle.std.specs.Prelude.{None}
 use Rattle.object_values.specs.declared.nodes.Node.{Node}
 use Rattle.meaning_texts.specs.Lists.{IsIn}
-use Rattle.meaning_texts.proofs.Lemmas.{some_or_none, some_is_none, in_all}
+use Rattle.meaning_texts.proofs.Lemmas.{in_all}
 use Rattle.meaning_tasks.specs.Tasks.{task_of}
-use Rattle.meaning_tasks.specs.Needs.{Grows, values_of, Needs}
+use Rattle.meaning_tasks.specs.Needs.{values_of, Needs}
 use Rattle.meaning_tasks.proofs.Lemmas.{finite_has_needs}
 use Rattle.node_tasks.specs.declared.ahead.Ahead.{Ahead}
 use Rattle.node_tasks.specs.Ahead.{IsInSight, IsLevel}
 use Rattle.node_tasks.proofs.Lemmas.{ahead_stays}
-use Rattle.derive_walk.specs.declared.done.Done.{Done}
 use Rattle.derive_walk.specs.declared.survey.Survey.{Survey}
 use Rattle.derive_walk.proofs.SurveyLemmas.{is_unvisited}
-use Rattle.derive_walk.specs.Tables.{done_in, results_of, done_nodes}
+use Rattle.derive_walk.specs.Tables.{results_of, done_nodes}
 use Rattle.derive_walk.specs.Finite.{only_nodes}
 use Rattle.derive_walk.specs.declared.walk.Walk.{Walk}
 use Rattle.derive_walk.specs.Worlds.{World}
-use Rattle.derive_walk.specs.States.{heights_in, HoldsIn, GoesOnFrom}
+use Rattle.derive_walk.specs.States.{heights_in, GoesOnFrom}
 use Rattle.derive_walk.specs.Paths.{IsSurveyed, IsAheadIn, IsUnvisited, AreToVisit}
-use Rattle.derive_walk.proofs.Tables.{height_if_done}
 use Rattle.derive_walk.proofs.HeightLemmas.{not_some}
-use Rattle.derive_walk.proofs.NeedLemmas.{table_grows, same_result}
-use Rattle.derive_walk.proofs.FallLemmas.{need_of}
 
 -- ---- as the walk goes on
 
-module _ (w : World) (walk new : Walk) (before : HoldsIn w walk) (holds : HoldsIn w new) (on : GoesOnFrom walk new) where
-  -- results stay
-  results_grow : Grows (results_of walk.done) (results_of new.done)
-  results_grow m view e = elim (some_or_none (done_in walk.done m)) [
-    | inl d ↦ same_result w new holds m d.0.height (on.keeps m d.0.height (height_if_done walk.done walk.waiting m d.0 d.1)) ∙ table_grows w walk before m view e
-    | inr none ↦ some_is_none (results_of walk.done m) view e (ap (option_map (λ (d : Done). d.view)) none)
-  ]
-
-  pub still_ahead : (n : Node) (ahead : Ahead) → IsAheadIn w walk n ahead → IsAheadIn w new n ahead
-  still_ahead n ahead told = ahead_stays w.graph n (results_of walk.done) (results_of new.done) results_grow ahead told
+pub still_ahead : (w : World) (walk new : Walk) → GoesOnFrom walk new → (n : Node) (ahead : Ahead) → IsAheadIn w walk n ahead → IsAheadIn w new n ahead
+still_ahead w walk new on n ahead told = ahead_stays w.graph n (results_of walk.done) (results_of new.done) on.results ahead told
 
 -- ---- what is visited next
 
-module _ (w : World) (walk : Walk) (holds : HoldsIn w walk) (n : Node) where
+module _ (w : World) (walk : Walk) (n : Node) where
   in_sight : (m : Node) → IsInSight (task_of w.graph n) (values_of (results_of walk.done)) (λ k. is_some (heights_in walk k)) m → IsUnvisited w walk n m
   in_sight m sight =
       let some : (needs : List Node) × Needs w.graph n (results_of walk.done) needs = finite_has_needs w.graph n (results_of walk.done) (done_nodes walk.done) (only_nodes walk.done) in
       record {
-        need = need_of w walk holds n m some.0 some.1 (subst (λ l. IsIn m l) (sym some.1.listed) (sight.need some.1.names some.1.reached));
+        need = record { needs = some.0; listed = some.1; one = subst (λ l. IsIn m l) (sym some.1.listed) (sight.need some.1.names some.1.reached) };
         unseen = not_some (heights_in walk m) sight.unseen;
       }
 
@@ -61,5 +49,5 @@ module _ (w : World) (walk : Walk) (holds : HoldsIn w walk) (n : Node) where
     some = some;
     each = λ m i.
         let found : IsIn m surveyed.needs × (heights_in walk m ≡ None) = is_unvisited (heights_in walk) surveyed.needs m (subst (λ l. IsIn m l) (ap (λ (s : Survey). s.unvisited) surveyed.is) i) in
-        record { need = need_of w walk holds n m surveyed.needs surveyed.listed found.0; unseen = found.1 };
+        record { need = record { needs = surveyed.needs; listed = surveyed.listed; one = found.0 }; unseen = found.1 };
   }

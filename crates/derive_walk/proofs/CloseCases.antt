@@ -12,11 +12,12 @@ use Rattle.derive_walk.proofs.SurveyLemmas.{none_unvisited}
 use Rattle.derive_walk.specs.Tables.{Waits, done_in, height_in, results_of, are_done, top_of}
 use Rattle.derive_walk.specs.declared.walk.Walk.{Walk}
 use Rattle.derive_walk.specs.Paths.{IsLast, IsClosing, IsTall, IsWholeRound, AreVisited}
-use Rattle.derive_walk.specs.States.{heights_in, IsWaiting, HoldsIn}
+use Rattle.derive_walk.specs.States.{heights_in, IsWaiting, IsFormedIn, HoldsIn}
 use Rattle.derive_walk.specs.Worlds.{World}
 use Rattle.derive_walk.proofs.Added.{holds_with_waiting}
 use Rattle.derive_walk.proofs.ClosingLemmas.{last_fits, last_is_new}
-use Rattle.derive_walk.proofs.NeedLemmas.{at_most_limit, waits_at, none_there, none_runs}
+use Rattle.derive_walk.proofs.FormedLemmas.{low_enough, formed_with_waiting}
+use Rattle.derive_walk.proofs.NeedLemmas.{waits_at, none_there, none_runs}
 use Rattle.derive_walk.proofs.Tables.{done_or_waiting}
 use Rattle.derive_walk.proofs.TopLemmas.{one_at_top, one_not_done}
 
@@ -33,13 +34,13 @@ module _ (w : World) (walk : Walk) (n : Node) (needed : Needed) (survey : Survey
   pub whole_done : survey.done ≡ are_done walk.done whole.surveyed.needs
   whole_done = ap (λ (s : Survey). s.done) whole.surveyed.is
 
-module _ (w : World) (walk : Walk) (holds : HoldsIn w walk) (n : Node) (last : IsLast w walk n) (needs : List Node) (visited : AreVisited w walk n needs) where
+module _ (w : World) (walk : Walk) (n : Node) (last : IsLast w walk n) (needs : List Node) (visited : AreVisited w walk n needs) where
   -- a need is as high as the limit
   pub is_tall : height_limit ≤ top_of (heights_in walk) needs → IsTall w walk
   is_tall high = elim (one_at_top (heights_in walk) needs) [
     | inl z ↦ absurd (omega (arith, z, high))
     | inr m ↦
-        let le : top_of (heights_in walk) needs ≤ height_limit = at_most_limit w walk holds m.0 (top_of (heights_in walk) needs) m.2 in
+        let le : top_of (heights_in walk) needs ≤ height_limit = low_enough w walk last.formed m.0 (top_of (heights_in walk) needs) m.2 in
         let same : top_of (heights_in walk) needs ≡ height_limit = omega (arith, le, high) in
         record { last = n; is = last; needs = needs; visited = visited; need = m.0; one = m.1; tall = m.2 ∙ ap (λ k. Some k) same }
   ]
@@ -57,8 +58,14 @@ module _ (w : World) (walk : Walk) (holds : HoldsIn w walk) (n : Node) (last : I
         | inr q ↦ (m.0, m.1, m.2, (k.0, q.1))
       ]
 
-  pub holds_waiting : are_done walk.done needs ≡ false → (top : ℕ) → top ≡ top_of (heights_in walk) needs → top < height_limit → (waiting : Waits) → waiting ≡ walk.waiting ++ (n, top + 1) ∷ [] → HoldsIn w (record walk { waiting = waiting })
-  holds_waiting unfinished top at low waiting same =
+  pub formed_waiting : (top : ℕ) → top < height_limit → (waiting : Waits) → waiting ≡ walk.waiting ++ (n, top + 1) ∷ []
+      → IsFormedIn w (record walk { waiting = waiting })
+  formed_waiting top low waiting same = formed_with_waiting w walk last.formed n (top + 1)
+      (record { fits = last_fits w walk n last; low = omega arith; high = omega (arith, low) }) waiting same
+
+  pub holds_waiting : HoldsIn w walk → are_done walk.done needs ≡ false → (top : ℕ) → top ≡ top_of (heights_in walk) needs → top < height_limit
+      → (waiting : Waits) → waiting ≡ walk.waiting ++ (n, top + 1) ∷ [] → HoldsIn w (record walk { waiting = waiting })
+  holds_waiting holds unfinished top at low waiting same =
       let m = waiting_need unfinished in
       let less : top_of (heights_in walk) needs < height_limit = omega (arith, at, low) in
       let waits = waits_at w walk holds n needs visited (last_fits w walk n last) less (none_there w walk holds n needs visited m.0 m.1 m.2) walk.wanted (λ c runs. absurd (none_runs w walk holds n needs visited m.0 m.1 m.2 c runs)) in

@@ -17,7 +17,7 @@ use Rattle.node_tasks.specs.declared.needed.Needed.{Needed}
 use Rattle.derive_walk.specs.declared.done.Done.{Done}
 use Rattle.derive_walk.specs.Tables.{done_in, results_of, top_of}
 use Rattle.derive_walk.specs.declared.walk.Walk.{Walk}
-use Rattle.derive_walk.specs.Paths.{IsLast, IsClosing, AreVisited}
+use Rattle.derive_walk.specs.Paths.{IsLast, IsLed, IsClosing, AreVisited}
 use Rattle.derive_walk.specs.Settled.{HasSettled, NodeHasStopped}
 use Rattle.derive_walk.specs.States.{heights_in, IsWaiting, HoldsIn}
 use Rattle.derive_walk.specs.Walks.{IsDone}
@@ -38,19 +38,19 @@ module _ (w : World) (walk : Walk) (n : Node) (last : IsLast w walk n) where
   pub last_is_new : heights_in walk n ≡ None
   last_is_new = last.path.apart n on_path
 
-  -- the path leads there
-  pub met_here : IsMet w.graph (seen_in w) walk.root n
-  met_here =
+  -- where the path leads there
+  pub met_here : IsLed w walk → IsMet w.graph (seen_in w) walk.root n
+  met_here led =
       let few : length (last.front ++ n ∷ []) ≤ height_limit = subst (λ l. length l ≤ height_limit) last.is last.path.few in
       record {
         front = last.front;
-        leads = subst (λ l. Chain w.graph (seen_in w) walk.root l) last.is last.leads;
+        leads = subst (λ l. Chain w.graph (seen_in w) walk.root l) last.is led.leads;
         short = omega (arith, few, length-append last.front (n ∷ []));
       }
 
   -- a call that it runs, and that has no outcome, is one at which the derivation of the root stops
-  pub stops_here : (call : Call) → Runs w.graph (seen_in w) n call → w.outcomes call ≡ None → StopsAtCall w walk.root call
-  stops_here call runs outside = record { from = record { node = n; met = met_here; runs = runs }; outside = outside }
+  pub stops_here : IsLed w walk → (call : Call) → Runs w.graph (seen_in w) n call → w.outcomes call ≡ None → StopsAtCall w walk.root call
+  stops_here led call runs outside = record { from = record { node = n; met = met_here led; runs = runs }; outside = outside }
 
 -- ---- needs that are done
 

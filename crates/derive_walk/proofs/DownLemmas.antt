@@ -5,6 +5,7 @@ use Rattle.object_values.specs.declared.nodes.Node.{Node}
 use Rattle.meaning_texts.specs.Limits.{height_limit}
 use Rattle.meaning_texts.specs.Lists.{IsIn}
 use Rattle.meaning_texts.proofs.Lemmas.{some_is_none, same_some}
+use Rattle.meaning_tasks.specs.Nodes.{Fits}
 use Rattle.meaning_tasks.specs.Needs.{Needs}
 use Rattle.meaning_tasks.proofs.Lemmas.{one_list_of_needs}
 use Rattle.meaning_derive.specs.Chains.{Chain, AreDifferent, IsDeep}
@@ -12,8 +13,10 @@ use Rattle.meaning_derive.proofs.Lemmas.{chain_on}
 use Rattle.derive_walk.specs.Tables.{results_of, of_height}
 use Rattle.derive_walk.specs.declared.walk.Walk.{Walk}
 use Rattle.derive_walk.specs.Worlds.{World, IsWorld, seen_in, IsNeedIn}
-use Rattle.derive_walk.specs.States.{heights_in, HoldsIn}
-use Rattle.derive_walk.specs.Paths.{IsTall, LeadsDown}
+use Rattle.derive_walk.specs.Founds.{AllFit}
+use Rattle.derive_walk.specs.States.{heights_in, IsFormedIn, HoldsIn}
+use Rattle.derive_walk.specs.Paths.{IsLed, IsTall, LeadsDown}
+use Rattle.derive_walk.proofs.FormedLemmas.{need_is_fit}
 use Rattle.derive_walk.proofs.HeightLemmas.{of_height_is, has_height}
 use Rattle.derive_walk.proofs.NeedLemmas.{is_need, from_need}
 use Rattle.derive_walk.proofs.FallLemmas.{in_listed, need_fits, listed_here, falls, tight}
@@ -36,17 +39,46 @@ last_of_push (f ∷ g ∷ front) n =
 pub last_node : (chain front : List Node) (l m : Node) → chain ≡ front ++ l ∷ [] → Some m ≡ slice_get chain (length chain - 1) → m ≡ l
 last_node chain front l m is got = same_some (got ∙ ap (λ c. slice_get c (length c - 1)) is ∙ last_of_push front l)
 
-module _ (w : World) (is : IsWorld w) (walk : Walk) (holds : HoldsIn w walk) where
+-- ---- nodes that fit
+
+pub path_fits : (w : World) (walk : Walk) → IsTall w walk → (chain : List Node) → chain ≡ walk.path → AllFit w.graph chain
+path_fits w walk t chain same = λ n i. t.is.path.fit n (subst (λ l. IsIn n l) same i)
+
+got_last : (chain : List Node) (n : Node) → Some n ≡ slice_get chain (length chain - 1) → IsIn n chain
+got_last [] n got = cc
+got_last (m ∷ []) n got = inl (same_some got)
+got_last (m ∷ k ∷ chain) n got =
+    let fewer : length (m ∷ k ∷ chain) - 1 ≡ suc (length (k ∷ chain) - 1) = omega arith in
+    inr (got_last (k ∷ chain) n (got ∙ ap (slice_get (m ∷ k ∷ chain)) fewer))
+
+module _ (w : World) (is : IsWorld w) (walk : Walk) (formed : IsFormedIn w walk) (chain : List Node) (fit : AllFit w.graph chain) (n : Node)
+    (got : Some n ≡ slice_get chain (length chain - 1)) where
+  pub last_fits : Fits w.graph n
+  last_fits = fit n (got_last chain n got)
+
+  -- with a need of the last one
+  pub longer_fits : (h : ℕ) (needs : List Node) → Needs w.graph n (results_of walk.done) needs → (m : Node) → of_height (heights_in walk) h needs ≡ Some m
+      → (more : List Node) → more ≡ chain ++ m ∷ [] → AllFit w.graph more
+  longer_fits h needs listed m found more same k i =
+      let one = of_height_is (heights_in walk) h needs m found in
+      elim (in_push k m chain (subst (λ l. IsIn k l) same i)) [
+        | inl j ↦ fit k j
+        | inr e ↦ subst (λ z. Fits w.graph z) (sym e) (need_is_fit w walk formed is n m last_fits (record { needs = needs; listed = listed; one = one.0 }))
+      ]
+
+module _ (w : World) (is : IsWorld w) (walk : Walk) where
   -- the path leads down from where a need is as high as the limit
-  pub start_down : IsTall w walk → (chain : List Node) → chain ≡ walk.path → LeadsDown w walk chain height_limit
-  start_down t chain same =
+  pub start_down : IsTall w walk → IsLed w walk → (chain : List Node) → chain ≡ walk.path → LeadsDown w walk chain height_limit
+  start_down t led chain same =
       let last = t.is in
+      let holds = led.holds in
       record {
+        holds = holds;
         front = last.front;
         last = t.last;
         is = same ∙ last.is;
         fits = last.path.fit t.last (subst (λ l. IsIn t.last l) (sym last.is) (at_end t.last last.front));
-        leads = subst (λ l. Chain w.graph (seen_in w) walk.root l) (sym same) last.leads;
+        leads = subst (λ l. Chain w.graph (seen_in w) walk.root l) (sym same) led.leads;
         different = subst (λ l. AreDifferent l) (sym same) last.path.different;
         above = λ n k i e. some_is_none (heights_in walk n) k e (last.path.apart n (subst (λ l. IsIn n l) same i));
         visited = λ m need. t.visited.each m (from_need w walk holds t.last t.needs t.visited m need);
@@ -56,6 +88,9 @@ module _ (w : World) (is : IsWorld w) (walk : Walk) (holds : HoldsIn w walk) whe
   -- ---- one step
 
   module _ (chain : List Node) (h : ℕ) (down : LeadsDown w walk chain h) (low : 0 < h) (needs : List Node) (listed : Needs w.graph down.last (results_of walk.done) needs) where
+    holds : HoldsIn w walk
+    holds = down.holds
+
     full : Needs w.graph down.last (seen_in w) needs
     full =
         let need = some_need down.next in
@@ -78,6 +113,7 @@ module _ (w : World) (is : IsWorld w) (walk : Walk) (holds : HoldsIn w walk) whe
         let at_m = of_height_is (heights_in walk) h needs m found in
         let need : IsNeedIn w down.last m = record { needs = needs; listed = full; one = at_m.0 } in
         record {
+          holds = holds;
           front = chain;
           last = m;
           is = same;

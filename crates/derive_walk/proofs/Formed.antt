@@ -1,5 +1,6 @@
 -- The nodes that are found fit, and the calls that are wanted are well formed.
-use Rattle.std.proofs.Common.{List, [], ◌∷◌, inl, inr, sym, subst}
+use Rattle.std.proofs.Common.{◌≡◌, ◌<◌, ℕ, zero, suc, List, [], ◌∷◌, inl, inr, sym, subst, arith}
+use Rattle.std.specs.Prelude.{Option, Some, None, IfSome}
 use Rattle.object_values.specs.declared.nodes.Node.{Node}
 use Rattle.object_values.specs.declared.calls.Call.{Call}
 use Rattle.meaning_texts.specs.Limits.{height_limit}
@@ -8,12 +9,13 @@ use Rattle.meaning_calls.specs.Jobs.{IsWellFormed}
 use Rattle.meaning_tasks.specs.Nodes.{Fits}
 use Rattle.meaning_derive.specs.Chains.{LeadsOn, Chain}
 use Rattle.meaning_derive.specs.Premises.{IsMapOverFitting}
-use Rattle.meaning_derive.proofs.Lemmas.{needs_fit, map_at, calls_formed, elements_at}
+use Rattle.meaning_derive.specs.Derive.{derive}
+use Rattle.meaning_derive.proofs.Lemmas.{needs_fit, map_at, calls_formed, elements_at, short_at, nothing_at_zero}
+use Rattle.derive_walk.specs.declared.done.Done.{Done}
 use Rattle.derive_walk.specs.declared.found.Found.{Found}
 use Rattle.derive_walk.specs.declared.found.Found.TheVariants.{Answer, Circular, Deep}
-use Rattle.derive_walk.specs.Founds.{IsFound}
-use Rattle.derive_walk.specs.Laws.{NodesFit}
-use Rattle.derive_walk.specs.Walks.{Walked, IsRight}
+use Rattle.derive_walk.specs.Founds.{IsFound, NodesFit}
+use Rattle.derive_walk.specs.Walks.{Walked, IsFormedDone, IsFormed, IsDone, IsRight}
 use Rattle.derive_walk.specs.Worlds.{World, IsWorld, seen_in}
 
 module _ (w : World) (is : IsWorld w) where
@@ -47,3 +49,40 @@ module _ (w : World) (is : IsWorld w) where
 
   pub wanted_formed : (walked : Walked) → IsRight w walked → (call : Call) → IsIn call walked.wanted → IsWellFormed call
   wanted_formed walked right call i = calls_formed w.graph is.spellable is.checked w.sources is.sources w.outcomes is.fit walked.root right.root call (right.wanted call i).from
+
+  -- ---- a walk that is right
+
+  done_formed : (n : Node) (d : Done) → IsDone w n d → IsFormedDone w.graph n d
+  done_formed n d done = record {
+    result = record {
+      result = map_at w.graph is.checked w.sources is.sources w.outcomes is.fit d.height n d.view done.fits done.is;
+      short = λ v valued. short_at w.graph is.checked w.sources is.sources w.outcomes is.fit d.height n d.view v done.fits done.is valued;
+    };
+    low = above_zero d.height done.is;
+    high = done.high;
+  }
+    where
+      above_zero : (h : ℕ) → derive w.graph w.sources w.outcomes h n ≡ Some d.view → 0 < h
+      above_zero zero e = absurd (nothing_at_zero w.graph w.sources w.outcomes n d.view e)
+      above_zero (suc h) e = omega arith
+
+  result_fits : (n : Node) → Fits w.graph n → (result : Option Found) → IfSome result (IsFound w.graph w.sources w.outcomes n)
+      → IfSome result (NodesFit w.graph)
+  result_fits n fits None found = tt
+  result_fits n fits (Some found) is_found = found_fits n fits found is_found
+
+  pub right_is_formed : (walked : Walked) → IsRight w walked → IsFormed w.graph w.outcomes walked
+  right_is_formed walked right = record {
+    fit = right.fit;
+    root = right.root;
+    done = record {
+      each = λ n d e. done_formed n d (right.done.each n d e);
+      different = right.done.different;
+    };
+    wanted = record {
+      each = wanted_formed walked right;
+      outside = λ call i. (right.wanted call i).outside;
+      once = right.once;
+    };
+    found = result_fits walked.root right.root walked.result right.found;
+  }

@@ -15,8 +15,8 @@ use Rattle.meaning_derive.specs.Given.{OutcomesFit}
 use Rattle.meaning_derive.specs.Laws.{HasMore}
 use Rattle.derive_walk.specs.Calls.{outcome_in, GivenOutcomes as Listed}
 use Rattle.derive_walk.specs.Outcomes.{given_or, after}
-use Rattle.derive_walk.specs.Founds.{IsFound}
-use Rattle.derive_walk.specs.Walks.{Walked, AreDone, AreMet, IsRight, AreApart, OutcomeIsGiven}
+use Rattle.derive_walk.specs.Founds.{IsFound, NodesFit}
+use Rattle.derive_walk.specs.Walks.{Walked, AreFormedDone, IsFormed, AreDone, AreMet, IsRight, AreApart, OutcomeIsGiven}
 use Rattle.derive_walk.specs.Worlds.{world, StopsAtCall}
 use Rattle.derive_walk.proofs.Stays.{right_stays}
 
@@ -51,20 +51,17 @@ module _ (call : Call) (o : Outcome) (given : Listed) (wanted others : List Call
   pub apart_after : AreApart given wanted → AreApart (given ++ (call, o) ∷ []) others
   apart_after apart c i = let q = (fewer c).0 i in other_call given call c o q.1 ∙ apart c q.0
 
-module _ (g : Graph) (s : Sources) (kept : Outcomes) (call : Call) (o : Outcome) (fits : OutcomeFits call o) where
-  module _ (old new : Walked) (right : IsRight (world g s (after kept old.given)) old) (wanted : IsIn call old.wanted) (is : OutcomeIsGiven call o old new) where
-    -- nothing is known of it before
-    outside : after kept old.given call ≡ None
-    outside = (right.wanted call wanted).outside
+module _ (kept : Outcomes) (call : Call) (o : Outcome) (fits : OutcomeFits call o) (old new : Walked) (is : OutcomeIsGiven call o old new) where
+  others_same : (c : Call) → c ≢ call → after kept new.given c ≡ after kept old.given c
+  others_same c differs = ap (λ z. given_or z (kept c)) (ap (λ l. outcome_in l c) is.given ∙ other_call old.given call c o differs)
 
+  -- nothing is known of it before
+  module _ (outside : after kept old.given call ≡ None) where
     none_given : outcome_in old.given call ≡ None
     none_given = elim (some_or_none (outcome_in old.given call)) [
       | inl x ↦ some_is_none (after kept old.given call) x.0 (ap (λ z. given_or z (kept call)) x.1) outside
       | inr q ↦ q
     ]
-
-    others_same : (c : Call) → c ≢ call → after kept new.given c ≡ after kept old.given c
-    others_same c differs = ap (λ z. given_or z (kept c)) (ap (λ l. outcome_in l c) is.given ∙ other_call old.given call c o differs)
 
     known_now : after kept new.given call ≡ Some o
     known_now = ap (λ z. given_or z (kept call)) (ap (λ l. outcome_in l call) is.given ∙ this_call old.given call o none_given)
@@ -75,14 +72,32 @@ module _ (g : Graph) (s : Sources) (kept : Outcomes) (call : Call) (o : Outcome)
       | inr q ↦ others_same c q ∙ e
     ]
 
-    all_fit : OutcomesFit (after kept new.given)
-    all_fit c x e = elim (same_or_other c call) [
+    all_fit : OutcomesFit (after kept old.given) → OutcomesFit (after kept new.given)
+    all_fit fit c x e = elim (same_or_other c call) [
       | inl q ↦ (let z : after kept new.given call ≡ Some x = subst (λ y. after kept new.given y ≡ Some x) q e in
           let w : o ≡ x = same_some (sym known_now ∙ z) in
           subst (λ y. OutcomeFits y x) (sym q) (subst (λ y. OutcomeFits call y) w fits))
-      | inr q ↦ right.fit c x (sym (others_same c q) ∙ e)
+      | inr q ↦ fit c x (sym (others_same c q) ∙ e)
     ]
 
+  -- ---- what is formed
+
+  pub formed_after : (g : Graph) → IsFormed g (after kept old.given) old → IsIn call old.wanted → IsFormed g (after kept new.given) new
+  formed_after g formed wanted = record {
+    fit = all_fit (formed.wanted.outside call wanted) formed.fit;
+    root = subst (λ z. Fits g z) (sym is.root) formed.root;
+    done = subst (λ z. AreFormedDone g z) (sym is.done) formed.done;
+    wanted = record {
+      each = λ c i. formed.wanted.each c ((is.wanted c).0 i).0;
+      outside = λ c i. let q = (is.wanted c).0 i in others_same c q.1 ∙ formed.wanted.outside c q.0;
+      once = is.once;
+    };
+    found = subst (λ z. IfSome z (NodesFit g)) (sym is.result) formed.found;
+  }
+
+  -- ---- what is right
+
+  module _ (g : Graph) (s : Sources) (right : IsRight (world g s (after kept old.given)) old) (wanted : IsIn call old.wanted) where
     -- what it was before, by the outcomes before, without the call
     taken : IsRight (world g s (after kept old.given)) new
     taken = record {
@@ -96,4 +111,7 @@ module _ (g : Graph) (s : Sources) (kept : Outcomes) (call : Call) (o : Outcome)
     }
 
     pub right_after : IsRight (world g s (after kept new.given)) new
-    right_after = right_stays g s (after kept old.given) (after kept new.given) has_more all_fit new (λ c i. let q = (is.wanted c).0 i in others_same c q.1 ∙ (right.wanted c q.0).outside) taken
+    right_after =
+        let outside = (right.wanted call wanted).outside in
+        right_stays g s (after kept old.given) (after kept new.given) (has_more outside) (all_fit outside right.fit) new
+        (λ c i. let q = (is.wanted c).0 i in others_same c q.1 ∙ (right.wanted c q.0).outside) taken

@@ -1,21 +1,30 @@
 -- What a walk has come to once the last node of its path is done, or waits.
-use Rattle.std.proofs.Common.{◌≡◌, ℕ, List, [], ◌∷◌, ◌++◌, sym, subst, refl}
-use Rattle.std.specs.Prelude.{IsSome}
+use Rattle.std.proofs.Common.{◌≡◌, ℕ, List, [], ◌∷◌, ◌++◌, inl, inr, sym, ap, ◌∙◌, subst, refl}
+use Rattle.std.specs.Prelude.{IsSome, option_map}
 use Rattle.object_values.specs.declared.nodes.Node.{Node}
 use Rattle.object_values.specs.declared.calls.Call.{Call}
+use Rattle.meaning_texts.proofs.Lemmas.{some_or_none, some_is_none}
+use Rattle.meaning_tasks.specs.Needs.{Grows}
 use Rattle.derive_walk.specs.declared.done.Done.{Done}
-use Rattle.derive_walk.specs.Tables.{Entries, Waits}
+use Rattle.derive_walk.specs.Tables.{Entries, Waits, done_in, results_of}
 use Rattle.derive_walk.specs.declared.walk.Walk.{Walk}
 use Rattle.derive_walk.specs.Paths.{IsLast}
 use Rattle.derive_walk.specs.States.{GoesOnFrom, Visited}
 use Rattle.derive_walk.specs.Worlds.{World}
 use Rattle.derive_walk.proofs.Added.{KeepCalls}
 use Rattle.derive_walk.proofs.ClosingLemmas.{last_is_new}
-use Rattle.derive_walk.proofs.Tables.{done_there, waiting_there, done_keeps, waiting_keeps, done_apart, waiting_apart}
+use Rattle.derive_walk.proofs.Tables.{push_keeps, done_there, waiting_there, done_keeps, waiting_keeps, done_apart, waiting_apart}
 
 -- as it is
 pub stays : (walk : Walk) → GoesOnFrom walk walk
-stays walk = record { root = refl; wanted = λ c i. i; keeps = λ m k e. e }
+stays walk = record { root = refl; wanted = λ c i. i; keeps = λ m k e. e; results = λ m view e. e }
+
+-- results stay where one comes after them
+results_grow : (done : Entries) (n : Node) (d : Done) → Grows (results_of done) (results_of (done ++ (n, d) ∷ []))
+results_grow done n d m view e = elim (some_or_none (done_in done m)) [
+  | inl x ↦ ap (option_map (λ (d : Done). d.view)) (push_keeps done n d m x.0 x.1) ∙ sym (ap (option_map (λ (d : Done). d.view)) x.1) ∙ e
+  | inr none ↦ some_is_none (results_of done m) view e (ap (option_map (λ (d : Done). d.view)) none)
+]
 
 module _ (w : World) (walk : Walk) (n : Node) (last : IsLast w walk n) where
   -- ---- done
@@ -26,6 +35,7 @@ module _ (w : World) (walk : Walk) (n : Node) (last : IsLast w walk n) where
       root = refl;
       wanted = λ c i. i;
       keeps = done_keeps walk.done walk.waiting n (last_is_new w walk n last) d;
+      results = results_grow walk.done n d;
     })
 
     pub visited_with_done : Visited w walk (record walk { done = done }) n
@@ -43,6 +53,7 @@ module _ (w : World) (walk : Walk) (n : Node) (last : IsLast w walk n) where
       root = refl;
       wanted = more;
       keeps = waiting_keeps walk.done walk.waiting n (last_is_new w walk n last) h;
+      results = λ m view e. e;
     })
 
     pub visited_with_waiting : Visited w walk (record walk { wanted = wanted; waiting = waiting }) n

@@ -6,6 +6,6 @@ pub use Rattle.derive_walk.proofs.SurveyLemmas.{is_unvisited, none_unvisited}
 -- What stays as more outcomes come.
 pub use Rattle.derive_walk.proofs.Stays.{found_stays, right_stays, met_stays}
 -- What is formed.
-pub use Rattle.derive_walk.proofs.Formed.{found_fits, wanted_formed}
+pub use Rattle.derive_walk.proofs.Formed.{found_fits, wanted_formed, right_is_formed}
 -- The nodes that a walk has met.
 pub use Rattle.derive_walk.proofs.MetLemmas.{has_met}

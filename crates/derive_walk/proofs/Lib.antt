@@ -22,6 +22,7 @@ mod DownLemmas
 mod RootLemmas
 mod AdvanceLemmas
 mod GiveLemmas
+mod FormedLemmas
 mod Formed
 mod Stays
 mod MetLemmas

@@ -1,5 +1,5 @@
 -- The nodes that a walk has looked at: those with steps that have results, and for each wanted call one that stops at it.
-use Rattle.std.proofs.Common.{◌≡◌, ◌≢◌, ◌+◌, List, [], ◌∷◌, ◌++◌, length, inl, inr, sym, ap, subst, refl, arith, length-append, suc, ◌∙◌}
+use Rattle.std.proofs.Common.{◌≡◌, ◌≢◌, List, [], ◌∷◌, ◌++◌, length, inl, inr, sym, ap, subst, refl, arith, length-append, suc, ◌∙◌}
 use Rattle.std.specs.Prelude.{Some, None}
 use Rattle.object_values.specs.declared.nodes.Step.{Step}
 use Rattle.object_values.specs.declared.nodes.Node.{Node}

@@ -1,12 +1,14 @@
 -- What a walk from the root shows.
-use Rattle.std.proofs.Common.{◌≡◌, ℕ, List, [], ◌∷◌, ◌++◌, inl, inr, sym, ap, ◌∙◌, subst}
-use Rattle.std.specs.Prelude.{Option, Some, None, IsSome, IfSome}
+use Rattle.std.proofs.Common.{◌≡◌, ℕ, List, [], ◌∷◌, ◌++◌, inl, inr, sym, ap, ◌∙◌, subst, arith}
+use Rattle.std.specs.Prelude.{Option, Some, None, IsSome, IfSome, Result, Ok, Err, IfOk, option_map}
 use Rattle.object_values.specs.declared.nodes.Node.{Node}
 use Rattle.object_values.specs.declared.views.View.{View}
 use Rattle.object_values.specs.declared.calls.Call.{Call}
 use Rattle.meaning_texts.specs.Lists.{IsIn}
 use Rattle.meaning_texts.proofs.Lemmas.{some_is_none, value_of_some}
+use Rattle.meaning_graph.specs.Graphs.{Graph}
 use Rattle.meaning_tasks.specs.Nodes.{Fits}
+use Rattle.meaning_derive.specs.Derive.{Sources, Outcomes}
 use Rattle.meaning_derive.specs.Given.{OutcomesFit}
 use Rattle.meaning_derive.specs.Chains.{LeadsOn, Chain}
 use Rattle.meaning_derive.proofs.Lemmas.{none_by_call, none_refused}
@@ -16,11 +18,13 @@ use Rattle.derive_walk.specs.declared.found.Found.TheVariants.{Answer}
 use Rattle.derive_walk.specs.Tables.{done_in, height_in}
 use Rattle.derive_walk.specs.Calls.{GivenOutcomes, AreOnce}
 use Rattle.derive_walk.specs.declared.walk.Walk.{Walk}
-use Rattle.derive_walk.specs.Worlds.{World, seen_in, StopsAtCall}
-use Rattle.derive_walk.specs.Founds.{IsFound}
-use Rattle.derive_walk.specs.Walks.{Walked, AreDone, AreMet, IsRight, AreFrontier, FindsOrWants}
-use Rattle.derive_walk.specs.States.{heights_in, HoldsIn}
+use Rattle.derive_walk.specs.Worlds.{World, IsWorld, world, seen_in, StopsAtCall}
+use Rattle.derive_walk.specs.Founds.{IsFound, NodesFit}
+use Rattle.derive_walk.specs.Walks.{Walked, AreFormedDone, AreFormedCalls, IsFormed, AreDone, AreMet, IsRight, AreFrontier, FindsOrWants}
+use Rattle.derive_walk.specs.States.{heights_in, IsFormedIn, HoldsIn, GoesOnFrom}
+use Rattle.derive_walk.specs.Paths.{IsPath, IsNext, LeadsTo, HasEmptyPath, AfterRoot}
 use Rattle.derive_walk.proofs.Tables.{done_or_waiting}
+use Rattle.derive_walk.proofs.FormedLemmas.{elements_fit}
 use Rattle.derive_walk.proofs.NeedLemmas.{done_is_derived, at_most_limit}
 use Rattle.derive_walk.proofs.FallLemmas.{falls, are_falling}
 
@@ -60,13 +64,77 @@ module _ (w : World) (walk : Walk) (holds : HoldsIn w walk) where
       ]
 
   -- the root has a result
-  pub answered : (d : Done) → done_in walk.done walk.root ≡ Some d → (view : View) → view ≡ d.view → IsFound w.graph w.sources w.outcomes walk.root (Answer view)
+  answered : (d : Done) → done_in walk.done walk.root ≡ Some d → (view : View) → view ≡ d.view → IsFound w.graph w.sources w.outcomes walk.root (Answer view)
   answered d e view same = done_is_derived w walk holds walk.root d e ∙ ap (λ v. Some v) (sym same)
+
+module _ (w : World) (walk : Walk) where
+  -- what is found of a root that was visited
+  pub waits_there : IsSome (heights_in walk walk.root) → done_in walk.done walk.root ≡ None → AfterRoot w (HoldsIn w walk) walk None
+  waits_there there none = record { fit = tt; right = λ holds. frontier w walk holds there none }
+
+  pub answers_there : IsWorld w → IsFormedIn w walk → (d : Done) → done_in walk.done walk.root ≡ Some d → (view : View) → view ≡ d.view
+      → AfterRoot w (HoldsIn w walk) walk (Some (Answer view))
+  answers_there is formed d e view same = record {
+    fit = λ elements valued. elements_fit w walk formed is walk.root view elements formed.root
+        (ap (option_map (λ (d : Done). d.view)) e ∙ ap (λ v. Some v) (sym same)) valued;
+    right = λ holds. answered w walk holds d e view same;
+  }
+
+  -- by what was so before
+  pub trusted : {E P Q : Type 0} → (Q → P) → (result : Result (Option Found) E) → IfOk result (AfterRoot w P walk) → IfOk result (AfterRoot w Q walk)
+  trusted from (Ok found) after = record { fit = after.fit; right = λ q. after.right (from q) }
+  trusted from (Err fault) after = tt
+
+-- ---- the visit of the root
+
+module _ (w : World) (walk : Walk) (start : HasEmptyPath walk) (n : Node) (same : n ≡ walk.root) where
+  pub root_leads : HoldsIn w walk → LeadsTo w walk n
+  root_leads holds = record { holds = holds; leads = subst (λ l. Chain w.graph (seen_in w) walk.root (l ++ n ∷ [])) (sym start.path) (sym same, tt) }
+
+  pub root_next : IsFormedIn w walk → heights_in walk walk.root ≡ None → IsNext w walk n
+  root_next formed unseen = record {
+    formed = formed;
+    path = subst (λ l. IsPath w walk (l ++ n ∷ [])) (sym start.path) (record {
+      fit = λ m i. elim i [ inl e ↦ subst (λ z. Fits w.graph z) (sym (e ∙ same)) formed.root | inr none ↦ absurd none ];
+      apart = λ m i. elim i [ inl e ↦ ap (heights_in walk) (e ∙ same) ∙ unseen | inr none ↦ absurd none ];
+      different = (λ i. i, tt);
+      few = omega arith;
+    });
+  }
+
+  -- the visit found a chain
+  pub chain_there : (new : Walk) → GoesOnFrom walk new → (found : Found)
+      → NodesFit w.graph found × (LeadsTo w walk n → IsFound w.graph w.sources w.outcomes walk.root found) → AfterRoot w (HoldsIn w walk) new (Some found)
+  chain_there new on found after = record {
+    fit = after.0;
+    right = λ holds. subst (λ r. IsFound w.graph w.sources w.outcomes r found) (sym on.root) (after.1 (root_leads holds));
+  }
 
 -- ---- a walk at its start and at its end
 
 nothing_waits : (n : Node) (h : ℕ) → height_in [] n ≡ Some h → ⊥
 nothing_waits n h e = cc
+
+-- what is formed
+pub formed_at_start : (g : Graph) (s : Sources) (outcomes : Outcomes) (walked : Walked) → IsFormed g outcomes walked → (walk : Walk) → walk.root ≡ walked.root
+    → walk.done ≡ walked.done → walk.wanted ≡ walked.wanted → walk.waiting ≡ [] → IsFormedIn (world g s outcomes) walk
+formed_at_start g s outcomes walked formed walk root done wanted waiting = record {
+  root = subst (λ r. Fits g r) (sym root) formed.root;
+  done = subst (λ d. AreFormedDone g d) (sym done) formed.done;
+  waiting = λ n h e. absurd (nothing_waits n h (subst (λ l. height_in l n ≡ Some h) waiting e));
+  wanted = subst (λ l. AreFormedCalls outcomes l) (sym wanted) formed.wanted;
+}
+
+pub formed_at_end : (w : World) (walk : Walk) → IsFormedIn w walk → OutcomesFit w.outcomes → (given : GivenOutcomes) (result : Option Found)
+    → IfSome result (NodesFit w.graph)
+    → IsFormed w.graph w.outcomes (record { root = walk.root; done = walk.done; given = given; wanted = walk.wanted; result = result })
+formed_at_end w walk formed fit given result found = record {
+  fit = fit;
+  root = formed.root;
+  done = formed.done;
+  wanted = formed.wanted;
+  found = found;
+}
 
 -- what is right holds where nothing waits
 pub holds_at_start : (w : World) (walked : Walked) → IsRight w walked → (walk : Walk) → walk.root ≡ walked.root → walk.done ≡ walked.done → walk.wanted ≡ walked.wanted → walk.waiting ≡ [] → HoldsIn w walk

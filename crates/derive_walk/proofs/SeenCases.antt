@@ -1,5 +1,5 @@
 -- A node whose needs are done is closed: it is done, or its call is wanted and it waits.
-use Rattle.std.proofs.Common.{◌≡◌, ℕ, List, [], ◌∷◌, ◌++◌, sym, subst, refl}
+use Rattle.std.proofs.Common.{◌≡◌, ◌<◌, ℕ, List, [], ◌∷◌, ◌++◌, sym, subst, refl, arith}
 use Rattle.object_values.specs.declared.nodes.Node.{Node}
 use Rattle.object_values.specs.declared.views.View.{View}
 use Rattle.object_values.specs.declared.calls.Call.{Call}
@@ -10,28 +10,61 @@ use Rattle.derive_walk.specs.Tables.{Entries, Waits, results_of}
 use Rattle.derive_walk.specs.Calls.{put_in, AreOnce}
 use Rattle.derive_walk.proofs.CallLemmas.{put_keeps, put_there, put_once}
 use Rattle.derive_walk.specs.declared.walk.Walk.{Walk}
-use Rattle.derive_walk.specs.Paths.{IsLast, IsClosing}
+use Rattle.derive_walk.specs.Paths.{IsLast, IsLed, IsClosing}
 use Rattle.derive_walk.specs.Settled.{HasSettled, NodeHasStopped}
-use Rattle.derive_walk.specs.States.{HoldsIn, GoesOnFrom}
-use Rattle.derive_walk.specs.Worlds.{World}
+use Rattle.derive_walk.specs.States.{IsFormedIn, HoldsIn, GoesOnFrom}
+use Rattle.derive_walk.specs.Worlds.{World, IsWorld}
 use Rattle.derive_walk.proofs.Added.{KeepCalls, holds_with_done, holds_with_waiting, holds_with_wanted}
+use Rattle.derive_walk.proofs.FormedLemmas.{formed_with_done, formed_with_waiting, formed_with_wanted, settles_formed, stops_formed}
 use Rattle.derive_walk.proofs.ClosingLemmas.{last_fits, last_is_new, met_here, stops_here, needs_stay, settled_is_done, stopped_runs, stopped_waits}
 
 pub keep_put : (call : Call) (wanted more : List Call) → more ≡ put_in call wanted → KeepCalls wanted more
 keep_put call wanted more same c i = subst (λ l. IsIn c l) (sym same) (put_keeps call c wanted i)
 
 pub goes_wanting : (walk : Walk) (call : Call) (more : List Call) → more ≡ put_in call walk.wanted → GoesOnFrom walk (record walk { wanted = more })
-goes_wanting walk call more same = record { root = refl; wanted = keep_put call walk.wanted more same; keeps = λ m k e. e }
+goes_wanting walk call more same = record { root = refl; wanted = keep_put call walk.wanted more same; keeps = λ m k e. e; results = λ m view e. e }
 
-module _ (w : World) (walk : Walk) (holds : HoldsIn w walk) (n : Node) {needed : Needed} (height : ℕ) (last : IsLast w walk n) (closing : IsClosing w walk n needed height) where
+-- ---- what is formed
+
+module _ (w : World) (is : IsWorld w) (walk : Walk) (n : Node) {needed : Needed} (height : ℕ) (last : IsLast w walk n)
+    (closing : IsClosing w walk n needed height) where
+  low : 0 < height
+  low = omega (arith, closing.above)
+
+  pub settled_formed : (view : View) → HasSettled w n (results_of walk.done) view → (done : Entries)
+      → done ≡ walk.done ++ (n, record { view = view; height = height }) ∷ [] → IsFormedIn w (record walk { done = done })
+  settled_formed view so done same =
+      formed_with_done w walk last.formed n (last_is_new w walk n last) (record { view = view; height = height })
+      (record { result = settles_formed w walk last.formed is n (last_fits w walk n last) view so; low = low; high = closing.high })
+      done same
+
+  module _ (call : Call) (so : NodeHasStopped w n (results_of walk.done) call) (wanted : List Call) (more : wanted ≡ put_in call walk.wanted) where
+    pub wanted_formed : IsFormedIn w (record walk { wanted = wanted })
+    wanted_formed = formed_with_wanted w walk last.formed call (stops_formed w walk last.formed is n (last_fits w walk n last) call so) so.outside wanted more
+
+    pub stopped_formed : (waiting : Waits) → waiting ≡ walk.waiting ++ (n, height) ∷ [] → IsFormedIn w (record walk { wanted = wanted; waiting = waiting })
+    stopped_formed waiting same =
+        formed_with_waiting w (record walk { wanted = wanted }) wanted_formed n height
+        (record { fits = last_fits w walk n last; low = low; high = closing.high }) waiting same
+
+-- ---- what is right
+
+module _ (w : World) (walk : Walk) (led : IsLed w walk) (n : Node) {needed : Needed} (height : ℕ) (last : IsLast w walk n)
+    (closing : IsClosing w walk n needed height) where
+  holds : HoldsIn w walk
+  holds = led.holds
+
   pub settled_holds : (view : View) → HasSettled w n (results_of walk.done) view → (done : Entries) → done ≡ walk.done ++ (n, record { view = view; height = height }) ∷ [] → HoldsIn w (record walk { done = done })
   settled_holds view so done same =
       let d : Done = record { view = view; height = height } in
-      holds_with_done w walk holds n (last_is_new w walk n last) d (settled_is_done w walk holds n height closing (last_fits w walk n last) view so) (needs_stay w walk holds n height closing) (met_here w walk n last) done same
+      holds_with_done w walk holds n (last_is_new w walk n last) d (settled_is_done w walk holds n height closing (last_fits w walk n last) view so)
+      (needs_stay w walk holds n height closing) (met_here w walk n last led) done same
 
   module _ (call : Call) (so : NodeHasStopped w n (results_of walk.done) call) (wanted : List Call) (more : wanted ≡ put_in call walk.wanted) where
     pub wanted_holds : HoldsIn w (record walk { wanted = wanted })
-    wanted_holds = holds_with_wanted w walk holds call (stops_here w walk n last call (stopped_runs w walk holds n height closing call so) so.outside) wanted more (subst AreOnce (sym more) (put_once call walk.wanted holds.once))
+    wanted_holds = holds_with_wanted w walk holds call
+        (stops_here w walk n last led call (stopped_runs w walk holds n height closing call so) so.outside) wanted more
+        (subst AreOnce (sym more) (put_once call walk.wanted holds.once))
 
     there : IsIn call wanted
     there = subst (λ l. IsIn call l) (sym more) (put_there call walk.wanted)

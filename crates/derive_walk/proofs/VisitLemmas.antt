@@ -2,7 +2,7 @@
 use Rattle.std.proofs.Common.{◌≡◌, ◌+◌, ◌≤◌, ◌<◌, true, false, List, [], ◌∷◌, ◌++◌, inl, inr, sym, ap, ◌∙◌, subst, length, take, arith, length-append}
 use Rattle.std.proofs.Math.Seq.{take-append_seam}
 use Rattle.std.proofs.lemmas.Bool.{or_cases, or_left, or_right}
-use Rattle.std.specs.Prelude.{Option, Some, None, IsSome}
+use Rattle.std.specs.Prelude.{Option, Some, None}
 use Rattle.object_values.specs.declared.nodes.Node.{Node}
 use Rattle.object_values.specs.contracts.nodes.NodePartialEq.TheImpl.{ghosts as node_eq}
 use Rattle.object_values.specs.Exact.{node_exact}
@@ -17,14 +17,13 @@ use Rattle.derive_walk.specs.declared.found.Found.TheVariants.{Answer, Circular,
 use Rattle.derive_walk.specs.Chains.{IsChainTo}
 use Rattle.derive_walk.specs.Tables.{node_in}
 use Rattle.derive_walk.specs.declared.walk.Walk.{Walk}
-use Rattle.derive_walk.specs.Worlds.{World, IsWorld, seen_in, IsNeedIn}
-use Rattle.derive_walk.specs.Founds.{IsFound}
-use Rattle.derive_walk.specs.States.{heights_in, HoldsIn, GoesOnFrom, Visited, AfterVisit}
-use Rattle.derive_walk.specs.Paths.{IsChainFromRoot, IsPath, IsNext, IsLast}
+use Rattle.derive_walk.specs.Worlds.{World, seen_in, IsNeedIn}
+use Rattle.derive_walk.specs.Founds.{IsFound, AllFit, NodesFit}
+use Rattle.derive_walk.specs.States.{heights_in, IsFormedIn, HoldsIn, GoesOnFrom, Visited, AfterVisit}
+use Rattle.derive_walk.specs.Paths.{IsChainFromRoot, IsPath, IsNext, IsLast, IsLed, LeadsTo}
 use Rattle.derive_walk.proofs.Tables.{different_push, in_push, at_end}
-use Rattle.derive_walk.proofs.HeightLemmas.{unseen_count, fewer_unseen}
+use Rattle.derive_walk.proofs.FormedLemmas.{formed_at}
 use Rattle.derive_walk.proofs.GoingLemmas.{stays}
-use Rattle.derive_walk.proofs.FallLemmas.{need_fits, needs_in, needs_in_listed, in_listed}
 
 -- ---- lists of nodes
 
@@ -47,6 +46,7 @@ goes_far a b c p q = record {
   root = q.root ∙ p.root;
   wanted = λ call i. q.wanted call (p.wanted call i);
   keeps = λ m k e. q.keeps m k (p.keeps m k e);
+  results = λ m view e. q.results m view (p.results m view e);
 }
 
 -- the path is no part of what holds
@@ -61,30 +61,34 @@ holds_at w walk path h = record {
 }
 
 pub goes_at : (old walk : Walk) (path : List Node) → GoesOnFrom old walk → GoesOnFrom old (record walk { path = path })
-goes_at old walk path g = record { root = g.root; wanted = g.wanted; keeps = g.keeps }
+goes_at old walk path g = record { root = g.root; wanted = g.wanted; keeps = g.keeps; results = g.results }
 
 -- ---- the walk so far in the visit of a node
 
+-- It is right if it was so.
 pub record SoFar (w : World) (old walk : Walk) (n : Node) : Type 0 where
   pub on : GoesOnFrom old walk
   pub ends : walk.path ≡ old.path ++ n ∷ []
-  pub holds : HoldsIn w walk
+  pub formed : IsFormedIn w walk
   pub path : IsPath w walk walk.path
-  pub leads : IsChainFromRoot w walk walk.path
+  pub right : LeadsTo w old n → IsLed w walk
 
 module _ (w : World) (old : Walk) (n : Node) where
-  pub start : HoldsIn w old → IsNext w old n → (path : List Node) → path ≡ old.path ++ n ∷ [] → SoFar w old (record old { path = path }) n
-  start holds next path is = record {
+  pub start : IsNext w old n → (path : List Node) → path ≡ old.path ++ n ∷ [] → SoFar w old (record old { path = path }) n
+  start next path is = record {
     on = goes_at old old path (stays old);
     ends = is;
-    holds = holds_at w old path holds;
+    formed = formed_at w old path next.formed;
     path = record {
       fit = λ m i. next.path.fit m (subst (λ l. IsIn m l) is i);
       apart = λ m i. next.path.apart m (subst (λ l. IsIn m l) is i);
       different = subst (λ l. AreDifferent l) (sym is) next.path.different;
       few = subst (λ l. length l ≤ height_limit) (sym is) next.path.few;
     };
-    leads = subst (λ l. Chain w.graph (seen_in w) old.root l) (sym is) next.leads;
+    right = λ to. record {
+      holds = holds_at w old path to.holds;
+      leads = subst (λ l. Chain w.graph (seen_in w) old.root l) (sym is) to.leads;
+    };
   }
 
   -- the path is shorter than the limit before the node is put there
@@ -92,7 +96,7 @@ module _ (w : World) (old : Walk) (n : Node) where
   room next = omega (arith, next.path.few, length-append old.path (n ∷ []))
 
   pub last : (walk : Walk) → SoFar w old walk n → IsLast w walk n
-  last walk so = record { front = old.path; is = so.ends; path = so.path; leads = so.leads }
+  last walk so = record { formed = so.formed; front = old.path; is = so.ends; path = so.path }
 
   pub fits : (walk : Walk) → SoFar w old walk n → Fits w.graph n
   fits walk so = so.path.fit n (subst (λ l. IsIn n l) (sym so.ends) (at_end n old.path))
@@ -102,8 +106,10 @@ module _ (w : World) (old : Walk) (n : Node) where
 
   -- ---- the end of the visit
 
-  pub finish : (walk new : Walk) → SoFar w old walk n → GoesOnFrom walk new → (found : Option Found) → AfterVisit w walk new n found → (path : List Node) → path ≡ take (length old.path) new.path → AfterVisit w old (record new { path = path }) n found
-  finish walk new so on (Some found) after path cut = subst (λ z. IsFound w.graph w.sources w.outcomes z found) so.on.root after
+  pub finish : (walk new : Walk) → SoFar w old walk n → GoesOnFrom walk new → (found : Option Found) → AfterVisit w (IsLed w walk) walk new n found
+      → (path : List Node) → path ≡ take (length old.path) new.path → AfterVisit w (LeadsTo w old n) old (record new { path = path }) n found
+  finish walk new so on (Some found) after path cut =
+      (after.0, λ to. subst (λ z. IsFound w.graph w.sources w.outcomes z found) so.on.root (after.1 (so.right to)))
   finish walk new so on None after path cut = record {
     path = cut ∙ ap (take (length old.path)) (after.path ∙ so.ends) ∙ take-append_seam old.path (n ∷ []);
     there = after.there;
@@ -112,52 +118,76 @@ module _ (w : World) (old : Walk) (n : Node) where
 
   -- ---- a need that was not visited
 
-  module _ (is : IsWorld w) (walk : Walk) (so : SoFar w old walk n) (k : Node) (need : IsNeedIn w n k) where
-    chain_further : IsChainFromRoot w walk (walk.path ++ k ∷ [])
-    chain_further = subst (λ l. Chain w.graph (seen_in w) walk.root (l ++ k ∷ [])) (sym so.ends) (chain_on w.graph (seen_in w) old.path walk.root n k (subst (λ l. Chain w.graph (seen_in w) walk.root l) so.ends so.leads) need)
+  module _ (walk : Walk) (so : SoFar w old walk n) (k : Node) where
+    chain_further : LeadsTo w old n → IsNeedIn w n k → IsChainFromRoot w walk (walk.path ++ k ∷ [])
+    chain_further to need = subst (λ l. Chain w.graph (seen_in w) walk.root (l ++ k ∷ [])) (sym so.ends)
+        (chain_on w.graph (seen_in w) old.path walk.root n k (subst (λ l. Chain w.graph (seen_in w) walk.root l) so.ends (so.right to).leads) need)
+
+    pub leads_further : LeadsTo w old n → IsNeedIn w n k → LeadsTo w walk k
+    leads_further to need = record { holds = (so.right to).holds; leads = chain_further to need }
+
+    push_fits : Fits w.graph k → AllFit w.graph (walk.path ++ k ∷ [])
+    push_fits fits m i = elim (in_push m k walk.path i) [ inl j ↦ so.path.fit m j | inr e ↦ subst (λ z. Fits w.graph z) (sym e) fits ]
 
     -- a chain that ends there
-    pub chained : (found : Found) → IsChainTo walk.path k (Some found) → IsFound w.graph w.sources w.outcomes old.root found
-    chained (Answer view) c = absurd c
-    chained (Circular chain) c = record {
+    chain_fits : Fits w.graph k → (found : Found) → IsChainTo walk.path k (Some found) → NodesFit w.graph found
+    chain_fits fits (Answer view) c = absurd c
+    chain_fits fits (Circular chain) c = subst (λ l. AllFit w.graph l) (sym c.1) (push_fits fits)
+    chain_fits fits (Deep chain) c = subst (λ l. AllFit w.graph l) (sym c.2) (push_fits fits)
+
+    chain_found : LeadsTo w old n → IsNeedIn w n k → (found : Found) → IsChainTo walk.path k (Some found) → IsFound w.graph w.sources w.outcomes old.root found
+    chain_found to need (Answer view) c = absurd c
+    chain_found to need (Circular chain) c = record {
       front = walk.path;
       last = k;
       is = c.1;
-      leads = subst (λ z. Chain w.graph (seen_in w) z chain) so.on.root (subst (λ l. Chain w.graph (seen_in w) walk.root l) (sym c.1) chain_further);
+      leads = subst (λ z. Chain w.graph (seen_in w) z chain) so.on.root (subst (λ l. Chain w.graph (seen_in w) walk.root l) (sym c.1) (chain_further to need));
       different = so.path.different;
       repeated = node_is_in k walk.path c.0;
     }
-    chained (Deep chain) c = record {
-      leads = subst (λ z. Chain w.graph (seen_in w) z chain) so.on.root (subst (λ l. Chain w.graph (seen_in w) walk.root l) (sym c.2) chain_further);
+    chain_found to need (Deep chain) c = record {
+      leads = subst (λ z. Chain w.graph (seen_in w) z chain) so.on.root (subst (λ l. Chain w.graph (seen_in w) walk.root l) (sym c.2) (chain_further to need));
       long = omega (arith, ap length c.2, length-append walk.path (k ∷ []), c.1, so.path.few);
       different = subst (λ l. AreDifferent l) (sym c.2) (different_push walk.path k so.path.different (not_in k walk.path c.0));
     }
 
-    pub next_need : heights_in walk k ≡ None → IsChainTo walk.path k None → IsNext w walk k
-    next_need unseen c = record {
+    pub chained : Fits w.graph k → (LeadsTo w old n → IsNeedIn w n k) → (found : Found) → IsChainTo walk.path k (Some found)
+        → NodesFit w.graph found × (LeadsTo w old n → IsFound w.graph w.sources w.outcomes old.root found)
+    chained fits need found c = (chain_fits fits found c, λ to. chain_found to (need to) found c)
+
+    -- a chain that was found from there
+    pub found_further : (LeadsTo w old n → IsNeedIn w n k) → (found : Found)
+        → NodesFit w.graph found × (LeadsTo w walk k → IsFound w.graph w.sources w.outcomes walk.root found)
+        → NodesFit w.graph found × (LeadsTo w old n → IsFound w.graph w.sources w.outcomes old.root found)
+    found_further need found after =
+        (after.0, λ to. subst (λ z. IsFound w.graph w.sources w.outcomes z found) so.on.root (after.1 (leads_further to (need to))))
+
+    pub next_need : Fits w.graph k → heights_in walk k ≡ None → IsChainTo walk.path k None → IsNext w walk k
+    next_need fits unseen c = record {
+      formed = so.formed;
       path = record {
-        fit = λ m i. elim (in_push m k walk.path i) [ inl j ↦ so.path.fit m j | inr e ↦ subst (λ z. Fits w.graph z) (sym e) (need_fits w is n k (fits walk so) need) ];
+        fit = push_fits fits;
         apart = λ m i. elim (in_push m k walk.path i) [ inl j ↦ so.path.apart m j | inr e ↦ ap (heights_in walk) e ∙ unseen ];
         different = different_push walk.path k so.path.different (not_in k walk.path c.0);
         few = omega (arith, length-append walk.path (k ∷ []), c.1);
       };
-      leads = chain_further;
     }
 
-    pub go_on : (new : Walk) → GoesOnFrom walk new → HoldsIn w new → Visited w walk new k → node_in k walk.path ≡ false → SoFar w old new n
-    go_on new on holds after off = record {
+    pub go_on : (LeadsTo w old n → IsNeedIn w n k) → (new : Walk) → GoesOnFrom walk new → IsFormedIn w new → (LeadsTo w walk k → HoldsIn w new)
+        → Visited w walk new k → node_in k walk.path ≡ false → SoFar w old new n
+    go_on need new on formed holds after off = record {
       on = goes_far old walk new so.on on;
       ends = after.path ∙ so.ends;
-      holds = holds;
+      formed = formed;
       path = record {
         fit = λ m i. so.path.fit m (subst (λ l. IsIn m l) after.path i);
         apart = λ m i. let j : IsIn m walk.path = subst (λ l. IsIn m l) after.path i in after.apart m j (λ e. not_in k walk.path off (subst (λ z. IsIn z walk.path) e j));
         different = subst (λ l. AreDifferent l) (sym after.path) so.path.different;
         few = subst (λ l. length l ≤ height_limit) (sym after.path) so.path.few;
       };
-      leads = subst (λ z. Chain w.graph (seen_in w) z new.path) (sym on.root) (subst (λ l. Chain w.graph (seen_in w) walk.root l) (sym after.path) so.leads);
+      right = λ to. record {
+        holds = holds (leads_further to (need to));
+        leads = subst (λ z. Chain w.graph (seen_in w) z new.path) (sym on.root)
+            (subst (λ l. Chain w.graph (seen_in w) walk.root l) (sym after.path) (so.right to).leads);
+      };
     }
-
-    pub smaller : (new : Walk) → GoesOnFrom walk new → heights_in walk k ≡ None → IsSome (heights_in new k) → unseen_count (heights_in new) (needs_in w n) < unseen_count (heights_in walk) (needs_in w n)
-    smaller new on unseen there =
-        fewer_unseen (heights_in walk) (heights_in new) on.keeps (needs_in w n) k (in_listed w.graph n k (seen_in w) (needs_in w n) (needs_in_listed w n) need) unseen there

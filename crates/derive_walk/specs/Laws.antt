@@ -1,7 +1,6 @@
 -- What follows of walks and of what they find.
-use Rattle.std.specs.Prelude.{◌≡◌, List, Some, None}
+use Rattle.std.specs.Prelude.{◌≡◌, None}
 use Rattle.object_values.specs.declared.nodes.Node.{Node}
-use Rattle.object_values.specs.declared.views.Value.TheVariants.{List as Listed}
 use Rattle.object_values.specs.declared.calls.Call.{Call}
 use Rattle.meaning_texts.specs.Lists.{IsIn}
 use Rattle.meaning_graph.specs.Graphs.{Graph}
@@ -11,10 +10,9 @@ use Rattle.meaning_derive.specs.Derive.{Sources, Outcomes}
 use Rattle.meaning_derive.specs.Given.{OutcomesFit}
 use Rattle.meaning_derive.specs.Laws.{HasMore}
 use Rattle.derive_walk.specs.declared.found.Found.{Found}
-use Rattle.derive_walk.specs.declared.found.Found.TheVariants.{Answer, Circular, Deep}
-use Rattle.derive_walk.specs.Founds.{IsFound}
+use Rattle.derive_walk.specs.Founds.{IsFound, NodesFit}
 use Rattle.derive_walk.specs.Looks.{HasMet}
-use Rattle.derive_walk.specs.Walks.{Walked, IsRight}
+use Rattle.derive_walk.specs.Walks.{Walked, IsFormed, IsRight}
 use Rattle.derive_walk.specs.Worlds.{World, IsWorld, world}
 
 -- What is found stays so as more outcomes come.
@@ -30,15 +28,14 @@ RightStays =
     → (walked : Walked) → ((call : Call) → IsIn call walked.wanted → more call ≡ None)
     → IsRight (world g s outcomes) walked → IsRight (world g s more) walked
 
--- ---- what is formed, whatever is known
+-- So does a walk that is formed.
+abbrev pub FormedStays : Type 0
+FormedStays =
+    (g : Graph) (outcomes more : Outcomes) → OutcomesFit more
+    → (walked : Walked) → ((call : Call) → IsIn call walked.wanted → more call ≡ None)
+    → IsFormed g outcomes walked → IsFormed g more walked
 
--- each node of an answer that is a list, and of a chain, fits
-abbrev pub NodesFit : Graph → Found → Type 0
-NodesFit g (Answer view) =
-    (elements : List Node) → view.value ≡ Some (Listed elements)
-    → (n : Node) → IsIn n elements → Fits g n
-NodesFit g (Circular chain) = (n : Node) → IsIn n chain → Fits g n
-NodesFit g (Deep chain) = (n : Node) → IsIn n chain → Fits g n
+-- ---- what is formed, whatever is known
 
 abbrev pub FoundFits : Type 0
 FoundFits =
@@ -50,6 +47,12 @@ abbrev pub WantedAreFormed : Type 0
 WantedAreFormed =
     (w : World) → IsWorld w → (walked : Walked) → IsRight w walked
     → (call : Call) → IsIn call walked.wanted → IsWellFormed call
+
+-- A walk that is right is formed.
+abbrev pub RightIsFormed : Type 0
+RightIsFormed =
+    (w : World) → IsWorld w → (walked : Walked) → IsRight w walked
+    → IsFormed w.graph w.outcomes walked
 
 -- ---- what was looked at
 

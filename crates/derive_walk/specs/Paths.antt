@@ -1,11 +1,11 @@
 -- The path of a walk, and the chains that it ends in.
-use Rattle.std.specs.Prelude.{◌≡◌, ◌≢◌, ◌⊎◌, ℕ, ◌+◌, ◌<◌, ◌≤◌, List, [], ◌∷◌, ◌++◌, length, true, Option, Some, None, IsSome}
+use Rattle.std.specs.Prelude.{◌≡◌, ◌≢◌, ◌⊎◌, ℕ, ◌+◌, ◌<◌, ◌≤◌, List, [], ◌∷◌, ◌++◌, length, true, Option, Some, None, IsSome, IfSome}
 use Rattle.object_values.specs.declared.nodes.Node.{Node}
 use Rattle.meaning_texts.specs.Limits.{height_limit}
 use Rattle.meaning_texts.specs.Lists.{IsIn}
 use Rattle.meaning_tasks.specs.Nodes.{Fits}
 use Rattle.meaning_tasks.specs.Needs.{Needs}
-use Rattle.meaning_derive.specs.Chains.{Chain, AreDifferent}
+use Rattle.meaning_derive.specs.Chains.{Chain, IsNeed, AreDifferent}
 use Rattle.node_tasks.specs.declared.ahead.Ahead.{Ahead}
 use Rattle.node_tasks.specs.declared.needed.Needed.{Needed}
 use Rattle.node_tasks.specs.Ahead.{IsAhead}
@@ -17,7 +17,8 @@ use Rattle.derive_walk.specs.Surveys.{survey_of}
 use Rattle.derive_walk.specs.declared.rounds.Round.{Round}
 use Rattle.derive_walk.specs.declared.rounds.Round.TheVariants.{Visits, Closes}
 use Rattle.derive_walk.specs.declared.walk.Walk.{Walk}
-use Rattle.derive_walk.specs.States.{heights_in}
+use Rattle.derive_walk.specs.Founds.{NodesFit}
+use Rattle.derive_walk.specs.States.{heights_in, IsFormedIn, HoldsIn}
 use Rattle.derive_walk.specs.Walks.{FindsOrWants}
 use Rattle.derive_walk.specs.Worlds.{World, seen_in, IsNeedIn}
 
@@ -36,15 +37,25 @@ pub record IsPath (w : World) (walk : Walk) (path : List Node) : Type 0 where
 
 -- The node may be visited next: the path with it is one.
 pub record IsNext (w : World) (walk : Walk) (n : Node) : Type 0 where
+  pub formed : IsFormedIn w walk
   pub path : IsPath w walk (walk.path ++ n ∷ [])
-  pub leads : IsChainFromRoot w walk (walk.path ++ n ∷ [])
 
--- The node is the last of the path, which leads to it.
+-- The node is the last of the path.
 pub record IsLast (w : World) (walk : Walk) (n : Node) : Type 0 where
+  pub formed : IsFormedIn w walk
   pub front : List Node
   pub is : walk.path ≡ front ++ n ∷ []
   pub path : IsPath w walk walk.path
+
+-- The walk is right so far, and its path leads from the root.
+pub record IsLed (w : World) (walk : Walk) : Type 0 where
+  pub holds : HoldsIn w walk
   pub leads : IsChainFromRoot w walk walk.path
+
+-- The same where the node is visited next.
+pub record LeadsTo (w : World) (walk : Walk) (n : Node) : Type 0 where
+  pub holds : HoldsIn w walk
+  pub leads : IsChainFromRoot w walk (walk.path ++ n ∷ [])
 
 -- nothing is on the way, and nothing waits
 pub record HasEmptyPath (walk : Walk) : Type 0 where
@@ -89,9 +100,9 @@ pub record IsClosing (w : World) (walk : Walk) (n : Node) (needed : Needed)
 abbrev pub IsAheadIn : World → Walk → Node → Ahead → Type 0
 IsAheadIn w walk n ahead = IsAhead w.graph n (results_of walk.done) ahead
 
--- A need of the node that was not visited.
+-- A need of the node by the results so far that was not visited.
 pub record IsUnvisited (w : World) (walk : Walk) (n m : Node) : Type 0 where
-  pub need : IsNeedIn w n m
+  pub need : IsNeed w.graph (results_of walk.done) n m
   pub unseen : heights_in walk m ≡ None
 
 -- These needs are visited next: there are some, and none of them was visited.
@@ -106,9 +117,10 @@ IsRound w walk n (Closes needed survey) = IsWholeRound w walk n needed survey
 
 -- ---- the root
 
--- after a walk from the root there is a result, or the root waits
-abbrev pub AfterRoot : World → Walk → Option Found → Type 0
-AfterRoot w walk found = FindsOrWants w walk.root walk.wanted found
+-- After a walk from the root there is a result, or the root waits, where what is trusted holds.
+pub record AfterRoot (w : World) (trust : Type 0) (walk : Walk) (found : Option Found) : Type 0 where
+  pub fit : IfSome found (NodesFit w.graph)
+  pub right : trust → FindsOrWants w walk.root walk.wanted found
 
 -- ---- chains
 
@@ -125,6 +137,7 @@ pub record IsTall (w : World) (walk : Walk) : Type 0 where
 -- A chain of different nodes from the root downwards: each is higher than the height or was not
 -- visited. All needs of the last one were visited, and one is of the height, unless that is 0.
 pub record LeadsDown (w : World) (walk : Walk) (chain : List Node) (height : ℕ) : Type 0 where
+  pub holds : HoldsIn w walk
   pub front : List Node
   pub last : Node
   pub is : chain ≡ front ++ last ∷ []

@@ -4,14 +4,16 @@ use Rattle.object_values.specs.declared.nodes.Node.{Node}
 use Rattle.object_values.specs.declared.calls.Call.{Call}
 use Rattle.meaning_texts.specs.Limits.{height_limit}
 use Rattle.meaning_texts.specs.Lists.{IsIn}
+use Rattle.meaning_graph.specs.Graphs.{Graph}
 use Rattle.meaning_tasks.specs.Nodes.{Fits}
+use Rattle.meaning_tasks.specs.Needs.{Grows}
 use Rattle.meaning_derive.specs.Calls.{Runs}
-use Rattle.derive_walk.specs.Tables.{heights_of, height_in}
+use Rattle.derive_walk.specs.Tables.{heights_of, height_in, results_of}
 use Rattle.derive_walk.specs.Calls.{AreOnce}
 use Rattle.derive_walk.specs.declared.found.Found.{Found}
 use Rattle.derive_walk.specs.declared.walk.Walk.{Walk}
-use Rattle.derive_walk.specs.Founds.{IsFound}
-use Rattle.derive_walk.specs.Walks.{AreDone, AreMet}
+use Rattle.derive_walk.specs.Founds.{IsFound, NodesFit}
+use Rattle.derive_walk.specs.Walks.{AreFormedDone, AreFormedCalls, AreDone, AreMet}
 use Rattle.derive_walk.specs.Worlds.{World, seen_in, IsNeedIn, StopsAtCall}
 
 -- the heights of the nodes that were visited
@@ -45,7 +47,22 @@ pub record IsWaiting (w : World) (heights : Node → Option ℕ) (wanted : List 
   pub lower : (m : Node) → IsNeedIn w n m → IsLowerNeed heights m height
   pub tight : (height ≡ 1) ⊎ NeedBelow w heights n height
 
--- ---- the walk
+-- ---- the walk, right or not
+
+-- The node fits, and its height is from 1 to the limit.
+pub record IsFormedWait (g : Graph) (n : Node) (height : ℕ) : Type 0 where
+  pub fits : Fits g n
+  pub low : 0 < height
+  pub high : height ≤ height_limit
+
+-- What is done, waits or is wanted is formed.
+pub record IsFormedIn (w : World) (walk : Walk) : Type 0 where
+  pub root : Fits w.graph walk.root
+  pub done : AreFormedDone w.graph walk.done
+  pub waiting : (n : Node) (h : ℕ) → height_in walk.waiting n ≡ Some h → IsFormedWait w.graph n h
+  pub wanted : AreFormedCalls w.outcomes walk.wanted
+
+-- ---- the walk, as far as it is right
 
 -- Each node that was visited is done, and met from the root, or waits. Each wanted call is one at
 -- which the derivation stops. Where a node waits some call is wanted.
@@ -59,11 +76,14 @@ pub record HoldsIn (w : World) (walk : Walk) : Type 0 where
   pub only : (call : Call) → IsIn call walk.wanted → StopsAtCall w walk.root call
   pub once : AreOnce walk.wanted
 
--- What was visited and what is wanted stays.
+-- ---- as it goes on
+
+-- What was visited and what is wanted stays, and so do results.
 pub record GoesOnFrom (old new : Walk) : Type 0 where
   pub root : new.root ≡ old.root
   pub wanted : (call : Call) → IsIn call old.wanted → IsIn call new.wanted
   pub keeps : (m : Node) (k : ℕ) → heights_in old m ≡ Some k → heights_in new m ≡ Some k
+  pub results : Grows (results_of old.done) (results_of new.done)
 
 -- The node was visited, and no other node of the path.
 pub record Visited (w : World) (old new : Walk) (n : Node) : Type 0 where
@@ -71,7 +91,9 @@ pub record Visited (w : World) (old new : Walk) (n : Node) : Type 0 where
   pub there : IsSome (heights_in new n)
   pub apart : (m : Node) → IsIn m old.path → (m ≡ n → ⊥) → heights_in new m ≡ None
 
--- A chain from the root was found, or the node was visited.
-abbrev pub AfterVisit : World → Walk → Walk → Node → Option Found → Type 0
-AfterVisit w old new n None = Visited w old new n
-AfterVisit w old new n (Some found) = IsFound w.graph w.sources w.outcomes old.root found
+-- A chain of nodes that fit was found, from the root where what is trusted holds, or the node was
+-- visited.
+abbrev pub AfterVisit : World → Type 0 → Walk → Walk → Node → Option Found → Type 0
+AfterVisit w trust old new n None = Visited w old new n
+AfterVisit w trust old new n (Some found) =
+    NodesFit w.graph found × (trust → IsFound w.graph w.sources w.outcomes old.root found)

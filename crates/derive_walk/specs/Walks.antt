@@ -1,19 +1,22 @@
 -- What a walk has come to, and what each call of it makes of that.
-use Rattle.std.specs.Prelude.{◌≡◌, ◌≢◌, ◌↔◌, ◌≤◌, List, [], ◌∷◌, ◌++◌, Option, Some, None, IsSome, IfSome}
+use Rattle.std.specs.Prelude.{◌≡◌, ◌≢◌, ◌↔◌, ◌<◌, ◌≤◌, List, [], ◌∷◌, ◌++◌, Option, Some, None, IsSome, IfSome}
 use Rattle.object_values.specs.declared.nodes.Node.{Node}
 use Rattle.object_values.specs.declared.calls.Call.{Call}
 use Rattle.object_values.specs.declared.calls.Outcome.{Outcome}
 use Rattle.meaning_texts.specs.Limits.{height_limit}
 use Rattle.meaning_texts.specs.Lists.{IsIn}
+use Rattle.meaning_graph.specs.Graphs.{Graph}
+use Rattle.meaning_calls.specs.Jobs.{IsWellFormed}
 use Rattle.meaning_tasks.specs.Nodes.{Fits}
-use Rattle.meaning_derive.specs.Derive.{derive, HasHeight}
+use Rattle.meaning_derive.specs.CheckedLaws.{IsShortResultOf}
+use Rattle.meaning_derive.specs.Derive.{Outcomes, derive, HasHeight}
 use Rattle.meaning_derive.specs.Chains.{AreDifferent, IsMet, IsRefusal}
 use Rattle.meaning_derive.specs.Given.{OutcomesFit}
 use Rattle.derive_walk.specs.declared.done.Done.{Done}
 use Rattle.derive_walk.specs.Tables.{Entries, done_in, done_nodes}
 use Rattle.derive_walk.specs.Calls.{GivenOutcomes, outcome_in, AreOnce}
 use Rattle.derive_walk.specs.declared.found.Found.{Found}
-use Rattle.derive_walk.specs.Founds.{IsFound}
+use Rattle.derive_walk.specs.Founds.{IsFound, NodesFit}
 use Rattle.derive_walk.specs.Worlds.{World, seen_in, IsNeedIn, StopsAtCall}
 
 -- The root, the nodes with results, the outcomes that were given, the calls that are wanted, and
@@ -31,6 +34,33 @@ new_walk root = record { root = root; done = []; given = []; wanted = []; result
 -- no wanted call was given an outcome
 abbrev pub AreApart : GivenOutcomes → List Call → Type 0
 AreApart given wanted = (call : Call) → IsIn call wanted → outcome_in given call ≡ None
+
+-- ---- a walk that is formed: it may be gone on with, right or not
+
+-- The node fits, and this is a short result of it, at a height from 1 to the limit.
+pub record IsFormedDone (g : Graph) (n : Node) (d : Done) : Type 0 where
+  pub result : IsShortResultOf g n d.view
+  pub low : 0 < d.height
+  pub high : d.height ≤ height_limit
+
+-- Each node of the table is so; none stands there twice.
+pub record AreFormedDone (g : Graph) (done : Entries) : Type 0 where
+  pub each : (n : Node) (d : Done) → done_in done n ≡ Some d → IsFormedDone g n d
+  pub different : AreDifferent (done_nodes done)
+
+-- Each of the calls is well formed and has no outcome; none stands there twice.
+pub record AreFormedCalls (outcomes : Outcomes) (wanted : List Call) : Type 0 where
+  pub each : (call : Call) → IsIn call wanted → IsWellFormed call
+  pub outside : (call : Call) → IsIn call wanted → outcomes call ≡ None
+  pub once : AreOnce wanted
+
+-- Nothing is said of how its results came: they need not be derived, nor the calls be met.
+pub record IsFormed (g : Graph) (outcomes : Outcomes) (walked : Walked) : Type 0 where
+  pub fit : OutcomesFit outcomes
+  pub root : Fits g walked.root
+  pub done : AreFormedDone g walked.done
+  pub wanted : AreFormedCalls outcomes walked.wanted
+  pub found : IfSome walked.result (NodesFit g)
 
 -- ---- a walk that is right
 

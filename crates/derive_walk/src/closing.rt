@@ -1,9 +1,9 @@
 // The closing of a node whose needs were all visited.
 ghost use Rattle.std.specs.Prelude.{◌+◌, OnOk, IfOk};
 ghost use Rattle.derive_walk.specs.Looks.{LooksAreFew, lost, met_in};
-ghost use Rattle.derive_walk.specs.Paths.{IsClosing, IsLast, IsWholeRound};
+ghost use Rattle.derive_walk.specs.Paths.{IsClosing, IsLast, IsLed, IsWholeRound};
 ghost use Rattle.derive_walk.specs.Settings.{IsSetting, world_in};
-ghost use Rattle.derive_walk.specs.States.{HoldsIn, GoesOnFrom, Visited, AfterVisit};
+ghost use Rattle.derive_walk.specs.States.{IsFormedIn, HoldsIn, GoesOnFrom, Visited, AfterVisit};
 
 use crate::deep::descend;
 use crate::done::Done;
@@ -31,14 +31,15 @@ pub(crate) fn close<K: Known, L: Ledger>(
     steps: &mut Steps<L>,
 ) -> Result<Option<Found>, Memory>
     requires set { IsSetting K.kept setting.now }
-    requires holds { HoldsIn (world_in K.kept setting.now) walk.old }
     requires last { IsLast (world_in K.kept setting.now) walk.old node }
     requires whole { IsWholeRound (world_in K.kept setting.now) walk.old node
         needed.now survey.now }
     ensures on { GoesOnFrom walk.old walk.new }
-    ensures holds { HoldsIn (world_in K.kept setting.now) walk.new }
+    ensures formed { IsFormedIn (world_in K.kept setting.now) walk.new }
+    ensures holds { let w = world_in K.kept setting.now in
+        IsLed w walk.old → HoldsIn w walk.new }
     ensures after { let w = world_in K.kept setting.now in
-        IfOk result (AfterVisit w walk.old walk.new node) }
+        IfOk result (AfterVisit w (IsLed w walk.old) walk.old walk.new node) }
     ensures counted { LooksAreFew (met_in walk.old) (met_in walk.new) steps.old
         steps.new (lost result) }
 {
@@ -67,11 +68,12 @@ fn close_seen<K: Known, L: Ledger>(
     steps: &mut Steps<L>,
 ) -> Result<(), Memory>
     requires set { IsSetting K.kept setting.now }
-    requires holds { HoldsIn (world_in K.kept setting.now) walk.old }
     requires last { IsLast (world_in K.kept setting.now) walk.old node }
     requires closing { IsClosing (world_in K.kept setting.now) walk.old node needed.now height }
     ensures on { GoesOnFrom walk.old walk.new }
-    ensures holds { HoldsIn (world_in K.kept setting.now) walk.new }
+    ensures formed { IsFormedIn (world_in K.kept setting.now) walk.new }
+    ensures holds { let w = world_in K.kept setting.now in
+        IsLed w walk.old → HoldsIn w walk.new }
     ensures visited { let w = world_in K.kept setting.now in
         OnOk result (Visited w walk.old walk.new node) }
     ensures counted { LooksAreFew (met_in walk.old) (met_in walk.new) steps.old

@@ -1,9 +1,10 @@
 // The chain of a root that is too deep.
 ghost use Rattle.std.specs.Prelude.{◌≡◌, ◌+◌, ◌-◌, ◌<◌, length, IfOk, OnOk};
 ghost use Rattle.meaning_derive.specs.Chains.{IsDeep};
-ghost use Rattle.derive_walk.specs.Paths.{IsTall, LeadsDown};
+ghost use Rattle.derive_walk.specs.Founds.{AllFit};
+ghost use Rattle.derive_walk.specs.Paths.{IsLed, IsTall, LeadsDown};
 ghost use Rattle.derive_walk.specs.Settings.{IsSetting, world_in};
-ghost use Rattle.derive_walk.specs.States.{HoldsIn};
+ghost use Rattle.derive_walk.specs.States.{IsFormedIn};
 ghost use Rattle.derive_walk.specs.Worlds.{seen_in};
 
 use crate::known::Known;
@@ -22,10 +23,10 @@ pub(crate) fn descend<K: Known>(
     walk: &Walk,
 ) -> Result<Seq<Node>, Memory>
     requires set { IsSetting K.kept setting.now }
-    requires holds { HoldsIn (world_in K.kept setting.now) walk.now }
     requires tall { IsTall (world_in K.kept setting.now) walk.now }
-    ensures { let w = world_in K.kept setting.now in
-        IfOk result (IsDeep w.graph (seen_in w) walk.now.root) }
+    ensures fit { IfOk result (AllFit setting.now.planned.now) }
+    ensures deep { let w = world_in K.kept setting.now in
+        IsLed w walk.now → IfOk result (IsDeep w.graph (seen_in w) walk.now.root) }
 {
     let mut chain = walk.path.copy(alloc)?;
     let mut height = HEIGHT_LIMIT as u32;
@@ -45,11 +46,14 @@ fn step_down<K: Known>(
     height: u32,
 ) -> Result<(), Memory>
     requires set { IsSetting K.kept setting.now }
-    requires holds { HoldsIn (world_in K.kept setting.now) walk.now }
+    requires formed { IsFormedIn (world_in K.kept setting.now) walk.now }
+    requires fit { AllFit setting.now.planned.now chain.old }
     requires high { 0 < height }
-    requires down { LeadsDown (world_in K.kept setting.now) walk.now chain.old height }
-    ensures longer { OnOk result (length chain.new ≡ length chain.old + 1) }
+    ensures fit { OnOk result (AllFit setting.now.planned.now chain.new) }
+    ensures longer { LeadsDown (world_in K.kept setting.now) walk.now chain.old height →
+        OnOk result (length chain.new ≡ length chain.old + 1) }
     ensures down { let w = world_in K.kept setting.now in
+        LeadsDown w walk.now chain.old height →
         OnOk result (LeadsDown w walk.now chain.new (height - 1)) }
 {
     let Some(last) = chain.as_slice().last() else {

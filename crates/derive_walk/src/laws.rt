@@ -1,16 +1,19 @@
 //! Laws of walks. Each is the contract of a function with an empty body.
-ghost use Rattle.derive_walk.specs.Laws.{FoundStays, RightStays, FoundFits, WantedAreFormed, WalksHaveMet};
+ghost use Rattle.derive_walk.specs.Laws.{FoundStays, RightStays, FormedStays, FoundFits, WantedAreFormed, RightIsFormed, WalksHaveMet};
 
-/// What is found stays, and so does a walk that is right, as more outcomes come.
+/// What is found stays, and so does a walk that is right or formed, as more outcomes come.
 pub fn more_keeps()
     ensures found { FoundStays }
     ensures right { RightStays }
+    ensures formed { FormedStays }
 {}
 
-/// The nodes that are found fit the graph, and the calls that are wanted are well formed.
+/// The nodes that are found fit the graph, and the calls that are wanted are well formed: all that
+/// is right is formed.
 pub fn all_is_formed()
     ensures nodes { FoundFits }
     ensures calls { WantedAreFormed }
+    ensures walks { RightIsFormed }
 {}
 
 /// What `counted` counts are different nodes that are met from the root.

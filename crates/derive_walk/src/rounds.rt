@@ -6,7 +6,6 @@ ghost use Rattle.node_tasks.specs.Needed.{IsNeeded};
 ghost use Rattle.derive_walk.specs.Tables.{results_of};
 ghost use Rattle.derive_walk.specs.Paths.{IsAheadIn, IsRound, IsSurveyed};
 ghost use Rattle.derive_walk.specs.Settings.{IsSetting, world_in};
-ghost use Rattle.derive_walk.specs.States.{HoldsIn};
 ghost use Rattle.derive_walk.specs.Worlds.{World};
 
 use crate::known::Known;
@@ -22,7 +21,7 @@ use std::mem;
 /// leads: the base in the first, its elements, the extras and the scan of the own source in the
 /// second, and the elements of the extras in the third. What is left to visit then are needs of
 /// names, and a level of these is what a round over all needs would visit, in the same order.
-const WHOLE_ROUNDS: u32 = 3;
+const WHOLE_ROUNDS: u64 = 3;
 
 /// A round: the needs that are visited next, or what was found of all needs once none is left.
 pub(crate) enum Round {
@@ -38,11 +37,10 @@ pub(crate) fn next_round<K: Known>(
     setting: &Setting<'_, K>,
     walk: &Walk,
     node: &Node,
-    rounds: u32,
+    rounds: u64,
     ahead: &mut Ahead,
 ) -> Result<Round, Memory>
     requires set { IsSetting K.kept setting.now }
-    requires holds { HoldsIn (world_in K.kept setting.now) walk.now }
     requires fits { Fits setting.now.planned.now node.now }
     requires ahead { IsAheadIn (world_in K.kept setting.now) walk.now node.now ahead.old }
     ensures ahead { IsAheadIn (world_in K.kept setting.now) walk.now node.now ahead.new }

@@ -1,9 +1,9 @@
 // The visit of a node, and of what it needs.
 ghost use Rattle.std.specs.Prelude.{IfOk};
 ghost use Rattle.derive_walk.specs.Looks.{LooksAreFew, lost, met_in};
-ghost use Rattle.derive_walk.specs.Paths.{IsNext};
+ghost use Rattle.derive_walk.specs.Paths.{IsNext, LeadsTo};
 ghost use Rattle.derive_walk.specs.Settings.{IsSetting, world_in};
-ghost use Rattle.derive_walk.specs.States.{HoldsIn, GoesOnFrom, AfterVisit};
+ghost use Rattle.derive_walk.specs.States.{IsFormedIn, HoldsIn, GoesOnFrom, AfterVisit};
 
 use crate::chains::chain_to;
 use crate::closing::close;
@@ -28,20 +28,21 @@ pub(crate) fn visit<K: Known, L: Ledger>(
     steps: &mut Steps<L>,
 ) -> Result<Option<Found>, Memory>
     requires set { IsSetting K.kept setting.now }
-    requires holds { HoldsIn (world_in K.kept setting.now) walk.old }
     requires next { IsNext (world_in K.kept setting.now) walk.old node }
     ensures on { GoesOnFrom walk.old walk.new }
-    ensures holds { HoldsIn (world_in K.kept setting.now) walk.new }
+    ensures formed { IsFormedIn (world_in K.kept setting.now) walk.new }
+    ensures holds { let w = world_in K.kept setting.now in
+        LeadsTo w walk.old node → HoldsIn w walk.new }
     ensures after { let w = world_in K.kept setting.now in
-        IfOk result (AfterVisit w walk.old walk.new node) }
+        IfOk result (AfterVisit w (LeadsTo w walk.old node) walk.old walk.new node) }
     ensures counted { LooksAreFew (met_in walk.old) (met_in walk.new) steps.old
         steps.new (lost result) }
 {
     let length = walk.path.len();
     let mut ahead = Ahead::new(alloc);
     walk.path.push(node.copy(alloc)?)?;
-    let mut rounds: u32 = 0;
-    'rounds: loop {
+    // Bounded, so that no proof of an end is owed: each round visits a node, and no memory holds so many.
+    for rounds in 0..u64::MAX {
         let round = next_round(alloc, setting, walk, &node, rounds, &mut ahead)?;
         let needs = match round {
             Round::Visits(needs) => needs,
@@ -51,7 +52,6 @@ pub(crate) fn visit<K: Known, L: Ledger>(
                 return Ok(found);
             }
         };
-        rounds = rounds.saturating_add(1);
         let unvisited = needs.as_slice();
         for need in unvisited {
             if height_of(&walk.done, &walk.waiting, need).is_some() {
@@ -66,4 +66,5 @@ pub(crate) fn visit<K: Known, L: Ledger>(
             }
         }
     }
+    Err(Memory)
 }

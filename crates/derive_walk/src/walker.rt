@@ -11,9 +11,9 @@ ghost use Rattle.derive_walk.specs.Outcomes.{after};
 ghost use Rattle.derive_walk.specs.Looks.{LooksAreFew, lost, met_by, met_in};
 ghost use Rattle.derive_walk.specs.Paths.{HasEmptyPath, AfterRoot};
 ghost use Rattle.derive_walk.specs.Settings.{IsSetting, world_in};
-ghost use Rattle.derive_walk.specs.States.{HoldsIn, GoesOnFrom, heights_in};
-ghost use Rattle.derive_walk.specs.Walks.{IsRight, IsAdvanced, ExtendsWalk, OutcomeIsGiven, new_walk};
-ghost use Rattle.derive_walk.specs.Worlds.{World, world};
+ghost use Rattle.derive_walk.specs.States.{IsFormedIn, HoldsIn, GoesOnFrom, heights_in};
+ghost use Rattle.derive_walk.specs.Walks.{IsFormed, IsRight, IsAdvanced, ExtendsWalk, OutcomeIsGiven, new_walk};
+ghost use Rattle.derive_walk.specs.Worlds.{World, IsWorld, world};
 
 use crate::done::Table;
 use crate::found::Found;
@@ -71,9 +71,11 @@ impl Model for Walker {
 }
 
 impl Walker {
-    /// Nothing is known yet. It is right in every world that its root fits.
+    /// Nothing is known yet. It is formed, and right in every world that its root fits.
     pub fn new(alloc: Global, root: Node) -> Self
         ensures is { result ≡ new_walk root }
+        ensures formed { (g : GraphValue) (by : Outcomes) → Fits g root → OutcomesFit by →
+            IsFormed g by result }
         ensures right { (w : World) → Fits w.graph root → OutcomesFit w.outcomes →
             IsRight w result }
     {
@@ -102,13 +104,18 @@ impl Walker {
     ) -> Result<(), Memory>
         requires spellable { IsSpellable planned.now }
         requires sources { AreSources sources.now.texts }
-        requires right { let by = after (K.kept known.now) self.old.given in
-            IsRight (world planned.now sources.now.texts by) self.old }
+        requires formed { let by = after (K.kept known.now) self.old.given in
+            IsFormed planned.now by self.old }
         ensures on { ExtendsWalk self.old self.new }
-        ensures right { let by = after (K.kept known.now) self.new.given in
-            IsRight (world planned.now sources.now.texts by) self.new }
-        ensures advanced { let by = after (K.kept known.now) self.new.given in
-            OnOk result (IsAdvanced (world planned.now sources.now.texts by) self.new) }
+        ensures formed { let by = after (K.kept known.now) self.new.given in
+            IsFormed planned.now by self.new }
+        ensures right { let by = after (K.kept known.now) in
+            IsRight (world planned.now sources.now.texts (by self.old.given)) self.old →
+            IsRight (world planned.now sources.now.texts (by self.new.given)) self.new }
+        ensures advanced { let by = after (K.kept known.now) in
+            IsRight (world planned.now sources.now.texts (by self.old.given)) self.old →
+            OnOk result
+            (IsAdvanced (world planned.now sources.now.texts (by self.new.given)) self.new) }
         ensures counted { LooksAreFew (met_by self.old) (met_by self.new)
             steps.old steps.new (lost result) }
     {
@@ -135,6 +142,9 @@ impl Walker {
         requires fits { OutcomeFits call.now outcome }
         ensures ok { OnOk result (OutcomeIsGiven call.now outcome self.old self.new) }
         ensures err { OnErr result (self.new ≡ self.old) }
+        ensures formed { (g : GraphValue) (kept : Outcomes) →
+            IsFormed g (after kept self.old.given) self.old →
+            IsFormed g (after kept self.new.given) self.new }
         ensures right { (g : GraphValue) (s : SourceTexts) (kept : Outcomes) →
             IsRight (world g s (after kept self.old.given)) self.old →
             IsRight (world g s (after kept self.new.given)) self.new }
@@ -181,12 +191,14 @@ fn walk_from_root<K: Known, L: Ledger>(
     steps: &mut Steps<L>,
 ) -> Result<Option<Found>, Memory>
     requires set { IsSetting K.kept setting.now }
-    requires holds { HoldsIn (world_in K.kept setting.now) walk.old }
-    requires fits { Fits setting.now.planned.now walk.old.root }
+    requires formed { IsFormedIn (world_in K.kept setting.now) walk.old }
     requires start { HasEmptyPath walk.old }
     ensures on { GoesOnFrom walk.old walk.new }
-    ensures holds { HoldsIn (world_in K.kept setting.now) walk.new }
-    ensures after { IfOk result (AfterRoot (world_in K.kept setting.now) walk.new) }
+    ensures formed { IsFormedIn (world_in K.kept setting.now) walk.new }
+    ensures holds { let w = world_in K.kept setting.now in
+        HoldsIn w walk.old → HoldsIn w walk.new }
+    ensures after { let w = world_in K.kept setting.now in
+        IfOk result (AfterRoot w (HoldsIn w walk.old) walk.new) }
     ensures counted { LooksAreFew (met_in walk.old) (met_in walk.new) steps.old
         steps.new (lost result) }
 {
@@ -207,7 +219,8 @@ fn walk_from_root<K: Known, L: Ledger>(
 // What is found of a root that was visited.
 fn visited_root(alloc: Global, walk: &Walk) -> Result<Option<Found>, Memory>
     requires { IsSome (heights_in walk.now walk.now.root) }
-    ensures { (w : World) → HoldsIn w walk.now → IfOk result (AfterRoot w walk.now) }
+    ensures { (w : World) → IsWorld w → IsFormedIn w walk.now →
+        IfOk result (AfterRoot w (HoldsIn w walk.now) walk.now) }
 {
     match walk.done.entry(&walk.root) {
         None => Ok(None),

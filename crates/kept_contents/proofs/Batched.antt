@@ -54,7 +54,7 @@ grows_one : (contents : Values) (x : Value) (a b : Values) → AddsOne contents 
 grows_one contents x a b (inl e) = ([], e ∙ sym (append-nil a))
 grows_one contents x a b (inr r) = (x ∷ [], r.0)
 
-grows : (contents : Values) (xs a b : Values) → AddsAll contents xs a b → (more : Values) × (b ≡ a ++ more)
+pub grows : (contents : Values) (xs a b : Values) → AddsAll contents xs a b → (more : Values) × (b ≡ a ++ more)
 grows contents [] a b e = ([], e ∙ sym (append-nil a))
 grows contents (x ∷ xs) a b p =
     let one = grows_one contents x a p.0 p.1 in
@@ -137,7 +137,7 @@ texts_new contents xs texts p t i = added_new contents (contents_of xs) (content
 
 -- ---- contents with those that are added
 
-contents_grow : (contents : Values) (old new : List Content) (more : Values) → values_of_contents new ≡ values_of_contents old ++ more → contents_with contents new ≡ contents_with contents old ++ more
+pub contents_grow : (contents : Values) (old new : List Content) (more : Values) → values_of_contents new ≡ values_of_contents old ++ more → contents_with contents new ≡ contents_with contents old ++ more
 contents_grow contents old new more e = ap (λ (l : Values). contents ++ l) e ∙ sym (append_assoc contents (values_of_contents old) more)
 
 pub parts_stay : (contents xs : Values) (old new : List Content) (stored : List StoredPart) (parts : List CallPart) → AddsAll contents xs (values_of_contents old) (values_of_contents new) → ArePartsOf (contents_with contents old) stored parts → ArePartsOf (contents_with contents new) stored parts

@@ -1,5 +1,5 @@
 -- Contents that a batch brings: those that the file hasn't, each once.
-use Rattle.std.specs.Prelude.{◌≡◌, ◌⊎◌, ⊤, ℕ, List, [], ◌∷◌, ◌++◌, Some, All, map, slice_get}
+use Rattle.std.specs.Prelude.{◌≡◌, ◌⊎◌, ℕ, List, [], ◌∷◌, ◌++◌, All, map}
 use Rattle.std.specs.List.{flat_map}
 use Rattle.object_values.specs.declared.calls.CallPart.{CallPart}
 use Rattle.object_values.specs.declared.views.Part.{Part}
@@ -7,6 +7,8 @@ use Rattle.object_values.specs.declared.views.Value.{Value}
 use Rattle.meaning_texts.specs.Lists.{IsIn}
 use Rattle.content_store.specs.Bodies.{Bodies}
 use Rattle.meaning_records.specs.Batches.{body_of, contents_of}
+pub use Rattle.meaning_records.specs.Tables.{IsContent, IsNoContent}
+pub use Rattle.meaning_records.specs.Batches.{EachOnce}
 use Rattle.kept_contents.specs.declared.shared.Content.{Content}
 use Rattle.kept_contents.specs.Stocks.{IsHeldIn, values_of_contents}
 
@@ -25,14 +27,6 @@ contents_with contents added = contents ++ values_of_contents added
 abbrev pub AreHeld : Bodies → List Content → Type 0
 AreHeld texts added = All (IsHeldIn texts) added
 
--- the content of this number is this value
-abbrev pub IsContent : List Value → ℕ → Value → Type 0
-IsContent contents number value = slice_get contents number ≡ Some value
-
--- the value is no content
-abbrev pub IsNoContent : List Value → Value → Type 0
-IsNoContent contents value = (number : ℕ) → ¬ IsContent contents number value
-
 -- A value is added where neither the file nor the batch has it.
 abbrev pub AddsOne : List Value → Value → List Value → List Value → Type 0
 AddsOne contents value old new = (new ≡ old) ⊎ ((new ≡ old ++ value ∷ []) × (¬ IsIn value old) × IsNoContent contents value)
@@ -45,8 +39,3 @@ AddsAll contents (value ∷ values) old new = (next : List Value) × AddsOne con
 -- one text after another
 abbrev pub AddsTexts : List Value → List (List ℕ) → List Value → List Value → Type 0
 AddsTexts contents texts old new = AddsAll contents (contents_of texts) old new
-
--- each once
-abbrev pub EachOnce : List Value → Type 0
-EachOnce [] = ⊤
-EachOnce (value ∷ values) = (¬ IsIn value values) × EachOnce values

@@ -1,5 +1,6 @@
 // What is held in memory: texts by number, and the contents that are texts or others.
-ghost use Rattle.std.specs.Prelude.{◌≡◌, IfOk};
+ghost use Rattle.std.specs.Prelude.{◌≡◌, ◌↔◌, IfOk, IsTrue};
+ghost use Rattle.object_values.specs.declared.views.Value.TheVariants.{Simple};
 ghost use Rattle.kept_contents.specs.Stocks.{value_of};
 
 use object_values::{Copied, Memory, Text, Value};
@@ -28,5 +29,24 @@ impl Content {
             Content::Text(shared) => Ok(Value::Simple(shared.text.copy(alloc)?)),
             Content::Other(value) => value.copy(alloc),
         }
+    }
+
+    /// Whether it is this value.
+    pub fn is(&self, value: &Value) -> bool
+        ensures { IsTrue result ↔ (value_of self.now ≡ value.now) }
+    {
+        match self {
+            Content::Text(shared) => is_text(&shared.text, value),
+            Content::Other(other) => other == value,
+        }
+    }
+}
+
+fn is_text(text: &Text, value: &Value) -> bool
+    ensures { IsTrue result ↔ (Simple text.now ≡ value.now) }
+{
+    match value {
+        Value::Simple(other) => text == other,
+        _ => false,
     }
 }

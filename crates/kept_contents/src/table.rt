@@ -1,5 +1,5 @@
 // The contents of a journal, and how a text is found among them.
-ghost use Rattle.std.specs.Prelude.{◌≡◌, ℕ, List, ◌+◌, ◌<◌, ◌≤◌, ◌^◌, ◌∷◌, ◌++◌, [], IfNone, IfOk, IfSome, OnOk, None, Some, length, replicate, reverse, slice_get, slice_set};
+ghost use Rattle.std.specs.Prelude.{◌≡◌, ◌↔◌, IsTrue, ℕ, List, ◌+◌, ◌<◌, ◌≤◌, ◌^◌, ◌∷◌, ◌++◌, [], IfNone, IfOk, IfSome, None, OnErr, OnOk, Some, length, replicate, reverse, slice_get, slice_set};
 ghost use Rattle.object_values.specs.declared.views.Value.TheVariants.{Simple};
 ghost use Rattle.meaning_records.specs.Tables.{IsText, IsNoText};
 ghost use Rattle.meaning_records.specs.Numbers.{number_of};
@@ -151,6 +151,16 @@ impl ContentTable {
         self.contents[number as usize].value(alloc)
     }
 
+    /// Whether the content of a number is this value. It takes no memory.
+    pub fn is(&self, number: u64, value: &Value) -> bool
+        ensures { IsTrue result ↔ (slice_get self.now.contents number ≡ Some value.now) }
+    {
+        match self.contents.get(number as usize) {
+            Some(content) => content.is(value),
+            None => false,
+        }
+    }
+
     /// Holds a text in memory, once. The contents stay.
     pub fn share(&mut self, alloc: Global, text: &Text) -> Result<Shared, Memory>
         ensures id { IfOk result (λ s. place_of_body text.now self.new.texts ≡ Some s.id) }
@@ -270,6 +280,7 @@ impl ContentTable {
     /// Adds the next content.
     pub fn add(&mut self, alloc: Global, value: Value) -> Result<(), Memory>
         ensures contents { OnOk result (self.new.contents ≡ self.old.contents ++ value ∷ []) }
+        ensures same { OnErr result (self.new.contents ≡ self.old.contents) }
         ensures texts { IsGrownFrom self.old.texts self.new.texts }
     {
         match value {
@@ -281,6 +292,7 @@ impl ContentTable {
     fn add_text(&mut self, alloc: Global, text: &Text) -> Result<(), Memory>
         ensures contents { OnOk result
             (self.new.contents ≡ self.old.contents ++ Simple text.now ∷ []) }
+        ensures same { OnErr result (self.new.contents ≡ self.old.contents) }
         ensures texts { IsGrownFrom self.old.texts self.new.texts }
     {
         if self.len() > u32::MAX as usize {
@@ -295,6 +307,7 @@ impl ContentTable {
     fn add_other(&mut self, value: Value) -> Result<(), Memory>
         requires { IsOther value }
         ensures contents { OnOk result (self.new.contents ≡ self.old.contents ++ value ∷ []) }
+        ensures same { OnErr result (self.new.contents ≡ self.old.contents) }
         ensures texts { IsGrownFrom self.old.texts self.new.texts }
     {
         self.reserve(1)?;

@@ -37,9 +37,9 @@ keeps_one_more (x ∷ given) call outcome = ap (λ l. keeps x.0 x.1 ∷ l) (keep
 
 -- ---- what is held
 
-held_after : (given : Calls) (held : Held) → trails.after_changes store_keeping (keeps_of given) held ≡ record { sources = held.sources; calls = held.calls ++ given }
-held_after [] held = ap (λ (l : Calls). record { sources = held.sources; calls = l }) (sym (nothing_behind held.calls))
-held_after (x ∷ given) held = held_after given (apply (keeps x.0 x.1) held) ∙ ap (λ (l : Calls). record { sources = held.sources; calls = l }) (append_assoc held.calls (x ∷ []) given)
+held_after : (given : Calls) (held : Held) → trails.after_changes store_keeping (keeps_of given) held ≡ record held { calls = held.calls ++ given }
+held_after [] held = ap (λ (l : Calls). record held { calls = l }) (sym (nothing_behind held.calls))
+held_after (x ∷ given) held = held_after given (apply (keeps x.0 x.1) held) ∙ ap (λ (l : Calls). record held { calls = l }) (append_assoc held.calls (x ∷ []) given)
 
 module _ {Disk : Type 0} (told : Disk → Telling) (given : Calls) (store next : Store) (disk after : Disk) (goes : Performs told (keeps_of given) store next disk after) where
   pub calls_after : next.kept.tables.calls ≡ store.kept.tables.calls ++ given

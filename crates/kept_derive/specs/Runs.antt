@@ -13,8 +13,7 @@ use Rattle.odin_store.specs.Held.{Change, keeps}
 use Rattle.odin_store.specs.Going.{Performs}
 use Rattle.derive_walk.specs.declared.found.Found.{Found}
 use Rattle.derive_walk.specs.declared.found.Found.TheVariants.{Answer, Circular, Deep}
-use Rattle.derive_walk.specs.Founds.{IsFound}
-use Rattle.derive_walk.specs.Laws.{NodesFit}
+use Rattle.derive_walk.specs.Founds.{IsFound, NodesFit}
 use Rattle.derive_walk.specs.Outcomes.{after}
 use Rattle.derive_walk.specs.Worlds.{World}
 use Rattle.derive_core.specs.Kept.{kept_world}

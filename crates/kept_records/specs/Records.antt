@@ -20,6 +20,11 @@ abbrev pub put_record : NodeRecord → List NodeRecord → List NodeRecord
 put_record noted [] = noted ∷ []
 put_record noted (r ∷ records) = cond (node_eq.eq noted.node r.node) (noted ∷ records) (r ∷ put_record noted records)
 
+-- one record after another
+abbrev pub put_records : List NodeRecord → List NodeRecord → List NodeRecord
+put_records [] records = records
+put_records (noted ∷ more) records = put_records more (put_record noted records)
+
 -- the record, whose present part was settled at the epoch
 abbrev pub renewed : Renewed → ℕ → NodeRecord → NodeRecord
 renewed present epoch r = record {

@@ -1,6 +1,6 @@
 // The records of nodes.
 ghost use Rattle.std.specs.Prelude.{◌≡◌, ◌<◌, ◌≤◌, ◌+◌, ◌-◌, ◌⊎◌, ◌∷◌, ◌++◌, [], IfNone, IfSome, IsSome, None, OnOk, Some, length, option_map, slice_get, vec_capacity, vec_len};
-ghost use Rattle.kept_records.specs.Records.{EachNodeOnce, node_at, put_record, record_of, renew_record};
+ghost use Rattle.kept_records.specs.Records.{EachNodeOnce, node_at, put_record, put_records, record_of, renew_record};
 
 use crate::sought::SoughtNode;
 use content_store::Marks;
@@ -92,6 +92,16 @@ impl RecordTable {
         match self.place_of(&noted.node) {
             Some(place) => self.records[place] = noted,
             None => self.add(noted),
+        }
+    }
+
+    /// Notes records one after another. It takes no memory.
+    pub fn put_all(&mut self, noted: Vec<NodeRecord>)
+        requires { length noted.items ≤ self.old.room }
+        ensures { self.new.records ≡ put_records noted.items self.old.records }
+    {
+        for record in noted {
+            self.put(record);
         }
     }
 

@@ -13,39 +13,40 @@ use Rattle.meaning_texts.specs.Lists.{IsIn}
 use Rattle.meaning_texts.proofs.Lemmas.{in_either, from_map, from_flat, in_all, all_in}
 use Rattle.meaning_calls.specs.Jobs.{IsWellFormed, IsPartOfClass}
 use Rattle.meaning_calls.specs.Outcomes.{OutcomeFits}
+use Rattle.object_values.specs.declared.records.NodeRecord.{NodeRecord}
 use Rattle.object_values.specs.declared.items.StoredCall.{StoredCall}
 use Rattle.object_values.specs.declared.items.StoredOutcome.{StoredOutcome}
 use Rattle.object_values.specs.declared.items.Item.{Item}
 use Rattle.object_values.specs.declared.items.Item.TheVariants.{Content, Put, Kept}
-use Rattle.meaning_records.specs.Tables.{Tables, IsShort, IsText, IsNoText, IsCallOf, IsOutcomeOf, LoadsAll, Calls, with_content, with_call}
+use Rattle.meaning_records.specs.Tables.{Tables, IsShort, IsText, IsNoText, IsCallOf, IsOutcomeOf, LoadsAll, with_content, with_call}
 use Rattle.meaning_records.specs.Batches.{contents_of, body_of, needed_texts, IsPutBatch, IsCallBatch}
 use Rattle.kept_contents.specs.declared.shared.Content.{Content as Held}
 use Rattle.kept_contents.specs.declared.held.HeldCall.{HeldCall}
 use Rattle.kept_contents.specs.Added.{texts_of_parts, texts_of_outputs, contents_with, AddsOne, AddsAll, AddsTexts}
 use Rattle.kept_contents.specs.Stocks.{values_of_contents}
 use Rattle.kept_contents.proofs.Lemmas.{added_from, next_number, parts_stay, texts_added, texts_from, texts_new, texts_once}
-use Rattle.kept_tables.specs.Holdings.{Holding, Batch, MayKeep, MakesBatch, PreparesSome, items_with, with_batch, with_calls, held_calls_of}
+use Rattle.kept_tables.specs.Holdings.{Holding, Batch, MayKeep, MakesBatch, PreparesSome, items_with, with_batch, with_calls, with_contents, with_notes, held_calls_of}
 
 abbrev Texts : Type 0
 Texts = List (List ℕ)
 
-abbrev AreShort : List Value → Type 0
+abbrev pub AreShort : List Value → Type 0
 AreShort values = (v : Value) → IsIn v values → IsShort v
 
 texts_short : (texts : Texts) → ((t : List ℕ) → IsIn t texts → length t ≤ body_limit) → AreShort (contents_of texts)
 texts_short texts short v i = let m = from_map Simple v texts i in subst IsShort (sym m.2) (short m.0 m.1)
 
 -- the tables with contents more
-abbrev with_contents : Tables → List Value → Tables
-with_contents tables more = record { contents = tables.contents ++ more; calls = tables.calls }
+abbrev pub with_values : Tables → List Value → Tables
+with_values tables more = record tables { contents = tables.contents ++ more }
 
 -- contents come first, and then the rest
-loads_contents : (tables : Tables) (values : List Value) (rest : List Item) (next : Tables) → AreShort values → LoadsAll (with_contents tables values) rest next → LoadsAll tables (map Content values ++ rest) next
-loads_contents tables [] rest next short loads = subst (λ (l : List Value). LoadsAll (record { contents = l; calls = tables.calls }) rest next) (append-nil tables.contents) loads
+pub loads_contents : (tables : Tables) (values : List Value) (rest : List Item) (next : Tables) → AreShort values → LoadsAll (with_values tables values) rest next → LoadsAll tables (map Content values ++ rest) next
+loads_contents tables [] rest next short loads = subst (λ (l : List Value). LoadsAll (record tables { contents = l }) rest next) (append-nil tables.contents) loads
 loads_contents tables (v ∷ values) rest next short loads = (
   with_content v tables,
   (short v (inl refl), refl),
-  loads_contents (with_content v tables) values rest next (λ u i. short u (inr i)) (subst (λ (l : List Value). LoadsAll (record { contents = l; calls = tables.calls }) rest next) (sym (append_assoc tables.contents (v ∷ []) values)) loads),
+  loads_contents (with_content v tables) values rest next (λ u i. short u (inr i)) (subst (λ (l : List Value). LoadsAll (record tables { contents = l }) rest next) (sym (append_assoc tables.contents (v ∷ []) values)) loads),
 )
 
 -- ---- batches by the contents that they add
@@ -94,29 +95,29 @@ needed_short call outcome formed fits t i = elim (in_either t (texts_of_parts ca
 
 module _ (old kept : Holding) (same : kept.tables ≡ old.tables) (added : List Held) (batch : Batch) where
   module _ (held : HeldCall) (call : Call) (held_is : held.call ≡ call) (outcome : Outcome) (may : MayKeep old.tables call outcome) (adds : AddsTexts old.tables.contents (needed_texts call outcome) [] (values_of_contents added)) (stored : StoredCall) (given : StoredOutcome) (called : IsCallOf (contents_with old.tables.contents added) stored call) (came : IsOutcomeOf (contents_with old.tables.contents added) given outcome) where
-    call_items : IsCallBatch old.tables.contents call outcome (items_with added (Kept stored given))
+    call_items : IsCallBatch old.tables.contents call outcome (items_with added (Kept stored given ∷ []))
     call_items = call_by_adds old.tables.contents call outcome (values_of_contents added) adds stored given called came
 
-    call_loads : LoadsAll old.tables (items_with added (Kept stored given)) (with_call call outcome (with_contents old.tables (values_of_contents added)))
-    call_loads = loads_contents old.tables (values_of_contents added) (Kept stored given ∷ []) (with_call call outcome (with_contents old.tables (values_of_contents added)))
+    call_loads : LoadsAll old.tables (items_with added (Kept stored given ∷ [])) (with_call call outcome (with_values old.tables (values_of_contents added)))
+    call_loads = loads_contents old.tables (values_of_contents added) (Kept stored given ∷ []) (with_call call outcome (with_values old.tables (values_of_contents added)))
         (λ v i. texts_short (needed_texts call outcome) (needed_short call outcome may.formed may.fits) v (added_from old.tables.contents (contents_of (needed_texts call outcome)) (values_of_contents added) adds v i))
-        (with_call call outcome (with_contents old.tables (values_of_contents added)), (call, outcome, record { called = called; came = came; formed = may.formed; fits = may.fits; new = may.new }, refl), refl)
+        (with_call call outcome (with_values old.tables (values_of_contents added)), (call, outcome, record { called = called; came = came; formed = may.formed; fits = may.fits; new = may.new }, refl), refl)
 
-    pub call_prepared : MakesBatch added (Kept stored given) (Some (held, outcome)) kept batch → PreparesSome (IsCallBatch old.tables.contents call outcome) kept batch
+    pub call_prepared : MakesBatch added (Kept stored given ∷ []) (Some (held, outcome)) [] kept batch → PreparesSome (IsCallBatch old.tables.contents call outcome) kept batch
     call_prepared makes = (
-      items_with added (Kept stored given),
+      items_with added (Kept stored given ∷ []),
       call_items,
       record {
         fit = makes.fit;
         spelled = makes.spelled;
         next = with_batch kept.tables batch;
-        loads = rw (same, makes.added_is, makes.call_is, held_is) call_loads;
+        loads = rw (same, makes.added_is, makes.call_is, makes.notes_are, held_is) call_loads;
         commits = makes.commits;
       },
     )
 
   module _ (name text : List ℕ) (named : IsName name) (short : length text ≤ body_limit) (adds : AddsOne old.tables.contents (Simple text) [] (values_of_contents added)) (number : ℕ) (is : IsText (contents_with old.tables.contents added) number text) where
-    put_items : IsPutBatch old.tables.contents name text (items_with added (Put name number))
+    put_items : IsPutBatch old.tables.contents name text (items_with added (Put name number ∷ []))
     put_items = put_by_adds old.tables.contents name text (values_of_contents added) adds number is
 
     put_short : AreShort (values_of_contents added)
@@ -129,15 +130,15 @@ module _ (old kept : Holding) (same : kept.tables ≡ old.tables) (added : List 
           | inr none ↦ absurd none
         ]
 
-    pub put_prepared : MakesBatch added (Put name number) None kept batch → PreparesSome (IsPutBatch old.tables.contents name text) kept batch
+    pub put_prepared : MakesBatch added (Put name number ∷ []) None [] kept batch → PreparesSome (IsPutBatch old.tables.contents name text) kept batch
     put_prepared makes = (
-      items_with added (Put name number),
+      items_with added (Put name number ∷ []),
       put_items,
       record {
         fit = makes.fit;
         spelled = makes.spelled;
         next = with_batch kept.tables batch;
-        loads = rw (same, makes.added_is, makes.call_is, append-nil old.tables.calls) (loads_contents old.tables (values_of_contents added) (Put name number ∷ []) (with_contents old.tables (values_of_contents added)) put_short (with_contents old.tables (values_of_contents added), (named, (text, is), refl), refl));
+        loads = rw (same, makes.added_is, makes.call_is, makes.notes_are, append-nil old.tables.calls) (loads_contents old.tables (values_of_contents added) (Put name number ∷ []) (with_values old.tables (values_of_contents added)) put_short (with_values old.tables (values_of_contents added), (named, (text, is), refl), refl));
         commits = makes.commits;
       },
     )
@@ -160,8 +161,13 @@ call_stays contents xs old new stored call adds is = record {
 
 -- ---- taking in
 
-pub committed : (old middle new : Tables) (batch : Batch) (added : List Held) (call : Option (HeldCall × Outcome)) → added ≡ batch.added → call ≡ batch.call → middle.contents ≡ contents_with old.contents (reverse added) → middle.calls ≡ old.calls → new ≡ with_calls middle (held_calls_of call) → new ≡ with_batch old batch
-committed old middle new batch added call added_is call_is contents calls new_is =
-    let a : middle.contents ≡ contents_with old.contents (reverse batch.added) = contents ∙ ap (λ (l : List Held). contents_with old.contents (reverse l)) added_is in
-    let b : middle.calls ++ held_calls_of call ≡ old.calls ++ held_calls_of batch.call = ap (λ (l : Calls). l ++ held_calls_of call) calls ∙ ap (λ (o : Option (HeldCall × Outcome)). old.calls ++ held_calls_of o) call_is in
-    new_is ∙ (λ i. record { contents = a i; calls = b i })
+module _ (old middle noted new : Tables) (batch : Batch) (added : List Held) (call : Option (HeldCall × Outcome)) (notes : List NodeRecord) where
+  pub committed : added ≡ batch.added → call ≡ batch.call → notes ≡ batch.notes → middle ≡ with_contents old (reverse added) → noted ≡ with_notes middle notes
+      → new ≡ with_calls noted (held_calls_of call) → new ≡ with_batch old batch
+  committed added_is call_is notes_are grown noted_is new_is =
+      new_is
+      ∙ ap (λ (t : Tables). with_calls t (held_calls_of call)) noted_is
+      ∙ ap (λ (t : Tables). with_calls (with_notes t notes) (held_calls_of call)) grown
+      ∙ ap (λ (l : List Held). with_calls (with_notes (with_contents old (reverse l)) notes) (held_calls_of call)) added_is
+      ∙ ap (λ (l : List NodeRecord). with_calls (with_notes (with_contents old (reverse batch.added)) l) (held_calls_of call)) notes_are
+      ∙ ap (λ (o : Option (HeldCall × Outcome)). with_calls (with_notes (with_contents old (reverse batch.added)) batch.notes) (held_calls_of o)) call_is

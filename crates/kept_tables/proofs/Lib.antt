@@ -4,6 +4,8 @@ mod BatchLemmas
 mod HeldLemmas
 mod LiveLemmas
 mod LoadLemmas
+mod NoteLemmas
+mod RecordLemmas
 mod TableLemmas
 mod OnceLemmas
 mod SizeLemmas

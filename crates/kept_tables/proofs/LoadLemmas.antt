@@ -1,5 +1,5 @@
 -- What the reading of an item brings, and where it brings nothing.
-use Rattle.std.proofs.Common.{◌≡◌, ℕ, List, subst, refl}
+use Rattle.std.proofs.Common.{◌≡◌, ◌∙◌, ℕ, List, ap, sym, subst, refl}
 use Rattle.std.specs.Prelude.{IsNone}
 use Rattle.object_values.specs.declared.calls.Call.{Call}
 use Rattle.object_values.specs.declared.calls.Outcome.{Outcome}
@@ -12,14 +12,21 @@ use Rattle.meaning_calls.specs.Outcomes.{OutcomeFits}
 use Rattle.object_values.specs.declared.items.StoredCall.{StoredCall}
 use Rattle.object_values.specs.declared.items.StoredOutcome.{StoredOutcome}
 use Rattle.object_values.specs.declared.items.Item.{Item}
-use Rattle.object_values.specs.declared.items.Item.TheVariants.{Kept}
+use Rattle.object_values.specs.declared.items.StoredRecord.{StoredRecord}
+use Rattle.object_values.specs.declared.items.Item.TheVariants.{Kept, Node}
+use Rattle.object_values.specs.declared.facts.Fact.{Fact}
+use Rattle.object_values.specs.declared.records.NodeRecord.{NodeRecord}
 use Rattle.meaning_records.specs.Forms.{ParsesAt, StandsNowhere}
 use Rattle.meaning_records.specs.FormLemmas.{one_item}
 use Rattle.meaning_records.specs.PlaceLemmas.{one_stands}
 use Rattle.meaning_records.specs.Records.{item}
-use Rattle.meaning_records.specs.Tables.{Tables, IsCallOf, IsOutcomeOf, Loads, with_call, kept_outcome}
+use Rattle.meaning_records.specs.Tables.{Tables, IsCallOf, IsOutcomeOf, Loads, with_call, with_fact, kept_outcome}
 use Rattle.kept_contents.proofs.Lemmas.{one_call, one_outcome}
+use Rattle.kept_notes.specs.Facts.{fact_of}
+use Rattle.kept_notes.specs.Loaded.{MayBeLoaded, loaded_record}
+use Rattle.kept_notes.proofs.Lemmas.{loadable_says}
 use Rattle.kept_tables.specs.declared.loaded.Loaded.{Loaded}
+use Rattle.kept_tables.specs.declared.loaded.Loaded.TheVariants.{Noted}
 use Rattle.kept_tables.specs.Holdings.{MayKeep}
 use Rattle.kept_tables.specs.Loading.{LoadsItem, LoadsNothing, TakesInItem}
 
@@ -51,6 +58,22 @@ module _ (old : Tables) (stored : StoredCall) (given : StoredOutcome) where
 
     pub kept : MayKeep old call outcome → Loads old (Kept stored given) (with_call call outcome old)
     kept may = (call, outcome, record { called = called; came = came; formed = may.formed; fits = may.fits; new = may.new }, refl)
+
+module _ (old : Tables) (stored : StoredRecord) where
+  pub not_noted : (MayBeLoaded old.contents stored → ⊥) → (new : Tables) → Loads old (Node stored) new → ⊥
+  not_noted unfit new l = unfit (l.0, l.1)
+
+  pub noted : MayBeLoaded old.contents stored → (given : NodeRecord) (fact : Fact) (new : Tables) → given ≡ loaded_record stored
+      → fact ≡ fact_of old.contents given
+      → new ≡ with_fact (fact_of old.contents given) old → TakesInItem (Node stored) old new (Noted fact)
+  noted may given fact new given_is fact_is new_is =
+      let says = loadable_says old.contents stored may in
+      let same : fact ≡ fact_of old.contents (loaded_record stored) = fact_is ∙ ap (fact_of old.contents) given_is in
+      let is : fact_of old.contents (loaded_record stored) ≡ fact = sym same in
+      record {
+        loads = (fact_of old.contents (loaded_record stored), says, new_is ∙ ap (λ (r : NodeRecord). with_fact (fact_of old.contents r) old) given_is);
+        gives = (fact_of old.contents (loaded_record stored), says.says, ap Noted same);
+      }
 
 pub name_decides : (text : List ℕ) → Decides (is_name text) (IsName text)
 name_decides = word_decides is_name_byte

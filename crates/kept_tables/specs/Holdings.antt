@@ -3,6 +3,8 @@ use Rattle.std.specs.Prelude.{◌≡◌, ◌^◌, ◌+◌, ◌<◌, ◌≤◌, �
 use Rattle.std.specs.List.{All}
 use Rattle.object_values.specs.declared.calls.Call.{Call}
 use Rattle.object_values.specs.declared.calls.Outcome.{Outcome}
+use Rattle.object_values.specs.declared.facts.Fresh.{Fresh}
+use Rattle.object_values.specs.declared.records.NodeRecord.{NodeRecord}
 use Rattle.meaning_calls.specs.Jobs.{IsWellFormed}
 use Rattle.meaning_calls.specs.Outcomes.{OutcomeFits}
 use Rattle.content_store.specs.Bodies.{Bodies}
@@ -10,7 +12,9 @@ use Rattle.object_values.specs.declared.items.Item.{Item}
 use Rattle.object_values.specs.declared.items.Item.TheVariants as item_of
 use Rattle.meaning_records.specs.Records.{item}
 use Rattle.meaning_records.specs.States.{spell_batch}
-use Rattle.meaning_records.specs.Tables.{Tables, Calls, LoadsAll, kept_outcome}
+use Rattle.meaning_records.specs.Tables.{Tables, Calls, LoadsAll, kept_outcome, put_facts}
+use Rattle.kept_records.specs.Records.{RecordStock}
+use Rattle.kept_notes.specs.Facts.{IsRecordIn, facts_of}
 use Rattle.kept_contents.specs.declared.shared.Content.{Content}
 use Rattle.kept_contents.specs.declared.held.HeldCall.{HeldCall}
 use Rattle.kept_contents.specs.declared.head.CallHead.{CallHead}
@@ -22,19 +26,22 @@ use Rattle.kept_contents.specs.Held.{IsHeld}
 use Rattle.kept_contents.specs.Keys.{IsKeyOf}
 use Rattle.kept_contents.specs.Heads.{call_with}
 
--- the tables, the texts and the heads that are held in memory by their numbers there, and room for contents and calls more
+-- the tables, the texts and the heads that are held in memory by their numbers there, the records of nodes by the numbers of contents, and room for
+-- contents and calls more
 pub record Holding : Type 0 where
   pub tables : Tables
   pub texts : Bodies
   pub heads : List CallHead
+  pub records : RecordStock
   pub room : ℕ
   pub call_room : ℕ
 
--- the bytes of a batch, the contents that it adds, the last one first, and the call that it keeps
+-- the bytes of a batch, the contents that it adds, the last one first, the call that it keeps, and the records of nodes that it notes
 pub record Batch : Type 0 where
   pub payload : List ℕ
   pub added : List Content
   pub call : Option (HeldCall × Outcome)
+  pub notes : List NodeRecord
 
 abbrev pub held_calls_of : Option (HeldCall × Outcome) → Calls
 held_calls_of None = []
@@ -56,13 +63,19 @@ abbrev pub MayAdd : Holding → Option (HeldCall × Outcome) → Type 0
 MayAdd kept None = ⊤
 MayAdd kept (Some (held, outcome)) = IsHeld kept.heads kept.texts held × MayKeep kept.tables held.call outcome × (0 < kept.call_room)
 
--- the tables with calls more
+-- the tables with contents more, with what records say over them, and with calls more
+abbrev pub with_contents : Tables → List Content → Tables
+with_contents tables added = record tables { contents = contents_with tables.contents added }
+
+abbrev pub with_notes : Tables → List NodeRecord → Tables
+with_notes tables notes = record tables { records = put_facts (facts_of tables.contents notes) tables.records }
+
 abbrev pub with_calls : Tables → Calls → Tables
-with_calls tables more = record { contents = tables.contents; calls = tables.calls ++ more }
+with_calls tables more = record tables { calls = tables.calls ++ more }
 
 -- the tables with what a batch adds
 abbrev pub with_batch : Tables → Batch → Tables
-with_batch tables batch = record { contents = contents_with tables.contents (reverse batch.added); calls = tables.calls ++ held_calls_of batch.call }
+with_batch tables batch = with_calls (with_notes (with_contents tables (reverse batch.added)) batch.notes) (held_calls_of batch.call)
 
 -- Taking this batch into these tables, which prepared it, makes those of them.
 pub record Commits (kept : Holding) (batch : Batch) (next : Tables) : Type 0 where
@@ -70,22 +83,26 @@ pub record Commits (kept : Holding) (batch : Batch) (next : Tables) : Type 0 whe
   pub room : length batch.added ≤ kept.room
   pub few : length kept.tables.contents + length batch.added ≤ 2 ^ 32
   pub call : MayAdd kept batch.call
+  pub notes : All (IsRecordIn (length (contents_with kept.tables.contents (reverse batch.added)))) batch.notes
+  pub note_room : length batch.notes ≤ kept.records.room
   pub next_is : next ≡ with_batch kept.tables batch
 
 -- the items of the contents that a batch adds
 abbrev pub items_of_contents : List Content → List Item
 items_of_contents added = map item_of.Content (values_of_contents added)
 
--- and the item after them
-abbrev pub items_with : List Content → Item → List Item
-items_with added last = items_of_contents added ++ last ∷ []
+-- and the items after them
+abbrev pub items_with : List Content → List Item → List Item
+items_with added rest = items_of_contents added ++ rest
 
 -- A batch has the bytes of these items, and may be taken in.
-pub record MakesBatch (added : List Content) (last : Item) (call : Option (HeldCall × Outcome)) (kept : Holding) (batch : Batch) : Type 0 where
-  pub fit : All item.fits (items_with added last)
-  pub spelled : batch.payload ≡ spell_batch (items_with added last)
+pub record MakesBatch (added : List Content) (rest : List Item) (call : Option (HeldCall × Outcome)) (notes : List NodeRecord) (kept : Holding)
+    (batch : Batch) : Type 0 where
+  pub fit : All item.fits (items_with added rest)
+  pub spelled : batch.payload ≡ spell_batch (items_with added rest)
   pub added_is : reverse batch.added ≡ added
   pub call_is : batch.call ≡ call
+  pub notes_are : batch.notes ≡ notes
   pub commits : Commits kept batch (with_batch kept.tables batch)
 
 -- A batch of these items is prepared: its bytes are theirs, they may come after the tables, and taking it in makes of the tables what they make.
@@ -99,6 +116,12 @@ pub record Prepares (items : List Item) (kept : Holding) (batch : Batch) : Type 
 -- a batch of some such items
 abbrev pub PreparesSome : (List Item → Type 0) → Holding → Batch → Type 0
 PreparesSome IsBatch kept batch = (items : List Item) × IsBatch items × Prepares items kept batch
+
+-- The records of a batch say, over the contents after it, what is to be noted, with what each node comes to at present. None was checked yet.
+pub record HasNotes (kept : Holding) (fresh : List Fresh) (batch : Batch) : Type 0 where
+  pub say : facts_of (contents_with kept.tables.contents (reverse batch.added)) batch.notes ≡ map (λ (f : Fresh). f.fact) fresh
+  pub present : map (λ (r : NodeRecord). r.present) batch.notes ≡ map (λ (f : Fresh). f.present) fresh
+  pub checked : All (λ (r : NodeRecord). r.checked ≡ None) batch.notes
 
 -- the tables prepared this batch, and have not changed since
 abbrev pub IsPrepared : Holding → Batch → Type 0

@@ -4,10 +4,11 @@ ghost use Rattle.object_values.specs.declared.calls.Call.{Call as CallValue};
 ghost use Rattle.object_values.specs.declared.calls.Outcome.{Outcome as OutcomeValue};
 ghost use Rattle.meaning_records.specs.Numbers.{number_of};
 ghost use Rattle.meaning_records.specs.Tables.{IsText, IsCallOf, IsOutcomeOf, kept_outcome, with_call, with_content};
-ghost use Rattle.kept_tables.specs.Loading.{LoadsItem, LoadsNothing};
+ghost use Rattle.kept_records.specs.Records.{put_records};
+ghost use Rattle.kept_tables.specs.Loading.{LoadsItem, LoadsNothing, RemembersItem};
 ghost use Rattle.kept_contents.specs.Added.{AreHeld, contents_with};
 ghost use Rattle.kept_contents.specs.Held.{IsHeld};
-ghost use Rattle.kept_tables.specs.Holdings.{IsCommitted, IsKept, IsPrepared, MayAdd, MayKeep, held_calls_of, with_calls};
+ghost use Rattle.kept_tables.specs.Holdings.{IsCommitted, IsKept, IsPrepared, MayAdd, MayKeep, held_calls_of, with_calls, with_contents};
 
 use crate::call_table::{CallTable, Entry};
 use crate::calls::is_well_formed;
@@ -16,17 +17,19 @@ use crate::looks::Looks;
 use crate::outcomes::fits;
 use crate::prepared::Prepared;
 use kept_contents::{Content, ContentTable, Heads, HeldCall, SoughtKey, call_of, outcome_of};
+use kept_records::RecordTable;
 use object_values::{Call, Copied, Memory, Outcome, Text, Value};
 use std::alloc::Global;
 use std::marker::Model;
 use store_records::{Item, Recorded, StoredCall, StoredOutcome};
 
-/// What is kept: contents, each once, and the calls with their outcomes. A call is looked up by its key. Contracts see its `Tables`, and what it holds of
-/// them in memory.
+/// What is kept: contents, each once, the calls with their outcomes, and the records of nodes. A call is looked up by its key, a record by its node.
+/// Contracts see its `Tables`, and what it holds of them in memory.
 pub struct Kept {
     pub(crate) contents: ContentTable,
     pub(crate) heads: Heads,
     pub(crate) calls: CallTable,
+    pub(crate) records: RecordTable,
 }
 
 impl Drop for Kept {
@@ -35,30 +38,39 @@ impl Drop for Kept {
             contents,
             heads,
             calls,
+            records,
         } = self;
         drop(contents);
         drop(heads);
         drop(calls);
+        drop(records);
     }
 }
 
 impl Model for Kept {
-    ghost use Rattle.std.specs.Prelude.{All};
+    ghost use Rattle.std.specs.Prelude.{All, length};
+    ghost use Rattle.kept_notes.specs.Facts.{IsRecordIn, facts_of};
     ghost use Rattle.kept_tables.specs.Calls.{IsCallIndex, room_of};
     ghost use Rattle.kept_tables.specs.Holdings.{Holding, IsKeptIn, kept_calls_of};
 
     ghost Value = { Holding };
 
     ghost view = { λ k. record {
-      tables = record { contents = k.contents.contents; calls = kept_calls_of k.calls.entries.items };
+      tables = record {
+        contents = k.contents.contents;
+        calls = kept_calls_of k.calls.entries.items;
+        records = facts_of k.contents.contents k.records.records;
+      };
       texts = k.contents.texts;
       heads = k.heads;
+      records = k.records;
       room = k.contents.room;
       call_room = room_of k.calls;
     } };
 
-    ghost invariant = { λ k. All (IsKeptIn k.heads k.contents.texts) k.calls.entries.items
-        × IsCallIndex k.contents.texts k.calls };
+    ghost invariant = { λ k. (All (IsKeptIn k.heads k.contents.texts) k.calls.entries.items
+        × IsCallIndex k.contents.texts k.calls)
+        × All (IsRecordIn (length k.contents.contents)) k.records.records };
 }
 
 /// A kept call with its outcome.
@@ -72,11 +84,13 @@ impl Kept {
     pub fn new(alloc: Global) -> Self
         ensures contents { result.tables.contents ≡ [] }
         ensures calls { result.tables.calls ≡ [] }
+        ensures records { result.tables.records ≡ [] }
     {
         Kept {
             contents: ContentTable::new(alloc),
             heads: Heads::new(alloc),
             calls: CallTable::new(alloc),
+            records: RecordTable::new(alloc),
         }
     }
 
@@ -92,6 +106,8 @@ impl Kept {
             LoadsItem payload.now at given.1 given.0 self.old.tables self.new.tables)) }
         ensures none { IfOk result (λ read. IfNone read
             (LoadsNothing payload.now at self.old.tables)) }
+        ensures records { IfOk result (λ read. IfSome read (λ given.
+            RemembersItem payload.now at given.1 self.old.records.records self.new.records.records)) }
     {
         let Some((item, end)) = Item::take(alloc, payload, at)? else {
             return Ok(None);
@@ -136,6 +152,13 @@ impl Kept {
         ensures { result ≡ Ok (number_of value.now self.now.tables.contents) }
     {
         Ok(self.contents.number_of_value(value))
+    }
+
+    /// Whether the content of a number is this value. It takes no memory.
+    pub fn is(&self, id: u64, value: &Value) -> bool
+        ensures { IsTrue result ↔ (slice_get self.now.tables.contents id ≡ Some value.now) }
+    {
+        self.contents.is(id, value)
     }
 
     /// The value that is the content of a number. It shares the bytes of texts and of parts.
@@ -187,10 +210,13 @@ impl Kept {
     /// Takes a batch in that these tables prepared. It takes no memory.
     pub fn commit(&mut self, prepared: Prepared)
         requires { IsPrepared self.old prepared }
-        ensures { IsCommitted self.old prepared self.new.tables }
+        ensures tables { IsCommitted self.old prepared self.new.tables }
+        ensures records { self.new.records.records
+            ≡ put_records prepared.notes self.old.records.records }
     {
-        let (added, call) = prepared.into_parts();
+        let (added, call, notes) = prepared.into_parts();
         self.add_contents(added);
+        self.add_notes(notes);
         self.add_call(call);
     }
 
@@ -199,11 +225,10 @@ impl Kept {
         requires held { AreHeld self.old.texts added.items }
         requires room { length added.items ≤ self.old.room }
         requires few { length self.old.tables.contents + length added.items ≤ 2 ^ 32 }
-        ensures contents { self.new.tables.contents
-            ≡ contents_with self.old.tables.contents (reverse added.items) }
-        ensures calls { self.new.tables.calls ≡ self.old.tables.calls }
+        ensures tables { self.new.tables ≡ with_contents self.old.tables (reverse added.items) }
         ensures texts { self.new.texts ≡ self.old.texts }
         ensures heads { self.new.heads ≡ self.old.heads }
+        ensures records { self.new.records ≡ self.old.records }
         ensures room { self.new.call_room ≡ self.old.call_room }
     {
         self.contents.push_all(added);
@@ -212,7 +237,8 @@ impl Kept {
     // Keeps the call of a batch, where it has one.
     fn add_call(&mut self, call: Option<(HeldCall, Outcome)>)
         requires { MayAdd self.old call }
-        ensures { self.new.tables ≡ with_calls self.old.tables (held_calls_of call) }
+        ensures tables { self.new.tables ≡ with_calls self.old.tables (held_calls_of call) }
+        ensures records { self.new.records ≡ self.old.records }
     {
         match call {
             Some((held, outcome)) => self.add_kept(held, outcome),
@@ -225,7 +251,8 @@ impl Kept {
         requires held { IsHeld self.old.heads self.old.texts held }
         requires may { MayKeep self.old.tables held.call outcome }
         requires room { 0 < self.old.call_room }
-        ensures { self.new.tables ≡ with_call held.call outcome self.old.tables }
+        ensures tables { self.new.tables ≡ with_call held.call outcome self.old.tables }
+        ensures records { self.new.records ≡ self.old.records }
     {
         let (key, head) = held.into_parts();
         self.calls
@@ -242,7 +269,8 @@ impl Kept {
     }
 
     pub(crate) fn add_content(&mut self, alloc: Global, value: Value) -> Result<(), Memory>
-        ensures { OnOk result (self.new.tables ≡ with_content value self.old.tables) }
+        ensures tables { OnOk result (self.new.tables ≡ with_content value self.old.tables) }
+        ensures records { self.new.records ≡ self.old.records }
     {
         self.contents.add(alloc, value)
     }
@@ -259,6 +287,7 @@ impl Kept {
         ensures none { IfOk result (λ found. IfNone found
             ((call : CallValue) → ¬ IsCallOf self.old.tables.contents stored call)) }
         ensures same { self.new.tables ≡ self.old.tables }
+        ensures records { self.new.records ≡ self.old.records }
     {
         call_of(alloc, &self.contents, &mut self.heads, stored)
     }
@@ -310,7 +339,9 @@ impl Kept {
     pub(crate) fn keep(&mut self, held: HeldCall, outcome: Outcome) -> Result<(), Memory>
         requires held { IsHeld self.old.heads self.old.texts held }
         requires may { MayKeep self.old.tables held.call outcome }
-        ensures { OnOk result (self.new.tables ≡ with_call held.call outcome self.old.tables) }
+        ensures tables { OnOk result
+            (self.new.tables ≡ with_call held.call outcome self.old.tables) }
+        ensures records { self.new.records ≡ self.old.records }
     {
         self.calls.reserve()?;
         self.add_kept(held, outcome);

@@ -1,5 +1,5 @@
-//! What is kept, in memory: contents, each once, and the calls with their outcomes, where they are well formed and fit. An item of the store file is taken
-//! in as it is read, and a batch is made whole, with all memory that its taking in needs, before it is written.
+//! What is kept, in memory: contents, each once, the calls with their outcomes, where they are well formed and fit, and the records of nodes. An item of the
+//! store file is taken in as it is read, and a batch is made whole, with all memory that its taking in needs, before it is written.
 #![tactic(auto)]
 
 mod call_table;
@@ -15,6 +15,7 @@ mod looks;
 mod outcomes;
 mod prepared;
 mod preparing;
+mod records;
 
 pub use calls::is_well_formed;
 pub use kept::{Kept, KeptCall};

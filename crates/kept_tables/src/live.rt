@@ -76,7 +76,7 @@ impl Kept {
         live.total()
     }
 
-    /// The batches of a rewritten store, with all memory that `renumber` wants.
+    /// The batches of a rewritten store, with all memory that `renumber` wants. They have no record of a node.
     pub fn copy_live(
         &mut self,
         alloc: Global,
@@ -90,6 +90,7 @@ impl Kept {
             (ReadsAsLive graph.now sources.now.texts self.old.tables.calls) }
         ensures may { IfOk result (IsRenumbering self.new) }
         ensures tables { self.new.tables ≡ self.old.tables }
+        ensures records { self.new.records ≡ self.old.records }
     {
         live_batches_read();
         self.come_one_by_one();
@@ -99,12 +100,14 @@ impl Kept {
         Ok(LiveCopy { payloads, added })
     }
 
-    /// Takes over the contents of a rewritten store. It takes no memory.
+    /// Takes over the contents of a rewritten store, which has no record of a node: those that were noted are forgotten. It takes no memory.
     pub fn renumber(&mut self, copy: LiveCopy)
         requires { IsRenumbering self.old copy }
         ensures contents { self.new.tables.contents ≡ copy.contents }
         ensures calls { self.new.tables.calls ≡ self.old.tables.calls }
+        ensures records { self.new.tables.records ≡ [] }
     {
+        self.forget_records();
         self.contents.clear_contents();
         self.contents.push_all(copy.into_added());
     }
@@ -153,6 +156,7 @@ impl Kept {
         ensures room { IfOk result (λ added. length added.items ≤ self.new.room) }
         ensures few { IfOk result (λ added. length added.items ≤ 2 ^ 32) }
         ensures tables { self.new.tables ≡ self.old.tables }
+        ensures records { self.new.records ≡ self.old.records }
     {
         let added = share_copied(alloc, &mut self.contents, texts)?;
         if added.len() > u32::MAX as usize {

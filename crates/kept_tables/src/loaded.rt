@@ -1,5 +1,5 @@
 // What the reading of an item gives.
-use object_values::{Bytes, Text};
+use object_values::{Bytes, Fact, Text};
 
 /// What an item brings. A text is shared with the tables.
 #[derive(Drop)]
@@ -14,4 +14,6 @@ pub enum Loaded {
     Dropped(Bytes),
     /// A kept call.
     CallKept,
+    /// What the record of a node says.
+    Noted(Fact),
 }

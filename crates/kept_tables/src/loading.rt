@@ -1,15 +1,18 @@
 // Items of the file, taken in as they are read.
-ghost use Rattle.std.specs.Prelude.{◌≤◌, ◌↔◌, All, IfNone, IfOk, IfSome, IsTrue, length};
+ghost use Rattle.std.specs.Prelude.{◌≡◌, ◌≤◌, ◌↔◌, [], All, IfNone, IfOk, IfSome, IsTrue, OnSome, length};
 ghost use Rattle.object_values.specs.declared.views.Part.{Part as PartValue};
 ghost use Rattle.meaning_texts.specs.Classes.{IsName};
 ghost use Rattle.meaning_texts.specs.Limits.{body_limit};
 ghost use Rattle.object_values.specs.declared.items.Item.TheVariants as item;
 ghost use Rattle.meaning_records.specs.Tables.{Tables, IsShort, Loads};
-ghost use Rattle.kept_tables.specs.Loading.{TakesInItem};
+ghost use Rattle.kept_notes.specs.Loaded.{loaded_record};
+ghost use Rattle.kept_records.specs.Records.{put_record};
+ghost use Rattle.kept_tables.specs.Loading.{TakesInItem, records_after};
 
 use crate::kept::Kept;
 use crate::loaded::Loaded;
-use object_values::{BODY_LIMIT, Bytes, Copied, Memory, Part, Value};
+use kept_notes::loaded_record;
+use object_values::{BODY_LIMIT, Bytes, Copied, Memory, Part, StoredRecord, Value};
 use odin_bytes::is_name;
 use std::alloc::Global;
 use store_records::{Item, StoredCall, StoredOutcome};
@@ -46,20 +49,33 @@ impl Kept {
             IfSome read (TakesInItem item self.old.tables self.new.tables)) }
         ensures none { IfOk result (λ read. IfNone read
             ((new : Tables) → ¬ Loads self.old.tables item new)) }
+        ensures records { IfOk result (λ read. OnSome read
+            (self.new.records.records ≡ records_after item self.old.records.records)) }
     {
         match item {
-            Item::Graph(text) => Ok(Some(Loaded::Graph(text))),
+            Item::Graph(text) => Ok(Some(self.take_graph(text))),
             Item::Content(value) => self.take_content(alloc, value),
             Item::Put(name, number) => self.take_put(alloc, name, number),
             Item::Dropped(name) => Ok(self.take_dropped(name)),
             Item::Kept(call, outcome) => self.take_call(alloc, call, outcome),
+            Item::Node(record) => self.take_node(alloc, record),
         }
+    }
+
+    // What was noted of nodes is forgotten.
+    fn take_graph(&mut self, text: Bytes) -> Loaded
+        ensures taken { TakesInItem (item.Graph text) self.old.tables self.new.tables result }
+        ensures records { self.new.records.records ≡ [] }
+    {
+        self.forget_records();
+        Loaded::Graph(text)
     }
 
     fn take_content(&mut self, alloc: Global, value: Value) -> Result<Option<Loaded>, Memory>
         ensures some { IfOk result (λ read. IfSome read
             (TakesInItem (item.Content value) self.old.tables self.new.tables)) }
         ensures none { IfOk result (λ read. IfNone read (¬ IsShort value)) }
+        ensures records { self.new.records ≡ self.old.records }
     {
         if !is_short(&value) {
             return Ok(None);
@@ -108,6 +124,7 @@ impl Kept {
             (TakesInItem (item.Kept stored given) self.old.tables self.new.tables)) }
         ensures none { IfOk result (λ read. IfNone read
             ((new : Tables) → ¬ Loads self.old.tables (item.Kept stored given) new)) }
+        ensures records { self.new.records ≡ self.old.records }
     {
         let Some(held) = self.call_of(alloc, stored)? else {
             return Ok(None);
@@ -120,5 +137,22 @@ impl Kept {
         }
         self.keep(held, outcome)?;
         Ok(Some(Loaded::CallKept))
+    }
+
+    fn take_node(&mut self, alloc: Global, stored: StoredRecord) -> Result<Option<Loaded>, Memory>
+        ensures some { IfOk result (λ read. IfSome read
+            (TakesInItem (item.Node stored) self.old.tables self.new.tables)) }
+        ensures none { IfOk result (λ read. IfNone read
+            ((new : Tables) → ¬ Loads self.old.tables (item.Node stored) new)) }
+        ensures records { IfOk result (λ read. OnSome read (self.new.records.records
+            ≡ put_record (loaded_record stored) self.old.records.records)) }
+    {
+        if !self.may_note(&stored) {
+            return Ok(None);
+        }
+        let noted = loaded_record(alloc, stored)?;
+        let fact = self.fact_of(alloc, &noted)?;
+        self.note(noted)?;
+        Ok(Some(Loaded::Noted(fact)))
     }
 }

@@ -1,10 +1,11 @@
 // Tables that are lent to be looked at.
-ghost use Rattle.std.specs.Prelude.{◌≡◌, ◌+◌, ◌<◌, IfOk, Some, length, slice_get};
+ghost use Rattle.std.specs.Prelude.{◌≡◌, ◌↔◌, ◌+◌, ◌<◌, IfOk, IsTrue, Some, length, option_map, slice_get};
+ghost use Rattle.kept_records.specs.Records.{record_of};
 ghost use Rattle.meaning_records.specs.Numbers.{number_of};
 ghost use Rattle.meaning_records.specs.Tables.{kept_outcome};
 
 use crate::kept::Kept;
-use object_values::{Call, Memory, Outcome, Value};
+use object_values::{Call, Memory, Node, NodeRecord, Outcome, Value};
 use odin_outside::Steps;
 use std::alloc::Global;
 use std::sync::ledger::Ledger;
@@ -15,7 +16,7 @@ pub struct Looks<'a> {
     pub(crate) kept: &'a Kept,
 }
 
-impl Looks<'_> {
+impl<'a> Looks<'a> {
     /// The outcome that is kept of a call, by one step.
     pub fn outcome<L: Ledger>(
         &self,
@@ -36,6 +37,22 @@ impl Looks<'_> {
         ensures { result ≡ Ok (number_of value.now self.now.kept.now.tables.contents) }
     {
         self.kept.id_of(value)
+    }
+
+    /// The record of a node. It takes no memory.
+    pub fn get(&self, node: &Node) -> Option<&'a NodeRecord>
+        ensures { option_map (λ r. r.now) result
+            ≡ record_of node.now self.now.kept.now.records.records }
+    {
+        self.kept.get(node)
+    }
+
+    /// Whether the content of a number is this value. It takes no memory.
+    pub fn is(&self, id: u64, value: &Value) -> bool
+        ensures { IsTrue result
+            ↔ (slice_get self.now.kept.now.tables.contents id ≡ Some value.now) }
+    {
+        self.kept.is(id, value)
     }
 
     /// The value that is the content of a number.

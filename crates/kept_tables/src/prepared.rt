@@ -3,7 +3,7 @@ ghost use Rattle.std.specs.Prelude.{◌≡◌};
 
 use framed_payloads::FramedPayload;
 use kept_contents::{Content, HeldCall};
-use object_values::Outcome;
+use object_values::{NodeRecord, Outcome};
 use std::marker::Model;
 
 /// The bytes of a batch, with all that its taking in wants of memory.
@@ -12,6 +12,8 @@ pub struct Prepared {
     // the contents that are added, the last one first
     pub(crate) added: Vec<Content>,
     pub(crate) call: Option<(HeldCall, Outcome)>,
+    // the records that are noted, one after another
+    pub(crate) notes: Vec<NodeRecord>,
 }
 
 impl Drop for Prepared {
@@ -20,10 +22,12 @@ impl Drop for Prepared {
             payload,
             added,
             call,
+            notes,
         } = self;
         drop(payload);
         drop(added);
         drop(call);
+        drop(notes);
     }
 }
 
@@ -32,7 +36,12 @@ impl Model for Prepared {
 
     ghost Value = { Batch };
 
-    ghost view = { λ p. record { payload = p.payload; added = p.added.items; call = p.call } };
+    ghost view = { λ p. record {
+      payload = p.payload;
+      added = p.added.items;
+      call = p.call;
+      notes = p.notes.items;
+    } };
 }
 
 impl Prepared {
@@ -50,17 +59,19 @@ impl Prepared {
         &self.payload
     }
 
-    // The contents, the last one first, and the call.
-    pub(crate) fn into_parts(self) -> (Vec<Content>, Option<(HeldCall, Outcome)>)
+    // The contents, the last one first, the call, and the records of nodes.
+    pub(crate) fn into_parts(self) -> (Vec<Content>, Option<(HeldCall, Outcome)>, Vec<NodeRecord>)
         ensures added { result.0.items ≡ self.added }
         ensures call { result.1 ≡ self.call }
+        ensures notes { result.2.items ≡ self.notes }
     {
         let Prepared {
             payload,
             added,
             call,
+            notes,
         } = self;
         drop(payload);
-        (added, call)
+        (added, call, notes)
     }
 }

@@ -21,6 +21,7 @@ use Rattle.odin_journal.specs.declared.fault.JournalFault.{JournalFault}
 use Rattle.odin_journal.specs.declared.fault.JournalFault.TheVariants as fault
 use Rattle.odin_store.specs.declared.store.Store.{Store}
 use Rattle.odin_store.specs.Held.{Held}
+use Rattle.odin_store.specs.Offsets.{IsNotFor}
 use Rattle.odin_store.specs.Opening.{OpensQuietStore, graph_record}
 use Rattle.odin_engine.specs.Opened as engine
 use Rattle.load_session.specs.declared.session.Session.{Session}
@@ -66,6 +67,12 @@ opened_new session text graph old text_is empty read opens new same =
 empty_stands : Stands [] nothing
 empty_stands = record { records = []; stored = inl (record { within = omega arith; blank = inl (omega arith) }, refl); read = refl }
 
+-- it is a store's for any graph
+empty_is_ours : (text : Text) (at : ℕ) → StandsForOne → IsNotFor text [] at → ⊥
+empty_is_ours text at one (inl broken) = one.none [] at nothing (inl broken) empty_stands
+empty_is_ours text at one (inr (inl bad)) = one.none [] at nothing (inr bad.0) empty_stands
+empty_is_ours text at one (inr (inr unfit)) = let some = unfit.store.written.some in absurd (omega arith)
+
 -- its size
 pub none_written : (old : LoadFile) → old ≡ empty_disk → length (image_of old.file) ≡ 0
 none_written old empty = subst (λ (f : LoadFile). length (image_of f.file) ≡ 0) (sym empty) refl
@@ -80,7 +87,7 @@ fails_empty text after fault.Disk one short fails works cause past = elim (past 
   | inl bytes ↦ let long = record_long text in absurd (omega (arith, works.0, bytes))
   | inr calls ↦ absurd (omega (arith, works.1, calls))
 ]
-fails_empty text after (fault.NotOurs at) one short fails works cause past = absurd (one.none [] at nothing (fails quiet).1 empty_stands)
+fails_empty text after (fault.NotOurs at) one short fails works cause past = absurd (empty_is_ours text at one (fails quiet).1)
 fails_empty text after (fault.Full end count) one short fails works cause past = let some = (fails quiet).1.rests.store.written.some in absurd (omega arith)
 fails_empty text after fault.Memory one short fails works cause past = tt
 

@@ -12,8 +12,8 @@ use Rattle.odin_store.specs.Held as held
 use Rattle.odin_store.specs.OnDisk.{state_in}
 use Rattle.odin_store.specs.Opening.{graph_record, IsOpening, OpensStore}
 use Rattle.odin_store.specs.Written.{written_in, WorksFor}
-use Rattle.odin_store.specs.Going.{Performs, HasPartialBatches, StopsPerforming}
-use Rattle.odin_store.proofs.Lemmas.{goes_none, goes_on, stops_behind, works_after}
+use Rattle.odin_store.specs.Going.{AreBatches, Performs, HasPartialBatches, StopsPerforming}
+use Rattle.odin_store.proofs.Lemmas.{first_noted, goes_none, goes_on, stops_behind, works_after}
 use Rattle.kept_derive.specs.Runs.{keeps_of}
 use Rattle.load_session.specs.Graph.{graph_text}
 use Rattle.load_session.specs.Room.{LoadFile, most_bytes, most_calls, empty_disk, told_of_disk, PassesRoom}
@@ -67,7 +67,7 @@ passes new bytes calls works (inl more) = inl (omega (arith, works.0, more))
 passes new bytes calls works (inr more) = inr (omega (arith, works.1, more))
 
 pub passes_with : (g : Graph) (start : Moment) (steps : List LoadStep) → LoadIsOpened g start → (stops : StopsAtStep g start steps fault.Disk)
-    → PassesWith (state_in start.store (Some graph_text)) (changes_of g start stops.served stops.answers stops.mid stops.serves ++ failed_changes g stops.step stops.mid stops.new stops.fails)
+    → PassesWith (state_in start.store (Some graph_text) []) (changes_of g start stops.served stops.answers stops.mid stops.serves ++ failed_changes g stops.step stops.mid stops.new stops.fails)
 passes_with g start steps opened stops =
     let made = changes_of g start stops.served stops.answers stops.mid stops.serves in
     let last = failed_changes g stops.step stops.mid stops.new stops.fails in
@@ -75,7 +75,8 @@ passes_with g start steps opened stops =
     let all : StopsPerforming told_of_disk (made ++ last) start.store start.disk stops.new.disk =
     stops_behind told_of_disk made last start.store stops.mid.store start.disk stops.mid.disk stops.new.disk
     (serves_goes g start stops.served stops.answers stops.mid stops.serves) (step_begins g stops.step stops.mid stops.new stops.fails) in
-    let begun : HasPartialBatches told_of_disk (made ++ last) start.store start.disk stops.new.disk (Some graph_text) = all.begun (opens.records ++ opens.opening) (Some graph_text) opens.on in
+    let begun : HasPartialBatches told_of_disk (made ++ last) start.store start.disk stops.new.disk (Some graph_text) opens.on.noted = all.begun (opens.records ++ opens.opening) (Some graph_text) opens.on in
+    let none : opens.on.noted ≡ [] = first_noted graph_text (told_of_disk empty_disk) (told_of_disk start.disk) start.store opened.read.short opens (opening_is start.store (told_of_disk start.disk) opens).1 in
     let more = begun.payloads ++ begun.begun in
     record {
       made = begun.made;
@@ -83,7 +84,7 @@ passes_with g start steps opened stops =
       whole = begun.whole;
       payloads = begun.payloads;
       last = begun.last;
-      are = begun.are;
+      are = subst (λ l. AreBatches (state_in start.store (Some graph_text) l) begun.made begun.payloads begun.last) none begun.are;
       begun = begun.begun;
       next = begun.next;
       over = passes stops.new.disk (66 + written_in (graph_record graph_text ∷ more)) (16 + 4 * length (graph_record graph_text ∷ more))

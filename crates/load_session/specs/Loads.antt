@@ -72,7 +72,7 @@ pub record LoadPasses (units : ℕ) : Type 0 where
   pub start : Moment
   pub opened : LoadIsOpened graph start
   pub stops : StopsAtStep graph start (load_steps units) fault.Disk
-  pub past : PassesWith (state_in start.store (Some graph_text))
+  pub past : PassesWith (state_in start.store (Some graph_text) [])
       (changes_of graph start stops.served stops.answers stops.mid stops.serves ++ failed_changes graph stops.step stops.mid stops.new stops.fails)
 
 -- Want of memory says nothing, and the file is always the store's own.

@@ -2,15 +2,20 @@ mod Fronts
 mod RecordFronts
 mod Payloads
 mod Loading
+mod Facts
+mod Noting
+mod Roles
 mod Takes
 mod Images
 mod Refusals
 mod Alone
 mod Stores
 mod Writing
+mod NotesWriting
 mod LiveContents
 mod LiveReads
 mod LiveSizes
 mod NewTexts
+mod NewNotes
 mod NumberLemmas
 pub mod Lemmas

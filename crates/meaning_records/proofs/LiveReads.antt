@@ -16,12 +16,12 @@ use Rattle.object_values.specs.declared.calls.Call.{Call}
 use Rattle.object_values.specs.declared.calls.Outcome.{Outcome}
 use Rattle.object_values.specs.Texts.{Text, Texts, no_texts}
 use Rattle.object_values.specs.declared.items.Item.{Item}
-use Rattle.object_values.specs.declared.items.Item.TheVariants.{Graph, Content, Put, Dropped, Kept}
+use Rattle.object_values.specs.declared.items.Item.TheVariants.{Graph, Content, Put, Dropped, Kept, Node}
 use Rattle.meaning_records.specs.Records.{item}
 use Rattle.meaning_records.specs.Tables.{Tables, Calls, Loads}
 use Rattle.meaning_records.specs.Batches.{contents_of, graph_batch, IsPutBatch, IsCallBatch}
 use Rattle.meaning_records.specs.States.{State, nothing, spell_batch, TakesAll, Reads, ReadsAll}
-use Rattle.meaning_records.specs.Laws.{ItemsReadAs}
+use Rattle.meaning_records.specs.Laws.{noted_in, none_noted, ItemsReadAs}
 use Rattle.meaning_records.specs.Live.{content_in, contents_after, AreBatchesOf, IsSourceBatch, IsKeptBatch, AreLive, MayBeSources, ComeAfter, live_state}
 use Rattle.meaning_records.proofs.Writing.{graph_reads, put_reads, call_reads}
 
@@ -33,6 +33,7 @@ one_content old (Content value) new loads = ap (λ (t : Tables). t.contents) loa
 one_content old (Put name number) new loads = ap (λ (t : Tables). t.contents) loads.2 ∙ sym (append-nil old.contents)
 one_content old (Dropped name) new loads = ap (λ (t : Tables). t.contents) loads.1 ∙ sym (append-nil old.contents)
 one_content old (Kept stored given) new loads = ap (λ (t : Tables). t.contents) loads.3 ∙ sym (append-nil old.contents)
+one_content old (Node stored) new loads = ap (λ (t : Tables). t.contents) loads.2 ∙ sym (append-nil old.contents)
 
 taken_contents : (old : State) (items : List Item) (new : State) → TakesAll old items new → new.tables.contents ≡ contents_after old.tables.contents items
 taken_contents old [] new taken = ap (λ (s : State). s.tables.contents) taken ∙ sym (append-nil old.tables.contents)
@@ -43,14 +44,14 @@ taken_contents old (it ∷ items) new taken =
 
 -- ---- one batch
 
-same_state : (new : State) (contents : List Value) (calls : Calls) (sources : Texts) (graph : Option Text) → new.tables.contents ≡ contents → new.tables.calls ≡ calls → new.sources ≡ sources → new.graph ≡ graph
-    → new ≡ record { tables = record { contents = contents; calls = calls }; sources = sources; graph = graph }
-same_state new contents calls sources graph a b d e = λ i. record { tables = record { contents = a i; calls = b i }; sources = d i; graph = e i }
+same_state : (new : State) (contents : List Value) (calls : Calls) (sources : Texts) (graph : Option Text) → new.tables.contents ≡ contents → new.tables.calls ≡ calls → new.sources ≡ sources → new.graph ≡ graph → noted_in new ≡ none_noted
+    → new ≡ record { tables = record { contents = contents; calls = calls; records = [] }; sources = sources; graph = graph; noted = [] }
+same_state new contents calls sources graph a b d e n = λ i. record { tables = record { contents = a i; calls = b i; records = (n i).records }; sources = d i; graph = e i; noted = (n i).all }
 
-batch_read : (old : State) (items : List Item) (calls : Calls) (sources : Texts) (graph : Option Text) → items ≢ [] → All item.fits items → ItemsReadAs old items calls sources graph
-    → Reads old (spell_batch items) (record { tables = record { contents = contents_after old.tables.contents items; calls = calls }; sources = sources; graph = graph })
+batch_read : (old : State) (items : List Item) (calls : Calls) (sources : Texts) (graph : Option Text) → items ≢ [] → All item.fits items → ItemsReadAs old items calls sources graph none_noted
+    → Reads old (spell_batch items) (record { tables = record { contents = contents_after old.tables.contents items; calls = calls; records = [] }; sources = sources; graph = graph; noted = [] })
 batch_read old items calls sources graph some fit reads =
-    let same = same_state reads.new (contents_after old.tables.contents items) calls sources graph (taken_contents old items reads.new reads.taken) reads.calls_are reads.sources_are reads.graph_is in
+    let same = same_state reads.new (contents_after old.tables.contents items) calls sources graph (taken_contents old items reads.new reads.taken) reads.calls_are reads.sources_are reads.graph_is reads.noted_is in
     record { items = items; some = some; fit = fit; spelled = refl; taken = subst (λ (s : State). TakesAll old items s) same reads.taken }
 
 ends_in_one : (items : List Item) (last : Item) → items ++ last ∷ [] ≢ []

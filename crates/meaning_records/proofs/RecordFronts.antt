@@ -1,5 +1,6 @@
 -- Whether a list begins with a record, decided for each record; and the items that a payload is.
 use Rattle.std.proofs.Common.{◌≡◌, ℕ, zero, suc, ◌<◌, ◌^◌, List, [], ◌∷◌, ◌++◌, length, Option, refl, sym, ap, subst, ◌∙◌, append-nil}
+use Rattle.object_values.specs.declared.messages.Message.{Message}
 use Rattle.object_values.specs.declared.messages.Status.{Status}
 use Rattle.object_values.specs.declared.messages.Status.TheVariants.{Ok, Warning, Error, Abort}
 use Rattle.object_values.specs.declared.nodes.ParamValue.{ParamValue}
@@ -14,10 +15,12 @@ use Rattle.object_values.specs.declared.items.StoredPart.{StoredPart}
 use Rattle.object_values.specs.declared.items.StoredCall.{StoredCall}
 use Rattle.object_values.specs.declared.items.StoredOutput.{StoredOutput}
 use Rattle.object_values.specs.declared.items.StoredOutcome.{StoredOutcome}
-use Rattle.object_values.specs.declared.items.Item.TheVariants.{Graph, Content, Put, Dropped, Kept}
+use Rattle.object_values.specs.declared.items.StoredDep.{StoredDep}
+use Rattle.object_values.specs.declared.items.StoredRecord.{StoredRecord}
+use Rattle.object_values.specs.declared.items.Item.TheVariants.{Graph, Content, Put, Dropped, Kept, Node as Noted}
 use Rattle.meaning_records.specs.Forms.{bytes, number, both, list_of, option_of}
-use Rattle.meaning_records.specs.FormLemmas.{one_bytes, one_number, one_list, one_pair, one_step, one_node, one_part, one_value, one_stored_part, one_call, one_status, one_line, one_output}
-use Rattle.meaning_records.specs.Records.{status, pair, step, node, part, value, stored_part, call, line, output, outcome, content, item}
+use Rattle.meaning_records.specs.FormLemmas.{one_bytes, one_number, one_list, one_option, one_pair, one_step, one_node, one_part, one_value, one_stored_part, one_call, one_status, one_line, one_output, one_message, one_dep}
+use Rattle.meaning_records.specs.Records.{status, pair, step, node, part, value, stored_part, call, line, output, outcome, message, dep, node_record, content, item}
 use Rattle.meaning_records.proofs.Fronts.{Begins, IsDecided, BeginsWithNone, begins_not, tagged, number_decided, bytes_decided, both_forms_decided, parts_decided, list_decided, option_decided}
 
 -- ---- statuses
@@ -155,6 +158,59 @@ outcome_decided =
     (both_forms_decided status (both (list_of line) (list_of output)) one_status status_decided
     (both_forms_decided (list_of line) (list_of output) (one_list line one_line) (list_decided line one_line line_decided) (list_decided output one_output output_decided)))
 
+-- ---- records of nodes
+
+message_decided : IsDecided message
+message_decided =
+    parts_decided (λ (m : Message). (m.label, (m.level, m.text))) (both bytes (both status bytes))
+    (λ (t : List ℕ × (Status × List ℕ)). record { label = t.0; level = t.1.0; text = t.1.1 }) (λ t. refl)
+    (both_forms_decided bytes (both status bytes) one_bytes bytes_decided (both_forms_decided status bytes one_status status_decided bytes_decided))
+
+dep_decided : IsDecided dep
+dep_decided =
+    parts_decided (λ (d : StoredDep). (d.node, d.content)) (both node (option_of number))
+    (λ (t : Node × Option ℕ). record { node = t.0; content = t.1 }) (λ t. refl)
+    (both_forms_decided node (option_of number) one_node node_decided (option_decided number number_decided))
+
+messages_decided : IsDecided (list_of message)
+messages_decided = list_decided message one_message message_decided
+
+-- the present part of a record
+present_decided : IsDecided (both status (both (list_of message) number))
+present_decided =
+    both_forms_decided status (both (list_of message) number) one_status status_decided
+    (both_forms_decided (list_of message) number (one_list message one_message) messages_decided number_decided)
+
+-- what stands after a record's deps
+tail_of_record_decided : IsDecided (both number (both (option_of number) (both status (both (list_of message) (both status (both (list_of message) number))))))
+tail_of_record_decided =
+    both_forms_decided number (both (option_of number) (both status (both (list_of message) (both status (both (list_of message) number))))) one_number number_decided
+    (both_forms_decided (option_of number) (both status (both (list_of message) (both status (both (list_of message) number)))) (one_option number one_number)
+    (option_decided number number_decided)
+    (both_forms_decided status (both (list_of message) (both status (both (list_of message) number))) one_status status_decided
+    (both_forms_decided (list_of message) (both status (both (list_of message) number)) (one_list message one_message) messages_decided present_decided)))
+
+node_record_decided : IsDecided node_record
+node_record_decided =
+    parts_decided (λ (r : StoredRecord). (r.node, (r.deps, (r.reached, (r.value, (r.own_status, (r.own_messages, (r.status, (r.messages, r.height)))))))))
+    (both node (both (list_of dep) (both number (both (option_of number)
+    (both status (both (list_of message) (both status (both (list_of message) number))))))))
+    (λ (t : Node × (List StoredDep × (ℕ × (Option ℕ × (Status × (List Message × (Status × (List Message × ℕ)))))))). record {
+      node = t.0;
+      deps = t.1.0;
+      reached = t.1.1.0;
+      value = t.1.1.1.0;
+      own_status = t.1.1.1.1.0;
+      own_messages = t.1.1.1.1.1.0;
+      status = t.1.1.1.1.1.1.0;
+      messages = t.1.1.1.1.1.1.1.0;
+      height = t.1.1.1.1.1.1.1.1;
+    }) (λ t. refl)
+    (both_forms_decided node (both (list_of dep) (both number (both (option_of number) (both status (both (list_of message) (both status (both (list_of message) number)))))))
+    one_node node_decided
+    (both_forms_decided (list_of dep) (both number (both (option_of number) (both status (both (list_of message) (both status (both (list_of message) number))))))
+    (one_list dep one_dep) (list_decided dep one_dep dep_decided) tail_of_record_decided))
+
 -- ---- items
 
 -- all of the bytes are the value
@@ -194,7 +250,7 @@ pub no_item_zero : (list : List ℕ) → BeginsWithNone item (0 ∷ list)
 no_item_zero list (Graph text) rest fits is = let n : ⊥ = cc in n
 no_item_zero list _ rest fits is = let n : ⊥ = cc in n
 
-pub no_item_from : (k : ℕ) (list : List ℕ) → BeginsWithNone item (suc (suc (suc (suc (suc (suc k))))) ∷ list)
+pub no_item_from : (k : ℕ) (list : List ℕ) → BeginsWithNone item (suc (suc (suc (suc (suc (suc (suc k)))))) ∷ list)
 no_item_from k list (Graph text) rest fits is = let n : ⊥ = cc in n
 no_item_from k list _ rest fits is = let n : ⊥ = cc in n
 
@@ -218,6 +274,10 @@ no_kept : (list : List ℕ) → ¬ Begins (both call outcome) list → BeginsWit
 no_kept list none (Kept c o) rest fits is = none (record { thing = (c, o); rest = rest; fits = fits; is = cc })
 no_kept list none _ rest fits is = let n : ⊥ = cc in n
 
+no_noted : (list : List ℕ) → ¬ Begins node_record list → BeginsWithNone item (6 ∷ list)
+no_noted list none (Noted r) rest fits is = none (record { thing = r; rest = rest; fits = fits; is = cc })
+no_noted list none _ rest fits is = let n : ⊥ = cc in n
+
 pub item_decided : IsDecided item
 item_decided [] = begins_not item [] no_item
 item_decided (zero ∷ list) = begins_not item (0 ∷ list) (no_item_zero list)
@@ -228,4 +288,5 @@ item_decided (suc (suc (suc zero)) ∷ list) =
 item_decided (suc (suc (suc (suc zero))) ∷ list) = tagged item bytes (λ (name : List ℕ). Dropped name) 4 list (λ a. refl) (λ a fits. fits) (no_drop list) (bytes_decided list)
 item_decided (suc (suc (suc (suc (suc zero)))) ∷ list) =
     tagged item (both call outcome) (λ (p : StoredCall × StoredOutcome). Kept p.0 p.1) 5 list (λ a. refl) (λ a fits. fits) (no_kept list) (both_forms_decided call outcome one_call call_decided outcome_decided list)
-item_decided (suc (suc (suc (suc (suc (suc k))))) ∷ list) = begins_not item (suc (suc (suc (suc (suc (suc k))))) ∷ list) (no_item_from k list)
+item_decided (suc (suc (suc (suc (suc (suc zero))))) ∷ list) = tagged item node_record (λ (r : StoredRecord). Noted r) 6 list (λ a. refl) (λ a fits. fits) (no_noted list) (node_record_decided list)
+item_decided (suc (suc (suc (suc (suc (suc (suc k)))))) ∷ list) = begins_not item (suc (suc (suc (suc (suc (suc (suc k)))))) ∷ list) (no_item_from k list)

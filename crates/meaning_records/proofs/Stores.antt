@@ -77,12 +77,12 @@ graph_reads = record {
   some = λ e. cc;
   fit = All-cons item.fits (Graph (codes "type c simple;")) [] (omega arith) (All-nil item.fits);
   spelled = refl;
-  taken = (graph_kept, record { loads = refl; edits = refl; graph = refl }, refl);
+  taken = (graph_kept, record { loads = refl; edits = refl; graph = refl; ground = tt; noted = refl }, refl);
 }
 
 -- the content stands, and the source isn't put yet
 abbrev content_kept : State
-content_kept = record { tables = source_kept.tables; sources = no_texts; graph = graph_kept.graph }
+content_kept = record { tables = source_kept.tables; sources = no_texts; graph = graph_kept.graph; noted = [] }
 
 pub source_reads : Reads graph_kept (spell_batch source_items) source_kept
 source_reads = record {
@@ -92,8 +92,8 @@ source_reads = record {
   spelled = refl;
   taken = (
     content_kept,
-    record { loads = (omega arith, refl); edits = refl; graph = refl },
-    (source_kept, record { loads = ((word_decides is_name_byte (codes "a.c")).0 refl, ([], refl), refl); edits = ([], refl, refl); graph = refl }, refl),
+    record { loads = (omega arith, refl); edits = refl; graph = refl; ground = tt; noted = refl },
+    (source_kept, record { loads = ((word_decides is_name_byte (codes "a.c")).0 refl, ([], refl), refl); edits = ([], refl, refl); graph = refl; ground = tt; noted = refl }, refl),
   );
 }
 

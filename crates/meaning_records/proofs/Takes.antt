@@ -2,6 +2,7 @@
 use Rattle.std.proofs.Common.{◌≡◌, ◌≢◌, ◌⊎◌, inl, inr, ℕ, Bool, true, false, List, [], ◌∷◌, ◌++◌, Some, refl, sym, ap, subst, ◌∙◌, is_some}
 use Rattle.std.specs.Prelude.{IsNone, IsSome}
 use Rattle.std.specs.FinMap as map
+use Rattle.object_values.specs.declared.facts.Fact.{Fact}
 use Rattle.object_values.specs.declared.views.Value.{Value}
 use Rattle.object_values.specs.declared.calls.Call.{Call}
 use Rattle.object_values.specs.declared.calls.Outcome.{Outcome}
@@ -15,12 +16,14 @@ use Rattle.meaning_calls.specs.Tests.{is_well_formed, outcome_fits}
 use Rattle.meaning_calls.proofs.Lemmas.{well_formed_decides, fits_decides}
 use Rattle.object_values.specs.declared.items.StoredCall.{StoredCall}
 use Rattle.object_values.specs.declared.items.StoredOutcome.{StoredOutcome}
+use Rattle.object_values.specs.declared.items.StoredRecord.{StoredRecord}
 use Rattle.object_values.specs.declared.items.Item.{Item}
-use Rattle.object_values.specs.declared.items.Item.TheVariants.{Graph, Content, Put, Dropped, Kept}
-use Rattle.meaning_records.specs.Tables.{Tables, IsShort, kept_outcome, MayBeKept, with_content, with_call, Loads}
-use Rattle.meaning_records.specs.States.{State, ItemEditsSources, TakesOne, TakesAll, Reads, ReadsAll}
+use Rattle.object_values.specs.declared.items.Item.TheVariants.{Graph, Content, Put, Dropped, Kept, Node}
+use Rattle.meaning_records.specs.Tables.{Tables, IsShort, kept_outcome, MayBeKept, with_content, with_call, with_fact, without_records, Loads}
+use Rattle.meaning_records.specs.States.{State, ItemEditsSources, ItemNotes, TakesOne, TakesAll, Reads, ReadsAll}
 use Rattle.meaning_records.proofs.Fronts.{decided, both_decided}
 use Rattle.meaning_records.proofs.Loading.{TextOf, text_decided, short_decided, one_text, CallOf, call_decided, one_call, OutcomeOf, outcome_decided, one_outcome}
+use Rattle.meaning_records.proofs.Facts.{NotedBy, noted_decided, one_fact}
 use Rattle.meaning_records.proofs.Payloads.{BatchOf, batch_decided, one_batch}
 
 -- ---- tests
@@ -76,32 +79,40 @@ TakenBy old it = (new : State) × TakesOne old it new
 -- a source that is put
 put_by : (old : State) (name : List ℕ) (number : ℕ) → Dec (IsName name × TextOf old.tables.contents number) → Dec (TakenBy old (Put name number))
 put_by old name number (yes h) = yes (
-  record { tables = old.tables; sources = map.insert old.sources name h.1.0; graph = old.graph },
-  record { loads = (h.0, (h.1.0, h.1.1), refl); edits = (h.1.0, h.1.1, refl); graph = refl },
+  record { tables = old.tables; sources = map.insert old.sources name h.1.0; graph = old.graph; noted = old.noted },
+  record { loads = (h.0, (h.1.0, h.1.1), refl); edits = (h.1.0, h.1.1, refl); graph = refl; ground = tt; noted = refl },
 )
 put_by old name number (no none) = no (λ t. none (t.1.loads.0, (t.1.edits.0, t.1.edits.1)))
 
 drop_by : (old : State) (name : List ℕ) → Dec (IsName name × IsSome (map.get old.sources name)) → Dec (TakenBy old (Dropped name))
 drop_by old name (yes h) = yes (
-  record { tables = old.tables; sources = map.remove old.sources name; graph = old.graph },
-  record { loads = (h.0, refl); edits = (h.1, refl); graph = refl },
+  record { tables = old.tables; sources = map.remove old.sources name; graph = old.graph; noted = old.noted },
+  record { loads = (h.0, refl); edits = (h.1, refl); graph = refl; ground = tt; noted = refl },
 )
 drop_by old name (no none) = no (λ t. none (t.1.loads.0, t.1.edits.0))
 
 content_by : (old : State) (value : Value) → Dec (IsShort value) → Dec (TakenBy old (Content value))
-content_by old value (yes short) = yes (record { tables = with_content value old.tables; sources = old.sources; graph = old.graph }, record { loads = (short, refl); edits = refl; graph = refl })
+content_by old value (yes short) = yes (record { tables = with_content value old.tables; sources = old.sources; graph = old.graph; noted = old.noted }, record { loads = (short, refl); edits = refl; graph = refl; ground = tt; noted = refl })
 content_by old value (no none) = no (λ t. none t.1.loads.0)
 
 keep_by : (old : State) (stored : StoredCall) (given : StoredOutcome) → Dec (KeptBy old.tables stored given) → Dec (TakenBy old (Kept stored given))
-keep_by old stored given (yes k) = yes (record { tables = with_call k.0 k.1 old.tables; sources = old.sources; graph = old.graph }, record { loads = (k.0, k.1, k.2, refl); edits = refl; graph = refl })
+keep_by old stored given (yes k) = yes (record { tables = with_call k.0 k.1 old.tables; sources = old.sources; graph = old.graph; noted = old.noted }, record { loads = (k.0, k.1, k.2, refl); edits = refl; graph = refl; ground = tt; noted = refl })
 keep_by old stored given (no none) = no (λ t. none (t.1.loads.0, t.1.loads.1, t.1.loads.2))
 
+note_by : (old : State) (stored : StoredRecord) → Dec (IsSome old.graph × NotedBy old.tables.contents stored) → Dec (TakenBy old (Node stored))
+note_by old stored (yes h) = yes (
+  record { tables = with_fact h.1.0 old.tables; sources = old.sources; graph = old.graph; noted = old.noted ++ h.1.0 ∷ [] },
+  record { loads = (h.1.0, h.1.1, refl); edits = refl; graph = refl; ground = h.0; noted = (h.1.0, h.1.1.says, refl) },
+)
+note_by old stored (no none) = no (λ t. none (t.1.ground, (t.1.loads.0, t.1.loads.1)))
+
 pub item_taken : (old : State) (it : Item) → Dec (TakenBy old it)
-item_taken old (Graph text) = yes (record { tables = old.tables; sources = old.sources; graph = Some text }, record { loads = refl; edits = refl; graph = refl })
+item_taken old (Graph text) = yes (record { tables = without_records old.tables; sources = old.sources; graph = Some text; noted = [] }, record { loads = refl; edits = refl; graph = refl; ground = tt; noted = refl })
 item_taken old (Content value) = content_by old value (short_decided value)
 item_taken old (Put name number) = put_by old name number (both_decided (name_decided name) (text_decided old.tables.contents number))
 item_taken old (Dropped name) = drop_by old name (both_decided (name_decided name) (test_decided (is_some (map.get old.sources name)) true))
 item_taken old (Kept stored given) = keep_by old stored given (kept_decided old.tables stored given)
+item_taken old (Node stored) = note_by old stored (both_decided (test_decided (is_some old.graph) true) (noted_decided old.tables.contents stored))
 
 -- the tables that an item makes
 one_table : (old : Tables) (it : Item) (new other : Tables) → Loads old it new → Loads old it other → other ≡ new
@@ -113,6 +124,8 @@ one_table old (Kept stored given) new other is also =
     let calls : also.0 ≡ is.0 = one_call old.contents stored also.0 is.0 also.2.called is.2.called in
     let outcomes : also.1 ≡ is.1 = one_outcome old.contents given also.1 is.1 also.2.came is.2.came in
     also.3 ∙ ap (λ (call : Call). with_call call also.1 old) calls ∙ ap (λ (outcome : Outcome). with_call is.0 outcome old) outcomes ∙ sym is.3
+one_table old (Node stored) new other is also =
+    also.2 ∙ ap (λ (fact : Fact). with_fact fact old) (one_fact old.contents stored also.0 is.0 also.1.says is.1.says) ∙ sym is.2
 
 -- the sources that it makes
 one_edit : (contents : List Value) (it : Item) (old new other : Texts) → ItemEditsSources contents it old new → ItemEditsSources contents it old other → other ≡ new
@@ -121,12 +134,20 @@ one_edit contents (Put name number) old new other is also =
 one_edit contents (Dropped name) old new other is also = also.1 ∙ sym is.1
 one_edit contents _ old new other is also = also ∙ sym is
 
+-- all that is noted then
+one_note : (contents : List Value) (it : Item) (old new other : List Fact) → ItemNotes contents it old new → ItemNotes contents it old other → other ≡ new
+one_note contents (Graph text) old new other is also = also ∙ sym is
+one_note contents (Node stored) old new other is also =
+    also.2 ∙ ap (λ (fact : Fact). old ++ fact ∷ []) (one_fact contents stored also.0 is.0 also.1 is.1) ∙ sym is.2
+one_note contents _ old new other is also = also ∙ sym is
+
 pub one_taken : (old : State) (it : Item) (new other : State) → TakesOne old it new → TakesOne old it other → other ≡ new
 one_taken old it new other is also =
     let tables : other.tables ≡ new.tables = one_table old.tables it new.tables other.tables is.loads also.loads in
     let sources : other.sources ≡ new.sources = one_edit old.tables.contents it old.sources new.sources other.sources is.edits also.edits in
     let graphs : other.graph ≡ new.graph = also.graph ∙ sym is.graph in
-    λ i. record { tables = tables i; sources = sources i; graph = graphs i }
+    let notes : other.noted ≡ new.noted = one_note old.tables.contents it old.noted new.noted other.noted is.noted also.noted in
+    λ i. record { tables = tables i; sources = sources i; graph = graphs i; noted = notes i }
 
 -- ---- batches
 

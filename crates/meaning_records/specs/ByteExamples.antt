@@ -5,7 +5,7 @@ use Rattle.object_values.specs.declared.messages.Status.{Status}
 use Rattle.object_values.specs.declared.messages.Status.TheVariants.{Ok, Warning, Error, Abort}
 use Rattle.object_values.specs.declared.nodes.ParamValue.{ParamValue}
 use Rattle.object_values.specs.declared.nodes.Step.TheVariants.{Maker, Pick}
-use Rattle.object_values.specs.declared.nodes.Node.{Node}
+use Rattle.object_values.specs.declared.nodes.Node.{Node as PlainNode}
 use Rattle.object_values.specs.declared.views.Part.{Part}
 use Rattle.object_values.specs.declared.views.Value.TheVariants.{Simple, List as Listed, Compound}
 use Rattle.object_values.specs.declared.calls.OwnLine.{OwnLine}
@@ -13,7 +13,7 @@ use Rattle.object_values.specs.declared.items.StoredCall.{StoredCall}
 use Rattle.object_values.specs.declared.items.StoredOutcome.{StoredOutcome}
 use Rattle.object_values.specs.declared.items.StoredDep.{StoredDep}
 use Rattle.object_values.specs.declared.items.StoredRecord.{StoredRecord}
-use Rattle.object_values.specs.declared.items.Item.TheVariants.{Graph, Content, Put, Dropped, Kept}
+use Rattle.object_values.specs.declared.items.Item.TheVariants.{Graph, Content, Put, Dropped, Kept, Node}
 use Rattle.meaning_records.specs.Forms.{bytes, number, both, option_of, ParsesAt, StandsNowhere}
 use Rattle.meaning_records.specs.Records.{status, step, value, line, message, dep, node_record, item}
 use Rattle.meaning_records.specs.States.{State, spell_batch, Reads}
@@ -32,7 +32,7 @@ abbrev pub debug_on : ParamValue
 debug_on = record { param = codes "debug"; value = codes "1" }
 
 -- the first element of a.c by the maker 258
-abbrev pub first_element : Node
+abbrev pub first_element : PlainNode
 first_element = record { source = codes "a.c"; params = debug_on ∷ []; steps = Maker 258 ∷ Pick (codes "1") ∷ [] }
 
 abbrev pub ex_program_part : Part
@@ -71,18 +71,6 @@ abbrev pub outcome_bytes : List ℕ
 outcome_bytes =
     2 ∷ four 4 ++ 0 ∷ text 1 (codes "w") ++ 1 ∷ text 1 (codes "w") ++ 2 ∷ text 1 (codes "w") ++ 3 ∷ text 1 (codes "w")
     ++ four 1 ++ text 1 (codes "o") ++ four 7
-
--- an item of each kind
-pub record BytesOfItems : Type 0 where
-  pub graph : item.spell (Graph (codes "type c simple;")) ≡ 1 ∷ text 14 (codes "type c simple;")
-  pub simple : item.spell (Content (Simple (codes "x=1"))) ≡ 2 ∷ four 8 ++ 1 ∷ text 3 (codes "x=1")
-  pub list : item.spell (Content (Listed (first_element ∷ [])))
-      ≡ 2 ∷ four 45 ++ 2 ∷ four 1 ++ text 3 (codes "a.c") ++ four 1 ++ text 5 (codes "debug") ++ text 1 (codes "1")
-      ++ four 2 ++ 1 ∷ 0 ∷ 0 ∷ 1 ∷ 2 ∷ [] ++ 2 ∷ text 1 (codes "1")
-  pub compound : item.spell (Content (Compound (ex_program_part ∷ []))) ≡ 2 ∷ four 20 ++ 3 ∷ four 1 ++ text 4 (codes "prog") ++ text 3 (codes "x=1")
-  pub put : item.spell (Put (codes "a.c") 16909060) ≡ 3 ∷ text 3 (codes "a.c") ++ 1 ∷ 2 ∷ 3 ∷ 4 ∷ []
-  pub drop : item.spell (Dropped (codes "a.c")) ≡ 4 ∷ text 3 (codes "a.c")
-  pub kept : item.spell (Kept stored_call stored_outcome) ≡ 5 ∷ call_bytes ++ outcome_bytes
 
 -- ---- the bytes of a record of a node
 
@@ -143,6 +131,9 @@ present_dep_bytes = text 3 (codes "a.c") ++ four 0 ++ four 0 ++ 1 ∷ four 3
 abbrev pub absent_dep_bytes : List ℕ
 absent_dep_bytes = text 3 (codes "x.h") ++ four 0 ++ four 0 ++ 0 ∷ []
 
+abbrev pub aborted_bytes : List ℕ
+aborted_bytes = text 3 (codes "m.x") ++ four 0 ++ four 1 ++ 1 ∷ four 7 ++ four 0 ++ four 0 ++ 0 ∷ 3 ∷ four 0 ++ 3 ∷ four 1 ++ need_message_bytes ++ four 64
+
 pub record BytesOfNodeRecords : Type 0 where
   pub need_message : message.spell ex_need_message ≡ need_message_bytes
   pub present_dep : dep.spell ex_present_dep ≡ present_dep_bytes
@@ -150,8 +141,22 @@ pub record BytesOfNodeRecords : Type 0 where
   pub warned : node_record.spell ex_node_record
       ≡ node_bytes ++ four 2 ++ present_dep_bytes ++ absent_dep_bytes ++ four 1 ++ 1 ∷ four 5
       ++ 1 ∷ four 1 ++ own_message_bytes ++ 2 ∷ four 2 ++ need_message_bytes ++ own_message_bytes ++ four 4
-  pub aborted : node_record.spell ex_aborted_record
-      ≡ text 3 (codes "m.x") ++ four 0 ++ four 1 ++ 1 ∷ four 7 ++ four 0 ++ four 0 ++ 0 ∷ 3 ∷ four 0 ++ 3 ∷ four 1 ++ need_message_bytes ++ four 64
+  pub aborted : node_record.spell ex_aborted_record ≡ aborted_bytes
+
+-- ---- the bytes of items
+
+-- an item of each kind
+pub record BytesOfItems : Type 0 where
+  pub graph : item.spell (Graph (codes "type c simple;")) ≡ 1 ∷ text 14 (codes "type c simple;")
+  pub simple : item.spell (Content (Simple (codes "x=1"))) ≡ 2 ∷ four 8 ++ 1 ∷ text 3 (codes "x=1")
+  pub list : item.spell (Content (Listed (first_element ∷ [])))
+      ≡ 2 ∷ four 45 ++ 2 ∷ four 1 ++ text 3 (codes "a.c") ++ four 1 ++ text 5 (codes "debug") ++ text 1 (codes "1")
+      ++ four 2 ++ 1 ∷ 0 ∷ 0 ∷ 1 ∷ 2 ∷ [] ++ 2 ∷ text 1 (codes "1")
+  pub compound : item.spell (Content (Compound (ex_program_part ∷ []))) ≡ 2 ∷ four 20 ++ 3 ∷ four 1 ++ text 4 (codes "prog") ++ text 3 (codes "x=1")
+  pub put : item.spell (Put (codes "a.c") 16909060) ≡ 3 ∷ text 3 (codes "a.c") ++ 1 ∷ 2 ∷ 3 ∷ 4 ∷ []
+  pub drop : item.spell (Dropped (codes "a.c")) ≡ 4 ∷ text 3 (codes "a.c")
+  pub kept : item.spell (Kept stored_call stored_outcome) ≡ 5 ∷ call_bytes ++ outcome_bytes
+  pub node : item.spell (Node ex_aborted_record) ≡ 6 ∷ aborted_bytes
 
 -- ---- a batch, and a thing between others
 
@@ -173,7 +178,7 @@ pub record UnnamedNumbers : Type 0 where
   pub option : StandsNowhere (option_of number) (2 ∷ four 0) 0
   pub step : StandsNowhere step (3 ∷ four 0) 0
   pub value : StandsNowhere value (4 ∷ four 0) 0
-  pub item : StandsNowhere item (6 ∷ four 0) 0
+  pub item : StandsNowhere item (7 ∷ four 0) 0
   -- four numbers that are no bytes are no number
   pub no_bytes : StandsNowhere number (0 ∷ 0 ∷ 0 ∷ 256 ∷ []) 0
 

@@ -20,7 +20,7 @@ use Rattle.object_values.specs.declared.items.StoredOutput.{StoredOutput}
 use Rattle.object_values.specs.declared.items.StoredOutcome.{StoredOutcome}
 use Rattle.object_values.specs.declared.items.StoredDep.{StoredDep}
 use Rattle.object_values.specs.declared.items.StoredRecord.{StoredRecord}
-use Rattle.object_values.specs.declared.items.Item.TheVariants.{Graph, Content, Put, Dropped, Kept}
+use Rattle.object_values.specs.declared.items.Item.TheVariants.{Graph, Content, Put, Dropped, Kept, Node as Noted}
 use Rattle.meaning_records.specs.Forms.{Form, IsOfOneThing, bytes, number, both, by_parts, list_of, option_of}
 use Rattle.meaning_records.specs.Records.{status_number, status, pair, step, node, part, value, stored_part, call, line, output, outcome, message, dep, node_record, content, item}
 
@@ -279,4 +279,8 @@ one_item (Kept a c) (Kept b d) s t fit_a fit_b e =
     let rest : (both call outcome).spell (a, c) ++ s ≡ (both call outcome).spell (b, d) ++ t = cc in
     let same = one_both call outcome one_call one_outcome (a, c) (b, d) s t fit_a fit_b rest in
     (ap (λ (p : StoredCall × StoredOutcome). Kept p.0 p.1) same.0, same.1)
+one_item (Noted a) (Noted b) s t fit_a fit_b e =
+    let rest : node_record.spell a ++ s ≡ node_record.spell b ++ t = cc in
+    let same = one_node_record a b s t fit_a fit_b rest in
+    (ap (λ (r : StoredRecord). Noted r) same.0, same.1)
 one_item _ _ s t fit_a fit_b e = let no : ⊥ = cc in absurd no

@@ -31,16 +31,17 @@ abbrev pub broken : List ℕ
 broken = take 70 (with_record 64 (9 ∷ []) empty_store) ++ 1 ∷ []
 
 abbrev pub nothing_kept : State
-nothing_kept = record { tables = record { contents = []; calls = [] }; sources = no_texts; graph = None }
+nothing_kept = record { tables = record { contents = []; calls = []; records = [] }; sources = no_texts; graph = None; noted = [] }
 
 abbrev pub graph_kept : State
-graph_kept = record { tables = record { contents = []; calls = [] }; sources = no_texts; graph = Some (codes "type c simple;") }
+graph_kept = record { tables = record { contents = []; calls = []; records = [] }; sources = no_texts; graph = Some (codes "type c simple;"); noted = [] }
 
 abbrev pub source_kept : State
 source_kept = record {
-  tables = record { contents = Simple [] ∷ []; calls = [] };
+  tables = record { contents = Simple [] ∷ []; calls = []; records = [] };
   sources = map.insert no_texts (codes "a.c") [];
   graph = Some (codes "type c simple;");
+  noted = [];
 }
 
 pub record WorkedStores : Type 0 where

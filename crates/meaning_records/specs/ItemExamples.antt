@@ -21,24 +21,26 @@ use Rattle.meaning_records.specs.States.{State, TakesAll}
 -- a text and a list as contents, a source with the text, and a graph
 abbrev pub old : State
 old = record {
-  tables = record { contents = Simple (codes "x=1") ∷ Listed [] ∷ []; calls = [] };
+  tables = record { contents = Simple (codes "x=1") ∷ Listed [] ∷ []; calls = []; records = [] };
   sources = map.insert no_texts (codes "a.c") (codes "x=1");
   graph = Some (codes "type c simple;");
+  noted = [];
 }
 
 -- what is kept then, with one content more, with these calls, or with other sources
 abbrev pub with_contents : Value → State
 with_contents value = record {
-  tables = record { contents = Simple (codes "x=1") ∷ Listed [] ∷ value ∷ []; calls = [] };
+  tables = record { contents = Simple (codes "x=1") ∷ Listed [] ∷ value ∷ []; calls = []; records = [] };
   sources = old.sources;
   graph = old.graph;
+  noted = [];
 }
 
 abbrev pub ex_with_calls : Calls → State
-ex_with_calls calls = record { tables = record { contents = old.tables.contents; calls = calls }; sources = old.sources; graph = old.graph }
+ex_with_calls calls = record { tables = record { contents = old.tables.contents; calls = calls; records = [] }; sources = old.sources; graph = old.graph; noted = [] }
 
 abbrev pub with_sources : Texts → State
-with_sources sources = record { tables = old.tables; sources = sources; graph = old.graph }
+with_sources sources = record { tables = old.tables; sources = sources; graph = old.graph; noted = [] }
 
 -- these items don't read after what is kept
 abbrev pub RefusesItems : State → List Item → Type 0
@@ -50,7 +52,7 @@ abbrev pub node : Node
 node = record { source = codes "a.c"; params = []; steps = [] }
 
 pub record EditsThatRead : Type 0 where
-  pub graph : TakesAll old (Graph (codes "g") ∷ []) (record { tables = old.tables; sources = old.sources; graph = Some (codes "g") })
+  pub graph : TakesAll old (Graph (codes "g") ∷ []) (record { tables = old.tables; sources = old.sources; graph = Some (codes "g"); noted = [] })
   -- a content that stands there already gets a number of its own
   pub content : TakesAll old (Content (Simple (codes "x=1")) ∷ []) (with_contents (Simple (codes "x=1")))
   pub list : TakesAll old (Content (Listed (node ∷ [])) ∷ []) (with_contents (Listed (node ∷ [])))

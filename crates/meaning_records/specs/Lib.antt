@@ -15,6 +15,8 @@ pub mod Live
 pub mod Laws
 pub mod ByteExamples
 pub mod ItemExamples
+pub mod NoteExamples
 pub mod ImageExamples
 pub mod BatchExamples
+pub mod NoteBatchExamples
 pub mod LiveExamples

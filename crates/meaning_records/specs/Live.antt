@@ -87,4 +87,4 @@ ComeAfter before (kept ∷ calls) = ComesAfter before kept × ComeAfter (before 
 
 -- what is kept in a rewritten store
 abbrev pub live_state : Text → Texts → Calls → List Value → State
-live_state graph sources calls contents = record { tables = record { contents = contents; calls = calls }; sources = sources; graph = Some graph }
+live_state graph sources calls contents = record { tables = record { contents = contents; calls = calls; records = [] }; sources = sources; graph = Some graph; noted = [] }

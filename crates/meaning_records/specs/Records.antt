@@ -6,7 +6,7 @@ use Rattle.object_values.specs.declared.messages.Status.TheVariants.{Ok, Warning
 use Rattle.object_values.specs.declared.nodes.ParamValue.{ParamValue}
 use Rattle.object_values.specs.declared.nodes.Step.{Step}
 use Rattle.object_values.specs.declared.nodes.Step.TheVariants.{Maker, Pick}
-use Rattle.object_values.specs.declared.nodes.Node.{Node}
+use Rattle.object_values.specs.declared.nodes.Node.{Node as PlainNode}
 use Rattle.object_values.specs.declared.views.Part.{Part}
 use Rattle.object_values.specs.declared.views.Value.{Value}
 use Rattle.object_values.specs.declared.views.Value.TheVariants.{Simple, List as Listed, Compound}
@@ -18,7 +18,7 @@ use Rattle.object_values.specs.declared.items.StoredOutcome.{StoredOutcome}
 use Rattle.object_values.specs.declared.items.StoredDep.{StoredDep}
 use Rattle.object_values.specs.declared.items.StoredRecord.{StoredRecord}
 use Rattle.object_values.specs.declared.items.Item.{Item}
-use Rattle.object_values.specs.declared.items.Item.TheVariants.{Graph, Content, Put, Dropped, Kept}
+use Rattle.object_values.specs.declared.items.Item.TheVariants.{Graph, Content, Put, Dropped, Kept, Node}
 use Rattle.meaning_records.specs.Forms.{Form, bytes, number, both, by_parts, list_of, option_of}
 
 -- ---- statuses, and the levels of messages
@@ -48,7 +48,7 @@ fits_step (Pick key) = bytes.fits key
 abbrev pub step : Form Step
 step = record { spell = spell_step; fits = fits_step }
 
-abbrev pub node : Form Node
+abbrev pub node : Form PlainNode
 node = by_parts (λ n. (n.source, (n.params, n.steps))) (both bytes (both (list_of pair) (list_of step)))
 
 abbrev pub part : Form Part
@@ -112,6 +112,7 @@ spell_item (Content v) = 2 ∷ content.spell v
 spell_item (Put name n) = 3 ∷ (both bytes number).spell (name, n)
 spell_item (Dropped name) = 4 ∷ bytes.spell name
 spell_item (Kept c o) = 5 ∷ (both call outcome).spell (c, o)
+spell_item (Node r) = 6 ∷ node_record.spell r
 
 abbrev pub fits_item : Item → Type 0
 fits_item (Graph text) = bytes.fits text
@@ -119,6 +120,7 @@ fits_item (Content v) = content.fits v
 fits_item (Put name n) = (both bytes number).fits (name, n)
 fits_item (Dropped name) = bytes.fits name
 fits_item (Kept c o) = (both call outcome).fits (c, o)
+fits_item (Node r) = node_record.fits r
 
 abbrev pub item : Form Item
 item = record { spell = spell_item; fits = fits_item }

@@ -1,7 +1,9 @@
 //! Worked examples of records. Each is the contract of a function with an empty body.
 ghost use Rattle.meaning_records.specs.ByteExamples.{BytesOfItems, BytesOfNodeRecords, FirstPut, StandsBetween, UnnamedNumbers, NoBatches};
 ghost use Rattle.meaning_records.specs.ItemExamples.{EditsThatRead, EditsThatDoNot, TablesThatTell, LongContents, CallsThatRead, CallsThatDoNot};
+ghost use Rattle.meaning_records.specs.NoteExamples.{NotesThatRead, DepsThatRead, NotesInOrder, NotesThatDoNot};
 ghost use Rattle.meaning_records.specs.BatchExamples.{BatchesOfPuts, BatchesOfCalls};
+ghost use Rattle.meaning_records.specs.NoteBatchExamples.{NotableFacts, BatchesOfNotes, NoBatchesOfNotes};
 ghost use Rattle.meaning_records.specs.LiveExamples.{RewrittenStore};
 ghost use Rattle.meaning_records.specs.ImageExamples.{WorkedStores, WorkedFaults};
 
@@ -65,6 +67,26 @@ pub fn calls_that_do_not()
     ensures { CallsThatDoNot }
 {}
 
+/// Records of nodes that may be noted, and what they say.
+pub fn notes_that_read()
+    ensures { NotesThatRead }
+{}
+
+/// The last deps of a record are its reached sources.
+pub fn deps_that_read()
+    ensures { DepsThatRead }
+{}
+
+/// Records of nodes one after another, and what a graph leaves of them.
+pub fn notes_in_order()
+    ensures { NotesInOrder }
+{}
+
+/// Records of nodes that may not be noted.
+pub fn notes_that_do_not()
+    ensures { NotesThatDoNot }
+{}
+
 /// What a store writes for a put.
 pub fn batches_of_puts()
     ensures { BatchesOfPuts }
@@ -73,6 +95,21 @@ pub fn batches_of_puts()
 /// What a store writes for a call: the texts that it needs and the file hasn't, each once.
 pub fn batches_of_calls()
     ensures { BatchesOfCalls }
+{}
+
+/// What may be noted of a node, and what may not.
+pub fn notable_facts()
+    ensures { NotableFacts }
+{}
+
+/// What a store writes for records of nodes: the values that they need and the file hasn't, each once, and then the records.
+pub fn batches_of_notes()
+    ensures { BatchesOfNotes }
+{}
+
+/// What it doesn't write for them.
+pub fn no_batches_of_notes()
+    ensures { NoBatchesOfNotes }
 {}
 
 /// What a store that is written anew has in its file: each text once, before its first user.

@@ -1,5 +1,5 @@
 //! Laws of what an image stands for. Each is the contract of a function with an empty body.
-ghost use Rattle.meaning_records.specs.Laws.{ItemsAreOne, NodeRecordsAreOne, ReadsInOneWay, StandsForOne, EachStandsOrNot, GatesFollow, BatchesRead, LiveBatchesRead, LiveTextIsOne};
+ghost use Rattle.meaning_records.specs.Laws.{ItemsAreOne, ReachedStandLast, NodeRecordsAreOne, ReadsInOneWay, StandsForOne, EachStandsOrNot, GatesFollow, BatchesRead, LiveBatchesRead, LiveTextIsOne};
 ghost use Rattle.meaning_records.specs.Numbers.{NumbersTellValues};
 
 /// What an item is spelled tells the item, and where it ends.
@@ -35,6 +35,11 @@ pub fn gates_follow()
 /// Each batch that a store writes reads as what it was asked for.
 pub fn batches_read()
     ensures { BatchesRead }
+{}
+
+/// The last deps of a record are its reached sources, as many as it tells.
+pub fn reached_stand_last()
+    ensures { ReachedStandLast }
 {}
 
 /// The batches of a rewritten store read as what they are of.

@@ -73,4 +73,6 @@ pub enum Item {
     Dropped(Bytes),
     /// The call is kept with this outcome.
     Kept(StoredCall, StoredOutcome),
+    /// The node has this record from now on.
+    Node(StoredRecord),
 }

@@ -6,12 +6,13 @@ mod timing;
 
 use crate::fault::Fault;
 use crate::store::filling::{GRAPH, disk_for, filled};
-use crate::store::images::{Reading, tell_images};
+use crate::store::images::tell_images;
 use crate::store::timing::timed;
 use crate::words::number_at;
 use odin_real::{FileDisk, NamedFile};
 use odin_store::Store;
 use std::fs;
+use test_support::open_store;
 
 // The most sources and calls.
 const MOST: u32 = 20_000;
@@ -49,7 +50,7 @@ pub(crate) fn make(rt: &HostRuntime, path: &str, sources: u32, calls: u32) -> Re
 
 fn open(rt: &HostRuntime, path: &str) -> Result<(), Fault> {
     let mut disk = FileDisk::open(NamedFile::new(rt, path));
-    let store = Store::open(rt.alloc(), &mut disk, GRAPH)?;
+    let store = open_store(rt.alloc(), &mut disk, GRAPH)?;
     tell(rt, &store);
     Ok(())
 }
@@ -64,8 +65,7 @@ pub(crate) fn measured(rt: &HostRuntime, words: &[String]) -> Result<(), Fault> 
         "make" => make(rt, path.as_str(), sources, calls),
         "open" => open(rt, path.as_str()),
         "time" => timed(rt, sources, calls),
-        "images" => tell_images(rt, path.as_str(), Reading::Opened),
-        "rewritten" => tell_images(rt, path.as_str(), Reading::Rewritten),
+        "images" => tell_images(rt, path.as_str()),
         _ => Err(Fault::Words),
     }
 }

@@ -99,6 +99,6 @@ compact_settles told first store mid new false wasteful full leaves same = Settl
 
 -- ---- what the file stood for
 
-pub opening_keeps : {Disk : Type 0} (told : Disk → Telling) → OpeningsKeepHeld told → CompactionsKeep told → (graph : List ℕ) (old new : Disk) → length graph ≤ 1048576 → LeavesEngineOpening told graph old new → LeavesHeld (told old) (told new)
+pub opening_keeps : {Disk : Type 0} (told : Disk → Telling) → OpeningsKeepHeld told → CompactionsKeep told → (graph : List ℕ) (old new : Disk) → length graph ≤ 1048576 → LeavesEngineOpening told graph old new → LeavesHeld graph (told old) (told new)
 opening_keeps told openings compactions graph old new short (LeavesEngineOpening.opening leaves) = openings graph old new short leaves
 opening_keeps told openings compactions graph old new short (LeavesEngineOpening.compaction first mid opens leaves wasteful compacted) = compactions.opened graph first old mid new short opens leaves compacted

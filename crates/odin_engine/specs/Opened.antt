@@ -1,5 +1,6 @@
 -- The opening of an engine: that of its store, and a compaction where it is wasteful.
-use Rattle.std.specs.Prelude.{◌≡◌, ◌⊎◌, ℕ, ◌+◌, ◌≤◌, List, length}
+use Rattle.std.specs.Prelude.{◌≡◌, ◌⊎◌, ℕ, ◌+◌, ◌≤◌, List, length, Option}
+use Rattle.object_values.specs.declared.facts.Fact.{Fact}
 use Rattle.object_values.specs.declared.graph.Decl.{Decl}
 use Rattle.dg_reader.specs.Files.{IsRead}
 use Rattle.odin_outside.specs.Disk.{Telling, IsQuiet}
@@ -9,7 +10,7 @@ use Rattle.odin_journal.specs.declared.fault.JournalFault.{JournalFault}
 use Rattle.odin_journal.specs.declared.fault.JournalFault.TheVariants as fault
 use Rattle.odin_store.specs.declared.store.Store.{Store}
 use Rattle.odin_store.specs.Compacting.{wasteful_size, IsWasteful, Compacts, HasNoRoomForCopy, LeavesCompacted}
-use Rattle.odin_store.specs.OnDisk.{IsSame}
+use Rattle.odin_store.specs.OnDisk.{IsOn, IsSame}
 use Rattle.odin_store.specs.Opening.{IsAtFirst, IsStoreOpenFault, LeavesHeld, LeavesOpening, OpensStore, OpensQuietStore}
 use Rattle.meaning_texts.specs.Limits.{graph_limit}
 use Rattle.odin_engine.specs.Engaged.{Engaged, IsLimit}
@@ -64,6 +65,13 @@ settled_records (let_be sparing same) records = records
 settled_records (no_room wasteful full same) records = records
 settled_records (compacted wasteful compacts leaves) records = compacts.records
 
+-- what was noted before them since the last graph
+abbrev pub settled_noted : {Disk : Type 0} {told : Disk → Telling} {first store : Store} {mid new : Disk} → Settles told first store mid new
+    → (records : List (List ℕ)) (graph : Option (List ℕ)) → IsOn (told mid) first records graph → List Fact
+settled_noted (let_be sparing same) records graph on = on.noted
+settled_noted (no_room wasteful full same) records graph on = on.noted
+settled_noted (compacted wasteful compacts leaves) records graph on = (compacts.on records graph on).noted
+
 -- the bytes and the calls that a compaction adds to the work
 abbrev pub settled_bytes : {Disk : Type 0} {told : Disk → Telling} {first store : Store} {mid new : Disk} → Settles told first store mid new → ℕ
 settled_bytes (let_be sparing same) = 0
@@ -87,7 +95,7 @@ pub data LeavesEngineOpening {Disk : Type 0} (told : Disk → Telling) (graph : 
 -- so it leaves what the file stood for
 abbrev pub EngineOpeningsKeepHeld : {Disk : Type 0} → (Disk → Telling) → Type 0
 EngineOpeningsKeepHeld {Disk} told =
-    (graph : List ℕ) (old new : Disk) → length graph ≤ graph_limit → LeavesEngineOpening told graph old new → LeavesHeld (told old) (told new)
+    (graph : List ℕ) (old new : Disk) → length graph ≤ graph_limit → LeavesEngineOpening told graph old new → LeavesHeld graph (told old) (told new)
 
 -- Memory is wanting for the opening of the store, or, where its records are long, after it.
 abbrev pub LacksMemory : {Disk : Type 0} → (Disk → Telling) → List ℕ → Disk → Disk → Type 0

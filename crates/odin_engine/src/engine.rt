@@ -88,7 +88,7 @@ impl Engine {
         ensures cause { JournalFaultIsCounted (D.faults disk.old) (D.faults disk.new) result }
     {
         let plans = Plans::new(alloc, &graph)?;
-        let mut store = Store::open(alloc, disk, text)?;
+        let mut store = Store::open(alloc, disk, &graph, text)?;
         settle(alloc, disk, &mut store)?;
         Ok(Engine {
             graph,

@@ -4,12 +4,12 @@ use Rattle.std.specs.Prelude.{⊤, Option, Some}
 use Rattle.odin_outside.specs.Disk.{IsQuiet}
 use Rattle.odin_outside.specs.Files.{IsGiven, given_of}
 use Rattle.meaning_graph.specs.Graphs.{Text, Graph}
-use Rattle.meaning_records.specs.Laws.{StandsForOne}
-use Rattle.meaning_records.specs.Stands.{StandsNot}
 use Rattle.meaning_commands.specs.Endings.{input_limit}
 use Rattle.meaning_commands.specs.Objects.{SinkTold}
 use Rattle.odin_journal.specs.declared.fault.JournalFault.{JournalFault}
 use Rattle.odin_journal.specs.declared.fault.JournalFault.TheVariants as fault
+use Rattle.odin_store.specs.Held.{NotedFit}
+use Rattle.odin_store.specs.Offsets.{IsNotFor, OneOffset}
 use Rattle.odin_words.specs.Asked.{Serve, Load}
 use Rattle.odin_words.specs.Laws.{AskedIsOne}
 use Rattle.odin_answers.specs.Edits.{TreeTold}
@@ -62,7 +62,7 @@ session_ends disk g text limit input left start now before after Room ending end
 module _ {I O T S D : Type 0} (m : Views I O T S D) (words : List Text) (before after : Outside I O T S D) (can : IsServable m words before after) where
   -- ---- by how it ended
 
-  module _ (one : AskedIsOne) (stands : StandsForOne) where
+  module _ (one : AskedIsOne) (offsets : OneOffset) where
     -- the file of the graph is not refused
     not_refused : (opened : TreeTold) (given : Option Text) (line : Text) → run.TreeGives m words before after opened given → GraphIsRefused given line → ⊥
     not_refused told given line gives refused =
@@ -73,22 +73,35 @@ module _ {I O T S D : Type 0} (m : Views I O T S D) (words : List Text) (before 
         let same : Refused line ≡ Ready can.text can.graph = opened_is_one given (Ready can.text can.graph) (Refused line) (record { there = there; read = can.reads.read }) refused in
         cc
 
+    -- the graph is that of the file
+    same_text : (opened : TreeTold) (text : Text) (g : Graph) → run.GivesGraph m words before after opened text g → text ≡ can.text
+    same_text told text g given =
+        let gives = given.gives in
+        let work : Serve gives.asks.name ≡ Serve can.name = (one words (Serve can.name) (Serve gives.asks.name) can.jobs gives.asks.jobs can.asks gives.asks.named).0 in
+        let name : gives.asks.name ≡ can.name = cc in
+        let is : given.given ≡ given_of can.files gives.asks.name = subst (λ f. IsGiven f gives.asks.name given.given) can.files_are gives.is in
+        let there : given.given ≡ Some can.text = is ∙ ap (given_of can.files) name ∙ can.reads.there in
+        let both : Some text ≡ Some can.text = sym given.reads.there ∙ there in
+        cc
+
     -- the store's file is ours
-    is_ours : (mid : Outside I O T S D) → mid.disk ≡ before.disk → (text : Text) (at : ℕ) → run.IsUnopened m text mid after (fault.NotOurs at) → ⊥
-    is_ours mid same text at unopened =
+    is_ours : (mid : Outside I O T S D) → mid.disk ≡ before.disk → (text : Text) (at : ℕ) → text ≡ can.text → run.IsUnopened m text mid after (fault.NotOurs at) → ⊥
+    is_ours mid same text at own unopened =
         let quiet : IsQuiet (m.disk.told mid.disk) = subst (λ d. IsQuiet (m.disk.told d)) (sym same) can.quiet in
-        let not : StandsNot (m.disk.told before.disk).seen at = subst (λ d. StandsNot (m.disk.told d).seen at) same (unopened.refused quiet).1 in
-        stands.none (m.disk.told before.disk).seen at can.stands.0 not can.stands.1
+        let image = (m.disk.told before.disk).seen in
+        let not : IsNotFor text image at = subst (λ d. IsNotFor text (m.disk.told d).seen at) same (unopened.refused quiet).1 in
+        let fit : NotedFit text can.stands.0 = subst (λ t. NotedFit t can.stands.0) (can.own ∙ sym own) can.stands.2 in
+        offsets.apart text image at can.stands.0 not (can.stands.1, fit)
 
-    unopened_ends : (mid : Outside I O T S D) → mid.disk ≡ before.disk → (text : Text) (f : JournalFault) (sink now : SinkTold) (ending : Ending) → run.IsUnopened m text mid after f → ClosesFor f sink now ending → CanEnd ending
-    unopened_ends mid same text fault.Disk sink now ending unopened closes = subst CanEnd (sym closes.1) tt
-    unopened_ends mid same text (fault.NotOurs at) sink now ending unopened closes = absurd (is_ours mid same text at unopened)
-    unopened_ends mid same text (fault.Full at size) sink now ending unopened closes = full_ends at size sink now ending closes
-    unopened_ends mid same text fault.Memory sink now ending unopened closes = subst CanEnd (sym closes.1) tt
+    unopened_ends : (mid : Outside I O T S D) → mid.disk ≡ before.disk → (text : Text) → text ≡ can.text → (f : JournalFault) (sink now : SinkTold) (ending : Ending) → run.IsUnopened m text mid after f → ClosesFor f sink now ending → CanEnd ending
+    unopened_ends mid same text own fault.Disk sink now ending unopened closes = subst CanEnd (sym closes.1) tt
+    unopened_ends mid same text own (fault.NotOurs at) sink now ending unopened closes = absurd (is_ours mid same text at own unopened)
+    unopened_ends mid same text own (fault.Full at size) sink now ending unopened closes = full_ends at size sink now ending closes
+    unopened_ends mid same text own fault.Memory sink now ending unopened closes = subst CanEnd (sym closes.1) tt
 
-    store_ends : (mid : Outside I O T S D) → mid.disk ≡ before.disk → (text : Text) (g : Graph) (limit : ℕ) (ending : Ending) → run.StoreEnds m text g limit mid after ending → CanEnd ending
-    store_ends mid same text g limit ending (run.unopened f unopened closes is) = unopened_ends mid same text f _ _ ending unopened closes
-    store_ends mid same text g limit ending (run.served due written ends closes) = session_ends m.disk g text limit _ _ _ _ _ _ due ending ends closes
+    store_ends : (mid : Outside I O T S D) → mid.disk ≡ before.disk → (text : Text) → text ≡ can.text → (g : Graph) (limit : ℕ) (ending : Ending) → run.StoreEnds m text g limit mid after ending → CanEnd ending
+    store_ends mid same text own g limit ending (run.unopened f unopened closes is) = unopened_ends mid same text own f _ _ ending unopened closes
+    store_ends mid same text own g limit ending (run.served due written ends closes) = session_ends m.disk g text limit _ _ _ _ _ _ due ending ends closes
 
     how_ends : (opened : TreeTold) (ending : Ending) → run.EndsAs m words before after opened ending → CanEnd ending
     how_ends opened ending (run.words_refused not line is same) = absurd (not (Serve can.name) can.jobs can.asks)
@@ -99,7 +112,7 @@ module _ {I O T S D : Type 0} (m : Views I O T S D) (words : List Text) (before 
     how_ends opened ending (run.tree_failed input asks rose is same) = subst CanEnd (sym input) tt
     how_ends opened ending (run.graph_unread memory asks stayed is same) = subst CanEnd (sym memory) tt
     how_ends opened ending (run.graph_refused given line gives refused last is same) = absurd (not_refused opened given line gives refused)
-    how_ends opened ending (run.graph_read text g mid given same is ends) = store_ends mid (ap (λ (o : Outside I O T S D). o.disk) same) text g given.gives.asks.jobs ending ends
+    how_ends opened ending (run.graph_read text g mid given same is ends) = store_ends mid (ap (λ (o : Outside I O T S D). o.disk) same) text (same_text opened text g given) g given.gives.asks.jobs ending ends
 
   -- ---- by what was counted
 
@@ -133,8 +146,8 @@ module _ {I O T S D : Type 0} (m : Views I O T S D) (words : List Text) (before 
     comes Loaded may exact written read kept = absurd may
     comes Room may exact written read kept = absurd may
 
-pub runs_complete : AskedIsOne → StandsForOne → {I O T S D : Type 0} (m : Views I O T S D) → RunsComplete m
-runs_complete one stands m words before after can status ends none =
+pub runs_complete : AskedIsOne → OneOffset → {I O T S D : Type 0} (m : Views I O T S D) → RunsComplete m
+runs_complete one offsets m words before after can status ends none =
     subst (λ n. (n ≡ 0) ⊎ ((n ≡ 4) ⊎ (n ≡ 8))) (sym ends.status_is)
-    (comes m words before after can ends.ended.opened none.input none.output none.disk none.tree ends.ending (how_ends m words before after can one stands ends.ended.opened ends.ending ends.ended.how) ends.exact ends.output
+    (comes m words before after can ends.ended.opened none.input none.output none.disk none.tree ends.ending (how_ends m words before after can one offsets ends.ended.opened ends.ending ends.ended.how) ends.exact ends.output
     ends.reads ends.disk)

@@ -22,7 +22,7 @@ use Rattle.job_runner.specs.declared.jobs.Flying.{Flying}
 use Rattle.plain_derive.specs.Given.{calls_of, AreGiven, HaveCome}
 use Rattle.plain_derive.specs.Flights.{Flight, Course, off_course, for_spawn, Flies}
 use Rattle.plain_derive.proofs.Lemmas.{given_are_calls, given_are_true, flown_given, flown_came}
-use Rattle.odin_store.specs.Held.{Held, Change, puts, drops, keeps, apply}
+use Rattle.odin_store.specs.Held.{Held, Change, puts, drops, keeps, notes, apply}
 use Rattle.odin_store.specs.Keeping.{store_keeping}
 use Rattle.kept_derive.specs.Runs.{keeps_of, course_of}
 use Rattle.odin_answers.specs.Answers.{Agrees, IsReply, MayHaveBegun}
@@ -41,6 +41,7 @@ pub grows : (changes : List Change) (held : Held) (call : Call) (o : Outcome) �
 grows [] held call o e = e
 grows (puts name text ∷ changes) held call o e = grows changes (apply (puts name text) held) call o e
 grows (drops name ∷ changes) held call o e = grows changes (apply (drops name) held) call o e
+grows (notes facts ∷ changes) held call o e = grows changes (apply (notes facts) held) call o e
 grows (keeps c outcome ∷ changes) held call o e = grows changes (apply (keeps c outcome) held) call o (kept_first held.calls ((c, outcome) ∷ []) call o e)
 
 -- what the first changes keep, all keep

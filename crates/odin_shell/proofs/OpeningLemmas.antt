@@ -3,20 +3,23 @@ use Rattle.std.proofs.Common.{◌≡◌, ℕ, ◌+◌, ◌*◌, List, [], ◌++�
 use Rattle.odin_outside.specs.Disk.{Telling, IsQuiet, MayLeave}
 use Rattle.odin_outside.specs.Spawned.{Spawned}
 use Rattle.odin_journal.specs.Moments.{Works}
+use Rattle.odin_journal.specs.Rest.{RestsOn}
 use Rattle.odin_journal.specs.Rewrites.{copy_size}
 use Rattle.odin_journal.specs.Trails.{Trail}
 use Rattle.odin_journal.specs.WorkLemmas.{more_work, add_work}
+use Rattle.object_values.specs.declared.facts.Fact.{Fact}
 use Rattle.meaning_graph.specs.Graphs.{Text, Graph}
+use Rattle.meaning_records.specs.States.{nothing, ReadsAll}
 use Rattle.odin_store.specs.declared.store.Store.{Store}
 use Rattle.odin_store.specs.Compacting.{CompactionsKeep}
-use Rattle.odin_store.specs.Held.{Held, StandsFor}
+use Rattle.odin_store.specs.Held.{Held, NotedFit, StandsFor}
 use Rattle.odin_store.specs.Keeping.{KeepsChanges, store_keeping}
 use Rattle.odin_store.specs.OnDisk.{held_in, state_in, IsOn}
 use Rattle.odin_store.specs.Written.{written_in, record_keeping}
 use Rattle.odin_store.specs.Going.{AreBatches}
-use Rattle.odin_store.proofs.Lemmas.{goes_none, nothing_behind, nothing_first, same_held, same_on}
+use Rattle.odin_store.proofs.Lemmas.{on_there, goes_none, nothing_behind, nothing_first, same_held, same_on}
 use Rattle.odin_engine.specs.Engaged.{Engaged, IsLimit}
-use Rattle.odin_engine.specs.Opened.{EngineIsNew, Settles, OpensEngine, OpensQuietEngine, settled_records, settled_bytes, settled_calls}
+use Rattle.odin_engine.specs.Opened.{EngineIsNew, Settles, OpensEngine, OpensQuietEngine, settled_records, settled_noted, settled_bytes, settled_calls}
 use Rattle.odin_shell.specs.declared.ending.Ending.{Ending}
 use Rattle.odin_outside.specs.declared.disk.Disk.{Ghosts as DiskView}
 use Rattle.odin_shell.specs.Filed.{OpensFile, WorksOver, HasWritten}
@@ -29,11 +32,20 @@ use Rattle.odin_shell.proofs.StateLemmas.{same_tools, same_tree, idle_few}
 -- ---- what follows on the opening of a store
 
 module _ {D : Type 0} (told : D → Telling) (text : Text) (old mid new : D) (first store : Store) where
-  -- the store rests on the records that the file has then
-  settled_on : (records : List (List ℕ)) → IsOn (told mid) first records (Some text) → (settles : Settles told first store mid new) → IsOn (told new) store (settled_records settles records) (Some text)
-  settled_on records on (Settles.let_be sparing same) = subst (λ d. IsOn (told d) store records (Some text)) (sym same.disk_is) (same_on (told mid) first store records (Some text) same.store_is on)
-  settled_on records on (Settles.no_room wasteful full same) = subst (λ d. IsOn (told d) store records (Some text)) (sym same.disk_is) (same_on (told mid) first store records (Some text) same.store_is on)
-  settled_on records on (Settles.compacted wasteful compacts leaves) = compacts.on records (Some text) on
+  -- the store rests on the records that the file has then, of which this was noted
+  record RestsAs (records : List (List ℕ)) (noted : List Fact) : Type 0 where
+    rests : RestsOn (told new) records store.journal
+    read : ReadsAll nothing records (state_in store (Some text) noted)
+    last : Some text ≡ Some store.graph
+    fit : NotedFit store.graph (state_in store (Some text) noted)
+
+  as_on : (records : List (List ℕ)) (disk : D) → new ≡ disk → (on : IsOn (told disk) store records (Some text)) → RestsAs records on.noted
+  as_on records disk same on = record { rests = subst (λ d. RestsOn (told d) records store.journal) (sym same) on.rests; read = on.read; last = on.last; fit = on.fit }
+
+  settled_on : (records : List (List ℕ)) (on : IsOn (told mid) first records (Some text)) (settles : Settles told first store mid new) → RestsAs (settled_records settles records) (settled_noted settles records (Some text) on)
+  settled_on records on (Settles.let_be sparing same) = as_on records mid same.disk_is (same_on (told mid) first store records (Some text) same.store_is on)
+  settled_on records on (Settles.no_room wasteful full same) = as_on records mid same.disk_is (same_on (told mid) first store records (Some text) same.store_is on)
+  settled_on records on (Settles.compacted wasteful compacts leaves) = as_on compacts.records new refl (compacts.on records (Some text) on)
 
   -- it holds what it held
   settled_holds : Settles told first store mid new → held_in store ≡ held_in first
@@ -70,15 +82,17 @@ module _ {D : Type 0} (told : D → Telling) (text : Text) (old new : D) (store 
       let settles = goes.settles in
       let over : OpensFile told text old = record { opened = new; store = store; goes = goes } in
       let base = settled_records settles (opens.records ++ opens.opening) in
-      let on : IsOn (told new) store base (Some text) = settled_on told text old goes.mid new goes.first store (opens.records ++ opens.opening) opens.on settles in
+      let rests = settled_on told text old goes.mid new goes.first store (opens.records ++ opens.opening) opens.on settles in
+      let noted = settled_noted settles (opens.records ++ opens.opening) (Some text) opens.on in
+      let on : IsOn (told new) store base (Some text) = record { noted = noted; rests = rests.rests; read = rests.read; last = rests.last; fit = rests.fit } in
       let none : List (List ℕ) = [] in
       let works : Works (66 + settled_bytes settles + written_in opens.opening) (16 + settled_calls settles + 2 * length opens.records + 4 * length opens.opening) (told old) (told new) =
       settled_works told text old goes.mid new goes.first store (2 * length opens.records) opens.opening opens.works settles in
       record {
         over = over;
         payloads = [];
+        on = on_there (told new) (told new) store base (base ++ []) (Some text) refl (nothing_behind base) on;
         are = AreBatches.no_batches;
-        on = subst (λ r. IsOn (told new) store r (Some text)) (sym (nothing_behind base)) on;
         end = refl;
         bytes = refl;
         trail = record { rests = on.rests; crash = nothing_first store (told new) only_now base on.rests };
@@ -86,10 +100,14 @@ module _ {D : Type 0} (told : D → Telling) (text : Text) (old new : D) (store 
             (sym (nothing_behind opens.opening)) works;
       }
 
-  stood_for : StandsFor (held_in store) (told old).seen
+  stood_for : ((held_in store).text ≡ text) × StandsFor (held_in store) (told old).seen
   stood_for =
       let opens = goes.opens in
-      (opens.state, record { records = opens.records; stored = opens.stored; read = opens.read }, sym opens.holds ∙ sym (settled_holds told text old goes.mid new goes.first store goes.settles))
+      let holds = settled_holds told text old goes.mid new goes.first store goes.settles ∙ opens.holds in (
+        ap (λ (h : Held). h.text) holds,
+        subst (λ h. StandsFor h (told old).seen) (sym holds)
+            (opens.state, record { records = opens.records; stored = opens.stored; read = opens.read }, opens.fit, refl),
+      )
 
   first_trail : KeepsChanges told → CompactionsKeep told → IsQuiet (told old) → Trail store_keeping (held_in store) (told old) [] store (told new)
   first_trail keeping compactions quiet =

@@ -16,12 +16,12 @@ use Rattle.odin_store.specs.OnDisk.{state_in, IsOn, IsOver, IsSame}
 use Rattle.odin_store.specs.Keeping.{store_keeping}
 use Rattle.odin_store.specs.Going.{IsBatchOf, HasBatches, Performs, HasPartialBatches, StopsPerforming}
 use Rattle.odin_store.specs.Written.{written_in, WorksFor, with_records, record_keeping}
-use Rattle.odin_store.proofs.Lemmas.{nothing_behind, batches_on, goes_none, stops_left, stops_more, gate-append, records-append, works_after}
+use Rattle.odin_store.proofs.Lemmas.{on_there, nothing_behind, batches_on, goes_none, stops_left, stops_more, gate-append, records-append, works_after}
 use Rattle.odin_engine.specs.Engaged.{Engaged, GraphStays}
 use Rattle.odin_answers.specs.Edits.{TreeTold, TreeStays}
 use Rattle.odin_engine.specs.Opened.{settled_bytes, settled_calls}
 use Rattle.odin_outside.specs.declared.disk.Disk.{Ghosts as DiskView}
-use Rattle.odin_shell.specs.Filed.{OpensFile, records_at_opening, WorksOver, HasWritten, StopsWriting, HoldsAll, LacksLast, HasNoRoomForLast, IsSafe}
+use Rattle.odin_shell.specs.Filed.{OpensFile, records_at_opening, noted_at_opening, WorksOver, HasWritten, StopsWriting, HoldsAll, LacksLast, HasNoRoomForLast, IsSafe}
 use Rattle.odin_shell.specs.Machine.{SessionState, Told, Applies, SessionInvariant, StoreFailed, StateAtExit, ToolsStay}
 
 -- where none runs no more do than may
@@ -62,12 +62,13 @@ written_on told text changes more start store next disk after_changes w goes =
     let base = records_at_opening over in
     let gate = over.store.journal.end in
     let image = (told over.opened).seen in
-    let others : HasBatches told more store next disk after_changes (base ++ w.payloads) (Some text) = goes.batches (base ++ w.payloads) (Some text) w.on in
+    let noted = noted_at_opening over in
+    let others : HasBatches told more store next disk after_changes (base ++ w.payloads) (Some text) w.on.noted = goes.batches (base ++ w.payloads) (Some text) w.on in
     record {
       over = over;
       payloads = w.payloads ++ others.payloads;
-      are = batches_on (state_in over.store (Some text)) (state_in store (Some text)) changes w.payloads w.are more others.payloads (state_in next (Some text)) others.are;
-      on = subst (λ r. IsOn (told after_changes) next r (Some text)) (append_assoc base w.payloads others.payloads) others.on;
+      on = on_there (told after_changes) (told after_changes) next ((base ++ w.payloads) ++ others.payloads) (base ++ (w.payloads ++ others.payloads)) (Some text) refl (sym (append_assoc base w.payloads others.payloads)) others.on;
+      are = batches_on (state_in over.store (Some text) noted) (state_in store (Some text) w.on.noted) changes w.payloads w.are more others.payloads (state_in next (Some text) others.on.noted) others.are;
       end = others.end ∙ ap (λ place. gate_behind place others.payloads) w.end ∙ sym (gate-append gate w.payloads others.payloads);
       bytes =
           others.bytes ∙ ap (λ place. with_records place others.payloads (told disk).seen) w.end
@@ -82,7 +83,7 @@ pub writing_stops : {D : Type 0} (told : D → Telling) (text : Text) (changes m
 writing_stops told text changes more start store disk after_changes w stops =
     let over = w.over in
     let base = records_at_opening over in
-    let has : HasPartialBatches told more store disk after_changes (Some text) = stops.begun (base ++ w.payloads) (Some text) w.on in
+    let has : HasPartialBatches told more store disk after_changes (Some text) w.on.noted = stops.begun (base ++ w.payloads) (Some text) w.on in
     let list : w.payloads ++ (has.payloads ++ has.begun) ≡ (w.payloads ++ has.payloads) ++ has.begun = sym (append_assoc w.payloads has.payloads has.begun) in
     record {
       over = over;
@@ -91,7 +92,7 @@ writing_stops told text changes more start store disk after_changes w stops =
       whole = ap (λ l. changes ++ l) has.whole ∙ sym (append_assoc changes has.made has.rest);
       payloads = w.payloads ++ has.payloads;
       last = has.last;
-      are = batches_on (state_in over.store (Some text)) (state_in store (Some text)) changes w.payloads w.are has.made has.payloads has.last has.are;
+      are = batches_on (state_in over.store (Some text) (noted_at_opening over)) (state_in store (Some text) w.on.noted) changes w.payloads w.are has.made has.payloads has.last has.are;
       begun = has.begun;
       next = has.next;
       leaves = subst (λ l. LeavesPrefix record_keeping base (told over.opened) (w.payloads ++ has.payloads) l (told after_changes)) list (has.leaves base over.opened w.payloads w.trail);

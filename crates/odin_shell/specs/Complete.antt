@@ -15,7 +15,7 @@ use Rattle.odin_shell.specs.Run.{RunEnds}
 
 module _ {I O T S D : Type 0} (m : Views I O T S D) (words : List Text) (before after : Outside I O T S D) where
   -- The words ask for a graph, and the tree tells its files, of which that of the graph is one of a checked graph; the store's file stands for
-  -- something, with nothing pending on it; and the input is whole and not too long.
+  -- something for this graph, with nothing pending on it; and the input is whole and not too long.
   pub record IsServable : Type 0 where
     pub name : Text
     pub jobs : ℕ
@@ -27,6 +27,7 @@ module _ {I O T S D : Type 0} (m : Views I O T S D) (words : List Text) (before 
     pub reads : ReadsAsGraph (given_of files name) text graph
     pub quiet : IsQuiet (m.disk.told before.disk)
     pub held : Held
+    pub own : held.text ≡ text
     pub stands : StandsFor held (m.disk.told before.disk).seen
     pub input : List ℕ
     pub left : m.source.left before.input ≡ Some input

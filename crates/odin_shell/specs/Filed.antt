@@ -5,6 +5,7 @@ use Rattle.odin_outside.specs.Disk.{Telling, IsQuiet}
 use Rattle.odin_journal.specs.Trails.{Trail, LeavesPrefix}
 use Rattle.meaning_graph.specs.Graphs.{Text}
 use Rattle.odin_journal.specs.Moments.{Works}
+use Rattle.object_values.specs.declared.facts.Fact.{Fact}
 use Rattle.object_values.specs.declared.items.Item.{Item}
 use Rattle.meaning_records.specs.Stands.{gate_behind}
 use Rattle.meaning_records.specs.States.{State as Read}
@@ -14,7 +15,7 @@ use Rattle.odin_store.specs.OnDisk.{state_in, IsOn, IsOver}
 use Rattle.odin_store.specs.Written.{written_in, with_records, record_keeping}
 use Rattle.odin_store.specs.Keeping.{store_keeping}
 use Rattle.odin_store.specs.Going.{IsBatchOf, AreBatches, IsPartialBatch}
-use Rattle.odin_engine.specs.Opened.{OpensEngine, settled_records, settled_bytes, settled_calls}
+use Rattle.odin_engine.specs.Opened.{OpensEngine, settled_records, settled_noted, settled_bytes, settled_calls}
 
 -- ---- what is written
 
@@ -29,6 +30,11 @@ pub record OpensFile {Disk : Type 0} (told : Disk → Telling) (text : Text) (st
 abbrev pub records_at_opening : {Disk : Type 0} {told : Disk → Telling} {text : Text} {start : Disk} → OpensFile told text start → List (List ℕ)
 records_at_opening over = settled_records over.goes.settles (over.goes.opens.records ++ over.goes.opens.opening)
 
+-- what was noted then since its last graph
+abbrev pub noted_at_opening : {Disk : Type 0} {told : Disk → Telling} {text : Text} {start : Disk} → OpensFile told text start → List Fact
+noted_at_opening {text = text} over =
+    settled_noted over.goes.settles (over.goes.opens.records ++ over.goes.opens.opening) (Some text) over.goes.opens.on
+
 -- The work since the start is at most that of the reading of the records that the file had, of the front of a new file, of the batch of the
 -- opening, of a copy where one was written, and of these batches.
 abbrev pub WorksOver : {Disk : Type 0} (told : Disk → Telling) (text : Text) (start : Disk) → OpensFile told text start → List (List ℕ) → Disk → Type 0
@@ -41,8 +47,8 @@ WorksOver told text start over payloads now =
 pub record HasWritten {Disk : Type 0} (told : Disk → Telling) (text : Text) (changes : List Change) (start : Disk) (store : Store) (now : Disk) : Type 0 where
   pub over : OpensFile told text start
   pub payloads : List (List ℕ)
-  pub are : AreBatches (state_in over.store (Some text)) changes payloads (state_in store (Some text))
   pub on : IsOn (told now) store (records_at_opening over ++ payloads) (Some text)
+  pub are : AreBatches (state_in over.store (Some text) (noted_at_opening over)) changes payloads (state_in store (Some text) on.noted)
   pub end : store.journal.end ≡ gate_behind over.store.journal.end payloads
   pub bytes : (told now).seen ≡ with_records over.store.journal.end payloads (told over.opened).seen
   pub trail : Trail record_keeping (records_at_opening over) (told over.opened) payloads store (told now)
@@ -57,7 +63,7 @@ pub record StopsWriting {Disk : Type 0} (told : Disk → Telling) (text : Text) 
   pub whole : changes ≡ made ++ rest
   pub payloads : List (List ℕ)
   pub last : Read
-  pub are : AreBatches (state_in over.store (Some text)) made payloads last
+  pub are : AreBatches (state_in over.store (Some text) (noted_at_opening over)) made payloads last
   pub begun : List (List ℕ)
   pub next : IsPartialBatch last.tables.contents rest begun
   pub leaves : LeavesPrefix record_keeping (records_at_opening over) (told over.opened) payloads (payloads ++ begun) (told now)
@@ -100,9 +106,9 @@ pub record LacksLast {Disk : Type 0} (told : Disk → Telling) (held : Held) (ch
   pub whole : changes ≡ front ++ change ∷ []
   pub crash : LeavesPrefix store_keeping held (told start) front changes (told now)
 
--- the file stands for this, where nothing is pending on it
-abbrev pub StartsFrom : Telling → Held → Type 0
-StartsFrom start held = IsQuiet start → StandsFor held start.seen
+-- the file stands for this, for the graph of the text, where nothing is pending on it
+abbrev pub StartsFrom : Text → Telling → Held → Type 0
+StartsFrom text start held = IsQuiet start → (held.text ≡ text) × StandsFor held start.seen
 
 -- At an exit every image that a crash since the start may leave stands for what was held at the start with some first ones of these
 -- changes, and every image that one may leave now has all that are acknowledged. What the file has is that, too, by its records, unless

@@ -72,7 +72,7 @@ DiskCount other before now = now ≡ before
 -- left.
 pub record SessionEnds {D : Type 0} (disk : DiskView D) (g : Graph) (text : Text) (limit : ℕ) (input left : SourceTold) (start now : Told D) (ending : Ending) : Type 0 where
   pub held : Held
-  pub starts : StartsFrom (disk.told start.disk) held
+  pub starts : StartsFrom text (disk.told start.disk) held
   pub leaves : SessionLeaves disk g text limit held ending input.left left.left start now
   pub read : InputCount ending input.faults left.faults
   pub counted : DiskCount ending (disk.faults start.disk) (disk.faults now.disk)

@@ -4,9 +4,9 @@ ghost use Rattle.odin_shell.specs.Fresh.{RunIsFresh};
 ghost use Rattle.odin_shell.specs.Objects.{views};
 ghost use Rattle.odin_shell.specs.Once.{NeverTwice, AnswersSurvive};
 
-use meaning_records::laws::stands_for_one;
 use odin_answers::laws::asked_again;
 use odin_outside::{Disk, Sink, Source, Spawner, Tree};
+use odin_store::laws::one_offset;
 use odin_words::laws::asked_is_one;
 
 /// Where the tools answer by a table, and what was kept is what it gives, the replies of a session are those of a machine that keeps no
@@ -36,5 +36,5 @@ pub fn runs_complete<I: Source, O: Sink, T: Tree, S: Spawner, D: Disk>()
         RunsComplete means }
 {
     asked_is_one();
-    stands_for_one();
+    one_offset();
 }

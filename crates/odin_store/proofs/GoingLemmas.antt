@@ -13,10 +13,13 @@ use Rattle.meaning_records.specs.Stands.{gate_behind}
 use Rattle.odin_journal.specs.declared.journal.Journal.{Journal}
 use Rattle.meaning_records.specs.States.{State, nothing, Reads, ReadsAll, spell_batch}
 use Rattle.odin_store.specs.declared.store.Store.{Store}
+use Rattle.object_values.specs.declared.facts.Fact.{Fact}
+use Rattle.object_values.specs.declared.facts.Fresh.{Fresh}
+use Rattle.meaning_records.specs.Batches.{facts_of}
 use Rattle.object_values.specs.Texts.{Text}
-use Rattle.odin_store.specs.Held.{Change, apply}
+use Rattle.odin_store.specs.Held.{Change, notes, apply}
 use Rattle.odin_store.specs.OnDisk.{held_in, state_in, IsOn, LeavesChange, AddsBatch, IsChangeFault, IsSame, BeginsOnce, IsOneOf}
-use Rattle.odin_store.specs.Changes.{EditsWhere}
+use Rattle.odin_store.specs.Changes.{NotesBatch, EditsWhere}
 use Rattle.odin_store.specs.Keeping.{store_keeping}
 use Rattle.odin_store.specs.Going.{IsBatchOf, AreBatches, HasBatches, Performs, IsPartialBatch, HasPartialBatches, LeavesBegun, StopsPerforming}
 use Rattle.odin_store.specs.Written.{WorksFor, with_records, record_keeping, LeavesFirst, RecordsRest}
@@ -54,6 +57,20 @@ batches_on old mid some payloads first _ _ _ (AreBatches.one_batch changes befor
     (subst (λ p. AreBatches old ((some ++ changes) ++ change ∷ []) p new) (append_assoc payloads before (spell_batch items ∷ []))
     (AreBatches.one_batch (some ++ changes) (payloads ++ before) between change items new (batches_on old mid some payloads first changes before between are) batch reads))
 
+-- a store on a disk, told in other words
+abbrev pub on_there : (disk other : Telling) (store : Store) (records more : List (List ℕ)) (graph : Option Text) → other ≡ disk → more ≡ records → IsOn disk store records graph → IsOn other store more graph
+on_there disk other store records more graph there same on = record {
+  noted = on.noted;
+  rests = subst (λ d. RestsOn d more store.journal) (sym there) (subst (λ r. RestsOn disk r store.journal) (sym same) on.rests);
+  read = subst (λ r. ReadsAll nothing r (state_in store graph on.noted)) (sym same) on.read;
+  last = on.last;
+  fit = on.fit;
+}
+
+-- a batch of what is noted is one of its facts
+pub batch_noted : (fresh : List Fresh) (store next : Store) (old new : Telling) → AddsBatch (NotesBatch store fresh) store next old new → AddsBatch (IsBatchOf store.kept.tables.contents (notes (facts_of fresh))) store next old new
+batch_noted fresh store next old new (items, batch, appends) = (items, (fresh, refl, batch), appends)
+
 -- ---- changes
 
 module _ {Disk : Type 0} (told : Disk → Telling) where
@@ -64,10 +81,8 @@ module _ {Disk : Type 0} (told : Disk → Telling) where
         (λ held rests. same_rests told store next disk disk held (record { disk_is = refl; store_is = same.store_is }) rests);
     batches = λ records graph on. record {
       payloads = [];
-      are = subst (λ s. AreBatches (state_in store graph) [] [] s) (sym (same_state store next graph same.store_is)) AreBatches.no_batches;
-      on =
-          subst (λ r. IsOn (told after) next r graph) (sym (nothing_behind records))
-          (subst (λ d. IsOn (told d) next records graph) (sym same.disk_is) (same_on (told disk) store next records graph same.store_is on));
+      on = on_there (told disk) (told after) next records (records ++ []) graph (ap told same.disk_is) (nothing_behind records) (same_on (told disk) store next records graph same.store_is on);
+      are = subst (λ s. AreBatches (state_in store graph on.noted) [] [] s) (sym (same_state store next graph on.noted same.store_is)) AreBatches.no_batches;
       end = ap (λ (j : Journal). j.end) same.store_is.journal;
       bytes = ap (λ d. (told d).seen) same.disk_is;
       grows = untouched_grows record_keeping told disk after store next same.disk_is (λ kept rests. subst (λ (j : Journal). RestsOn (told disk) kept j) (sym same.store_is.journal) rests);
@@ -89,8 +104,9 @@ module _ {Disk : Type 0} (told : Disk → Telling) where
             let now : IsOn (told after) next (records ++ spell_batch items ∷ []) graph = appends.on records graph on in
             record {
               payloads = spell_batch items ∷ [];
-              are = alone change items (state_in store graph) (state_in next graph) batch (last_read law records (spell_batch items) nothing (state_in store graph) (state_in next graph) on.read now.read);
               on = now;
+              are = alone change items (state_in store graph on.noted) (state_in next graph now.noted) batch
+                  (last_read law records (spell_batch items) nothing (state_in store graph on.noted) (state_in next graph now.noted) on.read now.read);
               end = appends.end;
               bytes = appends.bytes on.rests.rests.quiet;
               grows = keeps_grows record_keeping told (spell_batch items) disk after store next (record {
@@ -106,12 +122,12 @@ module _ {Disk : Type 0} (told : Disk → Telling) where
     holds = second.holds ∙ ap (trails.after_changes store_keeping more) first.holds ∙ sym (after-append store_keeping some more (held_in store));
     grows = grows_on store_keeping told some more disk between after store mid next first.grows second.grows;
     batches = λ records graph on.
-        let one : HasBatches told some store mid disk between records graph = first.batches records graph on in
-        let two : HasBatches told more mid next between after (records ++ one.payloads) graph = second.batches (records ++ one.payloads) graph one.on in
+        let one : HasBatches told some store mid disk between records graph on.noted = first.batches records graph on in
+        let two : HasBatches told more mid next between after (records ++ one.payloads) graph one.on.noted = second.batches (records ++ one.payloads) graph one.on in
         record {
           payloads = one.payloads ++ two.payloads;
-          are = batches_on (state_in store graph) (state_in mid graph) some one.payloads one.are more two.payloads (state_in next graph) two.are;
-          on = subst (λ r. IsOn (told after) next r graph) (append_assoc records one.payloads two.payloads) two.on;
+          on = on_there (told after) (told after) next ((records ++ one.payloads) ++ two.payloads) (records ++ (one.payloads ++ two.payloads)) graph refl (sym (append_assoc records one.payloads two.payloads)) two.on;
+          are = batches_on (state_in store graph on.noted) (state_in mid graph one.on.noted) some one.payloads one.are more two.payloads (state_in next graph two.on.noted) two.are;
           end = two.end ∙ ap (λ gate. gate_behind gate two.payloads) one.end ∙ sym (gate-append store.journal.end one.payloads two.payloads);
           bytes = two.bytes ∙ ap (λ gate. with_records gate two.payloads (told between).seen) one.end
               ∙ ap (with_records (gate_behind store.journal.end one.payloads) two.payloads) one.bytes ∙ sym (records-append store.journal.end one.payloads two.payloads (told disk).seen);
@@ -129,13 +145,14 @@ module _ {Disk : Type 0} (told : Disk → Telling) where
       (first_leaves first before begun store (told start) (told disk) (told after) leaves trail)
 
   -- a change that failed: its batch was begun, or none
-  failed_begun : (change : Change) (store : Store) (disk after : Disk) (graph : Option Text) → BeginsOnce (IsBatchOf store.kept.tables.contents change) store (told disk) (told after) → HasPartialBatches told (change ∷ []) store disk after graph
-  failed_begun change store disk after graph begins = record {
+  failed_begun : (change : Change) (store : Store) (disk after : Disk) (graph : Option Text) (noted : List Fact) → BeginsOnce (IsBatchOf store.kept.tables.contents change) store (told disk) (told after)
+      → HasPartialBatches told (change ∷ []) store disk after graph noted
+  failed_begun change store disk after graph noted begins = record {
     made = [];
     rest = change ∷ [];
     whole = refl;
     payloads = [];
-    last = state_in store graph;
+    last = state_in store graph noted;
     are = AreBatches.no_batches;
     begun = begins.begun;
     next = by begins.begun begins.one;
@@ -151,7 +168,7 @@ module _ {Disk : Type 0} (told : Disk → Telling) where
       → BeginsOnce (IsBatchOf store.kept.tables.contents change) store (told disk) (told after) → StopsPerforming told (change ∷ []) store disk after
   stops_failed change store disk after leaves begins = record {
     within = stops_within store_keeping told change disk after store (stops_in change store (told disk) (told after) leaves);
-    begun = λ records graph on. failed_begun change store disk after graph begins;
+    begun = λ records graph on. failed_begun change store disk after graph on.noted begins;
   }
 
   -- what was begun after payloads after others
@@ -166,15 +183,15 @@ module _ {Disk : Type 0} (told : Disk → Telling) where
   stops_behind some more store mid disk between after goes stops = record {
     within = grows_stops store_keeping told some more disk between after store mid goes.grows stops.within;
     begun = λ records graph on.
-        let one : HasBatches told some store mid disk between records graph = goes.batches records graph on in
-        let two : HasPartialBatches told more mid between after graph = stops.begun (records ++ one.payloads) graph one.on in
+        let one : HasBatches told some store mid disk between records graph on.noted = goes.batches records graph on in
+        let two : HasPartialBatches told more mid between after graph one.on.noted = stops.begun (records ++ one.payloads) graph one.on in
         record {
           made = some ++ two.made;
           rest = two.rest;
           whole = ap (λ l. some ++ l) two.whole ∙ sym (append_assoc some two.made two.rest);
           payloads = one.payloads ++ two.payloads;
           last = two.last;
-          are = batches_on (state_in store graph) (state_in mid graph) some one.payloads one.are two.made two.payloads two.last two.are;
+          are = batches_on (state_in store graph on.noted) (state_in mid graph one.on.noted) some one.payloads one.are two.made two.payloads two.last two.are;
           begun = two.begun;
           next = two.next;
           leaves = begun_behind one.payloads two.payloads two.begun store mid disk between after one.grows two.leaves;
@@ -193,13 +210,13 @@ module _ {Disk : Type 0} (told : Disk → Telling) where
   stops_left changes store next disk after goes = record {
     within = grows_left store_keeping told changes disk after store next (λ held rests. left_durably (told after) next held rests) goes.grows;
     begun = λ records graph on.
-        let all : HasBatches told changes store next disk after records graph = goes.batches records graph on in
+        let all : HasBatches told changes store next disk after records graph on.noted = goes.batches records graph on in
         record {
           made = changes;
           rest = [];
           whole = sym (nothing_behind changes);
           payloads = all.payloads;
-          last = state_in next graph;
+          last = state_in next graph all.on.noted;
           are = all.are;
           begun = [];
           next = IsPartialBatch.none_begun [];
@@ -217,7 +234,7 @@ module _ {Disk : Type 0} (told : Disk → Telling) where
   stops_more changes more store disk after stops = record {
     within = stops_longer store_keeping told changes more disk after store stops.within;
     begun = λ records graph on.
-        let has : HasPartialBatches told changes store disk after graph = stops.begun records graph on in
+        let has : HasPartialBatches told changes store disk after graph on.noted = stops.begun records graph on in
         record {
           made = has.made;
           rest = has.rest ++ more;

@@ -1,10 +1,14 @@
 -- A store keeps changes on a disk, one after another.
-use Rattle.std.proofs.Common.{◌≡◌, ◌⊎◌, inl, inr, List, [], ◌∷◌, ◌++◌, ℕ, Option, Some, refl, sym, ap, subst, ◌∙◌, arith}
+use Rattle.std.proofs.Common.{◌≡◌, ◌⊎◌, inl, inr, true, All, List, [], ◌∷◌, ◌++◌, ℕ, Option, Some, refl, sym, ap, subst, ◌∙◌, arith}
 use Rattle.odin_outside.specs.Disk.{Telling, MayLeave, LeavesOnly, IsQuiet}
 use Rattle.odin_outside.specs.Moments.{weaker}
 use Rattle.odin_journal.specs.Trails as trails
 use Rattle.odin_journal.specs.TrailLemmas.{opened_trail}
+use Rattle.object_values.specs.declared.facts.Fact.{Fact}
 use Rattle.object_values.specs.Texts.{Text, Texts}
+use Rattle.meaning_graph.specs.Graphs.{Graph}
+use Rattle.meaning_graph.specs.Grammar.{GraphText}
+use Rattle.validator.specs.Fitting.{FactFits}
 use Rattle.odin_journal.specs.declared.journal.Journal.{Journal}
 use Rattle.odin_journal.specs.Rest.{RestsOn}
 use Rattle.object_values.specs.declared.items.Item.{Item}
@@ -12,12 +16,13 @@ use Rattle.meaning_records.specs.Tables.{Tables}
 use Rattle.meaning_records.specs.Laws.{ReadsInOneWay}
 use Rattle.meaning_records.specs.States.{State, nothing, ReadsAll, spell_batch}
 use Rattle.odin_store.specs.declared.store.Store.{Store}
-use Rattle.odin_store.specs.Held.{Held, Change, apply, StandsFor}
+use Rattle.odin_store.specs.Held.{Held, counts, NotedFit, Change, apply, StandsFor}
 use Rattle.odin_store.specs.OnDisk.{held_in, state_in, IsOn, LeavesChange, Appends, IsUnchanged, IsSame}
 use Rattle.odin_store.specs.Opening.{graph_record, IsOpening, OpensStore, HaveOther, HasOpening, LeavesOpening}
 use Rattle.odin_store.specs.Written.{record_keeping}
 use Rattle.odin_store.specs.Keeping.{Rests, store_keeping}
-use Rattle.odin_store.proofs.StoreLemmas.{held_left}
+use Rattle.odin_store.proofs.LoadLemmas.{read_once}
+use Rattle.odin_store.proofs.StoreLemmas.{held_left, held_with, stands_in}
 use Rattle.odin_store.proofs.RecordTrails.{after_records}
 
 pub stops_in : (change : Change) (store : Store) (old new : Telling) → LeavesChange change store old new → trails.StopsIn store_keeping change old store new
@@ -37,23 +42,26 @@ kept_on items change store next old new holds appends leaves = record {
 }
 
 -- a store that is as it was rests as it did
-pub same_on : (disk : Telling) (store next : Store) (records : List (List ℕ)) (graph : Option Text) → IsUnchanged store next → IsOn disk store records graph → IsOn disk next records graph
+abbrev pub same_on : (disk : Telling) (store next : Store) (records : List (List ℕ)) (graph : Option Text) → IsUnchanged store next → IsOn disk store records graph → IsOn disk next records graph
 same_on disk store next records graph same on = record {
+  noted = on.noted;
   rests = subst (λ (j : Journal). RestsOn disk records j) (sym same.journal) on.rests;
   read =
-      subst (λ (t : Tables). ReadsAll nothing records (record { tables = t; sources = next.sources.texts; graph = graph })) (sym same.tables)
-      (subst (λ (s : Texts). ReadsAll nothing records (record { tables = store.kept.tables; sources = s; graph = graph })) (sym same.sources) on.read);
+      subst (λ (t : Tables). ReadsAll nothing records (record { tables = t; sources = next.sources.texts; graph = graph; noted = on.noted })) (sym same.tables)
+      (subst (λ (s : Texts). ReadsAll nothing records (record { tables = store.kept.tables; sources = s; graph = graph; noted = on.noted })) (sym same.sources) on.read);
   last = on.last ∙ ap Some (sym same.graph);
+  fit = subst (λ t. (g : Graph) → GraphText t g → counts t graph ≡ true → All (FactFits g) on.noted) (sym same.graph) on.fit;
 }
 
-pub same_state : (store next : Store) (graph : Option Text) → IsUnchanged store next → state_in next graph ≡ state_in store graph
-same_state store next graph same =
-    ap (λ (t : Tables). record { tables = t; sources = next.sources.texts; graph = graph }) same.tables
-    ∙ ap (λ (s : Texts). record { tables = store.kept.tables; sources = s; graph = graph }) same.sources
+pub same_state : (store next : Store) (graph : Option Text) (noted : List Fact) → IsUnchanged store next → state_in next graph noted ≡ state_in store graph noted
+same_state store next graph noted same =
+    ap (λ (t : Tables). record { tables = t; sources = next.sources.texts; graph = graph; noted = noted }) same.tables
+    ∙ ap (λ (s : Texts). record { tables = store.kept.tables; sources = s; graph = graph; noted = noted }) same.sources
 
 pub same_held : (store next : Store) → IsUnchanged store next → held_in next ≡ held_in store
 same_held store next same =
-    ap (λ (t : Tables). record { sources = next.sources.texts; calls = t.calls }) same.tables ∙ ap (λ (s : Texts). record { sources = s; calls = store.kept.tables.calls }) same.sources
+    ap (λ (t : Tables). held_with next.graph t next.sources.texts) same.tables
+    ∙ ap (held_with next.graph store.kept.tables) same.sources ∙ ap (λ t. held_with t store.kept.tables store.sources.texts) same.graph
 
 pub same_rests : {Disk : Type 0} (told : Disk → Telling) (store next : Store) (disk after : Disk) (held : Held) → IsSame store next disk after → Rests (told disk) store held → Rests (told after) next held
 same_rests told store next disk after held same rests =
@@ -72,6 +80,7 @@ opens_same graph old new store next same opens = record {
   state = opens.state;
   stored = opens.stored;
   read = opens.read;
+  fit = opens.fit;
   holds = same_held store next same ∙ opens.holds;
   opening = opens.opening;
   opens = opens.opens;
@@ -88,30 +97,25 @@ opens_same graph old new store next same opens = record {
 opened_rests : (graph : Text) (store : Store) (old new : Telling) → OpensStore graph old new store → Rests new store (held_in store)
 opened_rests graph store old new opens = record { records = opens.records ++ opens.opening; graph = Some graph; on = opens.on; holds = refl }
 
--- records read in one way
-all_read : ReadsInOneWay → (records : List (List ℕ)) (first one other : State) → ReadsAll first records one → ReadsAll first records other → other ≡ one
-all_read law [] first one other reads also = also ∙ sym reads
-all_read law (payload ∷ records) first one other reads also =
-    let same : also.0 ≡ reads.0 = law first payload reads.0 also.0 reads.1 also.1 in
-    all_read law records reads.0 one other reads.2 (subst (λ s. ReadsAll s records other) same also.2)
-
 -- what the last graph is has no other batch due
 none_due : ReadsInOneWay → (graph : Text) (records : List (List ℕ)) (state : State) → ReadsAll nothing records state → state.graph ≡ Some graph → HaveOther graph records → ⊥
-none_due law graph records state read known (found, reads, other) = other (ap (λ (s : State). s.graph) (all_read law records nothing state found read reads) ∙ known)
+none_due law graph records state read known (found, reads, other) = other (ap (λ (s : State). s.graph) (read_once law records nothing state found read reads) ∙ known)
 
 module _ (law : ReadsInOneWay) (graph : Text) (store : Store) (old new : Telling) (quiet : IsQuiet old) (opens : OpensStore graph old new store) (leaves : LeavesOpening graph old new) where
   -- an image that a crash within the opening may leave stands for what the store holds
-  opening_holds : (opening : List (List ℕ)) → IsOpening graph opens.state.graph opening → ReadsAll nothing (opens.records ++ opening) (state_in store (Some graph)) → (image : List ℕ) → HasOpening graph opens.records image
+  opening_holds : (opening : List (List ℕ)) → IsOpening graph opens.state.graph opening → (noted : List Fact) → ReadsAll nothing (opens.records ++ opening) (state_in store (Some graph) noted) → NotedFit store.graph (state_in store (Some graph) noted) → (image : List ℕ) → HasOpening graph opens.records image
       → StandsFor (held_in store) image
-  opening_holds opening opened read image (inl there) = (opens.state, record { records = opens.records; stored = there; read = opens.read }, sym opens.holds)
-  opening_holds opening (inl known) read image (inr added) = absurd (none_due law graph opens.records opens.state opens.read known.0 added.0)
-  opening_holds opening (inr due) read image (inr added) =
-      (state_in store (Some graph), record { records = opens.records ++ graph_record graph ∷ []; stored = added.1; read = subst (λ l. ReadsAll nothing (opens.records ++ l) (state_in store (Some graph))) due.1 read }, refl)
+  opening_holds opening opened noted read fit image (inl there) =
+      subst (λ h. StandsFor h image) (sym opens.holds) (opens.state, record { records = opens.records; stored = there; read = opens.read }, opens.fit, refl)
+  opening_holds opening (inl known) noted read fit image (inr added) = absurd (none_due law graph opens.records opens.state opens.read known.0 added.0)
+  opening_holds opening (inr due) noted read fit image (inr added) =
+      let reads = subst (λ l. ReadsAll nothing (opens.records ++ l) (state_in store (Some graph) noted)) due.1 read in
+      stands_in store image (opens.records ++ graph_record graph ∷ []) (Some graph) noted added.1 reads opens.on.last fit
 
   pub opened : trails.Trail store_keeping (held_in store) old [] store new
   opened =
       opened_trail store_keeping (held_in store) old new store (opened_rests graph store old new opens)
-      (weaker old new (HasOpening graph opens.records) (StandsFor (held_in store)) (leaves opens.records quiet opens.stored) (opening_holds opens.opening opens.opens opens.on.read))
+      (weaker old new (HasOpening graph opens.records) (StandsFor (held_in store)) (leaves opens.records quiet opens.stored) (opening_holds opens.opening opens.opens opens.on.noted opens.on.read opens.on.fit))
 
   -- it has the records, and the batch of the opening after them or not
   opening_first : (opening : List (List ℕ)) → IsOpening graph opens.state.graph opening → (image : List ℕ) → HasOpening graph opens.records image → trails.IsPrefix record_keeping opens.records 0 opening image

@@ -3,7 +3,10 @@ mod CompactLemmas
 mod GoingLemmas
 mod KeepingLemmas
 mod LoadLemmas
+mod NoteLemmas
+mod OffsetLemmas
 mod OpenLemmas
+mod PastLemmas
 mod ReadyLemmas
 mod RecordLemmas
 mod RecordTrails

@@ -1,22 +1,18 @@
--- The loading of items and payloads: what was read so far, and that nothing else can be read.
-use Rattle.std.proofs.Common.{◌≡◌, ◌≢◌, ℕ, ◌+◌, ◌-◌, ◌<◌, ◌≤◌, List, [], ◌∷◌, ◌++◌, length, take, flat_map, Option, Some, None, IsSome, slice_range, length-append, refl, sym, ap, subst, ◌∙◌, arith}
-use Rattle.std.specs.FinMap as map
+-- The loading of payloads: what was read so far, and that nothing else can be read.
+use Rattle.std.proofs.Common.{◌≡◌, ◌≢◌, ℕ, ◌+◌, ◌-◌, ◌<◌, ◌≤◌, List, [], ◌∷◌, ◌++◌, length, take, flat_map, slice_range, length-append, refl, sym, ap, subst, ◌∙◌, arith}
 use Rattle.std.proofs.lemmas.List.{take_all}
 use Rattle.std.proofs.lemmas.List.Elements.{All-nil, All-push, All-head, All-tail}
-use Rattle.object_values.specs.Texts.{Text}
 use Rattle.object_values.specs.declared.items.Item.{Item}
-use Rattle.object_values.specs.declared.items.Item.TheVariants.{Graph, Content, Put, Dropped, Kept}
+use Rattle.object_values.specs.declared.items.Item.TheVariants.{Graph, Content, Put, Dropped, Kept, Node}
 use Rattle.meaning_records.specs.Forms.{ParsesAt}
 use Rattle.meaning_records.specs.Records.{item}
 use Rattle.meaning_records.specs.FormLemmas.{one_item}
 use Rattle.meaning_records.specs.PlaceLemmas.{FollowAt, none_follow, one_more_follows, one_stands, field_end, field_split}
-use Rattle.meaning_records.specs.Tables.{Tables}
 use Rattle.meaning_records.specs.States.{State, TakesOne, TakesAll, Reads, ReadsAll, spell_batch}
 use Rattle.meaning_records.specs.Laws.{ReadsInOneWay}
-use Rattle.kept_tables.specs.declared.loaded.Loaded.{Loaded}
-use Rattle.kept_tables.specs.declared.loaded.Loaded.TheVariants as loaded
-use Rattle.kept_tables.specs.Loading.{IsLoaded, LoadsItem}
-use Rattle.odin_store.specs.Loading.{TakesItem, TakesNone, ReadsNot}
+use Rattle.odin_store.specs.declared.loading.Loading.{Loading}
+use Rattle.odin_store.specs.Loading.{Past, IsPast, TakesItem, TakesNone, TakesNoItem, LoadsOn, ReadsNot, LoadsNot, state_of}
+use Rattle.odin_store.specs.Offsets.{gates_with, gates_with_all}
 
 -- all of a list
 whole_range : (xs : List ℕ) (end : ℕ) → end ≡ length xs → slice_range xs 0 end ≡ xs
@@ -30,27 +26,13 @@ item_some (Content value) = omega arith
 item_some (Put name number) = omega arith
 item_some (Dropped name) = omega arith
 item_some (Kept call outcome) = omega arith
+item_some (Node stored) = omega arith
 
-dropped_there : (contents : List _) (it : Item) (given : Loaded) (name : List ℕ) → IsLoaded contents it given → given ≡ loaded.Dropped name → it ≡ Dropped name
-dropped_there contents (Graph text) given name gives is = let no : ⊥ = cc in absurd no
-dropped_there contents (Content value) given name gives is = let no : ⊥ = cc in absurd no
-dropped_there contents (Put at number) given name gives is = let other : given ≡ loaded.Put at gives.0 = gives.2 in let no : ⊥ = cc in absurd no
-dropped_there contents (Dropped at) given name gives is = cc
-dropped_there contents (Kept call outcome) given name gives is = let no : ⊥ = cc in absurd no
-
-not_some : (o : Option Text) → o ≡ None → IsSome o → ⊥
-not_some None none some = let no : ⊥ = cc in no
-not_some (Some text) none some = let no : ⊥ = cc in no
-
--- a source that isn't there can't be dropped
-pub dropped_none : (payload : List ℕ) (at end : ℕ) (given : Loaded) (name : List ℕ) (old : State) (tables : Tables)
-    → LoadsItem payload at end given old.tables tables → given ≡ loaded.Dropped name → map.get old.sources name ≡ None → TakesNone payload at old
-dropped_none payload at end given name old tables loads is none it last new stands takes =
-    let there = dropped_there old.tables.contents loads.it given name loads.gives is in
-    let same = (one_stands item one_item payload at end last loads.it it loads.stands stands).0 in
-    let dropped : TakesOne old (Dropped name) new = subst (λ i. TakesOne old i new) (sym same ∙ there) takes in
-    let some : IsSome (map.get old.sources name) = dropped.edits.0 in
-    not_some (map.get old.sources name) none some
+-- an item stands at a place of a payload, and makes this of what is kept
+pub record TakesThere (payload : List ℕ) (at end : ℕ) (old new : State) : Type 0 where
+  pub it : Item
+  pub stands : ParsesAt item payload at end it
+  pub takes : TakesOne old it new
 
 -- ---- items so far, and items to come
 
@@ -82,7 +64,7 @@ pub record ReadsFrom (payload : List ℕ) (at : ℕ) (now new : State) : Type 0 
   pub follow : FollowAt item payload at (length payload) items
   pub taken : TakesAll now items new
 
-pub at_start : (payload : List ℕ) (old : State) → ReadsTo payload 0 old old
+abbrev pub at_start : (payload : List ℕ) (old : State) → ReadsTo payload 0 old old
 at_start payload old = record { items = []; follow = none_follow item payload 0 (omega arith); taken = refl }
 
 pub from_start : (payload : List ℕ) (old new : State) → Reads old payload new → ReadsFrom payload 0 old new
@@ -92,7 +74,7 @@ from_start payload old new reads = record {
   taken = reads.taken;
 }
 
-pub one_more : (payload : List ℕ) (at end : ℕ) (old now new : State) → ReadsTo payload at old now → TakesItem payload at end now new → ReadsTo payload end old new
+abbrev pub one_more : (payload : List ℕ) (at end : ℕ) (old now new : State) → ReadsTo payload at old now → TakesThere payload at end now new → ReadsTo payload end old new
 one_more payload at end old now new before taken = record {
   items = before.items ++ taken.it ∷ [];
   follow = one_more_follows item payload 0 at end before.items taken.it before.follow taken.stands;
@@ -121,7 +103,7 @@ front_of payload at now new (it ∷ items) inside follow taken =
       rest = record { items = items; follow = record { fit = All-tail item.fits it items follow.fit; field = fields.second }; taken = taken.2 };
     }
 
-pub on_from : ReadsInOneWay → (payload : List ℕ) (at end : ℕ) (now next new : State) → at < length payload → TakesItem payload at end now next → ReadsFrom payload at now new → ReadsFrom payload end next new
+pub on_from : ReadsInOneWay → (payload : List ℕ) (at end : ℕ) (now next new : State) → at < length payload → TakesThere payload at end now next → ReadsFrom payload at now new → ReadsFrom payload end next new
 on_from law payload at end now next new inside taken reads =
     let front = front_of payload at now new reads.items inside reads.follow reads.taken in
     let same = one_stands item one_item payload at front.end end front.it taken.it front.stands taken.stands in
@@ -133,13 +115,6 @@ pub none_from : (payload : List ℕ) (at : ℕ) (now new : State) → at < lengt
 none_from payload at now new inside none reads =
     let front = front_of payload at now new reads.items inside reads.follow reads.taken in
     none front.it front.end front.next front.stands front.takes
-
--- an item takes some bytes
-pub goes_on : (payload : List ℕ) (at end : ℕ) (old new : State) → TakesItem payload at end old new → (at < end) × (end ≤ length payload)
-goes_on payload at end old new taken =
-    let some = item_some taken.it in
-    let is = field_end payload at end (item.spell taken.it) taken.stands.field in
-    (omega arith, taken.stands.field.in_range.1)
 
 -- ---- a whole payload
 
@@ -153,10 +128,14 @@ empty_unread old payload empty new reads =
     let none : length (spell_batch reads.items) ≡ 0 = sym (ap length reads.spelled) ∙ empty in
     omega arith
 
+whole_spelled : (payload : List ℕ) (at : ℕ) (old new : State) → length payload ≤ at → at ≤ length payload → (reads : ReadsTo payload at old new) → payload ≡ spell_batch reads.items
+whole_spelled payload at old new past inside reads =
+    let end : at ≡ length payload = omega arith in
+    sym (whole_range payload at end) ∙ reads.follow.field.bytes
+
 pub all_read : (payload : List ℕ) (at : ℕ) (old new : State) → payload ≢ [] → length payload ≤ at → at ≤ length payload → ReadsTo payload at old new → Reads old payload new
 all_read payload at old new some past inside reads =
-    let end : at ≡ length payload = omega arith in
-    let whole : payload ≡ spell_batch reads.items = sym (whole_range payload at end) ∙ reads.follow.field.bytes in
+    let whole : payload ≡ spell_batch reads.items = whole_spelled payload at old new past inside reads in
     record {
       items = reads.items;
       some = λ none. some (whole ∙ ap spell_batch none);
@@ -165,8 +144,63 @@ all_read payload at old new some past inside reads =
       taken = reads.taken;
     }
 
+-- ---- what was loaded
+
+with_more : (gate : ℕ) (items : List Item) (it : Item) (gates : List ℕ) → gates_with_all gate (items ++ it ∷ []) gates ≡ gates_with gate it (gates_with_all gate items gates)
+with_more gate [] it gates = refl
+with_more gate (first ∷ items) it gates = with_more gate items it (gates_with gate first gates)
+
+-- The items up to a place of the payload were loaded, and what the payload makes of what was the others make.
+pub record ItemsLoaded (payload : List ℕ) (at : ℕ) (old now : Loading) (past : Past) : Type 0 where
+  pub next : Past
+  pub before : ReadsTo payload at (state_of old past) (state_of now next)
+  pub is : IsPast now next
+  pub gates : next.gates ≡ gates_with_all old.gate before.items past.gates
+  pub behind : (new : State) → Reads (state_of old past) payload new → ReadsFrom payload at (state_of now next) new
+
+pub none_loaded : (payload : List ℕ) (old : Loading) (past : Past) → IsPast old past → ItemsLoaded payload 0 old old past
+none_loaded payload old past is = record { next = past; before = at_start payload (state_of old past); is = is; gates = refl; behind = from_start payload (state_of old past) }
+
+pub one_loaded : ReadsInOneWay → (payload : List ℕ) (at end : ℕ) (old now new : Loading) (past : Past) → now.gate ≡ old.gate → at < length payload → TakesItem payload at end now new → ItemsLoaded payload at old now past → ItemsLoaded payload end old new past
+one_loaded law payload at end old now new past gate inside taken loaded =
+    let on = taken.takes loaded.next loaded.is in
+    let there : TakesThere payload at end (state_of now loaded.next) (state_of new on.next) = record { it = taken.it; stands = taken.stands; takes = on.takes } in
+    record {
+      next = on.next;
+      before = one_more payload at end (state_of old past) (state_of now loaded.next) (state_of new on.next) loaded.before there;
+      is = on.is;
+      gates = on.gates ∙ ap (λ n. gates_with n taken.it loaded.next.gates) gate ∙ ap (gates_with old.gate taken.it) loaded.gates ∙ sym (with_more old.gate loaded.before.items taken.it past.gates);
+      behind = λ other reads. on_from law payload at end (state_of now loaded.next) (state_of new on.next) other inside there (loaded.behind other reads);
+    }
+
+pub item_ends : (payload : List ℕ) (at end : ℕ) (old new : Loading) → TakesItem payload at end old new → (at < end) × (end ≤ length payload)
+item_ends payload at end old new taken =
+    let some = item_some taken.it in
+    let is = field_end payload at end (item.spell taken.it) taken.stands.field in
+    (omega arith, taken.stands.field.in_range.1)
+
+pub none_more : (payload : List ℕ) (at : ℕ) (old now : Loading) → at < length payload → TakesNoItem payload at now → ((past : Past) → IsPast old past → ItemsLoaded payload at old now past) → LoadsNot payload old
+none_more payload at old now inside none loaded past is new reads =
+    let here = loaded past is in
+    none_from payload at (state_of now here.next) new inside (none here.next here.is) (here.behind new reads)
+
+pub all_loaded : (payload : List ℕ) (at : ℕ) (old now : Loading) (past : Past) → payload ≢ [] → length payload ≤ at → at ≤ length payload → ItemsLoaded payload at old now past → LoadsOn payload old now past
+all_loaded payload at old now past some passed inside loaded = record {
+  next = loaded.next;
+  reads = all_read payload at (state_of old past) (state_of now loaded.next) some passed inside loaded.before;
+  is = loaded.is;
+  gates = (loaded.before.items, loaded.before.follow.fit, whole_spelled payload at (state_of old past) (state_of now loaded.next) passed inside loaded.before, loaded.gates);
+}
+
 -- ---- payloads one after another
 
 pub reads_on : (payloads : List (List ℕ)) (payload : List ℕ) (old mid new : State) → ReadsAll old payloads mid → Reads mid payload new → ReadsAll old (payloads ++ payload ∷ []) new
 reads_on [] payload old mid new before reads = (new, subst (λ s. Reads s payload new) before reads, refl)
 reads_on (first ∷ payloads) payload old mid new before reads = (before.0, before.1, reads_on payloads payload before.0 mid new before.2 reads)
+
+-- records read in one way
+pub read_once : ReadsInOneWay → (records : List (List ℕ)) (first one other : State) → ReadsAll first records one → ReadsAll first records other → other ≡ one
+read_once law [] first one other reads also = also ∙ sym reads
+read_once law (payload ∷ records) first one other reads also =
+    let same : also.0 ≡ reads.0 = law first payload reads.0 also.0 reads.1 also.1 in
+    read_once law records reads.0 one other reads.2 (subst (λ s. ReadsAll s records other) same also.2)

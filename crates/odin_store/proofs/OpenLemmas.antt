@@ -1,10 +1,16 @@
 -- The opening of a store over the opening of its journal.
 use Rattle.std.specs.Prelude.{⊤}
-use Rattle.std.proofs.Common.{◌≡◌, ◌≢◌, ◌⊎◌, inl, inr, ℕ, ◌+◌, ◌-◌, ◌*◌, ◌<◌, ◌≤◌, List, [], ◌∷◌, ◌++◌, length, length-append, Some, Err, refl, sym, ap, subst, ◌∙◌, arith}
+use Rattle.std.proofs.Common.{◌≡◌, ◌≢◌, ◌⊎◌, inl, inr, ℕ, ◌+◌, ◌-◌, ◌*◌, ◌<◌, ◌≤◌, List, [], ◌∷◌, ◌++◌, length, length-append, All, Bool, true, false, IsTrue, IsFalse, cond, Option, Some, None, Err, refl, sym, ap, subst, ◌∙◌, arith}
+use Rattle.std.specs.Str.{bytes_eq}
 use Rattle.std.proofs.lemmas.List.Elements.{All-nil, All-push}
+use Rattle.std.proofs.lemmas.Slice.Eq.{bytes_eq-Decides}
 use Rattle.odin_outside.specs.Disk.{Telling, IsQuiet}
 use Rattle.odin_outside.specs.Moments.{then, weaker}
+use Rattle.object_values.specs.declared.facts.Fact.{Fact}
 use Rattle.object_values.specs.Texts.{Text}
+use Rattle.meaning_graph.specs.Graphs.{Graph}
+use Rattle.meaning_graph.specs.Grammar.{GraphText}
+use Rattle.meaning_graph.specs.TextLaws.{GraphIsOne}
 use Rattle.meaning_records.specs.Front.{start_of, new_store}
 use Rattle.meaning_records.specs.Images.{gate_after, IsNew, AreRecords, IsStore, Stored}
 use Rattle.meaning_records.specs.ImageLemmas.{new_or_written, no_records, one_stored}
@@ -16,44 +22,67 @@ use Rattle.odin_journal.specs.Starts.{IsStartOf}
 use Rattle.odin_journal.specs.declared.journal.Journal.{Journal}
 use Rattle.odin_journal.specs.declared.fault.JournalFault.{JournalFault}
 use Rattle.odin_journal.specs.declared.fault.JournalFault.TheVariants as fault
-use Rattle.object_values.specs.declared.items.Item.TheVariants.{Graph}
+use Rattle.object_values.specs.declared.items.Item.TheVariants.{Graph as GraphItem}
 use Rattle.meaning_records.specs.Records.{item}
 use Rattle.meaning_records.specs.Batches.{graph_batch}
-use Rattle.meaning_records.specs.States.{State, nothing, Reads, ReadsAll}
-use Rattle.meaning_records.specs.Stands.{gate_behind, StandsNot}
+use Rattle.meaning_records.specs.Tables.{without_records}
+use Rattle.meaning_records.specs.States.{State, nothing, TakesAll, Reads, ReadsAll}
+use Rattle.meaning_records.specs.Laws.{ReadsInOneWay}
+use Rattle.meaning_records.specs.Stands.{gate_behind}
+use Rattle.validator.specs.Fitting.{FactFits}
 use Rattle.odin_store.specs.declared.store.Store.{Store}
-use Rattle.odin_store.specs.Held.{held_of, StandsFor}
-use Rattle.odin_store.specs.OnDisk.{state_in, IsOn}
+use Rattle.odin_store.specs.Held.{counts, held_of, NotedFit, StandsFor}
+use Rattle.odin_store.specs.Offsets.{AreGates, FirstUnfit, IsNotFor}
+use Rattle.odin_store.specs.OnDisk.{held_in, state_in, IsOn}
 use Rattle.odin_store.specs.Written.{written_in, StoreIsMade}
-use Rattle.odin_store.specs.Loading.{records_size, RecordBreaksAt, IsRecordLoadFault}
+use Rattle.odin_store.specs.Loading.{records_size, RecordBreaksAt, RecordUnfitAt, TellsGraph, IsRecordLoadFault}
 use Rattle.odin_store.specs.Opening as store
 use Rattle.odin_store.specs.Opening.{graph_record, HaveOther, HasOpening, LeavesOpening, LeavesHeld, IsMadeNew, HasNoRoomForGraph, IsStoreOpenFault}
-use Rattle.odin_store.proofs.LoadLemmas.{reads_on}
-use Rattle.odin_store.proofs.RecordLemmas.{size-append}
+use Rattle.odin_store.proofs.LoadLemmas.{reads_on, read_once}
+use Rattle.odin_store.proofs.OffsetLemmas.{one_batch}
+use Rattle.odin_store.proofs.StoreLemmas.{held_is}
 use Rattle.odin_store.proofs.WrittenLemmas.{works_wider}
 
 -- ---- a graph
 
-pub graph_reads : (graph : Text) (state : State) → length graph ≤ 1048576 → Reads state (graph_record graph) (record { tables = state.tables; sources = state.sources; graph = Some graph })
-graph_reads graph state short =
-    let fits : item.fits (Graph graph) = omega arith in
-    record {
-      items = graph_batch graph;
-      some = λ none. (let no : ⊥ = cc in no);
-      fit = All-push item.fits [] (Graph graph) (All-nil item.fits) fits;
-      spelled = refl;
-      taken = (record { tables = state.tables; sources = state.sources; graph = Some graph }, record { loads = refl; edits = refl; graph = refl }, refl);
-    }
+-- what is kept once this graph was added
+abbrev pub with_graph : Text → State → State
+with_graph graph state = record { tables = without_records state.tables; sources = state.sources; graph = Some graph; noted = [] }
+
+graph_fits : (graph : Text) → length graph ≤ 1048576 → All item.fits (graph_batch graph)
+graph_fits graph short =
+    let fits : item.fits (GraphItem graph) = omega arith in
+    All-push item.fits [] (GraphItem graph) (All-nil item.fits) fits
+
+pub graph_reads : (graph : Text) (state : State) → length graph ≤ 1048576 → Reads state (graph_record graph) (with_graph graph state)
+graph_reads graph state short = record {
+  items = graph_batch graph;
+  some = λ none. (let no : ⊥ = cc in no);
+  fit = graph_fits graph short;
+  spelled = refl;
+  taken = (with_graph graph state, record { loads = refl; edits = refl; graph = refl; ground = tt; noted = refl }, refl);
+}
+
+-- after it nothing is noted
+one_noted : (graph : Text) (old new : State) → length graph ≤ 1048576 → Reads old (graph_record graph) new → new.noted ≡ []
+one_noted graph old new short reads =
+    let items : graph_batch graph ≡ reads.items = one_batch (graph_batch graph) reads.items (graph_fits graph short) reads.fit reads.spelled in
+    let taken : TakesAll old (graph_batch graph) new = subst (λ l. TakesAll old l new) (sym items) reads.taken in
+    ap (λ (s : State). s.noted) taken.2 ∙ taken.1.noted
+
+added_noted : (graph : Text) (records : List (List ℕ)) (first new : State) → length graph ≤ 1048576 → ReadsAll first (records ++ graph_record graph ∷ []) new → new.noted ≡ []
+added_noted graph [] first new short read = ap (λ (s : State). s.noted) read.2 ∙ one_noted graph first read.0 short read.1
+added_noted graph (payload ∷ records) first new short read = added_noted graph records read.0 new short read.2
+
+pub first_noted : (graph : Text) (old new : Telling) (store_ : Store) → length graph ≤ 1048576 → (opens : store.OpensStore graph old new store_) → opens.opening ≡ graph_record graph ∷ [] → opens.on.noted ≡ []
+first_noted graph old new store_ short opens is =
+    added_noted graph opens.records nothing (state_in store_ (Some graph) opens.on.noted) short (subst (λ l. ReadsAll nothing (opens.records ++ l) (state_in store_ (Some graph) opens.on.noted)) is opens.on.read)
 
 -- ---- gates
 
 whole_size : (image : List ℕ) (gate end : ℕ) (records : List (List ℕ)) → AreRecords image gate records end → end ≡ gate + records_size records
 whole_size image gate end [] whole = omega arith
 whole_size image gate end (payload ∷ records) whole = omega (arith, whole_size image (gate_after gate payload) end records whole.1)
-
-gate_size : (gate : ℕ) (records : List (List ℕ)) → gate_behind gate records ≡ gate + records_size records
-gate_size gate [] = omega arith
-gate_size gate (payload ∷ records) = omega (arith, gate_size (gate_after gate payload) records)
 
 -- ---- what a crash leaves
 
@@ -75,16 +104,43 @@ graph_added graph old mid new records end state read other keeps opens adds foun
     each found due image (inl there) = inl there
     each found due image (inr there) = inr (due, there)
 
--- what the file stood for stays
-pub opening_keeps_held : (graph : Text) (old new : Telling) → length graph ≤ 1048576 → LeavesOpening graph old new → LeavesHeld old new
-opening_keeps_held graph old new short leaves state quiet stands =
-    weaker old new (HasOpening graph stands.records) (StandsFor (held_of state)) (leaves stands.records quiet stands.stored) each
+-- nothing counts after another graph
+not_counted : (text : Text) (last : Option Text) → last ≢ Some text → counts text last ≡ false
+not_counted text None other = refl
+not_counted text (Some last) other = by (bytes_eq last text) refl
   where
-    each : (image : List ℕ) → HasOpening graph stands.records image → StandsFor (held_of state) image
-    each image (inl there) = (state, record { records = stands.records; stored = there; read = stands.read }, refl)
+    by : (b : Bool) → bytes_eq last text ≡ b → bytes_eq last text ≡ false
+    by true equal = absurd (other (ap Some ((bytes_eq-Decides last text).0 equal)))
+    by false differ = differ
+
+-- so with the graph just that is held which was held for it
+same_with_graph : (graph : Text) (state : State) → state.graph ≢ Some graph → held_of graph (with_graph graph state) ≡ held_of graph state
+same_with_graph graph state other =
+    let none : cond (counts graph state.graph) state.tables.records [] ≡ [] = ap (λ (b : Bool). cond b state.tables.records []) (not_counted graph state.graph other) in
+    ap (λ l. record { text = graph; sources = state.sources; calls = state.tables.calls; records = l }) (always (counts graph (Some graph)) ∙ sym none)
+  where
+    always : (b : Bool) → ◌≡◌ {A = List Fact} (cond b [] []) []
+    always true = refl
+    always false = refl
+
+-- what the file stood for stays
+pub opening_keeps_held : ReadsInOneWay → (graph : Text) (old new : Telling) → length graph ≤ 1048576 → LeavesOpening graph old new → LeavesHeld graph old new
+opening_keeps_held law graph old new short leaves state quiet stands fit =
+    weaker old new (HasOpening graph stands.records) (StandsFor (held_of graph state)) (leaves stands.records quiet stands.stored) each
+  where
+    each : (image : List ℕ) → HasOpening graph stands.records image → StandsFor (held_of graph state) image
+    each image (inl there) = (state, record { records = stands.records; stored = there; read = stands.read }, fit, refl)
     each image (inr added) =
-        let after : State = record { tables = state.tables; sources = state.sources; graph = Some graph } in
-        (after, record { records = stands.records ++ graph_record graph ∷ []; stored = added.1; read = reads_on stands.records (graph_record graph) nothing state after stands.read (graph_reads graph state short) }, refl)
+        let after : State = with_graph graph state in
+        let found = added.0 in
+        let same : found.0 ≡ state = read_once law stands.records nothing state found.0 stands.read found.1 in
+        let other : state.graph ≢ Some graph = λ is. found.2 (ap (λ (s : State). s.graph) same ∙ is) in
+        let reads = reads_on stands.records (graph_record graph) nothing state after stands.read (graph_reads graph state short) in (
+          after,
+          record { records = stands.records ++ graph_record graph ∷ []; stored = added.1; read = reads },
+          λ g spelled counted. All-nil (FactFits g),
+          same_with_graph graph state other,
+        )
 
 -- an opening of the journal wrote the front of a new file at most
 made_at_most : (old mid : Telling) (records : List (List ℕ)) (end : ℕ) → OnlyReads old mid → (IsQuiet old → OpensJournal old mid records end) → IsQuiet old → Untouched old mid ⊎ IsMadeNew old mid
@@ -118,39 +174,73 @@ none_new : (image : List ℕ) (records : List (List ℕ)) → Stored records ima
 none_new image records (inl new) some is_new = some new.1
 none_new image records (inr store) some is_new = new_or_written image is_new store.1.written
 
-bad_record : (old mid : Telling) (records : List (List ℕ)) (end at : ℕ) → OnlyReads old mid → (IsQuiet old → OpensJournal old mid records end) → RecordBreaksAt records end at → IsQuiet old → Untouched old mid × StandsNot old.seen at
-bad_record old mid records end at reads opens breaks quiet =
-    let opened = opens quiet in
-    let none : IsNew old.seen → ⊥ = none_new old.seen records opened.stored (λ empty. not_empty breaks.before breaks.payload breaks.rest (sym breaks.whole ∙ empty)) in
-    let there : IsStore old.seen records end = written old mid records end opened none reads quiet in
-    let start : ℕ = start_of old.seen in
-    let size : end ≡ start + records_size records = whole_size old.seen start end records there.whole in
-    let parts : records_size records ≡ records_size breaks.before + records_size (breaks.payload ∷ breaks.rest) = ap records_size breaks.whole ∙ size-append breaks.before (breaks.payload ∷ breaks.rest) in
-    let gate : gate_behind start breaks.before ≡ start + records_size breaks.before = gate_size start breaks.before in
-    let last : ℕ = records_size (breaks.payload ∷ breaks.rest) in
-    let place : at ≡ end - last = breaks.place in (
-      reads quiet none,
-      inr (record {
-        before = breaks.before;
-        payload = breaks.payload;
-        rest = breaks.rest;
-        end = end;
-        store = subst (λ r. IsStore old.seen r end) breaks.whole there;
-        state = breaks.state;
-        read = breaks.read;
-        unread = breaks.unread;
-        place = gate_place at end start (records_size breaks.before) last (gate_behind start breaks.before) place (size ∙ ap (λ n. start + n) parts) gate;
-      }),
-    )
-  where
-    gate_place : (at end start first last gate : ℕ) → at ≡ end - last → end ≡ start + (first + last) → gate ≡ start + first → at ≡ gate
-    gate_place at end start first last gate is size front = omega arith
+-- something was noted, so there are records
+noted_some : (g : Graph) (before rest : List (List ℕ)) (state : State) (gates : List ℕ) (at : ℕ) → ReadsAll nothing before state → FirstUnfit g state.noted gates at → before ++ rest ≡ [] → ⊥
+noted_some g [] rest state gates at read first none = subst (λ (s : State). FirstUnfit g s.noted gates at) read first
+noted_some g (payload ∷ before) rest state gates at read first none = let no : ⊥ = cc in no
 
-pub load_fault : (graph : Text) (old mid : Telling) (records : List (List ℕ)) (end : ℕ) (e : JournalFault) → OnlyReads old mid → (IsQuiet old → OpensJournal old mid records end) → IsRecordLoadFault records end e → IsStoreOpenFault graph old mid e
-load_fault graph old mid records end fault.Disk reads opens told = tt
-load_fault graph old mid records end (fault.NotOurs at) reads opens told = bad_record old mid records end at reads opens told
-load_fault graph old mid records end (fault.Full place count) reads opens told = absurd told
-load_fault graph old mid records end fault.Memory reads opens told = memory_fault graph old mid records end reads opens
+-- the first gate is where the records start
+start_there : (image : List ℕ) (records : List (List ℕ)) (end start : ℕ) → AreRecords image (start_of image) records end → start ≡ end - records_size records → start ≡ start_of image
+start_there image records end start whole is = let size = whole_size image (start_of image) end records whole in omega (arith, is, size)
+
+-- what counts fits in the words of the text
+pub all_fit : GraphIsOne → (g : Graph) (text : Text) (state : State) → GraphText text g → (counts text state.graph ≡ true → All (FactFits g) state.noted) → NotedFit text state
+all_fit graphs g text state spelled fit other reads counted = subst (λ x. All (FactFits x) state.noted) (sym (graphs text g other spelled reads)) (fit counted)
+
+module _ (graphs : GraphIsOne) (g : Graph) (graph : Text) (spelled : GraphText graph g) (old mid : Telling) (records : List (List ℕ)) (end start : ℕ) (reads : OnlyReads old mid) (opens : IsQuiet old → OpensJournal old mid records end) (first : start ≡ end - records_size records) where
+  bad_record : (at : ℕ) → RecordBreaksAt g graph records start at → IsQuiet old → Untouched old mid × IsNotFor graph old.seen at
+  bad_record at breaks quiet =
+      let opened = opens quiet in
+      let none : IsNew old.seen → ⊥ = none_new old.seen records opened.stored (λ empty. not_empty breaks.before breaks.payload breaks.rest (sym breaks.whole ∙ empty)) in
+      let there : IsStore old.seen records end = written old mid records end opened none reads quiet in
+      let gate : start ≡ start_of old.seen = start_there old.seen records end start there.whole first in (
+        reads quiet none,
+        inr (inl (
+          record {
+            before = breaks.before;
+            payload = breaks.payload;
+            rest = breaks.rest;
+            end = end;
+            store = subst (λ r. IsStore old.seen r end) breaks.whole there;
+            state = breaks.state;
+            read = breaks.read;
+            unread = breaks.unread;
+            place = breaks.place ∙ ap (λ n. gate_behind n breaks.before) gate;
+          },
+          all_fit graphs g graph breaks.state spelled breaks.fit,
+        )),
+      )
+
+  unfit_record : (at : ℕ) → RecordUnfitAt g graph records start at → IsQuiet old → Untouched old mid × IsNotFor graph old.seen at
+  unfit_record at unfit quiet =
+      let opened = opens quiet in
+      let none : IsNew old.seen → ⊥ = none_new old.seen records opened.stored (λ empty. noted_some g unfit.before unfit.rest unfit.state unfit.gates at unfit.read unfit.first (sym unfit.whole ∙ empty)) in
+      let there : IsStore old.seen records end = written old mid records end opened none reads quiet in
+      let gate : start ≡ start_of old.seen = start_there old.seen records end start there.whole first in (
+        reads quiet none,
+        inr (inr (record {
+          before = unfit.before;
+          rest = unfit.rest;
+          end = end;
+          store = subst (λ r. IsStore old.seen r end) unfit.whole there;
+          state = unfit.state;
+          read = unfit.read;
+          stops = unfit.stops;
+          graph = g;
+          spelled = spelled;
+          counted = unfit.counted;
+          gates = unfit.gates;
+          are = subst (λ n. AreGates n unfit.before [] unfit.gates) gate unfit.are;
+          first = unfit.first;
+        })),
+      )
+
+  pub load_fault : (e : JournalFault) → IsRecordLoadFault g graph records start e → IsStoreOpenFault graph old mid e
+  load_fault fault.Disk told = tt
+  load_fault (fault.NotOurs at) (inl breaks) = bad_record at breaks
+  load_fault (fault.NotOurs at) (inr unfit) = unfit_record at unfit
+  load_fault (fault.Full place count) told = absurd told
+  load_fault fault.Memory told = memory_fault graph old mid records end reads opens
 
 new_start : (image : List ℕ) → start_of (new_store image) ≡ 64
 new_start image = refl
@@ -215,23 +305,46 @@ made_of old mid records end reads quiet opened = by opened.stored
     by (inl new) = inl (new.0, opened.made new.0)
     by (inr store) = inr (store.1.written, (reads quiet (λ is_new. new_or_written old.seen is_new store.1.written)).same)
 
+abbrev NotedFits : Text → Option Text → List Fact → Type 0
+NotedFits text last noted = (g : Graph) → GraphText text g → counts text last ≡ true → All (FactFits g) noted
+
+-- the store keeps the text of the graph
+fit_own : (graph : Text) (store_ : Store) (last : Option Text) (noted : List Fact) → store_.graph ≡ graph → NotedFits graph last noted → NotedFits store_.graph last noted
+fit_own graph store_ last noted kept fit = subst (λ t. NotedFits t last noted) (sym kept) fit
+
+own_held : (graph : Text) (store_ : Store) (last : Option Text) (noted : List Fact) → store_.graph ≡ graph → last ≡ Some graph → held_in store_ ≡ held_of graph (state_in store_ last noted)
+own_held graph store_ last noted kept is = sym (held_is store_ last noted (is ∙ ap Some (sym kept))) ∙ ap (λ t. held_of t (state_in store_ last noted)) kept
+
+-- whether the last graph is this one, in the words of the text
+pub has_it : (given text : Text) (last : Option Text) (answer : Bool) → given ≡ text → TellsGraph given last answer → IsTrue answer → last ≡ Some text
+has_it given text last true same told answered = told ∙ ap Some same
+has_it given text last false same told answered = let no : ⊥ = cc in absurd no
+
+pub has_other : (given text : Text) (last : Option Text) (answer : Bool) → given ≡ text → TellsGraph given last answer → IsFalse answer → last ≢ Some text
+has_other given text last false same told answered = λ is. told (is ∙ ap Some (sym same))
+has_other given text last true same told answered = let no : ⊥ = cc in absurd no
+
 -- the file's last graph is this one
 pub opens_known : (graph : Text) (old mid : Telling) (store_ : Store) (records : List (List ℕ)) (journal_ : Journal) (state : State) → OnlyReads old mid → (IsQuiet old → OpensJournal old mid records journal_.end) → (IsQuiet old → IsStartOf mid.seen journal_.start)
-    → ReadsAll nothing records state → Works 66 (16 + 2 * length records) old mid → store_.journal ≡ journal_ → store_.graph ≡ graph → state_in store_ state.graph ≡ state → state.graph ≡ Some graph → store.OpensQuietStore graph old mid store_
-opens_known graph old mid store_ records journal_ state reads opens starts read works same kept holds known quiet =
+    → ReadsAll nothing records state → NotedFit graph state → Works 66 (16 + 2 * length records) old mid → store_.journal ≡ journal_ → store_.graph ≡ graph → state_in store_ state.graph state.noted ≡ state → state.graph ≡ Some graph → store.OpensQuietStore graph old mid store_
+opens_known graph old mid store_ records journal_ state reads opens starts read fit works same kept holds known quiet =
     let opened = opens quiet in
+    let fits : NotedFit store_.graph (state_in store_ (Some graph) state.noted) = fit_own graph store_ (Some graph) state.noted kept (subst (λ l. NotedFits graph l state.noted) known fit) in
     record {
       records = records;
       state = state;
       stored = opened.stored;
       read = read;
-      holds = ap held_of holds;
+      fit = fit;
+      holds = own_held graph store_ state.graph state.noted kept known ∙ ap (held_of graph) holds;
       opening = [];
       opens = inl (known, refl);
       on = subst (λ r. IsOn mid store_ r (Some graph)) (sym (nothing_behind records)) (record {
+        noted = state.noted;
         rests = subst (λ (j : Journal). RestsOn mid records j) (sym same) (record { rests = opened.rests; starts = starts quiet });
-        read = subst (λ g. ReadsAll nothing records (state_in store_ g)) known (subst (λ s. ReadsAll nothing records s) (sym holds) read);
+        read = subst (λ g. ReadsAll nothing records (state_in store_ g state.noted)) known (subst (λ s. ReadsAll nothing records s) (sym holds) read);
         last = ap Some (sym kept);
+        fit = fits;
       });
       made = mid.seen;
       is_made = made_of old mid records journal_.end reads quiet opened;
@@ -248,25 +361,27 @@ opens_known graph old mid store_ records journal_ state reads opens starts read 
 
 -- or it was added
 pub opens_added : (graph : Text) (old mid new : Telling) (store_ : Store) (records : List (List ℕ)) (journal_ : Journal) (state : State) → length graph ≤ 1048576 → OnlyReads old mid → (IsQuiet old → OpensJournal old mid records journal_.end)
-    → (IsQuiet old → IsStartOf mid.seen journal_.start) → ReadsAll nothing records state
+    → (IsQuiet old → IsStartOf mid.seen journal_.start) → ReadsAll nothing records state → NotedFit graph state
     → Works 66 (16 + 2 * length records) old mid → Works (length (graph_record graph) + 6) 4 mid new
-    → AddsRecord journal_.end store_.journal.end (graph_record graph) mid new → RestsOnMore journal_ store_.journal (graph_record graph) mid new → store_.graph ≡ graph → state_in store_ state.graph ≡ state → state.graph ≢ Some graph → store.OpensQuietStore graph old new store_
-opens_added graph old mid new store_ records journal_ state short reads opens starts read works added adds more kept holds other quiet =
+    → AddsRecord journal_.end store_.journal.end (graph_record graph) mid new → RestsOnMore journal_ store_.journal (graph_record graph) mid new → store_.graph ≡ graph → state_in store_ (Some graph) [] ≡ with_graph graph state → state.graph ≢ Some graph → store.OpensQuietStore graph old new store_
+opens_added graph old mid new store_ records journal_ state short reads opens starts read fit works added adds more kept holds other quiet =
     let opened = opens quiet in
-    let after : State = record { tables = state.tables; sources = state.sources; graph = Some graph } in
-    let same : after ≡ state_in store_ (Some graph) = ap (λ (s : State). record { tables = s.tables; sources = s.sources; graph = Some graph }) (sym holds) in
+    let after : State = with_graph graph state in
     record {
       records = records;
       state = state;
       stored = opened.stored;
       read = read;
-      holds = ap held_of holds;
+      fit = fit;
+      holds = own_held graph store_ (Some graph) [] kept refl ∙ ap (held_of graph) holds ∙ same_with_graph graph state other;
       opening = graph_record graph ∷ [];
       opens = inr (other, refl);
       on = record {
+        noted = [];
         rests = more records (record { rests = opened.rests; starts = starts quiet });
-        read = subst (λ s. ReadsAll nothing (records ++ graph_record graph ∷ []) s) same (reads_on records (graph_record graph) nothing state after read (graph_reads graph state short));
+        read = subst (λ s. ReadsAll nothing (records ++ graph_record graph ∷ []) s) (sym holds) (reads_on records (graph_record graph) nothing state after read (graph_reads graph state short));
         last = ap Some (sym kept);
+        fit = λ g spelled counted. All-nil (FactFits g);
       };
       made = mid.seen;
       is_made = made_of old mid records journal_.end reads quiet opened;

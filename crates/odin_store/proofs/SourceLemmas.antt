@@ -13,7 +13,7 @@ use Rattle.meaning_texts.specs.Classes.{IsName}
 use Rattle.meaning_texts.specs.Limits.{body_limit}
 use Rattle.meaning_derive.specs.Given.{IsSource, AreSources}
 use Rattle.object_values.specs.declared.items.Item.{Item}
-use Rattle.object_values.specs.declared.items.Item.TheVariants.{Graph, Content, Put, Dropped, Kept}
+use Rattle.object_values.specs.declared.items.Item.TheVariants.{Graph, Content, Put, Dropped, Kept, Node}
 use Rattle.meaning_records.specs.Tables.{Tables, IsShort, IsText}
 use Rattle.meaning_records.specs.States.{State, nothing, TakesOne, TakesAll, ReadsAll}
 
@@ -60,14 +60,14 @@ text_short contents number text short there =
     (All-get_or IsShort contents number (Simple text) (slice_get_within contents number (Simple text) there) short)
 
 -- an item that changes neither
-both_stay : (old new : State) → AreKept old → new.tables ≡ old.tables → new.sources ≡ old.sources → AreKept new
-both_stay old new kept tables sources = record {
-  contents = subst (λ (t : Tables). All IsShort t.contents) (sym tables) kept.contents;
+both_stay : (old new : State) → AreKept old → new.tables.contents ≡ old.tables.contents → new.sources ≡ old.sources → AreKept new
+both_stay old new kept contents sources = record {
+  contents = subst (All IsShort) (sym contents) kept.contents;
   sources = subst AreSources (sym sources) kept.sources;
 }
 
 one_kept : (old : State) (it : Item) (new : State) → AreKept old → TakesOne old it new → AreKept new
-one_kept old (Graph text) new kept takes = both_stay old new kept takes.loads takes.edits
+one_kept old (Graph text) new kept takes = both_stay old new kept (ap (λ (t : Tables). t.contents) takes.loads) takes.edits
 one_kept old (Content value) new kept takes = record {
   contents = subst (λ (t : Tables). All IsShort t.contents) (sym takes.loads.1) (All-push IsShort old.tables.contents value kept.contents takes.loads.0);
   sources = subst AreSources (sym takes.edits) kept.sources;
@@ -82,10 +82,8 @@ one_kept old (Dropped name) new kept takes = record {
   contents = subst (λ (t : Tables). All IsShort t.contents) (sym takes.loads.1) kept.contents;
   sources = subst AreSources (sym takes.edits.1) (drop_stays old.sources name kept.sources);
 }
-one_kept old (Kept stored given) new kept takes = record {
-  contents = subst (λ (t : Tables). All IsShort t.contents) (sym takes.loads.3) kept.contents;
-  sources = subst AreSources (sym takes.edits) kept.sources;
-}
+one_kept old (Kept stored given) new kept takes = both_stay old new kept (ap (λ (t : Tables). t.contents) takes.loads.3) takes.edits
+one_kept old (Node stored) new kept takes = both_stay old new kept (ap (λ (t : Tables). t.contents) takes.loads.2) takes.edits
 
 items_kept : (old : State) (items : List Item) (new : State) → AreKept old → TakesAll old items new → AreKept new
 items_kept old [] new kept taken = subst AreKept (sym taken) kept

@@ -23,8 +23,10 @@ use Rattle.odin_store.specs.Opening.{LeavesHeld, LeavesOpening, OpensQuietStore}
 abbrev pub wasteful_size : ℕ
 wasteful_size = 1048576
 
--- A store is wasteful where its records end at this or later, and twice the live batch text is less than where they end.
+-- A store is wasteful where its records end at this or later, and twice the live batch text is less than where they end. One in which something is
+-- noted of nodes isn't: the live batches have no record of a node.
 pub record IsWasteful (store : Store) : Type 0 where
+  pub none : store.kept.tables.records ≡ []
   pub long : wasteful_size ≤ store.journal.end
   pub text : ℕ
   pub live : IsLiveText store.graph store.sources.texts store.kept.tables.calls text
@@ -32,8 +34,9 @@ pub record IsWasteful (store : Store) : Type 0 where
 
 -- ---- what it is then
 
--- These records are the live batches of what is held for this graph, with these contents, and read as that.
+-- These records are the live batches of what is held for this graph, with these contents, and read as that: nothing is noted of nodes.
 pub record AreLiveRecords (graph : Text) (held : Held) (contents : List Value) (records : List (List ℕ)) : Type 0 where
+  pub none : held.records ≡ []
   pub batches : List (List Item)
   pub live : AreLive graph held.sources held.calls batches contents
   pub spelled : records ≡ map spell_batch batches
@@ -89,4 +92,4 @@ pub record CompactionsKeep {Disk : Type 0} (told : Disk → Telling) : Type 0 wh
   pub stops : (store : Store) (old new : Disk) → LeavesCompacted store (told old) (told new) → trails.StopsWithin store_keeping told [] old store new
   -- nor is anything lost since the opening before it
   pub opened : (graph : Text) (store : Store) (old mid new : Disk) → length graph ≤ graph_limit → OpensQuietStore graph (told old) (told mid) store → LeavesOpening graph (told old) (told mid)
-      → LeavesCompacted store (told mid) (told new) → LeavesHeld (told old) (told new)
+      → LeavesCompacted store (told mid) (told new) → LeavesHeld graph (told old) (told new)

@@ -4,17 +4,19 @@ use Rattle.odin_outside.specs.Disk.{Telling}
 use Rattle.object_values.specs.declared.views.Value.{Value}
 use Rattle.object_values.specs.declared.calls.Call.{Call}
 use Rattle.object_values.specs.declared.calls.Outcome.{Outcome}
+use Rattle.object_values.specs.declared.facts.Fact.{Fact}
+use Rattle.object_values.specs.declared.facts.Fresh.{Fresh}
 use Rattle.object_values.specs.Texts.{Text}
 use Rattle.odin_journal.specs.Trails as trails
 use Rattle.object_values.specs.declared.items.Item.{Item}
-use Rattle.meaning_records.specs.Batches.{drop_batch, IsPutBatch, IsCallBatch}
+use Rattle.meaning_records.specs.Batches.{drop_batch, IsPutBatch, IsCallBatch, IsNotesBatch, facts_of}
 use Rattle.meaning_records.specs.Stands.{gate_behind}
 use Rattle.meaning_records.specs.States.{State, Reads, spell_batch}
 use Rattle.odin_store.specs.declared.store.Store.{Store}
 use Rattle.odin_store.specs.Written.{WorksFor, with_records, record_keeping}
-use Rattle.odin_store.specs.Held.{Change, puts, drops, keeps}
+use Rattle.odin_store.specs.Held.{Change, puts, drops, keeps, notes}
 use Rattle.odin_store.specs.OnDisk.{held_in, state_in, IsOn, IsSame, LeavesChange, BeginsOnce}
-use Rattle.odin_store.specs.Changes.{PutBatch, DropBatch, Edits, KeepsCall}
+use Rattle.odin_store.specs.Changes.{PutBatch, DropBatch, Edits, KeepsCall, NotesNodes}
 use Rattle.odin_store.specs.Keeping.{store_keeping}
 
 -- the batch of a change, after these contents
@@ -22,6 +24,7 @@ abbrev pub IsBatchOf : List Value → Change → List Item → Type 0
 IsBatchOf contents (puts name text) items = IsPutBatch contents name text items
 IsBatchOf contents (drops name) items = items ≡ drop_batch name
 IsBatchOf contents (keeps call outcome) items = IsCallBatch contents call outcome items
+IsBatchOf contents (notes facts) items = (fresh : List Fresh) × (facts ≡ facts_of fresh) × IsNotesBatch contents fresh items
 
 -- One batch for each change, in their order, and no others: each is of its change after what was read before it, and reads there.
 pub data AreBatches (old : State) : List Change → List (List ℕ) → State → Type 0 where
@@ -30,12 +33,13 @@ pub data AreBatches (old : State) : List Change → List (List ℕ) → State �
       → AreBatches old changes payloads mid → IsBatchOf mid.tables.contents change items → Reads mid (spell_batch items) new
       → AreBatches old (changes ++ change ∷ []) (payloads ++ spell_batch items ∷ []) new
 
--- The disk has these records and after them the batches of these changes, and no others; a crash on the way leaves some first ones of them.
+-- The disk has these records and after them the batches of these changes, and no others, where all this was noted before; a crash on the way
+-- leaves some first ones of them.
 -- Nothing else was written, and no more work done.
-pub record HasBatches {Disk : Type 0} (told : Disk → Telling) (changes : List Change) (store next : Store) (disk after : Disk) (records : List (List ℕ)) (graph : Option Text) : Type 0 where
+pub record HasBatches {Disk : Type 0} (told : Disk → Telling) (changes : List Change) (store next : Store) (disk after : Disk) (records : List (List ℕ)) (graph : Option Text) (noted : List Fact) : Type 0 where
   pub payloads : List (List ℕ)
-  pub are : AreBatches (state_in store graph) changes payloads (state_in next graph)
   pub on : IsOn (told after) next (records ++ payloads) graph
+  pub are : AreBatches (state_in store graph noted) changes payloads (state_in next graph on.noted)
   pub end : next.journal.end ≡ gate_behind store.journal.end payloads
   pub bytes : (told after).seen ≡ with_records store.journal.end payloads (told disk).seen
   pub grows : trails.ExtendsTrail record_keeping told payloads disk store after next
@@ -45,7 +49,7 @@ pub record HasBatches {Disk : Type 0} (told : Disk → Telling) (changes : List 
 pub record Performs {Disk : Type 0} (told : Disk → Telling) (changes : List Change) (store next : Store) (disk after : Disk) : Type 0 where
   pub holds : held_in next ≡ trails.after_changes store_keeping changes (held_in store)
   pub grows : trails.ExtendsTrail store_keeping told changes disk store after next
-  pub batches : (records : List (List ℕ)) (graph : Option Text) → IsOn (told disk) store records graph → HasBatches told changes store next disk after records graph
+  pub batches : (records : List (List ℕ)) (graph : Option Text) → (on : IsOn (told disk) store records graph) → HasBatches told changes store next disk after records graph on.noted
 
 -- The batch that was begun after these contents: that of the first of these changes, or none.
 pub data IsPartialBatch (contents : List Value) : List Change → List (List ℕ) → Type 0 where
@@ -61,13 +65,13 @@ LeavesBegun {Disk} told payloads begun store disk after =
 
 -- Some first ones of these changes have their batches, and one more was begun at most. The work is no more than for them, and a crash
 -- leaves no others.
-pub record HasPartialBatches {Disk : Type 0} (told : Disk → Telling) (changes : List Change) (store : Store) (disk after : Disk) (graph : Option Text) : Type 0 where
+pub record HasPartialBatches {Disk : Type 0} (told : Disk → Telling) (changes : List Change) (store : Store) (disk after : Disk) (graph : Option Text) (noted : List Fact) : Type 0 where
   pub made : List Change
   pub rest : List Change
   pub whole : changes ≡ made ++ rest
   pub payloads : List (List ℕ)
   pub last : State
-  pub are : AreBatches (state_in store graph) made payloads last
+  pub are : AreBatches (state_in store graph noted) made payloads last
   pub begun : List (List ℕ)
   pub next : IsPartialBatch last.tables.contents rest begun
   pub leaves : LeavesBegun told payloads begun store disk after
@@ -76,7 +80,7 @@ pub record HasPartialBatches {Disk : Type 0} (told : Disk → Telling) (changes 
 -- Of these changes some first ones were made, and none that came before is lost.
 pub record StopsPerforming {Disk : Type 0} (told : Disk → Telling) (changes : List Change) (store : Store) (disk after : Disk) : Type 0 where
   pub within : trails.StopsWithin store_keeping told changes disk store after
-  pub begun : (records : List (List ℕ)) (graph : Option Text) → IsOn (told disk) store records graph → HasPartialBatches told changes store disk after graph
+  pub begun : (records : List (List ℕ)) (graph : Option Text) → (on : IsOn (told disk) store records graph) → HasPartialBatches told changes store disk after graph on.noted
 
 -- ---- what the calls do, as changes one after another
 
@@ -90,6 +94,8 @@ module _ {Disk : Type 0} (told : Disk → Telling) where
         → LeavesChange (drops name) store (told disk) (told after) → Performs told (drops name ∷ []) store next disk after
     pub keep : (call : Call) (outcome : Outcome) (store next : Store) (disk after : Disk) → KeepsCall call outcome store next (told disk) (told after)
         → LeavesChange (keeps call outcome) store (told disk) (told after) → Performs told (keeps call outcome ∷ []) store next disk after
+    pub note : (fresh : List Fresh) (store next : Store) (disk after : Disk) → NotesNodes fresh store next (told disk) (told after)
+        → LeavesChange (notes (facts_of fresh)) store (told disk) (told after) → Performs told (notes (facts_of fresh) ∷ []) store next disk after
     pub behind : (some more : List Change) (store mid next : Store) (disk between after : Disk)
         → Performs told some store mid disk between → Performs told more mid next between after → Performs told (some ++ more) store next disk after
 

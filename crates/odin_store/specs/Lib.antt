@@ -1,5 +1,6 @@
 pub mod Written
 pub mod Held
+pub mod Offsets
 pub mod OnDisk
 pub mod Changes
 pub mod Loading

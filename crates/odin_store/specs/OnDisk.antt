@@ -1,6 +1,7 @@
 -- A store on its disk.
 use Rattle.std.specs.Prelude.{◌≡◌, ◌⊎◌, ⊤, ℕ, ◌+◌, ◌^◌, ◌<◌, List, [], ◌∷◌, ◌++◌, length, Option, Some, IsTrue, Result, OnOk, IsErrOf}
 use Rattle.odin_outside.specs.Disk.{Telling, IsQuiet, LeavesOnly}
+use Rattle.object_values.specs.declared.facts.Fact.{Fact}
 use Rattle.object_values.specs.Texts.{Text}
 use Rattle.meaning_records.specs.Front.{file_limit}
 use Rattle.meaning_records.specs.Images.{gate_after, with_record}
@@ -11,22 +12,25 @@ use Rattle.odin_journal.specs.declared.fault.JournalFault.TheVariants as fault
 use Rattle.object_values.specs.declared.items.Item.{Item}
 use Rattle.meaning_records.specs.States.{State, nothing, ReadsAll, spell_batch}
 use Rattle.odin_store.specs.declared.store.Store.{Store}
-use Rattle.odin_store.specs.Held.{Held, Change, apply, IsDue, StandsFor}
+use Rattle.odin_store.specs.Held.{Held, NotedFit, Change, apply, IsDue, StandsFor}
 use Rattle.odin_store.specs.Written.{WorksFor, LeavesFirst}
 
--- what a store holds
+-- what a store holds: its file ends in its own graph, so what is noted of nodes counts
 abbrev pub held_in : Store → Held
-held_in store = record { sources = store.sources.texts; calls = store.kept.tables.calls }
+held_in store = record { text = store.graph; sources = store.sources.texts; calls = store.kept.tables.calls; records = store.kept.tables.records }
 
-abbrev pub state_in : Store → Option Text → State
-state_in store graph = record { tables = store.kept.tables; sources = store.sources.texts; graph = graph }
+-- with this graph as the last, and with all this noted since
+abbrev pub state_in : Store → Option Text → List Fact → State
+state_in store graph noted = record { tables = store.kept.tables; sources = store.sources.texts; graph = graph; noted = noted }
 
 -- The store rests on a disk with these records: nothing is pending, and they read as what the store holds, with this graph as the last,
--- whose text it keeps.
+-- whose text it keeps. Of what was noted, which fits, it keeps the last of each node.
 pub record IsOn (disk : Telling) (store : Store) (records : List (List ℕ)) (graph : Option Text) : Type 0 where
+  pub noted : List Fact
   pub rests : RestsOn disk records store.journal
-  pub read : ReadsAll nothing records (state_in store graph)
+  pub read : ReadsAll nothing records (state_in store graph noted)
   pub last : graph ≡ Some store.graph
+  pub fit : NotedFit store.graph (state_in store graph noted)
 
 -- a store that can be changed, on a disk of this size
 pub record StoreIsOpen (store : Store) (size : ℕ) : Type 0 where

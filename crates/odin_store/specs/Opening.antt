@@ -3,6 +3,8 @@ use Rattle.std.specs.Prelude.{◌≡◌, ◌≢◌, ◌⊎◌, ⊤, ℕ, ◌+◌
 use Rattle.odin_outside.specs.Disk.{Telling, IsQuiet, LeavesOnly}
 use Rattle.object_values.specs.Texts.{Text}
 use Rattle.meaning_texts.specs.Limits.{graph_limit}
+use Rattle.meaning_graph.specs.Graphs.{Graph}
+use Rattle.meaning_graph.specs.Grammar.{GraphText}
 use Rattle.meaning_records.specs.Front.{file_limit, front_size, new_store}
 use Rattle.meaning_records.specs.Images.{gate_after, IsNew, Stored, IsStore}
 use Rattle.odin_journal.specs.Moments.{Untouched, Works}
@@ -11,11 +13,17 @@ use Rattle.odin_journal.specs.declared.fault.JournalFault.{JournalFault}
 use Rattle.odin_journal.specs.declared.fault.JournalFault.TheVariants as fault
 use Rattle.meaning_records.specs.Batches.{graph_batch}
 use Rattle.meaning_records.specs.States.{State, nothing, ReadsAll, spell_batch}
-use Rattle.meaning_records.specs.Stands.{Stands, StandsNot, gate_behind}
+use Rattle.meaning_records.specs.Stands.{Stands, gate_behind}
 use Rattle.odin_store.specs.declared.store.Store.{Store}
 use Rattle.odin_store.specs.Written.{written_in, with_records, StoreIsMade}
-use Rattle.odin_store.specs.Held.{held_of, StandsFor}
+use Rattle.odin_store.specs.Held.{held_of, NotedFit, StandsFor}
+use Rattle.odin_store.specs.Offsets.{IsNotFor}
 use Rattle.odin_store.specs.OnDisk.{IsOn, held_in}
+
+-- A store may be opened for a graph with its text, which isn't too long.
+pub record MayOpenStore (graph : Graph) (text : Text) : Type 0 where
+  pub spelled : GraphText text graph
+  pub short : length text ≤ graph_limit
 
 -- the bytes of the batch of a graph
 abbrev pub graph_record : Text → List ℕ
@@ -32,7 +40,8 @@ pub record OpensStore (graph : Text) (old new : Telling) (store : Store) : Type 
   pub state : State
   pub stored : Stored records old.seen
   pub read : ReadsAll nothing records state
-  pub holds : held_in store ≡ held_of state
+  pub fit : NotedFit graph state
+  pub holds : held_in store ≡ held_of graph state
   pub opening : List (List ℕ)
   pub opens : IsOpening graph state.graph opening
   pub on : IsOn new store (records ++ opening) (Some graph)
@@ -78,14 +87,14 @@ HasOpening graph records image = Stored records image ⊎ (HaveOther graph recor
 abbrev pub LeavesOpening : Text → Telling → Telling → Type 0
 LeavesOpening graph old new = (records : List (List ℕ)) → IsQuiet old → Stored records old.seen → LeavesOnly old new (HasOpening graph records)
 
--- a crash at any moment leaves what the file stood for
-abbrev pub LeavesHeld : Telling → Telling → Type 0
-LeavesHeld old new = (state : State) → IsQuiet old → Stands old.seen state → LeavesOnly old new (StandsFor (held_of state))
+-- a crash at any moment leaves what the file stood for, for this graph
+abbrev pub LeavesHeld : Text → Telling → Telling → Type 0
+LeavesHeld graph old new = (state : State) → IsQuiet old → Stands old.seen state → NotedFit graph state → LeavesOnly old new (StandsFor (held_of graph state))
 
 -- so it does where it leaves no other records
 abbrev pub OpeningsKeepHeld : {Disk : Type 0} → (Disk → Telling) → Type 0
 OpeningsKeepHeld {Disk} told =
-    (graph : Text) (old new : Disk) → length graph ≤ graph_limit → LeavesOpening graph (told old) (told new) → LeavesHeld (told old) (told new)
+    (graph : Text) (old new : Disk) → length graph ≤ graph_limit → LeavesOpening graph (told old) (told new) → LeavesHeld graph (told old) (told new)
 
 -- The file is a store whose last graph is another, if it has one, and whose next batch, that of this graph, doesn't fit after its end.
 pub record HasNoRoomForGraph (graph : Text) (image : Telling) (end count : ℕ) : Type 0 where
@@ -106,7 +115,7 @@ pub record IsMadeNew (old new : Telling) : Type 0 where
 -- A fault of an opening. `NotOurs` is exact: what stands for something has no such offset, and no file has two. Where memory was wanting
 -- no batch was begun; where the disk failed that of the opening may have been, and what a crash leaves then is said for any answer.
 abbrev pub IsStoreOpenFault : Text → Telling → Telling → JournalFault → Type 0
-IsStoreOpenFault graph old new (fault.NotOurs at) = IsQuiet old → Untouched old new × StandsNot old.seen at
+IsStoreOpenFault graph old new (fault.NotOurs at) = IsQuiet old → Untouched old new × IsNotFor graph old.seen at
 IsStoreOpenFault graph old new (fault.Full end count) = IsQuiet old → Untouched old new × HasNoRoomForGraph graph old end count
 IsStoreOpenFault graph old new fault.Memory = IsQuiet old → Untouched old new ⊎ IsMadeNew old new
 IsStoreOpenFault graph old new fault.Disk = ⊤

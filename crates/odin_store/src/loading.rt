@@ -1,67 +1,103 @@
-// The loading of a store's records, one after another.
-ghost use Rattle.std.specs.Prelude.{◌≡◌, ◌-◌, ◌∷◌, IfOk, IfErr, IfSome, IfNone, IsTrue, IsFalse, Some};
-ghost use Rattle.meaning_records.specs.States.{nothing, Reads, ReadsAll};
-ghost use Rattle.odin_store.specs.Loading.{state_of, TakesItem, TakesNone, ReadsNot, records_size, IsRecordLoadFault};
+// The loading of a store's records, one after another, for the graph of a text.
+ghost use Rattle.std.specs.Prelude.{◌≡◌, ◌-◌, IfOk, IfErr, IfSome, IfNone, IsTrue, IsFalse, Some, false, true};
+ghost use Rattle.meaning_records.specs.Images.{gate_after};
+ghost use Rattle.meaning_records.specs.States.{nothing};
+ghost use Rattle.odin_store.specs.declared.loading.Ground.TheVariants as ground_is;
+ghost use Rattle.odin_store.specs.Loading.{HasRead, IsForSame, IsGround, IsPast, IsRecordLoadFault, Loads, LoadsNot, NotesFact, Past, Refuses, TakesIn, TakesItem, TakesNoItem, TellsGraph, TellsUnfit, after_graph, no_past, records_size, state_of};
 
 use kept_tables::{Kept, Loaded};
 use meaning_records::laws::reads_in_one_way;
-use object_values::{Bytes, Memory, Seq, Sources, Text};
+use object_values::{Fact, Memory, Seq, Sources, Text};
 use odin_journal::JournalFault;
 use std::alloc::Global;
+use type_graph::Graph;
+use validator::fits_record;
 
-/// What was loaded so far.
-pub struct Loading {
-    kept: Kept,
-    sources: Sources,
-    graph: Option<Bytes>,
+/// The last graph so far, as far as it tells what counts of the records of nodes.
+#[derive(Clone, Copy, Drop)]
+pub enum Ground {
+    /// There is none, so nothing may be noted.
+    Nothing,
+    /// That of another text: what is noted doesn't count.
+    Other,
+    /// That of the text, with the gate of the first record since that doesn't fit.
+    This(Option<u64>),
 }
 
-impl Drop for Loading {
+/// What was loaded so far. A record is tested as it is noted: all that was noted isn't held.
+pub struct Loading<'a> {
+    graph: &'a Graph,
+    text: &'a [u8],
+    kept: Kept,
+    sources: Sources,
+    ground: Ground,
+    // the gate of the payload that comes next
+    gate: u64,
+}
+
+impl Drop for Loading<'_> {
     fn drop(self) {
         let Loading {
+            graph: _,
+            text: _,
             kept,
             sources,
-            graph,
+            ground: _,
+            gate: _,
         } = self;
         drop(kept);
         drop(sources);
-        drop(graph);
     }
 }
 
-impl Loading {
-    pub fn new(alloc: Global) -> Self
-        ensures { state_of result ≡ nothing }
+impl<'a> Loading<'a> {
+    pub fn new(alloc: Global, graph: &'a Graph, text: &'a [u8], gate: u64) -> Self
+        ensures nothing { state_of result no_past ≡ nothing }
+        ensures past { IsPast result no_past }
+        ensures graph { result.graph.now ≡ graph.now }
+        ensures text { result.text.now ≡ text.now }
+        ensures gate { result.gate ≡ gate }
     {
         Loading {
+            graph,
+            text,
             kept: Kept::new(alloc),
             sources: Sources::new(alloc),
-            graph: None,
+            ground: Ground::Nothing,
+            gate,
         }
     }
 
-    /// Whether this is the text of the last graph.
-    pub fn has_graph(&self, text: &[u8]) -> bool
-        ensures yes { IsTrue result → self.now.graph ≡ Some text.now }
-        ensures no { IsFalse result → ¬ (self.now.graph ≡ Some text.now) }
+    /// Whether the last graph is that of the text.
+    pub fn has_graph(&self) -> bool
+        ensures { (past : Past) → IsPast self.now past → TellsGraph self.now.text.now past.last result }
     {
-        match &self.graph {
-            Some(graph) => graph.as_slice() == text,
-            None => false,
+        matches!(self.ground, Ground::This(_))
+    }
+
+    /// The gate of the first record that counts and doesn't fit.
+    fn unfit(&self) -> Option<u64>
+        ensures { (past : Past) → IsPast self.now past → TellsUnfit self.now result past }
+    {
+        match self.ground {
+            Ground::This(unfit) => unfit,
+            _ => None,
         }
     }
 
     /// The tables and the sources.
     pub fn into_parts(self) -> (Kept, Sources)
-        ensures kept { result.0 ≡ self.kept }
-        ensures sources { result.1 ≡ self.sources }
+        ensures kept { result.0 ≡ self.entry.kept }
+        ensures sources { result.1 ≡ self.entry.sources }
     {
         let Loading {
+            graph: _,
+            text: _,
             kept,
             sources,
-            graph,
+            ground: _,
+            gate: _,
         } = self;
-        drop(graph);
         (kept, sources)
     }
 
@@ -73,36 +109,74 @@ impl Loading {
         at: usize,
     ) -> Result<Option<usize>, Memory>
         ensures some { IfOk result (λ read. IfSome read (λ end.
-            TakesItem payload.now at end (state_of self.old) (state_of self.new))) }
-        ensures none { IfOk result (λ read. IfNone read
-            (TakesNone payload.now at (state_of self.old))) }
+            TakesItem payload.now at end self.old self.new)) }
+        ensures none { IfOk result (λ read. IfNone read (TakesNoItem payload.now at self.old)) }
+        ensures same { IsForSame self.old self.new }
+        ensures gate { self.new.gate ≡ self.old.gate }
     {
         let Some((loaded, end)) = self.kept.load_item(alloc, payload, at)? else {
             return Ok(None);
         };
-        match loaded {
-            Loaded::Graph(text) => self.graph = Some(text),
-            Loaded::Content => {}
-            Loaded::Put(name, text) => {
-                self.sources.reserve()?;
-                let _ = self.sources.put(name, text);
-            }
-            Loaded::Dropped(name) => {
-                if self.sources.remove(name.as_slice()).is_none() {
-                    return Ok(None);
-                }
-            }
-            Loaded::CallKept => {}
+        if !self.take_in(loaded)? {
+            return Ok(None);
         }
         Ok(Some(end))
     }
 
+    // Takes in what an item brings, if it may come.
+    fn take_in(&mut self, loaded: Loaded) -> Result<bool, Memory>
+        ensures taken { IfOk result (λ taken. IsTrue taken → TakesIn loaded self.old self.new) }
+        ensures refused { IfOk result (λ taken. IsFalse taken → Refuses loaded self.old) }
+        ensures same { IsForSame self.old self.new }
+        ensures gate { self.new.gate ≡ self.old.gate }
+        ensures kept { self.new.kept ≡ self.old.kept }
+    {
+        match loaded {
+            Loaded::Graph(last) => {
+                self.ground = ground_of(self.graph, self.text, last.as_slice());
+                Ok(true)
+            }
+            Loaded::Content => Ok(true),
+            Loaded::Put(name, text) => {
+                self.sources.reserve()?;
+                let _ = self.sources.put(name, text);
+                Ok(true)
+            }
+            Loaded::Dropped(name) => Ok(self.sources.remove(name.as_slice()).is_some()),
+            Loaded::CallKept => Ok(true),
+            Loaded::Noted(fact) => Ok(self.note(&fact)),
+        }
+    }
+
+    // Notes a fact, if there is a graph before it. It is tested where it counts and all before it fit.
+    fn note(&mut self, fact: &Fact) -> bool
+        ensures noted { IsTrue result → NotesFact fact.now self.old self.new }
+        ensures none { IsFalse result → self.old.ground ≡ ground_is.Nothing }
+        ensures same { IsForSame self.old self.new }
+        ensures gate { self.new.gate ≡ self.old.gate }
+        ensures kept { self.new.kept ≡ self.old.kept }
+        ensures sources { self.new.sources ≡ self.old.sources }
+    {
+        match self.ground {
+            Ground::Nothing => false,
+            Ground::Other => true,
+            Ground::This(Some(_)) => true,
+            Ground::This(None) => {
+                if !fits_record(self.graph, fact) {
+                    self.ground = Ground::This(Some(self.gate));
+                }
+                true
+            }
+        }
+    }
+
     // Takes a payload in. Where it doesn't read, what was loaded is used no more.
     fn load(&mut self, alloc: Global, payload: &Text) -> Result<bool, Memory>
-        ensures read { IfOk result (λ reads. IsTrue reads
-            → Reads (state_of self.old) payload.now (state_of self.new)) }
-        ensures unread { IfOk result (λ reads. IsFalse reads
-            → ReadsNot (state_of self.old) payload.now) }
+        ensures read { IfOk result (λ reads. IsTrue reads → Loads payload.now self.old self.new) }
+        ensures unread { IfOk result (λ reads. IsFalse reads → LoadsNot payload.now self.old) }
+        ensures same { IsForSame self.old self.new }
+        ensures gate { IfOk result (λ reads. IsTrue reads
+            → self.new.gate ≡ gate_after self.old.gate payload.now) }
     {
         reads_in_one_way();
         let mut at = 0;
@@ -112,33 +186,67 @@ impl Loading {
             };
             at = end;
         }
+        self.gate = gate_behind(self.gate, payload)?;
         Ok(!payload.is_empty())
     }
 }
 
-/// What these records make of nothing, the first one first. Each is let go once it is loaded. The closed gate after them stands at `end`.
-pub fn load_records(alloc: Global, records: Seq<Text>, end: u64) -> Result<Loading, JournalFault>
-    ensures read { IfOk result (λ loading. ReadsAll nothing records (state_of loading)) }
-    ensures fault { IfErr result (IsRecordLoadFault records end) }
+// What the text of a last graph tells.
+fn ground_of(graph: &Graph, text: &[u8], last: &[u8]) -> Ground
+    ensures { IsGround graph.now text.now (after_graph last.now) result }
 {
-    let mut loading = Loading::new(alloc);
+    if last == text {
+        Ground::This(None)
+    } else {
+        Ground::Other
+    }
+}
+
+// The gate after a payload. No file is so long that there is none.
+fn gate_behind(gate: u64, payload: &Text) -> Result<u64, Memory>
+    ensures { IfOk result (λ next. next ≡ gate_after gate payload.now) }
+{
+    match gate.checked_add(5) {
+        Some(start) => start.checked_add(payload.len() as u64).ok_or(Memory),
+        None => Err(Memory),
+    }
+}
+
+/// What these records make of nothing, the first one first, for the graph of a text, where all that counts fits. Each is let go once it is loaded. The
+/// gate of the first stands at `start`.
+pub fn load_records<'a>(
+    alloc: Global,
+    graph: &'a Graph,
+    text: &'a [u8],
+    records: Seq<Text>,
+    start: u64,
+) -> Result<Loading<'a>, JournalFault>
+    ensures read { IfOk result (HasRead graph.now text.now records) }
+    ensures fault { IfErr result (IsRecordLoadFault graph.now text.now records start) }
+{
+    let mut loading = Loading::new(alloc, graph, text, start);
     // Taken from the end, each record is let go once it is loaded, so that no two forms of the whole file are held.
     let mut left = records.into_vec();
     left.reverse();
     'records: while let Some(payload) = left.pop() {
+        let unfit = loading.unfit();
+        let gate = loading.gate;
         if !loading.load(alloc, &payload)? {
-            return Err(JournalFault::NotOurs(gate_before(end, &payload, &left)));
+            return Err(JournalFault::NotOurs(unfit.unwrap_or(gate)));
         }
     }
-    Ok(loading)
+    match loading.unfit() {
+        Some(at) => Err(JournalFault::NotOurs(at)),
+        None => Ok(loading),
+    }
 }
 
-// The gate of a record with others after it, where the closed gate after them all stands at `end`.
-fn gate_before(end: u64, payload: &Text, behind: &[Text]) -> u64
-    ensures { result ≡ end - records_size (payload.now ∷ behind.now) }
+/// The gate of the first of these records, where the closed gate after them all stands at `end`.
+pub fn first_gate(end: u64, records: &[Text]) -> u64
+    ensures { result ≡ end - records_size records.now }
 {
-    let mut gate = end.saturating_sub(payload.len() as u64).saturating_sub(5);
-    for record in behind {
+    let mut gate = end;
+    for record in records {
         gate = gate.saturating_sub(record.len() as u64).saturating_sub(5);
     }
     gate

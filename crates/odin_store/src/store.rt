@@ -7,19 +7,22 @@ ghost use Rattle.odin_journal.specs.Rest.{IsReady};
 ghost use Rattle.meaning_texts.specs.Classes.{IsName};
 ghost use Rattle.meaning_texts.specs.Limits.{body_limit, graph_limit};
 ghost use Rattle.meaning_derive.specs.Given.{AreSources};
-ghost use Rattle.meaning_records.specs.Batches.{drop_batch, graph_batch};
+ghost use Rattle.meaning_records.specs.Batches.{drop_batch, facts_of, graph_batch};
 ghost use Rattle.meaning_records.specs.States.{spell_batch};
+ghost use Rattle.kept_records.specs.Records.{record_of, renew_record};
 ghost use Rattle.kept_tables.specs.Holdings.{PreparesSome};
-ghost use Rattle.odin_store.specs.Held.{puts, drops, keeps};
+ghost use Rattle.odin_store.specs.Held.{puts, drops, keeps, notes};
 
-use crate::loading::{Loading, load_records};
+use crate::loading::{Loading, first_gate, load_records};
 use kept_tables::{Kept, Prepared};
-use meaning_records::laws::reads_in_one_way;
-use object_values::{Bytes, Call, Copied, Memory, Outcome, Sources, Text};
+use meaning_graph::text_laws::graph_is_one;
+use meaning_records::laws::{batches_read, reads_in_one_way};
+use object_values::{Bytes, Call, Copied, Fresh, Memory, Node, Outcome, Renewed, Sources, Text};
 use odin_bytes::{Name, put_bytes, put_u8};
 use odin_journal::{Journal, JournalFault};
 use odin_outside::Disk;
 use std::alloc::Global;
+use type_graph::Graph;
 
 /// Sources and kept calls, for a graph, over a disk that is lent call by call: the one of the opening, as the last call left it. After a fault of the
 /// disk it is spent. Whatever its file had, the sources are names with texts of at most 16,777,216 bytes.
@@ -50,42 +53,52 @@ impl Drop for Store {
 
 impl Store {
     ghost use Rattle.odin_store.specs.OnDisk.{BeginsOnce, IsChangeFault, StoreAfter, StoreIsOpen, IsSame, IsUnchanged, LeavesChange};
-    ghost use Rattle.odin_store.specs.Opening.{graph_record, IsAtStart, IsOpened, IsStoreOpenFault, LeavesOpening, OpensQuietStore};
-    ghost use Rattle.odin_store.specs.Changes.{CallBatch, DropBatch, DropsSource, KeepsCall, StoreMayKeep, MayPut, PutBatch, PutsText};
+    ghost use Rattle.odin_store.specs.Opening.{graph_record, IsAtStart, IsOpened, IsStoreOpenFault, LeavesOpening, MayOpenStore, OpensQuietStore};
+    ghost use Rattle.odin_store.specs.Changes.{CallBatch, DropBatch, DropsSource, KeepsCall, NotesBatch, NotesWhereSome, StoreMayKeep, StoreMayNote, MayPut, PutBatch, PutsText};
 
-    /// Opens the store in a file for a graph of this text. Where the last graph text in the file is another, this one is added.
-    pub fn open<D: Disk>(alloc: Global, disk: &mut D, graph: &[u8]) -> Result<Store, JournalFault>
-        requires { length graph.now ≤ graph_limit }
+    /// Opens the store in a file for a graph of this text. Where the last graph text in the file is another, this one is added. A file in which a
+    /// record counts that doesn't fit the graph isn't ours.
+    pub fn open<D: Disk>(
+        alloc: Global,
+        disk: &mut D,
+        graph: &Graph,
+        text: &[u8],
+    ) -> Result<Store, JournalFault>
+        requires { MayOpenStore graph.now text.now }
         ensures opened { IfOk result
-            (OpensQuietStore graph.now (D.told disk.old) (D.told disk.new)) }
-        ensures any_moment { LeavesOpening graph.now (D.told disk.old) (D.told disk.new) }
+            (OpensQuietStore text.now (D.told disk.old) (D.told disk.new)) }
+        ensures any_moment { LeavesOpening text.now (D.told disk.old) (D.told disk.new) }
         ensures refused { IfErr result
-            (IsStoreOpenFault graph.now (D.told disk.old) (D.told disk.new)) }
-        ensures first { IfOk result (IsAtStart graph.now (D.size_of disk.old)) }
+            (IsStoreOpenFault text.now (D.told disk.old) (D.told disk.new)) }
+        ensures first { IfOk result (IsAtStart text.now (D.size_of disk.old)) }
         ensures ready { IfOk result (λ store. IsReady store.journal (D.size_of disk.new)) }
         ensures works { D.size_of disk.old ≡ 0
-            → Works (72 + length (graph_record graph.now)) 20 (D.told disk.old) (D.told disk.new) }
+            → Works (72 + length (graph_record text.now)) 20 (D.told disk.old) (D.told disk.new) }
         ensures cause { JournalFaultIsCounted (D.faults disk.old) (D.faults disk.new) result }
     {
+        graph_is_one();
+        reads_in_one_way();
         let (mut journal, records) = Journal::open(alloc, disk)?;
-        let loading = load_records(alloc, records, journal.end())?;
-        let text = graph_text(alloc, graph)?;
-        if loading.has_graph(graph) {
-            let known = Store::of(journal, loading, text);
+        let start = first_gate(journal.end(), records.as_slice());
+        let loading = load_records(alloc, graph, text, records, start)?;
+        let kept = graph_text(alloc, text)?;
+        if loading.has_graph() {
+            let known = Store::of(journal, loading, kept);
             return Ok(known);
         }
-        let payload = graph_payload(alloc, graph)?;
+        let payload = graph_payload(alloc, text)?;
         journal.append(alloc, disk, payload.as_slice())?;
-        let added = Store::of(journal, loading, text);
+        let mut added = Store::of(journal, loading, kept);
+        added.kept.forget_records();
         Ok(added)
     }
 
     // What was loaded, over a journal, with no edit counted.
-    fn of(journal: Journal, loading: Loading, graph: Text) -> Store
+    fn of(journal: Journal, loading: Loading<'_>, graph: Text) -> Store
         requires { AreSources loading.sources.texts }
         ensures journal { result.journal ≡ journal }
-        ensures kept { result.kept ≡ loading.kept }
-        ensures sources { result.sources ≡ loading.sources }
+        ensures kept { result.kept ≡ loading.entry.kept }
+        ensures sources { result.sources ≡ loading.entry.sources }
         ensures opened { IsOpened graph result }
     {
         let (kept, sources) = loading.into_parts();
@@ -188,6 +201,48 @@ impl Store {
         self.journal.append_framed(disk, prepared.framed())?;
         self.kept.commit(prepared);
         Ok(())
+    }
+
+    /// Notes facts of nodes, one after another, with what each node comes to at present. Nothing is written where there are none.
+    pub fn keep_nodes<D: Disk>(
+        &mut self,
+        alloc: Global,
+        disk: &mut D,
+        fresh: &[Fresh],
+    ) -> Result<(), JournalFault>
+        requires { StoreMayNote self.old (D.size_of disk.old) fresh.now }
+        ensures notes { OnOk result
+            (NotesWhereSome D.told fresh.now self.old self.new disk.old disk.new) }
+        ensures any_moment { LeavesChange (notes (facts_of fresh.now)) self.old
+            (D.told disk.old) (D.told disk.new) }
+        ensures fault { IfErr result (IsChangeFault (NotesBatch self.old fresh.now)
+            (notes (facts_of fresh.now)) self.old) }
+        ensures same { IsRefused result → IsSame self.old self.new disk.old disk.new }
+        ensures left { StoreAfter self.new (D.size_of disk.new) result }
+        ensures begins { BeginsOnce (NotesBatch self.old fresh.now) self.old
+            (D.told disk.old) (D.told disk.new) }
+        ensures cause { JournalFaultIsCounted (D.faults disk.old) (D.faults disk.new) result }
+    {
+        reads_in_one_way();
+        batches_read();
+        graph_is_one();
+        if fresh.is_empty() {
+            return Ok(());
+        }
+        let prepared = self.kept.prepare_nodes(alloc, fresh)?;
+        self.journal.append_framed(disk, prepared.framed())?;
+        self.kept.commit(prepared);
+        Ok(())
+    }
+
+    /// Says what a node comes to at present, checked at this epoch. No file has it, so what is held stays, and it takes no memory.
+    pub fn renew(&mut self, node: &Node, present: Renewed)
+        requires { IsSome (record_of node.now self.old.kept.records.records) }
+        ensures renewed { self.new.kept.records.records
+            ≡ renew_record node.now present self.old.epoch self.old.kept.records.records }
+        ensures same { IsUnchanged self.old self.new }
+    {
+        self.kept.renew(node, present, self.epoch);
     }
 
     pub fn sources(&self) -> &Sources

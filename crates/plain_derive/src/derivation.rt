@@ -63,6 +63,7 @@ fn derive_counted<S: Spawner, L: Ledger>(
 {
     let mut steps: Steps<L> = Steps::new(blank);
     let mut walker = Walker::new(alloc, node.copy(alloc)?);
+    planned.graph().checked();
     // Bounded, so that no proof of an end is owed: no derivation comes to so many turns, and one that did would say that memory is wanted.
     for _ in 0..u64::MAX {
         walker.advance(alloc, planned, sources, &NothingKept, &mut steps)?;

@@ -3,9 +3,9 @@ use Rattle.std.proofs.Common.{◌≡◌, ℕ, ◌+◌, List, [], ◌∷◌, Some
 use Rattle.object_values.specs.declared.nodes.Step.TheVariants.{Maker, Pick}
 use Rattle.object_values.specs.declared.views.Value.TheVariants.{Simple, List as Listed, Compound}
 use Rattle.odin_bytes.specs.Fields.{IsFieldAt}
-use Rattle.object_values.specs.declared.items.Item.TheVariants.{Graph, Content, Put, Dropped, Kept}
+use Rattle.object_values.specs.declared.items.Item.TheVariants.{Graph, Content, Put, Dropped, Kept, Node}
 use Rattle.meaning_records.specs.Forms.{Form, StandsNowhere, bytes, number, both, list_of, option_of}
-use Rattle.meaning_records.specs.Records.{node, part, step, value, content, call, outcome, item}
+use Rattle.meaning_records.specs.Records.{node, part, step, value, content, call, outcome, node_record, item}
 use Rattle.meaning_records.specs.PlaceLemmas.{field_end, field_join, tag_there}
 
 -- a kind that was read, and what stands after it
@@ -49,14 +49,17 @@ value_nowhere from at start kind read simples lists compounds (Compound named) e
 -- and no item
 pub item_nowhere : (from : List ℕ) (at start kind : ℕ) → IsFieldAt from at start (kind ∷ [])
     → (kind ≡ 1 → StandsNowhere bytes from start) → (kind ≡ 2 → StandsNowhere content from start) → (kind ≡ 3 → StandsNowhere (both bytes number) from start)
-    → (kind ≡ 4 → StandsNowhere bytes from start) → (kind ≡ 5 → StandsNowhere (both call outcome) from start) → StandsNowhere item from at
-item_nowhere from at start kind read graphs contents puts drops calls (Graph text) end there =
+    → (kind ≡ 4 → StandsNowhere bytes from start) → (kind ≡ 5 → StandsNowhere (both call outcome) from start)
+    → (kind ≡ 6 → StandsNowhere node_record from start) → StandsNowhere item from at
+item_nowhere from at start kind read graphs contents puts drops calls nodes (Graph text) end there =
     let parts = kind_split from at start end kind 1 (bytes.spell text) read there.field in graphs parts.0 text end (record { fits = there.fits; field = parts.1 })
-item_nowhere from at start kind read graphs contents puts drops calls (Content v) end there =
+item_nowhere from at start kind read graphs contents puts drops calls nodes (Content v) end there =
     let parts = kind_split from at start end kind 2 (content.spell v) read there.field in contents parts.0 v end (record { fits = there.fits; field = parts.1 })
-item_nowhere from at start kind read graphs contents puts drops calls (Put name n) end there =
+item_nowhere from at start kind read graphs contents puts drops calls nodes (Put name n) end there =
     let parts = kind_split from at start end kind 3 ((both bytes number).spell (name, n)) read there.field in puts parts.0 (name, n) end (record { fits = there.fits; field = parts.1 })
-item_nowhere from at start kind read graphs contents puts drops calls (Dropped name) end there =
+item_nowhere from at start kind read graphs contents puts drops calls nodes (Dropped name) end there =
     let parts = kind_split from at start end kind 4 (bytes.spell name) read there.field in drops parts.0 name end (record { fits = there.fits; field = parts.1 })
-item_nowhere from at start kind read graphs contents puts drops calls (Kept c o) end there =
+item_nowhere from at start kind read graphs contents puts drops calls nodes (Kept c o) end there =
     let parts = kind_split from at start end kind 5 ((both call outcome).spell (c, o)) read there.field in calls parts.0 (c, o) end (record { fits = there.fits; field = parts.1 })
+item_nowhere from at start kind read graphs contents puts drops calls nodes (Node r) end there =
+    let parts = kind_split from at start end kind 6 (node_record.spell r) read there.field in nodes parts.0 r end (record { fits = there.fits; field = parts.1 })

@@ -3,7 +3,7 @@
 use crate::contents::{put_content, take_content};
 use crate::places::take_u8;
 use crate::recorded::Recorded;
-use object_values::{Bytes, Item, Memory, StoredCall, StoredOutcome, Text};
+use object_values::{Bytes, Item, Memory, StoredCall, StoredOutcome, StoredRecord, Text};
 use odin_bytes::put_u8;
 use std::alloc::Global;
 
@@ -38,6 +38,10 @@ impl Recorded for Item {
                 put_u8(out, 5)?;
                 call.put(out)?;
                 outcome.put(out)
+            }
+            Item::Node(record) => {
+                put_u8(out, 6)?;
+                record.put(out)
             }
         }
     }
@@ -76,6 +80,12 @@ impl Recorded for Item {
                     return Ok(None);
                 };
                 Ok(Some((Item::Kept(kept.0, kept.1), end)))
+            }
+            6 => {
+                let Some((record, end)) = StoredRecord::take(alloc, from, start)? else {
+                    return Ok(None);
+                };
+                Ok(Some((Item::Node(record), end)))
             }
             _ => Ok(None),
         }

@@ -113,8 +113,9 @@ fn bytes_that_are_not_named_are_refused(rt: HostRuntime) {
 // Payloads that don't read after the base.
 const HOSTILE: &[&[u8]] = &[
     b"",
-    // items that have no name
+    // items that have no name, and a record of a node that is cut
     b"\0",
+    b"\x07",
     b"\x06",
     b"\x06\0\0\0\x01m\0\0\0\0\0\0\0\0",
     // bytes after the last item

@@ -3,10 +3,10 @@ use crate::given::text_of;
 use object_values::{Bytes, Memory};
 use odin_bytes::put_u32;
 use odin_fakes::MemDisk;
-use odin_store::{Store, StoreFault};
+use odin_store::StoreFault;
 use std::alloc::Global;
 use std::test::Fail;
-use test_support::{held, put_named};
+use test_support::{held, open_store, put_named};
 
 /// The graph of each store, and the payload of its record.
 pub(super) const GRAPH: &[u8; 14] = b"type c simple;";
@@ -54,7 +54,7 @@ pub(super) fn disk_of(alloc: Global, image: &[u8]) -> Result<MemDisk, Memory> {
 
 /// What a store on a disk holds.
 pub(super) fn held_on(alloc: Global, disk: &mut MemDisk) -> Result<Bytes, StoreFault> {
-    let store = Store::open(alloc, disk, GRAPH)?;
+    let store = open_store(alloc, disk, GRAPH)?;
     Ok(held(alloc, &store)?)
 }
 
@@ -80,7 +80,7 @@ const FIRST_PUT: &[u8] = b"\x02\0\0\0\x05\x01\0\0\0\0\x03\0\0\0\x03a.c\0\0\0\0";
 // Whether a new store has these bytes once it is opened, and then once an empty text is put.
 fn is_begun(alloc: Global) -> Result<bool, StoreFault> {
     let mut disk = disk_of(alloc, b"")?;
-    let mut store = Store::open(alloc, &mut disk, GRAPH)?;
+    let mut store = open_store(alloc, &mut disk, GRAPH)?;
     let new = image_of(alloc, &[])?;
     if disk.image() != new.as_slice() || new.len() != 89 {
         return Ok(false);

@@ -17,6 +17,8 @@ mod kept;
 #[cfg(test)]
 mod node_records;
 #[cfg(test)]
+mod noted;
+#[cfg(test)]
 mod numbers;
 #[cfg(test)]
 mod record_tables;

@@ -5,7 +5,7 @@ use object_values::{
 use std::alloc::Global;
 use std::test::Fail;
 use store_records::{
-    Item, Recorded, StoredCall, StoredOutcome, StoredOutput, StoredPart, write_batch,
+    Item, Recorded, StoredCall, StoredOutcome, StoredOutput, StoredPart, StoredRecord, write_batch,
 };
 
 const GRAPH: &[u8] = b"\x01\0\0\0\x02g;";
@@ -28,7 +28,11 @@ const DROPPED: &[u8] = b"\x04\0\0\0\x03a.c";
 const KEPT: &[u8] =
     b"\x05\0\0\0\x02cc\0\0\0\x011\0\0\0\x01\0\0\0\x01x\0\0\0\x01\0\0\0\x01d\0\0\0\0\0\0\0\x02\0\0\0\0\0\0\0\x03a.c\x01\0\0\0\x03\0\0\0\x01\0\0\0\x03x.h\0\0\0\0\x01\0\0\0\x01o\x01\0\0\0\x01\x02\0\0\0\x01m\0\0\0\x01\0\0\0\x01o\0\0\0\x04";
 
-const ITEMS: [&[u8]; 7] = [GRAPH, EMPTY, LIST, COMPOUND, PUT, DROPPED, KEPT];
+// `a.c` by the maker 7, over no need, at Abort and at height 2.
+const NODE: &[u8] =
+    b"\x06\0\0\0\x03a.c\0\0\0\0\0\0\0\x01\x01\0\0\0\x07\0\0\0\0\0\0\0\0\0\x03\0\0\0\0\x03\0\0\0\0\0\0\0\x02";
+
+const ITEMS: [&[u8]; 8] = [GRAPH, EMPTY, LIST, COMPOUND, PUT, DROPPED, KEPT, NODE];
 
 fn is_bytes(bytes: &Bytes, text: &[u8]) -> bool {
     bytes.as_slice() == text
@@ -111,6 +115,14 @@ fn is_outcome(outcome: &StoredOutcome) -> bool {
     outcome.status == Status::Warning && lines && outputs
 }
 
+fn is_record(record: &StoredRecord) -> bool {
+    let steps = match record.node.steps.as_slice() {
+        [Step::Maker(maker)] => *maker == 7,
+        _ => false,
+    };
+    is_bytes(&record.node.source, b"a.c") && steps && record.value.is_none() && record.height == 2
+}
+
 // Whether it is the item of a row.
 fn is_item(row: usize, item: &Item) -> bool {
     match item {
@@ -119,6 +131,7 @@ fn is_item(row: usize, item: &Item) -> bool {
         Item::Put(name, number) => { row == 4 && is_bytes(name, b"a.c") && *number == 0x0001_0203 }
         Item::Dropped(name) => row == 5 && is_bytes(name, b"a.c"),
         Item::Kept(call, outcome) => row == 6 && is_call(call) && is_outcome(outcome),
+        Item::Node(record) => row == 7 && is_record(record),
     }
 }
 
@@ -164,7 +177,7 @@ fn items_that_are_cut_read_as_nothing(rt: HostRuntime) {
 type Byte = (&'static [u8], usize, u8, u8);
 
 const BYTES: &[Byte] = &[
-    (GRAPH, 0, 1, 5),
+    (GRAPH, 0, 1, 6),
     (EMPTY, 5, 1, 3),
     // kinds of steps
     (LIST, 33, 1, 2),

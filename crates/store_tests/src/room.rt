@@ -4,14 +4,14 @@ use crate::images::{FRONT, GRAPH};
 use object_values::Status;
 use odin_outside::Disk;
 use odin_real::{FileDisk, NamedFile};
-use odin_store::{Store, StoreFault};
+use odin_store::StoreFault;
 use std::alloc::Global;
 use std::fs::{self, File, OpenOptions};
 use std::io;
 use std::os::unix::fs::FileExt;
 use std::rt::Files;
 use std::test::Fail;
-use test_support::{drop_named, keep, put_named};
+use test_support::{drop_named, keep, open_store, put_named};
 
 const PATH: &str = "store_tests.full";
 
@@ -39,7 +39,7 @@ fn make_file<R: Files<File = File>>(rt: &R) -> io::Result<()> {
 
 // Opens the store and puts a text of so many bytes as `a.c`: whether that changed anything, and where the store ends.
 fn putting<D: Disk>(alloc: Global, disk: &mut D, size: usize) -> Result<(bool, u64), StoreFault> {
-    let mut store = Store::open(alloc, disk, GRAPH)?;
+    let mut store = open_store(alloc, disk, GRAPH)?;
     let text = vec![in alloc; b'x'; size]?;
     let text = text_of(alloc, &text)?;
     let changed = put_named(alloc, &mut store, disk, b"a.c", &text)?;
@@ -47,7 +47,7 @@ fn putting<D: Disk>(alloc: Global, disk: &mut D, size: usize) -> Result<(bool, u
 }
 
 fn dropping<D: Disk>(alloc: Global, disk: &mut D) -> Result<bool, StoreFault> {
-    let mut store = Store::open(alloc, disk, GRAPH)?;
+    let mut store = open_store(alloc, disk, GRAPH)?;
     drop_named(alloc, &mut store, disk, b"a.c")
 }
 
@@ -65,7 +65,7 @@ const SHORT: Given = Given {
 };
 
 fn keeping<D: Disk>(alloc: Global, disk: &mut D) -> Result<bool, StoreFault> {
-    let mut store = Store::open(alloc, disk, GRAPH)?;
+    let mut store = open_store(alloc, disk, GRAPH)?;
     let call = call_of(alloc, &SHORT)?;
     let outcome = outcome_of(alloc, &SHORT)?;
     keep(alloc, &mut store, disk, &call, &outcome)
@@ -77,7 +77,7 @@ fn counted<D: Disk>(
     disk: &mut D,
     graph: &[u8; 14],
 ) -> Result<(usize, u64), StoreFault> {
-    let store = Store::open(alloc, disk, graph)?;
+    let store = open_store(alloc, disk, graph)?;
     Ok((store.sources().len(), store.kept().calls()))
 }
 

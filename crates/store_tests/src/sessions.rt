@@ -9,7 +9,7 @@ use odin_outside::Disk;
 use odin_store::{Store, StoreFault};
 use std::alloc::Global;
 use std::test::Fail;
-use test_support::{drop_named, keep, put_named};
+use test_support::{drop_named, keep, open_store, put_named};
 
 /// A change of a store.
 pub(super) enum Step {
@@ -177,7 +177,7 @@ pub(super) fn played<D: Disk>(
     disk: &mut D,
     count: usize,
 ) -> Result<Option<usize>, Memory> {
-    let mut store = match Store::open(alloc, disk, GRAPH) {
+    let mut store = match open_store(alloc, disk, GRAPH) {
         Ok(store) => store,
         Err(StoreFault::Disk) => return Ok(None),
         Err(_) => return Err(Memory),

@@ -9,14 +9,14 @@ use odin_store::Store;
 use std::alloc::Global;
 
 // The bytes after their length. What is longer than a length can say isn't written.
-fn add_bytes(out: &mut Bytes, bytes: &[u8]) -> Result<(), Memory> {
+pub(crate) fn add_bytes(out: &mut Bytes, bytes: &[u8]) -> Result<(), Memory> {
     if bytes.len() > u32::MAX as usize {
         return Err(Memory);
     }
     put_bytes(out, bytes)
 }
 
-fn add_count(out: &mut Bytes, count: usize) -> Result<(), Memory> {
+pub(crate) fn add_count(out: &mut Bytes, count: usize) -> Result<(), Memory> {
     match u32::try_from(count) {
         Ok(count) => put_u32(out, count),
         Err(_) => Err(Memory),
@@ -31,7 +31,7 @@ fn add_words(out: &mut Bytes, words: &[Bytes]) -> Result<(), Memory> {
     Ok(())
 }
 
-fn add_params(out: &mut Bytes, params: &[ParamValue]) -> Result<(), Memory> {
+pub(crate) fn add_params(out: &mut Bytes, params: &[ParamValue]) -> Result<(), Memory> {
     add_count(out, params.len())?;
     for ParamValue { param, value } in params {
         add_bytes(out, param.as_slice())?;
@@ -69,7 +69,7 @@ fn add_call(out: &mut Bytes, call: &Call) -> Result<(), Memory> {
     add_words(out, call.outs.as_slice())
 }
 
-fn add_status(out: &mut Bytes, status: Status) -> Result<(), Memory> {
+pub(crate) fn add_status(out: &mut Bytes, status: Status) -> Result<(), Memory> {
     let number = match status {
         Status::Ok => 0,
         Status::Warning => 1,

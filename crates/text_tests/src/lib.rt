@@ -1,5 +1,6 @@
-//! Worked rows of texts: bytes, sources, names, numbers, escapes, fields, lines, expressions, lists of references, scan outputs, closures, commands and
-//! replies; and of graph files: their tokens, what is read and what is refused, chosen paths, and how nodes are written. It holds tests alone.
+//! Worked rows of texts: bytes, sources, names, numbers, escapes, fields, lines, expressions, lists of references, scan outputs, closures, commands,
+//! replies, messages as a person is shown them, patterns and projects; and of graph files: their tokens, what is read and what is refused, chosen
+//! paths, and how nodes are written. It holds tests alone.
 #![tactic(auto)]
 
 #[cfg(test)]
@@ -15,6 +16,8 @@ mod expressions;
 #[cfg(test)]
 mod fields;
 #[cfg(test)]
+mod globs;
+#[cfg(test)]
 mod labels;
 #[cfg(test)]
 mod lines;
@@ -27,6 +30,8 @@ mod numbers;
 #[cfg(test)]
 mod paths;
 #[cfg(test)]
+mod projects;
+#[cfg(test)]
 mod references;
 #[cfg(test)]
 mod refused;
@@ -36,6 +41,8 @@ mod replies;
 mod samples;
 #[cfg(test)]
 mod seqs;
+#[cfg(test)]
+mod shown;
 #[cfg(test)]
 mod sources;
 #[cfg(test)]

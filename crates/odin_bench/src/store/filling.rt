@@ -10,7 +10,7 @@ use odin_fakes::MemDisk;
 use odin_outside::Disk;
 use odin_store::{Store, StoreFault};
 use std::alloc::Global;
-use test_support::{keep, put_named};
+use test_support::{keep, open_store, put_named};
 
 /// The graph of each store.
 pub(crate) const GRAPH: &[u8; 14] = b"type c simple;";
@@ -97,7 +97,7 @@ pub(crate) fn filled(
 ) -> Result<Store, StoreFault>
     ensures ready { IfOk result (λ store. IsReady store.journal (length (image_of disk.new))) }
 {
-    let mut store = Store::open(alloc, disk, GRAPH)?;
+    let mut store = open_store(alloc, disk, GRAPH)?;
     put_sources(alloc, &mut store, disk, sources)?;
     keep_calls(alloc, &mut store, disk, 0, calls)?;
     Ok(store)

@@ -1,6 +1,5 @@
-// What images of stores stand for, and what they are once they are rewritten.
+// What images of stores stand for.
 use crate::fault::Fault;
-use crate::store::filling::GRAPH;
 use object_values::{Bytes, Memory};
 use odin_bytes::{put_bytes, put_u8, put_u64, take_bytes};
 use odin_fakes::MemDisk;
@@ -8,7 +7,11 @@ use odin_store::{Store, StoreFault};
 use std::alloc::Global;
 use std::io::Write;
 use std::{fs, io};
-use test_support::held;
+use test_support::{held, noted, open_store};
+
+// The graph for which they are opened, with a type of each kind; that of bench/store_images.py.
+const GRAPH: &[u8] =
+    b"type h simple; type c simple is h; type o simple; type l list of h; type k compound (p o, q c); suffix .h h; suffix .c c; param d; tool cc 1 from c to o run \"cc\"; read rd from h to l; pack pk from c to k;";
 
 fn add_bytes(out: &mut Bytes, bytes: &[u8]) -> Result<(), Memory> {
     if bytes.len() > u32::MAX as usize {
@@ -24,38 +27,18 @@ fn disk_of(alloc: Global, image: &[u8]) -> Result<MemDisk, Memory> {
     MemDisk::new(alloc, Bytes::from_slice(alloc, image)?, bytes, calls)
 }
 
-/// What is done with an image.
-#[derive(Clone, Copy, PartialEq, Eq)]
-pub(crate) enum Reading {
-    Opened,
-    Rewritten,
-}
-
-// Opens the store of a disk, and rewrites it where that is asked for.
-fn store_of(alloc: Global, disk: &mut MemDisk, reading: Reading) -> Result<Store, StoreFault> {
-    let mut store = Store::open(alloc, disk, GRAPH)?;
-    if reading == Reading::Rewritten {
-        let _ = store.compact(alloc, disk)?;
-    }
-    Ok(store)
-}
-
-// What a store holds, and the file after its opening.
+// What a store holds, the records of nodes that it has, and the file after its opening.
 fn told(alloc: Global, store: &Store, file: &[u8]) -> Result<Bytes, Memory> {
     let mut told = held(alloc, store)?;
+    told.extend_from_slice(noted(alloc, store)?.as_slice())?;
     add_bytes(&mut told, file)?;
     Ok(told)
 }
 
 /// Adds what an image stands for: a 1 and the bytes of that, or a 0 and where it isn't ours. Another number is an answer that shouldn't be.
-fn tell_image(
-    alloc: Global,
-    image: &[u8],
-    reading: Reading,
-    out: &mut Bytes,
-) -> Result<(), Memory> {
+fn tell_image(alloc: Global, image: &[u8], out: &mut Bytes) -> Result<(), Memory> {
     let mut disk = disk_of(alloc, image)?;
-    match store_of(alloc, &mut disk, reading) {
+    match open_store(alloc, &mut disk, GRAPH) {
         Ok(store) => {
             put_u8(out, 1)?;
             add_bytes(out, told(alloc, &store, disk.image())?.as_slice())
@@ -68,8 +51,8 @@ fn tell_image(
     }
 }
 
-/// Tells of each image of a file what it stands for, opened or rewritten. Each stands after its length.
-pub(crate) fn tell_images(rt: &HostRuntime, path: &str, reading: Reading) -> Result<(), Fault> {
+/// Tells of each image of a file what it stands for. Each stands after its length.
+pub(crate) fn tell_images(rt: &HostRuntime, path: &str) -> Result<(), Fault> {
     let Ok(images) = fs::read(rt, path) else {
         return Err(Fault::File);
     };
@@ -79,7 +62,7 @@ pub(crate) fn tell_images(rt: &HostRuntime, path: &str, reading: Reading) -> Res
         let Some((start, end)) = take_bytes(images.as_slice(), at) else {
             break;
         };
-        tell_image(rt.alloc(), &images[start..end], reading, &mut out)?;
+        tell_image(rt.alloc(), &images[start..end], &mut out)?;
         at = end;
     }
     match io::writer(rt).write_all(out.as_slice()) {

@@ -1,10 +1,7 @@
-use Rattle.std.proofs.Common.{◌≡◌, ◌-◌, length, drop}
+use Rattle.std.proofs.Common.{◌≡◌, ◌-◌, length}
 use Rattle.derive_walk.specs.Looks.{LooksAreFew, met_in}
 use Rattle.derive_walk.specs.Settings.{world_in}
-use Rattle.derive_walk.specs.States.{heights_in}
 use Rattle.derive_walk.specs.Paths.{IsAheadIn}
-use Rattle.derive_walk.proofs.HeightLemmas.{unseen_count}
-use Rattle.derive_walk.proofs.FallLemmas.{needs_in}
 use Rattle.derive_walk.proofs.VisitLemmas.{SoFar}
 use Rattle.derive_walk.proofs.RoundLemmas.{InRound}
 use Rattle.derive_walk.proofs.visiting.+visit.Given as goal
@@ -12,20 +9,17 @@ use Rattle.derive_walk.proofs.visiting.+visit.Given as goal
 abbrev pub decreases-visit : goal.decreases-visit
 decreases-visit g l = 64 - length l.walk.now.path
 
-abbrev pub invariant-rounds : goal.invariant-rounds
-invariant-rounds g l = record {
+abbrev pub invariant-loop-rounds : goal.invariant-loop-rounds
+invariant-loop-rounds g l = record {
   so : SoFar (world_in g.K.Known.kept l.setting) l.fn.walk l.walk l.node;
   ahead : IsAheadIn (world_in g.K.Known.kept l.setting) l.walk l.node l.ahead;
   length : l.length ≡ length l.fn.walk.path;
   counted : LooksAreFew (met_in l.fn.walk) (met_in l.walk) l.fn.steps l.steps 0;
 }
 
-abbrev pub decreases-rounds : goal.decreases-rounds
-decreases-rounds g l = unseen_count (heights_in l.walk) (needs_in (world_in g.K.Known.kept l.setting) l.node)
-
 abbrev pub invariant-loop-need : goal.invariant-loop-need
 invariant-loop-need g l = record {
-  round : InRound (world_in g.K.Known.kept l.setting) l.fn.walk l.initial.walk l.walk l.node l.unvisited (drop l.need-index l.unvisited);
+  round : InRound (world_in g.K.Known.kept l.setting) l.fn.walk l.initial.walk l.walk l.node l.unvisited;
   ahead : IsAheadIn (world_in g.K.Known.kept l.setting) l.walk l.node l.ahead;
   counted : LooksAreFew (met_in l.fn.walk) (met_in l.walk) l.fn.steps l.steps 0;
 }

@@ -24,6 +24,8 @@ returns c = record {
     );
     edits = refl;
     graph = refl;
+    ground = tt;
+    noted = refl;
   });
   without = alone old (Kept (stored_call (codes "cc") (Some 0)) ex_aborted_outcome) (ex_with_calls ((call (Some (codes "x=1")), aborted_outcome) ∷ [])) (record {
     loads = (
@@ -40,6 +42,8 @@ returns c = record {
     );
     edits = refl;
     graph = refl;
+    ground = tt;
+    noted = refl;
   });
   absent = alone with_kept (Kept (stored_call (codes "cc") None) ex_aborted_outcome) (ex_with_calls ((call (Some (codes "x=1")), made_outcome) ∷ (call None, aborted_outcome) ∷ [])) (record {
     loads = (
@@ -56,5 +60,7 @@ returns c = record {
     );
     edits = refl;
     graph = refl;
+    ground = tt;
+    noted = refl;
   });
 }

@@ -12,11 +12,11 @@ use Rattle.meaning_records.proofs.examples.edits_that_read.Goals as goal
 
 pub returns : goal.returns
 returns c = record {
-  graph = alone old (Graph (codes "g")) (record { tables = old.tables; sources = old.sources; graph = Some (codes "g") }) (record { loads = refl; edits = refl; graph = refl });
-  content = alone old (Content (Simple (codes "x=1"))) (with_contents (Simple (codes "x=1"))) (record { loads = (omega arith, refl); edits = refl; graph = refl });
-  list = alone old (Content (Listed (node ∷ []))) (with_contents (Listed (node ∷ []))) (record { loads = (tt, refl); edits = refl; graph = refl });
+  graph = alone old (Graph (codes "g")) (record { tables = old.tables; sources = old.sources; graph = Some (codes "g"); noted = [] }) (record { loads = refl; edits = refl; graph = refl; ground = tt; noted = refl });
+  content = alone old (Content (Simple (codes "x=1"))) (with_contents (Simple (codes "x=1"))) (record { loads = (omega arith, refl); edits = refl; graph = refl; ground = tt; noted = refl });
+  list = alone old (Content (Listed (node ∷ []))) (with_contents (Listed (node ∷ []))) (record { loads = (tt, refl); edits = refl; graph = refl; ground = tt; noted = refl });
   put = alone old (Put (codes "b.c") 0) (with_sources (map.insert old.sources (codes "b.c") (codes "x=1")))
-      (record { loads = ((word_decides is_name_byte (codes "b.c")).0 refl, (codes "x=1", refl), refl); edits = (codes "x=1", refl, refl); graph = refl });
+      (record { loads = ((word_decides is_name_byte (codes "b.c")).0 refl, (codes "x=1", refl), refl); edits = (codes "x=1", refl, refl); graph = refl; ground = tt; noted = refl });
   drop = alone old (Dropped (codes "a.c")) (with_sources (map.remove old.sources (codes "a.c")))
-      (record { loads = ((word_decides is_name_byte (codes "a.c")).0 refl, refl); edits = (ap is_some (put_here no_texts (codes "a.c") (codes "x=1")), refl); graph = refl });
+      (record { loads = ((word_decides is_name_byte (codes "a.c")).0 refl, refl); edits = (ap is_some (put_here no_texts (codes "a.c") (codes "x=1")), refl); graph = refl; ground = tt; noted = refl });
 }

@@ -13,9 +13,9 @@ IsShortPart part = length part.body ≤ body_limit
 
 pub returns : goal.returns
 returns c = record {
-  longest = λ text e. alone old (Content (Simple text)) (with_contents (Simple text)) (record { loads = (omega (arith, e), refl); edits = refl; graph = refl });
+  longest = λ text e. alone old (Content (Simple text)) (with_contents (Simple text)) (record { loads = (omega (arith, e), refl); edits = refl; graph = refl; ground = tt; noted = refl });
   longest_part = λ text e. alone old (Content (one_part text)) (with_contents (one_part text))
-      (record { loads = (All-cons IsShortPart (record { name = codes "p"; body = text }) [] (omega (arith, e)) (All-nil IsShortPart), refl); edits = refl; graph = refl });
+      (record { loads = (All-cons IsShortPart (record { name = codes "p"; body = text }) [] (omega (arith, e)) (All-nil IsShortPart), refl); edits = refl; graph = refl; ground = tt; noted = refl });
   too_long = search rules;
   too_long_part = λ text e new t. let short = All-head IsShortPart (record { name = codes "p"; body = text }) [] t.1.loads.0 in omega (arith, e, short);
 }

@@ -14,6 +14,6 @@ returns c = record {
   option = nowhere (option_of number) (2 ∷ four 0) (other_option number 0 (four 0));
   step = nowhere step (3 ∷ four 0) (no_step_from 0 (four 0));
   value = nowhere value (4 ∷ four 0) (no_value_from 0 (four 0));
-  item = nowhere item (6 ∷ four 0) (no_item_from 0 (four 0));
+  item = nowhere item (7 ∷ four 0) (no_item_from 0 (four 0));
   no_bytes = nowhere number (0 ∷ 0 ∷ 0 ∷ 256 ∷ []) no_number;
 }

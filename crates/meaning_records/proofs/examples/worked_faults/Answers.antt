@@ -34,7 +34,7 @@ breaks = record {
 pub returns : goal.returns
 returns c = record {
   front = inl (inr (inl (record { within = search rules; some = search rules; marked = λ e. cc }, λ front. omega (arith, front.starts_behind, front.starts_within), refl)));
-  payload = inr (record { before = []; payload = 9 ∷ []; rest = []; end = 70; store = bad_store; state = nothing; read = refl; unread = λ next. unbatched (9 ∷ []) (no_front 9 [] (no_item_from 3 [])) nothing next; place = refl });
+  payload = inr (record { before = []; payload = 9 ∷ []; rest = []; end = 70; store = bad_store; state = nothing; read = refl; unread = λ next. unbatched (9 ∷ []) (no_front 9 [] (no_item_from 2 [])) nothing next; place = refl });
   place = inr (record { before = graph_payload ∷ []; payload = spell_batch drop_items; rest = []; end = 101; store = drop_store; state = graph_kept; read = (graph_kept, graph_reads, refl); unread = drop_unread; place = refl });
   order = inl (inr (inr breaks));
 }

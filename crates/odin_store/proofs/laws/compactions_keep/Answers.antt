@@ -7,5 +7,5 @@ returns g c =
     record {
       goes = compaction_goes told;
       stops = compaction_stops told;
-      opened = compaction_opened told c.stands_for_one.ensures;
+      opened = compaction_opened told c.reads_in_one_way.ensures c.stands_for_one.ensures;
     }

@@ -17,7 +17,7 @@ push-requires-clause-fresh c =
     let entries = c.self.inside.calls.entries.items in
     let held : IsHeld heads texts c.args.held = subst (λ (h : Holding). IsHeld h.heads h.texts c.args.held) (sym c.self.view_is) c.requires.held in
     let new = subst (λ (h : Holding). IsNone (kept_outcome h.tables.calls c.args.held.call)) (sym c.self.view_is) c.requires.may.new in
-    rw c.into_parts-key.ensures.key (not_kept_yet heads texts entries (key_of c.args.held) c.args.held.call c.self.invariant.0 held new)
+    rw c.into_parts-key.ensures.key (not_kept_yet heads texts entries (key_of c.args.held) c.args.held.call c.self.invariant.0.0 held new)
 
 pub invariant_of-self : goal.invariant_of-self
 invariant_of-self c =
@@ -27,11 +27,16 @@ invariant_of-self c =
     let key : CallKey = key_of c.args.held in
     let entry : Entry = record { head = head_of c.args.held.call; outcome = c.args.outcome } in
     let held : IsHeld heads texts c.args.held = subst (λ (h : Holding). IsHeld h.heads h.texts c.args.held) (sym c.self.view_is) c.requires.held in
-    let last : c.push.new.self.entries.items ≡ entries ++ (key, entry) ∷ [] = rw (c.into_parts-key.ensures.key, c.into_parts-key.ensures.head) at c.push.ensures.entries in
-    (rw last (kept_push heads texts entries key entry c.self.invariant.0 held (c.requires.may.formed, c.requires.may.fits)), c.push.ensures.index)
+    let last : c.push.new.self.entries.items ≡ entries ++ (key, entry) ∷ [] = rw (c.into_parts-key.ensures.key, c.into_parts-key.ensures.head) at c.push.ensures.entries in (
+      (
+        rw last (kept_push heads texts entries key entry c.self.invariant.0.0 held (c.requires.may.formed, c.requires.may.fits)),
+        c.push.ensures.index,
+      ),
+      c.self.invariant.1,
+    )
 
-pub returns : goal.returns
-returns c =
+pub returns-clause-tables : goal.returns-clause-tables
+returns-clause-tables c =
     let entries = c.self.inside.calls.entries.items in
     let key : CallKey = key_of c.args.held in
     let entry : Entry = record { head = head_of c.args.held.call; outcome = c.args.outcome } in

@@ -19,5 +19,5 @@ returns c =
     ∙ some_found _ c.get.result _ c.get.ensures
     ∙ ap (λ (k : CallKey). is_some (lookup (key_eq.eq k) entries)) c.of_held-sought.ensures
     ∙ some_outcome (lookup (key_eq.eq (key_of held)) entries)
-    ∙ ap is_some (looked c.self.inside.heads c.self.inside.contents.texts entries (key_of held) held.call c.self.invariant.0 is)
+    ∙ ap is_some (looked c.self.inside.heads c.self.inside.contents.texts entries (key_of held) held.call c.self.invariant.0.0 is)
     ∙ ap (λ (h : Holding). is_some (kept_outcome h.tables.calls held.call)) c.self.view_is

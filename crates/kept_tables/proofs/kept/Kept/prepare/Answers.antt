@@ -1,28 +1,70 @@
-use Rattle.std.proofs.Common.{refl, rules, ap, reverse, ◌∙◌}
+use Rattle.std.proofs.Common.{◌≡◌, refl, rules, ap, List, length, reverse, subst, sym, ◌∙◌}
+use Rattle.std.specs.List.{All}
 use Rattle.std.proofs.lemmas.List.{reverse-reverse}
+use Rattle.object_values.specs.declared.records.NodeRecord.{NodeRecord}
+use Rattle.kept_contents.specs.Added.{contents_with}
+use Rattle.kept_notes.specs.Facts.{IsRecordIn}
+use Rattle.kept_tables.specs.Holdings.{Holding}
 use Rattle.kept_tables.proofs.HeldLemmas.{kept_alike}
+use Rattle.kept_tables.proofs.RecordLemmas.{records_as}
 use Rattle.kept_tables.proofs.kept.Kept.prepare.Goals as goal
 
 pub invariant_of-self : goal.invariant_of-self
-invariant_of-self c = rw c.reserve.ensures.texts c.self.invariant
+invariant_of-self c = (
+  rw c.reserve.ensures.texts c.self.invariant.0,
+  records_as c.self.inside.contents.contents c.reserve.new.self.contents c.self.inside.records.records c.reserve.ensures.contents c.self.invariant.1,
+)
 
 pub invariant_of-self-in_err-reserve-2 : goal.invariant_of-self-in_err-reserve-2
-invariant_of-self-in_err-reserve-2 c = rw c.reserve.ensures.texts (kept_alike c.self.inside.heads c.self.inside.contents.texts c.self.inside.calls c.reserve-2.new.self c.reserve-2.ensures.entries c.reserve-2.ensures.marks c.self.invariant)
+invariant_of-self-in_err-reserve-2 c = (
+  rw c.reserve.ensures.texts
+      (kept_alike c.self.inside.heads c.self.inside.contents.texts c.self.inside.calls c.reserve-2.new.self c.reserve-2.ensures.entries
+      c.reserve-2.ensures.marks c.self.invariant.0),
+  records_as c.self.inside.contents.contents c.reserve.new.self.contents c.self.inside.records.records c.reserve.ensures.contents c.self.invariant.1,
+)
+
+pub invariant_of-self-in_err-reserve-3 : goal.invariant_of-self-in_err-reserve-3
+invariant_of-self-in_err-reserve-3 c =
+    let count = length c.reserve.new.self.contents in
+    let within = records_as c.self.inside.contents.contents c.reserve.new.self.contents c.self.inside.records.records c.reserve.ensures.contents
+    c.self.invariant.1 in (
+      rw c.reserve.ensures.texts
+          (kept_alike c.self.inside.heads c.self.inside.contents.texts c.self.inside.calls c.reserve-2.new.self c.reserve-2.ensures.entries
+          c.reserve-2.ensures.marks c.self.invariant.0),
+      subst (λ (l : List NodeRecord). All (IsRecordIn count) l) (sym c.reserve-3.ensures.same) within,
+    )
 
 pub invariant_of-self-2 : goal.invariant_of-self-2
-invariant_of-self-2 c = rw c.reserve.ensures.texts (kept_alike c.self.inside.heads c.self.inside.contents.texts c.self.inside.calls c.reserve-2.new.self c.reserve-2.ensures.entries c.reserve-2.ensures.marks c.self.invariant)
+invariant_of-self-2 c =
+    let count = length c.reserve.new.self.contents in
+    let within = records_as c.self.inside.contents.contents c.reserve.new.self.contents c.self.inside.records.records c.reserve.ensures.contents
+    c.self.invariant.1 in (
+      rw c.reserve.ensures.texts
+          (kept_alike c.self.inside.heads c.self.inside.contents.texts c.self.inside.calls c.reserve-2.new.self c.reserve-2.ensures.entries
+          c.reserve-2.ensures.marks c.self.invariant.0),
+      subst (λ (l : List NodeRecord). All (IsRecordIn count) l) (sym c.reserve-3.ensures.same) within,
+    )
 
 pub returns-clause-made : goal.returns-clause-made
-returns-clause-made c = record {
-  fit = search rules;
-  spelled = search rules;
-  added_is = ap reverse (c.reverse.ensures.items ∙ ap reverse c.into_vec-added.ensures) ∙ reverse-reverse c.args.added;
-  call_is = refl;
-  commits = record {
-    held = search rules;
-    room = search rules;
-    few = search rules;
-    call = search rules;
-    next_is = refl;
-  };
-}
+returns-clause-made c =
+    let notes = c.args.notes.items in
+    let added_is : reverse c.reverse.new.self.items ≡ c.args.added = ap reverse (c.reverse.ensures.items ∙ ap reverse c.into_vec-added.ensures)
+    ∙ reverse-reverse c.args.added in
+    let named : All (IsRecordIn (length (contents_with c.self.inside.contents.contents c.args.added))) notes
+    = subst (λ (h : Holding). All (IsRecordIn (length (contents_with h.tables.contents c.args.added))) notes) (sym c.self.view_is) c.requires.notes in
+    record {
+      fit = search rules;
+      spelled = search rules;
+      added_is = added_is;
+      call_is = refl;
+      notes_are = refl;
+      commits = record {
+        held = search rules;
+        room = search rules;
+        few = search rules;
+        call = search rules;
+        notes = rw (added_is, c.reserve.ensures.contents) named;
+        note_room = search rules;
+        next_is = refl;
+      };
+    }

@@ -29,5 +29,5 @@ returns-clause-ok c =
     let adds = texts_append contents (texts_of_parts c.args.call.now.parts) (texts_of_outputs outcome.outputs) [] (values_of_contents c.stored_call.new.added) (values_of_contents c.stored_outcome.new.added) front back in
     let called = call_stays contents (contents_of (texts_of_outputs outcome.outputs)) c.stored_call.new.added c.stored_outcome.new.added c.in_ok-stored.stored c.args.call.now back (rw first at c.in_ok-stored.ensures.call) in
     let came = rw before at c.in_ok-given.ensures.outcome in
-    let made = rw c.in_ok-copy.ensures at c.prepare.ensures.made in
+    let made = rw (c.in_ok-rest.ensures, c.in_ok-copy.ensures, c.new.ensures.items) at c.prepare.ensures.made in
     if_ok c.prepare.result made (λ batch makes. call_prepared c.args.self.now c.prepare.new.self same c.stored_outcome.new.added batch held c.args.call.now c.in_ok-held.ensures.call outcome c.requires adds c.in_ok-stored.stored c.in_ok-given.given called came makes)

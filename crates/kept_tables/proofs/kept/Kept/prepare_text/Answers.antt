@@ -8,5 +8,5 @@ returns-clause-ok c =
     let name_is : c.into_bytes-name.result ≡ c.args.name.now = c.into_bytes-name.ensures.bytes ∙ c.in_ok-copy.ensures in
     let named = rw c.in_ok-copy.ensures at c.into_bytes-name.ensures.named in
     let adds = rw c.new-added.ensures at c.in_ok-number.ensures.adds in
-    let made = rw name_is at c.prepare.ensures.made in
+    let made = rw (c.in_ok-rest.ensures, name_is, c.new.ensures.items) at c.prepare.ensures.made in
     if_ok c.prepare.result made (λ batch makes. put_prepared c.args.self.now c.prepare.new.self same c.number_text.new.added batch c.args.name.now c.args.text.now named c.requires adds c.in_ok-number.number c.in_ok-number.ensures.number makes)

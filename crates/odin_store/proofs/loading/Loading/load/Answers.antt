@@ -1,37 +1,40 @@
-use Rattle.std.proofs.Common.{◌≡◌, ◌≢◌, ◌<◌, ◌≤◌, [], length, arith}
+use Rattle.std.proofs.Common.{◌≡◌, ◌<◌, ◌∙◌, length, refl, arith}
 use Rattle.std.proofs.lemmas.Grind.{common_steps}
 use Rattle.std.proofs.lemmas.Bool.Decides.{nat_tests}
-use Rattle.odin_store.specs.Loading.{state_of}
-use Rattle.odin_store.proofs.LoadLemmas.{one_more, on_from, none_from, goes_on, empty_unread, all_read}
+use Rattle.odin_store.specs.Loading.{state_of, TakesItem, TakesNoItem}
+use Rattle.odin_store.proofs.LoadLemmas.{none_loaded, one_loaded, item_ends, none_more, empty_unread}
 use Rattle.odin_store.proofs.loading.Loading.load.Goals as goal
+
+pub items-init : goal.items-init
+items-init c = record {
+  inside = omega arith;
+  same = record { graph = refl; text = refl };
+  gate = refl;
+  loaded = λ past is. none_loaded c.args.payload.now c.args.self.now past is;
+}
 
 pub returns-in_default-clause-unread : goal.returns-in_default-clause-unread
 returns-in_default-clause-unread c =
     let inside : c.items.at < length c.args.payload.now = omega arith in
-    let none = rw c.in_default.is at c.in_ok-end.ensures.none in
-    λ answered new reads. none_from c.args.payload.now c.items.at (state_of c.items.self) new inside none (c.items.invariant.behind new reads)
+    let none : TakesNoItem c.args.payload.now c.items.at c.items.self = rw c.in_default.is at c.in_ok-end.ensures.none in
+    λ answered. none_more c.args.payload.now c.items.at c.args.self.now c.items.self inside none c.items.invariant.loaded
 
 pub items-preserved : goal.items-preserved
 items-preserved c =
     let payload = c.args.payload.now in
-    let old = state_of c.args.self.now in
-    let now = state_of c.items.self in
-    let next = state_of c.load_item.new.self in
+    let now = c.items.self in
+    let next = c.load_item.new.self in
+    let end = c.in-Some.end in
     let inside : c.items.at < length payload = omega arith in
-    let taken = rw c.in-Some.is at c.in_ok-end.ensures.some in
+    let taken : TakesItem payload c.items.at end now next = rw c.in-Some.is at c.in_ok-end.ensures.some in
     record {
-      inside = (goes_on payload c.items.at c.in-Some.end now next taken).1;
-      before = one_more payload c.items.at c.in-Some.end old now next c.items.invariant.before taken;
-      behind = λ new reads. on_from c.reads_in_one_way.ensures payload c.items.at c.in-Some.end now next new inside taken (c.items.invariant.behind new reads);
+      inside = (item_ends payload c.items.at end now next taken).1;
+      same = record { graph = c.load_item.ensures.same.graph ∙ c.items.invariant.same.graph; text = c.load_item.ensures.same.text ∙ c.items.invariant.same.text };
+      gate = c.load_item.ensures.gate ∙ c.items.invariant.gate;
+      loaded = λ past is. one_loaded c.reads_in_one_way.ensures payload c.items.at end c.args.self.now now next past c.items.invariant.gate inside taken (c.items.invariant.loaded past is);
     }
 
-pub returns-clause-read : goal.returns-clause-read
-returns-clause-read c answered =
-    let some : c.args.payload.now ≢ [] = λ empty. grind (arith, common_steps, nat_tests) in
-    let passed : length c.args.payload.now ≤ c.items.at = omega (arith, c.items-test.false, c.len.ensures) in
-    all_read c.args.payload.now c.items.at (state_of c.args.self.now) (state_of c.items.self) some passed c.items.invariant.inside c.items.invariant.before
-
 pub returns-clause-unread : goal.returns-clause-unread
-returns-clause-unread c answered =
+returns-clause-unread c answered past is =
     let empty : length c.args.payload.now ≡ 0 = grind (arith, common_steps, nat_tests) in
-    empty_unread (state_of c.args.self.now) c.args.payload.now empty
+    empty_unread (state_of c.args.self.now past) c.args.payload.now empty

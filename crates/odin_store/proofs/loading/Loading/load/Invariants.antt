@@ -1,15 +1,15 @@
-use Rattle.std.proofs.Common.{◌≤◌, ◌-◌, length}
-use Rattle.meaning_records.specs.States.{State, Reads}
-use Rattle.odin_store.specs.Loading.{state_of}
-use Rattle.odin_store.proofs.LoadLemmas.{ReadsTo, ReadsFrom}
+use Rattle.std.proofs.Common.{◌≡◌, ◌≤◌, ◌-◌, length}
+use Rattle.odin_store.specs.Loading.{Past, IsPast, IsForSame}
+use Rattle.odin_store.proofs.LoadLemmas.{ItemsLoaded}
 use Rattle.odin_store.proofs.loading.Loading.load.Given as goal
 
--- the items so far make what is kept, and what the payload makes of it the others make
+-- the items so far were loaded
 abbrev pub invariant-items : goal.invariant-items
 invariant-items l = record {
   inside : l.at ≤ length l.payload;
-  before : ReadsTo l.payload l.at (state_of l.initial.self) (state_of l.self);
-  behind : (new : State) → Reads (state_of l.initial.self) l.payload new → ReadsFrom l.payload l.at (state_of l.self) new;
+  same : IsForSame l.initial.self l.self;
+  gate : l.self.gate ≡ l.initial.self.gate;
+  loaded : (past : Past) → IsPast l.initial.self past → ItemsLoaded l.payload l.at l.initial.self l.self past;
 }
 
 abbrev pub decreases-items : goal.decreases-items

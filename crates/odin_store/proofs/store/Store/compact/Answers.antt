@@ -1,8 +1,9 @@
-use Rattle.std.proofs.Common.{◌≡◌, ◌+◌, inr, IsTrue, IsFalse, refl, ap, subst, ◌∙◌, rules}
+use Rattle.std.proofs.Common.{◌≡◌, ◌+◌, inr, IsTrue, IsFalse, refl, sym, ap, subst, ◌∙◌, rules}
 use Rattle.odin_journal.specs.Moments.{Works}
 use Rattle.odin_journal.specs.Rewrites.{copy_size, FitsNowhere, LeavesReplaced, Replaces}
-use Rattle.meaning_records.specs.Tables.{Tables, Calls}
-use Rattle.odin_store.specs.Held.{Held}
+use Rattle.meaning_records.specs.Tables.{Tables}
+use Rattle.odin_store.specs.OnDisk.{held_in}
+use Rattle.odin_store.proofs.StoreLemmas.{held_with}
 use Rattle.odin_store.proofs.CompactLemmas.{may_be_sources, nothing_compacted, copy_lives, replaced, replaced_leaves, compacts}
 use Rattle.odin_store.proofs.store.Store.compact.Goals as goal
 
@@ -18,7 +19,7 @@ returns-in_err-rewrite-clause-any_moment g c =
     let copy = c.in_ok-copy.copy in
     let old = g.D.Disk.told c.args.disk.now in
     let new = g.D.Disk.told c.rewrite.new.disk in
-    replaced_leaves store copy.contents copy.payloads old new (copy_lives store c.as_slice.result.now copy c.as_slice.ensures c.in_ok-copy.ensures.live c.in_ok-copy.ensures.reads)
+    replaced_leaves store copy.contents copy.payloads old new (copy_lives store c.as_slice.result.now copy c.requires.none c.as_slice.ensures c.in_ok-copy.ensures.live c.in_ok-copy.ensures.reads)
     (subst (λ p. LeavesReplaced store.journal p old new) c.payloads.ensures c.rewrite.ensures.any_moment)
 
 pub returns-in_err-rewrite-clause-works : goal.returns-in_err-rewrite-clause-works
@@ -28,7 +29,7 @@ returns-in_err-rewrite-clause-works g c =
     let old = g.D.Disk.told c.args.disk.now in
     let new = g.D.Disk.told c.rewrite.new.disk in
     inr (
-      record { records = copy.payloads; contents = copy.contents; are = copy_lives store c.as_slice.result.now copy c.as_slice.ensures c.in_ok-copy.ensures.live c.in_ok-copy.ensures.reads },
+      record { records = copy.payloads; contents = copy.contents; are = copy_lives store c.as_slice.result.now copy c.requires.none c.as_slice.ensures c.in_ok-copy.ensures.live c.in_ok-copy.ensures.reads },
       subst (λ p. Works (copy_size p + 9) 8 old new) c.payloads.ensures c.rewrite.ensures.works,
     )
 
@@ -38,7 +39,7 @@ returns-then-not-branch-clause-compacts g c =
     let copy = c.in_ok-copy.copy in
     let answered : IsFalse c.in_ok-rewrite.field-0 = search rules in
     record {
-      live = record { records = copy.payloads; contents = copy.contents; are = copy_lives store c.as_slice.result.now copy c.as_slice.ensures c.in_ok-copy.ensures.live c.in_ok-copy.ensures.reads };
+      live = record { records = copy.payloads; contents = copy.contents; are = copy_lives store c.as_slice.result.now copy c.requires.none c.as_slice.ensures c.in_ok-copy.ensures.live c.in_ok-copy.ensures.reads };
       nowhere = subst (λ p. FitsNowhere store.journal.start.place store.journal.end (copy_size p)) c.payloads.ensures (c.in_ok-rewrite.ensures.fits.let_be answered);
     }
 
@@ -48,7 +49,7 @@ returns-then-not-branch-clause-any_moment g c =
     let copy = c.in_ok-copy.copy in
     let old = g.D.Disk.told c.args.disk.now in
     let new = g.D.Disk.told c.rewrite.new.disk in
-    replaced_leaves store copy.contents copy.payloads old new (copy_lives store c.as_slice.result.now copy c.as_slice.ensures c.in_ok-copy.ensures.live c.in_ok-copy.ensures.reads)
+    replaced_leaves store copy.contents copy.payloads old new (copy_lives store c.as_slice.result.now copy c.requires.none c.as_slice.ensures c.in_ok-copy.ensures.live c.in_ok-copy.ensures.reads)
     (subst (λ p. LeavesReplaced store.journal p old new) c.payloads.ensures c.rewrite.ensures.any_moment)
 
 pub returns-clause-compacts : goal.returns-clause-compacts
@@ -59,12 +60,13 @@ returns-clause-compacts g c =
     let new = g.D.Disk.told c.rewrite.new.disk in
     let answered : IsTrue c.in_ok-rewrite.field-0 = search rules in
     let calls : c.renumber.new.self.tables.calls ≡ store.kept.tables.calls = c.renumber.ensures.calls ∙ ap (λ (t : Tables). t.calls) c.copy_live.ensures.tables in
-    let holds : ◌≡◌ {A = Held} (record { sources = store.sources.texts; calls = c.renumber.new.self.tables.calls }) (record { sources = store.sources.texts; calls = store.kept.tables.calls }) =
-    ap (λ (l : Calls). record { sources = store.sources.texts; calls = l }) calls in
+    let none : c.renumber.new.self.tables.records ≡ store.kept.tables.records = c.renumber.ensures.records ∙ sym c.requires.none in
+    let holds : held_with store.graph c.renumber.new.self.tables store.sources.texts ≡ held_in store =
+    λ i. record { text = store.graph; sources = store.sources.texts; calls = calls i; records = none i } in
     let replaces : Replaces store.journal c.rewrite.new.self copy.payloads old new =
     subst (λ p. Replaces store.journal c.rewrite.new.self p old new) c.payloads.ensures (replaced store.journal c.rewrite.new.self c.payloads.result.now old new c.in_ok-rewrite.field-0 answered c.in_ok-rewrite.ensures.replaced) in
-    compacts store _ old new copy.payloads copy.contents (copy_lives store c.as_slice.result.now copy c.as_slice.ensures c.in_ok-copy.ensures.live c.in_ok-copy.ensures.reads)
-    c.renumber.ensures.contents holds refl refl replaces (subst (λ p. Works (copy_size p + 9) 8 old new) c.payloads.ensures c.rewrite.ensures.works)
+    compacts store _ old new copy.payloads copy.contents (copy_lives store c.as_slice.result.now copy c.requires.none c.as_slice.ensures c.in_ok-copy.ensures.live c.in_ok-copy.ensures.reads)
+    c.renumber.ensures.contents holds c.renumber.ensures.records refl refl replaces (subst (λ p. Works (copy_size p + 9) 8 old new) c.payloads.ensures c.rewrite.ensures.works)
 
 pub returns-clause-any_moment : goal.returns-clause-any_moment
 returns-clause-any_moment g c =
@@ -72,7 +74,7 @@ returns-clause-any_moment g c =
     let copy = c.in_ok-copy.copy in
     let old = g.D.Disk.told c.args.disk.now in
     let new = g.D.Disk.told c.rewrite.new.disk in
-    replaced_leaves store copy.contents copy.payloads old new (copy_lives store c.as_slice.result.now copy c.as_slice.ensures c.in_ok-copy.ensures.live c.in_ok-copy.ensures.reads)
+    replaced_leaves store copy.contents copy.payloads old new (copy_lives store c.as_slice.result.now copy c.requires.none c.as_slice.ensures c.in_ok-copy.ensures.live c.in_ok-copy.ensures.reads)
     (subst (λ p. LeavesReplaced store.journal p old new) c.payloads.ensures c.rewrite.ensures.any_moment)
 
 pub returns-clause-works : goal.returns-clause-works
@@ -82,6 +84,6 @@ returns-clause-works g c =
     let old = g.D.Disk.told c.args.disk.now in
     let new = g.D.Disk.told c.rewrite.new.disk in
     inr (
-      record { records = copy.payloads; contents = copy.contents; are = copy_lives store c.as_slice.result.now copy c.as_slice.ensures c.in_ok-copy.ensures.live c.in_ok-copy.ensures.reads },
+      record { records = copy.payloads; contents = copy.contents; are = copy_lives store c.as_slice.result.now copy c.requires.none c.as_slice.ensures c.in_ok-copy.ensures.live c.in_ok-copy.ensures.reads },
       subst (λ p. Works (copy_size p + 9) 8 old new) c.payloads.ensures c.rewrite.ensures.works,
     )

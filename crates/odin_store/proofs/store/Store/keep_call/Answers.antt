@@ -39,7 +39,7 @@ returns-clause-keeps g c =
     let prepared = c.in_ok-prepared.prepared in
     let batch = c.in_ok-prepared.ensures.ok in
     let ready = call_ready c.reads_in_one_way.ensures call outcome store c.prepare_call.new.self prepared c.prepare_call.ensures.same c.requires.new batch in
-    let tables : c.commit.new.self.tables ≡ batch.2.next = c.commit.ensures batch.2.next batch.2.commits in
+    let tables : c.commit.new.self.tables ≡ batch.2.next = c.commit.ensures.tables batch.2.next batch.2.commits in
     record {
       holds = ready_holds (CallBatch store call outcome) (keeps call outcome) store prepared.payload c.framed.result.now batch.2.next store.sources.texts ready c.framed.ensures c.commit.new.self.tables store.sources.texts tables refl;
       epoch = refl;

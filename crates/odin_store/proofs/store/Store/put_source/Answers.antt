@@ -5,7 +5,7 @@ use Rattle.odin_store.specs.Held.{puts}
 use Rattle.odin_store.specs.OnDisk.{IsChangeFault}
 use Rattle.odin_store.specs.Changes.{PutBatch}
 use Rattle.odin_store.proofs.SourceLemmas.{put_stays}
-use Rattle.odin_store.proofs.StoreLemmas.{handed}
+use Rattle.odin_store.proofs.StoreLemmas.{held_with, handed}
 use Rattle.odin_store.proofs.ReadyLemmas.{put_ready, ready_leaves, ready_begins, ready_fault, ready_adds, ready_holds}
 use Rattle.odin_store.proofs.store.Store.put_source.Goals as goal
 
@@ -53,7 +53,7 @@ returns-clause-puts g c =
     let batch = c.in_ok-source.ensures.batch in
     let ready = put_ready name text store mid prepared same batch in
     let edited = map.insert store.sources.texts name text in
-    let tables : c.commit.new.self.tables ≡ batch.2.next = c.commit.ensures batch.2.next batch.2.commits in
+    let tables : c.commit.new.self.tables ≡ batch.2.next = c.commit.ensures.tables batch.2.next batch.2.commits in
     let put : c.put.new.self.texts ≡ edited =
     c.put.ensures.put ∙ ap (λ m. map.insert m c.in_ok-source.source c.in_ok-source.shared) same.sources
     ∙ ap₂ (λ n t. map.insert store.sources.texts n t) c.in_ok-source.ensures.name c.in_ok-source.ensures.text in
@@ -62,7 +62,8 @@ returns-clause-puts g c =
     record {
       exact = (λ yes. other, λ differ. search rules);
       edits = λ yes. record {
-        holds = ready_holds (PutBatch store name text) (puts name text) store prepared.payload c.framed.result.now batch.2.next edited ready c.framed.ensures c.commit.new.self.tables c.put.new.self.texts tables put;
+        holds = ap (λ t. held_with t c.commit.new.self.tables c.put.new.self.texts) same.graph
+            ∙ ready_holds (PutBatch store name text) (puts name text) store prepared.payload c.framed.result.now batch.2.next edited ready c.framed.ensures c.commit.new.self.tables c.put.new.self.texts tables put;
         epoch = omega (arith, same.epoch);
         adds =
             ready_adds (PutBatch store name text) (puts name text) store prepared.payload c.framed.result.now batch.2.next edited ready c.framed.ensures mid.journal _

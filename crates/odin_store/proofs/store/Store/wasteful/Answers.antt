@@ -1,6 +1,6 @@
-use Rattle.std.proofs.Common.{◌<◌, ◌≤◌, ◌*◌, subst, rules}
+use Rattle.std.proofs.Common.{◌<◌, ◌≤◌, ◌*◌, subst, arith, rules}
 use Rattle.meaning_records.specs.Live.{IsLiveText}
-use Rattle.odin_store.proofs.CompactLemmas.{not_wasteful, little_text, much_text}
+use Rattle.odin_store.proofs.CompactLemmas.{none_noted, not_wasteful, little_text, much_text}
 use Rattle.odin_store.proofs.store.Store.wasteful.Goals as goal
 
 pub returns-clause-yes : goal.returns-clause-yes
@@ -10,6 +10,7 @@ returns-clause-yes c less =
     let long : 1048576 ≤ store.journal.end = search rules in
     let little : 2 * text < store.journal.end = little_text text store.journal.end c.saturating_sub.result (search rules) less in
     record {
+      none = none_noted store.kept.tables.contents store.kept.records.records store.kept.tables.records c.records_fit.ensures.says (omega (arith, c.records.ensures, c.if-records-gt0.false));
       long = long;
       text = text;
       live = subst (λ g. IsLiveText g store.sources.texts store.kept.tables.calls text) c.as_slice.ensures c.in_ok-text.ensures;

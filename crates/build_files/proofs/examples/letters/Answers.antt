@@ -1,8 +1,0 @@
-use Rattle.std.proofs.Common.{refl}
-use Rattle.build_files.specs.Shown.{staying_size, spelling}
-use Rattle.std.specs.Char.{encode_utf8}
-use Rattle.build_files.proofs.examples.letters.Goals as goal
-
-pub returns : goal.returns
-unfolding staying_size spelling encode_utf8
-returns c = record { ascii = refl; two = refl; three = refl; four = refl }

@@ -1,7 +1,0 @@
-use Rattle.std.proofs.Common.{refl}
-use Rattle.build_files.specs.Shown.{staying_size, spelling}
-use Rattle.build_files.proofs.examples.no_characters.Goals as goal
-
-pub returns : goal.returns
-unfolding staying_size spelling
-returns c = record { alone = refl; cut = refl; overlong = refl; surrogate = refl; past = refl }

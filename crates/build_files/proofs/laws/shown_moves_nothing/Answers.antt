@@ -1,6 +1,0 @@
-use Rattle.std.proofs.Common.{arith}
-use Rattle.build_files.proofs.ShownLemmas.{still}
-use Rattle.build_files.proofs.laws.shown_moves_nothing.Goals as goal
-
-pub returns : goal.returns
-returns c = λ text bytes. still 0 text bytes (λ i below. absurd (omega arith))

@@ -1,0 +1,24 @@
+use Rattle.std.proofs.Common.{sym, subst}
+use Rattle.derive_walk.specs.Walks.{Walked, IsRight}
+use Rattle.derive_walk.proofs.Lemmas.{right_is_formed}
+use Rattle.derive_core.specs.Kept.{kept_world}
+use Rattle.derive_core.proofs.walk.Core.advance_in.Goals as goal
+
+pub advance-requires-clause-formed : goal.advance-requires-clause-formed
+advance-requires-clause-formed g c =
+    let right = subst (λ (z : Walked). IsRight (kept_world c.args.planned.now c.args.sources.now.texts c.args.looks.now.kept.now.tables.calls z.given) z)
+    (sym c.self.view_is) c.requires.right in
+    right_is_formed _
+    (record { spellable = c.requires.spellable; checked = rw c.graph.ensures at c.checked.ensures; sources = c.requires.sources; fit = right.fit })
+    _ right
+
+pub returns-clause-right : goal.returns-clause-right
+returns-clause-right g c =
+    c.advance.ensures.right (subst (λ (z : Walked). IsRight
+    (kept_world c.args.planned.now c.args.sources.now.texts c.args.looks.now.kept.now.tables.calls z.given) z) (sym c.self.view_is) c.requires.right)
+
+pub returns-clause-advanced : goal.returns-clause-advanced
+returns-clause-advanced g c =
+    c.advance.ensures.advanced (subst
+    (λ (z : Walked). IsRight (kept_world c.args.planned.now c.args.sources.now.texts c.args.looks.now.kept.now.tables.calls z.given) z)
+    (sym c.self.view_is) c.requires.right)

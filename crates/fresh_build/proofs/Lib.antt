@@ -1,0 +1,5 @@
+mod MapLemmas
+mod EditLemmas
+mod ListLemmas
+mod SetLemmas
+mod BuildLemmas

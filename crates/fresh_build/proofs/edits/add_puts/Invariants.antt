@@ -1,0 +1,7 @@
+use Rattle.std.proofs.Common.{◌≡◌, ◌++◌, take}
+use Rattle.std.specs.FinMap.{entries}
+use Rattle.fresh_build.specs.Edits.{changes_of, puts_to}
+use Rattle.fresh_build.proofs.edits.add_puts.Given as goal
+
+abbrev pub invariant-sources : goal.invariant-sources
+invariant-sources l = changes_of l.edits ≡ changes_of l.fn.edits ++ puts_to l.old.texts (take l.place (entries l.wanted.texts))

@@ -1,0 +1,5 @@
+pub mod Listed
+pub mod Edits
+pub mod Sets
+pub mod Built
+pub mod Laws

@@ -1,0 +1,4 @@
+mod FactLemmas
+mod LoadedLemmas
+mod NumberLemmas
+pub mod Lemmas

@@ -1,0 +1,54 @@
+-- What records of nodes in memory say over the contents that their numbers name.
+use Rattle.std.specs.Prelude.{◌<◌, ⊤, ℕ, List, Option, Some, None, map, slice_get}
+use Rattle.std.specs.List.{All}
+use Rattle.object_values.specs.declared.records.Dep.{Dep}
+use Rattle.object_values.specs.declared.records.NodeRecord.{NodeRecord}
+use Rattle.object_values.specs.declared.records.Seen.{Seen}
+use Rattle.object_values.specs.declared.records.Seen.TheVariants.{Nothing, Kept, New}
+use Rattle.object_values.specs.declared.facts.Fact.{Fact}
+use Rattle.object_values.specs.declared.facts.FactDep.{FactDep}
+use Rattle.object_values.specs.declared.views.Value.{Value}
+
+-- ---- what a record says
+
+abbrev pub value_of : List Value → Option ℕ → Option Value
+value_of contents None = None
+value_of contents (Some number) = slice_get contents number
+
+abbrev pub value_seen : List Value → Seen → Option Value
+value_seen contents Nothing = None
+value_seen contents (Kept number) = slice_get contents number
+value_seen contents New = None
+
+abbrev pub dep_of : List Value → Dep → FactDep
+dep_of contents d = record { node = d.node; role = d.role; value = value_seen contents d.seen }
+
+abbrev pub fact_of : List Value → NodeRecord → Fact
+fact_of contents r = record {
+  node = r.node;
+  deps = map (dep_of contents) r.deps;
+  value = value_of contents r.value;
+  own_status = r.own_status;
+  own_messages = r.own_messages;
+}
+
+abbrev pub facts_of : List Value → List NodeRecord → List Fact
+facts_of contents = map (fact_of contents)
+
+-- ---- whose numbers are of contents
+
+-- the number, where there is one, is of one of so many contents
+abbrev pub IsNumberIn : ℕ → Option ℕ → Type 0
+IsNumberIn count None = ⊤
+IsNumberIn count (Some number) = number < count
+
+-- what was seen is no value or such a content
+abbrev pub IsSeenIn : ℕ → Seen → Type 0
+IsSeenIn count Nothing = ⊤
+IsSeenIn count (Kept number) = number < count
+IsSeenIn count New = ⊥
+
+-- So it is of each value that a record names.
+pub record IsRecordIn (count : ℕ) (r : NodeRecord) : Type 0 where
+  pub deps : All (λ (d : Dep). IsSeenIn count d.seen) r.deps
+  pub value : IsNumberIn count r.value

@@ -1,7 +1,0 @@
-use Rattle.std.proofs.Common.{◌≡◌, ◌-◌, ◌∷◌, take}
-use Rattle.odin_store.specs.Loading.{records_size}
-use Rattle.odin_store.proofs.loading.gate_before.Given as goal
-
--- the place is before the records so far
-abbrev pub invariant-loop-record : goal.invariant-loop-record
-invariant-loop-record l = l.gate ≡ l.end - records_size (l.payload ∷ take l.record-index l.behind)

@@ -1,0 +1,3 @@
+mod RowLemmas
+mod StepLemmas
+mod ReadLemmas
