@@ -11,7 +11,7 @@ pub returns : goal.returns
 returns c =
     elim c.in-None.ensures.steps [
       | inl none ↦ ended (step_fits c.args.step.now) _ _ _ _ (inl (length-map c.loop-name.name-iterator.a.rest.now (λ name. name.now) ∙ none.1.0))
-      c.loop-name.invariant
+          c.loop-name.invariant
       | inr none ↦ ended (step_fits c.args.step.now) _ _ _ _ (inr none.1.0) c.loop-name.invariant
     ]
 
