@@ -4,9 +4,9 @@
     store_images.py PROGRAM [COUNT [SEED]]
 
 Images are made from sessions by bytes that change, cuts, splices, records that stand twice, and items that change within whole records; half of them were
-rewritten once or twice before, so that both starts are in use. PROGRAM is the built crates/odin_bench. Each image is opened for the graph text GRAPH. Of
-each, both say where it isn't ours, or the sources, the calls and the records of nodes in order, and the file then.
-It prints how many agree, and the first that don't.
+rewritten once or twice before, so that both starts are in use. PROGRAM is the built crates/odin_bench. Each image is opened for the graph text GRAPH, and
+once more opened, rewritten, wasteful or not, and opened again. Of each opening and of the rewriting both say where it isn't ours, or the sources, the calls and
+the records of nodes in order, and the file then. It prints how many agree, and the first that don't.
 """
 import os
 import random
@@ -102,10 +102,11 @@ class Fields:
 
 
 class State:
-    """What is kept: `counted` is the graph text for which the file is opened, by which records of nodes count."""
+    """What is kept: `counted` is the graph text for which the file is opened, by which records of nodes count, and `fit` the graph that they have to fit."""
 
-    def __init__(self, counted=GRAPH):
+    def __init__(self, counted=GRAPH, fit=FIT):
         self.counted = counted
+        self.fit = fit
         self.contents = []
         self.sources = {}
         self.calls = []
@@ -154,13 +155,17 @@ class State:
             raise NotRead
         return self.contents[number]
 
+    def said(self, read):
+        """A record with the values themselves in the place of their numbers."""
+        return read._replace(deps=[(node, self.seen(number)) for node, number in read.deps], value=self.seen(read.value))
+
     def note(self, read, gate):
-        said = read._replace(deps=[(node, self.seen(number)) for node, number in read.deps], value=self.seen(read.value))
+        said = self.said(read)
         formed = read.reached <= len(read.deps) and 1 <= read.height <= HIGHEST and (read.value is None) == (read.status == ABORT)
         if self.graph is None or not formed:
             raise NotRead
         self.records[whole_node(read.node)] = read
-        if self.graph == self.counted and not FIT.fits(said):
+        if self.graph == self.counted and not self.fit.fits(said):
             self.unfit.append(gate)
 
     def item(self, fields, gate):
@@ -277,38 +282,54 @@ def opened(image):
 
 
 class Live:
-    """The batches of a rewritten store."""
+    """The batches of a rewritten store, and the records of its nodes by the numbers of its own contents."""
 
     def __init__(self, state):
         self.payloads = [b"\1" + blob(GRAPH)]
         self.numbers = {}
         for name, text in sorted(state.sources.items()):
             items = []
-            number = self.number(text, items)
-            self.payloads.append(b"".join(items) + b"\3" + blob(name) + number)
+            number = self.number(("simple", text), items)
+            self.payloads.append(b"".join(items) + b"\3" + blob(name) + u32(number))
         for call, outcome in state.calls:
             self.payloads.append(self.kept(call, outcome))
+        self.records = {node: self.noted(state, record) for node, record in state.records.items()}
 
-    def number(self, text, items):
-        if text not in self.numbers:
-            self.numbers[text] = len(self.numbers)
-            items.append(b"\2" + blob(b"\1" + blob(text)))
-        return u32(self.numbers[text])
+    def number(self, value, items):
+        """The number of a value, which is written before the item where no batch has it yet."""
+        content = spell_value(value)
+        if content not in self.numbers:
+            self.numbers[content] = len(self.numbers)
+            items.append(b"\2" + blob(content))
+        return self.numbers[content]
 
     def kept(self, call, outcome):
         tool, version, words, params, parts, outs = call
         status, lines, outputs = outcome
         items = []
-        numbered = [u32(slot) + blob(label) + (b"\0" if body is None else b"\1" + self.number(body, items)) for slot, label, body in parts]
-        given = [blob(name) + self.number(body, items) for name, body in outputs]
+        numbered = [u32(slot) + blob(label) + spell_number(None if body is None else self.number(("simple", body), items)) for slot, label, body in parts]
+        given = [blob(name) + u32(self.number(("simple", body), items)) for name, body in outputs]
         return b"".join(items) + b"\5" + b"".join([
             blob(tool), blob(version), many([blob(w) for w in words]), many([blob(n) + blob(v) for n, v in params]), many(numbered),
             many([blob(o) for o in outs]), bytes([status]), many([bytes([level]) + blob(text) for level, text in lines]), many(given)])
 
+    def noted(self, state, record):
+        """Adds the batch of a record: its value comes first, and then what was seen of each dep."""
+        items = []
+        value = self.renumbered(state, record.value, items)
+        deps = [(node, self.renumbered(state, number, items)) for node, number in record.deps]
+        record = record._replace(value=value, deps=deps)
+        self.payloads.append(b"".join(items) + b"\6" + spell_record(record))
+        return record
+
+    def renumbered(self, state, number, items):
+        return None if number is None else self.number(state.contents[number], items)
+
 
 def rewritten(state, image, end):
-    """The file once its records are replaced by what is live, and the place of its closed gate."""
-    copy = b"".join(b"\1" + blob(payload) for payload in Live(state).payloads) + b"\0"
+    """The file once its records are replaced by what is live, and the records of nodes then."""
+    live = Live(state)
+    copy = b"".join(b"\1" + blob(payload) for payload in live.payloads) + b"\0"
     is_second = image[8] % 2 == 1
     start = int.from_bytes(image[24:32] if is_second else image[16:24], "big")
     if 64 + len(copy) <= start:
@@ -316,14 +337,14 @@ def rewritten(state, image, end):
     elif end + 1 + len(copy) <= LIMIT:
         place = end + 1
     else:
-        return image, end
+        return image, state.records
     image = image[:place] + copy + image[place + len(copy):]
     field = 16 if is_second else 24
     image = image[:field] + u64(place) + image[field + 8:]
     image = image[:8] + bytes([0 if is_second else 1]) + image[9:]
     if place == 64:
         image = image[:64 + len(copy)]
-    return image, place + len(copy) - 1
+    return image, live.records
 
 
 def wanted_of(image, mode):
@@ -332,10 +353,11 @@ def wanted_of(image, mode):
     if isinstance(told, int):
         return told
     state, image, end = told
-    if mode == "rewritten":
-        image, _ = rewritten(state, image, end)
-        state.records = {}
-    return dump(state, image)
+    if mode != "rewritten":
+        return dump(state, image)
+    image, state.records = rewritten(state, image, end)
+    again, same, _ = opened(image)
+    return dump(state, image) + dump(again, same)
 
 
 def dump_call(call, outcome):
@@ -346,6 +368,15 @@ def dump_call(call, outcome):
         many([u32(slot) + blob(label) + (b"\0" if body is None else b"\1" + blob(body)) for slot, label, body in parts]),
         many([blob(o) for o in outs]), bytes([status]), many([bytes([level]) + blob(text) for level, text in lines]),
         many([blob(name) + blob(body) for name, body in outputs])])
+
+
+def spell_value(value):
+    kind, body = value
+    if kind == "simple":
+        return b"\1" + blob(body)
+    if kind == "list":
+        return b"\2" + many([spell_node(node) for node in body])
+    return b"\3" + many([blob(name) + blob(part) for name, part in body])
 
 
 def spell_node(node):
@@ -426,8 +457,12 @@ class Writer:
         self.batch([b"\6" + spell_record(record)])
 
 
-NODES = [(b"a.c", [], [0]), (b"b.c", [(b"d", b"1")], [0]), (b"a.h", [], [1]), (b"b.c", [], [2]), (b"b.c", [], [2, b"p"]), (b"a.c", [], []), (b"x.h", [], [1, b"1"])]
+NODES = [(b"a.c", [], [0]), (b"b.c", [(b"d", b"1")], [0]), (b"a.h", [], [1]), (b"b.c", [], [2]), (b"b.c", [], [2, b"p"]), (b"a.c", [], []),
+         (b"x.h", [], [1, b"1"])]
 BAD_NODES = [(b"a.h", [], [0]), (b"a c", [], []), (b"a.c", [], [3]), (b"a.c", [(b"1", b"")], [0]), (b"a.c", [], [b"p"]), (b"a.h", [], [1, b"0"])]
+# contents of each kind, most of which fit a node of NODES
+VALUES = [("list", [NODES[5], (b"a.h", [], [])]), ("list", [NODES[5]]), ("list", []), ("compound", [(b"p", b"xy"), (b"q", b"")]),
+          ("compound", [(b"p", b""), (b"q", b"x=1\n")]), ("compound", [(b"p", b"xy")]), ("list", [(b"m", [(b"d", b"1")], [3, b"k"])]), ("simple", b"x=1\n")]
 MESSAGES = [[], [(b"a.c:o", 1, b"old c")], [(b"", 3, b""), (b"b.c", 2, b"x\n")]]
 
 
@@ -439,10 +474,10 @@ def noted(rng, state):
         return rng.choice(BAD_NODES if rng.random() < 0.02 else NODES)
 
     def number():
-        return rng.choice([None, rng.randrange(count + (rng.random() < 0.03))]) if count else None
+        return None if not count or rng.random() < 0.25 else rng.randrange(count + (rng.random() < 0.02))
 
     deps = [(node(), number()) for _ in range(rng.choice([0, 1, 1, 2, 4]))]
-    of, value = node(), number()
+    of, value = rng.choice([node(), node(), NODES[2], NODES[3]]), number()
     if rng.random() < 0.9:
         fitting = [k for k, content in enumerate(state.contents) if FIT.type_of(of) and FIT.is_of_type(FIT.type_of(of), content)]
         value = rng.choice([None, *fitting, *fitting])
@@ -458,20 +493,18 @@ NAMES = [b"a.c", b"b.c", b"a.h", b"m/x-1_", b"z"]
 
 def session(rng):
     writer = Writer()
-    for _ in range(rng.randrange(1, 9)):
+    for _ in range(rng.randrange(1, 13)):
         what = rng.random()
-        if what < 0.35:
+        if what < 0.25:
             writer.put(rng.choice(NAMES), rng.choice(TEXTS))
-        elif what < 0.45:
+        elif what < 0.31:
             writer.drop(rng.choice(NAMES))
-        elif what < 0.48:
+        elif what < 0.33:
             writer.batch([b"\1" + blob(rng.choice([GRAPH, b"", b"param d;"]))])
-        elif what < 0.58:
-            writer.count += 1
-            writer.batch([b"\2" + blob(rng.choice([
-                b"\2" + many([blob(b"m") + many([blob(b"d") + blob(b"1")]) + many([b"\1" + u32(3), b"\2" + blob(b"k")])]),
-                b"\2" + many([spell_node(NODES[5]), spell_node((b"a.h", [], []))]), b"\2" + many([]), b"\3" + many([blob(b"p") + blob(b"xy")]),
-                b"\3" + many([blob(b"p") + blob(b"xy"), blob(b"q") + blob(b"")]), b"\1" + blob(b"x=1\n")]))])
+        elif what < 0.48:
+            values = [rng.choice(VALUES) for _ in range(rng.choice([1, 1, 2, 3]))]
+            writer.count += len(values)
+            writer.batch([b"\2" + blob(spell_value(value)) for value in values])
         elif what < 0.85:
             told = opened(writer.image)
             if isinstance(told, int):
@@ -563,18 +596,28 @@ def said(program, mode, images, folder):
     answer = subprocess.run([program, "store", mode, path], stdout=subprocess.PIPE, check=True).stdout
     told, at = [], 0
     while at < len(answer):
-        if answer[at] == 0:
-            told.append(int.from_bytes(answer[at + 1:at + 9], "big"))
+        if answer[at] in (0, 2):
+            place = int.from_bytes(answer[at + 1:at + 9], "big")
+            told.append(place if answer[at] == 0 else f"not ours at {place}, and changed")
             at += 9
-        else:
+        elif answer[at] == 1:
             size = int.from_bytes(answer[at + 1:at + 5], "big")
             told.append(answer[at + 5:at + 5 + size])
             at += 5 + size
+        else:
+            told.append("another fault")
+            at += 1
     return told
 
 
-# an image is opened; a rewritten store has no records of nodes yet, and one with records isn't rewritten
-MODES = ("images",)
+# an image is opened; and it is opened, rewritten, and opened again
+MODES = ("images", "rewritten")
+
+
+def has_records(image):
+    """Whether it is a store with records of nodes that count."""
+    told = opened(image)
+    return not isinstance(told, int) and bool(told[0].records)
 
 
 def main():
@@ -585,13 +628,13 @@ def main():
     assert len(first.image) == 89
     first.put(b"a.c", b"")
     assert len(first.image) == 116
-    done = ours = wrong = new = second = 0
+    done = ours = wrong = new = second = noting = 0
     with tempfile.TemporaryDirectory() as folder:
         while done < count:
             images = []
             while len(images) < min(2000, count - done):
                 image, other = session(rng), session(rng)
-                if rng.random() < 0.05:
+                if rng.random() < 0.3:
                     images.append(image)
                     continue
                 for _ in range(8):
@@ -605,6 +648,7 @@ def main():
             for image, answer in zip(images, answers):
                 wanted = tuple(wanted_of(image, mode) for mode in MODES)
                 ours += isinstance(wanted[0], bytes)
+                noting += has_records(image)
                 new += records_of(image) is None
                 second += len(image) > 8 and image[8] % 2
                 if wanted != answer:
@@ -615,8 +659,9 @@ def main():
                             print(" ", mode, "wanted", want.hex() if isinstance(want, bytes) else want)
                             print(" ", mode, "said  ", said_of.hex() if isinstance(said_of, bytes) else said_of)
             done += len(images)
-    print(f"{done} images, {ours} of them stores ({new} new ones), {done - ours} not ours; the second start is in use in {second}")
-    print(f"each opened: {done - wrong} agree, {wrong} differ")
+    print(f"{done} images, {ours} of them stores ({new} new ones, {noting} with records of nodes), {done - ours} not ours; "
+          f"the second start is in use in {second}")
+    print(f"each opened, and opened, rewritten and opened again: {done - wrong} agree, {wrong} differ")
     return 1 if wrong else 0
 
 

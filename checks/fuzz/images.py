@@ -1,4 +1,4 @@
-"""What stands in a store's file: its records, where each stands and what its last item is, and the sources and calls that it stands for.
+"""What stands in a store's file: its records, where each stands and what its last item is, and the sources, calls and records of nodes that it stands for.
 
 The fields are read by the independent reader of `bench/store_images.py`.
 """
@@ -7,6 +7,7 @@ import sys
 from collections import namedtuple
 
 sys.path.insert(0, os.path.join(os.path.dirname(os.path.dirname(os.path.dirname(os.path.abspath(__file__)))), "bench"))
+from image_records import Fit  # noqa: E402
 from store_images import Fields, State, records_of  # noqa: E402
 
 from toys import Call, Outcome  # noqa: E402
@@ -48,16 +49,20 @@ def end_of(image):
 
 
 class Stands:
-    """The sources and the kept calls, with their outcomes, that a file stands for; or the offset `fault` at which it isn't ours."""
+    """The sources, the kept calls with their outcomes, and the records of nodes, each with the values themselves, that a file stands for, where it is opened
+    for the graph of a text; or the offset `fault` at which it isn't ours."""
 
-    def __init__(self, image):
-        state, told = State(None), records_of(image)
+    def __init__(self, image, graph):
+        state, told = State(graph, Fit(graph)), records_of(image)
         self.fault = told if isinstance(told, int) else None
         for at, payload in told[0] if isinstance(told, tuple) else []:
             self.fault = state.payload(payload, at)
             if self.fault is not None:
                 break
+        if self.fault is None:
+            self.fault = state.first_unfit()
         self.sources = dict(state.sources)
+        self.records = [state.said(it) for it in state.records.values()] if state.graph == graph else []
         self.calls = dict(stored(*pair) for pair in state.calls)
 
 

@@ -15,7 +15,7 @@ pub struct Cause {
 
 impl Cause {
     /// The cause at a place, without the number that the system has for it. `Memory` where that is the cause.
-    pub(crate) fn at(alloc: Global, place: &str, error: &io::Error) -> Result<Self, Memory> {
+    pub fn at(alloc: Global, place: &str, error: &io::Error) -> Result<Self, Memory> {
         if error.kind() == io::ErrorKind::OutOfMemory {
             return Err(Memory);
         }

@@ -54,9 +54,8 @@ fn numbered_files(alloc: Global, lines: &[Bytes]) -> Result<Seq<Part>, Memory>
 
 /// The files of an object.
 pub fn files_of(alloc: Global, body: &ShownBody) -> Result<Files, Memory>
-    requires { IsFormedBody body.now }
     ensures files { IfOk result (λ files. files ≡ meaning.files_of body.now) }
-    ensures within { IfOk result meaning.HaveSafeFileNames }
+    ensures within { IsFormedBody body.now → IfOk result meaning.HaveSafeFileNames }
 {
     match body {
         ShownBody::Nothing => Ok(Files::Nothing),

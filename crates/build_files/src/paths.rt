@@ -1,4 +1,4 @@
-// Paths by their steps.
+//! Paths by their steps.
 ghost use Rattle.std.specs.Prelude.{◌≡◌, ◌≢◌, ◌⊎◌, [], true, false, codes, IfOk, OnOk};
 ghost use Rattle.meaning_texts.specs.Lists.{HasNo};
 ghost use Rattle.build_files.specs.Paths.{IsTidy, leads, begins_at_root, tidied, AddsStep, AddsPiece};

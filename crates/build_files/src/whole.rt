@@ -1,4 +1,4 @@
-// Files that are whole or the old ones. What a file has is no clause, since the system doesn't tell it.
+//! Files that are whole or the old ones. What a file has is no clause, since the system doesn't tell it.
 
 use std::fs::{Metadata, OpenFile, OpenOptions};
 use std::io::{Error, ErrorKind, Write};
@@ -109,7 +109,7 @@ fn is_link(rt: &HostRuntime, path: &str) -> bool {
 
 /// Writes a file, so that at each moment all of the old one is there or all of this one. One that has these bytes is left
 /// untouched. A link stays one: what it leads to is written.
-pub(crate) fn write_whole(rt: &HostRuntime, path: &str, body: &[u8]) -> io::Result<()> {
+pub fn write_whole(rt: &HostRuntime, path: &str, body: &[u8]) -> io::Result<()> {
     if has_bytes(rt, path, body) {
         return Ok(());
     }

@@ -59,7 +59,7 @@ module _ {Disk : Type 0} (told : Disk → Telling) where
 
   pub none_made : ChangesFollow told → (store : Store) (disk : Disk) → MakesChanges told [] store store disk disk
   none_made law store disk =
-      let same : IsSame store store disk disk = record { disk_is = refl; store_is = record { journal = refl; tables = refl; sources = refl; graph = refl; epoch = refl } } in
+      let same : IsSame store store disk disk = record { disk_is = refl; store_is = record { journal = refl; tables = refl; sources = refl; graph = refl; epoch = refl }; nodes = refl } in
       record { goes = law.none store store disk disk same; epoch = omega arith; none = λ empty. same }
 
   pub one_more : ChangesFollow told → (some : List Change) (change : Change) (store mid next : Store) (disk between after : Disk)

@@ -1,8 +1,8 @@
 -- The lemmas that other crates may cite.
 -- Contents that a batch adds, and texts alone.
-pub use Rattle.kept_contents.proofs.Batched.{adds_append, added_once, added_from, added_new, contents_append, contents_grow, grows, parts_stay, texts_append, texts_added, texts_once, texts_from, texts_new}
--- Texts of a journal that is written anew.
-pub use Rattle.kept_contents.proofs.CopyLemmas.{contents_behind, with_bodies-append, adds, adds_text, call_later, copied_parts, parts_texts, copied_outputs, outputs_texts}
+pub use Rattle.kept_contents.proofs.Batched.{adds_append, added_once, added_from, added_new, contents_append, contents_grow, grows, outputs_adds, outputs_step, parts_adds, parts_stay, parts_step, texts_append, texts_added, texts_once, texts_from, texts_new}
+-- Contents that are written anew.
+pub use Rattle.kept_contents.proofs.CopyLemmas.{add_after, adds_after}
 -- What numbers stand for is one thing.
 pub use Rattle.kept_contents.proofs.Resolved.{one_text, one_call, one_outcome}
 pub use Rattle.kept_contents.proofs.Numbers.{next_number}

@@ -1,6 +1,5 @@
 pub mod Added
 pub mod Borrowed
-pub mod Copies
 pub mod Heads
 pub mod Held
 pub mod Index

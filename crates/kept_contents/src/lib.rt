@@ -17,7 +17,7 @@ mod table;
 mod within;
 
 pub use added::AddedContents;
-pub use copying::{CopiedTexts, copy_call, copy_outcome, copy_text, share_copied};
+pub use copying::share_contents;
 pub use head::CallHead;
 pub use heads::Heads;
 pub use held::HeldCall;

@@ -32,7 +32,7 @@ use Rattle.kept_derive.proofs.HeldLemmas.{calls_after}
 
 -- nothing happened to a store and its disk
 pub same_here : {D : Type 0} (store : Store) (disk : D) → IsSame store store disk disk
-same_here store disk = record { disk_is = refl; store_is = record { journal = refl; tables = refl; sources = refl; graph = refl; epoch = refl } }
+same_here store disk = record { disk_is = refl; store_is = record { journal = refl; tables = refl; sources = refl; graph = refl; epoch = refl }; nodes = refl }
 
 -- ---- the first that doesn't run
 

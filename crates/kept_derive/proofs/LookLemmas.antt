@@ -14,7 +14,7 @@ use Rattle.meaning_derive.specs.Chains.{IsMet}
 use Rattle.meaning_derive.specs.Laws.{HasMore}
 use Rattle.meaning_records.specs.Tables.{Calls, Tables, kept_outcome}
 use Rattle.odin_store.specs.declared.store.Store.{Store}
-use Rattle.odin_store.specs.OnDisk.{IsUnchanged}
+use Rattle.odin_store.specs.OnDisk.{HoldsOn}
 use Rattle.odin_store.specs.Going.{Performs, ChangesFollow}
 use Rattle.derive_walk.specs.Calls.{AreOnce, outcome_in}
 use Rattle.derive_walk.specs.Tables.{Entries, done_nodes}
@@ -84,7 +84,7 @@ same_sought told walked jobs old walked' jobs' new size may Lost has = ap (λ (z
 
 -- ---- calls that are kept
 
-unchanged_kept : (store next : Store) → IsUnchanged store next → KeepsMore store next
+unchanged_kept : (store next : Store) → HoldsOn store next → KeepsMore store next
 unchanged_kept store next same = record { more = []; is = ap (λ (t : Tables). t.calls) same.tables ∙ sym (nothing_behind store.kept.tables.calls) }
 
 -- ---- as its callers see it

@@ -13,7 +13,7 @@ use Rattle.object_values.specs.declared.records.Seen.TheVariants.{Nothing, Kept,
 use Rattle.object_values.specs.declared.facts.Fact.{Fact}
 use Rattle.object_values.specs.declared.views.Value.{Value}
 use Rattle.meaning_records.specs.Tables.{put_fact, put_facts}
-use Rattle.kept_records.specs.Records.{put_record, put_records, renew_record, renewed}
+use Rattle.kept_records.specs.Records.{put_record, put_records, record_of, renew_record, renewed}
 use Rattle.kept_notes.specs.Facts.{IsNumberIn, IsRecordIn, IsSeenIn, dep_of, fact_of, facts_of, value_of, value_seen}
 
 -- ---- contents more
@@ -103,37 +103,30 @@ module _ (contents : List Value) where
       by true rest = refl
       by false rest = ap (λ (l : List Fact). fact_of contents r ∷ l) rest
 
-module _ (count : ℕ) where
-  more_within : (r : NodeRecord) (records : List NodeRecord) → IsRecordIn count r → All (IsRecordIn count) records → All (IsRecordIn count) (r ∷ records)
-  more_within r records here rest = All-cons (IsRecordIn count) r records here rest
-
-  pub put_within : (noted : NodeRecord) (records : List NodeRecord) → IsRecordIn count noted → All (IsRecordIn count) records
-      → All (IsRecordIn count) (put_record noted records)
-  put_within noted [] here all = more_within noted [] here all
-  put_within noted (r ∷ records) here all = by (node_eq.eq noted.node r.node) (put_within noted records here (All-tail (IsRecordIn count) r records all))
+-- what is so of each record
+module _ (P : NodeRecord → Type 0) where
+  pub put_all : (noted : NodeRecord) (records : List NodeRecord) → P noted → All P records → All P (put_record noted records)
+  put_all noted [] here all = All-cons P noted [] here all
+  put_all noted (r ∷ records) here all = by (node_eq.eq noted.node r.node) (put_all noted records here (All-tail P r records all))
     where
-      by : (t : Bool) → All (IsRecordIn count) (put_record noted records) → All (IsRecordIn count) (cond t (noted ∷ records) (r ∷ put_record noted records))
-      by true rest = more_within noted records here (All-tail (IsRecordIn count) r records all)
-      by false rest = more_within r (put_record noted records) (All-head (IsRecordIn count) r records all) rest
+      by : (t : Bool) → All P (put_record noted records) → All P (cond t (noted ∷ records) (r ∷ put_record noted records))
+      by true rest = All-cons P noted records here (All-tail P r records all)
+      by false rest = All-cons P r (put_record noted records) (All-head P r records all) rest
 
-  pub all_within : (notes records : List NodeRecord) → All (IsRecordIn count) notes → All (IsRecordIn count) records
-      → All (IsRecordIn count) (put_records notes records)
-  all_within [] records some all = all
-  all_within (noted ∷ notes) records some all =
-      all_within notes (put_record noted records) (All-tail (IsRecordIn count) noted notes some)
-      (put_within noted records (All-head (IsRecordIn count) noted notes some) all)
+  pub put_all_all : (notes records : List NodeRecord) → All P notes → All P records → All P (put_records notes records)
+  put_all_all [] records some all = all
+  put_all_all (noted ∷ notes) records some all =
+      put_all_all notes (put_record noted records) (All-tail P noted notes some) (put_all noted records (All-head P noted notes some) all)
 
-  pub renewed_within : (node : Node) (present : Renewed) (epoch : ℕ) (records : List NodeRecord) → All (IsRecordIn count) records
-      → All (IsRecordIn count) (renew_record node present epoch records)
-  renewed_within node present epoch [] all = all
-  renewed_within node present epoch (r ∷ records) all = by (node_eq.eq node r.node)
-      (renewed_within node present epoch records (All-tail (IsRecordIn count) r records all))
+  pub renewed_all : (node : Node) (present : Renewed) (epoch : ℕ) (records : List NodeRecord)
+      → ((r : NodeRecord) → record_of node records ≡ Some r → P r → P (renewed present epoch r)) → All P records → All P (renew_record node present epoch records)
+  renewed_all node present epoch [] renews all = all
+  renewed_all node present epoch (r ∷ records) renews all = by (node_eq.eq node r.node) refl (renewed_all node present epoch records)
     where
-      by : (t : Bool) → All (IsRecordIn count) (renew_record node present epoch records)
-          → All (IsRecordIn count) (cond t (renewed present epoch r ∷ records) (r ∷ renew_record node present epoch records))
-      by true rest = more_within (renewed present epoch r) records (renewed_is r (All-head (IsRecordIn count) r records all))
-          (All-tail (IsRecordIn count) r records all)
-        where
-          renewed_is : (x : NodeRecord) → IsRecordIn count x → IsRecordIn count (renewed present epoch x)
-          renewed_is x within = record { deps = within.deps; value = within.value }
-      by false rest = more_within r (renew_record node present epoch records) (All-head (IsRecordIn count) r records all) rest
+      by : (t : Bool) → node_eq.eq node r.node ≡ t
+          → (((x : NodeRecord) → record_of node records ≡ Some x → P x → P (renewed present epoch x)) → All P records → All P (renew_record node present epoch records))
+          → All P (cond t (renewed present epoch r ∷ records) (r ∷ renew_record node present epoch records))
+      by true e rest = All-cons P (renewed present epoch r) records
+          (renews r (ap (λ t. cond t (Some r) (record_of node records)) e) (All-head P r records all)) (All-tail P r records all)
+      by false e rest = All-cons P r (renew_record node present epoch records) (All-head P r records all)
+          (rest (λ x at. renews x (ap (λ t. cond t (Some r) (record_of node records)) e ∙ at)) (All-tail P r records all))

@@ -1,4 +1,5 @@
 mod FactLemmas
 mod LoadedLemmas
+mod NotedLemmas
 mod NumberLemmas
 pub mod Lemmas

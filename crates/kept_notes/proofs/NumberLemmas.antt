@@ -21,7 +21,7 @@ use Rattle.kept_contents.specs.declared.shared.Content.{Content}
 use Rattle.kept_contents.specs.Added.{AddsAll, contents_with}
 use Rattle.kept_contents.specs.Stocks.{values_of_contents}
 use Rattle.kept_contents.proofs.Lemmas.{adds_append, contents_grow, grows}
-use Rattle.kept_notes.specs.Facts.{IsRecordIn, fact_of, facts_of}
+use Rattle.kept_notes.specs.Facts.{IsNotedIn, IsRecordIn, fact_of, facts_of, fresh_of}
 use Rattle.kept_notes.specs.Loaded.{record_with}
 use Rattle.kept_notes.specs.Numbered.{AreNumberedDeps, IsNumberedDep, is_reached, notes_of}
 use Rattle.kept_notes.proofs.FactLemmas.{get_stays}
@@ -126,12 +126,14 @@ records_push contents [] (g ∷ fresh) s f are is = absurd are
 records_push contents (r ∷ stored) [] s f are is = absurd are
 records_push contents (r ∷ stored) (g ∷ fresh) s f are is = (are.0, records_push contents stored fresh s f are.1 is)
 
-notes_push : (contents : Values) (stored : List StoredRecord) (fresh : List Fresh) (s : StoredRecord) (f : Fresh) → AreRecordsOf contents stored fresh
-    → notes_of stored fresh ++ record_with s f.present ∷ [] ≡ notes_of (stored ++ s ∷ []) (fresh ++ f ∷ [])
-notes_push contents [] [] s f are = refl
-notes_push contents [] (g ∷ fresh) s f are = absurd are
-notes_push contents (r ∷ stored) [] s f are = absurd are
-notes_push contents (r ∷ stored) (g ∷ fresh) s f are = ap (λ (l : List NodeRecord). record_with r g.present ∷ l) (notes_push contents stored fresh s f are.1)
+notes_push : (checked : Option ℕ) (contents : Values) (stored : List StoredRecord) (fresh : List Fresh) (s : StoredRecord) (f : Fresh)
+    → AreRecordsOf contents stored fresh
+    → notes_of checked stored fresh ++ record_with s f.present checked ∷ [] ≡ notes_of checked (stored ++ s ∷ []) (fresh ++ f ∷ [])
+notes_push checked contents [] [] s f are = refl
+notes_push checked contents [] (g ∷ fresh) s f are = absurd are
+notes_push checked contents (r ∷ stored) [] s f are = absurd are
+notes_push checked contents (r ∷ stored) (g ∷ fresh) s f are =
+    ap (λ (l : List NodeRecord). record_with r g.present checked ∷ l) (notes_push checked contents stored fresh s f are.1)
 
 module _ (deps : List FactDep) (i : ℕ) (here : FactDep) (lt : i < length deps) (at : here ≡ get_or deps i here) where
   pub deps_step : (contents after xs : Values) (old new : List Content) (stored next : List StoredDep) (s : StoredDep) → after ≡ contents
@@ -159,17 +161,17 @@ module _ (fresh : List Fresh) (i : ℕ) (here : Fresh) (lt : i < length fresh) (
       (subst (λ (l : List StoredRecord). AreRecordsOf (contents_with contents new) l (take (i + 1) fresh)) (sym grown)
       (subst (λ (l : List Fresh). AreRecordsOf (contents_with contents new) (stored ++ s ∷ []) l) (taken fresh i here lt at) more))
 
-  pub notes_step : (contents : Values) (stored next : List StoredRecord) (notes later : List NodeRecord) (s : StoredRecord) (noted : NodeRecord)
-      → AreRecordsOf contents stored (take i fresh)
-      → notes ≡ notes_of stored (take i fresh) → noted ≡ record_with s here.present → next ≡ stored ++ s ∷ [] → later ≡ notes ++ noted ∷ []
-      → later ≡ notes_of next (take (i + 1) fresh)
-  notes_step contents stored next notes later s noted are before is grown more =
+  pub notes_step : (checked : Option ℕ) (contents : Values) (stored next : List StoredRecord) (notes later : List NodeRecord) (s : StoredRecord)
+      (noted : NodeRecord) → AreRecordsOf contents stored (take i fresh)
+      → notes ≡ notes_of checked stored (take i fresh) → noted ≡ record_with s here.present checked → next ≡ stored ++ s ∷ [] → later ≡ notes ++ noted ∷ []
+      → later ≡ notes_of checked next (take (i + 1) fresh)
+  notes_step checked contents stored next notes later s noted are before is grown more =
       more
       ∙ ap (λ (l : List NodeRecord). l ++ noted ∷ []) before
-      ∙ ap (λ (r : NodeRecord). notes_of stored (take i fresh) ++ r ∷ []) is
-      ∙ notes_push contents stored (take i fresh) s here are
-      ∙ ap (λ (l : List Fresh). notes_of (stored ++ s ∷ []) l) (taken fresh i here lt at)
-      ∙ ap (λ (l : List StoredRecord). notes_of l (take (i + 1) fresh)) (sym grown)
+      ∙ ap (λ (r : NodeRecord). notes_of checked stored (take i fresh) ++ r ∷ []) is
+      ∙ notes_push checked contents stored (take i fresh) s here are
+      ∙ ap (λ (l : List Fresh). notes_of checked (stored ++ s ∷ []) l) (taken fresh i here lt at)
+      ∙ ap (λ (l : List StoredRecord). notes_of checked l (take (i + 1) fresh)) (sym grown)
 
 -- ---- the roles of deps
 
@@ -217,47 +219,59 @@ module _ (contents : Values) where
         height = height;
       }
 
-  -- a record in memory says what is to be noted, by numbers of contents
-  note_says : (stored : StoredRecord) (fresh : Fresh) → IsNotable fresh → IsRecordOf contents stored fresh
-      → fact_of contents (record_with stored fresh.present) ≡ fresh.fact
-  note_says stored fresh may is =
-      let noted = loadable_says contents stored (fresh.fact, may_be_noted contents stored fresh may is) in
-      one_fact contents stored (fact_of contents (record_with stored fresh.present)) fresh.fact noted.says is.says
+  module _ (checked : Option ℕ) where
+    -- a record in memory says what is to be noted, by numbers of contents
+    pub note_says : (stored : StoredRecord) (fresh : Fresh) → IsNotable fresh → IsRecordOf contents stored fresh
+        → fact_of contents (record_with stored fresh.present checked) ≡ fresh.fact
+    note_says stored fresh may is =
+        let noted = loadable_says contents stored (fresh.fact, may_be_noted contents stored fresh may is) in
+        one_fact contents stored (fact_of contents (record_with stored fresh.present checked)) fresh.fact noted.says is.says
 
-  note_within : (stored : StoredRecord) (fresh : Fresh) → IsNotable fresh → IsRecordOf contents stored fresh
-      → IsRecordIn (length contents) (record_with stored fresh.present)
-  note_within stored fresh may is =
-      let within = loadable_within contents stored (fresh.fact, may_be_noted contents stored fresh may is) in
-      record { deps = within.deps; value = within.value }
+    pub note_fresh : (stored : StoredRecord) (fresh : Fresh) → IsNotable fresh → IsRecordOf contents stored fresh
+        → fresh_of contents (record_with stored fresh.present checked) ≡ fresh
+    note_fresh stored fresh may is = let says = note_says stored fresh may is in λ i. record { fact = says i; present = fresh.present }
 
-  pub notes_say : (stored : List StoredRecord) (fresh : List Fresh) → All IsNotable fresh → AreRecordsOf contents stored fresh
-      → facts_of contents (notes_of stored fresh) ≡ map (λ (f : Fresh). f.fact) fresh
-  notes_say [] [] may are = refl
-  notes_say [] (f ∷ fresh) may are = absurd are
-  notes_say (s ∷ stored) [] may are = absurd are
-  notes_say (s ∷ stored) (f ∷ fresh) may are =
-      let here = note_says s f (All-head IsNotable f fresh may) are.0 in
-      let rest = notes_say stored fresh (All-tail IsNotable f fresh may) are.1 in
-      λ i. here i ∷ rest i
+    pub note_within : (stored : StoredRecord) (fresh : Fresh) → IsNotable fresh → IsRecordOf contents stored fresh
+        → IsRecordIn (length contents) (record_with stored fresh.present checked)
+    note_within stored fresh may is =
+        let within = loadable_within contents stored (fresh.fact, may_be_noted contents stored fresh may is) in
+        record { deps = within.deps; value = within.value }
 
-  pub notes_within : (stored : List StoredRecord) (fresh : List Fresh) → All IsNotable fresh → AreRecordsOf contents stored fresh
-      → All (IsRecordIn (length contents)) (notes_of stored fresh)
-  notes_within [] [] may are = All-nil (IsRecordIn (length contents))
-  notes_within [] (f ∷ fresh) may are = absurd are
-  notes_within (s ∷ stored) [] may are = absurd are
-  notes_within (s ∷ stored) (f ∷ fresh) may are =
-      All-cons (IsRecordIn (length contents)) (record_with s f.present) (notes_of stored fresh) (note_within s f (All-head IsNotable f fresh may) are.0)
-      (notes_within stored fresh (All-tail IsNotable f fresh may) are.1)
+    note_is : (stored : StoredRecord) (fresh : Fresh) → IsNotable fresh → IsRecordOf contents stored fresh
+        → IsNotedIn contents (record_with stored fresh.present checked)
+    note_is stored fresh may is = record {
+      named = note_within stored fresh may is;
+      may = subst IsNotable (sym (note_fresh stored fresh may is)) may;
+    }
 
-  pub notes_present : (stored : List StoredRecord) (fresh : List Fresh) → AreRecordsOf contents stored fresh
-      → map (λ (r : NodeRecord). r.present) (notes_of stored fresh) ≡ map (λ (f : Fresh). f.present) fresh
-  notes_present [] [] are = refl
-  notes_present [] (f ∷ fresh) are = absurd are
-  notes_present (s ∷ stored) [] are = absurd are
-  notes_present (s ∷ stored) (f ∷ fresh) are = ap (λ l. f.present ∷ l) (notes_present stored fresh are.1)
+    pub notes_say : (stored : List StoredRecord) (fresh : List Fresh) → All IsNotable fresh → AreRecordsOf contents stored fresh
+        → facts_of contents (notes_of checked stored fresh) ≡ map (λ (f : Fresh). f.fact) fresh
+    notes_say [] [] may are = refl
+    notes_say [] (f ∷ fresh) may are = absurd are
+    notes_say (s ∷ stored) [] may are = absurd are
+    notes_say (s ∷ stored) (f ∷ fresh) may are =
+        let here = note_says s f (All-head IsNotable f fresh may) are.0 in
+        let rest = notes_say stored fresh (All-tail IsNotable f fresh may) are.1 in
+        λ i. here i ∷ rest i
 
-pub none_checked : (stored : List StoredRecord) (fresh : List Fresh) → All (λ (r : NodeRecord). r.checked ≡ None) (notes_of stored fresh)
-none_checked [] fresh = All-nil (λ (r : NodeRecord). r.checked ≡ None)
-none_checked (s ∷ stored) [] = All-nil (λ (r : NodeRecord). r.checked ≡ None)
-none_checked (s ∷ stored) (f ∷ fresh) = All-cons (λ (r : NodeRecord). r.checked ≡ None) (record_with s f.present) (notes_of stored fresh) refl
-    (none_checked stored fresh)
+    pub notes_noted : (stored : List StoredRecord) (fresh : List Fresh) → All IsNotable fresh → AreRecordsOf contents stored fresh
+        → All (IsNotedIn contents) (notes_of checked stored fresh)
+    notes_noted [] [] may are = All-nil (IsNotedIn contents)
+    notes_noted [] (f ∷ fresh) may are = absurd are
+    notes_noted (s ∷ stored) [] may are = absurd are
+    notes_noted (s ∷ stored) (f ∷ fresh) may are =
+        All-cons (IsNotedIn contents) (record_with s f.present checked) (notes_of checked stored fresh) (note_is s f (All-head IsNotable f fresh may) are.0)
+        (notes_noted stored fresh (All-tail IsNotable f fresh may) are.1)
+
+    pub notes_present : (stored : List StoredRecord) (fresh : List Fresh) → AreRecordsOf contents stored fresh
+        → map (λ (r : NodeRecord). r.present) (notes_of checked stored fresh) ≡ map (λ (f : Fresh). f.present) fresh
+    notes_present [] [] are = refl
+    notes_present [] (f ∷ fresh) are = absurd are
+    notes_present (s ∷ stored) [] are = absurd are
+    notes_present (s ∷ stored) (f ∷ fresh) are = ap (λ l. f.present ∷ l) (notes_present stored fresh are.1)
+
+pub all_checked : (checked : Option ℕ) (stored : List StoredRecord) (fresh : List Fresh) → All (λ (r : NodeRecord). r.checked ≡ checked) (notes_of checked stored fresh)
+all_checked checked [] fresh = All-nil (λ (r : NodeRecord). r.checked ≡ checked)
+all_checked checked (s ∷ stored) [] = All-nil (λ (r : NodeRecord). r.checked ≡ checked)
+all_checked checked (s ∷ stored) (f ∷ fresh) = All-cons (λ (r : NodeRecord). r.checked ≡ checked) (record_with s f.present checked)
+    (notes_of checked stored fresh) refl (all_checked checked stored fresh)

@@ -1,5 +1,5 @@
 -- What records of nodes in memory say over the contents that their numbers name.
-use Rattle.std.specs.Prelude.{◌<◌, ⊤, ℕ, List, Option, Some, None, map, slice_get}
+use Rattle.std.specs.Prelude.{◌<◌, ⊤, ℕ, List, Option, Some, None, length, map, slice_get}
 use Rattle.std.specs.List.{All}
 use Rattle.object_values.specs.declared.records.Dep.{Dep}
 use Rattle.object_values.specs.declared.records.NodeRecord.{NodeRecord}
@@ -7,7 +7,9 @@ use Rattle.object_values.specs.declared.records.Seen.{Seen}
 use Rattle.object_values.specs.declared.records.Seen.TheVariants.{Nothing, Kept, New}
 use Rattle.object_values.specs.declared.facts.Fact.{Fact}
 use Rattle.object_values.specs.declared.facts.FactDep.{FactDep}
+use Rattle.object_values.specs.declared.facts.Fresh.{Fresh}
 use Rattle.object_values.specs.declared.views.Value.{Value}
+use Rattle.meaning_records.specs.Batches.{IsNotable}
 
 -- ---- what a record says
 
@@ -35,6 +37,10 @@ fact_of contents r = record {
 abbrev pub facts_of : List Value → List NodeRecord → List Fact
 facts_of contents = map (fact_of contents)
 
+-- what it says, with what its node comes to at present
+abbrev pub fresh_of : List Value → NodeRecord → Fresh
+fresh_of contents r = record { fact = fact_of contents r; present = r.present }
+
 -- ---- whose numbers are of contents
 
 -- the number, where there is one, is of one of so many contents
@@ -52,3 +58,8 @@ IsSeenIn count New = ⊥
 pub record IsRecordIn (count : ℕ) (r : NodeRecord) : Type 0 where
   pub deps : All (λ (d : Dep). IsSeenIn count d.seen) r.deps
   pub value : IsNumberIn count r.value
+
+-- All that it names are contents, and what it says over them may be noted.
+pub record IsNotedIn (contents : List Value) (r : NodeRecord) : Type 0 where
+  pub named : IsRecordIn (length contents) r
+  pub may : IsNotable (fresh_of contents r)

@@ -58,18 +58,18 @@ abbrev pub loaded_deps : ℕ → List StoredDep → List Dep
 loaded_deps reached [] = []
 loaded_deps reached (d ∷ more) = loaded_dep reached d (length more) ∷ loaded_deps reached more
 
--- a record that was never checked, with what its node comes to at present
-abbrev pub record_with : StoredRecord → Renewed → NodeRecord
-record_with stored present = record {
+-- a record with what its node comes to at present, and the epoch at which it was checked
+abbrev pub record_with : StoredRecord → Renewed → Option ℕ → NodeRecord
+record_with stored present checked = record {
   node = stored.node;
   deps = loaded_deps stored.reached stored.deps;
   value = stored.value;
   own_status = stored.own_status;
   own_messages = stored.own_messages;
   present = present;
-  checked = None;
+  checked = checked;
 }
 
--- as the file has that
+-- as the file has that: it was never checked
 abbrev pub loaded_record : StoredRecord → NodeRecord
-loaded_record stored = record_with stored (record { status = stored.status; messages = stored.messages; height = stored.height; tight = None })
+loaded_record stored = record_with stored (record { status = stored.status; messages = stored.messages; height = stored.height; tight = None }) None

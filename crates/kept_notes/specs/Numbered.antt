@@ -1,5 +1,5 @@
 -- What is to be noted of nodes, by the numbers of its values.
-use Rattle.std.specs.Prelude.{◌≡◌, ⊤, Bool, true, false, List, [], ◌∷◌}
+use Rattle.std.specs.Prelude.{◌≡◌, ⊤, ℕ, Bool, true, false, List, [], ◌∷◌, Option}
 use Rattle.object_values.specs.declared.records.NodeRecord.{NodeRecord}
 use Rattle.object_values.specs.declared.records.Role.{Role}
 use Rattle.object_values.specs.declared.records.Role.TheVariants.{Needed, Reached}
@@ -30,8 +30,8 @@ is_reached Reached = true
 
 -- ---- records
 
--- the records in memory, with what the nodes come to at present
-abbrev pub notes_of : List StoredRecord → List Fresh → List NodeRecord
-notes_of [] fresh = []
-notes_of (s ∷ stored) [] = []
-notes_of (s ∷ stored) (f ∷ fresh) = record_with s f.present ∷ notes_of stored fresh
+-- the records in memory, with what the nodes come to at present, which were checked at this epoch
+abbrev pub notes_of : Option ℕ → List StoredRecord → List Fresh → List NodeRecord
+notes_of checked [] fresh = []
+notes_of checked (s ∷ stored) [] = []
+notes_of checked (s ∷ stored) (f ∷ fresh) = record_with s f.present checked ∷ notes_of checked stored fresh

@@ -8,5 +8,5 @@ mod tests;
 
 pub use facts::fact_of;
 pub use loading::loaded_record;
-pub use numbering::number_records;
+pub use numbering::{noted_record, number_record, number_records};
 pub use tests::may_note;

@@ -1,5 +1,5 @@
 // What is to be noted of nodes, by the numbers of its values: of contents that the file has, and of those that a batch adds after them.
-ghost use Rattle.std.specs.Prelude.{◌≡◌, All, IfOk, OnOk};
+ghost use Rattle.std.specs.Prelude.{◌≡◌, All, IfOk, OnOk, Some};
 ghost use Rattle.std.specs.List.{flat_map};
 ghost use Rattle.object_values.specs.declared.facts.FactDep.{FactDep as FactDepValue};
 ghost use Rattle.meaning_records.specs.Tables.{IsValueOf};
@@ -18,18 +18,20 @@ use object_values::{
 use std::alloc::Global;
 
 /// What is to be noted, by the numbers of its values, which are added where neither the file nor the batch has them: the records as the file is to have
-/// them, and as they are in memory.
+/// them, and as they are in memory, where they count as checked at the epoch.
 pub fn number_records(
     alloc: Global,
     table: &mut ContentTable,
     added: &mut AddedContents,
     fresh: &[Fresh],
+    epoch: u64,
 ) -> Result<(Seq<StoredRecord>, Vec<NodeRecord>), Memory>
     requires added { AreHeld table.old.texts added.old }
     requires may { All IsNotable fresh.now }
     ensures stored { IfOk result (λ made.
         AreRecordsOf (contents_with table.new.contents added.new) made.0 fresh.now) }
-    ensures notes { IfOk result (λ made. made.1.items ≡ notes_of made.0 fresh.now) }
+    ensures notes { IfOk result (λ made.
+        made.1.items ≡ notes_of (Some epoch) made.0 fresh.now) }
     ensures adds { OnOk result (AddsAll table.old.contents (needed_values fresh.now)
         (values_of_contents added.old) (values_of_contents added.new)) }
     ensures held { OnOk result (AreHeld table.new.texts added.new) }
@@ -40,13 +42,14 @@ pub fn number_records(
     let mut notes = Vec::new(alloc);
     for node in fresh {
         let record = number_record(alloc, table, added, node)?;
-        notes.push(noted_record(alloc, &record, node)?)?;
+        notes.push(noted_record(alloc, &record, node, Some(epoch))?)?;
         stored.push(record)?;
     }
     Ok((stored, notes))
 }
 
-fn number_record(
+/// What is to be noted of a node, by the numbers of its values.
+pub fn number_record(
     alloc: Global,
     table: &mut ContentTable,
     added: &mut AddedContents,
@@ -177,10 +180,15 @@ fn copy_messages(alloc: Global, messages: &[Message]) -> Result<Seq<Message>, Me
     Ok(copied)
 }
 
-// The record in memory, which shares its messages with what is to be noted.
-fn noted_record(alloc: Global, stored: &StoredRecord, fresh: &Fresh) -> Result<NodeRecord, Memory>
+/// The record in memory, which shares its messages with what is to be noted, and was checked at this epoch.
+pub fn noted_record(
+    alloc: Global,
+    stored: &StoredRecord,
+    fresh: &Fresh,
+    checked: Option<u64>,
+) -> Result<NodeRecord, Memory>
     requires { fresh.now.fact.own_messages ≡ stored.now.own_messages }
-    ensures { IfOk result (λ noted. noted ≡ record_with stored.now fresh.now.present) }
+    ensures { IfOk result (λ noted. noted ≡ record_with stored.now fresh.now.present checked) }
 {
     Ok(NodeRecord {
         node: stored.node.copy(alloc)?,
@@ -189,7 +197,7 @@ fn noted_record(alloc: Global, stored: &StoredRecord, fresh: &Fresh) -> Result<N
         own_status: stored.own_status,
         own_messages: fresh.fact.own_messages.copy(alloc)?,
         present: fresh.present.copy(alloc)?,
-        checked: None,
+        checked,
     })
 }
 

@@ -1,5 +1,6 @@
 // The records of nodes.
 ghost use Rattle.std.specs.Prelude.{◌≡◌, ◌<◌, ◌≤◌, ◌+◌, ◌-◌, ◌⊎◌, ◌∷◌, ◌++◌, [], IfNone, IfSome, IsSome, None, OnOk, Some, length, option_map, slice_get, vec_capacity, vec_len};
+ghost use Rattle.kept_records.specs.Laws.{nodes_of};
 ghost use Rattle.kept_records.specs.Records.{EachNodeOnce, node_at, put_record, put_records, record_of, renew_record};
 
 use crate::sought::SoughtNode;
@@ -126,6 +127,14 @@ impl RecordTable {
     {
         self.records.clear();
         self.marks.clear();
+    }
+
+    /// Takes records of the same nodes in place of those that stand. It takes no memory.
+    pub fn replace(&mut self, records: Vec<NodeRecord>)
+        requires { nodes_of records.items ≡ nodes_of self.old.records }
+        ensures { self.new.records ≡ records.items }
+    {
+        self.records = records;
     }
 
     /// Each node stands there once.

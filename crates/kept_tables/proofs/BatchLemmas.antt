@@ -1,6 +1,6 @@
 -- Batches that are prepared: their items, and what these make of the tables.
 use Rattle.std.proofs.Common.{◌≡◌, ◌≤◌, ℕ, List, [], ◌∷◌, ◌++◌, inl, inr, length, map, append-nil, append_assoc, ap, sym, ◌∙◌, subst, refl}
-use Rattle.std.specs.Prelude.{Option, Some, None, IfSome, reverse, Result, Ok, Err, IfOk}
+use Rattle.std.specs.Prelude.{All, Option, Some, None, IfSome, reverse, Result, Ok, Err, IfOk}
 use Rattle.object_values.specs.declared.views.Part.{Part}
 use Rattle.object_values.specs.declared.views.Value.{Value}
 use Rattle.object_values.specs.declared.views.Value.TheVariants.{Simple}
@@ -93,6 +93,25 @@ needed_short call outcome formed fits t i = elim (in_either t (texts_of_parts ca
       subst (λ (x : List ℕ). length x ≤ body_limit) (sym f.2) (in_all (λ (p : Part). length p.body ≤ body_limit) outcome.outputs fits.short f.0 f.1)
 ]
 
+call_values_short : (contents : List Value) (call : Call) (outcome : Outcome) (values : List Value) → IsWellFormed call → OutcomeFits call outcome
+    → AddsTexts contents (needed_texts call outcome) [] values → AreShort values
+call_values_short contents call outcome values formed fits adds v i =
+    texts_short (needed_texts call outcome) (needed_short call outcome formed fits) v (added_from contents (contents_of (needed_texts call outcome)) values adds v i)
+
+pub call_short : (contents : List Value) (call : Call) (outcome : Outcome) (values : List Value) → IsWellFormed call → OutcomeFits call outcome
+    → AddsTexts contents (needed_texts call outcome) [] values → All IsShort values
+call_short contents call outcome values formed fits adds = all_in IsShort values (call_values_short contents call outcome values formed fits adds)
+
+text_short : (contents : List Value) (text : List ℕ) (values : List Value) → length text ≤ body_limit → AddsOne contents (Simple text) [] values → AreShort values
+text_short contents text values short (inl e) v i = absurd (subst (IsIn v) e i)
+text_short contents text values short (inr r) v i = elim (subst (IsIn v) r.0 i) [
+  | inl same ↦ subst IsShort (sym same) short
+  | inr none ↦ absurd none
+]
+
+pub put_short : (contents : List Value) (text : List ℕ) (values : List Value) → length text ≤ body_limit → AddsOne contents (Simple text) [] values → All IsShort values
+put_short contents text values short adds = all_in IsShort values (text_short contents text values short adds)
+
 module _ (old kept : Holding) (same : kept.tables ≡ old.tables) (added : List Held) (batch : Batch) where
   module _ (held : HeldCall) (call : Call) (held_is : held.call ≡ call) (outcome : Outcome) (may : MayKeep old.tables call outcome) (adds : AddsTexts old.tables.contents (needed_texts call outcome) [] (values_of_contents added)) (stored : StoredCall) (given : StoredOutcome) (called : IsCallOf (contents_with old.tables.contents added) stored call) (came : IsOutcomeOf (contents_with old.tables.contents added) given outcome) where
     call_items : IsCallBatch old.tables.contents call outcome (items_with added (Kept stored given ∷ []))
@@ -100,7 +119,7 @@ module _ (old kept : Holding) (same : kept.tables ≡ old.tables) (added : List 
 
     call_loads : LoadsAll old.tables (items_with added (Kept stored given ∷ [])) (with_call call outcome (with_values old.tables (values_of_contents added)))
     call_loads = loads_contents old.tables (values_of_contents added) (Kept stored given ∷ []) (with_call call outcome (with_values old.tables (values_of_contents added)))
-        (λ v i. texts_short (needed_texts call outcome) (needed_short call outcome may.formed may.fits) v (added_from old.tables.contents (contents_of (needed_texts call outcome)) (values_of_contents added) adds v i))
+        (call_values_short old.tables.contents call outcome (values_of_contents added) may.formed may.fits adds)
         (with_call call outcome (with_values old.tables (values_of_contents added)), (call, outcome, record { called = called; came = came; formed = may.formed; fits = may.fits; new = may.new }, refl), refl)
 
     pub call_prepared : MakesBatch added (Kept stored given ∷ []) (Some (held, outcome)) [] kept batch → PreparesSome (IsCallBatch old.tables.contents call outcome) kept batch
@@ -120,16 +139,6 @@ module _ (old kept : Holding) (same : kept.tables ≡ old.tables) (added : List 
     put_items : IsPutBatch old.tables.contents name text (items_with added (Put name number ∷ []))
     put_items = put_by_adds old.tables.contents name text (values_of_contents added) adds number is
 
-    put_short : AreShort (values_of_contents added)
-    put_short v i = by_adds (values_of_contents added) adds i
-      where
-        by_adds : (values : List Value) → AddsOne old.tables.contents (Simple text) [] values → IsIn v values → IsShort v
-        by_adds values (inl e) h = absurd (subst (IsIn v) e h)
-        by_adds values (inr r) h = elim (subst (IsIn v) r.0 h) [
-          | inl same ↦ subst IsShort (sym same) short
-          | inr none ↦ absurd none
-        ]
-
     pub put_prepared : MakesBatch added (Put name number ∷ []) None [] kept batch → PreparesSome (IsPutBatch old.tables.contents name text) kept batch
     put_prepared makes = (
       items_with added (Put name number ∷ []),
@@ -138,7 +147,7 @@ module _ (old kept : Holding) (same : kept.tables ≡ old.tables) (added : List 
         fit = makes.fit;
         spelled = makes.spelled;
         next = with_batch kept.tables batch;
-        loads = rw (same, makes.added_is, makes.call_is, makes.notes_are, append-nil old.tables.calls) (loads_contents old.tables (values_of_contents added) (Put name number ∷ []) (with_values old.tables (values_of_contents added)) put_short (with_values old.tables (values_of_contents added), (named, (text, is), refl), refl));
+        loads = rw (same, makes.added_is, makes.call_is, makes.notes_are, append-nil old.tables.calls) (loads_contents old.tables (values_of_contents added) (Put name number ∷ []) (with_values old.tables (values_of_contents added)) (text_short old.tables.contents text (values_of_contents added) short adds) (with_values old.tables (values_of_contents added), (named, (text, is), refl), refl));
         commits = makes.commits;
       },
     )

@@ -1,6 +1,7 @@
 mod CallLemmas
 mod OutcomeLemmas
 mod BatchLemmas
+mod CopyLemmas
 mod HeldLemmas
 mod LiveLemmas
 mod LoadLemmas

@@ -1,121 +1,130 @@
 -- Live batches, one after another.
-use Rattle.std.proofs.Common.{◌≡◌, ◌+◌, ◌≤◌, ◌<◌, ℕ, zero, suc, List, [], ◌∷◌, ◌++◌, length, map, take, drop, append-nil, append_assoc, ap, sym, ◌∙◌, subst, refl, arith}
+use Rattle.std.proofs.Common.{◌≡◌, ◌+◌, ◌≤◌, ◌<◌, ℕ, zero, suc, List, [], ◌∷◌, ◌++◌, length, take, drop, append-nil, append_assoc, ap, sym, ◌∙◌, subst, refl, arith}
 use Rattle.std.specs.Prelude.{Some, None, slice_get}
 use Rattle.std.specs.FinMap as names
-use Rattle.std.proofs.lemmas.List.{take_more, map-append, drop-append-le, length-take-le}
+use Rattle.std.proofs.lemmas.List.{take_more, drop-map, length-append, length-map}
 use Rattle.std.proofs.lemmas.Option.{none-some, slice_get_within, get_or_from_slice_get}
 use Rattle.object_values.specs.declared.views.Value.{Value}
 use Rattle.object_values.specs.declared.views.Value.TheVariants.{Simple}
 use Rattle.object_values.specs.declared.calls.Call.{Call}
 use Rattle.object_values.specs.declared.calls.Outcome.{Outcome}
+use Rattle.object_values.specs.declared.facts.Fresh.{Fresh}
 use Rattle.object_values.specs.declared.items.StoredCall.{StoredCall}
 use Rattle.object_values.specs.declared.items.StoredOutcome.{StoredOutcome}
+use Rattle.object_values.specs.declared.items.StoredRecord.{StoredRecord}
 use Rattle.object_values.specs.declared.items.Item.{Item}
-use Rattle.object_values.specs.declared.items.Item.TheVariants.{Content, Put, Kept}
-use Rattle.object_values.specs.Texts.{Text, Texts}
-use Rattle.content_store.specs.Bodies.{Bodies, with_body}
-use Rattle.meaning_records.specs.Tables.{Calls, IsText, IsCallOf, IsOutcomeOf}
-use Rattle.meaning_records.specs.Batches.{contents_of, needed_texts, graph_batch, IsPutBatch, IsCallBatch}
-use Rattle.meaning_records.specs.Live.{content_in, contents_after, AreBatchesOf, IsSourceBatch, IsKeptBatch, AreLive}
+use Rattle.object_values.specs.declared.items.Item.TheVariants.{Put, Kept, Node}
+use Rattle.meaning_records.specs.Tables.{IsText, IsCallOf, IsOutcomeOf}
+use Rattle.meaning_records.specs.Batches.{contents_of, fact_values, needed_texts, graph_batch, IsPutBatch, IsCallBatch, IsRecordOf}
+use Rattle.meaning_records.specs.Live.{content_in, contents_after, AreBatchesOf, IsSourceBatch, IsKeptBatch, IsRecordBatch, AreLive, Live}
 use Rattle.meaning_records.proofs.Lemmas.{contents_in}
-use Rattle.kept_contents.specs.Added.{texts_of_parts, texts_of_outputs}
-use Rattle.kept_contents.specs.Copies.{with_bodies}
-use Rattle.kept_contents.proofs.Lemmas.{contents_append, contents_behind, with_bodies-append, adds, adds_text, call_later}
+use Rattle.kept_contents.specs.declared.shared.Content.{Content as Held}
+use Rattle.kept_contents.specs.Added.{texts_of_parts, texts_of_outputs, contents_with, AddsAll, AddsOne, AddsTexts}
+use Rattle.kept_contents.specs.Stocks.{value_of, values_of_contents}
+use Rattle.kept_contents.proofs.Lemmas.{add_after, adds_after, texts_append}
 use Rattle.kept_tables.specs.declared.live_batches.LiveBatches.{LiveBatches}
-use Rattle.kept_tables.specs.Batching.{batch_of, AddsLiveBatch, AddsLiveBatches}
-use Rattle.kept_tables.proofs.BatchLemmas.{call_by_adds, put_by_adds}
+use Rattle.kept_tables.specs.Batching.{batch_of, AddsLiveBatch, AddsLiveBatches, IsFresh}
+use Rattle.kept_tables.proofs.BatchLemmas.{call_by_adds, call_stays, put_by_adds}
+use Rattle.kept_tables.proofs.NoteLemmas.{notes_by_adds}
 
--- ---- the contents of a batch
+abbrev Values : Type 0
+Values = List Value
 
-dropped : (xs ys : Bodies) → drop (length xs) (xs ++ ys) ≡ ys
-dropped [] ys = refl
-dropped (x ∷ xs) ys = dropped xs ys
+-- ---- the batch of what was added, over what stood before
 
--- the texts from a place on, as they come
-pub more_from : (texts : Bodies) (from i : ℕ) (text : List ℕ) (items next : List Item) → from ≤ i → slice_get texts i ≡ Some text
-    → items ≡ map Content (contents_of (drop from (take i texts))) → next ≡ items ++ Content (Simple text) ∷ [] → next ≡ map Content (contents_of (drop from (take (i + 1) texts)))
-more_from texts from i text items next le at before grown =
-    let within = slice_get_within texts i text at in
-    let taken : take (i + 1) texts ≡ take i texts ++ text ∷ [] = take_more texts i text within ∙ ap (λ (t : List ℕ). take i texts ++ t ∷ []) (get_or_from_slice_get texts i text text at) in
-    let long : from ≤ length (take i texts) = omega (arith, length-take-le i texts (omega (arith, within))) in
-    let rest : drop from (take (i + 1) texts) ≡ drop from (take i texts) ++ text ∷ [] = ap (drop from) taken ∙ drop-append-le from (take i texts) (text ∷ []) long in
-    grown ∙ ap (λ (l : List Item). l ++ Content (Simple text) ∷ []) before
-    ∙ sym (map-append Content (contents_of (drop from (take i texts))) (Simple text ∷ []))
-    ∙ ap (map Content) (sym (contents_append (drop from (take i texts)) (text ∷ [])))
-    ∙ ap (λ (l : Bodies). map Content (contents_of l)) (sym rest)
+-- Contents came after the others, and the item with these before it is such a batch.
+pub record Batched (IsBatch : Values → List Item → Type 0) (old new : List Held) (last : Item) : Type 0 where
+  pub more : Values
+  pub grown : values_of_contents new ≡ values_of_contents old ++ more
+  pub is : IsBatch (values_of_contents old) (batch_of more last)
 
--- what a batch adds to the contents
-pub contents_grown : (base new : Bodies) (last : Item) → content_in last ≡ [] → (added : Bodies) → new ≡ base ++ added → contents_of new ≡ contents_after (contents_of base) (batch_of added last)
-contents_grown base new last none added is = ap contents_of is ∙ contents_append base added ∙ ap (λ (l : List Value). contents_of base ++ l) (sym (contents_in (contents_of added) last none))
+module _ (first : Values) (none : first ≡ []) where
+  module _ (old new : List Held) where
+    pub put_batch : (name text : List ℕ) (number : ℕ) → AddsOne first (Simple text) (values_of_contents old) (values_of_contents new) → IsText (contents_with first new) number text
+        → Batched (λ contents. IsPutBatch contents name text) old new (Put name number)
+    put_batch name text number adds at =
+        let a = add_after (values_of_contents old) (Simple text) (values_of_contents new) (subst (λ (l : Values). AddsOne l (Simple text) (values_of_contents old) (values_of_contents new)) none adds) in
+        let there = subst (λ (l : Values). IsText (l ++ values_of_contents new) number text) none at in
+        record {
+          more = a.0;
+          grown = a.1;
+          is = put_by_adds (values_of_contents old) name text a.0 a.2 number (subst (λ (l : Values). IsText l number text) a.1 there);
+        }
 
-module _ (base new : Bodies) (last : Item) (none : content_in last ≡ []) (items : List Item) (made : items ≡ batch_of (drop (length base) new) last) where
-  contents_added : (added : Bodies) → new ≡ base ++ added → (items ≡ batch_of added last) × (contents_of new ≡ contents_after (contents_of base) items)
-  contents_added added is =
-      let cut : drop (length base) new ≡ added = ap (drop (length base)) is ∙ dropped base added in
-      let whole : items ≡ batch_of added last = made ∙ ap (λ (l : Bodies). batch_of l last) cut in (
-        whole,
-        contents_grown base new last none added is ∙ ap (contents_after (contents_of base)) (sym whole),
-      )
+    pub record_batch : (fresh : Fresh) (stored : StoredRecord) → AddsAll first (fact_values fresh.fact) (values_of_contents old) (values_of_contents new)
+        → IsRecordOf (contents_with first new) stored fresh → Batched (λ contents. IsRecordBatch contents fresh) old new (Node stored)
+    record_batch fresh stored adds is =
+        let needs = subst (λ (l : Values). AddsAll l (fact_values fresh.fact) (values_of_contents old) (values_of_contents new)) none adds in
+        let a = adds_after (values_of_contents old) (fact_values fresh.fact) (values_of_contents new) needs in
+        let there = subst (λ (l : Values). IsRecordOf (l ++ values_of_contents new) stored fresh) none is in
+        let each = subst (λ (l : Values). AddsAll (values_of_contents old) l [] a.0) (sym (append-nil (fact_values fresh.fact))) a.2 in
+        record {
+          more = a.0;
+          grown = a.1;
+          is = notes_by_adds (values_of_contents old) (fresh ∷ []) a.0 each (stored ∷ []) (subst (λ (l : Values). IsRecordOf l stored fresh) a.1 there, tt);
+        }
+
+  pub call_batch : (old middle new : List Held) (call : Call) (outcome : Outcome) (stored : StoredCall) (given : StoredOutcome)
+      → AddsTexts first (texts_of_parts call.parts) (values_of_contents old) (values_of_contents middle) → IsCallOf (contents_with first middle) stored call
+      → AddsTexts first (texts_of_outputs outcome.outputs) (values_of_contents middle) (values_of_contents new) → IsOutcomeOf (contents_with first new) given outcome
+      → Batched (λ contents. IsCallBatch contents call outcome) old new (Kept stored given)
+  call_batch old middle new call outcome stored given front called back came =
+      let both = texts_append first (texts_of_parts call.parts) (texts_of_outputs outcome.outputs) (values_of_contents old) (values_of_contents middle) (values_of_contents new) front back in
+      let needs = subst (λ (l : Values). AddsTexts l (needed_texts call outcome) (values_of_contents old) (values_of_contents new)) none both in
+      let a = adds_after (values_of_contents old) (contents_of (needed_texts call outcome)) (values_of_contents new) needs in
+      let later = call_stays first (contents_of (texts_of_outputs outcome.outputs)) middle new stored call back called in
+      let there = subst (λ (l : Values). IsCallOf (l ++ values_of_contents new) stored call) none later in
+      let came_there = subst (λ (l : Values). IsOutcomeOf (l ++ values_of_contents new) given outcome) none came in
+      record {
+        more = a.0;
+        grown = a.1;
+        is = call_by_adds (values_of_contents old) call outcome a.0 a.2 stored given (subst (λ (l : Values). IsCallOf l stored call) a.1 there)
+            (subst (λ (l : Values). IsOutcomeOf l given outcome) a.1 came_there);
+      }
 
 -- ---- one batch
 
-module _ (old new : LiveBatches) (items : List Item) (grown : new.batches ≡ old.batches ++ items ∷ []) where
-  put_added : (name text : List ℕ) (number : ℕ) → new.texts ≡ with_body text old.texts → IsText (contents_of new.texts) number text → items ≡ batch_of (drop (length old.texts) new.texts) (Put name number)
-      → AddsLiveBatch (λ contents. IsPutBatch contents name text) old new
-  put_added name text number texts is made =
-      let a = adds_text old.texts text in
-      let new_is : new.texts ≡ old.texts ++ a.0 = texts ∙ a.1 in
-      let whole = contents_added old.texts new.texts (Put name number) refl items made a.0 new_is in
-      let there = subst (λ (l : List Value). IsText l number text) (ap contents_of new_is ∙ contents_append old.texts a.0) is in
-      record {
-        items = items;
-        is = subst (λ (l : List Item). IsPutBatch (contents_of old.texts) name text l) (sym whole.0) (put_by_adds (contents_of old.texts) name text (contents_of a.0) a.2 number there);
-        batches = grown;
-        contents = whole.1;
-      }
+dropped : (xs ys : Values) → drop (length xs) (xs ++ ys) ≡ ys
+dropped [] ys = refl
+dropped (x ∷ xs) ys = dropped xs ys
 
-  call_added : (middle : Bodies) (call : Call) (outcome : Outcome) (stored : StoredCall) (given : StoredOutcome) → middle ≡ with_bodies (texts_of_parts call.parts) old.texts → new.texts ≡ with_bodies (texts_of_outputs outcome.outputs) middle
-      → IsCallOf (contents_of middle) stored call → IsOutcomeOf (contents_of new.texts) given outcome → items ≡ batch_of (drop (length old.texts) new.texts) (Kept stored given)
-      → AddsLiveBatch (λ contents. IsCallBatch contents call outcome) old new
-  call_added middle call outcome stored given first second called came made =
-      let a = adds old.texts (needed_texts call outcome) in
-      let new_is : new.texts ≡ old.texts ++ a.0 = second ∙ ap (with_bodies (texts_of_outputs outcome.outputs)) first ∙ sym (with_bodies-append (texts_of_parts call.parts) (texts_of_outputs outcome.outputs) old.texts) ∙ a.1 in
-      let behind = contents_behind (texts_of_outputs outcome.outputs) middle new.texts second in
-      let later = subst (λ (l : List Value). IsCallOf l stored call) (sym behind.1) (call_later (contents_of middle) (contents_of behind.0) stored call called) in
-      let both : contents_of new.texts ≡ contents_of old.texts ++ contents_of a.0 = ap contents_of new_is ∙ contents_append old.texts a.0 in
-      let whole = contents_added old.texts new.texts (Kept stored given) refl items made a.0 new_is in
-      let batch = call_by_adds (contents_of old.texts) call outcome (contents_of a.0) a.2 stored given (subst (λ (l : List Value). IsCallOf l stored call) both later) (subst (λ (l : List Value). IsOutcomeOf l given outcome) both came) in
-      record {
-        items = items;
-        is = subst (λ (l : List Item). IsCallBatch (contents_of old.texts) call outcome l) (sym whole.0) batch;
-        batches = grown;
-        contents = whole.1;
-      }
+-- contents only come after the others
+pub longer : {IsBatch : Values → List Item → Type 0} (old new : List Held) (last : Item) → Batched IsBatch old new last → length old ≤ length new
+longer old new last batch =
+    let both = ap length batch.grown ∙ length-append (values_of_contents old) batch.more in
+    let before = length-map old value_of in
+    let after = length-map new value_of in
+    omega (arith, both, before, after)
 
-pub put_step : (old new : LiveBatches) (middle : Bodies) (from : ℕ) (name copied text : List ℕ) (number : ℕ) → from ≡ length old.texts → middle ≡ with_body text old.texts → IsText (contents_of middle) number text → copied ≡ name
-    → new.texts ≡ middle → new.batches ≡ old.batches ++ batch_of (drop from middle) (Put copied number) ∷ [] → AddsLiveBatch (λ contents. IsPutBatch contents name text) old new
-put_step old new middle from name copied text number long with_it is same texts grown =
-    let there = subst (λ (l : Bodies). IsText (contents_of l) number text) (sym texts) is in
-    let made : batch_of (drop from middle) (Put copied number) ≡ batch_of (drop (length old.texts) new.texts) (Put name number) = λ i. batch_of (drop (long i) (sym texts i)) (Put (same i) number) in
-    put_added old new (batch_of (drop from middle) (Put copied number)) grown name text number (texts ∙ with_it) there made
+-- what a batch adds to the contents
+pub contents_grown : (base more : Values) (last : Item) → content_in last ≡ [] → base ++ more ≡ contents_after base (batch_of more last)
+contents_grown base more last none = ap (λ (l : Values). base ++ l) (sym (contents_in more last none))
 
-pub call_step : (old new : LiveBatches) (middle last : Bodies) (from : ℕ) (call : Call) (outcome : Outcome) (stored : StoredCall) (given : StoredOutcome) → from ≡ length old.texts → middle ≡ with_bodies (texts_of_parts call.parts) old.texts
-    → last ≡ with_bodies (texts_of_outputs outcome.outputs) middle → IsCallOf (contents_of middle) stored call → IsOutcomeOf (contents_of last) given outcome
-    → new.texts ≡ last → new.batches ≡ old.batches ++ batch_of (drop from last) (Kept stored given) ∷ [] → AddsLiveBatch (λ contents. IsCallBatch contents call outcome) old new
-call_step old new middle last from call outcome stored given long first second called came texts grown =
-    let there = subst (λ (l : Bodies). IsOutcomeOf (contents_of l) given outcome) (sym texts) came in
-    let made : batch_of (drop from last) (Kept stored given) ≡ batch_of (drop (length old.texts) new.texts) (Kept stored given) = λ i. batch_of (drop (long i) (sym texts i)) (Kept stored given) in
-    call_added old new (batch_of (drop from last) (Kept stored given)) grown middle call outcome stored given first (texts ∙ second) called there made
+pub adds_last : {IsBatch : Values → List Item → Type 0} (old new : LiveBatches) (middle : List Held) (from : ℕ) (last : Item) → content_in last ≡ [] → Batched IsBatch old.added middle last
+    → from ≡ length old.added → new.added ≡ middle → IsFresh new.table new.added
+    → new.batches ≡ old.batches ++ batch_of (values_of_contents (drop from middle)) last ∷ [] → AddsLiveBatch IsBatch old new
+adds_last old new middle from last none batch long same fresh grown =
+    let base = values_of_contents old.added in
+    let start : from ≡ length base = long ∙ sym (length-map old.added value_of) in
+    let cut : values_of_contents (drop from middle) ≡ batch.more
+    = sym (drop-map value_of from middle) ∙ ap (drop from) batch.grown ∙ ap (λ n. drop n (base ++ batch.more)) start ∙ dropped base batch.more in
+    record {
+      items = batch_of batch.more last;
+      is = batch.is;
+      batches = grown ∙ ap (λ (l : Values). old.batches ++ batch_of l last ∷ []) cut;
+      contents = ap values_of_contents same ∙ batch.grown ∙ contents_grown base batch.more last none;
+      fresh = fresh;
+    }
 
 -- ---- many batches
 
-module _ {T : Type 0} (IsBatch : List Value → T → List Item → Type 0) where
-  pub adds_none : (live : LiveBatches) → AddsLiveBatches IsBatch [] live live
-  adds_none live = record { more = []; are = refl; batches = sym (append-nil live.batches) }
+module _ {T : Type 0} (IsBatch : Values → T → List Item → Type 0) where
+  pub adds_none : (live : LiveBatches) → IsFresh live.table live.added → AddsLiveBatches IsBatch [] live live
+  adds_none live fresh = record { more = []; are = refl; batches = sym (append-nil live.batches); fresh = fresh }
 
-  pub batches_push : (contents : List Value) (things : List T) (batches : List (List Item)) (middle : List Value) (thing : T) (items : List Item) (after : List Value) → AreBatchesOf IsBatch contents things batches middle
+  pub batches_push : (contents : Values) (things : List T) (batches : List (List Item)) (middle : Values) (thing : T) (items : List Item) (after : Values) → AreBatchesOf IsBatch contents things batches middle
       → IsBatch middle thing items → after ≡ contents_after middle items → AreBatchesOf IsBatch contents (things ++ thing ∷ []) (batches ++ items ∷ []) after
-  batches_push contents [] [] middle thing items after are is e = (subst (λ (l : List Value). IsBatch l thing items) are is, e ∙ ap (λ (l : List Value). contents_after l items) are)
+  batches_push contents [] [] middle thing items after are is e = (subst (λ (l : Values). IsBatch l thing items) are is, e ∙ ap (λ (l : Values). contents_after l items) are)
   batches_push contents [] (b ∷ batches) middle thing items after are is e = absurd are
   batches_push contents (t ∷ things) [] middle thing items after are is e = absurd are
   batches_push contents (t ∷ things) (b ∷ batches) middle thing items after are is e = (are.0, batches_push (contents_after contents b) things batches middle thing items after are.1 is e)
@@ -126,9 +135,10 @@ module _ {T : Type 0} (IsBatch : List Value → T → List Item → Type 0) wher
       let taken : take (i + 1) things ≡ take i things ++ thing ∷ [] = take_more things i thing (slice_get_within things i thing at) ∙ ap (λ (t : T). take i things ++ t ∷ []) (get_or_from_slice_get things i thing thing at) in
       record {
         more = before.more ++ one.items ∷ [];
-        are = subst (λ (l : List T). AreBatchesOf IsBatch (contents_of old.texts) l (before.more ++ one.items ∷ []) (contents_of new.texts)) (sym taken)
-            (batches_push (contents_of old.texts) (take i things) before.more (contents_of middle.texts) thing one.items (contents_of new.texts) before.are one.is one.contents);
+        are = subst (λ (l : List T). AreBatchesOf IsBatch (values_of_contents old.added) l (before.more ++ one.items ∷ []) (values_of_contents new.added)) (sym taken)
+            (batches_push (values_of_contents old.added) (take i things) before.more (values_of_contents middle.added) thing one.items (values_of_contents new.added) before.are one.is one.contents);
         batches = one.batches ∙ ap (λ (l : List (List Item)). l ++ one.items ∷ []) before.batches ∙ append_assoc old.batches before.more (one.items ∷ []);
+        fresh = one.fresh;
       }
 
 pub none_within : {A : Type 0} (xs : List A) (i : ℕ) → slice_get xs i ≡ None → i < length xs → ⊥
@@ -137,13 +147,18 @@ none_within (x ∷ xs) zero none lt = none-some x (sym none)
 none_within (x ∷ xs) (suc i) none lt = none_within xs i none (omega (arith, lt))
 
 -- all of them
-pub all_live : (graph : Text) (sources : Texts) (calls : Calls) (first middle last : LiveBatches) → first.texts ≡ [] → first.batches ≡ graph_batch graph ∷ []
-    → AddsLiveBatches IsSourceBatch (names.entries sources) first middle → AddsLiveBatches IsKeptBatch calls middle last → AreLive graph sources calls last.batches (contents_of last.texts)
-all_live graph sources calls first middle last none start puts keeps = record {
+pub all_live : (live : Live) (first second third last : LiveBatches) → first.added ≡ [] → first.batches ≡ graph_batch live.graph ∷ []
+    → AddsLiveBatches IsSourceBatch (names.entries live.sources) first second → AddsLiveBatches IsKeptBatch live.calls second third
+    → AddsLiveBatches IsRecordBatch live.records third last → AreLive live last.batches (values_of_contents last.added)
+all_live live first second third last none start puts keeps notes = record {
   puts = puts.more;
   keeps = keeps.more;
-  between = contents_of middle.texts;
-  sourced = subst (λ (l : Bodies). AreBatchesOf IsSourceBatch (contents_of l) (names.entries sources) puts.more (contents_of middle.texts)) none puts.are;
+  notes = notes.more;
+  put = values_of_contents second.added;
+  kept = values_of_contents third.added;
+  sourced = subst (λ (l : List Held). AreBatchesOf IsSourceBatch (values_of_contents l) (names.entries live.sources) puts.more (values_of_contents second.added)) none puts.are;
   called = keeps.are;
-  batches_are = keeps.batches ∙ ap (λ (l : List (List Item)). l ++ keeps.more) puts.batches ∙ ap (λ (l : List (List Item)). (l ++ puts.more) ++ keeps.more) start;
+  noted = notes.are;
+  batches_are = notes.batches
+      ∙ ap (λ (l : List (List Item)). l ++ notes.more) (keeps.batches ∙ ap (λ (l : List (List Item)). l ++ keeps.more) (puts.batches ∙ ap (λ (l : List (List Item)). l ++ puts.more) start));
 }

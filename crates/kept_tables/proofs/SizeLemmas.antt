@@ -16,27 +16,28 @@ use Rattle.object_values.specs.declared.items.StoredOutput.{StoredOutput}
 use Rattle.object_values.specs.declared.items.StoredCall.{StoredCall}
 use Rattle.object_values.specs.declared.items.StoredOutcome.{StoredOutcome}
 use Rattle.object_values.specs.declared.items.Item.{Item}
-use Rattle.object_values.specs.declared.items.Item.TheVariants.{Content, Graph, Put, Kept}
-use Rattle.object_values.specs.Texts.{Text, Texts}
-use Rattle.content_store.specs.Bodies.{Bodies, with_body}
+use Rattle.object_values.specs.declared.items.StoredRecord.{StoredRecord}
+use Rattle.object_values.specs.declared.facts.Fresh.{Fresh}
+use Rattle.object_values.specs.declared.items.Item.TheVariants.{Content, Graph, Put, Kept, Node}
+use Rattle.object_values.specs.Texts.{Text}
 use Rattle.meaning_records.specs.Forms.{bytes, number, list_of, option_of}
-use Rattle.meaning_records.specs.Records.{item, status, pair, line, stored_part, output}
+use Rattle.meaning_records.specs.Records.{item, status, pair, line, stored_part, output, node_record, value}
 use Rattle.meaning_records.specs.Tables.{Calls, IsText, IsPartOf, IsCallOf, IsOutcomeOf}
-use Rattle.meaning_records.specs.Batches.{contents_of, body_of, needed_texts, graph_batch, IsPutBatch, IsCallBatch}
+use Rattle.meaning_records.specs.Batches.{body_of, fact_values, graph_batch, IsPutBatch, IsCallBatch, IsRecordOf}
 use Rattle.meaning_records.specs.States.{spell_batch}
-use Rattle.meaning_records.specs.Live.{content_in, batch_text, AreBatchesOf, IsSourceBatch, IsKeptBatch, IsLiveText}
+use Rattle.meaning_records.specs.Live.{content_in, batch_text, AreBatchesOf, IsSourceBatch, IsKeptBatch, IsRecordBatch, IsLiveText, Live}
 use Rattle.kept_contents.specs.declared.head.CallHead.{CallHead}
 use Rattle.kept_contents.specs.declared.keys.CallKey.{CallKey}
-use Rattle.kept_contents.specs.Added.{texts_of_parts, texts_of_outputs}
-use Rattle.kept_contents.specs.Copies.{with_bodies}
+use Rattle.kept_contents.specs.declared.shared.Content.{Content as Held}
+use Rattle.kept_contents.specs.Added.{texts_of_parts, texts_of_outputs, contents_with, AddsAll, AddsOne, AddsTexts}
+use Rattle.kept_contents.specs.Stocks.{value_of, values_of_contents}
 use Rattle.kept_contents.specs.Heads.{call_with}
-use Rattle.kept_contents.proofs.Lemmas.{contents_append, contents_behind, with_bodies-append, adds, adds_text, call_later, copied_parts, copied_outputs}
+use Rattle.kept_contents.proofs.Lemmas.{outputs_step, parts_step}
 use Rattle.kept_tables.specs.declared.call_table.Entry.{Entry}
 use Rattle.kept_tables.specs.declared.live_sizes.LiveSize.{LiveSize}
-use Rattle.kept_tables.specs.Batching.{batch_of, contents_text, counted_text, CountsLiveBatch, CountsLiveBatches, CountsPart, CountsParts, CountsOutput, CountsOutputs, rest_text}
+use Rattle.kept_tables.specs.Batching.{batch_of, contents_text, counted_text, IsFresh, CountsLiveBatch, CountsLiveBatches, CountsPart, CountsParts, CountsOutput, CountsOutputs, rest_text}
 use Rattle.kept_tables.specs.Holdings.{kept_call_of, kept_calls_of}
-use Rattle.kept_tables.proofs.BatchLemmas.{call_by_adds, put_by_adds}
-use Rattle.kept_tables.proofs.LiveLemmas.{batches_push, contents_grown}
+use Rattle.kept_tables.proofs.LiveLemmas.{Batched, batches_push, call_batch, contents_grown, put_batch, record_batch}
 
 -- ---- lengths of what is spelled
 
@@ -55,30 +56,39 @@ batches_both : (xs ys : List (List Item)) → batch_text (xs ++ ys) ≡ batch_te
 batches_both [] ys = omega arith
 batches_both (x ∷ xs) ys = let rest = batches_both xs ys in omega (arith, rest)
 
--- of texts as contents
-contents_both : (xs ys : Bodies) → contents_text (xs ++ ys) ≡ contents_text xs + contents_text ys
+-- of contents
+contents_both : (xs ys : List Value) → contents_text (xs ++ ys) ≡ contents_text xs + contents_text ys
 contents_both xs ys =
-    ap (λ (l : List Value). length (spell_batch (map Content l))) (contents_append xs ys)
-    ∙ ap (λ (l : List Item). length (spell_batch l)) (map-append Content (contents_of xs) (contents_of ys))
-    ∙ ap length (flat_map-append item.spell (map Content (contents_of xs)) (map Content (contents_of ys)))
-    ∙ length-append (spell_batch (map Content (contents_of xs))) (spell_batch (map Content (contents_of ys)))
+    ap (λ (l : List Item). length (spell_batch l)) (map-append Content xs ys)
+    ∙ ap length (flat_map-append item.spell (map Content xs) (map Content ys))
+    ∙ length-append (spell_batch (map Content xs)) (spell_batch (map Content ys))
 
 field_long : (body : List ℕ) → length (bytes.spell body) ≡ length body + 4
 field_long body = let both = length-append (number.spell (length body)) body in omega (arith, both)
 
-content_long : (text : List ℕ) → contents_text (text ∷ []) ≡ length text + 10
-content_long text =
-    let inner = field_long text in
-    let outer = field_long (1 ∷ bytes.spell text) in
-    let none = length-append (item.spell (Content (Simple text))) [] in
-    omega (arith, inner, outer, none)
+-- by the record of its value
+pub value_long : (v : Value) → contents_text (v ∷ []) ≡ length (value.spell v) + 5
+value_long v =
+    let outer = field_long (value.spell v) in
+    let none = length-append (item.spell (Content v)) [] in
+    omega (arith, outer, none)
 
-pub contents_next : (texts : Bodies) (i : ℕ) (text : List ℕ) (size next : ℕ) → slice_get texts i ≡ Some text → size ≡ contents_text (take i texts) → next ≡ size + (length text + 10) → next ≡ contents_text (take (i + 1) texts)
-contents_next texts i text size next at before sum =
-    let taken : take (i + 1) texts ≡ take i texts ++ text ∷ [] = take_more texts i text (slice_get_within texts i text at) ∙ ap (λ (t : List ℕ). take i texts ++ t ∷ []) (get_or_from_slice_get texts i text text at) in
-    let whole : contents_text (take (i + 1) texts) ≡ contents_text (take i texts) + contents_text (text ∷ []) = ap contents_text taken ∙ contents_both (take i texts) (text ∷ []) in
-    let one = content_long text in
-    omega (arith, whole, one)
+pub text_long : (text : List ℕ) → contents_text (Simple text ∷ []) ≡ length text + 10
+text_long text =
+    let inner = field_long text in
+    let whole = value_long (Simple text) in
+    omega (arith, inner, whole)
+
+module _ (contents : List Held) (i : ℕ) (here : Held) (lt : i < length contents) (at : here ≡ get_or contents i here) where
+  pub contents_next : (size one next : ℕ) → size ≡ contents_text (values_of_contents (take i contents)) → one ≡ contents_text (value_of here ∷ []) → next ≡ size + one
+      → next ≡ contents_text (values_of_contents (take (i + 1) contents))
+  contents_next size one next before is sum =
+      let taken : take (i + 1) contents ≡ take i contents ++ here ∷ [] = take_more contents i here lt ∙ ap (λ (c : Held). take i contents ++ c ∷ []) (sym at) in
+      let both : values_of_contents (take (i + 1) contents) ≡ values_of_contents (take i contents) ++ value_of here ∷ []
+      = ap values_of_contents taken ∙ map-append value_of (take i contents) (here ∷ []) in
+      let whole : contents_text (values_of_contents (take (i + 1) contents)) ≡ contents_text (values_of_contents (take i contents)) + contents_text (value_of here ∷ [])
+      = ap contents_text both ∙ contents_both (values_of_contents (take i contents)) (value_of here ∷ []) in
+      omega (arith, whole, before, is, sum)
 
 -- of the graph
 pub graph_long : (graph : Text) → length (spell_batch (graph_batch graph)) ≡ length graph + 5
@@ -103,16 +113,16 @@ part_long stored =
     omega (arith, first, rest, field)
 
 -- an input with a text, and one without
-pub part_told : (texts : Bodies) (part : CallPart) (text : List ℕ) (n size : ℕ) → part.body ≡ Some text → IsText (contents_of texts) n text → size ≡ length part.label + 13 → CountsPart texts part size
+pub part_told : (texts : List Value) (part : CallPart) (text : List ℕ) (n size : ℕ) → part.body ≡ Some text → IsText texts n text → size ≡ length part.label + 13 → CountsPart texts part size
 part_told texts part text n size some is sum =
     let stored : StoredPart = record { slot = part.slot; label = part.label; content = Some n } in
     let long = part_long stored in (
       stored,
-      subst (λ (b : Option (List ℕ)). IsPartOf (contents_of texts) stored (record { slot = part.slot; label = part.label; body = b })) (sym some) (record { slot = refl; label = refl; body = is }),
+      subst (λ (b : Option (List ℕ)). IsPartOf texts stored (record { slot = part.slot; label = part.label; body = b })) (sym some) (record { slot = refl; label = refl; body = is }),
       omega (arith, long),
     )
 
-pub part_untold : (texts : Bodies) (part : CallPart) (size : ℕ) → part.body ≡ None → size ≡ length part.label + 9 → CountsPart texts part size
+pub part_untold : (texts : List Value) (part : CallPart) (size : ℕ) → part.body ≡ None → size ≡ length part.label + 9 → CountsPart texts part size
 part_untold texts part size none sum =
     let stored : StoredPart = record { slot = part.slot; label = part.label; content = None } in
     let long = part_long stored in (
@@ -121,7 +131,7 @@ part_untold texts part size none sum =
       omega (arith, long),
     )
 
-pub output_told : (texts : Bodies) (out : Part) (n size : ℕ) → IsText (contents_of texts) n out.body → size ≡ length out.name + 8 → CountsOutput texts out size
+pub output_told : (texts : List Value) (out : Part) (n size : ℕ) → IsText texts n out.body → size ≡ length out.name + 8 → CountsOutput texts out size
 output_told texts out n size is sum =
     let both = length-append (bytes.spell out.name) (number.spell n) in
     let field = field_long out.name in (
@@ -130,46 +140,55 @@ output_told texts out n size is sum =
       omega (arith, both, field),
     )
 
-pub parts_next : (parts : List CallPart) (i : ℕ) (here : CallPart) → i < length parts → here ≡ get_or parts i here → (start old new : Bodies) → new ≡ with_bodies (body_of here.body) old → (size more next : ℕ)
-    → CountsParts old (take i parts) size → CountsPart new here more → next ≡ size + more → CountsParts new (take (i + 1) parts) next
-parts_next parts i here lt at start old new after size more next (stored, are, long) (s, is, one) sum =
+pub parts_next : (parts : List CallPart) (i : ℕ) (here : CallPart) → i < length parts → here ≡ get_or parts i here → (contents after : List Value) (old new : List Held) → after ≡ contents
+    → AddsTexts contents (body_of here.body) (values_of_contents old) (values_of_contents new) → (size more next : ℕ)
+    → CountsParts (contents_with contents old) (take i parts) size → CountsPart (contents_with after new) here more → next ≡ size + more → CountsParts (contents_with after new) (take (i + 1) parts) next
+parts_next parts i here lt at contents after old new same adds size more next (stored, are, long) (s, is, one) sum =
     let whole = spelled_push stored_part.spell stored s in (
       stored ++ s ∷ [],
-      copied_parts parts i here lt at start old new after stored (stored ++ s ∷ []) s are is refl,
+      parts_step parts i here lt at contents after old new stored (stored ++ s ∷ []) s same adds are is refl,
       omega (arith, whole),
     )
 
-pub outputs_next : (outputs : List Part) (i : ℕ) (here : Part) → i < length outputs → here ≡ get_or outputs i here → (start old new : Bodies) → new ≡ with_body here.body old → (size more next : ℕ)
-    → CountsOutputs old (take i outputs) size → CountsOutput new here more → next ≡ size + more → CountsOutputs new (take (i + 1) outputs) next
-outputs_next outputs i here lt at start old new after size more next (stored, are, long) (s, is, one) sum =
+pub outputs_next : (outputs : List Part) (i : ℕ) (here : Part) → i < length outputs → here ≡ get_or outputs i here → (contents after : List Value) (old new : List Held) → after ≡ contents
+    → AddsOne contents (Simple here.body) (values_of_contents old) (values_of_contents new) → (size more next : ℕ)
+    → CountsOutputs (contents_with contents old) (take i outputs) size → CountsOutput (contents_with after new) here more → next ≡ size + more → CountsOutputs (contents_with after new) (take (i + 1) outputs) next
+outputs_next outputs i here lt at contents after old new same adds size more next (stored, are, long) (s, is, one) sum =
     let whole = spelled_push output.spell stored s in (
       stored ++ s ∷ [],
-      copied_outputs outputs i here lt at start old new after stored (stored ++ s ∷ []) s are is refl,
+      outputs_step outputs i here lt at contents after old new stored (stored ++ s ∷ []) s same adds are is refl,
       omega (arith, whole),
     )
 
 -- ---- one batch
 
-module _ (old new : LiveSize) (added : Bodies) (is : new.texts ≡ old.texts ++ added) (last : Item) (none : content_in last ≡ []) (grown : new.items ≡ old.items + length (item.spell last)) where
+module _ (old new : LiveSize) (fresh : IsFresh new.table new.added) (last : Item) (none : content_in last ≡ []) (grown : new.items ≡ old.items + length (item.spell last)) where
   -- with the item after its contents
-  counts_last : {IsBatch : List Value → List Item → Type 0} → IsBatch (contents_of old.texts) (batch_of added last) → CountsLiveBatch IsBatch old new
+  counts_last : {IsBatch : List Value → List Item → Type 0} → Batched IsBatch old.added new.added last → CountsLiveBatch IsBatch old new
   counts_last batch =
-      let contents : contents_text new.texts ≡ contents_text old.texts + contents_text added = ap contents_text is ∙ contents_both old.texts added in
-      let whole = spelled_push item.spell (map Content (contents_of added)) last in
+      let base = values_of_contents old.added in
+      let contents : contents_text (values_of_contents new.added) ≡ contents_text base + contents_text batch.more = ap contents_text batch.grown ∙ contents_both base batch.more in
+      let whole = spelled_push item.spell (map Content batch.more) last in
       record {
-        items = batch_of added last;
-        is = batch;
+        items = batch_of batch.more last;
+        is = batch.is;
         text = omega (arith, contents, whole);
-        contents = contents_grown old.texts new.texts last none added is;
+        contents = batch.grown ∙ contents_grown base batch.more last none;
+        fresh = fresh;
       }
 
-pub put_counted : (old new : LiveSize) (name text : List ℕ) (n : ℕ) → new.texts ≡ with_body text old.texts → IsText (contents_of new.texts) n text → new.items ≡ old.items + (length name + 9) → CountsLiveBatch (λ contents. IsPutBatch contents name text) old new
-put_counted old new name text n texts is grown =
-    let a = adds_text old.texts text in
-    let new_is : new.texts ≡ old.texts ++ a.0 = texts ∙ a.1 in
-    let there = subst (λ (l : List Value). IsText l n text) (ap contents_of new_is ∙ contents_append old.texts a.0) is in
+pub put_counted : (old new : LiveSize) (first : List Value) → first ≡ [] → IsFresh new.table new.added → (name text : List ℕ) (n : ℕ)
+    → AddsOne first (Simple text) (values_of_contents old.added) (values_of_contents new.added) → IsText (contents_with first new.added) n text → new.items ≡ old.items + (length name + 9)
+    → CountsLiveBatch (λ contents. IsPutBatch contents name text) old new
+put_counted old new first none fresh name text n adds is grown =
     let long = put_long name n in
-    counts_last old new a.0 new_is (Put name n) refl (omega (arith, long)) (put_by_adds (contents_of old.texts) name text (contents_of a.0) a.2 n there)
+    counts_last old new fresh (Put name n) refl (omega (arith, long)) (put_batch first none old.added new.added name text n adds is)
+
+pub record_counted : (old new : LiveSize) (first : List Value) → first ≡ [] → IsFresh new.table new.added → (f : Fresh) (stored : StoredRecord)
+    → AddsAll first (fact_values f.fact) (values_of_contents old.added) (values_of_contents new.added) → IsRecordOf (contents_with first new.added) stored f
+    → new.items ≡ old.items + (1 + length (node_record.spell stored)) → CountsLiveBatch (λ contents. IsRecordBatch contents f) old new
+record_counted old new first none fresh f stored adds is grown =
+    counts_last old new fresh (Node stored) refl (omega (arith, grown)) (record_batch first none old.added new.added f stored adds is)
 
 kept_long : (head : CallHead) (outcome : Outcome) (parts : List StoredPart) (outputs : List StoredOutput) (stored : StoredCall) (given : StoredOutcome)
     → stored ≡ record { tool = head.tool; version = head.version; words = head.words; params = head.params; parts = parts; outs = head.outs } → given ≡ record { status = outcome.status; lines = outcome.lines; outputs = outputs }
@@ -196,28 +215,24 @@ kept_long head outcome parts outputs stored given called came =
     let e10 = length-append (number.spell (length outputs)) (flat_map output.spell outputs) in
     omega (arith, e0, e1, e2, e3, e4, e5, e6, e7, e8, e9, e10)
 
-pub call_counted : (old new : LiveSize) (middle : Bodies) (head : CallHead) (parts : List CallPart) (outcome : Outcome) (p q : ℕ) → middle ≡ with_bodies (texts_of_parts parts) old.texts → new.texts ≡ with_bodies (texts_of_outputs outcome.outputs) middle
-    → CountsParts middle parts p → CountsOutputs new.texts outcome.outputs q → new.items ≡ old.items + ((p + q) + rest_text head outcome) → CountsLiveBatch (λ contents. IsCallBatch contents (call_with head parts) outcome) old new
-call_counted old new middle head parts outcome p q first second (stored, are, long) (outs, have, wide) grown =
+pub call_counted : (old new : LiveSize) (first : List Value) → first ≡ [] → IsFresh new.table new.added → (middle : List Held) (head : CallHead) (parts : List CallPart) (outcome : Outcome) (p q : ℕ)
+    → AddsTexts first (texts_of_parts parts) (values_of_contents old.added) (values_of_contents middle) → CountsParts (contents_with first middle) parts p
+    → AddsTexts first (texts_of_outputs outcome.outputs) (values_of_contents middle) (values_of_contents new.added) → CountsOutputs (contents_with first new.added) outcome.outputs q
+    → new.items ≡ old.items + ((p + q) + rest_text head outcome) → CountsLiveBatch (λ contents. IsCallBatch contents (call_with head parts) outcome) old new
+call_counted old new first none fresh middle head parts outcome p q front (stored, are, long) back (outs, have, wide) grown =
     let call = call_with head parts in
     let kept : StoredCall = record { tool = head.tool; version = head.version; words = head.words; params = head.params; parts = stored; outs = head.outs } in
     let given : StoredOutcome = record { status = outcome.status; lines = outcome.lines; outputs = outs } in
-    let called : IsCallOf (contents_of middle) kept call = record { tool = refl; version = refl; words = refl; params = refl; parts = are; outs = refl } in
-    let came : IsOutcomeOf (contents_of new.texts) given outcome = record { status = refl; lines = refl; outputs = have } in
-    let a = adds old.texts (needed_texts call outcome) in
-    let new_is : new.texts ≡ old.texts ++ a.0 = second ∙ ap (with_bodies (texts_of_outputs outcome.outputs)) first ∙ sym (with_bodies-append (texts_of_parts parts) (texts_of_outputs outcome.outputs) old.texts) ∙ a.1 in
-    let behind = contents_behind (texts_of_outputs outcome.outputs) middle new.texts second in
-    let later = subst (λ (l : List Value). IsCallOf l kept call) (sym behind.1) (call_later (contents_of middle) (contents_of behind.0) kept call called) in
-    let both : contents_of new.texts ≡ contents_of old.texts ++ contents_of a.0 = ap contents_of new_is ∙ contents_append old.texts a.0 in
+    let called : IsCallOf (contents_with first middle) kept call = record { tool = refl; version = refl; words = refl; params = refl; parts = are; outs = refl } in
+    let came : IsOutcomeOf (contents_with first new.added) given outcome = record { status = refl; lines = refl; outputs = have } in
     let size = kept_long head outcome stored outs kept given refl refl in
-    counts_last old new a.0 new_is (Kept kept given) refl (omega (arith, size))
-    (call_by_adds (contents_of old.texts) call outcome (contents_of a.0) a.2 kept given (subst (λ (l : List Value). IsCallOf l kept call) both later) (subst (λ (l : List Value). IsOutcomeOf l given outcome) both came))
+    counts_last old new fresh (Kept kept given) refl (omega (arith, size, long, wide, grown)) (call_batch first none old.added middle new.added call outcome kept given front called back came)
 
 -- ---- many batches
 
 module _ {T : Type 0} (IsBatch : List Value → T → List Item → Type 0) where
-  pub counts_none : (live : LiveSize) → CountsLiveBatches IsBatch [] live live
-  counts_none live = record { more = []; are = refl; text = omega arith }
+  pub counts_none : (live : LiveSize) → IsFresh live.table live.added → CountsLiveBatches IsBatch [] live live
+  counts_none live fresh = record { more = []; are = refl; text = omega arith; fresh = fresh }
 
   pub counts_push : (things : List T) (thing : T) (old middle new : LiveSize) → CountsLiveBatches IsBatch things old middle → CountsLiveBatch (λ contents. IsBatch contents thing) middle new → CountsLiveBatches IsBatch (things ++ thing ∷ []) old new
   counts_push things thing old middle new before one =
@@ -226,8 +241,9 @@ module _ {T : Type 0} (IsBatch : List Value → T → List Item → Type 0) wher
       let second = one.text in
       record {
         more = before.more ++ one.items ∷ [];
-        are = batches_push IsBatch (contents_of old.texts) things before.more (contents_of middle.texts) thing one.items (contents_of new.texts) before.are one.is one.contents;
+        are = batches_push IsBatch (values_of_contents old.added) things before.more (values_of_contents middle.added) thing one.items (values_of_contents new.added) before.are one.is one.contents;
         text = omega (arith, whole, first, second);
+        fresh = one.fresh;
       }
 
   pub counts_next : (things : List T) (i : ℕ) (thing : T) (old middle new : LiveSize) → slice_get things i ≡ Some thing → CountsLiveBatches IsBatch (take i things) old middle
@@ -245,22 +261,28 @@ kept_counted entries i entry old middle new lt at before one =
     subst (λ (l : Calls). CountsLiveBatches IsKeptBatch l old new) (sym calls) (counts_push IsKeptBatch (kept_calls_of (take i entries)) (kept_call_of entry) old middle new before one)
 
 -- all of them
-pub all_counted : (graph : Text) (sources : Texts) (calls : Calls) (first middle last : LiveSize) (size : ℕ) → first.texts ≡ [] → first.items ≡ length (spell_batch (graph_batch graph))
-    → CountsLiveBatches IsSourceBatch (names.entries sources) first middle → CountsLiveBatches IsKeptBatch calls middle last → size ≡ counted_text last → IsLiveText graph sources calls size
-all_counted graph sources calls first middle last size none start puts keeps total =
-    let empty : contents_text first.texts ≡ 0 = ap contents_text none in
-    let both = batches_both puts.more keeps.more in
+pub all_counted : (live : Live) (first second third last : LiveSize) (size : ℕ) → first.added ≡ [] → first.items ≡ length (spell_batch (graph_batch live.graph))
+    → CountsLiveBatches IsSourceBatch (names.entries live.sources) first second → CountsLiveBatches IsKeptBatch live.calls second third
+    → CountsLiveBatches IsRecordBatch live.records third last → size ≡ counted_text last → IsLiveText live size
+all_counted live first second third last size none start puts keeps notes total =
+    let empty : contents_text (values_of_contents first.added) ≡ 0 = ap (λ (l : List Held). contents_text (values_of_contents l)) none in
+    let both = batches_both (puts.more ++ keeps.more) notes.more in
+    let more = batches_both puts.more keeps.more in
     let p = puts.text in
-    let k = keeps.text in (
-      graph_batch graph ∷ (puts.more ++ keeps.more),
-      contents_of last.texts,
+    let k = keeps.text in
+    let n = notes.text in (
+      graph_batch live.graph ∷ (puts.more ++ keeps.more ++ notes.more),
+      values_of_contents last.added,
       record {
         puts = puts.more;
         keeps = keeps.more;
-        between = contents_of middle.texts;
-        sourced = subst (λ (l : Bodies). AreBatchesOf IsSourceBatch (contents_of l) (names.entries sources) puts.more (contents_of middle.texts)) none puts.are;
+        notes = notes.more;
+        put = values_of_contents second.added;
+        kept = values_of_contents third.added;
+        sourced = subst (λ (l : List Held). AreBatchesOf IsSourceBatch (values_of_contents l) (names.entries live.sources) puts.more (values_of_contents second.added)) none puts.are;
         called = keeps.are;
+        noted = notes.are;
         batches_are = refl;
       },
-      omega (arith, empty, both, p, k),
+      omega (arith, empty, both, more, p, k, n),
     )

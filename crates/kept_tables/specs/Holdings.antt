@@ -1,10 +1,15 @@
 -- What tables hold in memory, and what a batch makes of it that is prepared for them.
-use Rattle.std.specs.Prelude.{◌≡◌, ◌^◌, ◌+◌, ◌<◌, ◌≤◌, ⊤, ℕ, List, [], ◌∷◌, ◌++◌, length, map, reverse, Option, Some, None, IsNone}
+use Rattle.std.specs.Prelude.{◌≡◌, ◌↔◌, ◌^◌, ◌+◌, ◌<◌, ◌≤◌, ⊤, ℕ, List, [], ◌∷◌, ◌++◌, length, map, reverse, Option, Some, None, IsNone, IsSome}
 use Rattle.std.specs.List.{All}
 use Rattle.object_values.specs.declared.calls.Call.{Call}
 use Rattle.object_values.specs.declared.calls.Outcome.{Outcome}
 use Rattle.object_values.specs.declared.facts.Fresh.{Fresh}
+use Rattle.object_values.specs.declared.messages.Status.TheVariants.{Abort}
+use Rattle.object_values.specs.declared.nodes.Node.{Node}
 use Rattle.object_values.specs.declared.records.NodeRecord.{NodeRecord}
+use Rattle.object_values.specs.declared.records.Renewed.{Renewed}
+use Rattle.object_values.specs.declared.views.Value.{Value}
+use Rattle.meaning_texts.specs.Limits.{height_limit}
 use Rattle.meaning_calls.specs.Jobs.{IsWellFormed}
 use Rattle.meaning_calls.specs.Outcomes.{OutcomeFits}
 use Rattle.content_store.specs.Bodies.{Bodies}
@@ -12,9 +17,9 @@ use Rattle.object_values.specs.declared.items.Item.{Item}
 use Rattle.object_values.specs.declared.items.Item.TheVariants as item_of
 use Rattle.meaning_records.specs.Records.{item}
 use Rattle.meaning_records.specs.States.{spell_batch}
-use Rattle.meaning_records.specs.Tables.{Tables, Calls, LoadsAll, kept_outcome, put_facts}
-use Rattle.kept_records.specs.Records.{RecordStock}
-use Rattle.kept_notes.specs.Facts.{IsRecordIn, facts_of}
+use Rattle.meaning_records.specs.Tables.{Tables, Calls, IsShort, LoadsAll, kept_outcome, put_facts}
+use Rattle.kept_records.specs.Records.{RecordStock, record_of}
+use Rattle.kept_notes.specs.Facts.{IsNotedIn, facts_of, fresh_of}
 use Rattle.kept_contents.specs.declared.shared.Content.{Content}
 use Rattle.kept_contents.specs.declared.held.HeldCall.{HeldCall}
 use Rattle.kept_contents.specs.declared.head.CallHead.{CallHead}
@@ -35,6 +40,22 @@ pub record Holding : Type 0 where
   pub records : RecordStock
   pub room : ℕ
   pub call_room : ℕ
+
+-- what is noted of nodes, with what each comes to at present
+abbrev pub fresh_in : Holding → List Fresh
+fresh_in kept = map (fresh_of kept.tables.contents) kept.records.records
+
+-- Contents are short, and records of nodes, by their numbers, say what may be noted.
+pub record AreNotedIn (contents : List Value) (records : List NodeRecord) : Type 0 where
+  pub short : All IsShort contents
+  pub noted : All (IsNotedIn contents) records
+
+-- What a node may come to at present: its height is one of a node with steps, and its status is abort exactly where its record has no value.
+pub record MayRenew (kept : Holding) (node : Node) (present : Renewed) : Type 0 where
+  pub has : IsSome (record_of node kept.records.records)
+  pub least : 1 ≤ present.height
+  pub most : present.height ≤ height_limit
+  pub valued : (r : NodeRecord) → record_of node kept.records.records ≡ Some r → (IsNone r.value ↔ (present.status ≡ Abort))
 
 -- the bytes of a batch, the contents that it adds, the last one first, the call that it keeps, and the records of nodes that it notes
 pub record Batch : Type 0 where
@@ -77,13 +98,21 @@ with_calls tables more = record tables { calls = tables.calls ++ more }
 abbrev pub with_batch : Tables → Batch → Tables
 with_batch tables batch = with_calls (with_notes (with_contents tables (reverse batch.added)) batch.notes) (held_calls_of batch.call)
 
+-- Contents that may come after the others, of which the last one stands first: there is room for them.
+pub record MayCome (kept : Holding) (added : List Content) : Type 0 where
+  pub held : AreHeld kept.texts added
+  pub room : length added ≤ kept.room
+  pub few : length kept.tables.contents + length added ≤ 2 ^ 32
+  pub short : All IsShort (values_of_contents (reverse added))
+
 -- Taking this batch into these tables, which prepared it, makes those of them.
 pub record Commits (kept : Holding) (batch : Batch) (next : Tables) : Type 0 where
   pub held : AreHeld kept.texts batch.added
   pub room : length batch.added ≤ kept.room
   pub few : length kept.tables.contents + length batch.added ≤ 2 ^ 32
   pub call : MayAdd kept batch.call
-  pub notes : All (IsRecordIn (length (contents_with kept.tables.contents (reverse batch.added)))) batch.notes
+  pub short : All IsShort (values_of_contents (reverse batch.added))
+  pub notes : All (IsNotedIn (contents_with kept.tables.contents (reverse batch.added))) batch.notes
   pub note_room : length batch.notes ≤ kept.records.room
   pub next_is : next ≡ with_batch kept.tables batch
 
@@ -117,11 +146,11 @@ pub record Prepares (items : List Item) (kept : Holding) (batch : Batch) : Type 
 abbrev pub PreparesSome : (List Item → Type 0) → Holding → Batch → Type 0
 PreparesSome IsBatch kept batch = (items : List Item) × IsBatch items × Prepares items kept batch
 
--- The records of a batch say, over the contents after it, what is to be noted, with what each node comes to at present. None was checked yet.
-pub record HasNotes (kept : Holding) (fresh : List Fresh) (batch : Batch) : Type 0 where
+-- The records of a batch say, over the contents after it, what is to be noted, with what each node comes to at present. They count as checked at the epoch.
+pub record HasNotes (epoch : ℕ) (kept : Holding) (fresh : List Fresh) (batch : Batch) : Type 0 where
   pub say : facts_of (contents_with kept.tables.contents (reverse batch.added)) batch.notes ≡ map (λ (f : Fresh). f.fact) fresh
   pub present : map (λ (r : NodeRecord). r.present) batch.notes ≡ map (λ (f : Fresh). f.present) fresh
-  pub checked : All (λ (r : NodeRecord). r.checked ≡ None) batch.notes
+  pub checked : All (λ (r : NodeRecord). r.checked ≡ Some epoch) batch.notes
 
 -- the tables prepared this batch, and have not changed since
 abbrev pub IsPrepared : Holding → Batch → Type 0

@@ -1,12 +1,12 @@
 // How long the items of batches are, of which none is made.
 ghost use Rattle.std.specs.Prelude.{◌≡◌, ◌+◌, IfOk, OnOk, length};
+ghost use Rattle.object_values.specs.declared.views.Value.TheVariants.{Simple};
 ghost use Rattle.meaning_records.specs.Batches.{body_of};
-ghost use Rattle.content_store.specs.Bodies.{with_body};
-ghost use Rattle.kept_contents.specs.Added.{texts_of_outputs, texts_of_parts};
-ghost use Rattle.kept_contents.specs.Copies.{with_bodies};
+ghost use Rattle.kept_contents.specs.Added.{AddsOne, AddsTexts, AreHeld, contents_with, texts_of_outputs, texts_of_parts};
+ghost use Rattle.kept_contents.specs.Stocks.{values_of_contents};
 ghost use Rattle.kept_tables.specs.Batching.{CountsOutput, CountsOutputs, CountsPart, CountsParts, head_text, lines_text, rest_text};
 
-use kept_contents::{CallHead, CopiedTexts, copy_text};
+use kept_contents::{AddedContents, CallHead, ContentTable, number_text};
 use object_values::{Bytes, CallPart, Memory, Outcome, Part};
 use std::alloc::Global;
 use store_records::Recorded;
@@ -28,27 +28,43 @@ pub(crate) fn size_of_put(name: &Bytes) -> Result<u64, Memory>
 /// How long the inputs of a call are, whose texts come after the others where they aren't there.
 pub(crate) fn count_parts(
     alloc: Global,
-    texts: &mut CopiedTexts,
+    table: &mut ContentTable,
+    added: &mut AddedContents,
     parts: &[CallPart],
 ) -> Result<u64, Memory>
-    ensures parts { IfOk result (CountsParts texts.new parts.now) }
-    ensures texts { OnOk result (texts.new ≡ with_bodies (texts_of_parts parts.now) texts.old) }
+    requires { AreHeld table.old.texts added.old }
+    ensures parts { IfOk result
+        (CountsParts (contents_with table.new.contents added.new) parts.now) }
+    ensures adds { OnOk result (AddsTexts table.old.contents (texts_of_parts parts.now)
+        (values_of_contents added.old) (values_of_contents added.new)) }
+    ensures held { OnOk result (AreHeld table.new.texts added.new) }
+    ensures contents { table.new.contents ≡ table.old.contents }
 {
     let mut size = 0;
     for part in parts {
-        size = sum(size, count_part(alloc, texts, part)?)?;
+        size = sum(size, count_part(alloc, table, added, part)?)?;
     }
     Ok(size)
 }
 
-fn count_part(alloc: Global, texts: &mut CopiedTexts, part: &CallPart) -> Result<u64, Memory>
-    ensures part { IfOk result (CountsPart texts.new part.now) }
-    ensures texts { OnOk result (texts.new ≡ with_bodies (body_of part.now.body) texts.old) }
+fn count_part(
+    alloc: Global,
+    table: &mut ContentTable,
+    added: &mut AddedContents,
+    part: &CallPart,
+) -> Result<u64, Memory>
+    requires { AreHeld table.old.texts added.old }
+    ensures part { IfOk result
+        (CountsPart (contents_with table.new.contents added.new) part.now) }
+    ensures adds { OnOk result (AddsTexts table.old.contents (body_of part.now.body)
+        (values_of_contents added.old) (values_of_contents added.new)) }
+    ensures held { OnOk result (AreHeld table.new.texts added.new) }
+    ensures contents { table.new.contents ≡ table.old.contents }
 {
     let size = sum(part.label.len() as u64, BESIDE_LABEL)?;
     match &part.body {
         Some(text) => {
-            let _ = copy_text(alloc, texts, text)?;
+            let _ = number_text(alloc, table, added, text)?;
             sum(size, NUMBER)
         }
         None => Ok(size),
@@ -58,25 +74,40 @@ fn count_part(alloc: Global, texts: &mut CopiedTexts, part: &CallPart) -> Result
 /// How long the outputs of an outcome are, whose texts come after the others where they aren't there.
 pub(crate) fn count_outputs(
     alloc: Global,
-    texts: &mut CopiedTexts,
+    table: &mut ContentTable,
+    added: &mut AddedContents,
     outputs: &[Part],
 ) -> Result<u64, Memory>
-    ensures outputs { IfOk result (CountsOutputs texts.new outputs.now) }
-    ensures texts { OnOk result
-        (texts.new ≡ with_bodies (texts_of_outputs outputs.now) texts.old) }
+    requires { AreHeld table.old.texts added.old }
+    ensures outputs { IfOk result
+        (CountsOutputs (contents_with table.new.contents added.new) outputs.now) }
+    ensures adds { OnOk result (AddsTexts table.old.contents (texts_of_outputs outputs.now)
+        (values_of_contents added.old) (values_of_contents added.new)) }
+    ensures held { OnOk result (AreHeld table.new.texts added.new) }
+    ensures contents { table.new.contents ≡ table.old.contents }
 {
     let mut size = 0;
     for output in outputs {
-        size = sum(size, count_output(alloc, texts, output)?)?;
+        size = sum(size, count_output(alloc, table, added, output)?)?;
     }
     Ok(size)
 }
 
-fn count_output(alloc: Global, texts: &mut CopiedTexts, output: &Part) -> Result<u64, Memory>
-    ensures output { IfOk result (CountsOutput texts.new output.now) }
-    ensures texts { OnOk result (texts.new ≡ with_body output.now.body texts.old) }
+fn count_output(
+    alloc: Global,
+    table: &mut ContentTable,
+    added: &mut AddedContents,
+    output: &Part,
+) -> Result<u64, Memory>
+    requires { AreHeld table.old.texts added.old }
+    ensures output { IfOk result
+        (CountsOutput (contents_with table.new.contents added.new) output.now) }
+    ensures adds { OnOk result (AddsOne table.old.contents (Simple output.now.body)
+        (values_of_contents added.old) (values_of_contents added.new)) }
+    ensures held { OnOk result (AreHeld table.new.texts added.new) }
+    ensures contents { table.new.contents ≡ table.old.contents }
 {
-    let _ = copy_text(alloc, texts, &output.body)?;
+    let _ = number_text(alloc, table, added, &output.body)?;
     // a length and a number
     sum(output.name.len() as u64, NUMBER + NUMBER)
 }
@@ -115,7 +146,7 @@ fn size_of_lines(record: &mut Bytes, outcome: &Outcome) -> Result<u64, Memory>
 }
 
 // How long a record is, which is written for it.
-fn size_of<T: Recorded>(record: &mut Bytes, thing: &T) -> Result<u64, Memory>
+pub(crate) fn size_of<T: Recorded>(record: &mut Bytes, thing: &T) -> Result<u64, Memory>
     ensures { IfOk result (λ size. size ≡ length (T.form.spell thing.now)) }
 {
     record.clear();

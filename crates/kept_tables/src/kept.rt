@@ -1,14 +1,13 @@
 // The tables of what is kept.
-ghost use Rattle.std.specs.Prelude.{◌≡◌, ◌↔◌, [], List, ℕ, ◌+◌, ◌^◌, ◌<◌, ◌≤◌, All, length, reverse, slice_get, option_map, is_some, Some, IfOk, IfSome, IfNone, IsTrue, OnOk};
+ghost use Rattle.std.specs.Prelude.{◌≡◌, ◌↔◌, [], List, ℕ, ◌+◌, ◌<◌, All, length, reverse, slice_get, option_map, is_some, Some, IfOk, IfSome, IfNone, IsTrue, OnOk};
 ghost use Rattle.object_values.specs.declared.calls.Call.{Call as CallValue};
 ghost use Rattle.object_values.specs.declared.calls.Outcome.{Outcome as OutcomeValue};
 ghost use Rattle.meaning_records.specs.Numbers.{number_of};
-ghost use Rattle.meaning_records.specs.Tables.{IsText, IsCallOf, IsOutcomeOf, kept_outcome, with_call, with_content};
+ghost use Rattle.meaning_records.specs.Tables.{IsShort, IsText, IsCallOf, IsOutcomeOf, kept_outcome, with_call, with_content};
 ghost use Rattle.kept_records.specs.Records.{put_records};
 ghost use Rattle.kept_tables.specs.Loading.{LoadsItem, LoadsNothing, RemembersItem};
-ghost use Rattle.kept_contents.specs.Added.{AreHeld, contents_with};
 ghost use Rattle.kept_contents.specs.Held.{IsHeld};
-ghost use Rattle.kept_tables.specs.Holdings.{IsCommitted, IsKept, IsPrepared, MayAdd, MayKeep, held_calls_of, with_calls, with_contents};
+ghost use Rattle.kept_tables.specs.Holdings.{IsCommitted, IsKept, IsPrepared, MayAdd, MayCome, MayKeep, held_calls_of, with_calls, with_contents};
 
 use crate::call_table::{CallTable, Entry};
 use crate::calls::is_well_formed;
@@ -48,10 +47,10 @@ impl Drop for Kept {
 }
 
 impl Model for Kept {
-    ghost use Rattle.std.specs.Prelude.{All, length};
-    ghost use Rattle.kept_notes.specs.Facts.{IsRecordIn, facts_of};
+    ghost use Rattle.std.specs.Prelude.{All};
+    ghost use Rattle.kept_notes.specs.Facts.{facts_of};
     ghost use Rattle.kept_tables.specs.Calls.{IsCallIndex, room_of};
-    ghost use Rattle.kept_tables.specs.Holdings.{Holding, IsKeptIn, kept_calls_of};
+    ghost use Rattle.kept_tables.specs.Holdings.{AreNotedIn, Holding, IsKeptIn, kept_calls_of};
 
     ghost Value = { Holding };
 
@@ -70,7 +69,7 @@ impl Model for Kept {
 
     ghost invariant = { λ k. (All (IsKeptIn k.heads k.contents.texts) k.calls.entries.items
         × IsCallIndex k.contents.texts k.calls)
-        × All (IsRecordIn (length k.contents.contents)) k.records.records };
+        × AreNotedIn k.contents.contents k.records.records };
 }
 
 /// A kept call with its outcome.
@@ -85,6 +84,7 @@ impl Kept {
         ensures contents { result.tables.contents ≡ [] }
         ensures calls { result.tables.calls ≡ [] }
         ensures records { result.tables.records ≡ [] }
+        ensures noted { result.records.records ≡ [] }
     {
         Kept {
             contents: ContentTable::new(alloc),
@@ -222,9 +222,7 @@ impl Kept {
 
     // Adds contents whose texts are held, the last of the list first.
     fn add_contents(&mut self, added: Vec<Content>)
-        requires held { AreHeld self.old.texts added.items }
-        requires room { length added.items ≤ self.old.room }
-        requires few { length self.old.tables.contents + length added.items ≤ 2 ^ 32 }
+        requires { MayCome self.old added.items }
         ensures tables { self.new.tables ≡ with_contents self.old.tables (reverse added.items) }
         ensures texts { self.new.texts ≡ self.old.texts }
         ensures heads { self.new.heads ≡ self.old.heads }
@@ -269,6 +267,7 @@ impl Kept {
     }
 
     pub(crate) fn add_content(&mut self, alloc: Global, value: Value) -> Result<(), Memory>
+        requires { IsShort value }
         ensures tables { OnOk result (self.new.tables ≡ with_content value self.old.tables) }
         ensures records { self.new.records ≡ self.old.records }
     {

@@ -1,31 +1,42 @@
 // The batches of a store that is written anew: their items, before any of them is written.
-ghost use Rattle.std.specs.Prelude.{◌≡◌, ◌∷◌, ◌++◌, [], List, IfOk, OnOk, drop, map};
+ghost use Rattle.std.specs.Prelude.{◌≡◌, ◌≤◌, ◌∷◌, ◌++◌, [], List, IfOk, OnOk, drop, length, map};
 ghost use Rattle.std.specs.List.{All};
 ghost use Rattle.std.specs.FinMap as names;
 ghost use Rattle.object_values.specs.declared.items.Item.{Item as ItemValue};
 ghost use Rattle.object_values.specs.declared.items.Item.TheVariants as item_of;
 ghost use Rattle.meaning_records.specs.Records.{item};
-ghost use Rattle.meaning_records.specs.Batches.{IsCallBatch, IsPutBatch, contents_of, graph_batch};
-ghost use Rattle.meaning_records.specs.Live.{IsSourceBatch};
+ghost use Rattle.meaning_records.specs.Batches.{IsCallBatch, IsNotable, IsPutBatch, graph_batch};
+ghost use Rattle.meaning_records.specs.Live.{IsRecordBatch, IsSourceBatch};
 ghost use Rattle.meaning_records.specs.States.{spell_batch};
-ghost use Rattle.kept_tables.specs.Batching.{AddsLiveBatch, AddsLiveBatches, batch_of};
+ghost use Rattle.kept_contents.specs.Stocks.{values_of_contents};
+ghost use Rattle.kept_tables.specs.Batching.{AddsLiveBatch, AddsLiveBatches, IsCopied, IsFresh, batch_of};
 
 use crate::kept::KeptCall;
-use kept_contents::{CopiedTexts, copy_call, copy_outcome, copy_text};
-use object_values::{Bytes, Copied, Memory, Seq, Sources, Text, Value};
+use crate::preparing::contents_of;
+use kept_contents::{
+    AddedContents, Content, ContentTable, number_text, stored_call, stored_outcome,
+};
+use kept_notes::{noted_record, number_record};
+use object_values::{Bytes, Copied, Fresh, Memory, NodeRecord, Seq, Sources, Text};
 use std::alloc::Global;
 use store_records::{Item, write_items};
 
-/// Batches one after another, and the texts that are their contents.
+/// Batches one after another, and the contents that they have, each once: the table holds their texts.
 pub(crate) struct LiveBatches {
-    pub(crate) texts: CopiedTexts,
+    pub(crate) table: ContentTable,
+    pub(crate) added: AddedContents,
     pub(crate) batches: Seq<Seq<Item>>,
 }
 
 impl Drop for LiveBatches {
     fn drop(self) {
-        let LiveBatches { texts, batches } = self;
-        drop(texts);
+        let LiveBatches {
+            table,
+            added,
+            batches,
+        } = self;
+        drop(table);
+        drop(added);
         drop(batches);
     }
 }
@@ -33,7 +44,8 @@ impl Drop for LiveBatches {
 impl LiveBatches {
     // The batch of a graph alone.
     pub(crate) fn of_graph(alloc: Global, graph: &[u8]) -> Result<Self, Memory>
-        ensures texts { IfOk result (λ live. live.texts ≡ []) }
+        ensures fresh { IfOk result (λ live. IsFresh live.table live.added) }
+        ensures added { IfOk result (λ live. live.added ≡ []) }
         ensures batches { IfOk result (λ live. live.batches ≡ graph_batch graph.now ∷ []) }
     {
         let mut items = Seq::new(alloc);
@@ -41,13 +53,15 @@ impl LiveBatches {
         let mut batches = Seq::new(alloc);
         batches.push(items)?;
         Ok(LiveBatches {
-            texts: CopiedTexts::new(alloc),
+            table: ContentTable::new(alloc),
+            added: AddedContents::new(alloc),
             batches,
         })
     }
 
     // A batch for each source.
     pub(crate) fn add_sources(&mut self, alloc: Global, sources: &Sources) -> Result<(), Memory>
+        requires { IsFresh self.old.table self.old.added }
         ensures { OnOk result
             (AddsLiveBatches IsSourceBatch (names.entries sources.now.texts) self.old self.new) }
     {
@@ -60,34 +74,58 @@ impl LiveBatches {
     }
 
     fn add_source(&mut self, alloc: Global, name: &Bytes, text: &Text) -> Result<(), Memory>
+        requires { IsFresh self.old.table self.old.added }
         ensures { OnOk result (AddsLiveBatch
             (λ contents. IsPutBatch contents name.now text.now) self.old self.new) }
     {
-        let from = self.texts.len();
-        let number = copy_text(alloc, &mut self.texts, text)?;
+        let from = self.added.len();
+        let number = number_text(alloc, &mut self.table, &mut self.added, text)?;
         let name = name.copy(alloc)?;
         self.add_batch(alloc, from, Item::Put(name, number))
     }
 
     // A batch for a kept call.
     pub(crate) fn add_call(&mut self, alloc: Global, kept: KeptCall) -> Result<(), Memory>
+        requires { IsFresh self.old.table self.old.added }
         ensures { OnOk result (AddsLiveBatch
             (λ contents. IsCallBatch contents kept.call kept.outcome) self.old self.new) }
     {
-        let from = self.texts.len();
-        let KeptCall { call, outcome } = kept;
-        let stored = copy_call(alloc, &mut self.texts, call)?;
-        let given = copy_outcome(alloc, &mut self.texts, outcome)?;
+        let from = self.added.len();
+        let stored = stored_call(alloc, &mut self.table, &mut self.added, &kept.call)?;
+        let given = stored_outcome(alloc, &mut self.table, &mut self.added, &kept.outcome)?;
         self.add_batch(alloc, from, Item::Kept(stored, given))
     }
 
-    // The batch of an item, with the contents that the texts from this number on are.
-    fn add_batch(&mut self, alloc: Global, from: u64, last: Item) -> Result<(), Memory>
-        ensures texts { self.new.texts ≡ self.old.texts }
-        ensures batches { OnOk result (self.new.batches
-            ≡ self.old.batches ++ batch_of (drop from self.old.texts) last ∷ []) }
+    // A batch for what is noted of a node, and its record by the numbers of its contents, which was checked at this epoch.
+    pub(crate) fn add_record(
+        &mut self,
+        alloc: Global,
+        fresh: &Fresh,
+        checked: Option<u64>,
+    ) -> Result<NodeRecord, Memory>
+        requires fresh { IsFresh self.old.table self.old.added }
+        requires may { IsNotable fresh.now }
+        ensures added { OnOk result (AddsLiveBatch
+            (λ contents. IsRecordBatch contents fresh.now) self.old self.new) }
+        ensures noted { IfOk result
+            (IsCopied (values_of_contents self.new.added) fresh.now checked) }
     {
-        let mut items = contents_from(alloc, &self.texts, from)?;
+        let from = self.added.len();
+        let stored = number_record(alloc, &mut self.table, &mut self.added, fresh)?;
+        let noted = noted_record(alloc, &stored, fresh, checked)?;
+        self.add_batch(alloc, from, Item::Node(stored))?;
+        Ok(noted)
+    }
+
+    // The batch of an item, with the contents from this place on.
+    fn add_batch(&mut self, alloc: Global, from: usize, last: Item) -> Result<(), Memory>
+        requires { from ≤ length self.old.added }
+        ensures table { self.new.table ≡ self.old.table }
+        ensures added { self.new.added ≡ self.old.added }
+        ensures batches { OnOk result (self.new.batches ≡ self.old.batches
+            ++ batch_of (values_of_contents (drop from self.old.added)) last ∷ []) }
+    {
+        let mut items = contents_from(alloc, self.added.as_slice(), from)?;
         items.push(last)?;
         self.batches.push(items)
     }
@@ -103,17 +141,13 @@ impl LiveBatches {
     }
 }
 
-// The contents that the texts from this number on are.
-fn contents_from(alloc: Global, texts: &CopiedTexts, from: u64) -> Result<Seq<Item>, Memory>
+// The contents from this place on.
+fn contents_from(alloc: Global, contents: &[Content], from: usize) -> Result<Seq<Item>, Memory>
+    requires { from ≤ length contents.now }
     ensures { IfOk result (λ items.
-        items ≡ map item_of.Content (contents_of (drop from texts.now))) }
+        items ≡ map item_of.Content (values_of_contents (drop from contents.now))) }
 {
-    let mut items = Seq::new(alloc);
-    for id in from..texts.len() {
-        let text = texts.text(id).copy(alloc)?;
-        items.push(Item::Content(Value::Simple(text)))?;
-    }
-    Ok(items)
+    contents_of(alloc, &contents[from..])
 }
 
 fn write_batches(alloc: Global, batches: &[Seq<Item>]) -> Result<Seq<Bytes>, Memory>

@@ -12,6 +12,7 @@ ghost use Rattle.kept_tables.specs.Loading.{TakesInItem, records_after};
 use crate::kept::Kept;
 use crate::loaded::Loaded;
 use kept_notes::loaded_record;
+use meaning_records::laws::reached_stand_last;
 use object_values::{BODY_LIMIT, Bytes, Copied, Memory, Part, StoredRecord, Value};
 use odin_bytes::is_name;
 use std::alloc::Global;
@@ -147,6 +148,8 @@ impl Kept {
         ensures records { IfOk result (λ read. OnSome read (self.new.records.records
             ≡ put_record (loaded_record stored) self.old.records.records)) }
     {
+        reached_stand_last();
+        self.contents_are_short();
         if !self.may_note(&stored) {
             return Ok(None);
         }

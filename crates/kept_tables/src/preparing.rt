@@ -1,14 +1,14 @@
 // Batches, made whole with all memory that their taking in wants.
-ghost use Rattle.std.specs.Prelude.{◌≡◌, ◌≤◌, ◌∷◌, [], All, length, map, IfOk, OnOk};
+ghost use Rattle.std.specs.Prelude.{◌≡◌, ◌≤◌, ◌∷◌, [], All, Some, length, map, IfOk, OnOk};
 ghost use Rattle.object_values.specs.declared.items.Item.TheVariants.{Node};
 ghost use Rattle.object_values.specs.declared.views.Value.TheVariants.{Simple};
 ghost use Rattle.meaning_texts.specs.Limits.{body_limit};
 ghost use Rattle.meaning_records.specs.Batches.{AreRecordsOf, IsCallBatch, IsNotable, IsNotesBatch, IsPutBatch, needed_values};
-ghost use Rattle.meaning_records.specs.Tables.{IsCallOf, IsText, IsOutcomeOf};
+ghost use Rattle.meaning_records.specs.Tables.{IsCallOf, IsShort, IsText, IsOutcomeOf};
 ghost use Rattle.kept_contents.specs.Held.{IsHeld};
 ghost use Rattle.kept_contents.specs.Stocks.{IsGrownFrom, values_of_contents};
 ghost use Rattle.kept_contents.specs.Added.{AddsAll, AddsOne, AddsTexts, AreHeld, contents_with, texts_of_outputs, texts_of_parts};
-ghost use Rattle.kept_notes.specs.Facts.{IsRecordIn};
+ghost use Rattle.kept_notes.specs.Facts.{IsNotedIn};
 ghost use Rattle.kept_notes.specs.Numbered.{notes_of};
 ghost use Rattle.kept_tables.specs.Holdings.{HasNotes, MakesBatch, MayKeep, MayKeepSome, PreparesSome, items_of_contents, items_with};
 
@@ -32,6 +32,7 @@ impl Kept {
         requires { length text.now ≤ body_limit }
         ensures ok { IfOk result
             (PreparesSome (IsPutBatch self.old.tables.contents name.now text.now) self.new) }
+        ensures notes { IfOk result (λ batch. batch.notes ≡ []) }
         ensures same { self.new.tables ≡ self.old.tables }
         ensures records { self.new.records.records ≡ self.old.records.records }
     {
@@ -52,6 +53,7 @@ impl Kept {
         requires { MayKeep self.old.tables call.now outcome.now }
         ensures ok { IfOk result
             (PreparesSome (IsCallBatch self.old.tables.contents call.now outcome.now) self.new) }
+        ensures notes { IfOk result (λ batch. batch.notes ≡ []) }
         ensures same { self.new.tables ≡ self.old.tables }
         ensures records { self.new.records.records ≡ self.old.records.records }
     {
@@ -64,17 +66,23 @@ impl Kept {
         self.prepare(alloc, added, rest, Some(kept), Vec::new(alloc))
     }
 
-    /// The batch that notes what is to be noted of nodes, one after another. Of none it is empty, which no store has as a batch.
-    pub fn prepare_nodes(&mut self, alloc: Global, fresh: &[Fresh]) -> Result<Prepared, Memory>
+    /// The batch that notes what is to be noted of nodes, one after another: they count as checked at the epoch. Of none it is empty, which no store has
+    /// as a batch.
+    pub fn prepare_nodes(
+        &mut self,
+        alloc: Global,
+        fresh: &[Fresh],
+        epoch: u64,
+    ) -> Result<Prepared, Memory>
         requires { All IsNotable fresh.now }
         ensures ok { IfOk result
             (PreparesSome (IsNotesBatch self.old.tables.contents fresh.now) self.new) }
-        ensures notes { IfOk result (HasNotes self.new fresh.now) }
+        ensures notes { IfOk result (HasNotes epoch self.new fresh.now) }
         ensures same { self.new.tables ≡ self.old.tables }
         ensures records { self.new.records.records ≡ self.old.records.records }
     {
         let mut added = AddedContents::new(alloc);
-        let (stored, notes) = self.number_records(alloc, &mut added, fresh)?;
+        let (stored, notes) = self.number_records(alloc, &mut added, fresh, epoch)?;
         let rest = node_items(alloc, stored)?;
         self.prepare(alloc, added, rest, None, notes)
     }
@@ -159,19 +167,21 @@ impl Kept {
         alloc: Global,
         added: &mut AddedContents,
         fresh: &[Fresh],
+        epoch: u64,
     ) -> Result<(Seq<StoredRecord>, Vec<NodeRecord>), Memory>
         requires added { AreHeld self.old.texts added.old }
         requires may { All IsNotable fresh.now }
         ensures stored { IfOk result (λ made.
             AreRecordsOf (contents_with self.old.tables.contents added.new) made.0 fresh.now) }
-        ensures notes { IfOk result (λ made. made.1.items ≡ notes_of made.0 fresh.now) }
+        ensures notes { IfOk result (λ made.
+            made.1.items ≡ notes_of (Some epoch) made.0 fresh.now) }
         ensures adds { OnOk result (AddsAll self.old.tables.contents (needed_values fresh.now)
             (values_of_contents added.old) (values_of_contents added.new)) }
         ensures held { OnOk result (AreHeld self.new.texts added.new) }
         ensures same { self.new.tables ≡ self.old.tables }
         ensures records { self.new.records ≡ self.old.records }
     {
-        number_records(alloc, &mut self.contents, added, fresh)
+        number_records(alloc, &mut self.contents, added, fresh, epoch)
     }
 
     // The batch of these contents and the items after them.
@@ -185,7 +195,8 @@ impl Kept {
     ) -> Result<Prepared, Memory>
         requires held { AreHeld self.old.texts added }
         requires call { MayKeepSome self.old call }
-        requires notes { All (IsRecordIn (length (contents_with self.old.tables.contents added)))
+        requires short { All IsShort (values_of_contents added) }
+        requires notes { All (IsNotedIn (contents_with self.old.tables.contents added))
             notes.items }
         ensures made { IfOk result (MakesBatch added rest call notes.items self.new) }
         ensures same { self.new.tables ≡ self.old.tables }
@@ -241,7 +252,7 @@ fn node_items(alloc: Global, stored: Seq<StoredRecord>) -> Result<Seq<Item>, Mem
     Ok(items)
 }
 
-fn contents_of(alloc: Global, added: &[Content]) -> Result<Seq<Item>, Memory>
+pub(crate) fn contents_of(alloc: Global, added: &[Content]) -> Result<Seq<Item>, Memory>
     ensures { IfOk result (λ items. items ≡ items_of_contents added.now) }
 {
     let mut items = Seq::new(alloc);

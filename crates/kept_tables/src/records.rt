@@ -1,10 +1,11 @@
 // Records of nodes: each is looked for by its node, and says what it says by the numbers of contents.
-ghost use Rattle.std.specs.Prelude.{◌≡◌, ◌↔◌, ◌≤◌, [], All, IfOk, IsSome, IsTrue, OnOk, length, option_map, slice_get};
-ghost use Rattle.kept_notes.specs.Facts.{IsRecordIn, fact_of, facts_of};
+ghost use Rattle.std.specs.Prelude.{◌≡◌, ◌↔◌, ◌≤◌, [], All, IfOk, IsTrue, OnOk, length, option_map, slice_get};
+ghost use Rattle.kept_notes.specs.Facts.{IsNotedIn, IsRecordIn, fact_of, facts_of};
 ghost use Rattle.kept_notes.specs.Loaded.{MayBeLoaded};
 ghost use Rattle.kept_records.specs.Records.{EachNodeOnce, put_record, put_records, record_of, renew_record};
-ghost use Rattle.kept_tables.specs.Holdings.{with_notes};
-ghost use Rattle.meaning_records.specs.Tables.{with_fact, without_records};
+ghost use Rattle.kept_tables.specs.Holdings.{MayRenew, fresh_in, with_notes};
+ghost use Rattle.meaning_records.specs.Batches.{IsNotable};
+ghost use Rattle.meaning_records.specs.Tables.{IsShort, with_fact, without_records};
 
 use crate::kept::Kept;
 use kept_notes::{fact_of, may_note};
@@ -33,13 +34,14 @@ impl Kept {
         self.records.at(place as usize)
     }
 
-    /// The records are the facts of the tables over their contents, each node has one at most, and what a record names is a content.
+    /// The records are the facts of the tables over their contents, each node has one at most, what a record names is a content, and each may be noted.
     pub fn records_fit(&self)
         ensures says { self.now.tables.records
             ≡ facts_of self.now.tables.contents self.now.records.records }
         ensures once { EachNodeOnce self.now.records.records }
         ensures named { All (IsRecordIn (length self.now.tables.contents))
             self.now.records.records }
+        ensures may { All IsNotable (fresh_in self.now) }
     {
         self.records.once();
     }
@@ -59,7 +61,7 @@ impl Kept {
 
     /// Says what was settled of a node at an epoch, which no file has: the tables stay. It takes no memory.
     pub fn renew(&mut self, node: &Node, present: Renewed, epoch: u64)
-        requires { IsSome (record_of node.now self.old.records.records) }
+        requires { MayRenew self.old node.now present }
         ensures renewed { self.new.records.records
             ≡ renew_record node.now present epoch self.old.records.records }
         ensures record_room { self.new.records.room ≡ self.old.records.room }
@@ -87,9 +89,16 @@ impl Kept {
         may_note(&self.contents, stored)
     }
 
+    // No content is too long.
+    pub(crate) fn contents_are_short(&self)
+        ensures { All IsShort self.now.tables.contents }
+    {
+        let _ = &self.contents;
+    }
+
     // Notes the records of a batch, for which there is room, one after another.
     pub(crate) fn add_notes(&mut self, notes: Vec<NodeRecord>)
-        requires named { All (IsRecordIn (length self.old.tables.contents)) notes.items }
+        requires noted { All (IsNotedIn self.old.tables.contents) notes.items }
         requires room { length notes.items ≤ self.old.records.room }
         ensures tables { self.new.tables ≡ with_notes self.old.tables notes.items }
         ensures records { self.new.records.records
@@ -103,7 +112,7 @@ impl Kept {
 
     // Notes a record, in the place of that of its node.
     pub(crate) fn note(&mut self, noted: NodeRecord) -> Result<(), Memory>
-        requires { IsRecordIn (length self.old.tables.contents) noted }
+        requires { IsNotedIn self.old.tables.contents noted }
         ensures tables { OnOk result (self.new.tables
             ≡ with_fact (fact_of self.old.tables.contents noted) self.old.tables) }
         ensures records { OnOk result

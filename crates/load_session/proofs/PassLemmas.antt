@@ -26,7 +26,7 @@ use Rattle.load_session.proofs.OpenLemmas.{quiet, empty_records, empty_state}
 
 serves_goes : (g : Graph) (old : Moment) (steps : List LoadStep) (answers : List (Calls × Reply)) (new : Moment) → (serves : ServesSteps g old steps answers new)
     → Performs told_of_disk (changes_of g old steps answers new serves) old.store new.store old.disk new.disk
-serves_goes g old steps answers new none = goes_none told_of_disk old.store old.store old.disk old.disk (record { disk_is = refl; store_is = record { journal = refl; tables = refl; sources = refl; graph = refl; epoch = refl } })
+serves_goes g old steps answers new none = goes_none told_of_disk old.store old.store old.disk old.disk (record { disk_is = refl; store_is = record { journal = refl; tables = refl; sources = refl; graph = refl; epoch = refl }; nodes = refl })
 serves_goes g old steps answers new (put before others mid _ name text changed serves has same) =
     goes_on told_of_disk (changes_of g old before others mid serves) (cond changed (held.puts name text ∷ []) []) old.store mid.store new.store old.disk mid.disk new.disk (serves_goes g old before others mid serves) has.goes
 serves_goes g old steps answers new (ask before others mid _ given reply serves has) =

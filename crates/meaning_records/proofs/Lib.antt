@@ -14,8 +14,12 @@ mod Writing
 mod NotesWriting
 mod LiveContents
 mod LiveReads
+mod LiveRecords
 mod LiveSizes
 mod NewTexts
 mod NewNotes
+mod LiveStore
+mod LiveKinds
+mod LastNoted
 mod NumberLemmas
 pub mod Lemmas

@@ -1,5 +1,6 @@
 -- Live batches read as what they are of.
-use Rattle.std.proofs.Common.{◌≡◌, ◌≢◌, inl, inr, ℕ, Bool, true, false, cond, List, [], ◌∷◌, ◌++◌, map, Option, Some, None, T, ◌&&◌, refl, sym, ap, ◌∙◌, subst, append-nil, append_assoc}
+use Rattle.std.proofs.Common.{◌≡◌, ◌≢◌, inl, inr, ℕ, Bool, true, false, cond, List, [], ◌∷◌, ◌++◌}
+use Rattle.std.proofs.Common.{map, Option, Some, None, T, ◌&&◌, refl, sym, ap, ◌∙◌, subst, append-nil, append_assoc}
 use Rattle.std.specs.Prelude.{All}
 use Rattle.std.specs.List.{flat_map}
 use Rattle.std.specs.FinMap as names
@@ -11,19 +12,24 @@ use Rattle.std.specs.Cmp.Lexicographic.{slice_cmp, nat_list_cmp_total}
 use Rattle.std.proofs.lemmas.Cmp.{tied_itself}
 use Rattle.std.proofs.lemmas.List.{map-append}
 use Rattle.std.proofs.lemmas.List.Elements.{All-nil, All-cons, All-head, All-tail}
+use Rattle.object_values.specs.declared.facts.Fact.{Fact}
+use Rattle.object_values.specs.declared.facts.Fresh.{Fresh}
 use Rattle.object_values.specs.declared.views.Value.{Value}
 use Rattle.object_values.specs.declared.calls.Call.{Call}
 use Rattle.object_values.specs.declared.calls.Outcome.{Outcome}
 use Rattle.object_values.specs.Texts.{Text, Texts, no_texts}
+use Rattle.object_values.specs.declared.items.StoredRecord.{StoredRecord}
 use Rattle.object_values.specs.declared.items.Item.{Item}
 use Rattle.object_values.specs.declared.items.Item.TheVariants.{Graph, Content, Put, Dropped, Kept, Node}
 use Rattle.meaning_records.specs.Records.{item}
-use Rattle.meaning_records.specs.Tables.{Tables, Calls, Loads}
-use Rattle.meaning_records.specs.Batches.{contents_of, graph_batch, IsPutBatch, IsCallBatch}
+use Rattle.meaning_records.specs.Tables.{Tables, Calls, put_fact, put_facts, Loads}
+use Rattle.meaning_records.specs.Batches.{contents_of, graph_batch, facts_of, IsPutBatch, IsCallBatch, IsNotable, AreRecordsOf}
 use Rattle.meaning_records.specs.States.{State, nothing, spell_batch, TakesAll, Reads, ReadsAll}
-use Rattle.meaning_records.specs.Laws.{noted_in, none_noted, ItemsReadAs}
-use Rattle.meaning_records.specs.Live.{content_in, contents_after, AreBatchesOf, IsSourceBatch, IsKeptBatch, AreLive, MayBeSources, ComeAfter, live_state}
+use Rattle.meaning_records.specs.Laws.{Noted, noted_in, none_noted, with_facts, ItemsReadAs}
+use Rattle.meaning_records.specs.Live.{content_in, contents_after, AreBatchesOf, IsSourceBatch, IsKeptBatch, IsRecordBatch}
+use Rattle.meaning_records.specs.Live.{Live, AreLive, MayBeSources, ComeAfter, MayLive, live_state}
 use Rattle.meaning_records.proofs.Writing.{graph_reads, put_reads, call_reads}
+use Rattle.meaning_records.proofs.NotesWriting.{notes_read}
 
 -- ---- the contents after a batch
 
@@ -44,26 +50,46 @@ taken_contents old (it ∷ items) new taken =
 
 -- ---- one batch
 
-same_state : (new : State) (contents : List Value) (calls : Calls) (sources : Texts) (graph : Option Text) → new.tables.contents ≡ contents → new.tables.calls ≡ calls → new.sources ≡ sources → new.graph ≡ graph → noted_in new ≡ none_noted
-    → new ≡ record { tables = record { contents = contents; calls = calls; records = [] }; sources = sources; graph = graph; noted = [] }
-same_state new contents calls sources graph a b d e n = λ i. record { tables = record { contents = a i; calls = b i; records = (n i).records }; sources = d i; graph = e i; noted = (n i).all }
+-- what is kept, with this noted
+abbrev kept_with : List Value → Calls → Texts → Option Text → Noted → State
+kept_with contents calls sources graph noted = record {
+  tables = record { contents = contents; calls = calls; records = noted.records };
+  sources = sources;
+  graph = graph;
+  noted = noted.all;
+}
 
-batch_read : (old : State) (items : List Item) (calls : Calls) (sources : Texts) (graph : Option Text) → items ≢ [] → All item.fits items → ItemsReadAs old items calls sources graph none_noted
-    → Reads old (spell_batch items) (record { tables = record { contents = contents_after old.tables.contents items; calls = calls; records = [] }; sources = sources; graph = graph; noted = [] })
-batch_read old items calls sources graph some fit reads =
-    let same = same_state reads.new (contents_after old.tables.contents items) calls sources graph (taken_contents old items reads.new reads.taken) reads.calls_are reads.sources_are reads.graph_is reads.noted_is in
+same_state : (new : State) (contents : List Value) (calls : Calls) (sources : Texts) (graph : Option Text) (noted : Noted)
+    → new.tables.contents ≡ contents → new.tables.calls ≡ calls → new.sources ≡ sources → new.graph ≡ graph → noted_in new ≡ noted
+    → new ≡ kept_with contents calls sources graph noted
+same_state new contents calls sources graph noted a b d e n = λ i. kept_with (a i) (b i) (d i) (e i) (n i)
+
+batch_read : (old : State) (items : List Item) (calls : Calls) (sources : Texts) (graph : Option Text) (noted : Noted) → items ≢ [] → All item.fits items
+    → ItemsReadAs old items calls sources graph noted
+    → Reads old (spell_batch items) (kept_with (contents_after old.tables.contents items) calls sources graph noted)
+batch_read old items calls sources graph noted some fit reads =
+    let same = same_state reads.new (contents_after old.tables.contents items) calls sources graph noted
+    (taken_contents old items reads.new reads.taken) reads.calls_are reads.sources_are reads.graph_is reads.noted_is in
     record { items = items; some = some; fit = fit; spelled = refl; taken = subst (λ (s : State). TakesAll old items s) same reads.taken }
 
-ends_in_one : (items : List Item) (last : Item) → items ++ last ∷ [] ≢ []
-ends_in_one [] last e = let n : ⊥ = cc in n
-ends_in_one (it ∷ items) last e = let n : ⊥ = cc in n
+holds_one : (items : List Item) (it : Item) (rest : List Item) → items ++ it ∷ rest ≢ []
+holds_one [] it rest e = let n : ⊥ = cc in n
+holds_one (first ∷ items) it rest e = let n : ⊥ = cc in n
 
 put_some : (contents : List Value) (name text : Text) (items : List Item) → IsPutBatch contents name text items → items ≢ []
-put_some contents name text items (inl known) e = ends_in_one [] (Put name known.0) (sym known.2 ∙ e)
-put_some contents name text items (inr new) e = ends_in_one (Content _ ∷ []) (Put name _) (sym new.1 ∙ e)
+put_some contents name text items (inl known) e = holds_one [] (Put name known.0) [] (sym known.2 ∙ e)
+put_some contents name text items (inr new) e = holds_one (Content _ ∷ []) (Put name _) [] (sym new.1 ∙ e)
 
 call_some : (contents : List Value) (call : Call) (outcome : Outcome) (items : List Item) → IsCallBatch contents call outcome items → items ≢ []
-call_some contents call outcome items batch e = ends_in_one (map Content (contents_of batch.added)) (Kept batch.stored batch.given) (sym batch.items_are ∙ e)
+call_some contents call outcome items batch e =
+    holds_one (map Content (contents_of batch.added)) (Kept batch.stored batch.given) [] (sym batch.items_are ∙ e)
+
+note_some : (contents : List Value) (fresh : Fresh) (items : List Item) → IsRecordBatch contents fresh items → items ≢ []
+note_some contents fresh items batch e = by batch.stored batch.records (sym batch.items_are ∙ e)
+  where
+    by : (stored : List StoredRecord) → AreRecordsOf (contents ++ batch.added) stored (fresh ∷ []) → map Content batch.added ++ map Node stored ≢ []
+    by [] are is = are
+    by (s ∷ stored) are is = holds_one (map Content batch.added) (Node s) (map Node stored) is
 
 -- ---- sources in the order of their names
 
@@ -93,26 +119,33 @@ less Equal p = absurd p
 less Greater p = absurd p
 
 -- the name of a source comes after those before it
-below_there : (name : Text) (done : Pairs) (source : Text × Text) (rest : Pairs) → T (below_all by_bytes name (done ++ source ∷ rest)) → by_bytes name source.0 ≡ Less
+below_there : (name : Text) (done : Pairs) (source : Text × Text) (rest : Pairs) → T (below_all by_bytes name (done ++ source ∷ rest))
+    → by_bytes name source.0 ≡ Less
 below_there name [] source rest below = less (by_bytes name source.0) (both_first (is_lt (by_bytes name source.0)) (below_all by_bytes name rest) below)
-below_there name (d ∷ done) source rest below = below_there name done source rest (both_second (is_lt (by_bytes name d.0)) (below_all by_bytes name (done ++ source ∷ rest)) below)
+below_there name (d ∷ done) source rest below =
+    below_there name done source rest
+    (both_second (is_lt (by_bytes name d.0)) (below_all by_bytes name (done ++ source ∷ rest)) below)
 
 greater : (done : Pairs) (d source : Text × Text) (rest : Pairs) → T (names.is_sorted by_bytes (d ∷ (done ++ source ∷ rest))) → by_bytes source.0 d.0 ≡ Greater
 greater done d source rest sorted =
     let below = both_first (below_all by_bytes d.0 (done ++ source ∷ rest)) (names.is_sorted by_bytes (done ++ source ∷ rest)) sorted in
     nat_list_cmp_total.antisymm source.0 d.0 ∙ ap ordering_reverse (below_there d.0 done source rest below)
 
-sorted_rest : (done : Pairs) (d source : Text × Text) (rest : Pairs) → T (names.is_sorted by_bytes (d ∷ (done ++ source ∷ rest))) → T (names.is_sorted by_bytes (done ++ source ∷ rest))
+sorted_rest : (done : Pairs) (d source : Text × Text) (rest : Pairs) → T (names.is_sorted by_bytes (d ∷ (done ++ source ∷ rest)))
+    → T (names.is_sorted by_bytes (done ++ source ∷ rest))
 sorted_rest done d source rest sorted = both_second (below_all by_bytes d.0 (done ++ source ∷ rest)) (names.is_sorted by_bytes (done ++ source ∷ rest)) sorted
 
-not_before : (done : Pairs) (source : Text × Text) (rest : Pairs) → T (names.is_sorted by_bytes (done ++ source ∷ rest)) → names.find by_bytes source.0 done ≡ None
+not_before : (done : Pairs) (source : Text × Text) (rest : Pairs) → T (names.is_sorted by_bytes (done ++ source ∷ rest))
+    → names.find by_bytes source.0 done ≡ None
 not_before [] source rest sorted = refl
 not_before (d ∷ done) source rest sorted =
     ap (λ (o : Ordering). cond (is_eq o) (Some d.1) (names.find by_bytes source.0 done)) (greater done d source rest sorted)
     ∙ not_before done source rest (sorted_rest done d source rest sorted)
 
-found_there : (done : Pairs) (source : Text × Text) (rest : Pairs) → T (names.is_sorted by_bytes (done ++ source ∷ rest)) → names.find by_bytes source.0 (done ++ source ∷ rest) ≡ Some source.1
-found_there [] source rest sorted = ap (λ (o : Ordering). cond (is_eq o) (Some source.1) (names.find by_bytes source.0 rest)) (tied_itself nat_list_cmp_total source.0)
+found_there : (done : Pairs) (source : Text × Text) (rest : Pairs) → T (names.is_sorted by_bytes (done ++ source ∷ rest))
+    → names.find by_bytes source.0 (done ++ source ∷ rest) ≡ Some source.1
+found_there [] source rest sorted =
+    ap (λ (o : Ordering). cond (is_eq o) (Some source.1) (names.find by_bytes source.0 rest)) (tied_itself nat_list_cmp_total source.0)
 found_there (d ∷ done) source rest sorted =
     ap (λ (o : Ordering). cond (is_eq o) (Some d.1) (names.find by_bytes source.0 (done ++ source ∷ rest))) (greater done d source rest sorted)
     ∙ found_there done source rest (sorted_rest done d source rest sorted)
@@ -129,7 +162,9 @@ Fit batches = All (λ (items : List Item). All item.fits items) batches
 
 fit_left : (xs ys : List (List Item)) → Fit (xs ++ ys) → Fit xs
 fit_left [] ys fit = All-nil (λ (items : List Item). All item.fits items)
-fit_left (x ∷ xs) ys fit = All-cons (λ (items : List Item). All item.fits items) x xs (All-head (λ (items : List Item). All item.fits items) x (xs ++ ys) fit) (fit_left xs ys (All-tail (λ (items : List Item). All item.fits items) x (xs ++ ys) fit))
+fit_left (x ∷ xs) ys fit =
+    All-cons (λ (items : List Item). All item.fits items) x xs (All-head (λ (items : List Item). All item.fits items) x (xs ++ ys) fit)
+    (fit_left xs ys (All-tail (λ (items : List Item). All item.fits items) x (xs ++ ys) fit))
 
 fit_right : (xs ys : List (List Item)) → Fit (xs ++ ys) → Fit ys
 fit_right [] ys fit = fit
@@ -141,59 +176,138 @@ fit_head items batches fit = All-head (λ (items : List Item). All item.fits ite
 fit_tail : (items : List Item) (batches : List (List Item)) → Fit (items ∷ batches) → Fit batches
 fit_tail items batches fit = All-tail (λ (items : List Item). All item.fits items) items batches fit
 
+-- payloads after others
+both_read : (xs ys : List (List ℕ)) (old between new : State) → ReadsAll old xs between → ReadsAll between ys new → ReadsAll old (xs ++ ys) new
+both_read [] ys old between new first second = subst (λ (s : State). ReadsAll s ys new) first second
+both_read (x ∷ xs) ys old between new first second = (first.0, first.1, both_read xs ys first.0 between new first.2 second)
+
+batches_read : (xs ys : List (List Item)) (old between new : State) → ReadsAll old (map spell_batch xs) between → ReadsAll between (map spell_batch ys) new
+    → ReadsAll old (map spell_batch (xs ++ ys)) new
+batches_read xs ys old between new first second =
+    subst (λ (l : List (List ℕ)). ReadsAll old l new) (sym (map-append spell_batch xs ys))
+    (both_read (map spell_batch xs) (map spell_batch ys) old between new first second)
+
+-- what is noted once these facts are, one after another
+abbrev noted_of : List Fact → Noted
+noted_of facts = record { records = put_facts facts []; all = facts }
+
+-- what a store has while it is written anew
+abbrev state_of : Text → Texts → Calls → List Fact → List Value → State
+state_of graph sources calls facts contents = kept_with contents calls sources (Some graph) (noted_of facts)
+
+puts-append : (first second facts : List Fact) → put_facts (first ++ second) facts ≡ put_facts second (put_facts first facts)
+puts-append [] second facts = refl
+puts-append (fact ∷ first) second facts = puts-append first second (put_fact fact facts)
+
+noted_more : (before more : List Fact) → noted_of (before ++ more) ≡ with_facts (noted_of before) more
+noted_more before more = λ i. record { records = puts-append before more [] i; all = before ++ more }
+
+-- records of nodes
+records_read : (graph : Text) (sources : Texts) (calls : Calls) (before : List Fact) (records : List Fresh) → All IsNotable records → (contents : List Value)
+    (batches : List (List Item)) (after : List Value) → Fit batches → AreBatchesOf IsRecordBatch contents records batches after
+    → ReadsAll (state_of graph sources calls before contents) (map spell_batch batches) (state_of graph sources calls (before ++ facts_of records) after)
+records_read graph sources calls before [] may contents [] after fit are = λ i. state_of graph sources calls (append-nil before i) (are i)
+records_read graph sources calls before [] may contents (items ∷ batches) after fit are = absurd are
+records_read graph sources calls before (fresh ∷ records) may contents [] after fit are = absurd are
+records_read graph sources calls before (fresh ∷ records) may contents (items ∷ batches) after fit are =
+    let old : State = state_of graph sources calls before contents in
+    let more : List Fact = fresh.fact ∷ [] in
+    let next : State = state_of graph sources calls (before ++ more) (contents_after contents items) in
+    let one_may : All IsNotable (fresh ∷ []) = All-cons IsNotable fresh [] (All-head IsNotable fresh records may) (All-nil IsNotable) in
+    let reads = notes_read old (fresh ∷ []) items refl one_may are.0 in
+    let one = batch_read old items calls sources (Some graph) (with_facts (noted_of before) more)
+    (note_some contents fresh items are.0) (fit_head items batches fit) reads in
+    let rest = records_read graph sources calls (before ++ more) records (All-tail IsNotable fresh records may) (contents_after contents items) batches after
+    (fit_tail items batches fit) are.1 in (
+      next,
+      subst (λ (n : Noted). Reads old (spell_batch items) (kept_with (contents_after contents items) calls sources (Some graph) n))
+          (sym (noted_more before more)) one,
+      subst (λ (l : List Fact). ReadsAll next (map spell_batch batches) (state_of graph sources calls l after))
+          (append_assoc before more (facts_of records)) rest,
+    )
+
 -- calls
-calls_read : (graph : Text) (sources : Texts) (before calls : Calls) → ComeAfter before calls → (contents : List Value) (batches : List (List Item)) (after : List Value) → Fit batches
-    → AreBatchesOf IsKeptBatch contents calls batches after → ReadsAll (live_state graph sources before contents) (map spell_batch batches) (live_state graph sources (before ++ calls) after)
-calls_read graph sources before [] come contents [] after fit are = λ i. live_state graph sources (append-nil before i) (are i)
+calls_read : (graph : Text) (sources : Texts) (before calls : Calls) → ComeAfter before calls → (contents : List Value) (batches : List (List Item))
+    (after : List Value) → Fit batches → AreBatchesOf IsKeptBatch contents calls batches after
+    → ReadsAll (state_of graph sources before [] contents) (map spell_batch batches) (state_of graph sources (before ++ calls) [] after)
+calls_read graph sources before [] come contents [] after fit are = λ i. state_of graph sources (append-nil before i) [] (are i)
 calls_read graph sources before [] come contents (items ∷ batches) after fit are = absurd are
 calls_read graph sources before (kept ∷ calls) come contents [] after fit are = absurd are
 calls_read graph sources before (kept ∷ calls) come contents (items ∷ batches) after fit are =
-    let old : State = live_state graph sources before contents in
+    let old : State = state_of graph sources before [] contents in
+    let more : Calls = kept ∷ [] in
+    let next : State = state_of graph sources (before ++ more) [] (contents_after contents items) in
     let reads = call_reads old kept.0 kept.1 items come.0.formed come.0.fits come.0.new are.0 in
-    let one = batch_read old items (before ++ kept ∷ []) sources (Some graph) (call_some contents kept.0 kept.1 items are.0) (fit_head items batches fit) reads in
-    let rest = calls_read graph sources (before ++ kept ∷ []) calls come.1 (contents_after contents items) batches after (fit_tail items batches fit) are.1 in (
-      live_state graph sources (before ++ kept ∷ []) (contents_after contents items),
+    let one = batch_read old items (before ++ more) sources (Some graph) none_noted
+    (call_some contents kept.0 kept.1 items are.0) (fit_head items batches fit) reads in
+    let rest = calls_read graph sources (before ++ more) calls come.1 (contents_after contents items) batches after (fit_tail items batches fit) are.1 in (
+      next,
       one,
-      subst (λ (l : Calls). ReadsAll (live_state graph sources (before ++ kept ∷ []) (contents_after contents items)) (map spell_batch batches) (live_state graph sources l after)) (append_assoc before (kept ∷ []) calls) rest,
+      subst (λ (l : Calls). ReadsAll next (map spell_batch batches) (state_of graph sources l [] after)) (append_assoc before more calls) rest,
     )
 
-module _ (graph : Text) (sources : Texts) (may : MayBeSources sources) (later : List (List ℕ)) (final : State) where
+module _ (graph : Text) (sources : Texts) (may : MayBeSources sources) where
   abbrev put_state : List Value → Pairs → State
-  put_state contents done = live_state graph (made done) [] contents
+  put_state contents done = state_of graph (made done) [] [] contents
 
   -- sources
-  sources_read : (done rest : Pairs) → names.entries sources ≡ done ++ rest → (contents : List Value) (batches : List (List Item)) (after : List Value) → Fit batches
-      → AreBatchesOf IsSourceBatch contents rest batches after → ReadsAll (put_state after (done ++ rest)) later final → ReadsAll (put_state contents done) (map spell_batch batches ++ later) final
-  sources_read done [] whole contents [] after fit are read =
-      subst (λ (l : Pairs). ReadsAll (put_state contents l) later final) (append-nil done)
-      (subst (λ (l : List Value). ReadsAll (put_state l (done ++ [])) later final) are read)
-  sources_read done [] whole contents (items ∷ batches) after fit are read = absurd are
-  sources_read done (source ∷ rest) whole contents [] after fit are read = absurd are
-  sources_read done (source ∷ rest) whole contents (items ∷ batches) after fit are read =
-      let sorted : T (names.is_sorted by_bytes (done ++ source ∷ rest)) = subst (λ (l : Pairs). T (names.is_sorted by_bytes l)) whole (names.entries_sorted sources) in
+  sources_read : (done rest : Pairs) → names.entries sources ≡ done ++ rest → (contents : List Value) (batches : List (List Item)) (after : List Value)
+      → Fit batches → AreBatchesOf IsSourceBatch contents rest batches after
+      → ReadsAll (put_state contents done) (map spell_batch batches) (put_state after (done ++ rest))
+  sources_read done [] whole contents [] after fit are = λ i. put_state (are i) (append-nil done i)
+  sources_read done [] whole contents (items ∷ batches) after fit are = absurd are
+  sources_read done (source ∷ rest) whole contents [] after fit are = absurd are
+  sources_read done (source ∷ rest) whole contents (items ∷ batches) after fit are =
+      let sorted : T (names.is_sorted by_bytes (done ++ source ∷ rest)) =
+      subst (λ (l : Pairs). T (names.is_sorted by_bytes l)) whole (names.entries_sorted sources) in
       let there = names.get-entries sources source.0 ∙ ap (λ (l : Pairs). names.find by_bytes source.0 l) whole ∙ found_there done source rest sorted in
       let is = may source.0 source.1 there in
       let old : State = put_state contents done in
+      let next : State = put_state (contents_after contents items) (done ++ source ∷ []) in
       let reads = put_reads old source.0 source.1 items is.0 is.1 are.0 in
-      let one = batch_read old items [] (names.insert (made done) source.0 source.1) (Some graph) (put_some contents source.0 source.1 items are.0) (fit_head items batches fit) reads in
-      let more : made (done ++ source ∷ []) ≡ names.insert (made done) source.0 source.1 = names.from_entries_push nat_list_cmp_total exact done source.0 source.1 (not_before done source rest sorted) in
-      let joined : (done ++ source ∷ []) ++ rest ≡ done ++ source ∷ rest = append_assoc done (source ∷ []) rest in (
-        put_state (contents_after contents items) (done ++ source ∷ []),
-        subst (λ (m : Texts). Reads old (spell_batch items) (live_state graph m [] (contents_after contents items))) (sym more) one,
-        sources_read (done ++ source ∷ []) rest (whole ∙ sym joined) (contents_after contents items) batches after (fit_tail items batches fit) are.1
-            (subst (λ (l : Pairs). ReadsAll (put_state after l) later final) (sym joined) read),
+      let one = batch_read old items [] (names.insert (made done) source.0 source.1) (Some graph) none_noted
+      (put_some contents source.0 source.1 items are.0) (fit_head items batches fit) reads in
+      let more : made (done ++ source ∷ []) ≡ names.insert (made done) source.0 source.1 =
+      names.from_entries_push nat_list_cmp_total exact done source.0 source.1 (not_before done source rest sorted) in
+      let joined : (done ++ source ∷ []) ++ rest ≡ done ++ source ∷ rest = append_assoc done (source ∷ []) rest in
+      let others = sources_read (done ++ source ∷ []) rest (whole ∙ sym joined) (contents_after contents items) batches after
+      (fit_tail items batches fit) are.1 in (
+        next,
+        subst (λ (m : Texts). Reads old (spell_batch items) (state_of graph m [] [] (contents_after contents items))) (sym more) one,
+        subst (λ (l : Pairs). ReadsAll next (map spell_batch batches) (put_state after l)) joined others,
       )
 
-pub live_read : (graph : Text) (sources : Texts) (calls : Calls) (batches : List (List Item)) (contents : List Value) → MayBeSources sources → ComeAfter [] calls
-    → Fit batches → AreLive graph sources calls batches contents → ReadsAll nothing (map spell_batch batches) (live_state graph sources calls contents)
-live_read graph sources calls batches contents may come fit live =
-    let first : List Item = graph_batch graph in
-    let fit_all : Fit (first ∷ (live.puts ++ live.keeps)) = subst Fit live.batches_are fit in
-    let fit_rest : Fit (live.puts ++ live.keeps) = fit_tail first (live.puts ++ live.keeps) fit_all in
-    let one = batch_read nothing first [] no_texts (Some graph) (λ e. ends_in_one [] (Graph graph) e) (fit_head first (live.puts ++ live.keeps) fit_all) (graph_reads nothing graph) in
-    let final : State = live_state graph sources calls contents in
-    let kept = calls_read graph sources [] calls come live.between live.keeps contents (fit_right live.puts live.keeps fit_rest) live.called in
-    let put = subst (λ (m : Texts). ReadsAll (live_state graph m [] live.between) (map spell_batch live.keeps) final) (sym (made_whole sources)) kept in
-    let both = sources_read graph sources may (map spell_batch live.keeps) final [] (names.entries sources) refl [] live.puts live.between (fit_left live.puts live.keeps fit_rest) live.sourced put in
-    let rest = subst (λ (l : List (List ℕ)). ReadsAll (live_state graph no_texts [] []) l final) (sym (map-append spell_batch live.puts live.keeps)) both in
-    subst (λ (l : List (List Item)). ReadsAll nothing (map spell_batch l) final) (sym live.batches_are) (live_state graph no_texts [] [], one, rest)
+-- noted one after another, the facts stand as they are
+all_stand : (live : Live) (may : MayLive live) (contents : List Value)
+    → state_of live.graph live.sources live.calls (facts_of live.records) contents ≡ live_state live contents
+all_stand live may contents =
+    λ i. kept_with contents live.calls live.sources (Some live.graph) (record { records = may.once i; all = facts_of live.records })
+
+pub live_read : (live : Live) (batches : List (List Item)) (contents : List Value) → MayLive live → Fit batches → AreLive live batches contents
+    → ReadsAll nothing (map spell_batch batches) (live_state live contents)
+live_read live batches contents may fit are =
+    let first : List Item = graph_batch live.graph in
+    let front : List (List Item) = are.puts ++ are.keeps in
+    let rest : List (List Item) = front ++ are.notes in
+    let fit_all : Fit (first ∷ rest) = subst Fit are.batches_are fit in
+    let fit_rest : Fit rest = fit_tail first rest fit_all in
+    let fit_front : Fit front = fit_left front are.notes fit_rest in
+    let begun : State = state_of live.graph no_texts [] [] [] in
+    let put : State = state_of live.graph live.sources [] [] are.put in
+    let kept : State = state_of live.graph live.sources live.calls [] are.kept in
+    let final : State = live_state live contents in
+    let graph = batch_read nothing first [] no_texts (Some live.graph) none_noted (holds_one [] (Graph live.graph) []) (fit_head first rest fit_all)
+    (graph_reads nothing live.graph) in
+    let sources = sources_read live.graph live.sources may.sources [] (names.entries live.sources) refl [] are.puts are.put
+    (fit_left are.puts are.keeps fit_front) are.sourced in
+    let puts : ReadsAll begun (map spell_batch are.puts) put =
+    subst (λ (m : Texts). ReadsAll begun (map spell_batch are.puts) (state_of live.graph m [] [] are.put)) (made_whole live.sources) sources in
+    let calls : ReadsAll put (map spell_batch are.keeps) kept =
+    calls_read live.graph live.sources [] live.calls may.calls are.put are.keeps are.kept (fit_right are.puts are.keeps fit_front) are.called in
+    let notes : ReadsAll kept (map spell_batch are.notes) final =
+    subst (λ (s : State). ReadsAll kept (map spell_batch are.notes) s) (all_stand live may contents)
+    (records_read live.graph live.sources live.calls [] live.records may.records are.kept are.notes contents
+    (fit_right front are.notes fit_rest) are.noted) in
+    let all : ReadsAll begun (map spell_batch rest) final =
+    batches_read front are.notes begun kept final (batches_read are.puts are.keeps begun put kept puts calls) notes in
+    subst (λ (l : List (List Item)). ReadsAll nothing (map spell_batch l) final) (sym are.batches_are) (begun, graph, all)

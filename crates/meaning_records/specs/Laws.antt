@@ -9,6 +9,7 @@ use Rattle.object_values.specs.declared.calls.Outcome.{Outcome}
 use Rattle.object_values.specs.Texts.{Text, Texts}
 use Rattle.meaning_texts.specs.Classes.{IsName}
 use Rattle.meaning_texts.specs.Limits.{body_limit}
+use Rattle.meaning_texts.specs.Lists.{IsIn}
 use Rattle.meaning_calls.specs.Jobs.{IsWellFormed}
 use Rattle.meaning_calls.specs.Outcomes.{OutcomeFits}
 use Rattle.object_values.specs.declared.items.StoredRecord.{StoredRecord}
@@ -19,7 +20,7 @@ use Rattle.meaning_records.specs.Records.{message, dep, node_record, item}
 use Rattle.meaning_records.specs.Tables.{Calls, IsFactOf, kept_outcome, put_facts}
 use Rattle.meaning_records.specs.Batches.{graph_batch, IsPutBatch, drop_batch, IsCallBatch, facts_of, AreReachedLast, reached_count, IsNotable, IsNotesBatch}
 use Rattle.meaning_records.specs.States.{State, nothing, spell_batch, TakesAll, Reads, ReadsAll}
-use Rattle.meaning_records.specs.Live.{AreLive, IsLiveText, MayBeSources, ComeAfter, live_state}
+use Rattle.meaning_records.specs.Live.{AreLive, IsLiveText, Live, MayLive, live_state}
 use Rattle.meaning_records.specs.Stands.{Stands, StandsNot, gate_behind}
 
 -- What an item is spelled tells the item, and where it ends.
@@ -102,11 +103,14 @@ pub record BatchesRead : Type 0 where
 
 -- Live batches read as what they are of, where each of their items has a spelling and a store can hold it.
 abbrev pub LiveBatchesRead : Type 0
-LiveBatchesRead = (graph : Text) (sources : Texts) (calls : Calls) (batches : List (List Item)) (contents : List Value) → MayBeSources sources
-    → ComeAfter [] calls → All (All item.fits) batches → AreLive graph sources calls batches contents
-    → ReadsAll nothing (map_each spell_batch batches) (live_state graph sources calls contents)
+LiveBatchesRead = (live : Live) (batches : List (List Item)) (contents : List Value) → MayLive live → All (All item.fits) batches
+    → AreLive live batches contents → ReadsAll nothing (map_each spell_batch batches) (live_state live contents)
 
 -- The live batch text has one length.
 abbrev pub LiveTextIsOne : Type 0
-LiveTextIsOne = (graph : Text) (sources : Texts) (calls : Calls) (size other : ℕ) → IsLiveText graph sources calls size → IsLiveText graph sources calls other
-    → other ≡ size
+LiveTextIsOne = (live : Live) (size other : ℕ) → IsLiveText live size → IsLiveText live other → other ≡ size
+
+-- What stands of a node was noted since the last graph.
+abbrev pub LastWereNoted : Type 0
+LastWereNoted = (payloads : List (List ℕ)) (state : State) → ReadsAll nothing payloads state
+    → All (λ fact. IsIn fact state.noted) state.tables.records

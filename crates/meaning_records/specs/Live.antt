@@ -1,8 +1,10 @@
--- The batches of a store that is written anew: one for the graph, one for each source by the bytes of its name, and one for each kept call in the order in
--- which they were kept. Each begins with the contents that it needs and that no batch before it had.
+-- The batches of a store that is written anew: one for the graph, one for each source by the bytes of its name, one for each kept call in the order in which
+-- they were kept, and one for each record of a node in the order in which the nodes were first noted. Each begins with the contents that it needs and that no
+-- batch before it had.
 use Rattle.std.specs.Prelude.{◌≡◌, ⊤, ℕ, ◌+◌, ◌≤◌, List, [], ◌∷◌, ◌++◌, length, Some, IsNone}
-use Rattle.std.specs.List.{flat_map}
+use Rattle.std.specs.List.{All, flat_map}
 use Rattle.std.specs.FinMap as map
+use Rattle.object_values.specs.declared.facts.Fresh.{Fresh}
 use Rattle.object_values.specs.declared.views.Value.{Value}
 use Rattle.object_values.specs.declared.calls.Call.{Call}
 use Rattle.object_values.specs.declared.calls.Outcome.{Outcome}
@@ -13,8 +15,8 @@ use Rattle.meaning_calls.specs.Jobs.{IsWellFormed}
 use Rattle.meaning_calls.specs.Outcomes.{OutcomeFits}
 use Rattle.object_values.specs.declared.items.Item.{Item}
 use Rattle.object_values.specs.declared.items.Item.TheVariants.{Content}
-use Rattle.meaning_records.specs.Tables.{Calls, kept_outcome}
-use Rattle.meaning_records.specs.Batches.{graph_batch, IsPutBatch, IsCallBatch}
+use Rattle.meaning_records.specs.Tables.{Calls, kept_outcome, put_facts}
+use Rattle.meaning_records.specs.Batches.{graph_batch, facts_of, IsPutBatch, IsCallBatch, IsNotable, IsNotesBatch}
 use Rattle.meaning_records.specs.States.{State, spell_batch}
 
 -- the content that an item is
@@ -47,14 +49,31 @@ IsKeptBatch contents kept = IsCallBatch contents kept.0 kept.1
 abbrev pub AreCallBatches : List Value → Calls → List (List Item) → List Value → Type 0
 AreCallBatches = AreBatchesOf IsKeptBatch
 
--- The batches of a rewritten store, and the contents that they have.
-pub record AreLive (graph : Text) (sources : Texts) (calls : Calls) (batches : List (List Item)) (contents : List Value) : Type 0 where
+-- a fact of a node is noted, with what the node comes to at present
+abbrev pub IsRecordBatch : List Value → Fresh → List Item → Type 0
+IsRecordBatch contents fresh = IsNotesBatch contents (fresh ∷ [])
+
+abbrev pub AreRecordBatches : List Value → List Fresh → List (List Item) → List Value → Type 0
+AreRecordBatches = AreBatchesOf IsRecordBatch
+
+-- what a rewritten store has
+pub record Live : Type 0 where
+  pub graph : Text
+  pub sources : Texts
+  pub calls : Calls
+  pub records : List Fresh
+
+-- Its batches, and the contents that they have: after those of the sources, after those of the calls, and after all.
+pub record AreLive (live : Live) (batches : List (List Item)) (contents : List Value) : Type 0 where
   pub puts : List (List Item)
   pub keeps : List (List Item)
-  pub between : List Value
-  pub sourced : AreSourceBatches [] (map.entries sources) puts between
-  pub called : AreCallBatches between calls keeps contents
-  pub batches_are : batches ≡ graph_batch graph ∷ (puts ++ keeps)
+  pub notes : List (List Item)
+  pub put : List Value
+  pub kept : List Value
+  pub sourced : AreSourceBatches [] (map.entries live.sources) puts put
+  pub called : AreCallBatches put live.calls keeps kept
+  pub noted : AreRecordBatches kept live.records notes contents
+  pub batches_are : batches ≡ graph_batch live.graph ∷ (puts ++ keeps ++ notes)
 
 -- ---- their length
 
@@ -64,9 +83,8 @@ batch_text [] = 0
 batch_text (items ∷ batches) = length (spell_batch items) + batch_text batches
 
 -- so long is the live batch text
-abbrev pub IsLiveText : Text → Texts → Calls → ℕ → Type 0
-IsLiveText graph sources calls size =
-    (batches : List (List Item)) × (contents : List Value) × AreLive graph sources calls batches contents × (size ≡ batch_text batches)
+abbrev pub IsLiveText : Live → ℕ → Type 0
+IsLiveText live size = (batches : List (List Item)) × (contents : List Value) × AreLive live batches contents × (size ≡ batch_text batches)
 
 -- ---- what they are read as
 
@@ -85,6 +103,18 @@ abbrev pub ComeAfter : Calls → Calls → Type 0
 ComeAfter before [] = ⊤
 ComeAfter before (kept ∷ calls) = ComesAfter before kept × ComeAfter (before ++ kept ∷ []) calls
 
--- what is kept in a rewritten store
-abbrev pub live_state : Text → Texts → Calls → List Value → State
-live_state graph sources calls contents = record { tables = record { contents = contents; calls = calls; records = [] }; sources = sources; graph = Some graph; noted = [] }
+-- What a rewritten store may have. No node is noted twice: noted one after another, the facts stand as they are.
+pub record MayLive (live : Live) : Type 0 where
+  pub sources : MayBeSources live.sources
+  pub calls : ComeAfter [] live.calls
+  pub records : All IsNotable live.records
+  pub once : put_facts (facts_of live.records) [] ≡ facts_of live.records
+
+-- what is kept in it
+abbrev pub live_state : Live → List Value → State
+live_state live contents = record {
+  tables = record { contents = contents; calls = live.calls; records = facts_of live.records };
+  sources = live.sources;
+  graph = Some live.graph;
+  noted = facts_of live.records;
+}

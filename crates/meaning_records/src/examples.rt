@@ -4,7 +4,7 @@ ghost use Rattle.meaning_records.specs.ItemExamples.{EditsThatRead, EditsThatDoN
 ghost use Rattle.meaning_records.specs.NoteExamples.{NotesThatRead, DepsThatRead, NotesInOrder, NotesThatDoNot};
 ghost use Rattle.meaning_records.specs.BatchExamples.{BatchesOfPuts, BatchesOfCalls};
 ghost use Rattle.meaning_records.specs.NoteBatchExamples.{NotableFacts, BatchesOfNotes, NoBatchesOfNotes};
-ghost use Rattle.meaning_records.specs.LiveExamples.{RewrittenStore};
+ghost use Rattle.meaning_records.specs.LiveExamples.{RewrittenStore, NoRewrittenStore};
 ghost use Rattle.meaning_records.specs.ImageExamples.{WorkedStores, WorkedFaults};
 
 /// An item of each kind, byte for byte.
@@ -112,9 +112,14 @@ pub fn no_batches_of_notes()
     ensures { NoBatchesOfNotes }
 {}
 
-/// What a store that is written anew has in its file: each text once, before its first user.
+/// What a store that is written anew has in its file: each content once, before its first user.
 pub fn rewritten_store()
     ensures { RewrittenStore }
+{}
+
+/// What it doesn't have there.
+pub fn no_rewritten_store()
+    ensures { NoRewrittenStore }
 {}
 
 /// Store files with their sizes, and what they stand for.

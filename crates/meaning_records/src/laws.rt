@@ -1,5 +1,5 @@
 //! Laws of what an image stands for. Each is the contract of a function with an empty body.
-ghost use Rattle.meaning_records.specs.Laws.{ItemsAreOne, ReachedStandLast, NodeRecordsAreOne, ReadsInOneWay, StandsForOne, EachStandsOrNot, GatesFollow, BatchesRead, LiveBatchesRead, LiveTextIsOne};
+ghost use Rattle.meaning_records.specs.Laws.{ItemsAreOne, LastWereNoted, ReachedStandLast, NodeRecordsAreOne, ReadsInOneWay, StandsForOne, EachStandsOrNot, GatesFollow, BatchesRead, LiveBatchesRead, LiveTextIsOne};
 ghost use Rattle.meaning_records.specs.Numbers.{NumbersTellValues};
 
 /// What an item is spelled tells the item, and where it ends.
@@ -50,6 +50,11 @@ pub fn live_batches_read()
 /// The live batch text has one length.
 pub fn live_text_is_one()
     ensures { LiveTextIsOne }
+{}
+
+/// What stands of a node was noted since the last graph.
+pub fn last_were_noted()
+    ensures { LastWereNoted }
 {}
 
 /// The number of a value leads back to it and stays, and of two numbers the values are equal exactly where the numbers are.

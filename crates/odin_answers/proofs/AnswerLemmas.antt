@@ -79,7 +79,7 @@ reply_begun g s kept limit text reply given before now (inr refused) = inr (run_
 module _ {Disk : Type 0} (told : Disk → Telling) where
   same_at : (old new : At Disk) → new ≡ old → IsSame old.store new.store old.disk new.disk
   same_at old new e =
-      subst (λ (z : At Disk). IsSame old.store z.store old.disk z.disk) (sym e) (record { disk_is = refl; store_is = record { journal = refl; tables = refl; sources = refl; graph = refl; epoch = refl } })
+      subst (λ (z : At Disk). IsSame old.store z.store old.disk z.disk) (sym e) (record { disk_is = refl; store_is = record { journal = refl; tables = refl; sources = refl; graph = refl; epoch = refl }; nodes = refl })
 
   pub goes_same : (changes : List Change) (store mid next : Store) (disk between after : Disk) → Performs told changes store mid disk between → IsSame mid next between after → Performs told changes store next disk after
   goes_same changes store mid next disk between after goes same =

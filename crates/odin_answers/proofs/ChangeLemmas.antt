@@ -62,7 +62,7 @@ gone name (Some old) some = refl
 -- ---- edits of a store
 
 same_store : {Disk : Type 0} (store : Store) (disk : Disk) → IsSame store store disk disk
-same_store store disk = record { disk_is = refl; store_is = record { journal = refl; tables = refl; sources = refl; graph = refl; epoch = refl } }
+same_store store disk = record { disk_is = refl; store_is = record { journal = refl; tables = refl; sources = refl; graph = refl; epoch = refl }; nodes = refl }
 
 module _ {Disk : Type 0} (told : Disk → Telling) where
   goes_as : (name : Text) (store next : Store) (disk after : Disk) (changes : List Change) → edit_changes name store.sources.texts next.sources.texts ≡ changes → next.epoch ≡ store.epoch + length changes

@@ -6,7 +6,7 @@ mod timing;
 
 use crate::fault::Fault;
 use crate::store::filling::{GRAPH, disk_for, filled};
-use crate::store::images::tell_images;
+use crate::store::images::{Reading, tell_images};
 use crate::store::timing::timed;
 use crate::words::number_at;
 use odin_real::{FileDisk, NamedFile};
@@ -65,7 +65,8 @@ pub(crate) fn measured(rt: &HostRuntime, words: &[String]) -> Result<(), Fault> 
         "make" => make(rt, path.as_str(), sources, calls),
         "open" => open(rt, path.as_str()),
         "time" => timed(rt, sources, calls),
-        "images" => tell_images(rt, path.as_str()),
+        "images" => tell_images(rt, path.as_str(), Reading::Opened),
+        "rewritten" => tell_images(rt, path.as_str(), Reading::Rewritten),
         _ => Err(Fault::Words),
     }
 }

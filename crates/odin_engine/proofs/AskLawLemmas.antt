@@ -16,7 +16,7 @@ use Rattle.odin_engine.specs.Asking.{IsAnswered, IsAskFault}
 module _ {D : Type 0} (told : D → Telling) (g : Graph) (limit : ℕ) (text : Text) (old new : At D) where
   nothing_kept : ChangesFollow told → new ≡ old → KeepsCalls told old new
   nothing_kept follow same =
-      let here : IsSame old.store old.store old.disk old.disk = record { disk_is = refl; store_is = record { journal = refl; tables = refl; sources = refl; graph = refl; epoch = refl } } in
+      let here : IsSame old.store old.store old.disk old.disk = record { disk_is = refl; store_is = record { journal = refl; tables = refl; sources = refl; graph = refl; epoch = refl }; nodes = refl } in
       subst (KeepsCalls told old) (sym same) (record { given = []; goes = follow.none old.store old.store old.disk old.disk here; epoch = refl })
 
   pub answers_keep : (view : View) → IsAnswered told g limit text old new view → KeepsCalls told old new

@@ -2,7 +2,7 @@
 use Rattle.std.proofs.Common.{◌≡◌, ◌⊎◌, ℕ, ◌+◌, ◌<◌, ◌≤◌, List, length, Bool, true, false, IsTrue, Result, Ok, Err, IsErr, IsErrAnd, IfErr, inl, inr, refl, sym, subst, arith}
 use Rattle.odin_outside.specs.Disk.{Telling, MayLeave, LeavesOnly, IsQuiet}
 use Rattle.odin_outside.specs.Moments.{no_call, then}
-use Rattle.odin_journal.specs.Moments.{Works}
+use Rattle.odin_journal.specs.Moments.{Untouched, Works}
 use Rattle.odin_journal.specs.declared.fault.JournalFault.{JournalFault}
 use Rattle.odin_journal.specs.declared.fault.JournalFault.TheVariants as fault
 use Rattle.odin_store.specs.declared.store.Store.{Store}
@@ -20,6 +20,15 @@ pub untouched_leaves : (graph : List ℕ) (disk : Telling) → ((image : List �
 untouched_leaves graph disk only_now records quiet stored =
     let same : (image : List ℕ) → MayLeave disk image → HasOpening graph records image = λ image left. subst (λ i. HasOpening graph records i) (sym (quiet.only image left)) (inl stored) in
     no_call disk (HasOpening graph records) (λ image left. same image (only_now image quiet.follows left)) same
+
+-- a disk on which nothing is pending, and that no call was made on
+pub untouched_disk : (disk : Telling) → ((image : List ℕ) → IsTrue disk.follows → disk.left_since disk.moment image → MayLeave disk image) → IsQuiet disk
+    → Untouched disk disk
+untouched_disk disk only_now quiet = record {
+  quiet = quiet;
+  same = refl;
+  leaves = no_call disk (λ image. image ≡ disk.seen) (λ image left. quiet.only image (only_now image quiet.follows left)) (λ image left. quiet.only image left);
+}
 
 -- ---- faults
 

@@ -124,7 +124,7 @@ module _ {D : Type 0} (disk : DiskView D) where
         → (furthest : SessionState) × (MayEdit Asked state furthest × (furthest.tree ≡ told'.tree) × StateAtExit disk g text limit first start state furthest (told_with_stop (stop_of e) told'))
     edit_left change Asked next told' fault.Disk due failed later cause tools tree =
         let new = next_state state (change ∷ []) told'.tools told'.tree in
-        let here : IsSame code.store code.store told.disk told.disk = record { disk_is = refl; store_is = record { journal = refl; tables = refl; sources = refl; graph = refl; epoch = refl } } in
+        let here : IsSame code.store code.store told.disk told.disk = record { disk_is = refl; store_is = record { journal = refl; tables = refl; sources = refl; graph = refl; epoch = refl }; nodes = refl } in
         let goes : Performs disk.told [] code.store code.store told.disk told.disk = goes_none disk.told code.store code.store told.disk told.disk here in (
           new,
           (
@@ -138,7 +138,7 @@ module _ {D : Type 0} (disk : DiskView D) where
     edit_left change Asked next told' (fault.NotOurs at) due failed later cause tools tree = absurd failed
     edit_left change Asked next told' (fault.Full at size) due failed later cause tools tree =
         let new = next_state state (change ∷ []) told'.tools told'.tree in
-        let here : IsSame code.store code.store told.disk told'.disk = record { disk_is = failed.1.0.disk_is; store_is = record { journal = refl; tables = refl; sources = refl; graph = refl; epoch = refl } } in
+        let here : IsSame code.store code.store told.disk told'.disk = record { disk_is = failed.1.0.disk_is; store_is = record { journal = refl; tables = refl; sources = refl; graph = refl; epoch = refl }; nodes = refl } in
         let goes : Performs disk.told [] code.store code.store told.disk told'.disk = goes_none disk.told code.store code.store told.disk told'.disk here in (
           new,
           (

@@ -185,7 +185,7 @@ module _ {D : Type 0} (disk : DiskView D) (g : Graph) (text : Text) (limit : ℕ
       → HoldsAll disk.told text first.held (state.changes ++ changes) start.disk now
   holds_all changes store now goes quiet =
       let all = state.changes ++ changes in
-      let same : IsSame store store now now = record { disk_is = refl; store_is = record { journal = refl; tables = refl; sources = refl; graph = refl; epoch = refl } } in
+      let same : IsSame store store now now = record { disk_is = refl; store_is = record { journal = refl; tables = refl; sources = refl; graph = refl; epoch = refl }; nodes = refl } in
       record {
         store = store;
         written = written_on disk.told text state.changes changes start.disk code.store store told.disk now (fits.written quiet) goes;
@@ -218,7 +218,7 @@ module _ {D : Type 0} (disk : DiskView D) (g : Graph) (text : Text) (limit : ℕ
       → IsQuiet (disk.told start.disk) → Lasts (changes ++ change ∷ []) told'
   full_last changes change store told' goes over quiet =
       let now = told'.disk in
-      let same : IsSame store store now now = record { disk_is = refl; store_is = record { journal = refl; tables = refl; sources = refl; graph = refl; epoch = refl } } in
+      let same : IsSame store store now now = record { disk_is = refl; store_is = record { journal = refl; tables = refl; sources = refl; graph = refl; epoch = refl }; nodes = refl } in
       let stops : StopsPerforming disk.told (change ∷ []) store now now = stops_more disk.told [] (change ∷ []) store now now (stops_left disk.told [] store store now now (goes_none disk.told store store now now same)) in
       inr (inr over, lacks_last changes change store now now goes stops quiet)
 
@@ -270,7 +270,7 @@ pub rests : {D : Type 0} (disk : DiskView D) (g : Graph) (text : Text) (limit : 
 rests disk g text limit first start code state told fits =
     let tools : told.tools.faults ≡ state.tools.faults = ap (λ (t : Spawned). t.faults) fits.tools in
     let tree : told.tree.faults ≡ state.tree.faults = ap (λ (t : TreeTold). t.faults) fits.tree in
-    let same : IsSame code.store code.store told.disk told.disk = record { disk_is = refl; store_is = record { journal = refl; tables = refl; sources = refl; graph = refl; epoch = refl } } in
+    let same : IsSame code.store code.store told.disk told.disk = record { disk_is = refl; store_is = record { journal = refl; tables = refl; sources = refl; graph = refl; epoch = refl }; nodes = refl } in
     let goes : Performs disk.told [] code.store code.store told.disk told.disk = goes_none disk.told code.store code.store told.disk told.disk same in
     record {
       tools = fits.tools;

@@ -78,7 +78,7 @@ module _ {Disk : Type 0} (told : Disk → Telling) where
   goes_none store next disk after same = record {
     holds = same_held store next same.store_is;
     grows = untouched_grows store_keeping told disk after store next same.disk_is
-        (λ held rests. same_rests told store next disk disk held (record { disk_is = refl; store_is = same.store_is }) rests);
+        (λ held rests. same_rests told store next disk disk held (record { disk_is = refl; store_is = same.store_is; nodes = same.nodes }) rests);
     batches = λ records graph on. record {
       payloads = [];
       on = on_there (told disk) (told after) next records (records ++ []) graph (ap told same.disk_is) (nothing_behind records) (same_on (told disk) store next records graph same.store_is on);
@@ -256,11 +256,11 @@ module _ {Disk : Type 0} (told : Disk → Telling) where
       → LeavesChange change store (told disk) (told after) → HasEdited told Changes change store next disk after changed
   edited law Changes change store next disk after true where_ leaves =
       let edits = where_.edits refl in
-      record { exact = where_.exact; goes = goes_one law change store next disk after edits.holds edits.adds leaves; same = where_.same; epoch = edits.epoch }
+      record { exact = where_.exact; goes = goes_one law change store next disk after edits.holds edits.adds leaves; same = where_.same; epoch = edits.epoch; nodes = edits.nodes }
   edited law Changes change store next disk after false where_ leaves =
       let same = where_.same refl in
       let epoch = same.store_is.epoch in
-      record { exact = where_.exact; goes = goes_none store next disk after same; same = where_.same; epoch = omega arith }
+      record { exact = where_.exact; goes = goes_none store next disk after same; same = where_.same; epoch = omega arith; nodes = same.nodes }
 
   pub has_failed : (change : Change) (store next : Store) (disk after : Disk) (e : JournalFault) → IsChangeFault (IsBatchOf store.kept.tables.contents change) change store e
       → (e ≢ fault.Disk → IsSame store next disk after) → LeavesChange change store (told disk) (told after) → BeginsOnce (IsBatchOf store.kept.tables.contents change) store (told disk) (told after)

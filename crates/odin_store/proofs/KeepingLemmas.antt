@@ -17,7 +17,7 @@ use Rattle.meaning_records.specs.Laws.{ReadsInOneWay}
 use Rattle.meaning_records.specs.States.{State, nothing, ReadsAll, spell_batch}
 use Rattle.odin_store.specs.declared.store.Store.{Store}
 use Rattle.odin_store.specs.Held.{Held, counts, NotedFit, Change, apply, StandsFor}
-use Rattle.odin_store.specs.OnDisk.{held_in, state_in, IsOn, LeavesChange, Appends, IsUnchanged, IsSame}
+use Rattle.odin_store.specs.OnDisk.{held_in, state_in, IsOn, LeavesChange, Appends, HoldsOn, IsSame}
 use Rattle.odin_store.specs.Opening.{graph_record, IsOpening, OpensStore, HaveOther, HasOpening, LeavesOpening}
 use Rattle.odin_store.specs.Written.{record_keeping}
 use Rattle.odin_store.specs.Keeping.{Rests, store_keeping}
@@ -42,7 +42,7 @@ kept_on items change store next old new holds appends leaves = record {
 }
 
 -- a store that is as it was rests as it did
-abbrev pub same_on : (disk : Telling) (store next : Store) (records : List (List ℕ)) (graph : Option Text) → IsUnchanged store next → IsOn disk store records graph → IsOn disk next records graph
+abbrev pub same_on : (disk : Telling) (store next : Store) (records : List (List ℕ)) (graph : Option Text) → HoldsOn store next → IsOn disk store records graph → IsOn disk next records graph
 same_on disk store next records graph same on = record {
   noted = on.noted;
   rests = subst (λ (j : Journal). RestsOn disk records j) (sym same.journal) on.rests;
@@ -53,12 +53,12 @@ same_on disk store next records graph same on = record {
   fit = subst (λ t. (g : Graph) → GraphText t g → counts t graph ≡ true → All (FactFits g) on.noted) (sym same.graph) on.fit;
 }
 
-pub same_state : (store next : Store) (graph : Option Text) (noted : List Fact) → IsUnchanged store next → state_in next graph noted ≡ state_in store graph noted
+pub same_state : (store next : Store) (graph : Option Text) (noted : List Fact) → HoldsOn store next → state_in next graph noted ≡ state_in store graph noted
 same_state store next graph noted same =
     ap (λ (t : Tables). record { tables = t; sources = next.sources.texts; graph = graph; noted = noted }) same.tables
     ∙ ap (λ (s : Texts). record { tables = store.kept.tables; sources = s; graph = graph; noted = noted }) same.sources
 
-pub same_held : (store next : Store) → IsUnchanged store next → held_in next ≡ held_in store
+pub same_held : (store next : Store) → HoldsOn store next → held_in next ≡ held_in store
 same_held store next same =
     ap (λ (t : Tables). held_with next.graph t next.sources.texts) same.tables
     ∙ ap (held_with next.graph store.kept.tables) same.sources ∙ ap (λ t. held_with t store.kept.tables store.sources.texts) same.graph
@@ -74,7 +74,7 @@ left_durably disk store held rests image left = subst (λ h. StandsFor h image) 
 -- ---- an opened store
 
 -- a store that is as it was opened is opened so
-pub opens_same : (graph : Text) (old new : Telling) (store next : Store) → IsUnchanged store next → OpensStore graph old new store → OpensStore graph old new next
+pub opens_same : (graph : Text) (old new : Telling) (store next : Store) → HoldsOn store next → OpensStore graph old new store → OpensStore graph old new next
 opens_same graph old new store next same opens = record {
   records = opens.records;
   state = opens.state;

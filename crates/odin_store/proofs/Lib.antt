@@ -11,6 +11,7 @@ mod ReadyLemmas
 mod RecordLemmas
 mod RecordTrails
 mod SourceLemmas
+mod StampLemmas
 mod StoreLemmas
 mod WrittenLemmas
 pub mod Lemmas

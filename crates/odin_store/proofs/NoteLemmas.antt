@@ -1,6 +1,6 @@
 -- What a batch of records of nodes makes of a store.
 use Rattle.std.specs.Prelude.{⊤}
-use Rattle.std.proofs.Common.{◌≡◌, ◌≢◌, List, [], ◌∷◌, ◌++◌, map, All, Option, Some, IsSome, refl, sym, ap, subst, ◌∙◌, append_assoc}
+use Rattle.std.proofs.Common.{◌≡◌, ◌≢◌, ℕ, List, [], ◌∷◌, ◌++◌, map, All, Option, Some, IsSome, refl, sym, ap, subst, ◌∙◌, append_assoc}
 use Rattle.object_values.specs.declared.facts.Fact.{Fact}
 use Rattle.object_values.specs.declared.facts.Fresh.{Fresh}
 use Rattle.object_values.specs.declared.views.Value.{Value}
@@ -115,9 +115,10 @@ module _ (law : ReadsInOneWay) (batches : BatchesRead) (fresh : List Fresh) (som
 
 -- ---- in memory
 
-pub in_memory : (fresh : List Fresh) (old mid new : kept.Holding) (batch : kept.Batch) (next : Tables) → kept.HasNotes mid fresh batch → kept.Commits mid batch next → new.tables ≡ next
-    → new.records.records ≡ put_records batch.notes mid.records.records → mid.records.records ≡ old.records.records → HasInMemory fresh old new
-in_memory fresh old mid new batch next has commits tables records same =
+pub in_memory : (epoch : ℕ) (fresh : List Fresh) (old mid new : kept.Holding) (batch : kept.Batch) (next : Tables)
+    → kept.HasNotes epoch mid fresh batch → kept.Commits mid batch next → new.tables ≡ next
+    → new.records.records ≡ put_records batch.notes mid.records.records → mid.records.records ≡ old.records.records → HasInMemory epoch fresh old new
+in_memory epoch fresh old mid new batch next has commits tables records same =
     let contents = ap (λ (t : Tables). t.contents) (tables ∙ commits.next_is) in
     record {
       noted = batch.notes;

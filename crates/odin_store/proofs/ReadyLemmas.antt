@@ -24,7 +24,7 @@ use Rattle.meaning_graph.specs.TextLaws.{GraphIsOne}
 use Rattle.kept_tables.specs.Holdings as kept
 use Rattle.odin_store.specs.declared.store.Store.{Store}
 use Rattle.odin_store.specs.Held.{Change, puts, drops, keeps, notes, apply, IsDue}
-use Rattle.odin_store.specs.OnDisk.{held_in, LeavesChange, AddsBatch, IsChangeFault, IsUnchanged, BeginsOnce}
+use Rattle.odin_store.specs.OnDisk.{held_in, LeavesChange, AddsBatch, IsChangeFault, HoldsOn, BeginsOnce}
 use Rattle.odin_store.specs.Changes.{PutBatch, DropBatch, CallBatch, NotesBatch, StoreMayNote}
 use Rattle.odin_store.proofs.StoreLemmas.{Makes, held_with, leaves_change, appends, change_fault}
 use Rattle.odin_store.proofs.BatchLemmas.{put_makes, drop_makes, call_makes}
@@ -40,7 +40,7 @@ pub record Ready (IsBatch : List Item → Type 0) (change : Change) (store : Sto
   pub spelled : payload ≡ spell_batch items
   pub makes : Makes store.graph change store.kept.tables store.sources.texts (spell_batch items) next edited noted
 
-pub put_ready : (name text : Text) (store mid : Store) (prepared : kept.Batch) → IsUnchanged store mid → (some : kept.PreparesSome (PutBatch store name text) mid.kept prepared)
+pub put_ready : (name text : Text) (store mid : Store) (prepared : kept.Batch) → HoldsOn store mid → (some : kept.PreparesSome (PutBatch store name text) mid.kept prepared)
     → Ready (PutBatch store name text) (puts name text) store prepared.payload some.2.next (map.insert store.sources.texts name text)
 put_ready name text store mid prepared same some = record {
   noted = [];

@@ -12,7 +12,8 @@ use Rattle.validator.specs.Fitting.{FactFits}
 use Rattle.odin_store.specs.declared.loading.Loading.{Loading}
 use Rattle.odin_store.specs.Held.{counts}
 use Rattle.odin_store.specs.Offsets.{AreGates, FirstUnfit, Stops}
-use Rattle.odin_store.specs.Loading.{Past, no_past, IsPast, IsForSame, TellsUnfit, Loads, LoadsNot, HasRead, RecordBreaksAt, RecordUnfitAt, records_size, state_of}
+use Rattle.odin_store.specs.Loading.{Past, no_past, IsPast, IsForSame, TellsUnfit, Loads, LoadsNot, HasRead, RecordBreaksAt, RecordUnfitAt, StaysUnchecked, records_size, state_of}
+use Rattle.odin_store.specs.Stamps.{AreUnchecked}
 use Rattle.odin_store.proofs.LoadLemmas.{reads_on}
 use Rattle.odin_store.proofs.WrittenLemmas.{gate-append}
 
@@ -48,10 +49,11 @@ pub record HasLoaded (g : Graph) (text : Text) (start : ℕ) (records left : Lis
   pub is : IsPast now past
   pub gates : AreGates start before [] past.gates
   pub gate : now.gate ≡ gate_behind start before
+  pub unchecked : AreUnchecked now.kept.records.records
 
 pub none_loaded : (g : Graph) (text : Text) (start : ℕ) (records left : List (List ℕ)) (now : Loading) → left ≡ reverse records → now.graph.now ≡ g → now.text.now ≡ text
-    → state_of now no_past ≡ nothing → IsPast now no_past → now.gate ≡ start → HasLoaded g text start records left now
-none_loaded g text start records left now turned graph_is text_is new is gate = record {
+    → state_of now no_past ≡ nothing → IsPast now no_past → now.gate ≡ start → AreUnchecked now.kept.records.records → HasLoaded g text start records left now
+none_loaded g text start records left now turned graph_is text_is new is gate unchecked = record {
   before = [];
   whole = sym (ap reverse turned ∙ reverse-reverse records);
   graph_is = graph_is;
@@ -61,14 +63,15 @@ none_loaded g text start records left now turned graph_is text_is new is gate = 
   is = is;
   gates = refl;
   gate = gate;
+  unchecked = unchecked;
 }
 
 last_first : (rest : List (List ℕ)) (payload : List ℕ) → reverse (rest ++ payload ∷ []) ≡ payload ∷ reverse rest
 last_first rest payload = reverse-append rest (payload ∷ [])
 
 module _ (g : Graph) (text : Text) (start : ℕ) (records left : List (List ℕ)) (now : Loading) (loaded : HasLoaded g text start records left now) where
-  pub more_loaded : (rest : List (List ℕ)) (payload : List ℕ) (next : Loading) → left ≡ rest ++ payload ∷ [] → IsForSame now next → next.gate ≡ gate_after now.gate payload → Loads payload now next → HasLoaded g text start records rest next
-  more_loaded rest payload next is same gate loads =
+  pub more_loaded : (rest : List (List ℕ)) (payload : List ℕ) (next : Loading) → left ≡ rest ++ payload ∷ [] → IsForSame now next → next.gate ≡ gate_after now.gate payload → Loads payload now next → StaysUnchecked now next → HasLoaded g text start records rest next
+  more_loaded rest payload next is same gate loads stays =
       let on = loads loaded.past loaded.is in
       record {
         before = loaded.before ++ payload ∷ [];
@@ -80,6 +83,7 @@ module _ (g : Graph) (text : Text) (start : ℕ) (records left : List (List ℕ)
         is = on.is;
         gates = gates_on start loaded.before (payload ∷ []) [] loaded.past.gates on.next.gates loaded.gates (subst (λ n. AreGates n (payload ∷ []) loaded.past.gates on.next.gates) loaded.gate on.gates);
         gate = gate ∙ ap (λ n. gate_after n payload) loaded.gate ∙ sym (gate-append start loaded.before (payload ∷ []));
+        unchecked = stays loaded.unchecked;
       }
 
   -- what counts fits
@@ -94,6 +98,7 @@ module _ (g : Graph) (text : Text) (start : ℕ) (records left : List (List ℕ)
     read = subst (λ l. ReadsAll nothing l (state_of now loaded.past)) (sym (loaded.whole ∙ ap (λ l. loaded.before ++ reverse l) none ∙ nothing_behind loaded.before)) loaded.read;
     is = loaded.is;
     fit = fits told;
+    unchecked = loaded.unchecked;
   }
 
   -- the first that doesn't fit

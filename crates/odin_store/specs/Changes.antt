@@ -1,5 +1,5 @@
 -- What each call that changes a store does.
-use Rattle.std.specs.Prelude.{◌≡◌, ◌≢◌, ◌↔◌, ℕ, ◌+◌, ◌≤◌, All, List, [], length, map as map_each, None, Some, IsSome, Bool, IsTrue, IsFalse}
+use Rattle.std.specs.Prelude.{◌≡◌, ◌≢◌, ◌↔◌, ℕ, ◌+◌, ◌≤◌, All, List, [], length, map as map_each, Some, IsSome, Bool, IsTrue, IsFalse}
 use Rattle.std.specs.FinMap as map
 use Rattle.odin_outside.specs.Disk.{Telling}
 use Rattle.object_values.specs.declared.calls.Call.{Call}
@@ -19,7 +19,7 @@ use Rattle.kept_tables.specs.Holdings as kept
 use Rattle.odin_journal.specs.Rest.{IsReady}
 use Rattle.odin_store.specs.declared.store.Store.{Store}
 use Rattle.odin_store.specs.Held.{Change, puts, drops, keeps, notes, apply}
-use Rattle.odin_store.specs.OnDisk.{held_in, StoreIsOpen, AddsBatch, IsSame}
+use Rattle.odin_store.specs.OnDisk.{held_in, StoreIsOpen, AddsBatch, IsSame, KeepsNodes}
 
 -- ---- the batches
 
@@ -42,10 +42,12 @@ pub record MayPut (store : Store) (size : ℕ) (text : Text) : Type 0 where
   pub ready : StoreIsOpen store size
   pub short : length text ≤ body_limit
 
--- A change of the sources: the batch is added, what is held changes so, and the epoch rises.
+-- A change of the sources: the batch is added, what is held changes so, and the epoch rises. What is in memory of nodes stays, so none of it counts as
+-- checked at the new epoch.
 pub record Edits (IsBatch : List Item → Type 0) (change : Change) (store next : Store) (old new : Telling) : Type 0 where
   pub holds : held_in next ≡ apply change (held_in store)
   pub epoch : next.epoch ≡ store.epoch + 1
+  pub nodes : KeepsNodes store next
   pub adds : AddsBatch IsBatch store next old new
 
 -- The sources change exactly where this is so; else nothing is written, and all is as it was.
@@ -69,10 +71,11 @@ pub record StoreMayKeep (store : Store) (size : ℕ) (call : Call) (outcome : Ou
   pub journal : IsReady store.journal size
   pub new : kept.MayKeep store.kept.tables call outcome
 
--- it is kept, and the sources with their epoch are as they were
+-- it is kept, and the sources with their epoch are as they were, and what is in memory of nodes
 pub record KeepsCall (call : Call) (outcome : Outcome) (store next : Store) (old new : Telling) : Type 0 where
   pub holds : held_in next ≡ apply (keeps call outcome) (held_in store)
   pub epoch : next.epoch ≡ store.epoch
+  pub nodes : KeepsNodes store next
   pub adds : AddsBatch (CallBatch store call outcome) store next old new
 
 -- ---- records of nodes
@@ -85,19 +88,19 @@ pub record StoreMayNote (store : Store) (size : ℕ) (fresh : List Fresh) : Type
   pub spelled : GraphText store.graph graph
   pub fit : All (FactFits graph) (facts_of fresh)
 
--- In memory it is noted too, with what each node comes to at present. None was checked yet.
-pub record HasInMemory (fresh : List Fresh) (old new : kept.Holding) : Type 0 where
+-- In memory it is noted too, with what each node comes to at present, which counts as checked at this epoch.
+pub record HasInMemory (epoch : ℕ) (fresh : List Fresh) (old new : kept.Holding) : Type 0 where
   pub noted : List NodeRecord
   pub records : new.records.records ≡ put_records noted old.records.records
   pub say : said.facts_of new.tables.contents noted ≡ facts_of fresh
   pub present : map_each (λ (r : NodeRecord). r.present) noted ≡ map_each (λ (f : Fresh). f.present) fresh
-  pub checked : All (λ (r : NodeRecord). r.checked ≡ None) noted
+  pub checked : All (λ (r : NodeRecord). r.checked ≡ Some epoch) noted
 
 -- it is noted by one batch, and the sources with their epoch are as they were
 pub record NotesNodes (fresh : List Fresh) (store next : Store) (old new : Telling) : Type 0 where
   pub holds : held_in next ≡ apply (notes (facts_of fresh)) (held_in store)
   pub epoch : next.epoch ≡ store.epoch
-  pub memory : HasInMemory fresh store.kept next.kept
+  pub memory : HasInMemory store.epoch fresh store.kept next.kept
   pub adds : AddsBatch (NotesBatch store fresh) store next old new
 
 -- where there is something; else all is as it was

@@ -5,17 +5,23 @@ use Rattle.object_values.specs.declared.views.Value.{Value}
 use Rattle.object_values.specs.declared.items.Item.{Item}
 use Rattle.object_values.specs.Texts.{Text}
 use Rattle.meaning_texts.specs.Limits.{graph_limit}
+use Rattle.meaning_records.specs.Batches.{facts_of}
 use Rattle.meaning_records.specs.Images.{Stored}
-use Rattle.meaning_records.specs.Live.{AreLive, IsLiveText, live_state}
+use Rattle.meaning_records.specs.Live.{AreLive, IsLiveText, Live, live_state}
 use Rattle.meaning_records.specs.States.{nothing, ReadsAll, spell_batch}
+use Rattle.kept_tables.specs.Holdings.{Holding, fresh_in}
+use Rattle.kept_tables.specs.Live.{epochs_of, live_in}
 use Rattle.odin_journal.specs.Moments.{Works}
 use Rattle.odin_journal.specs.Rewrites.{copy_size, FitsNowhere, Replaces}
 use Rattle.odin_journal.specs.Trails as trails
 use Rattle.odin_store.specs.declared.store.Store.{Store}
-use Rattle.odin_store.specs.Held.{Held}
 use Rattle.odin_store.specs.Keeping.{store_keeping}
 use Rattle.odin_store.specs.OnDisk.{held_in, IsOn}
 use Rattle.odin_store.specs.Opening.{LeavesHeld, LeavesOpening, OpensQuietStore}
+
+-- what is live of a store
+abbrev pub live_of : Store → Live
+live_of store = live_in store.graph store.sources.texts store.kept
 
 -- ---- which store is wasteful
 
@@ -23,38 +29,43 @@ use Rattle.odin_store.specs.Opening.{LeavesHeld, LeavesOpening, OpensQuietStore}
 abbrev pub wasteful_size : ℕ
 wasteful_size = 1048576
 
--- A store is wasteful where its records end at this or later, and twice the live batch text is less than where they end. One in which something is
--- noted of nodes isn't: the live batches have no record of a node.
+-- A store is wasteful where its records end at this or later, and twice the live batch text is less than where they end.
 pub record IsWasteful (store : Store) : Type 0 where
-  pub none : store.kept.tables.records ≡ []
   pub long : wasteful_size ≤ store.journal.end
   pub text : ℕ
-  pub live : IsLiveText store.graph store.sources.texts store.kept.tables.calls text
+  pub live : IsLiveText (live_of store) text
   pub little : 2 * text < store.journal.end
 
 -- ---- what it is then
 
--- These records are the live batches of what is held for this graph, with these contents, and read as that: nothing is noted of nodes.
-pub record AreLiveRecords (graph : Text) (held : Held) (contents : List Value) (records : List (List ℕ)) : Type 0 where
-  pub none : held.records ≡ []
+-- These records are the live batches of what a store holds, with these contents, and read as that.
+pub record AreLiveRecords (store : Store) (contents : List Value) (records : List (List ℕ)) : Type 0 where
   pub batches : List (List Item)
-  pub live : AreLive graph held.sources held.calls batches contents
+  pub live : AreLive (live_of store) batches contents
+  pub noted : facts_of (live_of store).records ≡ store.kept.tables.records
   pub spelled : records ≡ map spell_batch batches
-  pub read : ReadsAll nothing records (live_state graph held.sources held.calls contents)
+  pub read : ReadsAll nothing records (live_state (live_of store) contents)
 
 -- such records of what a store holds
 pub record LiveRecords (store : Store) : Type 0 where
   pub records : List (List ℕ)
   pub contents : List Value
-  pub are : AreLiveRecords store.graph (held_in store) contents records
+  pub are : AreLiveRecords store contents records
 
--- The records of a store were replaced by its live ones, and their contents are its own. What it holds, its graph and its epoch stay.
+-- In memory all stays that no file has: what each node comes to at present, and when that was checked.
+pub record StaysInMemory (old new : Holding) : Type 0 where
+  pub fresh : fresh_in new ≡ fresh_in old
+  pub checked : epochs_of new.records.records ≡ epochs_of old.records.records
+
+-- The records of a store were replaced by its live ones, and their contents are its own. What it holds, its graph and its epoch stay, and so does
+-- what it has of nodes in memory.
 pub record Compacts (store next : Store) (old new : Telling) : Type 0 where
   pub records : List (List ℕ)
-  pub live : AreLiveRecords store.graph (held_in store) next.kept.tables.contents records
+  pub live : AreLiveRecords store next.kept.tables.contents records
   pub holds : held_in next ≡ held_in store
   pub graph : next.graph ≡ store.graph
   pub epoch : next.epoch ≡ store.epoch
+  pub memory : StaysInMemory store.kept next.kept
   pub replaces : Replaces store.journal next.journal records old new
   pub on : (before : List (List ℕ)) (graph : Option Text) → IsOn old store before graph → IsOn new next records graph
   pub works : Works (copy_size records + 9) 8 old new
@@ -71,15 +82,15 @@ CompactsWhere store next old new false = HasNoRoomForCopy store
 
 -- ---- at any moment
 
--- the image has live records of what is held for this graph
-abbrev pub HasLive : Text → Held → List ℕ → Type 0
-HasLive graph held image = (records : List (List ℕ)) × (contents : List Value) × AreLiveRecords graph held contents records × Stored records image
+-- the image has live records of what the store holds
+abbrev pub HasLive : Store → List ℕ → Type 0
+HasLive store image = (records : List (List ℕ)) × (contents : List Value) × AreLiveRecords store contents records × Stored records image
 
 -- a crash leaves the records on which the store rested, or its live ones
 abbrev pub LeavesCompacted : Store → Telling → Telling → Type 0
 LeavesCompacted store old new =
     (records : List (List ℕ)) (graph : Option Text) → IsOn old store records graph
-    → LeavesOnly old new (λ image. Stored records image ⊎ HasLive store.graph (held_in store) image)
+    → LeavesOnly old new (λ image. Stored records image ⊎ HasLive store image)
 
 -- the work is none, or that of one copy of the live records at most
 abbrev pub WorksForCopy : Store → Telling → Telling → Type 0

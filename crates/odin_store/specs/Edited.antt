@@ -8,16 +8,18 @@ use Rattle.odin_journal.specs.declared.fault.JournalFault.TheVariants as fault
 use Rattle.object_values.specs.declared.items.Item.{Item}
 use Rattle.odin_store.specs.declared.store.Store.{Store}
 use Rattle.odin_store.specs.Held.{Change, puts, drops, IsDue}
-use Rattle.odin_store.specs.OnDisk.{held_in, IsChangeFault, IsOver, IsSame, LeavesChange, BeginsOnce}
+use Rattle.odin_store.specs.OnDisk.{held_in, IsChangeFault, IsOver, IsSame, KeepsNodes, LeavesChange, BeginsOnce}
 use Rattle.odin_store.specs.Changes.{DropsSource, PutsText}
 use Rattle.odin_store.specs.Going.{IsBatchOf, Performs, StopsPerforming}
 
--- The sources change exactly where this is so, by the one change, and the epoch rises by one; else nothing is written, and all is as it was.
+-- The sources change exactly where this is so, by the one change, and the epoch rises by one; else nothing is written, and all is as it was. What is
+-- in memory of nodes stays.
 pub record HasEdited {Disk : Type 0} (told : Disk → Telling) (Changes : Type 0) (change : Change) (store next : Store) (disk after : Disk) (changed : Bool) : Type 0 where
   pub exact : IsTrue changed ↔ Changes
   pub goes : Performs told (cond changed (change ∷ []) []) store next disk after
   pub same : IsFalse changed → IsSame store next disk after
   pub epoch : next.epoch ≡ store.epoch + cond changed 1 0
+  pub nodes : KeepsNodes store next
 
 -- a put changes the sources where the source has another text, or isn't there
 abbrev pub HasPut : {Disk : Type 0} → (Disk → Telling) → Text → Text → Store → Store → Disk → Disk → Bool → Type 0

@@ -1,6 +1,7 @@
 pub mod Written
 pub mod Held
 pub mod Offsets
+pub mod Stamps
 pub mod OnDisk
 pub mod Changes
 pub mod Loading

@@ -20,6 +20,7 @@ use Rattle.odin_store.specs.declared.loading.Ground.TheVariants as ground_is
 use Rattle.odin_store.specs.declared.loading.Loading.{Loading}
 use Rattle.odin_store.specs.Held.{counts}
 use Rattle.odin_store.specs.Offsets.{gates_with, AreGates, FirstUnfit, Stops}
+use Rattle.odin_store.specs.Stamps.{AreUnchecked}
 
 -- ---- what was loaded so far
 
@@ -62,6 +63,10 @@ abbrev pub TellsGraph : Text → Option Text → Bool → Type 0
 TellsGraph text last true = last ≡ Some text
 TellsGraph text last false = last ≢ Some text
 
+-- so it is told of what was loaded
+abbrev pub TellsLast : Loading → Bool → Type 0
+TellsLast loading has = (past : Past) → IsPast loading past → TellsGraph loading.text.now past.last has
+
 -- the gate of the first record that counts and doesn't fit, if there is one
 abbrev pub TellsUnfit : Loading → Option ℕ → Past → Type 0
 TellsUnfit loading None past = counts loading.text.now past.last ≡ true → All (FactFits loading.graph.now) past.noted
@@ -96,6 +101,12 @@ abbrev pub Refuses : Loaded → Loading → Type 0
 Refuses (given.Dropped name) old = map.get old.sources.texts name ≡ None
 Refuses (given.Noted fact) old = old.ground ≡ ground_is.Nothing
 Refuses other old = ⊥
+
+-- ---- what is in memory
+
+-- where none of the records counts as checked, none does after
+abbrev pub StaysUnchecked : Loading → Loading → Type 0
+StaysUnchecked old new = AreUnchecked old.kept.records.records → AreUnchecked new.kept.records.records
 
 -- ---- items
 
@@ -147,7 +158,7 @@ abbrev pub records_size : List (List ℕ) → ℕ
 records_size [] = 0
 records_size (payload ∷ payloads) = 5 + length payload + records_size payloads
 
--- The records were loaded, and what counts fits.
+-- The records were loaded, and what counts fits. None counts as checked.
 pub record HasRead (g : Graph) (text : Text) (records : List (List ℕ)) (loading : Loading) : Type 0 where
   pub graph_is : loading.graph.now ≡ g
   pub text_is : loading.text.now ≡ text
@@ -155,6 +166,7 @@ pub record HasRead (g : Graph) (text : Text) (records : List (List ℕ)) (loadin
   pub read : ReadsAll nothing records (state_of loading past)
   pub is : IsPast loading past
   pub fit : counts text past.last ≡ true → All (FactFits g) past.noted
+  pub unchecked : AreUnchecked loading.kept.records.records
 
 -- The first of these records, whose first gate is this, that doesn't read, and its gate. What counts before it fits.
 pub record RecordBreaksAt (g : Graph) (text : Text) (records : List (List ℕ)) (start at : ℕ) : Type 0 where

@@ -75,18 +75,23 @@ pub record StoreAfter {T : Type 0} (store : Store) (size : ℕ) (result : Result
   pub ready : OnOk result (IsReady store.journal size)
   pub spent : IsErrOf result fault.Disk → IsTrue store.journal.spent
 
--- a store is as it was, but for what it has reserved
-pub record IsUnchanged (store next : Store) : Type 0 where
+-- what the store has of nodes in memory is as it was: what each comes to at present, and when that was checked
+abbrev pub KeepsNodes : Store → Store → Type 0
+KeepsNodes store next = next.kept.records.records ≡ store.kept.records.records
+
+-- a store is as it was, but for what it has reserved and what it has of nodes in memory
+pub record HoldsOn (store next : Store) : Type 0 where
   pub journal : next.journal ≡ store.journal
   pub tables : next.kept.tables ≡ store.kept.tables
   pub sources : next.sources.texts ≡ store.sources.texts
   pub graph : next.graph ≡ store.graph
   pub epoch : next.epoch ≡ store.epoch
 
--- and so is its disk
+-- A store is as it was, but for what it has reserved, and so is its disk.
 pub record IsSame {D : Type 0} (store next : Store) (disk after : D) : Type 0 where
   pub disk_is : after ≡ disk
-  pub store_is : IsUnchanged store next
+  pub store_is : HoldsOn store next
+  pub nodes : KeepsNodes store next
 
 -- no batch, or one such
 abbrev pub IsOneOf : (List Item → Type 0) → List (List ℕ) → Type 0

@@ -19,6 +19,7 @@ use Rattle.odin_store.specs.Written.{written_in, with_records, StoreIsMade}
 use Rattle.odin_store.specs.Held.{held_of, NotedFit, StandsFor}
 use Rattle.odin_store.specs.Offsets.{IsNotFor}
 use Rattle.odin_store.specs.OnDisk.{IsOn, held_in}
+use Rattle.odin_store.specs.Stamps.{AreUnchecked}
 
 -- A store may be opened for a graph with its text, which isn't too long.
 pub record MayOpenStore (graph : Graph) (text : Text) : Type 0 where
@@ -61,10 +62,11 @@ OpensQuietStore graph old new store = IsQuiet old → OpensStore graph old new s
 abbrev pub IsAtFirst : Store → Type 0
 IsAtFirst store = store.epoch ≡ 0
 
--- An opened store keeps the text of its graph, and no edit was counted yet.
+-- An opened store keeps the text of its graph, and no edit was counted yet. Nothing that it has of nodes counts as checked.
 pub record IsOpened (graph : Text) (store : Store) : Type 0 where
   pub graph_is : store.graph ≡ graph
   pub first : IsAtFirst store
+  pub unchecked : AreUnchecked store.kept.records.records
 
 -- the store has no record but that of its graph, if that
 abbrev pub EndsFirst : Text → Store → Type 0

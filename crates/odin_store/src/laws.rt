@@ -7,7 +7,9 @@ ghost use Rattle.odin_store.specs.Compacting.{CompactionsKeep};
 ghost use Rattle.odin_store.specs.Offsets.{OneOffset};
 
 use meaning_graph::text_laws::graph_is_one;
-use meaning_records::laws::{each_stands_or_not, reads_in_one_way, stands_for_one};
+use meaning_records::laws::{
+    each_stands_or_not, last_were_noted, reads_in_one_way, stands_for_one,
+};
 use odin_outside::Disk;
 use validator::laws::fitting_is_tested;
 
@@ -59,6 +61,7 @@ pub fn edits_are_told<D: Disk>()
 pub fn compactions_keep<D: Disk>()
     ensures { CompactionsKeep D.told }
 {
+    last_were_noted();
     reads_in_one_way();
     stands_for_one();
 }

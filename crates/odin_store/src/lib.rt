@@ -1,4 +1,4 @@
-//! The store: sources and kept calls in one file, which reopens after any crash to what was acknowledged.
+//! The store: sources, kept calls and records of nodes in one file, which reopens after any crash to what was acknowledged.
 #![tactic(auto)]
 
 mod compacting;

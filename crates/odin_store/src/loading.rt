@@ -1,9 +1,10 @@
 // The loading of a store's records, one after another, for the graph of a text.
-ghost use Rattle.std.specs.Prelude.{◌≡◌, ◌-◌, IfOk, IfErr, IfSome, IfNone, IsTrue, IsFalse, Some, false, true};
+ghost use Rattle.std.specs.Prelude.{◌≡◌, ◌-◌, IfOk, IfErr, IfSome, IfNone, IsTrue, IsFalse, OnSome, Some, false, true};
 ghost use Rattle.meaning_records.specs.Images.{gate_after};
 ghost use Rattle.meaning_records.specs.States.{nothing};
 ghost use Rattle.odin_store.specs.declared.loading.Ground.TheVariants as ground_is;
-ghost use Rattle.odin_store.specs.Loading.{HasRead, IsForSame, IsGround, IsPast, IsRecordLoadFault, Loads, LoadsNot, NotesFact, Past, Refuses, TakesIn, TakesItem, TakesNoItem, TellsGraph, TellsUnfit, after_graph, no_past, records_size, state_of};
+ghost use Rattle.odin_store.specs.Loading.{HasRead, IsForSame, IsGround, IsPast, IsRecordLoadFault, Loads, LoadsNot, NotesFact, Past, Refuses, StaysUnchecked, TakesIn, TakesItem, TakesNoItem, TellsLast, TellsUnfit, after_graph, no_past, records_size, state_of};
+ghost use Rattle.odin_store.specs.Stamps.{AreUnchecked};
 
 use kept_tables::{Kept, Loaded};
 use meaning_records::laws::reads_in_one_way;
@@ -57,6 +58,7 @@ impl<'a> Loading<'a> {
         ensures graph { result.graph.now ≡ graph.now }
         ensures text { result.text.now ≡ text.now }
         ensures gate { result.gate ≡ gate }
+        ensures unchecked { AreUnchecked result.kept.records.records }
     {
         Loading {
             graph,
@@ -70,7 +72,7 @@ impl<'a> Loading<'a> {
 
     /// Whether the last graph is that of the text.
     pub fn has_graph(&self) -> bool
-        ensures { (past : Past) → IsPast self.now past → TellsGraph self.now.text.now past.last result }
+        ensures { TellsLast self.now result }
     {
         matches!(self.ground, Ground::This(_))
     }
@@ -111,6 +113,8 @@ impl<'a> Loading<'a> {
         ensures some { IfOk result (λ read. IfSome read (λ end.
             TakesItem payload.now at end self.old self.new)) }
         ensures none { IfOk result (λ read. IfNone read (TakesNoItem payload.now at self.old)) }
+        ensures unchecked { IfOk result (λ read.
+            OnSome read (StaysUnchecked self.old self.new)) }
         ensures same { IsForSame self.old self.new }
         ensures gate { self.new.gate ≡ self.old.gate }
     {
@@ -177,6 +181,8 @@ impl<'a> Loading<'a> {
         ensures same { IsForSame self.old self.new }
         ensures gate { IfOk result (λ reads. IsTrue reads
             → self.new.gate ≡ gate_after self.old.gate payload.now) }
+        ensures unchecked { IfOk result (λ reads. IsTrue reads
+            → StaysUnchecked self.old self.new) }
     {
         reads_in_one_way();
         let mut at = 0;

@@ -1,5 +1,5 @@
 // The store, over a disk that it is lent call by call.
-ghost use Rattle.std.specs.Prelude.{◌≡◌, ◌≢◌, ◌+◌, ◌≤◌, length, Some, IsSome, IfOk, IfErr, OnOk, IsTrue, IsFalse};
+ghost use Rattle.std.specs.Prelude.{◌≡◌, ◌≢◌, ◌+◌, ◌≤◌, [], length, Some, IsSome, IfOk, IfErr, OnOk, IsTrue, IsFalse};
 ghost use Rattle.std.specs.FinMap as map;
 ghost use Rattle.odin_journal.specs.Faults.{JournalFaultIsCounted, IsRefused};
 ghost use Rattle.odin_journal.specs.Moments.{Works};
@@ -9,9 +9,10 @@ ghost use Rattle.meaning_texts.specs.Limits.{body_limit, graph_limit};
 ghost use Rattle.meaning_derive.specs.Given.{AreSources};
 ghost use Rattle.meaning_records.specs.Batches.{drop_batch, facts_of, graph_batch};
 ghost use Rattle.meaning_records.specs.States.{spell_batch};
-ghost use Rattle.kept_records.specs.Records.{record_of, renew_record};
-ghost use Rattle.kept_tables.specs.Holdings.{PreparesSome};
+ghost use Rattle.kept_records.specs.Records.{renew_record};
+ghost use Rattle.kept_tables.specs.Holdings.{MayRenew, PreparesSome};
 ghost use Rattle.odin_store.specs.Held.{puts, drops, keeps, notes};
+ghost use Rattle.odin_store.specs.Stamps.{AreStampedBy, AreUnchecked};
 
 use crate::loading::{Loading, first_gate, load_records};
 use kept_tables::{Kept, Prepared};
@@ -24,8 +25,9 @@ use odin_outside::Disk;
 use std::alloc::Global;
 use type_graph::Graph;
 
-/// Sources and kept calls, for a graph, over a disk that is lent call by call: the one of the opening, as the last call left it. After a fault of the
-/// disk it is spent. Whatever its file had, the sources are names with texts of at most 16,777,216 bytes.
+/// Sources, kept calls and records of nodes, for a graph, over a disk that is lent call by call: the one of the opening, as the last call left it. After
+/// a fault of the disk it is spent. Whatever its file had, the sources are names with texts of at most 16,777,216 bytes, and no record of a node counts
+/// as checked after the epoch.
 pub struct Store {
     pub(crate) journal: Journal,
     pub(crate) kept: Kept,
@@ -33,6 +35,7 @@ pub struct Store {
     pub(crate) graph: Text,
     epoch: u64,
     ghost are: { AreSources sources.texts },
+    ghost stamped: { AreStampedBy epoch kept.records.records },
 }
 
 impl Drop for Store {
@@ -52,7 +55,7 @@ impl Drop for Store {
 }
 
 impl Store {
-    ghost use Rattle.odin_store.specs.OnDisk.{BeginsOnce, IsChangeFault, StoreAfter, StoreIsOpen, IsSame, IsUnchanged, LeavesChange};
+    ghost use Rattle.odin_store.specs.OnDisk.{BeginsOnce, HoldsOn, IsChangeFault, StoreAfter, StoreIsOpen, IsSame, KeepsNodes, LeavesChange};
     ghost use Rattle.odin_store.specs.Opening.{graph_record, IsAtStart, IsOpened, IsStoreOpenFault, LeavesOpening, MayOpenStore, OpensQuietStore};
     ghost use Rattle.odin_store.specs.Changes.{CallBatch, DropBatch, DropsSource, KeepsCall, NotesBatch, NotesWhereSome, StoreMayKeep, StoreMayNote, MayPut, PutBatch, PutsText};
 
@@ -95,7 +98,8 @@ impl Store {
 
     // What was loaded, over a journal, with no edit counted.
     fn of(journal: Journal, loading: Loading<'_>, graph: Text) -> Store
-        requires { AreSources loading.sources.texts }
+        requires sources { AreSources loading.sources.texts }
+        requires unchecked { AreUnchecked loading.kept.records.records }
         ensures journal { result.journal ≡ journal }
         ensures kept { result.kept ≡ loading.entry.kept }
         ensures sources { result.sources ≡ loading.entry.sources }
@@ -203,7 +207,8 @@ impl Store {
         Ok(())
     }
 
-    /// Notes facts of nodes, one after another, with what each node comes to at present. Nothing is written where there are none.
+    /// Notes facts of nodes, one after another, with what each node comes to at present, which counts as checked at this epoch. Nothing is written where
+    /// there are none.
     pub fn keep_nodes<D: Disk>(
         &mut self,
         alloc: Global,
@@ -229,7 +234,7 @@ impl Store {
         if fresh.is_empty() {
             return Ok(());
         }
-        let prepared = self.kept.prepare_nodes(alloc, fresh)?;
+        let prepared = self.kept.prepare_nodes(alloc, fresh, self.epoch)?;
         self.journal.append_framed(disk, prepared.framed())?;
         self.kept.commit(prepared);
         Ok(())
@@ -237,10 +242,10 @@ impl Store {
 
     /// Says what a node comes to at present, checked at this epoch. No file has it, so what is held stays, and it takes no memory.
     pub fn renew(&mut self, node: &Node, present: Renewed)
-        requires { IsSome (record_of node.now self.old.kept.records.records) }
+        requires { MayRenew self.old.kept node.now present }
         ensures renewed { self.new.kept.records.records
             ≡ renew_record node.now present self.old.epoch self.old.kept.records.records }
-        ensures same { IsUnchanged self.old self.new }
+        ensures same { HoldsOn self.old self.new }
     {
         self.kept.renew(node, present, self.epoch);
     }
@@ -263,6 +268,11 @@ impl Store {
     {
         &self.kept
     }
+
+    /// No record of a node counts as checked after the epoch, so none does at the epoch of an edit until it is renewed or noted.
+    pub fn stamps_fit(&self)
+        ensures { AreStampedBy self.now.epoch self.now.kept.records.records }
+    {}
 
     /// Where the closed gate stands that ends the records.
     pub fn end(&self) -> u64
@@ -325,8 +335,10 @@ impl Store {
         ensures text { IfOk result (λ made. made.1 ≡ text.now) }
         ensures batch { IfOk result (λ made.
             PreparesSome (PutBatch self.old name.now text.now) self.new.kept made.2) }
+        ensures notes { IfOk result (λ made. made.2.notes ≡ []) }
         ensures room { OnOk result (1 ≤ self.new.sources.spare) }
-        ensures same { IsUnchanged self.old self.new }
+        ensures same { HoldsOn self.old self.new }
+        ensures nodes { KeepsNodes self.old self.new }
     {
         self.sources.reserve()?;
         let source = Bytes::from_slice(alloc, name.as_slice())?;

@@ -40,8 +40,13 @@ fn choice_of(turn: u64) -> u64 {
     }
 }
 
-// What a stop leaves, where there was that call.
-fn crashed(alloc: Global, disk: &CrashDisk, moment: usize, turn: u64) -> Result<Bytes, Memory> {
+/// What a stop leaves, where there was that call.
+pub(super) fn crashed(
+    alloc: Global,
+    disk: &CrashDisk,
+    moment: usize,
+    turn: u64,
+) -> Result<Bytes, Memory> {
     if moment > disk.calls() || moment > 1_000 {
         return Err(Memory);
     }

@@ -30,6 +30,21 @@ pub(super) fn add_record(image: &mut Bytes, payload: &[u8]) -> Result<(), Memory
     image.extend_from_slice(payload)
 }
 
+/// Adds records with open gates, and the closed gate after them.
+pub(super) fn put_records(image: &mut Bytes, payloads: &[&[u8]]) -> Result<(), Memory> {
+    for payload in payloads {
+        add_record(image, payload)?;
+    }
+    image.push(0)
+}
+
+/// A store with these records alone, up to its closed gate.
+pub(super) fn file_of(alloc: Global, payloads: &[&[u8]]) -> Result<Bytes, Memory> {
+    let mut image = Bytes::from_slice(alloc, FRONT)?;
+    put_records(&mut image, payloads)?;
+    Ok(image)
+}
+
 /// The front of a store and the record of the graph.
 pub(super) fn begun(alloc: Global) -> Result<Bytes, Memory> {
     let mut image = Bytes::from_slice(alloc, FRONT)?;
@@ -40,10 +55,7 @@ pub(super) fn begun(alloc: Global) -> Result<Bytes, Memory> {
 /// A store with the record of the graph and these records, up to its closed gate.
 pub(super) fn image_of(alloc: Global, payloads: &[&[u8]]) -> Result<Bytes, Memory> {
     let mut image = begun(alloc)?;
-    for payload in payloads {
-        add_record(&mut image, payload)?;
-    }
-    image.push(0)?;
+    put_records(&mut image, payloads)?;
     Ok(image)
 }
 

@@ -1,4 +1,5 @@
 // Changes of a store, where they may be made.
+ghost use Rattle.std.specs.Prelude.{◌≡◌, OnOk};
 ghost use Rattle.odin_journal.specs.Rest.{IsReady};
 ghost use Rattle.odin_store.specs.OnDisk.{StoreAfter};
 
@@ -30,6 +31,7 @@ pub fn put_named<D: Disk>(
 ) -> Result<bool, StoreFault>
     requires { IsReady store.old.journal (D.size_of disk.old) }
     ensures left { StoreAfter store.new (D.size_of disk.new) result }
+    ensures graph { OnOk result (store.new.graph ≡ store.old.graph) }
 {
     if text.len() > BODY_LIMIT || store.epoch() > EDITS {
         return Err(StoreFault::Memory);

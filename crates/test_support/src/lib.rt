@@ -1,5 +1,5 @@
-//! What tests and measures stand on: results in a table and what a node comes to over them, what a store holds, sample graphs, and words, trees, inputs
-//! and outputs in memory.
+//! What tests and measures stand on: results in a table and what a node comes to over them, what a store holds and how it is changed, sample graphs, and
+//! words, trees, inputs and outputs in memory.
 #![tactic(auto)]
 
 mod body;
@@ -8,7 +8,9 @@ mod changes;
 mod fault;
 mod graphs;
 mod memory;
+mod notable;
 mod notes;
+mod noting;
 mod opening;
 mod reading;
 mod seeing;
@@ -22,7 +24,9 @@ pub use changes::{drop_named, keep, put_named};
 pub use fault::Fault;
 pub use graphs::{C_UNITS, CC_ONLY, KITS, graph_text};
 pub use memory::{only, owned, sink, source, tree_of};
-pub use notes::noted;
+pub use notable::are_notable;
+pub use notes::{contents, noted, record_bytes};
+pub use noting::{note, renew};
 pub use opening::open_store;
 pub use reading::{graph_of, node_in};
 pub use seeing::all_seen;

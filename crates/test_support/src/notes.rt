@@ -1,9 +1,9 @@
-// The records of nodes that a store has, as bytes.
+// The records of nodes that are kept, and the contents that they name, as bytes.
 
 use crate::views::{add_bytes, add_count, add_params, add_status};
-use object_values::{Bytes, Dep, Memory, Message, Node, NodeRecord, Role, Seen, Step};
+use kept_tables::Kept;
+use object_values::{Bytes, Dep, Memory, Message, Node, NodeRecord, Part, Role, Seen, Step, Value};
 use odin_bytes::{put_u8, put_u32};
-use odin_store::Store;
 use std::alloc::Global;
 
 fn add_number(out: &mut Bytes, number: Option<u64>) -> Result<(), Memory> {
@@ -87,15 +87,66 @@ fn add_record(out: &mut Bytes, noted: &NodeRecord) -> Result<(), Memory> {
     put_u32(out, noted.present.height)
 }
 
-/// The records of nodes, in the order in which their nodes were first noted: in the form of records of docs/engineer/store-format.md.
-pub fn noted(alloc: Global, store: &Store) -> Result<Bytes, Memory> {
+/// A record of a node, in the form of records of docs/engineer/store-format.md.
+pub fn record_bytes(alloc: Global, noted: &NodeRecord) -> Result<Bytes, Memory> {
     let mut out = Bytes::new(alloc);
-    add_count(&mut out, store.kept().records() as usize)?;
-    for place in 0..store.kept().records() {
-        let Some(record) = store.kept().record_at(place) else {
+    add_record(&mut out, noted)?;
+    Ok(out)
+}
+
+/// The records of nodes, in the order in which their nodes were first noted: in the same form.
+pub fn noted(alloc: Global, kept: &Kept) -> Result<Bytes, Memory> {
+    let mut out = Bytes::new(alloc);
+    add_count(&mut out, kept.records() as usize)?;
+    for place in 0..kept.records() {
+        let Some(record) = kept.record_at(place) else {
             return Err(Memory);
         };
         add_record(&mut out, record)?;
+    }
+    Ok(out)
+}
+
+fn add_nodes(out: &mut Bytes, nodes: &[Node]) -> Result<(), Memory> {
+    add_count(out, nodes.len())?;
+    for node in nodes {
+        add_node(out, node)?;
+    }
+    Ok(())
+}
+
+fn add_named(out: &mut Bytes, parts: &[Part]) -> Result<(), Memory> {
+    add_count(out, parts.len())?;
+    for Part { name, body } in parts {
+        add_bytes(out, name.as_slice())?;
+        add_bytes(out, body.as_slice())?;
+    }
+    Ok(())
+}
+
+fn add_value(out: &mut Bytes, value: &Value) -> Result<(), Memory> {
+    match value {
+        Value::Simple(text) => {
+            put_u8(out, 1)?;
+            add_bytes(out, text.as_slice())
+        }
+        Value::List(nodes) => {
+            put_u8(out, 2)?;
+            add_nodes(out, nodes.as_slice())
+        }
+        Value::Compound(parts) => {
+            put_u8(out, 3)?;
+            add_named(out, parts.as_slice())
+        }
+    }
+}
+
+/// The contents by their numbers, in the same form.
+pub fn contents(alloc: Global, kept: &Kept) -> Result<Bytes, Memory> {
+    let mut out = Bytes::new(alloc);
+    add_count(&mut out, kept.contents() as usize)?;
+    for number in 0..kept.contents() {
+        add_value(&mut out, &kept.value(alloc, number)?)?;
     }
     Ok(out)
 }

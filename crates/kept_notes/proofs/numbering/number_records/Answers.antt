@@ -1,4 +1,5 @@
 use Rattle.std.proofs.Common.{◌<◌, ◌∙◌, length, arith}
+use Rattle.std.specs.Prelude.{Some}
 use Rattle.object_values.specs.declared.facts.Fresh.{Fresh}
 use Rattle.meaning_records.specs.Batches.{fact_values}
 use Rattle.kept_contents.specs.Added.{contents_with}
@@ -17,7 +18,7 @@ loop-node-preserved c =
       records_step fresh c.loop-node.node-index here within c.node-item.is c.loop-node.table.contents c.number_record.new.table.contents (fact_values here.fact)
           c.loop-node.added c.number_record.new.added c.loop-node.stored c.push-in-loop-node.new.self c.in_ok-record.record made.contents made.adds
           before.0 made.stored c.in_ok-push-2.ensures.ok,
-      notes_step fresh c.loop-node.node-index here within c.node-item.is (contents_with c.loop-node.table.contents c.loop-node.added)
+      notes_step fresh c.loop-node.node-index here within c.node-item.is (Some c.args.epoch) (contents_with c.loop-node.table.contents c.loop-node.added)
           c.loop-node.stored c.push-in-loop-node.new.self
           c.loop-node.notes.items c.push.new.self.items c.in_ok-record.record c.in_ok-noted_record.field-0 before.0 before.1
           c.in_ok-noted_record.ensures c.in_ok-push-2.ensures.ok c.in_ok-push.ensures.items,

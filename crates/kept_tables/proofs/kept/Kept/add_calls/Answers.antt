@@ -3,9 +3,12 @@ use Rattle.std.specs.Prelude.{Some, None, slice_get}
 use Rattle.object_values.specs.declared.calls.Call.{Call}
 use Rattle.object_values.specs.declared.calls.Outcome.{Outcome}
 use Rattle.meaning_records.specs.Live.{IsKeptBatch}
-use Rattle.kept_tables.proofs.LiveLemmas.{adds_next, none_within}
+use Rattle.kept_tables.proofs.LiveLemmas.{adds_next, adds_none, none_within}
 use Rattle.kept_tables.proofs.kept.Kept.add_calls.Goals as goal
 use Rattle.kept_tables.proofs.kept.Kept.add_calls.Goals.{in-Some+in_ok-add_call, in_default}
+
+pub loop-place-init : goal.loop-place-init
+loop-place-init c = adds_none IsKeptBatch c.args.live.now c.requires
 
 pub loop-place-preserved : goal.loop-place-preserved
 loop-place-preserved c = elim c.match-branch-2.branch [

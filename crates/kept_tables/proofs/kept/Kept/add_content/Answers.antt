@@ -7,7 +7,7 @@ use Rattle.kept_tables.proofs.kept.Kept.add_content.Goals as goal
 pub invariant_of-self : goal.invariant_of-self
 invariant_of-self c = (
   kept_texts c.self.inside.heads c.self.inside.contents.texts c.add.new.self.texts c.self.inside.calls c.add.ensures.texts c.self.invariant.0,
-  added_or_same c.self.inside.contents.contents c.add.new.self.contents c.self.inside.records.records c.args.value c.add.result
+  added_or_same c.self.inside.contents.contents c.add.new.self.contents c.self.inside.records.records c.args.value c.add.result c.requires
       c.add.ensures.contents c.add.ensures.same c.self.invariant.1,
 )
 

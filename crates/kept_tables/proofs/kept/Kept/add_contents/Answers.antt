@@ -8,7 +8,7 @@ pub invariant_of-self : goal.invariant_of-self
 invariant_of-self c = (
   rw c.push_all.ensures.texts c.self.invariant.0,
   records_more c.self.inside.contents.contents c.push_all.new.self.contents c.self.inside.records.records
-      (values_of_contents (reverse c.args.added.items)) c.push_all.ensures.contents c.self.invariant.1,
+      (values_of_contents (reverse c.args.added.items)) c.push_all.ensures.contents c.requires.short c.self.invariant.1,
 )
 
 pub returns-clause-tables : goal.returns-clause-tables

@@ -1,10 +1,9 @@
-use Rattle.std.proofs.Common.{◌≡◌, refl, rules, ap, List, length, reverse, subst, sym, ◌∙◌}
+use Rattle.std.proofs.Common.{◌≡◌, refl, rules, ap, reverse, subst, sym, ◌∙◌}
 use Rattle.std.specs.List.{All}
 use Rattle.std.proofs.lemmas.List.{reverse-reverse}
-use Rattle.object_values.specs.declared.records.NodeRecord.{NodeRecord}
 use Rattle.kept_contents.specs.Added.{contents_with}
-use Rattle.kept_notes.specs.Facts.{IsRecordIn}
-use Rattle.kept_tables.specs.Holdings.{Holding}
+use Rattle.kept_notes.specs.Facts.{IsNotedIn}
+use Rattle.kept_tables.specs.Holdings.{AreNotedIn, Holding}
 use Rattle.kept_tables.proofs.HeldLemmas.{kept_alike}
 use Rattle.kept_tables.proofs.RecordLemmas.{records_as}
 use Rattle.kept_tables.proofs.kept.Kept.prepare.Goals as goal
@@ -25,24 +24,22 @@ invariant_of-self-in_err-reserve-2 c = (
 
 pub invariant_of-self-in_err-reserve-3 : goal.invariant_of-self-in_err-reserve-3
 invariant_of-self-in_err-reserve-3 c =
-    let count = length c.reserve.new.self.contents in
     let within = records_as c.self.inside.contents.contents c.reserve.new.self.contents c.self.inside.records.records c.reserve.ensures.contents
     c.self.invariant.1 in (
       rw c.reserve.ensures.texts
           (kept_alike c.self.inside.heads c.self.inside.contents.texts c.self.inside.calls c.reserve-2.new.self c.reserve-2.ensures.entries
           c.reserve-2.ensures.marks c.self.invariant.0),
-      subst (λ (l : List NodeRecord). All (IsRecordIn count) l) (sym c.reserve-3.ensures.same) within,
+      subst (AreNotedIn c.reserve.new.self.contents) (sym c.reserve-3.ensures.same) within,
     )
 
 pub invariant_of-self-2 : goal.invariant_of-self-2
 invariant_of-self-2 c =
-    let count = length c.reserve.new.self.contents in
     let within = records_as c.self.inside.contents.contents c.reserve.new.self.contents c.self.inside.records.records c.reserve.ensures.contents
     c.self.invariant.1 in (
       rw c.reserve.ensures.texts
           (kept_alike c.self.inside.heads c.self.inside.contents.texts c.self.inside.calls c.reserve-2.new.self c.reserve-2.ensures.entries
           c.reserve-2.ensures.marks c.self.invariant.0),
-      subst (λ (l : List NodeRecord). All (IsRecordIn count) l) (sym c.reserve-3.ensures.same) within,
+      subst (AreNotedIn c.reserve.new.self.contents) (sym c.reserve-3.ensures.same) within,
     )
 
 pub returns-clause-made : goal.returns-clause-made
@@ -50,8 +47,8 @@ returns-clause-made c =
     let notes = c.args.notes.items in
     let added_is : reverse c.reverse.new.self.items ≡ c.args.added = ap reverse (c.reverse.ensures.items ∙ ap reverse c.into_vec-added.ensures)
     ∙ reverse-reverse c.args.added in
-    let named : All (IsRecordIn (length (contents_with c.self.inside.contents.contents c.args.added))) notes
-    = subst (λ (h : Holding). All (IsRecordIn (length (contents_with h.tables.contents c.args.added))) notes) (sym c.self.view_is) c.requires.notes in
+    let noted : All (IsNotedIn (contents_with c.self.inside.contents.contents c.args.added)) notes
+    = subst (λ (h : Holding). All (IsNotedIn (contents_with h.tables.contents c.args.added)) notes) (sym c.self.view_is) c.requires.notes in
     record {
       fit = search rules;
       spelled = search rules;
@@ -63,7 +60,8 @@ returns-clause-made c =
         room = search rules;
         few = search rules;
         call = search rules;
-        notes = rw (added_is, c.reserve.ensures.contents) named;
+        short = rw added_is c.requires.short;
+        notes = rw (added_is, c.reserve.ensures.contents) noted;
         note_room = search rules;
         next_is = refl;
       };

@@ -1,5 +1,5 @@
 use Rattle.kept_notes.specs.Loaded.{MayBeLoaded}
-use Rattle.kept_notes.proofs.Lemmas.{loadable_within}
+use Rattle.kept_notes.proofs.Lemmas.{loadable_within, loaded_noted}
 use Rattle.kept_tables.proofs.LoadLemmas.{noted}
 use Rattle.kept_tables.proofs.kept.Kept.take_node.Goals as goal
 
@@ -11,7 +11,7 @@ fact_of-requires c =
 pub note-requires : goal.note-requires
 note-requires c =
     let may : MayBeLoaded c.args.self.now.tables.contents c.args.stored = c.may_note.ensures.0 c.if-not-may_note.false in
-    rw c.in_ok-noted.ensures (loadable_within c.args.self.now.tables.contents c.args.stored may)
+    rw c.in_ok-noted.ensures (loaded_noted c.args.self.now.tables.contents c.contents_are_short.ensures c.reached_stand_last.ensures c.args.stored may)
 
 pub returns-clause-some : goal.returns-clause-some
 returns-clause-some c =

@@ -5,9 +5,12 @@ use Rattle.std.proofs.lemmas.List.{take_all}
 use Rattle.object_values.specs.Texts.{Text}
 use Rattle.meaning_records.specs.Live.{IsSourceBatch}
 use Rattle.kept_tables.specs.Batching.{AddsLiveBatches}
-use Rattle.kept_tables.proofs.LiveLemmas.{adds_next, none_within}
+use Rattle.kept_tables.proofs.LiveLemmas.{adds_next, adds_none, none_within}
 use Rattle.kept_tables.proofs.live_batches.LiveBatches.add_sources.Goals as goal
 use Rattle.kept_tables.proofs.live_batches.LiveBatches.add_sources.Goals.{in-Some+in_ok-add_source, in_default}
+
+pub loop-place-init : goal.loop-place-init
+loop-place-init c = adds_none IsSourceBatch c.args.self.now c.requires
 
 pub loop-place-preserved : goal.loop-place-preserved
 loop-place-preserved c = elim c.match-at.branch [

@@ -8,7 +8,7 @@ use Rattle.kept_tables.proofs.SizeLemmas.{counts_none, kept_counted}
 use Rattle.kept_tables.proofs.live_sizes.LiveSize.add_calls.Goals as goal
 
 pub loop-kept-init : goal.loop-kept-init
-loop-kept-init c = counts_none IsKeptBatch c.args.self.now
+loop-kept-init c = counts_none IsKeptBatch c.args.self.now c.requires
 
 pub loop-kept-preserved : goal.loop-kept-preserved
 loop-kept-preserved c =

@@ -30,4 +30,4 @@ returns c =
     subst (λ (l : List (Text × Text)). CountsLiveBatches IsSourceBatch l c.args.self.now c.loop-place.self) (take_all c.loop-place.place entries all) c.loop-place.invariant
 
 pub loop-place-init : goal.loop-place-init
-loop-place-init c = counts_none IsSourceBatch c.args.self.now
+loop-place-init c = counts_none IsSourceBatch c.args.self.now c.requires

@@ -1,13 +1,19 @@
 use Rattle.std.proofs.Common.{◌≡◌, ◌+◌, length, inl, refl, ◌∙◌}
 use Rattle.odin_journal.specs.Moments.{Works}
+use Rattle.odin_journal.specs.declared.fault.JournalFault.TheVariants as fault
 use Rattle.odin_store.specs.Opening.{graph_record}
 use Rattle.odin_store.proofs.Lemmas.{first_not_wasteful}
 use Rattle.odin_engine.specs.Opened.{LeavesEngineOpening, IsEngineOpenFault}
-use Rattle.odin_engine.proofs.EngineLemmas.{untouched_leaves, handed, store_fault, settled_leaves, settled_opens, settled_fault, settled_epoch, stays_opened, stays_works, fails_works}
+use Rattle.odin_engine.proofs.EngineLemmas.{untouched_leaves, untouched_disk, handed, store_fault, settled_leaves, settled_opens, settled_fault, settled_epoch, stays_opened, stays_works, fails_works}
 use Rattle.odin_engine.proofs.engine.Engine.open.Goals as goal
 
 pub returns-in_err-plans-clause-any_moment : goal.returns-in_err-plans-clause-any_moment
 returns-in_err-plans-clause-any_moment g c = LeavesEngineOpening.opening (untouched_leaves c.args.text.now (g.D.Disk.told c.args.disk.now) (λ image follows left. g.met.D.Disk.only_now c.args.disk.now image follows left))
+
+pub returns-in_err-plans-clause-refused : goal.returns-in_err-plans-clause-refused
+returns-in_err-plans-clause-refused g c =
+    handed (IsEngineOpenFault g.D.Disk.told c.args.text.now c.args.disk.now c.args.disk.now) c.from_residual.result fault.Memory c.from_residual.ensures.1
+    (inl (λ quiet. inl (untouched_disk (g.D.Disk.told c.args.disk.now) (λ image follows left. g.met.D.Disk.only_now c.args.disk.now image follows left) quiet)))
 
 pub returns-in_err-store-clause-any_moment : goal.returns-in_err-store-clause-any_moment
 returns-in_err-store-clause-any_moment g c = LeavesEngineOpening.opening c.open.ensures.any_moment

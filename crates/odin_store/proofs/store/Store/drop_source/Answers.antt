@@ -1,10 +1,11 @@
-use Rattle.std.proofs.Common.{◌≡◌, IsTrue, refl, sym, ap, subst, ◌∙◌, arith, rules}
+use Rattle.std.proofs.Common.{◌≡◌, ◌+◌, IsTrue, refl, sym, ap, subst, ◌∙◌, arith, rules}
 use Rattle.std.specs.FinMap as map
 use Rattle.meaning_derive.specs.Given.{AreSources}
 use Rattle.odin_store.specs.Held.{drops}
 use Rattle.odin_store.specs.Changes.{DropBatch}
 use Rattle.odin_store.proofs.SourceLemmas.{drop_stays}
 use Rattle.odin_store.specs.OnDisk.{IsChangeFault}
+use Rattle.odin_store.proofs.StampLemmas.{later_stamped}
 use Rattle.odin_store.proofs.StoreLemmas.{handed}
 use Rattle.odin_store.proofs.ReadyLemmas.{drop_ready, ready_leaves, ready_begins, ready_fault, ready_adds, ready_holds}
 use Rattle.odin_store.proofs.store.Store.drop_source.Goals as goal
@@ -56,6 +57,7 @@ returns-clause-drops g c =
       edits = λ yes. record {
         holds = ready_holds (DropBatch name) (drops name) store payload c.as_slice.result.now store.kept.tables edited ready c.as_slice.ensures store.kept.tables c.remove.new.self.texts refl removed;
         epoch = omega arith;
+        nodes = refl;
         adds =
             ready_adds (DropBatch name) (drops name) store payload c.as_slice.result.now store.kept.tables edited ready c.as_slice.ensures store.journal _
             (g.D.Disk.told c.args.disk.now) (g.D.Disk.told c.append.new.disk) refl refl c.in_ok-append.ensures.added c.in_ok-append.ensures.state.rests c.in_ok-append.ensures.full.room c.append.ensures.any_moment c.in_ok-append.ensures.works refl removed;
@@ -67,7 +69,11 @@ pub invariant_of-self-2 : goal.invariant_of-self-2
 invariant_of-self-2 g c =
     let texts = c.args.self.now.sources.texts in
     let removed : c.remove.new.self.texts ≡ map.remove texts c.args.name.now = c.remove.ensures.removed ∙ ap (map.remove texts) c.as_slice-2.ensures.bytes in
-    record { are = subst AreSources (sym removed) (drop_stays texts c.args.name.now c.args.self.now.are) }
+    let store = c.args.self.now in
+    record {
+      are = subst AreSources (sym removed) (drop_stays texts c.args.name.now store.are);
+      stamped = later_stamped store.epoch (store.epoch + 1) store.kept.records.records (omega arith) store.stamped;
+    }
 
 pub returns-in_err-append-clause-begins : goal.returns-in_err-append-clause-begins
 returns-in_err-append-clause-begins g c =

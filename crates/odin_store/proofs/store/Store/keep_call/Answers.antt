@@ -1,7 +1,8 @@
-use Rattle.std.proofs.Common.{◌≡◌, refl}
+use Rattle.std.proofs.Common.{◌≡◌, refl, ◌∙◌}
 use Rattle.odin_store.specs.Held.{keeps}
 use Rattle.odin_store.specs.Changes.{CallBatch}
 use Rattle.odin_store.proofs.StoreLemmas.{leaves_same}
+use Rattle.odin_store.proofs.StampLemmas.{nothing_noted}
 use Rattle.odin_store.proofs.ReadyLemmas.{begins_none, call_ready, ready_leaves, ready_begins, ready_adds, ready_holds}
 use Rattle.odin_store.proofs.store.Store.keep_call.Goals as goal
 
@@ -43,6 +44,7 @@ returns-clause-keeps g c =
     record {
       holds = ready_holds (CallBatch store call outcome) (keeps call outcome) store prepared.payload c.framed.result.now batch.2.next store.sources.texts ready c.framed.ensures c.commit.new.self.tables store.sources.texts tables refl;
       epoch = refl;
+      nodes = nothing_noted prepared.notes c.prepare_call.new.self.records.records c.commit.new.self.records.records c.commit.ensures.records c.in_ok-prepared.ensures.notes ∙ c.prepare_call.ensures.records;
       adds =
           ready_adds (CallBatch store call outcome) (keeps call outcome) store prepared.payload c.framed.result.now batch.2.next store.sources.texts ready c.framed.ensures store.journal _
           (g.D.Disk.told c.args.disk.now) (g.D.Disk.told c.append_framed.new.disk) refl refl c.in_ok-append_framed.ensures.added c.in_ok-append_framed.ensures.state.rests c.in_ok-append_framed.ensures.full.room c.append_framed.ensures.any_moment c.in_ok-append_framed.ensures.works tables refl;

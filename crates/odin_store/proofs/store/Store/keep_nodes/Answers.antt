@@ -1,9 +1,11 @@
-use Rattle.std.proofs.Common.{◌≡◌, ◌≢◌, [], refl, arith}
+use Rattle.std.proofs.Common.{◌≡◌, ◌≢◌, [], refl, ap, ◌∙◌, arith}
+use Rattle.kept_records.specs.Records.{put_records}
 use Rattle.std.proofs.lemmas.Grind.{common_steps}
 use Rattle.std.proofs.lemmas.Bool.Decides.{nat_tests}
 use Rattle.meaning_records.specs.Batches.{facts_of}
 use Rattle.odin_store.specs.Held.{notes}
 use Rattle.odin_store.specs.Changes.{NotesBatch}
+use Rattle.odin_store.proofs.StampLemmas.{noted_stamped}
 use Rattle.odin_store.proofs.StoreLemmas.{leaves_same}
 use Rattle.odin_store.proofs.NoteLemmas.{in_memory}
 use Rattle.odin_store.proofs.ReadyLemmas.{begins_none, notes_ready, ready_leaves, ready_begins, ready_adds, ready_holds}
@@ -49,7 +51,7 @@ returns-clause-notes g c =
       some = λ there. record {
         holds = ready_holds (NotesBatch store fresh) (notes (facts_of fresh)) store prepared.payload c.framed.result.now batch.2.next store.sources.texts ready c.framed.ensures c.commit.new.self.tables store.sources.texts tables refl;
         epoch = refl;
-        memory = in_memory fresh store.kept mid c.commit.new.self prepared batch.2.next c.in_ok-prepared.ensures.notes batch.2.commits tables c.commit.ensures.records c.prepare_nodes.ensures.records;
+        memory = in_memory store.epoch fresh store.kept mid c.commit.new.self prepared batch.2.next c.in_ok-prepared.ensures.notes batch.2.commits tables c.commit.ensures.records c.prepare_nodes.ensures.records;
         adds =
             ready_adds (NotesBatch store fresh) (notes (facts_of fresh)) store prepared.payload c.framed.result.now batch.2.next store.sources.texts ready c.framed.ensures store.journal _
             (g.D.Disk.told c.args.disk.now) (g.D.Disk.told c.append_framed.new.disk) refl refl c.in_ok-append_framed.ensures.added c.in_ok-append_framed.ensures.state.rests c.in_ok-append_framed.ensures.full.room c.append_framed.ensures.any_moment c.in_ok-append_framed.ensures.works tables refl;
@@ -90,3 +92,11 @@ returns-then-is_empty-clause-any_moment g c =
 pub returns-then-is_empty-clause-begins : goal.returns-then-is_empty-clause-begins
 returns-then-is_empty-clause-begins g c =
     begins_none (NotesBatch c.args.self.now c.args.fresh.now) c.args.self.now (g.D.Disk.told c.args.disk.now) (λ image follows left. g.met.D.Disk.only_now c.args.disk.now image follows left)
+
+pub invariant_of-self-2 : goal.invariant_of-self-2
+invariant_of-self-2 g c =
+    let store = c.args.self.now in
+    let notes = c.in_ok-prepared.prepared.notes in
+    let new = c.commit.new.self.records.records in
+    let is : new ≡ put_records notes store.kept.records.records = c.commit.ensures.records ∙ ap (put_records notes) c.prepare_nodes.ensures.records in
+    record { are = store.are; stamped = noted_stamped store.epoch notes store.kept.records.records new is c.in_ok-prepared.ensures.notes.checked store.stamped }

@@ -1,4 +1,6 @@
-use Rattle.std.proofs.Common.{◌≡◌, ℕ, ◌+◌, ◌-◌, [], length, Some, IsTrue, IsFalse, sym, ap, ap₂, subst, ◌∙◌, arith, rules}
+use Rattle.std.proofs.Common.{◌≡◌, ℕ, ◌+◌, ◌-◌, [], length, Some, None, IsTrue, IsFalse, sym, ap, ap₂, subst, ◌∙◌, arith, rules}
+use Rattle.std.proofs.lemmas.List.Elements.{All-nil}
+use Rattle.object_values.specs.declared.records.NodeRecord.{NodeRecord}
 use Rattle.object_values.specs.Texts.{SourceStock}
 use Rattle.odin_journal.specs.WorkLemmas.{more_work, add_work, few_reads}
 use Rattle.odin_outside.specs.Worked.{WorkedWithin}
@@ -13,6 +15,7 @@ use Rattle.kept_tables.specs.Holdings.{Holding}
 use Rattle.odin_store.specs.Loading.{state_of, records_size}
 use Rattle.odin_store.specs.OnDisk.{state_in}
 use Rattle.odin_store.specs.Opening.{graph_record, IsOpened, IsStoreOpenFault}
+use Rattle.odin_store.specs.Stamps.{AreUnchecked}
 use Rattle.odin_store.proofs.StoreLemmas.{state_with, handed}
 use Rattle.odin_store.proofs.SourceLemmas.{sources_read}
 use Rattle.odin_store.proofs.OpenLemmas.{records_stay, graph_added, journal_fault, load_fault, memory_fault, add_fault, refused_of, with_graph, all_fit, has_it, has_other, opens_known, opens_added}
@@ -149,12 +152,12 @@ returns-in_err-journal-clause-refused g c =
 pub of-known-requires : goal.of-known-requires
 of-known-requires g c =
     let read = c.in_ok-loading.ensures.read in
-    sources_read c.in_ok-journal.records (state_of c.in_ok-loading.loading read.past) read.read
+    record { sources = sources_read c.in_ok-journal.records (state_of c.in_ok-loading.loading read.past) read.read; unchecked = read.unchecked }
 
 pub of-added-requires : goal.of-added-requires
 of-added-requires g c =
     let read = c.in_ok-loading.ensures.read in
-    sources_read c.in_ok-journal.records (state_of c.in_ok-loading.loading read.past) read.read
+    record { sources = sources_read c.in_ok-journal.records (state_of c.in_ok-loading.loading read.past) read.read; unchecked = read.unchecked }
 
 pub returns-clause-works : goal.returns-clause-works
 returns-clause-works g c empty =
@@ -182,7 +185,7 @@ returns-then-has_graph-clause-works g c empty =
 
 pub returns-clause-first : goal.returns-clause-first
 returns-clause-first g c = record {
-  opened = record { graph_is = c.of-added.ensures.opened.graph_is ∙ c.in_ok-kept.ensures; first = c.of-added.ensures.opened.first };
+  opened = record { graph_is = c.of-added.ensures.opened.graph_is ∙ c.in_ok-kept.ensures; first = c.of-added.ensures.opened.first; unchecked = subst AreUnchecked (sym c.forget_records.ensures.records) (All-nil (λ (r : NodeRecord). r.checked ≡ None)) };
   empty = λ zero.
       let first = (c.in_ok-journal.ensures.empty zero).end in
       let next = ap (λ (j : Journal). j.end) c.of-added.ensures.journal ∙ c.in_ok-append.ensures.added.next_is in

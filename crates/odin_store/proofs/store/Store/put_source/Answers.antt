@@ -1,10 +1,12 @@
-use Rattle.std.proofs.Common.{◌≡◌, ◌≢◌, Some, IsFalse, sym, ap, ap₂, subst, ◌∙◌, arith, rules}
+use Rattle.std.proofs.Common.{◌≡◌, ◌≢◌, ◌+◌, Some, IsFalse, sym, ap, ap₂, subst, ◌∙◌, arith, rules}
 use Rattle.std.specs.FinMap as map
 use Rattle.meaning_derive.specs.Given.{AreSources}
 use Rattle.odin_store.specs.Held.{puts}
 use Rattle.odin_store.specs.OnDisk.{IsChangeFault}
 use Rattle.odin_store.specs.Changes.{PutBatch}
 use Rattle.odin_store.proofs.SourceLemmas.{put_stays}
+use Rattle.odin_store.specs.Stamps.{AreStampedBy}
+use Rattle.odin_store.proofs.StampLemmas.{later_stamped, nothing_noted}
 use Rattle.odin_store.proofs.StoreLemmas.{held_with, handed}
 use Rattle.odin_store.proofs.ReadyLemmas.{put_ready, ready_leaves, ready_begins, ready_fault, ready_adds, ready_holds}
 use Rattle.odin_store.proofs.store.Store.put_source.Goals as goal
@@ -65,6 +67,7 @@ returns-clause-puts g c =
         holds = ap (λ t. held_with t c.commit.new.self.tables c.put.new.self.texts) same.graph
             ∙ ready_holds (PutBatch store name text) (puts name text) store prepared.payload c.framed.result.now batch.2.next edited ready c.framed.ensures c.commit.new.self.tables c.put.new.self.texts tables put;
         epoch = omega (arith, same.epoch);
+        nodes = nothing_noted prepared.notes mid.kept.records.records c.commit.new.self.records.records c.commit.ensures.records c.in_ok-source.ensures.notes ∙ c.prepare_put.ensures.nodes;
         adds =
             ready_adds (PutBatch store name text) (puts name text) store prepared.payload c.framed.result.now batch.2.next edited ready c.framed.ensures mid.journal _
             (g.D.Disk.told c.args.disk.now) (g.D.Disk.told c.append_framed.new.disk) same.journal same.graph c.in_ok-append_framed.ensures.added c.in_ok-append_framed.ensures.state.rests c.in_ok-append_framed.ensures.full.room c.append_framed.ensures.any_moment c.in_ok-append_framed.ensures.works tables put;
@@ -80,7 +83,12 @@ invariant_of-self-2 g c =
     let put : c.put.new.self.texts ≡ map.insert store.sources.texts name text =
     c.put.ensures.put ∙ ap (λ m. map.insert m c.in_ok-source.source c.in_ok-source.shared) c.prepare_put.ensures.same.sources
     ∙ ap₂ (λ n t. map.insert store.sources.texts n t) c.in_ok-source.ensures.name c.in_ok-source.ensures.text in
-    record { are = subst AreSources (sym put) (put_stays store.sources.texts name text store.are c.in_ok-source.ensures.named c.requires.short) }
+    let mid = c.prepare_put.new.self in
+    let nodes = nothing_noted c.in_ok-source.prepared.notes mid.kept.records.records c.commit.new.self.records.records c.commit.ensures.records c.in_ok-source.ensures.notes in
+    record {
+      are = subst AreSources (sym put) (put_stays store.sources.texts name text store.are c.in_ok-source.ensures.named c.requires.short);
+      stamped = later_stamped mid.epoch (mid.epoch + 1) _ (omega arith) (subst (AreStampedBy mid.epoch) (sym nodes) mid.stamped);
+    }
 
 pub returns-in_err-append_framed-clause-begins : goal.returns-in_err-append_framed-clause-begins
 returns-in_err-append_framed-clause-begins g c =

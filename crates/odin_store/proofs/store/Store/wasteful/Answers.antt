@@ -1,6 +1,7 @@
 use Rattle.std.proofs.Common.{◌<◌, ◌≤◌, ◌*◌, subst, arith, rules}
 use Rattle.meaning_records.specs.Live.{IsLiveText}
-use Rattle.odin_store.proofs.CompactLemmas.{none_noted, not_wasteful, little_text, much_text}
+use Rattle.kept_tables.specs.Live.{live_in}
+use Rattle.odin_store.proofs.CompactLemmas.{not_wasteful, little_text, much_text}
 use Rattle.odin_store.proofs.store.Store.wasteful.Goals as goal
 
 pub returns-clause-yes : goal.returns-clause-yes
@@ -10,10 +11,9 @@ returns-clause-yes c less =
     let long : 1048576 ≤ store.journal.end = search rules in
     let little : 2 * text < store.journal.end = little_text text store.journal.end c.saturating_sub.result (search rules) less in
     record {
-      none = none_noted store.kept.tables.contents store.kept.records.records store.kept.tables.records c.records_fit.ensures.says (omega (arith, c.records.ensures, c.if-records-gt0.false));
       long = long;
       text = text;
-      live = subst (λ g. IsLiveText g store.sources.texts store.kept.tables.calls text) c.as_slice.ensures c.in_ok-text.ensures;
+      live = subst (λ g. IsLiveText (live_in g store.sources.texts store.kept) text) c.as_slice.ensures c.in_ok-text.ensures;
       little = little;
     }
 
@@ -22,5 +22,5 @@ returns-clause-no c not_less =
     let store = c.args.self.now in
     let text = c.in_ok-text.text in
     not_wasteful store text c.live_text_is_one.ensures
-    (subst (λ g. IsLiveText g store.sources.texts store.kept.tables.calls text) c.as_slice.ensures c.in_ok-text.ensures)
+    (subst (λ g. IsLiveText (live_in g store.sources.texts store.kept) text) c.as_slice.ensures c.in_ok-text.ensures)
     (much_text text store.journal.end c.saturating_sub.result (search rules) not_less)

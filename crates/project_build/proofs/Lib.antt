@@ -1,0 +1,5 @@
+mod BuildLemmas
+mod LawLemmas
+mod ProjectLemmas
+mod RestLemmas
+mod WriteLemmas

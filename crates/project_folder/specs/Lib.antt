@@ -1,0 +1,4 @@
+pub mod Command
+pub mod Listing
+pub mod Places
+pub mod Targets

@@ -1,0 +1,13 @@
+//! What a build of a project is to do: what its words ask for, the files that are its sources, and the targets that are asked for.
+#![tactic(auto)]
+
+mod listing;
+mod places;
+mod processors;
+mod targets;
+pub mod words;
+
+pub use listing::{NoSources, list_sources};
+pub use places::is_reserved;
+pub use processors::{MOST_JOBS, jobs_by};
+pub use targets::{NoTarget, targets_among};

@@ -1,0 +1,154 @@
+//! The words of the program, read by `clap`.
+ghost use Rattle.std.specs.Prelude.{◌≡◌, ◌↔◌, IsTrue, false, Some, codes, [], IfOk, IfSome, IfNone, map, string_bytes, unwrap_or};
+ghost use Rattle.std.specs.Option.{option_copied};
+ghost use Rattle.clap.specs.Words.{FailsBy, all_of, fault_of, first_of, found_of, matches_of, rows_of, rule_of};
+ghost use Rattle.project_folder.specs.Command.{command, option_rule, tells, targets, AsksToBuild, AsksForNoCount, IsCount, IsNoCount};
+
+use clap::{Arg, ArgAction, ArgMatches, Command, Error};
+use odin_bytes::read_number;
+use std::alloc::{AllocError, Global};
+
+/// How many tools may run at once, at most.
+const MOST_JOBS: u64 = 64;
+
+/// What the words ask for: the folder of the project, how many tools may run at once, whether it is only told what would be asked, and the targets.
+#[derive(Drop)]
+pub struct Asked<'a> {
+    pub folder: Option<&'a str>,
+    pub jobs: Option<u32>,
+    pub tells: bool,
+    pub targets: Vec<&'a str>,
+}
+
+/// An option with one value.
+fn option<'a>(alloc: Global, id: &'a str, short: char, help: &'a str) -> Arg<'a>
+    ensures rule { rule_of result ≡ option_rule id.entry.now short }
+    ensures local { result.global ≡ false }
+{
+    Arg::new(alloc, id)
+        .short(short)
+        .help(help)
+        .action(ArgAction::Set)
+}
+
+/// The flag by which it is only told what would be asked.
+fn tells_flag<'a>(alloc: Global) -> Arg<'a>
+    ensures rule { rule_of result ≡ tells }
+    ensures local { result.global ≡ false }
+{
+    Arg::new(alloc, "tells")
+        .short('n')
+        .help("only tell what would be asked")
+        .action(ArgAction::SetTrue)
+}
+
+/// The names of targets.
+fn target_words<'a>(alloc: Global) -> Arg<'a>
+    ensures rule { rule_of result ≡ targets }
+    ensures local { result.global ≡ false }
+{
+    Arg::new(alloc, "targets")
+        .help("the targets to build, in place of all")
+        .num_args(1..)
+        .action(ArgAction::Append)
+}
+
+/// The words by the command.
+fn matches<'a>(alloc: Global, words: &'a [String]) -> Result<ArgMatches<'a>, Error>
+    ensures rows { IfOk result (λ m.
+        rows_of (found_of m) ≡ matches_of command (map string_bytes words.entry.now)) }
+    ensures kinds { FailsBy (fault_of command (map string_bytes words.entry.now)) result }
+{
+    let folder = option(
+        alloc,
+        "folder",
+        'C',
+        "the folder of the project, in place of this one",
+    );
+    let jobs = option(
+        alloc,
+        "jobs",
+        'j',
+        "how many tools run at once, from 1 to 64, in place of one a processor",
+    );
+    let command = Command::new(alloc, "odin-build")
+        .about("Builds the targets of odin.toml from exactly the files that it lists.")
+        .version("1")
+        .override_usage("odin-build [-C DIR] [-j N] [-n] [TARGET]..")
+        .arg(folder)?
+        .arg(jobs)?
+        .arg(tells_flag(alloc))?
+        .arg(target_words(alloc))?;
+    command.try_get_matches_from(words)
+}
+
+/// The values of the words.
+fn targets_of<'a>(alloc: Global, found: &ArgMatches<'a>) -> Result<Vec<&'a str>, AllocError>
+    ensures { let rows = rows_of (found_of found.now) in IfOk result (λ values.
+        map (λ word. word.now) values.items ≡ unwrap_or (all_of (codes "targets") rows) []) }
+{
+    let mut values = Vec::new(alloc);
+    let Some(words) = found.get_strs("targets") else {
+        return Ok(values);
+    };
+    values.extend_from_slice(words)?;
+    Ok(values)
+}
+
+/// The first value of an option or a flag of the command.
+fn value_of<'a>(found: &ArgMatches<'a>, id: &str) -> Option<&'a str>
+    ensures { let rows = rows_of (found_of found.now) in
+        option_copied result ≡ first_of id.now rows }
+{
+    found.get_str(id)
+}
+
+/// Whether it is only told what would be asked.
+fn has_tells(found: &ArgMatches<'_>) -> bool
+    ensures { let rows = rows_of (found_of found.now) in
+        IsTrue result ↔ (first_of (codes "tells") rows ≡ Some (codes "true")) }
+{
+    match value_of(found, "tells") {
+        Some(word) => word == "true",
+        None => false,
+    }
+}
+
+/// The count from 1 to 64 that a word spells.
+fn read_count(word: &str) -> Option<u32>
+    ensures some { IfSome result (IsCount word.now) }
+    ensures none { IfNone result (IsNoCount word.now) }
+{
+    let number = read_number(word.as_bytes())?;
+    if number < 1 || number > MOST_JOBS {
+        return None;
+    }
+    Some(number as u32)
+}
+
+/// What the words ask for, of which the first is the program's name. `None` is said where the value of `-j` is no count; an error that shows help or
+/// the version is none.
+pub fn read_words<'a>(alloc: Global, words: &'a [String]) -> Result<Option<Asked<'a>>, Error>
+    ensures asked { IfOk result (λ found. IfSome found (λ asked.
+        AsksToBuild (map string_bytes words.entry.now) (option_copied asked.folder) asked.jobs
+        asked.tells (map (λ word. word.now) asked.targets.items))) }
+    ensures none { IfOk result (λ found. IfNone found
+        (AsksForNoCount (map string_bytes words.entry.now))) }
+    ensures kinds { FailsBy (fault_of command (map string_bytes words.entry.now)) result }
+{
+    let found = matches(alloc, words)?;
+    let jobs = match value_of(&found, "jobs") {
+        Some(word) => match read_count(word) {
+            Some(count) => Some(count),
+            None => return Ok(None),
+        },
+        None => None,
+    };
+    let targets = targets_of(alloc, &found)?;
+    Ok(Some(Asked {
+        folder: value_of(&found, "folder"),
+        jobs,
+        tells: has_tells(&found),
+        targets,
+    }))
+}
