@@ -1,0 +1,20 @@
+//! Builds the targets of a project from exactly the files that its `odin.toml` lists.
+#![tactic(auto)]
+
+mod faults;
+mod found;
+mod reading;
+mod replies;
+mod run;
+mod told;
+mod written;
+
+use odin_real::ClosedStreams;
+use std::process::ExitCode;
+
+fn main(rt: HostRuntime) -> ExitCode {
+    let closed = ClosedStreams::hold(&rt);
+    let status = run::run(&rt);
+    drop(closed);
+    ExitCode::from(status)
+}

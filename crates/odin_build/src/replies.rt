@@ -1,0 +1,191 @@
+// What a person is told of a build.
+use crate::faults::Fault;
+use crate::reading::refused;
+use crate::told::{Line, say};
+use build_files::causes::Cause;
+use build_files::messages::lines_of;
+use dg_reader::ReadFault;
+use fresh_build::ListFault;
+use object_values::{Bytes, GraphFault, Memory, Message, Reply};
+use odin_commands::write_reply;
+use odin_engine::StoreFault;
+use project_build::{BuildFault, GraphRefused, TargetFault};
+use project_file::project::{Project, Target};
+use shown_texts::shown::write_shown;
+use std::alloc::Global;
+use std::io;
+
+// ---- replies
+
+/// The line of a reply that shows no object.
+fn refusal_line(alloc: Global, target: &Target, reply: &Reply) -> Result<Bytes, Memory> {
+    let mut text = Bytes::new(alloc);
+    write_reply(reply, &mut text)?;
+    let first = match text.as_slice().split(|byte| *byte == b'\n').next() {
+        Some(first) => Bytes::from_slice(alloc, first)?,
+        None => Bytes::new(alloc),
+    };
+    Line::new(alloc)?
+        .shown(target.name.as_slice())?
+        .text(": ")?
+        .shown(first.as_slice())?
+        .end()
+}
+
+fn tell_messages(rt: &HostRuntime, messages: &[Message]) -> Result<(), Memory> {
+    let lines = lines_of(rt.alloc(), messages, false)?;
+    say(rt, lines.as_slice());
+    Ok(())
+}
+
+/// Tells the messages of an object, or why none is shown.
+fn tell_reply(rt: &HostRuntime, target: &Target, reply: &Reply) -> Result<(), Memory> {
+    match reply {
+        Reply::Shown { messages, .. } => tell_messages(rt, messages.as_slice()),
+        _ => {
+            let line = refusal_line(rt.alloc(), target, reply)?;
+            say(rt, line.as_slice());
+            Ok(())
+        }
+    }
+}
+
+/// Tells of each target that was built.
+pub(crate) fn tell_replies(
+    rt: &HostRuntime,
+    targets: &[&Target],
+    replies: &[Reply],
+) -> Result<(), Memory> {
+    for (target, reply) in targets.iter().zip(replies) {
+        tell_reply(rt, target, reply)?;
+    }
+    Ok(())
+}
+
+// ---- what would be asked
+
+/// Adds the line of a target that would be asked for.
+pub(crate) fn write_target(target: &Target, out: &mut Bytes) -> Result<(), Memory> {
+    write_shown(target.name.as_slice(), out)?;
+    out.extend_from_slice(b": ask ")?;
+    write_shown(target.ask.as_slice(), out)?;
+    out.extend_from_slice(b", to ")?;
+    write_shown(target.file.as_slice(), out)?;
+    out.push(b'\n')
+}
+
+// ---- faults
+
+fn words_of(fault: GraphFault) -> &'static str {
+    match fault {
+        GraphFault::UnknownType => "unknown type",
+        GraphFault::DoubleName => "double name",
+        GraphFault::SupertypeLoop => "supertype loop",
+        GraphFault::WrongKind => "wrong kind",
+        GraphFault::TooMany => "too many",
+        GraphFault::UnknownParam => "unknown param",
+    }
+}
+
+/// The line of a graph that is refused, which begins with its place in the file.
+fn graph_line(alloc: Global, project: &Project, fault: ReadFault) -> Result<Bytes, Memory> {
+    let line = Line::new(alloc)?
+        .shown(project.graph.as_slice())?
+        .text(":")?;
+    match fault {
+        ReadFault::TooLong => line.text(" longer than 1048576 bytes")?.end(),
+        ReadFault::Syntax(at, column) => line
+            .number(u64::from(at))?
+            .text(":")?
+            .number(u64::from(column))?
+            .text(": syntax")?
+            .end(),
+        ReadFault::Check(at, fault) => line
+            .number(u64::from(at))?
+            .text(": ")?
+            .text(words_of(fault))?
+            .end(),
+        ReadFault::Memory => Err(Memory),
+    }
+}
+
+/// The line of a file that isn't there.
+pub(crate) fn missing_line(alloc: Global, name: &[u8]) -> Result<Bytes, Memory> {
+    Line::new(alloc)?.text("no such file: ")?.shown(name)?.end()
+}
+
+/// The fault of the files, which the tree doesn't tell.
+fn tree_fault(alloc: Global) -> Fault {
+    match Cause::at(
+        alloc,
+        "the files of the project",
+        &io::Error::from(io::ErrorKind::Other),
+    ) {
+        Ok(cause) => Fault::Input(cause),
+        Err(Memory) => Fault::Memory,
+    }
+}
+
+fn graph_fault(alloc: Global, project: &Project, fault: GraphRefused) -> Fault {
+    match fault {
+        GraphRefused::NoFile => refused(missing_line(alloc, project.graph.as_slice())),
+        GraphRefused::Text(fault) => refused(graph_line(alloc, project, fault)),
+        GraphRefused::Tree => tree_fault(alloc),
+        GraphRefused::Memory => Fault::Memory,
+    }
+}
+
+fn list_fault(alloc: Global, fault: ListFault) -> Fault {
+    match fault {
+        ListFault::Missing(name) => refused(missing_line(alloc, name.as_slice())),
+        ListFault::TooLong(name) => Fault::TooLong(name),
+        ListFault::Tree => tree_fault(alloc),
+        ListFault::Memory => Fault::Memory,
+    }
+}
+
+/// The fault of the store, of which another build may have the file.
+fn store_fault(fault: StoreFault, in_use: bool) -> Fault {
+    match fault {
+        StoreFault::Disk => { if in_use { Fault::InUse } else { Fault::Disk } }
+        StoreFault::NotOurs(at) => Fault::NotOurs(at),
+        StoreFault::Full(_, _) => Fault::Full,
+        StoreFault::Memory => Fault::Memory,
+    }
+}
+
+/// The fault of a target's file.
+fn output_fault(alloc: Global, name: &[u8], cause: Option<io::Error>) -> Fault {
+    let error = match cause {
+        Some(error) => error,
+        None => io::Error::from(io::ErrorKind::Other),
+    };
+    let place = match std::str::from_utf8(name) {
+        Ok(name) => name,
+        Err(_) => "a file of a target",
+    };
+    match Cause::at(alloc, place, &error) {
+        Ok(cause) => Fault::Output(cause),
+        Err(Memory) => Fault::Memory,
+    }
+}
+
+/// Why a project isn't built, as it is told.
+pub(crate) fn fault_of(
+    alloc: Global,
+    project: &Project,
+    fault: BuildFault,
+    in_use: bool,
+    cause: Option<io::Error>,
+) -> Fault {
+    match fault {
+        BuildFault::Graph(fault) => graph_fault(alloc, project, fault),
+        BuildFault::Sources(fault) => list_fault(alloc, fault),
+        BuildFault::Store(fault) => store_fault(fault, in_use),
+        BuildFault::Target(TargetFault::Store(fault)) => store_fault(fault, in_use),
+        BuildFault::Target(TargetFault::Output(name)) => {
+            output_fault(alloc, name.as_slice(), cause)
+        }
+        BuildFault::Target(TargetFault::Memory) => Fault::Memory,
+    }
+}
