@@ -11,7 +11,7 @@ ghost use Rattle.path_planner.specs.Ends.{plans_of};
 ghost use Rattle.derive_walk.specs.Looks.{LooksAreFew, lost, met_by};
 ghost use Rattle.derive_walk.specs.Outcomes.{after};
 ghost use Rattle.derive_walk.specs.Walks.{IsRight, IsAdvanced, ExtendsWalk, OutcomeIsGiven, new_walk};
-ghost use Rattle.derive_walk.specs.Worlds.{World, world};
+ghost use Rattle.derive_walk.specs.Worlds.{world};
 ghost use Rattle.derive_core.specs.Kept.{kept_world};
 
 use crate::kept::KeptCalls;
@@ -47,11 +47,11 @@ impl Model for Core {
 }
 
 impl Core {
-    /// Nothing is known yet. It is right in every world that its root fits.
+    /// Nothing is known yet. It is right over every graph that its root fits.
     pub fn new(alloc: Global, root: Node) -> Self
         ensures is { result ≡ new_walk root }
-        ensures right { (w : World) → Fits w.graph root → OutcomesFit w.outcomes →
-            IsRight w result }
+        ensures right { (g : GraphValue) (s : SourceTexts) (outcomes : Outcomes) →
+            Fits g root → OutcomesFit outcomes → IsRight (world g s outcomes) result }
     {
         Core {
             walker: Walker::new(alloc, root),

@@ -14,7 +14,7 @@ use Rattle.derive_walk.proofs.RootLemmas.{formed_at_end, right_at_end}
 
 -- the walk as its callers see it
 abbrev pub seen_so : Walk → GivenOutcomes → Option Found → Walked
-seen_so walk given result = record { root = walk.root; done = walk.done; given = given; wanted = walk.wanted; result = result }
+seen_so walk given result = record { root = walk.root; done = walk.done; fresh = walk.fresh; renewed = walk.renewed; given = given; wanted = walk.wanted; result = result }
 
 module _ (start new : Walk) (on : GoesOnFrom start new) (given : GivenOutcomes) (old : Option Found) where
   pub goes_on : is_some old ≡ false → (result : Option Found) → (now : Walked) → seen_so start given old ≡ now → ExtendsWalk now (seen_so new given result)
@@ -27,12 +27,12 @@ module _ (start new : Walk) (on : GoesOnFrom start new) (given : GivenOutcomes) 
 
   -- what is formed
   pub stays_formed : (w : World) → OutcomesFit w.outcomes → IsFormedIn w new → (result : Option Found) → IfSome result (NodesFit w.graph)
-      → IsFormed w.graph w.outcomes (seen_so new given result)
+      → IsFormed w (seen_so new given result)
   stays_formed w fit formed result found = formed_at_end w new formed fit given result found
 
   -- what is right
-  pub stays_right : (w : World) → IsRight w (seen_so start given old) → HoldsIn w new → (result : Option Found) → IfSome result (IsFound w.graph w.sources w.outcomes new.root) → IsRight w (seen_so new given result)
-  stays_right w right holds result found = right_at_end w new holds right.fit (subst (λ r. Fits w.graph r) (sym on.root) right.root) given result found
+  pub stays_right : (w : World) → IsRight w (seen_so start given old) → IsFormedIn w new → HoldsIn w new → (result : Option Found) → IfSome result (IsFound w.graph w.sources w.outcomes new.root) → IsRight w (seen_so new given result)
+  stays_right w right formed holds result found = right_at_end w new holds formed.told right.fit (subst (λ r. Fits w.graph r) (sym on.root) right.root) given result found
 
   pub still_found : (w : World) → IsRight w (seen_so start given old) → IfSome old (IsFound w.graph w.sources w.outcomes new.root)
   still_found w right = subst (λ r. IfSome old (IsFound w.graph w.sources w.outcomes r)) (sym on.root) right.found

@@ -45,9 +45,6 @@ module _ (w : World) (walk : Walk) (n : Node) (last : IsLast w walk n) (needs : 
         record { last = n; is = last; needs = needs; visited = visited; need = m.0; one = m.1; tall = m.2 ∙ ap (λ k. Some k) same }
   ]
 
-  pub is_closing : (needed : Needed) → IsNeeded w.graph n (results_of walk.done) needed → are_done walk.done needs ≡ true → top_of (heights_in walk) needs < height_limit → IsClosing w walk n needed (top_of (heights_in walk) needs + 1)
-  is_closing needed found done low = record { found = found; needs = needs; listed = visited.listed; done = done; above = refl; high = omega (arith, low) }
-
   -- a need waits
   pub waiting_need : are_done walk.done needs ≡ false → (m : Node) × IsIn m needs × (done_in walk.done m ≡ None) × ((k : ℕ) × (height_in walk.waiting m ≡ Some k))
   waiting_need unfinished =

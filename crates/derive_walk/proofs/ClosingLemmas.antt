@@ -55,10 +55,10 @@ module _ (w : World) (walk : Walk) (n : Node) (last : IsLast w walk n) where
 -- ---- needs that are done
 
 module _ (w : World) (walk : Walk) (holds : HoldsIn w walk) (n : Node) {needed : Needed} (height : ℕ) (closing : IsClosing w walk n needed height) where
-  need_done : (m : Node) → IsIn m closing.needs → (d : Done) × (done_in walk.done m ≡ Some d)
+  pub need_done : (m : Node) → IsIn m closing.needs → (d : Done) × (done_in walk.done m ≡ Some d)
   need_done m i = each_done walk.done closing.needs closing.done m i
 
-  all_visited : AreVisited w walk n closing.needs
+  pub all_visited : AreVisited w walk n closing.needs
   all_visited = record {
     listed = closing.listed;
     each = λ m i. let d = need_done m i in subst IsSome (sym (height_if_done walk.done walk.waiting m d.0 d.1)) refl;

@@ -2,47 +2,26 @@
 use Rattle.std.proofs.Common.{◌≡◌, ℕ, zero, suc, ◌+◌, ◌≤◌, ◌<◌, List, ◌⊎◌, inl, inr, sym, ap, ◌∙◌, subst, refl, arith}
 use Rattle.std.specs.Prelude.{Some, None, IsSome}
 use Rattle.object_values.specs.declared.nodes.Node.{Node}
-use Rattle.object_values.specs.declared.views.View.{View}
 use Rattle.meaning_texts.specs.Limits.{height_limit}
 use Rattle.meaning_texts.specs.Lists.{IsIn}
-use Rattle.meaning_texts.proofs.Lemmas.{value_of_some}
+use Rattle.meaning_texts.proofs.Lemmas.{some_or_none, some_is_none, same_some, value_of_some}
 use Rattle.meaning_graph.specs.Graphs.{Graph}
 use Rattle.meaning_tasks.specs.Nodes.{Fits}
 use Rattle.meaning_tasks.specs.Needs.{Results, Needs}
 use Rattle.meaning_tasks.proofs.Lemmas.{carry, need_stays, one_list_of_needs}
-use Rattle.meaning_derive.specs.Derive.{Sources, Outcomes, text_of, derive, HasHeight}
+use Rattle.meaning_derive.specs.Derive.{text_of, derive, HasHeight}
 use Rattle.meaning_derive.specs.Chains.{IsNeed}
 use Rattle.meaning_derive.specs.WalkLaws.{AreFalling}
-use Rattle.meaning_derive.proofs.Lemmas.{needs_at, needs_listed, nothing_at_zero, one_above}
+use Rattle.meaning_derive.proofs.Lemmas.{grows_to, needs_at, needs_listed, nothing_at_zero, one_above}
 use Rattle.meaning_derive.proofs.Lemmas.{needs_fit, map_at}
-use Rattle.derive_walk.specs.declared.done.Done.{Done}
-use Rattle.derive_walk.specs.Tables.{done_in, results_of}
+use Rattle.derive_walk.specs.DerivedHeights.{least_height, heights_or}
+use Rattle.derive_walk.specs.Tables.{done_in, results_of, height_in, height_or}
 use Rattle.derive_walk.specs.declared.walk.Walk.{Walk}
 use Rattle.derive_walk.specs.Worlds.{World, IsWorld, seen_in, IsNeedIn}
-use Rattle.derive_walk.specs.Walks.{IsDone}
 use Rattle.derive_walk.specs.States.{heights_in, HoldsIn, NeedBelow}
-use Rattle.derive_walk.proofs.Tables.{height_if_done, done_or_waiting}
+use Rattle.derive_walk.proofs.Tables.{done_or_waiting}
+use Rattle.derive_walk.proofs.LeastHeights.{one_height, least_is, is_least}
 use Rattle.derive_walk.proofs.NeedLemmas.{table_grows, same_result}
-
--- ---- heights over all results
-
--- a node has one height
-pub one_height : (g : Graph) (s : Sources) (outcomes : Outcomes) (n : Node) (h k : ℕ) → HasHeight g s outcomes n h → HasHeight g s outcomes n k → h ≡ k
-one_height g s outcomes n h k a b = by_order (order h k)
-  where
-    order : (h k : ℕ) → (h < k) ⊎ ((h ≡ k) ⊎ (k < h))
-    order zero zero = inr (inl refl)
-    order zero (suc k) = inl (omega arith)
-    order (suc h) zero = inr (inr (omega arith))
-    order (suc h) (suc k) = elim (order h k) [ inl q ↦ inl (omega (arith, q)) | inr q ↦ elim q [ inl e ↦ inr (inl (ap suc e)) | inr l ↦ inr (inr (omega (arith, l))) ] ]
-
-    none_there : (j : ℕ) → IsSome (derive g s outcomes j n) → derive g s outcomes j n ≡ None → h ≡ k
-    none_there j there none = let z : None ≡ Some (value_of_some (derive g s outcomes j n) there).0 = sym none ∙ (value_of_some (derive g s outcomes j n) there).1 in cc
-
-    by_order : (h < k) ⊎ ((h ≡ k) ⊎ (k < h)) → h ≡ k
-    by_order (inl q) = none_there h a.there (b.least h q)
-    by_order (inr (inl e)) = e
-    by_order (inr (inr q)) = none_there k b.there (a.least k q)
 
 -- ---- a need that is listed
 
@@ -80,56 +59,79 @@ module _ (w : World) (walk : Walk) (holds : HoldsIn w walk) where
 
   -- ---- heights
 
-  above_zero : (n : Node) (k : ℕ) (v : View) → derive w.graph w.sources w.outcomes k n ≡ Some v → (h : ℕ) × (k ≡ suc h)
-  above_zero n zero v e = absurd (nothing_at_zero w.graph w.sources w.outcomes n v e)
-  above_zero n (suc h) v e = (h, refl)
+  -- that of derivation, or that of a node that waits
+  pub height_is : (n : Node) (k : ℕ) → heights_or w walk n ≡ Some k
+      → (HasHeight w.graph w.sources w.outcomes n k × (k ≤ height_limit)) ⊎ ((done_in walk.done n ≡ None) × (height_in walk.waiting n ≡ Some k))
+  height_is n k e = elim (some_or_none (heights_in walk n)) [
+    | inl h ↦
+        let same : h.0 ≡ k = same_some (sym (ap (λ o. height_or o (least_height w n height_limit)) h.1) ∙ e) in
+        elim (done_or_waiting walk.done walk.waiting n k (h.1 ∙ ap Some same)) [
+          | inl d ↦ (let is = holds.done.each n d.0 d.1 in
+              inl (subst (HasHeight w.graph w.sources w.outcomes n) d.2 is.has, subst (λ z. z ≤ height_limit) d.2 is.high))
+          | inr q ↦ inr q
+        ]
+    | inr none ↦ inl (least_is w n height_limit k (sym (ap (λ o. height_or o (least_height w n height_limit)) none) ∙ e))
+  ]
 
-  pub fits_of : (n : Node) (k : ℕ) → heights_in walk n ≡ Some k → Fits w.graph n
-  fits_of n k e = elim (done_or_waiting walk.done walk.waiting n k e) [ inl d ↦ (holds.done.each n d.0 d.1).fits | inr q ↦ (holds.waiting n k q.1).fits ]
+  -- the tables are asked first
+  pub in_tables : (n : Node) (k : ℕ) → heights_in walk n ≡ Some k → heights_or w walk n ≡ Some k
+  in_tables n k e = ap (λ o. height_or o (least_height w n height_limit)) e
 
-  -- what is done: one above the heights of its needs
-  module _ (n : Node) (k h : ℕ) (d : Done) (at_n : done_in walk.done n ≡ Some d) (same : d.height ≡ suc h) where
-    is_done : IsDone w n d
-    is_done = holds.done.each n d at_n
+  -- what is derived has its height
+  pub derived_at : (n : Node) (k : ℕ) → HasHeight w.graph w.sources w.outcomes n k → k ≤ height_limit → heights_or w walk n ≡ Some k
+  derived_at n k has le = elim (some_or_none (heights_in walk n)) [
+    | inl h ↦ elim (done_or_waiting walk.done walk.waiting n h.0 h.1) [
+      | inl d ↦ in_tables n h.0 h.1 ∙ ap Some (sym d.2 ∙ one_height w.graph w.sources w.outcomes n d.0.height k (holds.done.each n d.0 d.1).has has)
+      | inr q ↦ (let v = value_of_some (derive w.graph w.sources w.outcomes k n) has.there in
+          some_is_none (seen_in w n) v.0 (grows_to w.graph w.sources w.outcomes k height_limit le n v.0 v.1) (holds.waiting n h.0 q.1).none)
+    ]
+    | inr none ↦ ap (λ o. height_or o (least_height w n height_limit)) none ∙ is_least w n height_limit k has le
+  ]
 
-    has : HasHeight w.graph w.sources w.outcomes n (suc h)
-    has = subst (λ z. HasHeight w.graph w.sources w.outcomes n z) same is_done.has
+  pub most_high : (n : Node) (k : ℕ) → heights_or w walk n ≡ Some k → k ≤ height_limit
+  most_high n k e = elim (height_is n k e) [ inl r ↦ r.1 | inr q ↦ (holds.waiting n k q.1).high ]
 
-    le : suc h ≤ height_limit
-    le = subst (λ z. z ≤ height_limit) same is_done.high
+  -- what is derived: one above the heights of its needs
+  module _ (n : Node) (h : ℕ) (has : HasHeight w.graph w.sources w.outcomes n (suc h)) (le : suc h ≤ height_limit) where
+    derived_falls : (m : Node) → IsNeedIn w n m → (j : ℕ) × (heights_or w walk m ≡ Some j) × (j < suc h)
+    derived_falls m need =
+        let r = (one_above w.graph w.sources w.outcomes n h has le).each m need in
+        (r.0, derived_at m r.0 r.1 (omega (arith, le, r.2)), omega (arith, r.2))
 
-    -- a need stands in the table at its height
-    need_at : (m : Node) → IsNeedIn w n m → (j : ℕ) → HasHeight w.graph w.sources w.outcomes m j → heights_in walk m ≡ Some j
-    need_at m need j has_j =
-        let e = value_of_some (done_in walk.done m) (holds.done.needs n d at_n m need) in
-        height_if_done walk.done walk.waiting m e.0 e.1 ∙ ap Some (one_height w.graph w.sources w.outcomes m e.0.height j (holds.done.each m e.0 e.1).has has_j)
-
-    done_falls : (m : Node) → IsNeedIn w n m → (j : ℕ) × (heights_in walk m ≡ Some j) × (j < suc h)
-    done_falls m need = let r = (one_above w.graph w.sources w.outcomes n h has le).each m need in (r.0, need_at m need r.0 r.1, omega (arith, r.2))
-
-    done_tight : (suc h ≡ 1) ⊎ NeedBelow w (heights_in walk) n (suc h)
-    done_tight = elim (one_above w.graph w.sources w.outcomes n h has le).one [
+    derived_tight : (suc h ≡ 1) ⊎ NeedBelow w (heights_or w walk) n (suc h)
+    derived_tight = elim (one_above w.graph w.sources w.outcomes n h has le).one [
       | inl z ↦ inl (ap suc z)
-      | inr m ↦ inr (record { need = m.0; one = m.1; below = h; is = need_at m.0 m.1 h m.2; next = omega arith })
+      | inr m ↦ inr (record { need = m.0; one = m.1; below = h; is = derived_at m.0 h m.2 (omega (arith, le)); next = omega arith })
     ]
 
-  pub falls : (n m : Node) (k : ℕ) → heights_in walk n ≡ Some k → IsNeedIn w n m → (j : ℕ) × (heights_in walk m ≡ Some j) × (j < k)
-  falls n m k e need = elim (done_or_waiting walk.done walk.waiting n k e) [
-    | inl d ↦ (let h = above_zero n d.0.height d.0.view (holds.done.each n d.0 d.1).is in
-        let r = done_falls n k h.0 d.0 d.1 h.1 m need in
-        (r.0, r.1, omega (arith, r.2, h.1, d.2)))
-    | inr q ↦ (let r = (holds.waiting n k q.1).lower m need in (r.below, r.is, r.lower))
+  above_zero : (n : Node) (k : ℕ) → HasHeight w.graph w.sources w.outcomes n k → (h : ℕ) × (k ≡ suc h)
+  above_zero n zero has = let v = value_of_some (derive w.graph w.sources w.outcomes zero n) has.there in absurd (nothing_at_zero w.graph w.sources w.outcomes n v.0 v.1)
+  above_zero n (suc h) has = (h, refl)
+
+  pub falls : (n m : Node) (k : ℕ) → heights_or w walk n ≡ Some k → IsNeedIn w n m → (j : ℕ) × (heights_or w walk m ≡ Some j) × (j < k)
+  falls n m k e need = elim (height_is n k e) [
+    | inl r ↦
+        let h = above_zero n k r.0 in
+        let f = derived_falls n h.0 (subst (HasHeight w.graph w.sources w.outcomes n) h.1 r.0) (subst (λ z. z ≤ height_limit) h.1 r.1) m need in
+        (f.0, f.1, omega (arith, f.2, h.1))
+    | inr q ↦ (let r = (holds.waiting n k q.1).lower m need in (r.below, in_tables m r.below r.is, r.lower))
   ]
 
-  pub tight : (n : Node) (k : ℕ) → heights_in walk n ≡ Some k → (k ≡ 1) ⊎ NeedBelow w (heights_in walk) n k
-  tight n k e = elim (done_or_waiting walk.done walk.waiting n k e) [
-    | inl d ↦ (let h = above_zero n d.0.height d.0.view (holds.done.each n d.0 d.1).is in
-        subst (λ z. (z ≡ 1) ⊎ NeedBelow w (heights_in walk) n z) (sym h.1 ∙ d.2) (done_tight n k h.0 d.0 d.1 h.1))
-    | inr q ↦ (holds.waiting n k q.1).tight
+  pub tight : (n : Node) (k : ℕ) → heights_or w walk n ≡ Some k → (k ≡ 1) ⊎ NeedBelow w (heights_or w walk) n k
+  tight n k e = elim (height_is n k e) [
+    | inl r ↦
+        let h = above_zero n k r.0 in
+        subst (λ z. (z ≡ 1) ⊎ NeedBelow w (heights_or w walk) n z) (sym h.1)
+        (derived_tight n h.0 (subst (HasHeight w.graph w.sources w.outcomes n) h.1 r.0) (subst (λ z. z ≤ height_limit) h.1 r.1))
+    | inr q ↦ waits_tight (holds.waiting n k q.1).tight
   ]
+    where
+      waits_tight : (k ≡ 1) ⊎ NeedBelow w (heights_in walk) n k → (k ≡ 1) ⊎ NeedBelow w (heights_or w walk) n k
+      waits_tight (inl z) = inl z
+      waits_tight (inr b) = inr (record { need = b.need; one = b.one; below = b.below; is = in_tables b.need b.below b.is; next = b.next })
 
-  pub low : (n : Node) (k : ℕ) → heights_in walk n ≡ Some k → 0 < k
+  pub low : (n : Node) (k : ℕ) → heights_or w walk n ≡ Some k → 0 < k
   low n k e = elim (tight n k e) [ inl q ↦ omega (arith, q) | inr b ↦ (let next : b.below + 1 ≡ k = b.next in omega (arith, next)) ]
 
-  pub are_falling : AreFalling w.graph (seen_in w) (heights_in walk)
+  pub are_falling : AreFalling w.graph (seen_in w) (heights_or w walk)
   are_falling = record { low = low; falls = λ n m k e need. falls n m k e need }

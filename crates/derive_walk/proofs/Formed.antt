@@ -71,8 +71,9 @@ module _ (w : World) (is : IsWorld w) where
   result_fits n fits None found = tt
   result_fits n fits (Some found) is_found = found_fits n fits found is_found
 
-  pub right_is_formed : (walked : Walked) → IsRight w walked → IsFormed w.graph w.outcomes walked
+  pub right_is_formed : (walked : Walked) → IsRight w walked → IsFormed w walked
   right_is_formed walked right = record {
+    told = right.told;
     fit = right.fit;
     root = right.root;
     done = record {

@@ -17,12 +17,15 @@ use Rattle.meaning_derive.specs.Derive.{Outcomes, outcome_for}
 use Rattle.meaning_derive.specs.Premises.{IsMapOverFitting}
 use Rattle.meaning_derive.proofs.Lemmas.{needs_fit, listed_fit, formed_over, settles_well}
 use Rattle.derive_walk.specs.declared.done.Done.{Done}
+use Rattle.object_values.specs.declared.facts.Fresh.{Fresh}
+use Rattle.object_values.specs.declared.facts.RenewedNode.{RenewedNode}
 use Rattle.derive_walk.specs.Tables.{Entries, Waits, done_in, done_nodes, results_of}
 use Rattle.derive_walk.specs.Calls.{put_in}
 use Rattle.derive_walk.specs.declared.walk.Walk.{Walk}
 use Rattle.derive_walk.specs.Settled.{HasSettled, NodeHasStopped}
 use Rattle.derive_walk.specs.States.{heights_in, IsFormedWait, IsFormedIn}
 use Rattle.derive_walk.specs.Walks.{IsFormedDone, AreFormedDone, AreFormedCalls}
+use Rattle.derive_walk.specs.Told.{AreTold}
 use Rattle.derive_walk.specs.Worlds.{World, IsWorld}
 use Rattle.derive_walk.proofs.CallLemmas.{from_put, put_once}
 use Rattle.derive_walk.proofs.Tables.{push_from, different_push, nodes_push, not_among, not_done, done_or_waiting}
@@ -70,7 +73,7 @@ formed_put outcomes wanted are call formed outside = record {
 
 -- the path is no part of it
 pub formed_at : (w : World) (walk : Walk) (path : List Node) → IsFormedIn w walk → IsFormedIn w (record walk { path = path })
-formed_at w walk path f = record { root = f.root; done = f.done; waiting = f.waiting; wanted = f.wanted }
+formed_at w walk path f = record { root = f.root; done = f.done; told = f.told; waiting = f.waiting; wanted = f.wanted }
 
 module _ (w : World) (walk : Walk) (formed : IsFormedIn w walk) where
   pub low_enough : (m : Node) (k : ℕ) → heights_in walk m ≡ Some k → k ≤ height_limit
@@ -82,10 +85,12 @@ module _ (w : World) (walk : Walk) (formed : IsFormedIn w walk) where
   -- ---- one entry more
 
   module _ (n : Node) (new : heights_in walk n ≡ None) where
-    pub formed_with_done : (d : Done) → IsFormedDone w.graph n d → (done : Entries) → done ≡ walk.done ++ (n, d) ∷ []
-        → IsFormedIn w (record walk { done = done })
-    formed_with_done d is done same = subst (λ z. IsFormedIn w (record walk { done = z })) (sym same) (record {
+    pub formed_with_done : (d : Done) → IsFormedDone w.graph n d → (fresh : List Fresh) (renewed : List RenewedNode)
+        → AreTold w (walk.done ++ (n, d) ∷ []) fresh renewed → (next : Walk) → next ≡ record walk { done = walk.done ++ (n, d) ∷ []; fresh = fresh; renewed = renewed }
+        → IsFormedIn w next
+    formed_with_done d is fresh renewed told next same = subst (IsFormedIn w) (sym same) (record {
       root = formed.root;
+      told = told;
       done = formed_push w.graph walk.done formed.done n (not_done walk.done walk.waiting n new) d is;
       waiting = formed.waiting;
       wanted = formed.wanted;
@@ -96,6 +101,7 @@ module _ (w : World) (walk : Walk) (formed : IsFormedIn w walk) where
   formed_with_waiting n h is waiting same = subst (λ z. IsFormedIn w (record walk { waiting = z })) (sym same) (record {
     root = formed.root;
     done = formed.done;
+    told = formed.told;
     waiting = λ m k e. elim (push_from walk.waiting n h m k e) [
       | inl q ↦ formed.waiting m k q
       | inr q ↦ subst (λ z. IsFormedWait w.graph z k) (sym q.0) (subst (λ z. IsFormedWait w.graph n z) q.1 is)
@@ -108,6 +114,7 @@ module _ (w : World) (walk : Walk) (formed : IsFormedIn w walk) where
   formed_with_wanted call is outside wanted same = subst (λ z. IsFormedIn w (record walk { wanted = z })) (sym same) (record {
     root = formed.root;
     done = formed.done;
+    told = formed.told;
     waiting = formed.waiting;
     wanted = formed_put w.outcomes walk.wanted formed.wanted call is outside;
   })

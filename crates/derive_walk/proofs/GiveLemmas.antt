@@ -13,12 +13,14 @@ use Rattle.meaning_calls.specs.Outcomes.{OutcomeFits}
 use Rattle.meaning_derive.specs.Derive.{Sources, Outcomes}
 use Rattle.meaning_derive.specs.Given.{OutcomesFit}
 use Rattle.meaning_derive.specs.Laws.{HasMore}
+use Rattle.meaning_true.specs.Knowing.{KeptRecords}
 use Rattle.derive_walk.specs.Calls.{outcome_in, GivenOutcomes as Listed}
 use Rattle.derive_walk.specs.Outcomes.{given_or, after}
 use Rattle.derive_walk.specs.Founds.{IsFound, NodesFit}
+use Rattle.derive_walk.specs.Told.{AreTold, AreToldRightly}
 use Rattle.derive_walk.specs.Walks.{Walked, AreFormedDone, IsFormed, AreDone, AreMet, IsRight, AreApart, OutcomeIsGiven}
-use Rattle.derive_walk.specs.Worlds.{world, StopsAtCall}
-use Rattle.derive_walk.proofs.Stays.{right_stays}
+use Rattle.derive_walk.specs.Worlds.{World, world_over, StopsAtCall}
+use Rattle.derive_walk.proofs.Stays.{told_stays, right_stays}
 
 -- ---- one outcome more
 
@@ -51,6 +53,10 @@ module _ (call : Call) (o : Outcome) (given : Listed) (wanted others : List Call
   pub apart_after : AreApart given wanted → AreApart (given ++ (call, o) ∷ []) others
   apart_after apart c i = let q = (fewer c).0 i in other_call given call c o q.1 ∙ apart c q.0
 
+-- what is told is the same
+same_told : {call : Call} {o : Outcome} (w : World) (old new : Walked) → OutcomeIsGiven call o old new → AreTold w old.done old.fresh old.renewed → AreTold w new.done new.fresh new.renewed
+same_told w old new is told = subst (λ z. AreTold w new.done new.fresh z) (sym is.renewed) (subst (λ z. AreTold w new.done z old.renewed) (sym is.fresh) (subst (λ z. AreTold w z old.fresh old.renewed) (sym is.done) told))
+
 module _ (kept : Outcomes) (call : Call) (o : Outcome) (fits : OutcomeFits call o) (old new : Walked) (is : OutcomeIsGiven call o old new) where
   others_same : (c : Call) → c ≢ call → after kept new.given c ≡ after kept old.given c
   others_same c differs = ap (λ z. given_or z (kept c)) (ap (λ l. outcome_in l c) is.given ∙ other_call old.given call c o differs)
@@ -82,8 +88,11 @@ module _ (kept : Outcomes) (call : Call) (o : Outcome) (fits : OutcomeFits call 
 
   -- ---- what is formed
 
-  pub formed_after : (g : Graph) → IsFormed g (after kept old.given) old → IsIn call old.wanted → IsFormed g (after kept new.given) new
-  formed_after g formed wanted = record {
+  pub formed_after : (records : KeptRecords) (g : Graph) (s : Sources) → IsFormed (world_over records g s (after kept old.given)) old → IsIn call old.wanted
+      → IsFormed (world_over records g s (after kept new.given)) new
+  formed_after records g s formed wanted = record {
+    told = told_stays g s (after kept old.given) (after kept new.given) (has_more (formed.wanted.outside call wanted)) records new.done new.fresh new.renewed
+        (same_told (world_over records g s (after kept old.given)) old new is formed.told);
     fit = all_fit (formed.wanted.outside call wanted) formed.fit;
     root = subst (λ z. Fits g z) (sym is.root) formed.root;
     done = subst (λ z. AreFormedDone g z) (sym is.done) formed.done;
@@ -97,21 +106,24 @@ module _ (kept : Outcomes) (call : Call) (o : Outcome) (fits : OutcomeFits call 
 
   -- ---- what is right
 
-  module _ (g : Graph) (s : Sources) (right : IsRight (world g s (after kept old.given)) old) (wanted : IsIn call old.wanted) where
+  module _ (records : KeptRecords) (g : Graph) (s : Sources) (right : IsRight (world_over records g s (after kept old.given)) old) (wanted : IsIn call old.wanted) where
     -- what it was before, by the outcomes before, without the call
-    taken : IsRight (world g s (after kept old.given)) new
+    taken : IsRight (world_over records g s (after kept old.given)) new
     taken = record {
       fit = right.fit;
+      knows = right.knows;
       root = subst (λ z. Fits g z) (sym is.root) right.root;
-      done = subst (λ z. AreDone (world g s (after kept old.given)) z) (sym is.done) right.done;
-      met = subst (λ z. AreMet (world g s (after kept old.given)) z new.done) (sym is.root) (subst (λ z. AreMet (world g s (after kept old.given)) old.root z) (sym is.done) right.met);
-      wanted = λ c i. subst (λ z. StopsAtCall (world g s (after kept old.given)) z c) (sym is.root) (right.wanted c ((is.wanted c).0 i).0);
+      told = same_told (world_over records g s (after kept old.given)) old new is right.told;
+      rightly = subst (λ z. AreToldRightly (world_over records g s (after kept old.given)) new.fresh z) (sym is.renewed) (subst (λ z. AreToldRightly (world_over records g s (after kept old.given)) z old.renewed) (sym is.fresh) right.rightly);
+      done = subst (λ z. AreDone (world_over records g s (after kept old.given)) z) (sym is.done) right.done;
+      met = subst (λ z. AreMet (world_over records g s (after kept old.given)) z new.done) (sym is.root) (subst (λ z. AreMet (world_over records g s (after kept old.given)) old.root z) (sym is.done) right.met);
+      wanted = λ c i. subst (λ z. StopsAtCall (world_over records g s (after kept old.given)) z c) (sym is.root) (right.wanted c ((is.wanted c).0 i).0);
       once = is.once;
       found = subst (λ z. IfSome z (IsFound g s (after kept old.given) new.root)) (sym is.result) (subst (λ z. IfSome old.result (IsFound g s (after kept old.given) z)) (sym is.root) right.found);
     }
 
-    pub right_after : IsRight (world g s (after kept new.given)) new
+    pub right_after : IsRight (world_over records g s (after kept new.given)) new
     right_after =
         let outside = (right.wanted call wanted).outside in
-        right_stays g s (after kept old.given) (after kept new.given) (has_more outside) (all_fit outside right.fit) new
+        right_stays g s (after kept old.given) (after kept new.given) (has_more outside) records (all_fit outside right.fit) new
         (λ c i. let q = (is.wanted c).0 i in others_same c q.1 ∙ (right.wanted c q.0).outside) taken

@@ -6,6 +6,8 @@ use Rattle.object_values.specs.declared.calls.Call.{Call}
 use Rattle.meaning_texts.proofs.Lemmas.{some_or_none, some_is_none}
 use Rattle.meaning_tasks.specs.Needs.{Grows}
 use Rattle.derive_walk.specs.declared.done.Done.{Done}
+use Rattle.object_values.specs.declared.facts.Fresh.{Fresh}
+use Rattle.object_values.specs.declared.facts.RenewedNode.{RenewedNode}
 use Rattle.derive_walk.specs.Tables.{Entries, Waits, done_in, results_of}
 use Rattle.derive_walk.specs.declared.walk.Walk.{Walk}
 use Rattle.derive_walk.specs.Paths.{IsLast}
@@ -29,17 +31,18 @@ results_grow done n d m view e = elim (some_or_none (done_in done m)) [
 module _ (w : World) (walk : Walk) (n : Node) (last : IsLast w walk n) where
   -- ---- done
 
-  module _ (d : Done) (done : Entries) (same : done ≡ walk.done ++ (n, d) ∷ []) where
-    pub goes_with_done : GoesOnFrom walk (record walk { done = done })
-    goes_with_done = subst (λ z. GoesOnFrom walk (record walk { done = z })) (sym same) (record {
+  module _ (d : Done) (fresh : List Fresh) (renewed : List RenewedNode) (next : Walk)
+      (same : next ≡ record walk { done = walk.done ++ (n, d) ∷ []; fresh = fresh; renewed = renewed }) where
+    pub goes_with_done : GoesOnFrom walk next
+    goes_with_done = subst (GoesOnFrom walk) (sym same) (record {
       root = refl;
       wanted = λ c i. i;
       keeps = done_keeps walk.done walk.waiting n (last_is_new w walk n last) d;
       results = results_grow walk.done n d;
     })
 
-    pub visited_with_done : Visited w walk (record walk { done = done }) n
-    visited_with_done = subst (λ z. Visited w walk (record walk { done = z }) n) (sym same) (record {
+    pub visited_with_done : Visited w walk next n
+    visited_with_done = subst (λ z. Visited w walk z n) (sym same) (record {
       path = refl;
       there = subst IsSome (sym (done_there walk.done walk.waiting n (last_is_new w walk n last) d)) refl;
       apart = λ m i other. done_apart walk.done walk.waiting n (last_is_new w walk n last) d m (last.path.apart m i) other;

@@ -9,3 +9,5 @@ pub use Rattle.derive_walk.proofs.Stays.{found_stays, right_stays, met_stays}
 pub use Rattle.derive_walk.proofs.Formed.{found_fits, wanted_formed, right_is_formed}
 -- The nodes that a walk has met.
 pub use Rattle.derive_walk.proofs.MetLemmas.{has_met}
+-- Where nothing is kept of nodes, and a new walk.
+pub use Rattle.derive_walk.proofs.Starts.{none_readable, world_is, knows_nothing, new_is_right}

@@ -4,47 +4,45 @@ use Rattle.std.specs.Prelude.{Option, Some, None, IsSome, IfSome, Result, Ok, Er
 use Rattle.object_values.specs.declared.nodes.Node.{Node}
 use Rattle.object_values.specs.declared.views.View.{View}
 use Rattle.object_values.specs.declared.calls.Call.{Call}
+use Rattle.meaning_texts.specs.Limits.{height_limit}
 use Rattle.meaning_texts.specs.Lists.{IsIn}
 use Rattle.meaning_texts.proofs.Lemmas.{some_is_none, value_of_some}
 use Rattle.meaning_graph.specs.Graphs.{Graph}
 use Rattle.meaning_tasks.specs.Nodes.{Fits}
-use Rattle.meaning_derive.specs.Derive.{Sources, Outcomes}
+use Rattle.meaning_derive.specs.Derive.{Sources, Outcomes, derive}
 use Rattle.meaning_derive.specs.Given.{OutcomesFit}
-use Rattle.meaning_derive.specs.Chains.{LeadsOn, Chain}
-use Rattle.meaning_derive.proofs.Lemmas.{none_by_call, none_refused}
+use Rattle.meaning_derive.specs.Chains.{Chain}
+use Rattle.meaning_derive.proofs.Lemmas.{grows_to, none_by_call, none_refused}
 use Rattle.derive_walk.specs.declared.done.Done.{Done}
 use Rattle.derive_walk.specs.declared.found.Found.{Found}
 use Rattle.derive_walk.specs.declared.found.Found.TheVariants.{Answer}
 use Rattle.derive_walk.specs.Tables.{done_in, height_in}
 use Rattle.derive_walk.specs.Calls.{GivenOutcomes, AreOnce}
 use Rattle.derive_walk.specs.declared.walk.Walk.{Walk}
-use Rattle.derive_walk.specs.Worlds.{World, IsWorld, world, seen_in, StopsAtCall}
+use Rattle.derive_walk.specs.Told.{AreTold, AreToldRightly}
+use Rattle.derive_walk.specs.Worlds.{World, IsWorld, world_over, seen_in, StopsAtCall}
 use Rattle.derive_walk.specs.Founds.{IsFound, NodesFit}
+use Rattle.meaning_true.specs.Knowing.{KeptRecords}
 use Rattle.derive_walk.specs.Walks.{Walked, AreFormedDone, AreFormedCalls, IsFormed, AreDone, AreMet, IsRight, AreFrontier, FindsOrWants}
+use Rattle.derive_walk.specs.DerivedHeights.{heights_or}
 use Rattle.derive_walk.specs.States.{heights_in, IsFormedIn, HoldsIn, GoesOnFrom}
 use Rattle.derive_walk.specs.Paths.{IsPath, IsNext, LeadsTo, HasEmptyPath, AfterRoot}
 use Rattle.derive_walk.proofs.Tables.{done_or_waiting}
 use Rattle.derive_walk.proofs.FormedLemmas.{elements_fit}
 use Rattle.derive_walk.proofs.NeedLemmas.{done_is_derived, at_most_limit}
-use Rattle.derive_walk.proofs.FallLemmas.{falls, are_falling}
+use Rattle.derive_walk.proofs.FallLemmas.{height_is, in_tables, are_falling}
+use Rattle.derive_walk.proofs.ChainHeights.{seen_along}
 
 module _ (w : World) (walk : Walk) (holds : HoldsIn w walk) where
-  -- where a chain leads from what has a height, there is one
-  leads_to : (n m : Node) (k : ℕ) → heights_in walk n ≡ Some k → (front : List Node) → LeadsOn w.graph (seen_in w) n (front ++ m ∷ []) → (j : ℕ) × (heights_in walk m ≡ Some j)
-  leads_to n m k e [] l = let r = falls w walk holds n m k e l.0 in (r.0, r.1)
-  leads_to n m k e (f ∷ front) l = let r = falls w walk holds n f k e l.0 in leads_to f m r.0 r.1 front l.1
-
-  seen_along : (n m : Node) (k : ℕ) → heights_in walk n ≡ Some k → (front : List Node) → Chain w.graph (seen_in w) n (front ++ m ∷ []) → (j : ℕ) × (heights_in walk m ≡ Some j)
-  seen_along n m k e [] c = (k, subst (λ z. heights_in walk z ≡ Some k) c.0 e)
-  seen_along n m k e (f ∷ front) c = leads_to f m k (subst (λ z. heights_in walk z ≡ Some k) c.0 e) front c.1
-
   -- each call at which the derivation stops is wanted
-  all_wanted : (k : ℕ) → heights_in walk walk.root ≡ Some k → (call : Call) → StopsAtCall w walk.root call → IsIn call walk.wanted
+  all_wanted : (k : ℕ) → heights_or w walk walk.root ≡ Some k → (call : Call) → StopsAtCall w walk.root call → IsIn call walk.wanted
   all_wanted k e call stops =
       let m = stops.from.node in
-      let j = seen_along walk.root m k e stops.from.met.front stops.from.met.leads in
-      elim (done_or_waiting walk.done walk.waiting m j.0 j.1) [
-        | inl d ↦ some_is_none (seen_in w m) d.0.view (done_is_derived w walk holds m d.0 d.1) (none_by_call w.graph w.sources w.outcomes m call stops.from.runs stops.outside)
+      let j = seen_along w walk holds walk.root m k e stops.from.met.front stops.from.met.leads in
+      elim (height_is w walk holds m j.0 j.1) [
+        | inl r ↦ (let v = value_of_some (derive w.graph w.sources w.outcomes j.0 m) r.0.there in
+            some_is_none (seen_in w m) v.0 (grows_to w.graph w.sources w.outcomes j.0 height_limit r.1 m v.0 v.1)
+            (none_by_call w.graph w.sources w.outcomes m call stops.from.runs stops.outside))
         | inr q ↦ (holds.waiting m j.0 q.1).call call stops.from.runs
       ]
 
@@ -56,10 +54,10 @@ module _ (w : World) (walk : Walk) (holds : HoldsIn w walk) where
         | inl d ↦ some_is_none (done_in walk.done walk.root) d.0 d.1 none
         | inr q ↦ record {
           only = holds.only;
-          each = all_wanted k.0 k.1;
+          each = all_wanted k.0 (in_tables w walk holds walk.root k.0 k.1);
           once = holds.once;
           one = holds.one walk.root k.0 q.1;
-          calm = none_refused w.graph (seen_in w) (heights_in walk) (are_falling w walk holds) walk.root k.0 k.1 (at_most_limit w walk holds walk.root k.0 k.1);
+          calm = none_refused w.graph (seen_in w) (heights_or w walk) (are_falling w walk holds) walk.root k.0 (in_tables w walk holds walk.root k.0 k.1) (at_most_limit w walk holds walk.root k.0 k.1);
         }
       ]
 
@@ -116,29 +114,38 @@ nothing_waits : (n : Node) (h : ℕ) → height_in [] n ≡ Some h → ⊥
 nothing_waits n h e = cc
 
 -- what is formed
-pub formed_at_start : (g : Graph) (s : Sources) (outcomes : Outcomes) (walked : Walked) → IsFormed g outcomes walked → (walk : Walk) → walk.root ≡ walked.root
-    → walk.done ≡ walked.done → walk.wanted ≡ walked.wanted → walk.waiting ≡ [] → IsFormedIn (world g s outcomes) walk
-formed_at_start g s outcomes walked formed walk root done wanted waiting = record {
-  root = subst (λ r. Fits g r) (sym root) formed.root;
-  done = subst (λ d. AreFormedDone g d) (sym done) formed.done;
+pub formed_at_start : (w : World) (walked : Walked) → IsFormed w walked → (walk : Walk) → walk.root ≡ walked.root → walk.done ≡ walked.done
+    → walk.fresh ≡ walked.fresh → walk.renewed ≡ walked.renewed → walk.wanted ≡ walked.wanted → walk.waiting ≡ [] → IsFormedIn w walk
+formed_at_start w walked formed walk root done fresh renewed wanted waiting = record {
+  root = subst (λ r. Fits w.graph r) (sym root) formed.root;
+  done = subst (λ d. AreFormedDone w.graph d) (sym done) formed.done;
+  told = same_told done fresh renewed formed.told;
   waiting = λ n h e. absurd (nothing_waits n h (subst (λ l. height_in l n ≡ Some h) waiting e));
-  wanted = subst (λ l. AreFormedCalls outcomes l) (sym wanted) formed.wanted;
+  wanted = subst (λ l. AreFormedCalls w.outcomes l) (sym wanted) formed.wanted;
 }
+  where
+    same_told : walk.done ≡ walked.done → walk.fresh ≡ walked.fresh → walk.renewed ≡ walked.renewed → AreTold w walked.done walked.fresh walked.renewed
+        → AreTold w walk.done walk.fresh walk.renewed
+    same_told d f r told = subst (λ z. AreTold w walk.done walk.fresh z) (sym r) (subst (λ z. AreTold w walk.done z walked.renewed) (sym f) (subst (λ z. AreTold w z walked.fresh walked.renewed) (sym d) told))
 
 pub formed_at_end : (w : World) (walk : Walk) → IsFormedIn w walk → OutcomesFit w.outcomes → (given : GivenOutcomes) (result : Option Found)
     → IfSome result (NodesFit w.graph)
-    → IsFormed w.graph w.outcomes (record { root = walk.root; done = walk.done; given = given; wanted = walk.wanted; result = result })
+    → IsFormed w (record { root = walk.root; done = walk.done; fresh = walk.fresh; renewed = walk.renewed; given = given; wanted = walk.wanted; result = result })
 formed_at_end w walk formed fit given result found = record {
   fit = fit;
   root = formed.root;
   done = formed.done;
+  told = formed.told;
   wanted = formed.wanted;
   found = found;
 }
 
 -- what is right holds where nothing waits
-pub holds_at_start : (w : World) (walked : Walked) → IsRight w walked → (walk : Walk) → walk.root ≡ walked.root → walk.done ≡ walked.done → walk.wanted ≡ walked.wanted → walk.waiting ≡ [] → HoldsIn w walk
-holds_at_start w walked right walk root done wanted waiting = record {
+pub holds_at_start : (w : World) (walked : Walked) → IsRight w walked → (walk : Walk) → walk.root ≡ walked.root → walk.done ≡ walked.done
+    → walk.fresh ≡ walked.fresh → walk.renewed ≡ walked.renewed → walk.wanted ≡ walked.wanted → walk.waiting ≡ [] → HoldsIn w walk
+holds_at_start w walked right walk root done fresh renewed wanted waiting = record {
+  rightly = subst (λ z. AreToldRightly w walk.fresh z) (sym renewed) (subst (λ z. AreToldRightly w z walked.renewed) (sym fresh) right.rightly);
+  knows = right.knows;
   done = subst (λ d. AreDone w d) (sym done) right.done;
   met = subst (λ r. AreMet w r walk.done) (sym root) (subst (λ d. AreMet w walked.root d) (sym done) right.met);
   waiting = λ n h e. absurd (nothing_waits n h (subst (λ l. height_in l n ≡ Some h) waiting e));
@@ -148,9 +155,12 @@ holds_at_start w walked right walk root done wanted waiting = record {
 }
 
 -- what holds is right
-pub right_at_end : (w : World) (walk : Walk) → HoldsIn w walk → OutcomesFit w.outcomes → Fits w.graph walk.root → (given : GivenOutcomes) (result : Option Found) → IfSome result (IsFound w.graph w.sources w.outcomes walk.root) → IsRight w (record { root = walk.root; done = walk.done; given = given; wanted = walk.wanted; result = result })
-right_at_end w walk holds fit root given result found = record {
+pub right_at_end : (w : World) (walk : Walk) → HoldsIn w walk → AreTold w walk.done walk.fresh walk.renewed → OutcomesFit w.outcomes → Fits w.graph walk.root → (given : GivenOutcomes) (result : Option Found) → IfSome result (IsFound w.graph w.sources w.outcomes walk.root) → IsRight w (record { root = walk.root; done = walk.done; fresh = walk.fresh; renewed = walk.renewed; given = given; wanted = walk.wanted; result = result })
+right_at_end w walk holds told fit root given result found = record {
   fit = fit;
+  knows = holds.knows;
+  told = told;
+  rightly = holds.rightly;
   root = root;
   done = holds.done;
   met = holds.met;

@@ -1,19 +1,27 @@
 -- A node whose needs are done is closed: it is done, or its call is wanted and it waits.
-use Rattle.std.proofs.Common.{◌≡◌, ◌<◌, ℕ, List, [], ◌∷◌, ◌++◌, sym, subst, refl, arith}
+use Rattle.std.proofs.Common.{◌≡◌, ◌<◌, ℕ, List, [], ◌∷◌, ◌++◌, inr, sym, ap, subst, refl, arith}
 use Rattle.object_values.specs.declared.nodes.Node.{Node}
 use Rattle.object_values.specs.declared.views.View.{View}
 use Rattle.object_values.specs.declared.calls.Call.{Call}
 use Rattle.meaning_texts.specs.Lists.{IsIn}
+use Rattle.object_values.specs.declared.facts.Fresh.{Fresh}
 use Rattle.node_tasks.specs.declared.needed.Needed.{Needed}
+use Rattle.node_tasks.specs.declared.settling.Settled.{Settled as Whole}
 use Rattle.derive_walk.specs.declared.done.Done.{Done}
 use Rattle.derive_walk.specs.Tables.{Entries, Waits, results_of}
 use Rattle.derive_walk.specs.Calls.{put_in, AreOnce}
 use Rattle.derive_walk.proofs.CallLemmas.{put_keeps, put_there, put_once}
 use Rattle.derive_walk.specs.declared.walk.Walk.{Walk}
 use Rattle.derive_walk.specs.Paths.{IsLast, IsLed, IsClosing}
-use Rattle.derive_walk.specs.Settled.{HasSettled, NodeHasStopped}
+use Rattle.derive_walk.specs.Noting.{IsNoteOf}
+use Rattle.derive_walk.specs.Settled.{HasSettled, HasSettledWhole, NodeHasStopped}
+use Rattle.derive_walk.specs.Told.{TakesSettled}
 use Rattle.derive_walk.specs.States.{IsFormedIn, HoldsIn, GoesOnFrom}
 use Rattle.derive_walk.specs.Worlds.{World, IsWorld}
+use Rattle.derive_walk.proofs.ClosedLemmas.{whole_settled}
+use Rattle.derive_walk.proofs.NoteLemmas.{note_in, note_present, note_anew}
+use Rattle.derive_walk.proofs.Tables.{not_done}
+use Rattle.derive_walk.proofs.ToldLemmas.{told_source, told_settled, rightly_settled}
 use Rattle.derive_walk.proofs.Added.{KeepCalls, holds_with_done, holds_with_waiting, holds_with_wanted}
 use Rattle.derive_walk.proofs.FormedLemmas.{formed_with_done, formed_with_waiting, formed_with_wanted, settles_formed, stops_formed}
 use Rattle.derive_walk.proofs.ClosingLemmas.{last_fits, last_is_new, met_here, stops_here, needs_stay, settled_is_done, stopped_runs, stopped_waits}
@@ -31,12 +39,28 @@ module _ (w : World) (is : IsWorld w) (walk : Walk) (n : Node) {needed : Needed}
   low : 0 < height
   low = omega (arith, closing.above)
 
-  pub settled_formed : (view : View) → HasSettled w n (results_of walk.done) view → (done : Entries)
+  -- a source
+  pub source_formed : (view : View) → n.steps ≡ [] → HasSettled w n (results_of walk.done) view → (done : Entries)
       → done ≡ walk.done ++ (n, record { view = view; height = height }) ∷ [] → IsFormedIn w (record walk { done = done })
-  settled_formed view so done same =
-      formed_with_done w walk last.formed n (last_is_new w walk n last) (record { view = view; height = height })
+  source_formed view source so done same =
+      let d : Done = record { view = view; height = height } in
+      let none = not_done walk.done walk.waiting n (last_is_new w walk n last) in
+      formed_with_done w walk last.formed n (last_is_new w walk n last) d
       (record { result = settles_formed w walk last.formed is n (last_fits w walk n last) view so; low = low; high = closing.high })
-      done same
+      walk.fresh walk.renewed (told_source w walk.done walk.fresh walk.renewed last.formed.told n none d source) (record walk { done = done })
+      (ap (λ z. record walk { done = z }) same)
+
+  -- a node with steps, with what is noted of it
+  pub whole_formed : (whole : Whole) → HasSettledWhole w n (results_of walk.done) whole → (note : Fresh) → IsNoteOf w.graph w.outcomes walk.done n whole height note
+      → (next : Walk) → TakesSettled walk next n (record { view = whole.view; height = height }) note → IsFormedIn w next
+  whole_formed whole so note noted next takes =
+      let d : Done = record { view = whole.view; height = height } in
+      let none = not_done walk.done walk.waiting n (last_is_new w walk n last) in
+      formed_with_done w walk last.formed n (last_is_new w walk n last) d
+      (record { result = settles_formed w walk last.formed is n (last_fits w walk n last) whole.view (whole_settled w n (results_of walk.done) whole so); low = low; high = closing.high })
+      (walk.fresh ++ note ∷ []) walk.renewed
+      (told_settled w walk.done walk.fresh walk.renewed last.formed.told n none d note noted.node (note_in w walk.done n whole height note noted d refl refl none))
+      next takes.is
 
   module _ (call : Call) (so : NodeHasStopped w n (results_of walk.done) call) (wanted : List Call) (more : wanted ≡ put_in call walk.wanted) where
     pub wanted_formed : IsFormedIn w (record walk { wanted = wanted })
@@ -54,11 +78,23 @@ module _ (w : World) (walk : Walk) (led : IsLed w walk) (n : Node) {needed : Nee
   holds : HoldsIn w walk
   holds = led.holds
 
-  pub settled_holds : (view : View) → HasSettled w n (results_of walk.done) view → (done : Entries) → done ≡ walk.done ++ (n, record { view = view; height = height }) ∷ [] → HoldsIn w (record walk { done = done })
-  settled_holds view so done same =
+  pub source_holds : (view : View) → HasSettled w n (results_of walk.done) view → (done : Entries) → done ≡ walk.done ++ (n, record { view = view; height = height }) ∷ [] → HoldsIn w (record walk { done = done })
+  source_holds view so done same =
       let d : Done = record { view = view; height = height } in
       holds_with_done w walk holds n (last_is_new w walk n last) d (settled_is_done w walk holds n height closing (last_fits w walk n last) view so)
-      (needs_stay w walk holds n height closing) (met_here w walk n last led) done same
+      (inr (needs_stay w walk holds n height closing)) (met_here w walk n last led)
+      walk.fresh walk.renewed holds.rightly (record walk { done = done }) (ap (λ z. record walk { done = z }) same)
+
+  pub whole_holds : (whole : Whole) → HasSettledWhole w n (results_of walk.done) whole → (note : Fresh) → IsNoteOf w.graph w.outcomes walk.done n whole height note
+      → (next : Walk) → TakesSettled walk next n (record { view = whole.view; height = height }) note → HoldsIn w next
+  whole_holds whole so note noted next takes =
+      let d : Done = record { view = whole.view; height = height } in
+      holds_with_done w walk holds n (last_is_new w walk n last) d
+      (settled_is_done w walk holds n height closing (last_fits w walk n last) whole.view (whole_settled w n (results_of walk.done) whole so))
+      (inr (needs_stay w walk holds n height closing)) (met_here w walk n last led)
+      (walk.fresh ++ note ∷ []) walk.renewed
+      (rightly_settled w walk.fresh walk.renewed holds.rightly note (note_present w walk holds n height closing note noted.node noted.closed)
+      (note_anew w walk holds n height closing so.stepped note noted.node)) next takes.is
 
   module _ (call : Call) (so : NodeHasStopped w n (results_of walk.done) call) (wanted : List Call) (more : wanted ≡ put_in call walk.wanted) where
     pub wanted_holds : HoldsIn w (record walk { wanted = wanted })

@@ -1,5 +1,5 @@
 -- What stays as more outcomes come: what is found, what is done, and what is wanted.
-use Rattle.std.proofs.Common.{◌≡◌, List, [], ◌∷◌, ◌++◌, ap, subst, is_some}
+use Rattle.std.proofs.Common.{◌≡◌, List, [], ◌∷◌, ◌++◌, ◌⊎◌, inl, inr, ap, subst, is_some}
 use Rattle.std.specs.Prelude.{Option, Some, None, IsSome, IfSome}
 use Rattle.object_values.specs.declared.nodes.Node.{Node}
 use Rattle.object_values.specs.declared.calls.Call.{Call}
@@ -14,13 +14,18 @@ use Rattle.meaning_derive.specs.Chains.{LeadsOn, Chain, IsMet}
 use Rattle.meaning_derive.specs.Given.{OutcomesFit}
 use Rattle.meaning_derive.specs.Laws.{HasMore}
 use Rattle.meaning_derive.proofs.Lemmas.{derive_more, grows_to, kept, needs_at, needs_listed, same_height, frontier_stays}
+use Rattle.meaning_true.specs.Knowing.{KeptRecords, IsChecked}
+use Rattle.object_values.specs.declared.facts.Fresh.{Fresh}
+use Rattle.object_values.specs.declared.facts.RenewedNode.{RenewedNode}
+use Rattle.meaning_true.proofs.Lemmas.{truth_stays, knows_on, present_on, present_before}
 use Rattle.derive_walk.specs.declared.done.Done.{Done}
 use Rattle.derive_walk.specs.Tables.{Entries, done_in}
 use Rattle.derive_walk.specs.declared.found.Found.{Found}
 use Rattle.derive_walk.specs.declared.found.Found.TheVariants.{Answer, Circular, Deep}
 use Rattle.derive_walk.specs.Founds.{IsFound}
+use Rattle.derive_walk.specs.Told.{IsFreshIn, IsRenewedIn, AreTold, AreToldRightly}
 use Rattle.derive_walk.specs.Walks.{Walked, IsDone, AreDone, IsRight}
-use Rattle.derive_walk.specs.Worlds.{World, world, IsNeedIn}
+use Rattle.derive_walk.specs.Worlds.{World, world, world_over, KnowsIn, IsNeedIn}
 
 -- what is done has a result
 pub done_founded : (w : World) (done : Entries) → AreDone w done → (n : Node) → IsSome (done_in done n) → IsFounded w.graph w.sources w.outcomes n
@@ -61,53 +66,102 @@ module _ (g : Graph) (s : Sources) (outcomes more : Outcomes) (has : HasMore out
   pub met_stays : (n m : Node) → IsMet g (derived g s outcomes) n m → IsMet g (derived g s more) n m
   met_stays n m met = record { front = met.front; leads = chain_stays n (met.front ++ m ∷ []) met.leads; short = met.short }
 
-  -- ---- a table
+  module _ (records : KeptRecords) where
+    abbrev before : World
+    before = world_over records g s outcomes
 
-  done_stays : (n : Node) (d : Done) → IsDone few n d → IsDone many n d
-  done_stays n d is = record {
-    fits = is.fits;
-    high = is.high;
-    is = derive_more g s outcomes more has d.height n d.view is.is;
-    has = same_height g s outcomes more has n d.height is.high is.has;
-  }
+    abbrev later : World
+    later = world_over records g s more
 
-  module _ (done : Entries) (are : AreDone few done) (n : Node) (d : Done) (there : done_in done n ≡ Some d) where
-    abbrev needs : List Node
-    needs = needs_at g s outcomes height_limit n
+    -- ---- a table
 
-    listed : Needs g n (derived g s outcomes) needs
-    listed = needs_listed g s outcomes height_limit n
+    done_stays : (n : Node) (d : Done) → IsDone before n d → IsDone later n d
+    done_stays n d is = record {
+      fits = is.fits;
+      high = is.high;
+      is = derive_more g s outcomes more has d.height n d.view is.is;
+      has = same_height g s outcomes more has n d.height is.high is.has;
+    }
 
-    need_done : (m : Node) → IsIn m needs → IsSome (done_in done m)
-    need_done m i = are.needs n d there m (record { needs = needs; listed = listed; one = i })
+    module _ (done : Entries) (are : AreDone before done) (n : Node) (each : (m : Node) → IsNeedIn before n m → IsSome (done_in done m)) where
+      abbrev needs : List Node
+      needs = needs_at g s outcomes height_limit n
 
-    -- all its needs have results, so that more outcomes bring none
-    still_listed : Needs g n (derived g s more) needs
-    still_listed = (full_needs_stay g (text_of s) n (derived g s outcomes) (derived g s more) needs (derive_more g s outcomes more has height_limit) listed (λ m i. done_founded few done are m (need_done m i))).needs
+      listed : Needs g n (derived g s outcomes) needs
+      listed = needs_listed g s outcomes height_limit n
 
-    pub needs_done : (m : Node) → IsNeedIn many n m → IsSome (done_in done m)
-    needs_done m need = need_done m (subst (λ l. IsIn m l) (one_list_of_needs g n (derived g s more) need.needs needs need.listed still_listed) need.one)
+      need_done : (m : Node) → IsIn m needs → IsSome (done_in done m)
+      need_done m i = each m (record { needs = needs; listed = listed; one = i })
 
-  pub are_done_stays : (done : Entries) → AreDone few done → AreDone many done
-  are_done_stays done are = record {
-    each = λ n d there. done_stays n d (are.each n d there);
-    needs = λ n d there m need. needs_done done are n d there m need;
-    different = are.different;
-  }
+      -- all its needs have results, so that more outcomes bring none
+      still_listed : Needs g n (derived g s more) needs
+      still_listed = (full_needs_stay g (text_of s) n (derived g s outcomes) (derived g s more) needs (derive_more g s outcomes more has height_limit) listed (λ m i. done_founded before done are m (need_done m i))).needs
 
-  -- ---- a walk
+      pub needs_done : (m : Node) → IsNeedIn later n m → IsSome (done_in done m)
+      needs_done m need = need_done m (subst (λ l. IsIn m l) (one_list_of_needs g n (derived g s more) need.needs needs need.listed still_listed) need.one)
 
-  result_stays : (n : Node) (result : Option Found) → IfSome result (IsFound g s outcomes n) → IfSome result (IsFound g s more n)
-  result_stays n None is = is
-  result_stays n (Some found) is = found_stays n found is
+    needs_stay : (done : Entries) → AreDone before done → (n : Node)
+        → IsChecked records n ⊎ ((m : Node) → IsNeedIn before n m → IsSome (done_in done m))
+        → IsChecked records n ⊎ ((m : Node) → IsNeedIn later n m → IsSome (done_in done m))
+    needs_stay done are n (inl checked) = inl checked
+    needs_stay done are n (inr each) = inr (needs_done done are n each)
 
-  pub right_stays : OutcomesFit more → (walked : Walked) → ((call : Call) → IsIn call walked.wanted → more call ≡ None) → IsRight few walked → IsRight many walked
-  right_stays fit walked none right = record {
-    fit = fit;
-    root = right.root;
-    done = are_done_stays walked.done right.done;
-    met = λ n i. met_stays walked.root n (right.met n i);
-    wanted = λ call i. frontier_stays g s outcomes more has walked.root call (right.wanted call i) (none call i);
-    once = right.once;
-    found = result_stays walked.root walked.result right.found;
-  }
+    pub are_done_stays : (done : Entries) → AreDone before done → AreDone later done
+    are_done_stays done are = record {
+      each = λ n d there. done_stays n d (are.each n d there);
+      needs = λ n d there. needs_stay done are n (are.needs n d there);
+      different = are.different;
+    }
+
+    -- ---- what is told
+
+    fresh_stays : (done : Entries) (f : Fresh) → IsFreshIn before done f → IsFreshIn later done f
+    fresh_stays done f is = record {
+      truth = truth_stays g outcomes more has f.fact is.truth;
+      fits = is.fits;
+      notable = is.notable;
+      entry = is.entry;
+      is = is.is;
+      value = is.value;
+      comes = is.comes;
+    }
+
+    renewed_stays : (done : Entries) (r : RenewedNode) → IsRenewedIn before done r → IsRenewedIn later done r
+    renewed_stays done r is = record { stepped = is.stepped; kept = is.kept; has = is.has; entry = is.entry; is = is.is; value = is.value; comes = is.comes }
+
+    pub told_stays : (done : Entries) (fresh : List Fresh) (renewed : List RenewedNode) → AreTold before done fresh renewed → AreTold later done fresh renewed
+    told_stays done fresh renewed told = record {
+      noted = λ f i. fresh_stays done f (told.noted f i);
+      kept = λ r i. renewed_stays done r (told.kept r i);
+      once = told.once;
+      kept_once = told.kept_once;
+      apart = told.apart;
+      all = told.all;
+    }
+
+    rightly_stays : KnowsIn before → (fresh : List Fresh) (renewed : List RenewedNode) → AreToldRightly before fresh renewed → AreToldRightly later fresh renewed
+    rightly_stays knows fresh renewed right = record {
+      present = λ f i. present_on g s outcomes more has f.fact (right.present f i);
+      anew = λ f i k e now. right.anew f i k e (present_before g s outcomes more has f.fact k.fact (knows.each f.fact.node k e).0 (right.present f i) now);
+      current = λ r i k e. present_on g s outcomes more has k.fact (right.current r i k e);
+    }
+
+    -- ---- a walk
+
+    result_stays : (n : Node) (result : Option Found) → IfSome result (IsFound g s outcomes n) → IfSome result (IsFound g s more n)
+    result_stays n None is = is
+    result_stays n (Some found) is = found_stays n found is
+
+    pub right_stays : OutcomesFit more → (walked : Walked) → ((call : Call) → IsIn call walked.wanted → more call ≡ None) → IsRight before walked → IsRight later walked
+    right_stays fit walked none right = record {
+      fit = fit;
+      knows = knows_on g s outcomes more records has right.knows;
+      told = told_stays walked.done walked.fresh walked.renewed right.told;
+      rightly = rightly_stays right.knows walked.fresh walked.renewed right.rightly;
+      root = right.root;
+      done = are_done_stays walked.done right.done;
+      met = λ n i. met_stays walked.root n (right.met n i);
+      wanted = λ call i. frontier_stays g s outcomes more has walked.root call (right.wanted call i) (none call i);
+      once = right.once;
+      found = result_stays walked.root walked.result right.found;
+    }

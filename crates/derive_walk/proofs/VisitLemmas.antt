@@ -52,6 +52,8 @@ goes_far a b c p q = record {
 -- the path is no part of what holds
 pub holds_at : (w : World) (walk : Walk) (path : List Node) → HoldsIn w walk → HoldsIn w (record walk { path = path })
 holds_at w walk path h = record {
+  knows = h.knows;
+  rightly = h.rightly;
   done = h.done;
   met = h.met;
   waiting = h.waiting;

@@ -9,11 +9,12 @@ use Rattle.meaning_tasks.specs.Nodes.{Fits}
 use Rattle.meaning_derive.specs.Derive.{Sources, Outcomes}
 use Rattle.meaning_derive.specs.Given.{OutcomesFit}
 use Rattle.meaning_derive.specs.Laws.{HasMore}
+use Rattle.meaning_true.specs.Knowing.{KeptRecords}
 use Rattle.derive_walk.specs.declared.found.Found.{Found}
 use Rattle.derive_walk.specs.Founds.{IsFound, NodesFit}
 use Rattle.derive_walk.specs.Looks.{HasMet}
 use Rattle.derive_walk.specs.Walks.{Walked, IsFormed, IsRight}
-use Rattle.derive_walk.specs.Worlds.{World, IsWorld, world}
+use Rattle.derive_walk.specs.Worlds.{World, IsWorld, world_over}
 
 -- What is found stays so as more outcomes come.
 abbrev pub FoundStays : Type 0
@@ -24,16 +25,18 @@ FoundStays =
 -- A walk that is right stays so as more outcomes come, as long as no wanted call has one.
 abbrev pub RightStays : Type 0
 RightStays =
-    (g : Graph) (s : Sources) (outcomes more : Outcomes) → HasMore outcomes more → OutcomesFit more
+    (records : KeptRecords) (g : Graph) (s : Sources) (outcomes more : Outcomes)
+    → HasMore outcomes more → OutcomesFit more
     → (walked : Walked) → ((call : Call) → IsIn call walked.wanted → more call ≡ None)
-    → IsRight (world g s outcomes) walked → IsRight (world g s more) walked
+    → IsRight (world_over records g s outcomes) walked → IsRight (world_over records g s more) walked
 
 -- So does a walk that is formed.
 abbrev pub FormedStays : Type 0
 FormedStays =
-    (g : Graph) (outcomes more : Outcomes) → OutcomesFit more
+    (records : KeptRecords) (g : Graph) (s : Sources) (outcomes more : Outcomes)
+    → HasMore outcomes more → OutcomesFit more
     → (walked : Walked) → ((call : Call) → IsIn call walked.wanted → more call ≡ None)
-    → IsFormed g outcomes walked → IsFormed g more walked
+    → IsFormed (world_over records g s outcomes) walked → IsFormed (world_over records g s more) walked
 
 -- ---- what is formed, whatever is known
 
@@ -52,7 +55,7 @@ WantedAreFormed =
 abbrev pub RightIsFormed : Type 0
 RightIsFormed =
     (w : World) → IsWorld w → (walked : Walked) → IsRight w walked
-    → IsFormed w.graph w.outcomes walked
+    → IsFormed w walked
 
 -- ---- what was looked at
 

@@ -1,5 +1,5 @@
 -- How many looks at kept calls a walk takes.
-use Rattle.std.specs.Prelude.{◌≡◌, ◌≢◌, ℕ, ◌+◌, ◌≤◌, List, [], ◌∷◌, length, Result, Ok, Err, IfOk}
+use Rattle.std.specs.Prelude.{◌≡◌, ◌≢◌, ℕ, ◌+◌, ◌≤◌, List, [], ◌∷◌, length, Result, Ok, Err, IfOk, OnOk}
 use Rattle.object_values.specs.declared.nodes.Step.{Step}
 use Rattle.object_values.specs.declared.nodes.Node.{Node}
 use Rattle.object_values.specs.declared.calls.Call.{Call}
@@ -8,7 +8,7 @@ use Rattle.meaning_derive.specs.Chains.{AreDifferent, IsMet}
 use Rattle.derive_walk.specs.Tables.{done_nodes}
 use Rattle.derive_walk.specs.Calls.{put_in}
 use Rattle.derive_walk.specs.declared.settling.Closed.{Closed}
-use Rattle.derive_walk.specs.declared.settling.Closed.TheVariants.{Settled, Stops}
+use Rattle.derive_walk.specs.declared.settling.Closed.TheVariants.{Given, Settled, Stops}
 use Rattle.derive_walk.specs.declared.walk.Walk.{Walk}
 use Rattle.derive_walk.specs.Walks.{Walked}
 use Rattle.derive_walk.specs.Worlds.{World, seen_in}
@@ -55,8 +55,14 @@ pub record HasMet (w : World) (walked : Walked) : Type 0 where
 -- ---- the closing of one node
 
 abbrev pub met_with : List Call → Node → Closed → ℕ
-met_with wanted n (Settled view) = length wanted + one_if n.steps
+met_with wanted n (Given view) = length wanted + one_if n.steps
+met_with wanted n (Settled whole) = length wanted + one_if n.steps
 met_with wanted n (Stops call) = length (put_in call wanted)
+
+-- So many were met with the node that was closed, or no fewer for want of memory.
+pub record HasMetOne {T E : Type 0} (old new : Walk) (n : Node) (closed : Closed) (result : Result T E) : Type 0 where
+  pub later : met_in old ≤ met_in new
+  pub ok : OnOk result (met_in new ≡ count_with_steps (done_nodes old.done) + met_with old.wanted n closed)
 
 pub record LooksOnce {E : Type 0} (wanted : List Call) (n : Node) (before now : ℕ) (result : Result Closed E) : Type 0 where
   pub later : before ≤ now

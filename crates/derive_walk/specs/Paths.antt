@@ -1,5 +1,5 @@
 -- The path of a walk, and the chains that it ends in.
-use Rattle.std.specs.Prelude.{◌≡◌, ◌≢◌, ◌⊎◌, ℕ, ◌+◌, ◌<◌, ◌≤◌, List, [], ◌∷◌, ◌++◌, length, true, Option, Some, None, IsSome, IfSome}
+use Rattle.std.specs.Prelude.{◌≡◌, ◌≢◌, ◌⊎◌, ℕ, suc, ◌+◌, ◌<◌, ◌≤◌, List, [], ◌∷◌, ◌++◌, length, true, Option, Some, None, IsSome, IfSome}
 use Rattle.object_values.specs.declared.nodes.Node.{Node}
 use Rattle.meaning_texts.specs.Limits.{height_limit}
 use Rattle.meaning_texts.specs.Lists.{IsIn}
@@ -10,15 +10,23 @@ use Rattle.node_tasks.specs.declared.ahead.Ahead.{Ahead}
 use Rattle.node_tasks.specs.declared.needed.Needed.{Needed}
 use Rattle.node_tasks.specs.Ahead.{IsAhead}
 use Rattle.node_tasks.specs.Needed.{IsNeeded}
-use Rattle.derive_walk.specs.Tables.{results_of, are_done, top_of}
+use Rattle.meaning_true.specs.Knowing.{KeptRecord, IsChecked}
+use Rattle.derive_walk.specs.Tables.{results_of, are_done, top_of, of_height}
+use Rattle.derive_walk.specs.declared.done.Done.{Done}
 use Rattle.derive_walk.specs.declared.found.Found.{Found}
 use Rattle.derive_walk.specs.declared.survey.Survey.{Survey}
 use Rattle.derive_walk.specs.Surveys.{survey_of}
 use Rattle.derive_walk.specs.declared.rounds.Round.{Round}
-use Rattle.derive_walk.specs.declared.rounds.Round.TheVariants.{Visits, Closes}
+use Rattle.derive_walk.specs.declared.rounds.Round.TheVariants.{Renews, Visits, Closes}
 use Rattle.derive_walk.specs.declared.walk.Walk.{Walk}
 use Rattle.derive_walk.specs.Founds.{NodesFit}
 use Rattle.derive_walk.specs.States.{heights_in, IsFormedIn, HoldsIn}
+use Rattle.derive_walk.specs.Trials.{IsCurrent, IsTried}
+use Rattle.derive_walk.specs.declared.trial.Current.{Current as CurrentValue}
+use Rattle.derive_walk.specs.declared.renewing.Recorded.{Recorded}
+use Rattle.derive_walk.specs.declared.renewing.Recorded.TheVariants.{Checked, Current}
+use Rattle.derive_walk.specs.CheckedRecords.{HasChecked, tight_node}
+use Rattle.derive_walk.specs.DerivedHeights.{heights_or}
 use Rattle.derive_walk.specs.Walks.{FindsOrWants}
 use Rattle.derive_walk.specs.Worlds.{World, seen_in, IsNeedIn}
 
@@ -75,16 +83,25 @@ pub record IsSurveyed (w : World) (walk : Walk) (n : Node) (survey : Survey) : T
   pub listed : Needs w.graph n (results_of walk.done) needs
   pub is : survey ≡ survey_of walk.done walk.waiting needs
 
+-- The node has no record that is current over the results so far.
+abbrev pub HasNoCurrent : World → Walk → Node → Type 0
+HasNoCurrent w walk n = (k : KeptRecord) → w.records n ≡ Some k → IsTried walk.done k.fact None
+
+-- It is a source, or has no record that is checked or current.
+abbrev pub IsAnew : World → Walk → Node → Type 0
+IsAnew w walk n = (n.steps ≡ []) ⊎ ((¬ IsChecked w.records n) × HasNoCurrent w walk n)
+
 -- A whole round of the node: this is what it needs by the results so far, this was found of its
--- needs, and each was visited.
+-- needs, each was visited, and no record of it is current.
 pub record IsWholeRound (w : World) (walk : Walk) (n : Node) (needed : Needed)
     (survey : Survey) : Type 0 where
   pub found : IsNeeded w.graph n (results_of walk.done) needed
   pub surveyed : IsSurveyed w walk n survey
   pub visited : survey.unvisited ≡ []
+  pub anew : IsAnew w walk n
 
 -- The node may be closed at the height: this is what it needs, its needs are done, and the height
--- is one above the greatest of theirs.
+-- is one above the greatest of theirs. No record of it is current.
 pub record IsClosing (w : World) (walk : Walk) (n : Node) (needed : Needed)
     (height : ℕ) : Type 0 where
   pub found : IsNeeded w.graph n (results_of walk.done) needed
@@ -93,6 +110,31 @@ pub record IsClosing (w : World) (walk : Walk) (n : Node) (needed : Needed)
   pub done : are_done walk.done needs ≡ true
   pub above : height ≡ top_of (heights_in walk) needs + 1
   pub high : height ≤ height_limit
+  pub anew : IsAnew w walk n
+
+-- ---- closing by a record
+
+-- The node has steps, and its record is current.
+pub record HasCurrent (w : World) (walk : Walk) (n : Node) (current : CurrentValue) : Type 0 where
+  pub stepped : n.steps ≢ []
+  pub kept : KeptRecord
+  pub is : w.records n ≡ Some kept
+  pub holds : IsCurrent walk.done kept.fact current
+
+-- the result that it gives
+abbrev pub done_of : Recorded → Done
+done_of (Checked done) = done
+done_of (Current current) = current.done
+
+-- what its record gives, as it stands or as it was tried
+abbrev pub IsByRecord : World → Walk → Node → Recorded → Type 0
+IsByRecord w walk n (Checked done) = HasChecked w n done
+IsByRecord w walk n (Current current) = HasCurrent w walk n current
+
+-- that, where there is something; else it is a source, or has no record that is checked or current
+abbrev pub IsRecorded : World → Walk → Node → Option Recorded → Type 0
+IsRecorded w walk n None = IsAnew w walk n
+IsRecorded w walk n (Some recorded) = IsByRecord w walk n recorded
 
 -- ---- following lines
 
@@ -110,8 +152,9 @@ pub record AreToVisit (w : World) (walk : Walk) (n : Node) (needs : List Node) :
   pub some : needs ≢ []
   pub each : (m : Node) → IsIn m needs → IsUnvisited w walk n m
 
--- A round visits needs, or closes the node once all needs were visited.
+-- A round visits needs, or closes the node: by its record where that is checked or current, or once all needs were visited.
 abbrev pub IsRound : World → Walk → Node → Round → Type 0
+IsRound w walk n (Renews recorded) = IsByRecord w walk n recorded
 IsRound w walk n (Visits needs) = AreToVisit w walk n needs
 IsRound w walk n (Closes needed survey) = IsWholeRound w walk n needed survey
 
@@ -134,8 +177,29 @@ pub record IsTall (w : World) (walk : Walk) : Type 0 where
   pub one : IsIn need needs
   pub tall : heights_in walk need ≡ Some height_limit
 
--- A chain of different nodes from the root downwards: each is higher than the height or was not
--- visited. All needs of the last one were visited, and one is of the height, unless that is 0.
+-- The next node down by the record of this one, which is checked: its dep that is just one lower.
+pub record IsNextByRecord (w : World) (n : Node) (next : Option Node) : Type 0 where
+  pub checked : IsChecked w.records n
+  pub is : next ≡ tight_node checked.kept
+
+-- The next one by what the node needs over the results so far: the first need of the height.
+pub record IsNextByNeeds (w : World) (walk : Walk) (n : Node) (height : ℕ) (next : Option Node) : Type 0 where
+  pub unchecked : ¬ IsChecked w.records n
+  pub needs : List Node
+  pub listed : Needs w.graph n (results_of walk.done) needs
+  pub is : next ≡ of_height (heights_in walk) height needs
+
+abbrev pub IsNextDown : World → Walk → Node → ℕ → Option Node → Type 0
+IsNextDown w walk n height next = IsNextByRecord w n next ⊎ IsNextByNeeds w walk n height next
+
+-- the record is checked, or all needs were visited
+abbrev pub IsOpenDown : World → Walk → Node → Type 0
+IsOpenDown w walk n =
+    IsChecked w.records n ⊎ ((m : Node) → IsNeedIn w n m → IsSome (heights_in walk m))
+
+-- A chain of different nodes from the root downwards: each is higher than the height, the last one just one, or
+-- has no height. Unless the height is 0 one need of the last one is of it, and that need can be told: the
+-- record is checked, or all needs were visited.
 pub record LeadsDown (w : World) (walk : Walk) (chain : List Node) (height : ℕ) : Type 0 where
   pub holds : HoldsIn w walk
   pub front : List Node
@@ -144,7 +208,8 @@ pub record LeadsDown (w : World) (walk : Walk) (chain : List Node) (height : ℕ
   pub fits : Fits w.graph last
   pub leads : IsChainFromRoot w walk chain
   pub different : AreDifferent chain
-  pub above : (n : Node) (k : ℕ) → IsIn n chain → heights_in walk n ≡ Some k → height < k
-  pub visited : (m : Node) → IsNeedIn w last m → IsSome (heights_in walk m)
+  pub above : (n : Node) (k : ℕ) → IsIn n chain → heights_or w walk n ≡ Some k → height < k
+  pub just : (k : ℕ) → heights_or w walk last ≡ Some k → k ≡ suc height
+  pub told : (height ≡ 0) ⊎ IsOpenDown w walk last
   pub next : (height ≡ 0)
-      ⊎ ((m : Node) × IsNeedIn w last m × (heights_in walk m ≡ Some height))
+      ⊎ ((m : Node) × IsNeedIn w last m × (heights_or w walk m ≡ Some height))

@@ -14,7 +14,8 @@ use Rattle.derive_walk.specs.declared.found.Found.{Found}
 use Rattle.derive_walk.specs.declared.walk.Walk.{Walk}
 use Rattle.derive_walk.specs.Founds.{IsFound, NodesFit}
 use Rattle.derive_walk.specs.Walks.{AreFormedDone, AreFormedCalls, AreDone, AreMet}
-use Rattle.derive_walk.specs.Worlds.{World, seen_in, IsNeedIn, StopsAtCall}
+use Rattle.derive_walk.specs.Told.{AreTold, AreToldRightly}
+use Rattle.derive_walk.specs.Worlds.{World, KnowsIn, seen_in, IsNeedIn, StopsAtCall}
 
 -- the heights of the nodes that were visited
 abbrev pub heights_in : Walk → Node → Option ℕ
@@ -59,16 +60,19 @@ pub record IsFormedWait (g : Graph) (n : Node) (height : ℕ) : Type 0 where
 pub record IsFormedIn (w : World) (walk : Walk) : Type 0 where
   pub root : Fits w.graph walk.root
   pub done : AreFormedDone w.graph walk.done
+  pub told : AreTold w walk.done walk.fresh walk.renewed
   pub waiting : (n : Node) (h : ℕ) → height_in walk.waiting n ≡ Some h → IsFormedWait w.graph n h
   pub wanted : AreFormedCalls w.outcomes walk.wanted
 
 -- ---- the walk, as far as it is right
 
--- Each node that was visited is done, and met from the root, or waits. Each wanted call is one at
+-- What is kept of nodes is true, and so is what is told. Each node that was visited is done, and met from the root, or waits. Each wanted call is one at
 -- which the derivation stops. Where a node waits some call is wanted.
 pub record HoldsIn (w : World) (walk : Walk) : Type 0 where
+  pub knows : KnowsIn w
   pub done : AreDone w walk.done
   pub met : AreMet w walk.root walk.done
+  pub rightly : AreToldRightly w walk.fresh walk.renewed
   pub waiting : (n : Node) (h : ℕ) → height_in walk.waiting n ≡ Some h
       → IsWaiting w (heights_in walk) walk.wanted n h
   pub one : (n : Node) (h : ℕ) → height_in walk.waiting n ≡ Some h

@@ -1,5 +1,5 @@
 -- What the tables of a walk answer.
-use Rattle.std.specs.Prelude.{ℕ, Bool, true, false, cond, ◌||◌, List, [], ◌∷◌, Option, Some, None, is_some, option_map, map, max, nat_eq}
+use Rattle.std.specs.Prelude.{ℕ, suc, Bool, true, false, cond, ◌||◌, List, [], ◌∷◌, Option, Some, None, is_some, option_map, map, max, nat_eq}
 use Rattle.std.specs.Map.{lookup}
 use Rattle.object_values.specs.declared.nodes.Node.{Node}
 use Rattle.object_values.specs.contracts.nodes.NodePartialEq.TheImpl.{ghosts as node_eq}
@@ -61,6 +61,12 @@ abbrev pub of_height : (Node → Option ℕ) → ℕ → List Node → Option No
 of_height heights h [] = None
 of_height heights h (n ∷ nodes) =
     cond (is_height h (heights n)) (Some n) (of_height heights h nodes)
+
+-- the place of the first of the nodes that has the height
+abbrev pub place_of : (Node → Option ℕ) → ℕ → List Node → Option ℕ
+place_of heights h [] = None
+place_of heights h (n ∷ nodes) =
+    cond (is_height h (heights n)) (Some 0) (option_map suc (place_of heights h nodes))
 
 -- ---- lists
 

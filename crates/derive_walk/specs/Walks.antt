@@ -1,8 +1,10 @@
 -- What a walk has come to, and what each call of it makes of that.
-use Rattle.std.specs.Prelude.{◌≡◌, ◌≢◌, ◌↔◌, ◌<◌, ◌≤◌, List, [], ◌∷◌, ◌++◌, Option, Some, None, IsSome, IfSome}
+use Rattle.std.specs.Prelude.{◌≡◌, ◌≢◌, ◌↔◌, ◌⊎◌, ◌<◌, ◌≤◌, List, [], ◌∷◌, ◌++◌, Option, Some, None, IsSome, IfSome}
 use Rattle.object_values.specs.declared.nodes.Node.{Node}
 use Rattle.object_values.specs.declared.calls.Call.{Call}
 use Rattle.object_values.specs.declared.calls.Outcome.{Outcome}
+use Rattle.object_values.specs.declared.facts.Fresh.{Fresh}
+use Rattle.object_values.specs.declared.facts.RenewedNode.{RenewedNode}
 use Rattle.meaning_texts.specs.Limits.{height_limit}
 use Rattle.meaning_texts.specs.Lists.{IsIn}
 use Rattle.meaning_graph.specs.Graphs.{Graph}
@@ -12,24 +14,28 @@ use Rattle.meaning_derive.specs.CheckedLaws.{IsShortResultOf}
 use Rattle.meaning_derive.specs.Derive.{Outcomes, derive, HasHeight}
 use Rattle.meaning_derive.specs.Chains.{AreDifferent, IsMet, IsRefusal}
 use Rattle.meaning_derive.specs.Given.{OutcomesFit}
+use Rattle.meaning_true.specs.Knowing.{IsChecked}
 use Rattle.derive_walk.specs.declared.done.Done.{Done}
 use Rattle.derive_walk.specs.Tables.{Entries, done_in, done_nodes}
 use Rattle.derive_walk.specs.Calls.{GivenOutcomes, outcome_in, AreOnce}
 use Rattle.derive_walk.specs.declared.found.Found.{Found}
 use Rattle.derive_walk.specs.Founds.{IsFound, NodesFit}
-use Rattle.derive_walk.specs.Worlds.{World, seen_in, IsNeedIn, StopsAtCall}
+use Rattle.derive_walk.specs.Told.{AreTold, AreToldRightly}
+use Rattle.derive_walk.specs.Worlds.{World, KnowsIn, seen_in, IsNeedIn, StopsAtCall}
 
--- The root, the nodes with results, the outcomes that were given, the calls that are wanted, and
--- what is found of the root.
+-- The root, the nodes with results, what is noted of those that were settled and what the records of the others came to, the outcomes that were
+-- given, the calls that are wanted, and what is found of the root.
 pub record Walked : Type 0 where
   pub root : Node
   pub done : Entries
+  pub fresh : List Fresh
+  pub renewed : List RenewedNode
   pub given : GivenOutcomes
   pub wanted : List Call
   pub result : Option Found
 
 abbrev pub new_walk : Node → Walked
-new_walk root = record { root = root; done = []; given = []; wanted = []; result = None }
+new_walk root = record { root = root; done = []; fresh = []; renewed = []; given = []; wanted = []; result = None }
 
 -- no wanted call was given an outcome
 abbrev pub AreApart : GivenOutcomes → List Call → Type 0
@@ -55,12 +61,13 @@ pub record AreFormedCalls (outcomes : Outcomes) (wanted : List Call) : Type 0 wh
   pub once : AreOnce wanted
 
 -- Nothing is said of how its results came: they need not be derived, nor the calls be met.
-pub record IsFormed (g : Graph) (outcomes : Outcomes) (walked : Walked) : Type 0 where
-  pub fit : OutcomesFit outcomes
-  pub root : Fits g walked.root
-  pub done : AreFormedDone g walked.done
-  pub wanted : AreFormedCalls outcomes walked.wanted
-  pub found : IfSome walked.result (NodesFit g)
+pub record IsFormed (w : World) (walked : Walked) : Type 0 where
+  pub fit : OutcomesFit w.outcomes
+  pub root : Fits w.graph walked.root
+  pub done : AreFormedDone w.graph walked.done
+  pub told : AreTold w walked.done walked.fresh walked.renewed
+  pub wanted : AreFormedCalls w.outcomes walked.wanted
+  pub found : IfSome walked.result (NodesFit w.graph)
 
 -- ---- a walk that is right
 
@@ -71,11 +78,11 @@ pub record IsDone (w : World) (n : Node) (d : Done) : Type 0 where
   pub is : derive w.graph w.sources w.outcomes d.height n ≡ Some d.view
   pub has : HasHeight w.graph w.sources w.outcomes n d.height
 
--- Each node of the table is done, and so are its needs; none stands there twice.
+-- Each node of the table is done, and so are its needs, unless its record is checked; none stands there twice.
 pub record AreDone (w : World) (done : Entries) : Type 0 where
   pub each : (n : Node) (d : Done) → done_in done n ≡ Some d → IsDone w n d
   pub needs : (n : Node) (d : Done) → done_in done n ≡ Some d
-      → (m : Node) → IsNeedIn w n m → IsSome (done_in done m)
+      → IsChecked w.records n ⊎ ((m : Node) → IsNeedIn w n m → IsSome (done_in done m))
   pub different : AreDifferent (done_nodes done)
 
 -- each node of the table is met from the root
@@ -83,12 +90,15 @@ abbrev pub AreMet : World → Node → Entries → Type 0
 AreMet w root done =
     (n : Node) → IsIn n (done_nodes done) → IsMet w.graph (seen_in w) root n
 
--- It is right by what is known of calls: what is wanted are calls at which the derivation stops.
+-- It is right by what is known of calls and of nodes: what is wanted are calls at which the derivation stops.
 pub record IsRight (w : World) (walked : Walked) : Type 0 where
   pub fit : OutcomesFit w.outcomes
+  pub knows : KnowsIn w
   pub root : Fits w.graph walked.root
   pub done : AreDone w walked.done
   pub met : AreMet w walked.root walked.done
+  pub told : AreTold w walked.done walked.fresh walked.renewed
+  pub rightly : AreToldRightly w walked.fresh walked.renewed
   pub wanted : (call : Call) → IsIn call walked.wanted → StopsAtCall w walked.root call
   pub once : AreOnce walked.wanted
   pub found : IfSome walked.result (IsFound w.graph w.sources w.outcomes walked.root)
@@ -125,6 +135,8 @@ IsAdvanced w walked = FindsOrWants w walked.root walked.wanted walked.result
 pub record OutcomeIsGiven (call : Call) (outcome : Outcome) (old new : Walked) : Type 0 where
   pub root : new.root ≡ old.root
   pub done : new.done ≡ old.done
+  pub fresh : new.fresh ≡ old.fresh
+  pub renewed : new.renewed ≡ old.renewed
   pub given : new.given ≡ old.given ++ (call, outcome) ∷ []
   pub wanted : (c : Call) → IsIn c new.wanted ↔ (IsIn c old.wanted × (c ≢ call))
   pub once : AreOnce new.wanted

@@ -9,15 +9,23 @@ use Rattle.meaning_derive.specs.Derive.{Sources, Outcomes, derived}
 use Rattle.meaning_derive.specs.Chains.{IsNeed}
 use Rattle.meaning_derive.specs.Calls.{IsFrontier}
 use Rattle.meaning_derive.specs.Given.{AreSources, OutcomesFit}
+use Rattle.meaning_true.specs.Knowing.{KeptRecords, Knows, no_records}
+use Rattle.derive_walk.specs.Keeping.{AreReadable}
 
--- The graph, the sources, and the outcome of each call that is known to have one.
+-- The graph, the sources, the outcome of each call that is known to have one, and the records that are kept of nodes.
 pub record World : Type 0 where
   pub graph : Graph
   pub sources : Sources
   pub outcomes : Outcomes
+  pub records : KeptRecords
 
+abbrev pub world_over : KeptRecords → Graph → Sources → Outcomes → World
+world_over records g s outcomes =
+    record { graph = g; sources = s; outcomes = outcomes; records = records }
+
+-- without a record
 abbrev pub world : Graph → Sources → Outcomes → World
-world g s outcomes = record { graph = g; sources = s; outcomes = outcomes }
+world = world_over no_records
 
 -- They are what derivation is given.
 pub record IsWorld (w : World) : Type 0 where
@@ -25,6 +33,11 @@ pub record IsWorld (w : World) : Type 0 where
   pub checked : Checked w.graph
   pub sources : AreSources w.sources
   pub fit : OutcomesFit w.outcomes
+  pub readable : AreReadable w.graph w.records
+
+-- What its records say is true there, and those that were checked hold.
+abbrev pub KnowsIn : World → Type 0
+KnowsIn w = Knows w.graph w.sources w.outcomes w.records
 
 -- ---- what is derived there
 

@@ -1,14 +1,17 @@
 // The closing of a node whose needs were all visited.
 ghost use Rattle.std.specs.Prelude.{◌+◌, OnOk, IfOk};
-ghost use Rattle.derive_walk.specs.Looks.{LooksAreFew, lost, met_in};
+ghost use Rattle.derive_walk.specs.Looks.{HasMetOne, LooksAreFew, lost, met_in};
 ghost use Rattle.derive_walk.specs.Paths.{IsClosing, IsLast, IsLed, IsWholeRound};
+ghost use Rattle.derive_walk.specs.Settled.{NodeIsClosed};
 ghost use Rattle.derive_walk.specs.Settings.{IsSetting, world_in};
+ghost use Rattle.derive_walk.specs.Tables.{results_of};
 ghost use Rattle.derive_walk.specs.States.{IsFormedIn, HoldsIn, GoesOnFrom, Visited, AfterVisit};
 
 use crate::deep::descend;
 use crate::done::Done;
 use crate::found::Found;
 use crate::known::Known;
+use crate::noting::note_of;
 use crate::setting::Setting;
 use crate::settling::{Closed, settle_node};
 use crate::survey::Survey;
@@ -30,15 +33,15 @@ pub(crate) fn close<K: Known, L: Ledger>(
     survey: &Survey,
     steps: &mut Steps<L>,
 ) -> Result<Option<Found>, Memory>
-    requires set { IsSetting K.kept setting.now }
-    requires last { IsLast (world_in K.kept setting.now) walk.old node }
-    requires whole { IsWholeRound (world_in K.kept setting.now) walk.old node
+    requires set { IsSetting K.keeps setting.now }
+    requires last { IsLast (world_in K.keeps setting.now) walk.old node }
+    requires whole { IsWholeRound (world_in K.keeps setting.now) walk.old node
         needed.now survey.now }
     ensures on { GoesOnFrom walk.old walk.new }
-    ensures formed { IsFormedIn (world_in K.kept setting.now) walk.new }
-    ensures holds { let w = world_in K.kept setting.now in
+    ensures formed { IsFormedIn (world_in K.keeps setting.now) walk.new }
+    ensures holds { let w = world_in K.keeps setting.now in
         IsLed w walk.old → HoldsIn w walk.new }
-    ensures after { let w = world_in K.kept setting.now in
+    ensures after { let w = world_in K.keeps setting.now in
         IfOk result (AfterVisit w (IsLed w walk.old) walk.old walk.new node) }
     ensures counted { LooksAreFew (met_in walk.old) (met_in walk.new) steps.old
         steps.new (lost result) }
@@ -67,19 +70,19 @@ fn close_seen<K: Known, L: Ledger>(
     height: u32,
     steps: &mut Steps<L>,
 ) -> Result<(), Memory>
-    requires set { IsSetting K.kept setting.now }
-    requires last { IsLast (world_in K.kept setting.now) walk.old node }
-    requires closing { IsClosing (world_in K.kept setting.now) walk.old node needed.now height }
+    requires set { IsSetting K.keeps setting.now }
+    requires last { IsLast (world_in K.keeps setting.now) walk.old node }
+    requires closing { IsClosing (world_in K.keeps setting.now) walk.old node needed.now height }
     ensures on { GoesOnFrom walk.old walk.new }
-    ensures formed { IsFormedIn (world_in K.kept setting.now) walk.new }
-    ensures holds { let w = world_in K.kept setting.now in
+    ensures formed { IsFormedIn (world_in K.keeps setting.now) walk.new }
+    ensures holds { let w = world_in K.keeps setting.now in
         IsLed w walk.old → HoldsIn w walk.new }
-    ensures visited { let w = world_in K.kept setting.now in
+    ensures visited { let w = world_in K.keeps setting.now in
         OnOk result (Visited w walk.old walk.new node) }
     ensures counted { LooksAreFew (met_in walk.old) (met_in walk.new) steps.old
         steps.new (lost result) }
 {
-    match settle_node(
+    let closed = settle_node(
         alloc,
         setting,
         &walk.done,
@@ -87,9 +90,42 @@ fn close_seen<K: Known, L: Ledger>(
         &node,
         needed,
         steps,
-    )? {
-        Closed::Settled(view) => {
+    )?;
+    take_closed(alloc, setting, walk, node, needed, height, closed)
+}
+
+// Takes the node by what came of it.
+fn take_closed<K: Known>(
+    alloc: Global,
+    setting: &Setting<'_, K>,
+    walk: &mut Walk,
+    node: Node,
+    needed: &Needed,
+    height: u32,
+    closed: Closed,
+) -> Result<(), Memory>
+    requires set { IsSetting K.keeps setting.now }
+    requires last { IsLast (world_in K.keeps setting.now) walk.old node }
+    requires closing { IsClosing (world_in K.keeps setting.now) walk.old node needed.now height }
+    requires closed { let w = world_in K.keeps setting.now in
+        NodeIsClosed w node (results_of walk.old.done) closed }
+    ensures on { GoesOnFrom walk.old walk.new }
+    ensures formed { IsFormedIn (world_in K.keeps setting.now) walk.new }
+    ensures holds { let w = world_in K.keeps setting.now in
+        IsLed w walk.old → HoldsIn w walk.new }
+    ensures visited { let w = world_in K.keeps setting.now in
+        OnOk result (Visited w walk.old walk.new node) }
+    ensures met { HasMetOne walk.old walk.new node closed result }
+{
+    match closed {
+        Closed::Given(view) => {
             walk.done.add(node, Done { view, height })?;
+            Ok(())
+        }
+        Closed::Settled(settled) => {
+            let note = note_of(alloc, &walk.done, &node, needed, &settled, height)?;
+            let view = settled.into_view();
+            walk.take_settled(node, Done { view, height }, note)?;
             Ok(())
         }
         Closed::Stops(call) => {

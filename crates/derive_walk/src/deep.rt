@@ -1,12 +1,15 @@
 // The chain of a root that is too deep.
 ghost use Rattle.std.specs.Prelude.{◌≡◌, ◌+◌, ◌-◌, ◌<◌, length, IfOk, OnOk};
 ghost use Rattle.meaning_derive.specs.Chains.{IsDeep};
+ghost use Rattle.meaning_tasks.specs.Nodes.{Fits};
+ghost use Rattle.meaning_true.specs.Knowing.{IsChecked};
 ghost use Rattle.derive_walk.specs.Founds.{AllFit};
-ghost use Rattle.derive_walk.specs.Paths.{IsLed, IsTall, LeadsDown};
+ghost use Rattle.derive_walk.specs.Paths.{IsLed, IsNextByNeeds, IsNextDown, IsTall, LeadsDown};
 ghost use Rattle.derive_walk.specs.Settings.{IsSetting, world_in};
 ghost use Rattle.derive_walk.specs.States.{IsFormedIn};
 ghost use Rattle.derive_walk.specs.Worlds.{seen_in};
 
+use crate::checked::{checked_record, tight_node};
 use crate::known::Known;
 use crate::looking::at_height;
 use crate::setting::Setting;
@@ -22,10 +25,10 @@ pub(crate) fn descend<K: Known>(
     setting: &Setting<'_, K>,
     walk: &Walk,
 ) -> Result<Seq<Node>, Memory>
-    requires set { IsSetting K.kept setting.now }
-    requires tall { IsTall (world_in K.kept setting.now) walk.now }
+    requires set { IsSetting K.keeps setting.now }
+    requires tall { IsTall (world_in K.keeps setting.now) walk.now }
     ensures fit { IfOk result (AllFit setting.now.planned.now) }
-    ensures deep { let w = world_in K.kept setting.now in
+    ensures deep { let w = world_in K.keeps setting.now in
         IsLed w walk.now → IfOk result (IsDeep w.graph (seen_in w) walk.now.root) }
 {
     let mut chain = walk.path.copy(alloc)?;
@@ -45,24 +48,65 @@ fn step_down<K: Known>(
     chain: &mut Seq<Node>,
     height: u32,
 ) -> Result<(), Memory>
-    requires set { IsSetting K.kept setting.now }
-    requires formed { IsFormedIn (world_in K.kept setting.now) walk.now }
+    requires set { IsSetting K.keeps setting.now }
+    requires formed { IsFormedIn (world_in K.keeps setting.now) walk.now }
     requires fit { AllFit setting.now.planned.now chain.old }
     requires high { 0 < height }
     ensures fit { OnOk result (AllFit setting.now.planned.now chain.new) }
-    ensures longer { LeadsDown (world_in K.kept setting.now) walk.now chain.old height →
+    ensures longer { LeadsDown (world_in K.keeps setting.now) walk.now chain.old height →
         OnOk result (length chain.new ≡ length chain.old + 1) }
-    ensures down { let w = world_in K.kept setting.now in
+    ensures down { let w = world_in K.keeps setting.now in
         LeadsDown w walk.now chain.old height →
         OnOk result (LeadsDown w walk.now chain.new (height - 1)) }
 {
     let Some(last) = chain.as_slice().last() else {
         return Ok(());
     };
-    let needed = Needed::find(alloc, setting.planned, last, &walk.done)?;
-    let needs = needed.nodes(alloc, &walk.done)?;
-    let Some(need) = at_height(&walk.done, &walk.waiting, needs.as_slice(), height) else {
-        return Ok(());
+    match next_down(alloc, setting, walk, last, height)? {
+        None => Ok(()),
+        Some(next) => chain.push(next),
+    }
+}
+
+// The next node down from this one. Where its record is checked its needs may not be in the tables: the
+// record tells it.
+fn next_down<K: Known>(
+    alloc: Global,
+    setting: &Setting<'_, K>,
+    walk: &Walk,
+    last: &Node,
+    height: u32,
+) -> Result<Option<Node>, Memory>
+    requires { Fits setting.now.planned.now last.now }
+    ensures { let w = world_in K.keeps setting.now in
+        IfOk result (IsNextDown w walk.now last.now height) }
+{
+    let Some(kept) = checked_record(setting.known, last) else {
+        return need_at(alloc, setting, walk, last, height);
     };
-    chain.push(need.copy(alloc)?)
+    match tight_node(kept) {
+        None => Ok(None),
+        Some(next) => Ok(Some(next.copy(alloc)?)),
+    }
+}
+
+// The first need of the node, by the results so far, that has the height.
+fn need_at<K: Known>(
+    alloc: Global,
+    setting: &Setting<'_, K>,
+    walk: &Walk,
+    node: &Node,
+    height: u32,
+) -> Result<Option<Node>, Memory>
+    requires { Fits setting.now.planned.now node.now }
+    ensures { let w = world_in K.keeps setting.now in
+        (¬ IsChecked w.records node.now) →
+        IfOk result (IsNextByNeeds w walk.now node.now height) }
+{
+    let needed = Needed::find(alloc, setting.planned, node, &walk.done)?;
+    let needs = needed.nodes(alloc, &walk.done)?;
+    match at_height(&walk.done, &walk.waiting, needs.as_slice(), height) {
+        None => Ok(None),
+        Some(need) => Ok(Some(need.copy(alloc)?)),
+    }
 }

@@ -1,16 +1,17 @@
-// What is kept of calls.
-ghost use Rattle.std.specs.Prelude.{◌≡◌, ◌+◌, IfOk};
-ghost use Rattle.meaning_derive.specs.Derive.{Outcomes};
+// What is kept, of calls and of nodes.
+ghost use Rattle.std.specs.Prelude.{◌≡◌, ◌↔◌, ◌+◌, None, Some, IfOk, IfSome, IsSome, IsTrue, option_map};
+ghost use Rattle.derive_walk.specs.Keeping.{Keeping};
+ghost use Rattle.derive_walk.specs.Trials.{IsNamed};
 
-use object_values::{Call, Memory, Outcome};
+use object_values::{Call, Memory, Node, NodeRecord, Outcome, Value};
 use odin_outside::Steps;
 use std::alloc::Global;
 use std::sync::ledger::Ledger;
 
-/// The outcomes of calls that are kept. Each look costs a step.
+/// What is kept: outcomes of calls, and records of nodes, whose values are contents by their numbers. Each look at a kept call
+/// costs a step.
 pub trait Known {
-    /// The outcome of each call that is kept.
-    ghost kept: { Self → Outcomes };
+    ghost keeps: { Self → Keeping };
 
     fn outcome<L: Ledger>(
         &self,
@@ -18,8 +19,26 @@ pub trait Known {
         call: &Call,
         steps: &mut Steps<L>,
     ) -> Result<Option<Outcome>, Memory>
-        ensures is { IfOk result (λ outcome. outcome ≡ kept self.now call.now) }
+        ensures is { IfOk result (λ outcome. outcome ≡ (keeps self.now).outcomes call.now) }
         ensures step { steps.new ≡ steps.old + 1 };
+
+    /// The record of a node.
+    fn record(&self, node: &Node) -> Option<&NodeRecord>
+        ensures is { option_map (λ r. r.now) result ≡ (keeps self.now).records node.now }
+        ensures named { IfSome result (λ r. IsNamed (keeps self.now).contents r.now) };
+
+    /// The epoch at which they are looked up: a record that was checked at it holds as it stands.
+    fn epoch(&self) -> u64
+        ensures { result ≡ (keeps self.now).epoch };
+
+    /// Whether the content of a number is this value.
+    fn is(&self, number: u64, value: &Value) -> bool
+        ensures { IsTrue result ↔ ((keeps self.now).contents number ≡ Some value.now) };
+
+    /// The content of a number.
+    fn content(&self, alloc: Global, number: u64) -> Result<Value, Memory>
+        requires { IsSome ((keeps self.now).contents number) }
+        ensures { IfOk result (λ value. (keeps self.now).contents number ≡ Some value) };
 }
 
 /// Nothing is kept.
@@ -27,9 +46,10 @@ pub trait Known {
 pub struct NothingKept;
 
 impl Known for NothingKept {
+    ghost use Rattle.derive_walk.specs.Keeping.{outcomes_alone};
     ghost use Rattle.derive_walk.specs.Outcomes.{nothing_known};
 
-    ghost kept = { λ known. nothing_known };
+    ghost keeps = { λ known. outcomes_alone nothing_known };
 
     fn outcome<L: Ledger>(
         &self,
@@ -39,5 +59,21 @@ impl Known for NothingKept {
     ) -> Result<Option<Outcome>, Memory> {
         steps.tick();
         Ok(None)
+    }
+
+    fn record(&self, _node: &Node) -> Option<&NodeRecord> {
+        None
+    }
+
+    fn epoch(&self) -> u64 {
+        0
+    }
+
+    fn is(&self, _number: u64, _value: &Value) -> bool {
+        false
+    }
+
+    fn content(&self, _alloc: Global, _number: u64) -> Result<Value, Memory> {
+        Err(Memory)
     }
 }

@@ -4,6 +4,7 @@
 #![tactic(auto)]
 
 mod chains;
+mod checked;
 mod closing;
 mod deep;
 mod done;
@@ -14,10 +15,13 @@ mod known;
 pub mod laws;
 mod lists;
 mod looking;
+mod noting;
+mod renewing;
 mod rounds;
 mod setting;
 mod settling;
 mod survey;
+mod trial;
 mod visiting;
 mod walk;
 mod walker;

@@ -6,9 +6,11 @@ ghost use Rattle.node_tasks.specs.Needed.{IsNeeded};
 ghost use Rattle.derive_walk.specs.Tables.{results_of};
 ghost use Rattle.derive_walk.specs.Paths.{IsAheadIn, IsRound, IsSurveyed};
 ghost use Rattle.derive_walk.specs.Settings.{IsSetting, world_in};
+ghost use Rattle.derive_walk.specs.States.{IsFormedIn};
 ghost use Rattle.derive_walk.specs.Worlds.{World};
 
 use crate::known::Known;
+use crate::renewing::{Recorded, recorded_of};
 use crate::setting::Setting;
 use crate::survey::Survey;
 use crate::walk::Walk;
@@ -23,15 +25,17 @@ use std::mem;
 /// names, and a level of these is what a round over all needs would visit, in the same order.
 const WHOLE_ROUNDS: u64 = 3;
 
-/// A round: the needs that are visited next, or what was found of all needs once none is left.
+/// A round: what the node comes to by its record, the needs that are visited next, or what was found of
+/// all needs once none is left.
 pub(crate) enum Round {
+    Renews(Recorded),
     Visits(Seq<Node>),
     Closes(Needed, Survey),
 }
 
-/// The next round of a node after so many: over all needs, or, once the first rounds are over, over
-/// what comes into sight as lines are followed. Then all needs are found again only for the
-/// closing.
+/// The next round of a node after so many. Where its record is checked or current, needs aren't
+/// found at all. Else it goes over all needs, or, once the first rounds are over, over what comes
+/// into sight as lines are followed. Then all needs are found again only for the closing.
 pub(crate) fn next_round<K: Known>(
     alloc: Global,
     setting: &Setting<'_, K>,
@@ -40,13 +44,17 @@ pub(crate) fn next_round<K: Known>(
     rounds: u64,
     ahead: &mut Ahead,
 ) -> Result<Round, Memory>
-    requires set { IsSetting K.kept setting.now }
+    requires set { IsSetting K.keeps setting.now }
+    requires formed { IsFormedIn (world_in K.keeps setting.now) walk.now }
     requires fits { Fits setting.now.planned.now node.now }
-    requires ahead { IsAheadIn (world_in K.kept setting.now) walk.now node.now ahead.old }
-    ensures ahead { IsAheadIn (world_in K.kept setting.now) walk.now node.now ahead.new }
-    ensures round { let w = world_in K.kept setting.now in
+    requires ahead { IsAheadIn (world_in K.keeps setting.now) walk.now node.now ahead.old }
+    ensures ahead { IsAheadIn (world_in K.keeps setting.now) walk.now node.now ahead.new }
+    ensures round { let w = world_in K.keeps setting.now in
         IfOk result (IsRound w walk.now node.now) }
 {
+    if let Some(recorded) = recorded_of(alloc, setting, walk, node)? {
+        return Ok(Round::Renews(recorded));
+    }
     if rounds >= WHOLE_ROUNDS {
         let level = ahead.level(alloc, setting.planned, node, &walk.done, walk)?;
         if !level.is_empty() {

@@ -1,5 +1,5 @@
 // The settling of a node whose needs all have results.
-ghost use Rattle.std.specs.Prelude.{◌≡◌, ◌≢◌, [], Some, IfOk, option_map};
+ghost use Rattle.std.specs.Prelude.{◌≡◌, ◌≢◌, [], Some, IfOk};
 ghost use Rattle.std.specs.FinMap as map;
 ghost use Rattle.meaning_tasks.specs.Labels.{label_of as label_of_node};
 ghost use Rattle.meaning_tasks.specs.Nodes.{Fits};
@@ -10,16 +10,15 @@ ghost use Rattle.node_tasks.specs.Needed.{IsNeeded};
 ghost use Rattle.derive_walk.specs.Tables.{results_of};
 ghost use Rattle.derive_walk.specs.Looks.{LooksOnce};
 ghost use Rattle.derive_walk.specs.Settings.{IsSetting, world_in};
-ghost use Rattle.derive_walk.specs.Settled.{AreOutside, NodeIsClosed, SettlesIn};
+ghost use Rattle.derive_walk.specs.Settled.{AreOutside, NodeIsClosed, view_or_call};
 
 use crate::done::Table;
 use crate::known::Known;
 use crate::setting::Setting;
 use crate::wanted::Wanted;
-use node_tasks::{Needed, call_in, settle_in};
+use node_tasks::{Needed, Settled, call_in, settle_whole};
 use object_values::{
-    Bytes, Call, Copied, Memory, Message, Node, Outcome, Seq, SharedSeq, Sources, Status, Text,
-    Value, View,
+    Bytes, Call, Copied, Memory, Message, Node, Seq, SharedSeq, Sources, Status, Text, Value, View,
 };
 use odin_nodes::label_of;
 use odin_outside::Steps;
@@ -27,10 +26,27 @@ use std::alloc::Global;
 use std::sync::ledger::Ledger;
 use type_graph::Graph;
 
-/// What comes of a node whose needs all have results: its view, or the call at which it stops.
+/// What comes of a node whose needs all have results.
 pub(crate) enum Closed {
-    Settled(View),
+    /// The view of a source.
+    Given(View),
+    /// All of what a node with steps settles to.
+    Settled(Settled),
+    /// The call at which it stops.
     Stops(Call),
+}
+
+impl Closed {
+    /// The view of the node, or the call at which it stops.
+    pub(crate) fn into_view(self) -> Result<View, Call>
+        ensures { result ≡ view_or_call self }
+    {
+        match self {
+            Closed::Given(view) => Ok(view),
+            Closed::Settled(settled) => Ok(settled.into_view()),
+            Closed::Stops(call) => Err(call),
+        }
+    }
 }
 
 /// Settles a node, or finds the call at which it stops. A call that is wanted has no outcome, and
@@ -44,21 +60,21 @@ pub(crate) fn settle_node<K: Known, L: Ledger>(
     needed: &Needed,
     steps: &mut Steps<L>,
 ) -> Result<Closed, Memory>
-    requires set { IsSetting K.kept setting.now }
+    requires set { IsSetting K.keeps setting.now }
     requires fits { Fits setting.now.planned.now node.now }
     requires needed { IsNeeded setting.now.planned.now node.now (results_of done.now) needed.now }
-    requires outside { AreOutside (world_in K.kept setting.now) wanted.now }
-    ensures closed { let w = world_in K.kept setting.now in
+    requires outside { AreOutside (world_in K.keeps setting.now) wanted.now }
+    ensures closed { let w = world_in K.keeps setting.now in
         IfOk result (NodeIsClosed w node.now (results_of done.now)) }
     ensures counted { LooksOnce wanted.now node.now steps.old steps.new result }
 {
     if node.steps.is_empty() {
         let view = source_view(alloc, setting.planned.graph(), setting.sources, node)?;
-        return Ok(Closed::Settled(view));
+        return Ok(Closed::Given(view));
     }
     let Some(call) = call_in(alloc, setting.planned, node, needed, done)? else {
-        let view = settle_by(alloc, setting, done, node, needed, None)?;
-        return Ok(Closed::Settled(view));
+        let settled = settle_whole(alloc, setting.planned, node, needed, done, None)?;
+        return Ok(Closed::Settled(settled));
     };
     settle_call(alloc, setting, done, wanted, node, needed, call, steps)
 }
@@ -74,19 +90,19 @@ fn settle_call<K: Known, L: Ledger>(
     call: Call,
     steps: &mut Steps<L>,
 ) -> Result<Closed, Memory>
-    requires set { IsSetting K.kept setting.now }
+    requires set { IsSetting K.keeps setting.now }
     requires fits { Fits setting.now.planned.now node.now }
     requires needed { IsNeeded setting.now.planned.now node.now (results_of done.now) needed.now }
-    requires outside { AreOutside (world_in K.kept setting.now) wanted.now }
+    requires outside { AreOutside (world_in K.keeps setting.now) wanted.now }
     requires called { CallOf setting.now.planned.now node.now (results_of done.now) (Some call) }
     requires stepped { node.now.steps ≢ [] }
-    ensures closed { let w = world_in K.kept setting.now in
+    ensures closed { let w = world_in K.keeps setting.now in
         IfOk result (NodeIsClosed w node.now (results_of done.now)) }
     ensures counted { LooksOnce wanted.now node.now steps.old steps.new result }
 {
     if let Some(outcome) = setting.given.outcome(&call) {
-        let view = settle_by(alloc, setting, done, node, needed, Some(outcome))?;
-        return Ok(Closed::Settled(view));
+        let settled = settle_whole(alloc, setting.planned, node, needed, done, Some(outcome))?;
+        return Ok(Closed::Settled(settled));
     }
     if wanted.contains(&call) {
         return Ok(Closed::Stops(call));
@@ -94,28 +110,8 @@ fn settle_call<K: Known, L: Ledger>(
     let Some(outcome) = setting.known.outcome(alloc, &call, steps)? else {
         return Ok(Closed::Stops(call));
     };
-    let view = settle_by(alloc, setting, done, node, needed, Some(&outcome))?;
-    Ok(Closed::Settled(view))
-}
-
-// The view of a node with steps, by the outcome of its call.
-fn settle_by<K: Known>(
-    alloc: Global,
-    setting: &Setting<'_, K>,
-    done: &Table,
-    node: &Node,
-    needed: &Needed,
-    outcome: Option<&Outcome>,
-) -> Result<View, Memory>
-    requires set { IsSetting K.kept setting.now }
-    requires fits { Fits setting.now.planned.now node.now }
-    requires needed { IsNeeded setting.now.planned.now node.now (results_of done.now) needed.now }
-    requires stepped { node.now.steps ≢ [] }
-    ensures { let given = option_map (λ o. o.now) outcome.entry in
-        let w = world_in K.kept setting.now in
-        IfOk result (SettlesIn w node.now (results_of done.now) given) }
-{
-    settle_in(alloc, setting.planned, node, needed, done, outcome)
+    let settled = settle_whole(alloc, setting.planned, node, needed, done, Some(&outcome))?;
+    Ok(Closed::Settled(settled))
 }
 
 /// The view of a source: its text, or that there is none.

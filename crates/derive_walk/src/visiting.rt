@@ -10,6 +10,7 @@ use crate::closing::close;
 use crate::found::Found;
 use crate::known::Known;
 use crate::looking::height_of;
+use crate::renewing::renew;
 use crate::rounds::{Round, next_round};
 use crate::setting::Setting;
 use crate::walk::Walk;
@@ -19,7 +20,8 @@ use odin_outside::Steps;
 use std::alloc::Global;
 use std::sync::ledger::Ledger;
 
-/// Visits a node that was not visited, and what it needs, in rounds.
+/// Visits a node that was not visited, and what it needs, in rounds. It is closed as soon as its record
+/// is current: then what it needs isn't found.
 pub(crate) fn visit<K: Known, L: Ledger>(
     alloc: Global,
     setting: &Setting<'_, K>,
@@ -27,13 +29,13 @@ pub(crate) fn visit<K: Known, L: Ledger>(
     node: Node,
     steps: &mut Steps<L>,
 ) -> Result<Option<Found>, Memory>
-    requires set { IsSetting K.kept setting.now }
-    requires next { IsNext (world_in K.kept setting.now) walk.old node }
+    requires set { IsSetting K.keeps setting.now }
+    requires next { IsNext (world_in K.keeps setting.now) walk.old node }
     ensures on { GoesOnFrom walk.old walk.new }
-    ensures formed { IsFormedIn (world_in K.kept setting.now) walk.new }
-    ensures holds { let w = world_in K.kept setting.now in
+    ensures formed { IsFormedIn (world_in K.keeps setting.now) walk.new }
+    ensures holds { let w = world_in K.keeps setting.now in
         LeadsTo w walk.old node → HoldsIn w walk.new }
-    ensures after { let w = world_in K.kept setting.now in
+    ensures after { let w = world_in K.keeps setting.now in
         IfOk result (AfterVisit w (LeadsTo w walk.old node) walk.old walk.new node) }
     ensures counted { LooksAreFew (met_in walk.old) (met_in walk.new) steps.old
         steps.new (lost result) }
@@ -45,6 +47,11 @@ pub(crate) fn visit<K: Known, L: Ledger>(
     for rounds in 0..u64::MAX {
         let round = next_round(alloc, setting, walk, &node, rounds, &mut ahead)?;
         let needs = match round {
+            Round::Renews(current) => {
+                renew(alloc, setting, walk, node, current)?;
+                walk.path.truncate(length);
+                return Ok(None);
+            }
             Round::Visits(needs) => needs,
             Round::Closes(needed, survey) => {
                 let found = close(alloc, setting, walk, node, &needed, &survey, steps)?;

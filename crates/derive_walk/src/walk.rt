@@ -1,17 +1,23 @@
 // A walk from the root along needs to the node that is visited.
-use crate::done::Table;
+ghost use Rattle.std.specs.Prelude.{◌≡◌, ◌++◌, ◌∷◌, [], None, OnErr, OnOk};
+ghost use Rattle.derive_walk.specs.Tables.{done_in};
+ghost use Rattle.derive_walk.specs.Told.{TakesRenewed, TakesSettled};
+
+use crate::done::{Done, Table};
 use crate::heights::Heights;
 use crate::looking::height_of;
 use crate::wanted::Wanted;
 use node_tasks::VisitedNodes;
-use object_values::{Node, Seq};
+use object_values::{Fresh, Memory, Node, RenewedNode, Seq};
 
-/// The nodes with results and the wanted calls stay from one advance to the next; what waits and
+/// The nodes with results, what is told of them and the wanted calls stay from one advance to the next; what waits and
 /// the path are of one advance: a node that waited may go on by outcomes that came since, so each
 /// advance visits it anew, and only a result is never found twice.
 pub(crate) struct Walk {
     pub(crate) root: Node,
     pub(crate) done: Table,
+    pub(crate) fresh: Seq<Fresh>,
+    pub(crate) renewed: Seq<RenewedNode>,
     pub(crate) wanted: Wanted,
     pub(crate) waiting: Heights,
     pub(crate) path: Seq<Node>,
@@ -22,15 +28,60 @@ impl Drop for Walk {
         let Walk {
             root,
             done,
+            fresh,
+            renewed,
             wanted,
             waiting,
             path,
         } = self;
         drop(root);
         drop(done);
+        drop(fresh);
+        drop(renewed);
         drop(wanted);
         drop(waiting);
         drop(path);
+    }
+}
+
+impl Walk {
+    /// Takes a node that was settled, with what is noted of it. After want of memory all is as before.
+    pub(crate) fn take_settled(&mut self, node: Node, done: Done, note: Fresh) -> Result<(), Memory>
+        requires { done_in self.old.done node ≡ None }
+        ensures ok { OnOk result (TakesSettled self.old self.new node done note) }
+        ensures err { OnErr result (self.new ≡ self.old) }
+    {
+        let count = self.fresh.len();
+        self.fresh.push(note)?;
+        match self.done.add(node, done) {
+            Ok(()) => Ok(()),
+            Err(Memory) => {
+                self.fresh.truncate(count);
+                Err(Memory)
+            }
+        }
+    }
+
+    /// Takes a node by its record, which came to this. After want of memory all is as before.
+    pub(crate) fn take_renewed(
+        &mut self,
+        node: Node,
+        done: Done,
+        renewed: RenewedNode,
+    ) -> Result<(), Memory>
+        requires { done_in self.old.done node ≡ None }
+        ensures ok { OnOk result (TakesRenewed self.old self.new node done renewed) }
+        ensures err { OnErr result (self.new ≡ self.old) }
+    {
+        let count = self.renewed.len();
+        self.renewed.push(renewed)?;
+        match self.done.add(node, done) {
+            Ok(()) => Ok(()),
+            Err(Memory) => {
+                self.renewed.truncate(count);
+                Err(Memory)
+            }
+        }
     }
 }
 

@@ -7,13 +7,14 @@ ghost use Rattle.meaning_calls.specs.Outcomes.{OutcomeFits};
 ghost use Rattle.meaning_tasks.specs.Nodes.{Fits};
 ghost use Rattle.meaning_derive.specs.Derive.{Sources as SourceTexts, Outcomes};
 ghost use Rattle.meaning_derive.specs.Given.{AreSources, OutcomesFit};
+ghost use Rattle.derive_walk.specs.Keeping.{AreReadable, Keeping, records_in};
 ghost use Rattle.derive_walk.specs.Outcomes.{after};
 ghost use Rattle.derive_walk.specs.Looks.{LooksAreFew, lost, met_by, met_in};
 ghost use Rattle.derive_walk.specs.Paths.{HasEmptyPath, AfterRoot};
-ghost use Rattle.derive_walk.specs.Settings.{IsSetting, world_in};
+ghost use Rattle.derive_walk.specs.Settings.{IsSetting, world_by, world_in};
 ghost use Rattle.derive_walk.specs.States.{IsFormedIn, HoldsIn, GoesOnFrom, heights_in};
 ghost use Rattle.derive_walk.specs.Walks.{IsFormed, IsRight, IsAdvanced, ExtendsWalk, OutcomeIsGiven, new_walk};
-ghost use Rattle.derive_walk.specs.Worlds.{World, IsWorld, world};
+ghost use Rattle.derive_walk.specs.Worlds.{World, IsWorld, KnowsIn};
 
 use crate::done::Table;
 use crate::found::Found;
@@ -26,7 +27,7 @@ use crate::settling::source_view;
 use crate::visiting::visit;
 use crate::walk::Walk;
 use crate::wanted::Wanted;
-use object_values::{Call, Copied, Memory, Node, Outcome, Seq, Sources};
+use object_values::{Call, Copied, Fresh, Memory, Node, Outcome, RenewedNode, Seq, Sources};
 use odin_outside::Steps;
 use path_planner::PlannedGraph;
 use std::alloc::Global;
@@ -62,6 +63,8 @@ impl Model for Walker {
     ghost view = { λ w. record {
       root = w.walk.root;
       done = w.walk.done;
+      fresh = w.walk.fresh;
+      renewed = w.walk.renewed;
       given = w.given;
       wanted = w.walk.wanted;
       result = w.result;
@@ -71,18 +74,20 @@ impl Model for Walker {
 }
 
 impl Walker {
-    /// Nothing is known yet. It is formed, and right in every world that its root fits.
+    /// Nothing is known yet. It is formed, and right in every world that its root fits and whose records are true.
     pub fn new(alloc: Global, root: Node) -> Self
         ensures is { result ≡ new_walk root }
-        ensures formed { (g : GraphValue) (by : Outcomes) → Fits g root → OutcomesFit by →
-            IsFormed g by result }
-        ensures right { (w : World) → Fits w.graph root → OutcomesFit w.outcomes →
+        ensures formed { (w : World) → Fits w.graph root → OutcomesFit w.outcomes →
+            IsFormed w result }
+        ensures right { (w : World) → Fits w.graph root → OutcomesFit w.outcomes → KnowsIn w →
             IsRight w result }
     {
         Walker {
             walk: Walk {
                 root,
                 done: Table::new(alloc),
+                fresh: Seq::new(alloc),
+                renewed: Seq::new(alloc),
                 wanted: Wanted::new(alloc),
                 waiting: Heights::new(alloc),
                 path: Seq::new(alloc),
@@ -104,18 +109,17 @@ impl Walker {
     ) -> Result<(), Memory>
         requires spellable { IsSpellable planned.now }
         requires sources { AreSources sources.now.texts }
-        requires formed { let by = after (K.kept known.now) self.old.given in
-            IsFormed planned.now by self.old }
+        requires readable { AreReadable planned.now (records_in (K.keeps known.now)) }
+        requires formed { let at = world_by (K.keeps known.now) planned.now sources.now.texts in
+            IsFormed (at self.old.given) self.old }
         ensures on { ExtendsWalk self.old self.new }
-        ensures formed { let by = after (K.kept known.now) self.new.given in
-            IsFormed planned.now by self.new }
-        ensures right { let by = after (K.kept known.now) in
-            IsRight (world planned.now sources.now.texts (by self.old.given)) self.old →
-            IsRight (world planned.now sources.now.texts (by self.new.given)) self.new }
-        ensures advanced { let by = after (K.kept known.now) in
-            IsRight (world planned.now sources.now.texts (by self.old.given)) self.old →
-            OnOk result
-            (IsAdvanced (world planned.now sources.now.texts (by self.new.given)) self.new) }
+        ensures formed { let at = world_by (K.keeps known.now) planned.now sources.now.texts in
+            IsFormed (at self.new.given) self.new }
+        ensures right { let at = world_by (K.keeps known.now) planned.now sources.now.texts in
+            IsRight (at self.old.given) self.old → IsRight (at self.new.given) self.new }
+        ensures advanced { let at = world_by (K.keeps known.now) planned.now sources.now.texts in
+            IsRight (at self.old.given) self.old →
+            OnOk result (IsAdvanced (at self.new.given) self.new) }
         ensures counted { LooksAreFew (met_by self.old) (met_by self.new)
             steps.old steps.new (lost result) }
     {
@@ -142,12 +146,12 @@ impl Walker {
         requires fits { OutcomeFits call.now outcome }
         ensures ok { OnOk result (OutcomeIsGiven call.now outcome self.old self.new) }
         ensures err { OnErr result (self.new ≡ self.old) }
-        ensures formed { (g : GraphValue) (kept : Outcomes) →
-            IsFormed g (after kept self.old.given) self.old →
-            IsFormed g (after kept self.new.given) self.new }
-        ensures right { (g : GraphValue) (s : SourceTexts) (kept : Outcomes) →
-            IsRight (world g s (after kept self.old.given)) self.old →
-            IsRight (world g s (after kept self.new.given)) self.new }
+        ensures formed { (g : GraphValue) (s : SourceTexts) (keeping : Keeping) →
+            IsFormed (world_by keeping g s self.old.given) self.old →
+            IsFormed (world_by keeping g s self.new.given) self.new }
+        ensures right { (g : GraphValue) (s : SourceTexts) (keeping : Keeping) →
+            IsRight (world_by keeping g s self.old.given) self.old →
+            IsRight (world_by keeping g s self.new.given) self.new }
     {
         self.given.take(&mut self.walk.wanted, call, outcome)?;
         self.walk.wanted.once();
@@ -159,6 +163,20 @@ impl Walker {
         ensures { result.now ≡ self.now.wanted }
     {
         self.walk.wanted.as_slice()
+    }
+
+    /// What is noted of the nodes with steps that were settled.
+    pub fn fresh(&self) -> &[Fresh]
+        ensures { result.now ≡ self.now.fresh }
+    {
+        self.walk.fresh.as_slice()
+    }
+
+    /// What the records came to that are current, of nodes that weren't settled.
+    pub fn renewed(&self) -> &[RenewedNode]
+        ensures { result.now ≡ self.now.renewed }
+    {
+        self.walk.renewed.as_slice()
     }
 
     /// What is found of the root; once it is there it stays.
@@ -190,14 +208,14 @@ fn walk_from_root<K: Known, L: Ledger>(
     walk: &mut Walk,
     steps: &mut Steps<L>,
 ) -> Result<Option<Found>, Memory>
-    requires set { IsSetting K.kept setting.now }
-    requires formed { IsFormedIn (world_in K.kept setting.now) walk.old }
+    requires set { IsSetting K.keeps setting.now }
+    requires formed { IsFormedIn (world_in K.keeps setting.now) walk.old }
     requires start { HasEmptyPath walk.old }
     ensures on { GoesOnFrom walk.old walk.new }
-    ensures formed { IsFormedIn (world_in K.kept setting.now) walk.new }
-    ensures holds { let w = world_in K.kept setting.now in
+    ensures formed { IsFormedIn (world_in K.keeps setting.now) walk.new }
+    ensures holds { let w = world_in K.keeps setting.now in
         HoldsIn w walk.old → HoldsIn w walk.new }
-    ensures after { let w = world_in K.kept setting.now in
+    ensures after { let w = world_in K.keeps setting.now in
         IfOk result (AfterRoot w (HoldsIn w walk.old) walk.new) }
     ensures counted { LooksAreFew (met_in walk.old) (met_in walk.new) steps.old
         steps.new (lost result) }

@@ -18,7 +18,7 @@ use Rattle.derive_walk.specs.Founds.{IsFound}
 use Rattle.derive_walk.specs.Outcomes.{after}
 use Rattle.derive_walk.specs.Walks.{Walked}
 use Rattle.derive_walk.specs.Worlds.{World, IsWorld}
-use Rattle.derive_walk.proofs.Lemmas.{found_fits}
+use Rattle.derive_walk.proofs.Lemmas.{found_fits, world_is}
 use Rattle.job_runner.specs.declared.jobs.Flying.{Flying}
 use Rattle.job_runner.specs.Flights.{InFlight}
 use Rattle.plain_derive.specs.Flights.{Course, on_course, off_course, Why, for_chain, for_spawn, Flies}
@@ -64,12 +64,12 @@ module _ {D : Type 0} (told : D → Telling) (g : Graph) (n : Node) (first : At 
     has_found spellable checked sources fits none found is same =
         let w : World = store_world g first.store walked.given in
         let texts : now.store.sources.texts ≡ first.store.sources.texts = sources_after told walked.given first.store now.store first.disk now.disk way.goes in
-        let world_is : IsWorld w = record { spellable = spellable; checked = checked; sources = subst (λ (s : Sources). AreSources s) texts sources; fit = way.right.fit } in
+        let w_is : IsWorld w = world_is _ _ _ spellable checked (subst (λ (s : Sources). AreSources s) texts sources) way.right.fit in
         record {
           given = walked.given;
           run = subst (λ k. HasRun told g n jobs.limit k first walked.given now) same (has_run none);
           is = is_found found is;
-          fit = found_fits w world_is n fits found (is_found found is);
+          fit = found_fits w w_is n fits found (is_found found is);
         }
 
   -- What is drained for a tool that failed.

@@ -21,7 +21,7 @@ use Rattle.derive_walk.specs.Calls.{outcome_in}
 use Rattle.derive_walk.specs.Outcomes.{given_or, after}
 use Rattle.derive_walk.specs.Walks.{Walked, new_walk, IsRight, AreFrontier, IsAdvanced, FindsOrWants}
 use Rattle.derive_walk.specs.Worlds.{World, world, IsWorld}
-use Rattle.derive_walk.proofs.Lemmas.{wanted_formed}
+use Rattle.derive_walk.proofs.Lemmas.{wanted_formed, world_is, knows_nothing, new_is_right}
 use Rattle.job_runner.specs.declared.jobs.Flying.{Flying}
 use Rattle.job_runner.specs.Flights.{InFlight, none_in_flight, calls_in, AreDistinct, AreTold}
 use Rattle.job_runner.proofs.Lemmas.{calls_long}
@@ -38,18 +38,6 @@ use Rattle.kept_derive.proofs.CallLemmas.{same_here}
 outside : (o kept : Option Outcome) → given_or o kept ≡ None → kept ≡ None
 outside None kept e = e
 outside (Some x) kept e = cc
-
--- A new walk is right wherever its root fits.
-new_is_right : (w : World) (root : Node) → Fits w.graph root → OutcomesFit w.outcomes → IsRight w (new_walk root)
-new_is_right w root fits fit = record {
-  fit = fit;
-  root = fits;
-  done = record { each = λ n d e. cc; needs = λ n d e m need. cc; different = tt };
-  met = λ n i. absurd i;
-  wanted = λ call i. absurd i;
-  once = tt;
-  found = tt;
-}
 
 some_run : (running : List Flying) (call : Call) → IsIn call (calls_in running) → 0 < length running
 some_run [] call i = absurd i
@@ -81,7 +69,7 @@ module _ {D : Type 0} (told : D → Telling) (g : Graph) (n : Node) (first : At 
         few = omega (arith, ap length none);
         goes = subst (λ (l : Calls). Performs told (keeps_of l) first.store first.store first.disk first.disk) (sym nothing) (follow.none first.store first.store first.disk first.disk (same_here first.store first.disk));
         epoch = refl;
-        right = subst (λ (z : Walked). IsRight (store_world g first.store z.given) z) (sym is) (new_is_right (store_world g first.store []) n fits fit);
+        right = subst (λ (z : Walked). IsRight (store_world g first.store z.given) z) (sym is) (new_is_right (store_world g first.store []) n fits fit (knows_nothing g first.store.sources.texts (after (known_in first.store) [])));
         runs = λ call i. absurd (subst (λ (l : List Flying). IsIn call (calls_in l)) none i);
         called = λ still call i. absurd (subst (λ (z : Walked). IsIn call z.wanted) is i);
       }
@@ -124,7 +112,7 @@ module _ {D : Type 0} (told : D → Telling) (g : Graph) (n : Node) (first : At 
     may_drain spellable checked sources idle size ready =
         let w : World = store_world g now.store walked.given in
         let right : IsRight w walked = right_now in
-        let is : IsWorld w = record { spellable = spellable; checked = checked; sources = sources; fit = right.fit } in
+        let is : IsWorld w = world_is _ _ _ spellable checked sources right.fit in
         record {
           told = told_now idle;
           apart = way.apart;

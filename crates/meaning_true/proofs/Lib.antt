@@ -5,3 +5,5 @@ mod Closing
 mod Staying
 mod Looking
 mod Seeing
+mod Knowing
+pub mod Lemmas

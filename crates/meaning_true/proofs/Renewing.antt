@@ -24,7 +24,7 @@ use Rattle.meaning_true.proofs.Settling.{true_settles}
 -- ---- lists
 
 -- what counts is one of all
-counted_sub : (needs : List Need) (m : Node) → IsIn m (nodes_of (filter (λ need. is_counted need.role) needs)) → IsIn m (nodes_of needs)
+pub counted_sub : (needs : List Need) (m : Node) → IsIn m (nodes_of (filter (λ need. is_counted need.role) needs)) → IsIn m (nodes_of needs)
 counted_sub [] m i = i
 counted_sub (x ∷ needs) m i = by_role (is_counted x.role) (counted_sub needs m) i
   where
@@ -34,12 +34,12 @@ counted_sub (x ∷ needs) m i = by_role (is_counted x.role) (counted_sub needs m
     by_role false below j = inr (below j)
 
 -- each node of the deps is one of a dep
-dep_of : (deps : List FactDep) (m : Node) → IsIn m (nodes_of (needs_in deps)) → (d : FactDep) × IsIn d deps × (m ≡ d.node)
+pub dep_of : (deps : List FactDep) (m : Node) → IsIn m (nodes_of (needs_in deps)) → (d : FactDep) × IsIn d deps × (m ≡ d.node)
 dep_of [] m i = absurd i
 dep_of (d ∷ deps) m (inl same) = (d, inl refl, same)
 dep_of (d ∷ deps) m (inr j) = let r = dep_of deps m j in (r.0, inr r.1, r.2)
 
-of_dep : (deps : List FactDep) (d : FactDep) → IsIn d deps → IsIn d.node (nodes_of (needs_in deps))
+pub of_dep : (deps : List FactDep) (d : FactDep) → IsIn d deps → IsIn d.node (nodes_of (needs_in deps))
 of_dep [] d i = absurd i
 of_dep (x ∷ deps) d (inl same) = inl (ap (λ (y : FactDep). y.node) same)
 of_dep (x ∷ deps) d (inr j) = inr (of_dep deps d j)
@@ -48,7 +48,7 @@ same_worst : (seen more : Results) (own : Status) (nodes : List Node) → AgreeA
 same_worst seen more own [] a = refl
 same_worst seen more own (n ∷ nodes) a = let p = a n (inl refl) in let q = same_worst seen more own nodes (λ m i. a m (inr i)) in λ i. worst (status_in (p i)) (q i)
 
-view_same : (seen more : Results) (fact : Fact) → AgreeAt seen more (counted_in fact.deps) → view_of_record seen fact ≡ view_of_record more fact
+pub view_same : (seen more : Results) (fact : Fact) → AgreeAt seen more (counted_in fact.deps) → view_of_record seen fact ≡ view_of_record more fact
 view_same seen more fact a =
     let w = same_worst seen more fact.own_status (counted_in fact.deps) a in
     let m = same_flat (λ n. messages_in (seen n)) (λ n. messages_in (more n)) (counted_in fact.deps) (λ n i. ap messages_in (a n i)) in

@@ -8,7 +8,7 @@ use Rattle.meaning_texts.specs.Limits.{height_limit}
 use Rattle.meaning_texts.specs.Lists.{IsIn}
 use Rattle.meaning_graph.specs.Graphs.{Text, Graph}
 use Rattle.meaning_tasks.specs.Tasks.{Task, given, picked, mapped, packed, tooled, unfit, task_of}
-use Rattle.meaning_tasks.specs.Needs.{Results, Known, values_of, Need, nodes_of, task_needs, needs_of, Needs}
+use Rattle.meaning_tasks.specs.Needs.{Results, Grows, Known, values_of, Need, nodes_of, task_needs, needs_of, Needs}
 use Rattle.meaning_tasks.proofs.Lemmas.{full_needs_stay}
 use Rattle.meaning_derive.specs.Derive.{Sources, text_of, Outcomes, derived}
 use Rattle.meaning_derive.specs.Laws.{HasMore}
@@ -25,12 +25,16 @@ view_of_value : (o : Option View) (value : Option Value) → option_map (λ (v :
 view_of_value None value e = let no : ⊥ = cc in absurd no
 view_of_value (Some view) value e = (view, refl, cc)
 
+-- what is seen of a node stays
+pub seen_on : (now more : Results) → Grows now more → (n : Node) (value : Option Value) → values_of now n ≡ Some value → values_of more n ≡ Some value
+seen_on now more grows n value e =
+    let v = view_of_value (now n) value e in
+    ap (option_map (λ (w : View). w.value)) (grows n v.0 v.1) ∙ ap Some v.2
+
 pub stays_on : (g : Graph) (s : Sources) (outcomes more : Outcomes) → HasMore outcomes more → (fact : Fact) (view : View) (height : ℕ) → RecordHolds g s outcomes fact view height → RecordHolds g s more fact view height
 stays_on g s outcomes more f fact view height holds = record {
   needs = (full_needs_stay g (text_of s) fact.node (derived g s outcomes) (derived g s more) (nodes_of (needs_in fact.deps)) (derive_more g s outcomes more f height_limit) holds.needs (λ m i. has_result (derived g s outcomes) fact.deps holds.seen m i)).needs;
-  seen = λ d i.
-      let v = view_of_value (derived g s outcomes d.node) d.value (holds.seen d i) in
-      ap (option_map (λ (w : View). w.value)) (derive_more g s outcomes more f height_limit d.node v.0 v.1) ∙ ap Some v.2;
+  seen = λ d i. seen_on (derived g s outcomes) (derived g s more) (derive_more g s outcomes more f height_limit) d.node d.value (holds.seen d i);
   value = holds.value;
   high = holds.high;
   is = derive_more g s outcomes more f height fact.node view holds.is;

@@ -1,5 +1,5 @@
 -- What is known where records are kept, and which nodes may be looked at then.
-use Rattle.std.specs.Prelude.{◌≡◌, ◌⊎◌, ◌+◌, ◌≤◌, ℕ, suc, true, List, [], length, Bool, Option, Some, slice_get}
+use Rattle.std.specs.Prelude.{◌≡◌, ◌⊎◌, ◌+◌, ◌≤◌, ℕ, suc, true, List, [], length, Bool, Option, Some, None, slice_get}
 use Rattle.object_values.specs.declared.messages.Status.{Status}
 use Rattle.object_values.specs.declared.messages.Message.{Message}
 use Rattle.object_values.specs.declared.nodes.Node.{Node}
@@ -9,6 +9,7 @@ use Rattle.meaning_texts.specs.Lists.{IsIn}
 use Rattle.meaning_graph.specs.Graphs.{Graph}
 use Rattle.meaning_tasks.specs.Needs.{Needs, nodes_of}
 use Rattle.meaning_derive.specs.Derive.{Sources, Outcomes, derived, HasHeight}
+use Rattle.meaning_derive.specs.Laws.{HasMore}
 use Rattle.meaning_derive.specs.Chains.{AreDifferent, IsNeed}
 use Rattle.meaning_derive.specs.Calls.{Runs}
 use Rattle.object_values.specs.declared.facts.FactDep.{FactDep}
@@ -53,6 +54,20 @@ pub record Knows (g : Graph) (s : Sources) (outcomes : Outcomes) (records : Kept
       → (d : FactDep) → IsIn d k.fact.deps → (d.node.steps ≡ []) ⊎ IsChecked records d.node
   pub tight : (n : Node) (k : KeptRecord) → records n ≡ Some k → k.checked ≡ true
       → (k.height ≡ 1) ⊎ ((place : ℕ) × (k.tight ≡ Some place) × IsTight g s outcomes k place)
+
+-- No record is kept.
+abbrev pub no_records : KeptRecords
+no_records n = None
+
+-- So nothing has to be true.
+abbrev pub NothingIsKnown : Type 0
+NothingIsKnown = (g : Graph) (s : Sources) (outcomes : Outcomes) → Knows g s outcomes no_records
+
+-- What is known of records stays as more outcomes come.
+abbrev pub KnowsStays : Type 0
+KnowsStays =
+    (g : Graph) (s : Sources) (outcomes more : Outcomes) (records : KeptRecords) → HasMore outcomes more
+    → Knows g s outcomes records → Knows g s more records
 
 -- The root may be looked at, and so may the needs of what is looked at and isn't checked.
 pub data MayLook (g : Graph) (s : Sources) (outcomes : Outcomes) (records : KeptRecords) (root : Node) : Node → Type 0 where

@@ -1,7 +1,7 @@
 //! Laws of node records. Each is the contract of a function with an empty body.
 ghost use Rattle.meaning_true.specs.Closed.{ClosedIsTrue};
 ghost use Rattle.meaning_true.specs.Checked.{FirstIsNeed, HoldsStays, RecordRenews};
-ghost use Rattle.meaning_true.specs.Knowing.{CheckedRootIsOne};
+ghost use Rattle.meaning_true.specs.Knowing.{CheckedRootIsOne, KnowsStays, NothingIsKnown};
 ghost use Rattle.meaning_true.specs.Laws.{TrueRecordSeesResults, TrueRecordSettles, TruthGrows};
 
 /// A true record whose needs have the values that were seen gives its node's result.
@@ -32,6 +32,12 @@ pub fn closed_is_true()
 /// What holds of a record holds as more outcomes come.
 pub fn holds_stays()
     ensures { HoldsStays }
+{}
+
+/// What is known of records stays as more outcomes come, and where no record is kept nothing has to be true.
+pub fn knows_stays()
+    ensures stays { KnowsStays }
+    ensures nothing { NothingIsKnown }
 {}
 
 /// The first dep of a true record is always a need.

@@ -41,7 +41,8 @@ impl Drop for Settled {
 }
 
 impl Settled {
-    fn into_view(self) -> View
+    /// The view alone.
+    pub fn into_view(self) -> View
         ensures { result ≡ self.view }
     {
         let Settled {

@@ -19,7 +19,8 @@ use Rattle.derive_walk.specs.Founds.{IsFound}
 use Rattle.derive_walk.specs.Outcomes.{nothing_known, after}
 use Rattle.derive_walk.specs.NothingFits.{nothing_fits}
 use Rattle.derive_walk.specs.Walks.{Walked, new_walk, IsRight, OutcomeIsGiven, IsAdvanced, FindsOrWants, ExtendsWalk as WalkGoesOn}
-use Rattle.derive_walk.specs.Worlds.{World, world}
+use Rattle.derive_walk.specs.Worlds.{World, KnowsIn, world}
+use Rattle.derive_walk.proofs.Lemmas.{knows_nothing}
 use Rattle.job_runner.specs.Made.{IsOutcomeOfCall}
 use Rattle.job_runner.specs.declared.fault.JobFault.{JobFault}
 use Rattle.job_runner.specs.declared.fault.JobFault.TheVariants.{Memory}
@@ -39,7 +40,7 @@ one_more_made before (x ∷ given) call outcome = one_more_made (closed before x
 
 -- ---- at the start
 
-pub start : (g : Graph) (s : Sources) (n : Node) (before : Spawned) (walked : Walked) (root : Node) → walked ≡ new_walk root → root ≡ n → Fits g n → ((w : World) → Fits w.graph root → OutcomesFit w.outcomes → IsRight w walked) → IsSoFar g s n before walked before
+pub start : (g : Graph) (s : Sources) (n : Node) (before : Spawned) (walked : Walked) (root : Node) → walked ≡ new_walk root → root ≡ n → Fits g n → ((w : World) → Fits w.graph root → OutcomesFit w.outcomes → KnowsIn w → IsRight w walked) → IsSoFar g s n before walked before
 start g s n before walked root is same fits right =
     let none : walked.given ≡ [] = ap (λ (z : Walked). z.given) is in
     let fit : OutcomesFit (after nothing_known walked.given) = subst (λ l. OutcomesFit (after nothing_known l)) (sym none) nothing_fits in
@@ -48,7 +49,7 @@ start g s n before walked root is same fits right =
       are = subst (AreGiven g s nothing_known n) (sym none) AreGiven.none_given;
       came = λ call outcome i. absurd (subst (IsIn (call, outcome)) none i);
       now_is = ap (λ l. after_calls before (calls_of l)) (sym none);
-      right = right (world g s (after nothing_known walked.given)) (subst (Fits g) (sym same) fits) fit;
+      right = right (world g s (after nothing_known walked.given)) (subst (Fits g) (sym same) fits) fit (knows_nothing g s (after nothing_known walked.given));
     }
 
 module _ (g : Graph) (s : Sources) (n : Node) (before : Spawned) (walked : Walked) (mid : Spawned) (so : IsSoFar g s n before walked mid) where

@@ -11,7 +11,7 @@ use Rattle.derive_walk.proofs.closing.close.Goals as goal
 
 pub descend-requires-clause-tall : goal.descend-requires-clause-tall
 descend-requires-clause-tall g c =
-    let w = world_in g.K.Known.kept c.args.setting.now in
+    let w = world_in g.K.Known.keeps c.args.setting.now in
     let whole = c.requires.whole in
     let top = whole_top w c.args.walk.now c.args.node c.args.needed.now c.args.survey.now whole in
     let high : height_limit ≤ top_of (heights_in c.args.walk.now) whole.surveyed.needs = omega (arith, top, c.if-survey.true) in
@@ -20,9 +20,10 @@ descend-requires-clause-tall g c =
 
 pub close_seen-requires-clause-closing : goal.close_seen-requires-clause-closing
 close_seen-requires-clause-closing g c =
-    let w = world_in g.K.Known.kept c.args.setting.now in
+    let w = world_in g.K.Known.keeps c.args.setting.now in
     let whole = c.requires.whole in
     record {
+      anew = whole.anew;
       found = whole.found;
       needs = whole.surveyed.needs;
       listed = whole.surveyed.listed;
@@ -32,7 +33,7 @@ close_seen-requires-clause-closing g c =
     }
 
 pub add-requires : goal.add-requires
-add-requires g c = not_waiting c.args.walk.now.done c.args.walk.now.waiting c.args.node (last_is_new (world_in g.K.Known.kept c.args.setting.now) c.args.walk.now c.args.node c.requires.last)
+add-requires g c = not_waiting c.args.walk.now.done c.args.walk.now.waiting c.args.node (last_is_new (world_in g.K.Known.keeps c.args.setting.now) c.args.walk.now c.args.node c.requires.last)
 
 -- ---- too deep
 
@@ -42,19 +43,19 @@ returns-then-survey-clause-after g c = (c.in_ok-chain.ensures.fit, c.in_ok-chain
 -- ---- a need waits
 
 pub returns-in_err-add-clause-formed : goal.returns-in_err-add-clause-formed
-returns-in_err-add-clause-formed g c = subst (λ z. IsFormedIn (world_in g.K.Known.kept c.args.setting.now) (record c.args.walk.now { waiting = z }))
+returns-in_err-add-clause-formed g c = subst (λ z. IsFormedIn (world_in g.K.Known.keeps c.args.setting.now) (record c.args.walk.now { waiting = z }))
     (sym c.in_err-add.ensures.err) c.requires.last.formed
 
 pub returns-in_err-add-clause-holds : goal.returns-in_err-add-clause-holds
-returns-in_err-add-clause-holds g c = λ led. subst (λ z. HoldsIn (world_in g.K.Known.kept c.args.setting.now) (record c.args.walk.now { waiting = z }))
+returns-in_err-add-clause-holds g c = λ led. subst (λ z. HoldsIn (world_in g.K.Known.keeps c.args.setting.now) (record c.args.walk.now { waiting = z }))
     (sym c.in_err-add.ensures.err) led.holds
 
 pub returns-clause-on : goal.returns-clause-on
-returns-clause-on g c = goes_with_waiting (world_in g.K.Known.kept c.args.setting.now) c.args.walk.now c.args.node c.requires.last (c.args.survey.now.top + 1) c.add.new.self c.in_ok-add.ensures.ok c.args.walk.now.wanted (λ d i. i)
+returns-clause-on g c = goes_with_waiting (world_in g.K.Known.keeps c.args.setting.now) c.args.walk.now c.args.node c.requires.last (c.args.survey.now.top + 1) c.add.new.self c.in_ok-add.ensures.ok c.args.walk.now.wanted (λ d i. i)
 
 pub returns-clause-formed : goal.returns-clause-formed
 returns-clause-formed g c =
-    let w = world_in g.K.Known.kept c.args.setting.now in
+    let w = world_in g.K.Known.keeps c.args.setting.now in
     let whole = c.requires.whole in
     let visited = whole_visited w c.args.walk.now c.args.node c.args.needed.now c.args.survey.now whole in
     formed_waiting w c.args.walk.now c.args.node c.requires.last whole.surveyed.needs visited c.args.survey.now.top
@@ -62,7 +63,7 @@ returns-clause-formed g c =
 
 pub returns-clause-holds : goal.returns-clause-holds
 returns-clause-holds g c = λ led.
-    let w = world_in g.K.Known.kept c.args.setting.now in
+    let w = world_in g.K.Known.keeps c.args.setting.now in
     let whole = c.requires.whole in
     let visited = whole_visited w c.args.walk.now c.args.node c.args.needed.now c.args.survey.now whole in
     let unfinished = sym (whole_done w c.args.walk.now c.args.node c.args.needed.now c.args.survey.now whole) ∙ c.if-survey-2.false in
@@ -71,4 +72,4 @@ returns-clause-holds g c = λ led.
     (omega (arith, c.if-survey.false)) c.add.new.self c.in_ok-add.ensures.ok
 
 pub returns-clause-after : goal.returns-clause-after
-returns-clause-after g c = visited_with_waiting (world_in g.K.Known.kept c.args.setting.now) c.args.walk.now c.args.node c.requires.last (c.args.survey.now.top + 1) c.add.new.self c.in_ok-add.ensures.ok c.args.walk.now.wanted
+returns-clause-after g c = visited_with_waiting (world_in g.K.Known.keeps c.args.setting.now) c.args.walk.now c.args.node c.requires.last (c.args.survey.now.top + 1) c.add.new.self c.in_ok-add.ensures.ok c.args.walk.now.wanted

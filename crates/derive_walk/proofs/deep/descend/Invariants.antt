@@ -8,7 +8,7 @@ use Rattle.derive_walk.proofs.deep.descend.Given as goal
 abbrev pub invariant-loop-count : goal.invariant-loop-count
 invariant-loop-count g l = record {
   fit : AllFit l.setting.planned.now l.chain;
-  down : IsLed (world_in g.K.Known.kept l.setting) l.walk → LeadsDown (world_in g.K.Known.kept l.setting) l.walk l.chain l.height;
-  long : IsLed (world_in g.K.Known.kept l.setting) l.walk → length l.chain ≡ l._count;
+  down : IsLed (world_in g.K.Known.keeps l.setting) l.walk → LeadsDown (world_in g.K.Known.keeps l.setting) l.walk l.chain l.height;
+  long : IsLed (world_in g.K.Known.keeps l.setting) l.walk → length l.chain ≡ l._count;
   falling : l.height + l._count ≡ height_limit + length l.walk.path;
 }

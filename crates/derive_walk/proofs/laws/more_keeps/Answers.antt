@@ -1,14 +1,15 @@
-use Rattle.derive_walk.proofs.Stays.{found_stays, right_stays}
+use Rattle.derive_walk.proofs.Stays.{found_stays, told_stays, right_stays}
 use Rattle.derive_walk.proofs.laws.more_keeps.Goals as goal
 
 pub returns-clause-found : goal.returns-clause-found
 returns-clause-found c = found_stays
 
 pub returns-clause-right : goal.returns-clause-right
-returns-clause-right c = right_stays
+returns-clause-right c = λ records g s outcomes more has. right_stays g s outcomes more has records
 
 pub returns-clause-formed : goal.returns-clause-formed
-returns-clause-formed c g outcomes more fit walked none formed = record {
+returns-clause-formed c records g s outcomes more has fit walked none formed = record {
+  told = told_stays g s outcomes more has records walked.done walked.fresh walked.renewed formed.told;
   fit = fit;
   root = formed.root;
   done = formed.done;

@@ -18,7 +18,7 @@ use Rattle.derive_walk.proofs.visiting.+visit.Goals as goal
 
 pub loop-rounds-init : goal.loop-rounds-init
 loop-rounds-init g t c =
-    let w = world_in g.K.Known.kept c.args.setting.now in
+    let w = world_in g.K.Known.keeps c.args.setting.now in
     record {
       so = start w c.args.walk.now c.args.node c.requires.next c.push.new.self
           (c.in_ok-push.ensures.ok ∙ ap (λ z. c.args.walk.now.path ++ z ∷ []) c.in_ok-copy.ensures);
@@ -37,7 +37,7 @@ loop-rounds-preserved g t c = record {
 
 pub loop-need-init : goal.loop-need-init
 loop-need-init g t c =
-    let w = world_in g.K.Known.kept c.args.setting.now in
+    let w = world_in g.K.Known.keeps c.args.setting.now in
     let next : AreToVisit w c.loop-rounds.walk c.args.node c.in-Visits.needs =
     subst (IsRound w c.loop-rounds.walk c.args.node) c.in-Visits.is c.in_ok-round.ensures.round in
     record {
@@ -49,7 +49,7 @@ loop-need-init g t c =
 
 pub loop-need-preserved : goal.loop-need-preserved
 loop-need-preserved g t c =
-    let w = world_in g.K.Known.kept c.args.setting.now in
+    let w = world_in g.K.Known.keeps c.args.setting.now in
     let k = c.need-item.result in
     let walk = c.loop-need.walk in
     let one : IsIn k c.as_slice-unvisited.result.now = got_in c.as_slice-unvisited.result.now c.loop-need.need-index k c.loop-need-test.true c.need-item.is in
@@ -68,12 +68,12 @@ loop-need-preserved g t c =
 
 pub next_round-requires : goal.next_round-requires
 next_round-requires g t c =
-    let w = world_in g.K.Known.kept c.args.setting.now in
-    record { set = c.requires.set; fits = fits w c.args.walk.now c.args.node c.loop-rounds.walk c.loop-rounds.invariant.so; ahead = c.loop-rounds.invariant.ahead }
+    let w = world_in g.K.Known.keeps c.args.setting.now in
+    record { set = c.requires.set; formed = c.loop-rounds.invariant.so.formed; fits = fits w c.args.walk.now c.args.node c.loop-rounds.walk c.loop-rounds.invariant.so; ahead = c.loop-rounds.invariant.ahead }
 
 pub visit-requires : goal.visit-requires
 visit-requires g t c =
-    let w = world_in g.K.Known.kept c.args.setting.now in
+    let w = world_in g.K.Known.keeps c.args.setting.now in
     let k = c.need-item.result in
     let walk = c.loop-need.walk in
     let so = c.loop-need.invariant.round.so in
@@ -90,7 +90,7 @@ visit-requires g t c =
 
 pub close-requires : goal.close-requires
 close-requires g t c =
-    let w = world_in g.K.Known.kept c.args.setting.now in
+    let w = world_in g.K.Known.keeps c.args.setting.now in
     record {
       set = c.requires.set;
       last = last w c.args.walk.now c.args.node c.loop-rounds.walk c.loop-rounds.invariant.so;
@@ -101,7 +101,7 @@ close-requires g t c =
 
 pub returns-in-Some-clause-after : goal.returns-in-Some-clause-after
 returns-in-Some-clause-after g t c =
-    let w = world_in g.K.Known.kept c.args.setting.now in
+    let w = world_in g.K.Known.keeps c.args.setting.now in
     let k = c.need-item.result in
     let walk = c.loop-need.walk in
     let round = c.loop-need.invariant.round in
@@ -113,7 +113,7 @@ returns-in-Some-clause-after g t c =
 
 pub returns-in-Some-2-clause-after : goal.returns-in-Some-2-clause-after
 returns-in-Some-2-clause-after g t c =
-    let w = world_in g.K.Known.kept c.args.setting.now in
+    let w = world_in g.K.Known.keeps c.args.setting.now in
     let k = c.need-item.result in
     let walk = c.loop-need.walk in
     let round = c.loop-need.invariant.round in
@@ -127,9 +127,28 @@ returns-in-Some-2-clause-after g t c =
 
 pub returns-in-Closes-clause-after : goal.returns-in-Closes-clause-after
 returns-in-Closes-clause-after g t c =
-    let w = world_in g.K.Known.kept c.args.setting.now in
+    let w = world_in g.K.Known.keeps c.args.setting.now in
     finish w c.args.walk.now c.args.node c.loop-rounds.walk c.close.new.walk c.loop-rounds.invariant.so c.close.ensures.on c.in_ok-found-in-Closes.found
-    c.in_ok-found-in-Closes.ensures.after c.truncate.new.self (c.truncate.ensures ∙ ap (λ k. take k c.close.new.walk.path) c.len-length.ensures)
+    c.in_ok-found-in-Closes.ensures.after c.truncate-in-Closes.new.self (c.truncate-in-Closes.ensures ∙ ap (λ k. take k c.close.new.walk.path) c.len-length.ensures)
+
+-- ---- its record is current
+
+pub returns-in-Renews-clause-after : goal.returns-in-Renews-clause-after
+returns-in-Renews-clause-after g t c =
+    let w = world_in g.K.Known.keeps c.args.setting.now in
+    finish w c.args.walk.now c.args.node c.loop-rounds.walk c.renew.new.walk c.loop-rounds.invariant.so c.renew.ensures.on None
+    c.in_ok-renew-in-Renews.ensures.visited c.truncate.new.self (c.truncate.ensures ∙ ap (λ k. take k c.renew.new.walk.path) c.len-length.ensures)
+
+pub returns-in_err-renew-in-Renews-clause-on : goal.returns-in_err-renew-in-Renews-clause-on
+returns-in_err-renew-in-Renews-clause-on g t c = goes_far c.args.walk.now c.loop-rounds.walk c.renew.new.walk c.loop-rounds.invariant.so.on c.renew.ensures.on
+
+pub returns-in-Renews-clause-on : goal.returns-in-Renews-clause-on
+returns-in-Renews-clause-on g t c = goes_at c.args.walk.now c.renew.new.walk c.truncate.new.self
+    (goes_far c.args.walk.now c.loop-rounds.walk c.renew.new.walk c.loop-rounds.invariant.so.on c.renew.ensures.on)
+
+pub returns-in-Renews-clause-holds : goal.returns-in-Renews-clause-holds
+returns-in-Renews-clause-holds g t c = λ to.
+    holds_at (world_in g.K.Known.keeps c.args.setting.now) c.renew.new.walk c.truncate.new.self (c.renew.ensures.holds (c.loop-rounds.invariant.so.right to))
 
 -- ---- what stays
 
@@ -143,7 +162,7 @@ pub returns-in_err-found-in-Closes-clause-on : goal.returns-in_err-found-in-Clos
 returns-in_err-found-in-Closes-clause-on g t c = goes_far c.args.walk.now c.loop-rounds.walk c.close.new.walk c.loop-rounds.invariant.so.on c.close.ensures.on
 
 pub returns-in-Closes-clause-on : goal.returns-in-Closes-clause-on
-returns-in-Closes-clause-on g t c = goes_at c.args.walk.now c.close.new.walk c.truncate.new.self
+returns-in-Closes-clause-on g t c = goes_at c.args.walk.now c.close.new.walk c.truncate-in-Closes.new.self
     (goes_far c.args.walk.now c.loop-rounds.walk c.close.new.walk c.loop-rounds.invariant.so.on c.close.ensures.on)
 
 -- ---- what is right
@@ -156,7 +175,7 @@ returns-in_err-found-in-Closes-clause-holds g t c = λ to. c.close.ensures.holds
 
 pub returns-in-Closes-clause-holds : goal.returns-in-Closes-clause-holds
 returns-in-Closes-clause-holds g t c = λ to.
-    holds_at (world_in g.K.Known.kept c.args.setting.now) c.close.new.walk c.truncate.new.self (c.close.ensures.holds (c.loop-rounds.invariant.so.right to))
+    holds_at (world_in g.K.Known.keeps c.args.setting.now) c.close.new.walk c.truncate-in-Closes.new.self (c.close.ensures.holds (c.loop-rounds.invariant.so.right to))
 
 pub returns-in_err-found-clause-holds : goal.returns-in_err-found-clause-holds
 returns-in_err-found-clause-holds g t c = λ to. (c.loop-need.invariant.round.so.right to).holds
@@ -169,7 +188,7 @@ returns-in_err-need-clause-holds g t c = λ to. (c.loop-need.invariant.round.so.
 
 pub returns-in_err-found-2-clause-holds : goal.returns-in_err-found-2-clause-holds
 returns-in_err-found-2-clause-holds g t c = λ to.
-    let w = world_in g.K.Known.kept c.args.setting.now in
+    let w = world_in g.K.Known.keeps c.args.setting.now in
     let k = c.need-item.result in
     let round = c.loop-need.invariant.round in
     let one : IsIn k c.as_slice-unvisited.result.now = got_in c.as_slice-unvisited.result.now c.loop-need.need-index k c.loop-need-test.true c.need-item.is in
@@ -179,7 +198,7 @@ returns-in_err-found-2-clause-holds g t c = λ to.
 
 pub returns-in-Some-2-clause-holds : goal.returns-in-Some-2-clause-holds
 returns-in-Some-2-clause-holds g t c = λ to.
-    let w = world_in g.K.Known.kept c.args.setting.now in
+    let w = world_in g.K.Known.keeps c.args.setting.now in
     let k = c.need-item.result in
     let round = c.loop-need.invariant.round in
     let one : IsIn k c.as_slice-unvisited.result.now = got_in c.as_slice-unvisited.result.now c.loop-need.need-index k c.loop-need-test.true c.need-item.is in

@@ -11,15 +11,15 @@ decreases-visit g l = 64 - length l.walk.now.path
 
 abbrev pub invariant-loop-rounds : goal.invariant-loop-rounds
 invariant-loop-rounds g l = record {
-  so : SoFar (world_in g.K.Known.kept l.setting) l.fn.walk l.walk l.node;
-  ahead : IsAheadIn (world_in g.K.Known.kept l.setting) l.walk l.node l.ahead;
+  so : SoFar (world_in g.K.Known.keeps l.setting) l.fn.walk l.walk l.node;
+  ahead : IsAheadIn (world_in g.K.Known.keeps l.setting) l.walk l.node l.ahead;
   length : l.length ≡ length l.fn.walk.path;
   counted : LooksAreFew (met_in l.fn.walk) (met_in l.walk) l.fn.steps l.steps 0;
 }
 
 abbrev pub invariant-loop-need : goal.invariant-loop-need
 invariant-loop-need g l = record {
-  round : InRound (world_in g.K.Known.kept l.setting) l.fn.walk l.initial.walk l.walk l.node l.unvisited;
-  ahead : IsAheadIn (world_in g.K.Known.kept l.setting) l.walk l.node l.ahead;
+  round : InRound (world_in g.K.Known.keeps l.setting) l.fn.walk l.initial.walk l.walk l.node l.unvisited;
+  ahead : IsAheadIn (world_in g.K.Known.keeps l.setting) l.walk l.node l.ahead;
   counted : LooksAreFew (met_in l.fn.walk) (met_in l.walk) l.fn.steps l.steps 0;
 }

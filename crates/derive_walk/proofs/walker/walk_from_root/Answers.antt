@@ -11,35 +11,35 @@ use Rattle.derive_walk.proofs.walker.walk_from_root.Goals as goal
 
 pub returns-then-is_empty-clause-after : goal.returns-then-is_empty-clause-after
 returns-then-is_empty-clause-after g c =
-    let w = world_in g.K.Known.kept c.args.setting.now in
+    let w = world_in g.K.Known.keeps c.args.setting.now in
     let found : IsFound w.graph w.sources w.outcomes c.args.walk.now.root (Answer c.in_ok-view.view) = source_found w c.args.walk.now.root
     (c.is_empty.ensures.0 c.if-is_empty.true) c.in_ok-view.view (rw c.graph.ensures at c.in_ok-view.ensures) in
     record { fit = found_fits w c.requires.set c.args.walk.now.root c.requires.formed.root (Answer c.in_ok-view.view) found; right = λ holds. found }
 
 pub returns-then-is_some-clause-after : goal.returns-then-is_some-clause-after
-returns-then-is_some-clause-after g c = c.visited_root.ensures (world_in g.K.Known.kept c.args.setting.now) c.requires.set c.requires.formed
+returns-then-is_some-clause-after g c = c.visited_root.ensures (world_in g.K.Known.keeps c.args.setting.now) c.requires.set c.requires.formed
 
 pub returns-in_err-found-clause-holds : goal.returns-in_err-found-clause-holds
 returns-in_err-found-clause-holds g c = λ holds. c.visit.ensures.holds
-    (root_leads (world_in g.K.Known.kept c.args.setting.now) c.args.walk.now c.requires.start c.in_ok-root.root c.in_ok-root.ensures holds)
+    (root_leads (world_in g.K.Known.keeps c.args.setting.now) c.args.walk.now c.requires.start c.in_ok-root.root c.in_ok-root.ensures holds)
 
 pub returns-in-Some-clause-holds : goal.returns-in-Some-clause-holds
 returns-in-Some-clause-holds g c = λ holds. c.visit.ensures.holds
-    (root_leads (world_in g.K.Known.kept c.args.setting.now) c.args.walk.now c.requires.start c.in_ok-root.root c.in_ok-root.ensures holds)
+    (root_leads (world_in g.K.Known.keeps c.args.setting.now) c.args.walk.now c.requires.start c.in_ok-root.root c.in_ok-root.ensures holds)
 
 pub returns-clause-holds : goal.returns-clause-holds
 returns-clause-holds g c = λ holds. c.visit.ensures.holds
-    (root_leads (world_in g.K.Known.kept c.args.setting.now) c.args.walk.now c.requires.start c.in_ok-root.root c.in_ok-root.ensures holds)
+    (root_leads (world_in g.K.Known.keeps c.args.setting.now) c.args.walk.now c.requires.start c.in_ok-root.root c.in_ok-root.ensures holds)
 
 pub returns-in-Some-clause-after : goal.returns-in-Some-clause-after
 returns-in-Some-clause-after g c =
-    let w = world_in g.K.Known.kept c.args.setting.now in
+    let w = world_in g.K.Known.keeps c.args.setting.now in
     chain_there w c.args.walk.now c.requires.start c.in_ok-root.root c.in_ok-root.ensures c.visit.new.walk c.visit.ensures.on c.in-Some.found
     (subst (λ o. AfterVisit w (LeadsTo w c.args.walk.now c.in_ok-root.root) c.args.walk.now c.visit.new.walk c.in_ok-root.root o) c.in-Some.is c.in_ok-found.ensures.after)
 
 pub returns-clause-after : goal.returns-clause-after
 returns-clause-after g c =
-    let w = world_in g.K.Known.kept c.args.setting.now in
+    let w = world_in g.K.Known.keeps c.args.setting.now in
     trusted w c.visit.new.walk (λ holds. c.visit.ensures.holds
     (root_leads w c.args.walk.now c.requires.start c.in_ok-root.root c.in_ok-root.ensures holds)) c.visited_root-2.result
     (c.visited_root-2.ensures w c.requires.set c.visit.ensures.formed)

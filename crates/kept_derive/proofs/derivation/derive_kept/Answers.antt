@@ -1,6 +1,7 @@
 use Rattle.std.proofs.Common.{arith, ◌≡◌, ◌<◌, ◌∙◌, [], length, sym, ap, subst, refl}
 use Rattle.std.specs.Prelude.{Err}
 use Rattle.std.proofs.lemmas.Result.{err_from_is_err_and}
+use Rattle.odin_journal.specs.Rest.{IsReady}
 use Rattle.derive_walk.specs.Walks.{Walked}
 use Rattle.job_runner.specs.Flights.{InFlight}
 use Rattle.kept_derive.specs.declared.fault.KeptFault.TheVariants.{Spawn, Memory}
@@ -204,3 +205,13 @@ returns-in-Some-clause-left g c =
       | then-running-gt0+in_ok-drain w ↦ ready_by c.in-Some.found c.if-running-gt0.store w.drain.new.store _ _ w.store-is (ap g.D.Disk.size_of w.disk-is) w.in_ok-drain.ensures.left.ready
       | else-running-gt0 w ↦ ready_by c.in-Some.found c.if-running-gt0.store c.fly.new.store _ _ w.store-is (ap g.D.Disk.size_of w.disk-is) c.in_ok-flown.ensures.left.ready
     ]
+
+-- ---- what is left of the store
+
+pub returns-clause-left : goal.returns-clause-left
+returns-clause-left g c =
+    let ready : IsReady c.if-running-gt0.store.journal (g.D.Disk.size_of c.if-running-gt0.disk) = elim c.if-running-gt0.branch [
+      | then-running-gt0+in_ok-drain w ↦ subst (λ d. IsReady c.if-running-gt0.store.journal (g.D.Disk.size_of d)) (sym w.disk-is) (subst (λ s. IsReady s.journal (g.D.Disk.size_of w.drain.new.disk)) (sym w.store-is) w.in_ok-drain.ensures.left.ready)
+      | else-running-gt0 w ↦ subst (λ d. IsReady c.if-running-gt0.store.journal (g.D.Disk.size_of d)) (sym w.disk-is) (subst (λ s. IsReady s.journal (g.D.Disk.size_of c.fly.new.disk)) (sym w.store-is) c.in_ok-flown.ensures.left.ready)
+    ] in
+    record { ready = tt; left = ready }

@@ -2,7 +2,7 @@ use Rattle.std.proofs.Common.{rules, ◌≡◌, ◌∙◌, sym, ap, refl}
 use Rattle.std.specs.Prelude.{Some, None, Err}
 use Rattle.std.proofs.lemmas.Result.{err_from_is_err_and}
 use Rattle.derive_walk.specs.Walks.{Walked}
-use Rattle.derive_walk.proofs.Lemmas.{right_is_formed}
+use Rattle.derive_walk.proofs.Lemmas.{right_is_formed, none_readable, world_is}
 use Rattle.plain_derive.proofs.OnLemmas.{start, none_begun, given_up_at, way_on, way_moves, way_ends, way_stops, way_calm}
 use Rattle.plain_derive.proofs.derivation.derive_counted.Goals.{else-loop-test, then-loop-test+in_ok-advance+then-is_some}
 use Rattle.plain_derive.proofs.derivation.derive_counted.Goals as goal
@@ -26,8 +26,11 @@ pub advance-requires-clause-formed : goal.advance-requires-clause-formed
 advance-requires-clause-formed g c =
     let right = c.loop.invariant.way.so.right in
     right_is_formed _
-    (record { spellable = c.requires.spellable; checked = rw c.graph.ensures at c.checked.ensures; sources = c.requires.sources; fit = right.fit })
+    (world_is _ _ _ c.requires.spellable (rw c.graph.ensures at c.checked.ensures) c.requires.sources right.fit)
     _ right
+
+pub advance-requires-clause-readable : goal.advance-requires-clause-readable
+advance-requires-clause-readable g c = none_readable c.args.planned.now
 
 pub returns-in_err-advance-clause-given_up : goal.returns-in_err-advance-clause-given_up
 returns-in_err-advance-clause-given_up g c =

@@ -1,6 +1,6 @@
 use Rattle.std.proofs.Common.{sym, subst}
 use Rattle.derive_walk.specs.Walks.{Walked, IsRight}
-use Rattle.derive_walk.proofs.Lemmas.{right_is_formed}
+use Rattle.derive_walk.proofs.Lemmas.{right_is_formed, none_readable, world_is}
 use Rattle.derive_core.specs.Kept.{kept_world}
 use Rattle.derive_core.proofs.walk.Core.advance_in.Goals as goal
 
@@ -9,7 +9,7 @@ advance-requires-clause-formed g c =
     let right = subst (λ (z : Walked). IsRight (kept_world c.args.planned.now c.args.sources.now.texts c.args.looks.now.kept.now.tables.calls z.given) z)
     (sym c.self.view_is) c.requires.right in
     right_is_formed _
-    (record { spellable = c.requires.spellable; checked = rw c.graph.ensures at c.checked.ensures; sources = c.requires.sources; fit = right.fit })
+    (world_is _ _ _ c.requires.spellable (rw c.graph.ensures at c.checked.ensures) c.requires.sources right.fit)
     _ right
 
 pub returns-clause-right : goal.returns-clause-right
@@ -22,3 +22,6 @@ returns-clause-advanced g c =
     c.advance.ensures.advanced (subst
     (λ (z : Walked). IsRight (kept_world c.args.planned.now c.args.sources.now.texts c.args.looks.now.kept.now.tables.calls z.given) z)
     (sym c.self.view_is) c.requires.right)
+
+pub advance-requires-clause-readable : goal.advance-requires-clause-readable
+advance-requires-clause-readable g c = none_readable c.args.planned.now

@@ -1,8 +1,9 @@
 use Rattle.std.proofs.Common.{sym, subst, refl, ◌∙◌}
 use Rattle.std.proofs.lemmas.Result.{err_from_is_err_and}
+use Rattle.derive_walk.specs.Keeping.{records_in}
 use Rattle.derive_walk.specs.Outcomes.{after}
 use Rattle.derive_walk.specs.Walks.{Walked, IsFormed, IsRight}
-use Rattle.derive_walk.specs.Worlds.{world}
+use Rattle.derive_walk.specs.Settings.{world_by}
 use Rattle.derive_walk.proofs.AdvanceLemmas.{seen_so, goes_on, stays_formed, stays_right, still_found}
 use Rattle.derive_walk.proofs.LooksLemmas.{few_at, few_seen}
 use Rattle.derive_walk.proofs.RootLemmas.{formed_at_start, holds_at_start, found_of}
@@ -10,22 +11,20 @@ use Rattle.derive_walk.proofs.walker.Walker.advance.Goals as goal
 
 pub walk_from_root-requires-clause-set : goal.walk_from_root-requires-clause-set
 walk_from_root-requires-clause-set g c =
-    let kept = g.K.Known.kept c.args.known.now in
-    let by = after kept c.self.inside.given in
-    let w = world c.args.planned.now c.args.sources.now.texts by in
-    let formed : IsFormed c.args.planned.now by (seen_so c.self.inside.walk c.self.inside.given c.self.inside.result) = subst
-    (λ (s : Walked). IsFormed c.args.planned.now (after kept s.given) s) (sym c.self.view_is) c.requires.formed in
-    record { spellable = c.requires.spellable; checked = rw c.graph.ensures at c.checked.ensures; sources = c.requires.sources; fit = formed.fit }
+    let keeping = g.K.Known.keeps c.args.known.now in
+    let w = world_by keeping c.args.planned.now c.args.sources.now.texts c.self.inside.given in
+    let formed : IsFormed w (seen_so c.self.inside.walk c.self.inside.given c.self.inside.result) = subst
+    (λ (s : Walked). IsFormed (world_by keeping c.args.planned.now c.args.sources.now.texts s.given) s) (sym c.self.view_is) c.requires.formed in
+    record { spellable = c.requires.spellable; checked = rw c.graph.ensures at c.checked.ensures; sources = c.requires.sources; fit = formed.fit; readable = c.requires.readable }
 
 pub walk_from_root-requires-clause-formed : goal.walk_from_root-requires-clause-formed
 walk_from_root-requires-clause-formed g c =
-    let kept = g.K.Known.kept c.args.known.now in
-    let by = after kept c.self.inside.given in
-    let w = world c.args.planned.now c.args.sources.now.texts by in
-    let formed : IsFormed c.args.planned.now by (seen_so c.self.inside.walk c.self.inside.given c.self.inside.result) = subst
-    (λ (s : Walked). IsFormed c.args.planned.now (after kept s.given) s) (sym c.self.view_is) c.requires.formed in
-    formed_at_start c.args.planned.now c.args.sources.now.texts by
-    (seen_so c.self.inside.walk c.self.inside.given c.self.inside.result) formed _ refl refl refl c.new.ensures
+    let keeping = g.K.Known.keeps c.args.known.now in
+    let w = world_by keeping c.args.planned.now c.args.sources.now.texts c.self.inside.given in
+    let formed : IsFormed w (seen_so c.self.inside.walk c.self.inside.given c.self.inside.result) = subst
+    (λ (s : Walked). IsFormed (world_by keeping c.args.planned.now c.args.sources.now.texts s.given) s) (sym c.self.view_is) c.requires.formed in
+    formed_at_start w
+    (seen_so c.self.inside.walk c.self.inside.given c.self.inside.result) formed _ refl refl refl refl refl c.new.ensures
 
 -- ---- after want of memory
 
@@ -35,24 +34,22 @@ returns-in_err-self-inside-clause-on g c =
 
 pub returns-in_err-self-inside-clause-formed : goal.returns-in_err-self-inside-clause-formed
 returns-in_err-self-inside-clause-formed g c =
-    let kept = g.K.Known.kept c.args.known.now in
-    let by = after kept c.self.inside.given in
-    let w = world c.args.planned.now c.args.sources.now.texts by in
-    let formed : IsFormed c.args.planned.now by (seen_so c.self.inside.walk c.self.inside.given c.self.inside.result) = subst
-    (λ (s : Walked). IsFormed c.args.planned.now (after kept s.given) s) (sym c.self.view_is) c.requires.formed in
+    let keeping = g.K.Known.keeps c.args.known.now in
+    let w = world_by keeping c.args.planned.now c.args.sources.now.texts c.self.inside.given in
+    let formed : IsFormed w (seen_so c.self.inside.walk c.self.inside.given c.self.inside.result) = subst
+    (λ (s : Walked). IsFormed (world_by keeping c.args.planned.now c.args.sources.now.texts s.given) s) (sym c.self.view_is) c.requires.formed in
     stays_formed _ c.walk_from_root.new.walk c.walk_from_root.ensures.on c.self.inside.given c.self.inside.result w formed.fit c.walk_from_root.ensures.formed
     c.self.inside.result formed.found
 
 pub returns-in_err-self-inside-clause-right : goal.returns-in_err-self-inside-clause-right
 returns-in_err-self-inside-clause-right g c = λ right.
-    let kept = g.K.Known.kept c.args.known.now in
-    let by = after kept c.self.inside.given in
-    let w = world c.args.planned.now c.args.sources.now.texts by in
+    let keeping = g.K.Known.keeps c.args.known.now in
+    let w = world_by keeping c.args.planned.now c.args.sources.now.texts c.self.inside.given in
     let before : IsRight w (seen_so c.self.inside.walk c.self.inside.given c.self.inside.result) = subst
-    (λ (s : Walked). IsRight (world c.args.planned.now c.args.sources.now.texts (after kept s.given)) s) (sym c.self.view_is) right in
+    (λ (s : Walked). IsRight (world_by keeping c.args.planned.now c.args.sources.now.texts s.given) s) (sym c.self.view_is) right in
     let holds = c.walk_from_root.ensures.holds
-    (holds_at_start w (seen_so c.self.inside.walk c.self.inside.given c.self.inside.result) before _ refl refl refl c.new.ensures) in
-    stays_right _ c.walk_from_root.new.walk c.walk_from_root.ensures.on c.self.inside.given c.self.inside.result w before holds c.self.inside.result
+    (holds_at_start w (seen_so c.self.inside.walk c.self.inside.given c.self.inside.result) before _ refl refl refl refl refl c.new.ensures) in
+    stays_right _ c.walk_from_root.new.walk c.walk_from_root.ensures.on c.self.inside.given c.self.inside.result w before c.walk_from_root.ensures.formed holds c.self.inside.result
     (still_found _ c.walk_from_root.new.walk c.walk_from_root.ensures.on c.self.inside.given c.self.inside.result w before)
 
 -- ---- after all went well
@@ -63,35 +60,32 @@ returns-clause-on g c =
 
 pub returns-clause-formed : goal.returns-clause-formed
 returns-clause-formed g c =
-    let kept = g.K.Known.kept c.args.known.now in
-    let by = after kept c.self.inside.given in
-    let w = world c.args.planned.now c.args.sources.now.texts by in
-    let formed : IsFormed c.args.planned.now by (seen_so c.self.inside.walk c.self.inside.given c.self.inside.result) = subst
-    (λ (s : Walked). IsFormed c.args.planned.now (after kept s.given) s) (sym c.self.view_is) c.requires.formed in
+    let keeping = g.K.Known.keeps c.args.known.now in
+    let w = world_by keeping c.args.planned.now c.args.sources.now.texts c.self.inside.given in
+    let formed : IsFormed w (seen_so c.self.inside.walk c.self.inside.given c.self.inside.result) = subst
+    (λ (s : Walked). IsFormed (world_by keeping c.args.planned.now c.args.sources.now.texts s.given) s) (sym c.self.view_is) c.requires.formed in
     stays_formed _ c.walk_from_root.new.walk c.walk_from_root.ensures.on c.self.inside.given c.self.inside.result w formed.fit c.walk_from_root.ensures.formed
     c.in_ok-self-inside.field-0 c.in_ok-self-inside.ensures.after.fit
 
 pub returns-clause-right : goal.returns-clause-right
 returns-clause-right g c = λ right.
-    let kept = g.K.Known.kept c.args.known.now in
-    let by = after kept c.self.inside.given in
-    let w = world c.args.planned.now c.args.sources.now.texts by in
+    let keeping = g.K.Known.keeps c.args.known.now in
+    let w = world_by keeping c.args.planned.now c.args.sources.now.texts c.self.inside.given in
     let before : IsRight w (seen_so c.self.inside.walk c.self.inside.given c.self.inside.result) = subst
-    (λ (s : Walked). IsRight (world c.args.planned.now c.args.sources.now.texts (after kept s.given)) s) (sym c.self.view_is) right in
-    let at_start = holds_at_start w (seen_so c.self.inside.walk c.self.inside.given c.self.inside.result) before _ refl refl refl c.new.ensures in
+    (λ (s : Walked). IsRight (world_by keeping c.args.planned.now c.args.sources.now.texts s.given) s) (sym c.self.view_is) right in
+    let at_start = holds_at_start w (seen_so c.self.inside.walk c.self.inside.given c.self.inside.result) before _ refl refl refl refl refl c.new.ensures in
     stays_right _ c.walk_from_root.new.walk c.walk_from_root.ensures.on c.self.inside.given c.self.inside.result w before
-    (c.walk_from_root.ensures.holds at_start) c.in_ok-self-inside.field-0
+    c.walk_from_root.ensures.formed (c.walk_from_root.ensures.holds at_start) c.in_ok-self-inside.field-0
     (found_of w c.walk_from_root.new.walk.root c.walk_from_root.new.walk.wanted c.in_ok-self-inside.field-0 (c.in_ok-self-inside.ensures.after.right at_start))
 
 pub returns-clause-advanced : goal.returns-clause-advanced
 returns-clause-advanced g c = λ right.
-    let kept = g.K.Known.kept c.args.known.now in
-    let by = after kept c.self.inside.given in
-    let w = world c.args.planned.now c.args.sources.now.texts by in
+    let keeping = g.K.Known.keeps c.args.known.now in
+    let w = world_by keeping c.args.planned.now c.args.sources.now.texts c.self.inside.given in
     let before : IsRight w (seen_so c.self.inside.walk c.self.inside.given c.self.inside.result) = subst
-    (λ (s : Walked). IsRight (world c.args.planned.now c.args.sources.now.texts (after kept s.given)) s) (sym c.self.view_is) right in
+    (λ (s : Walked). IsRight (world_by keeping c.args.planned.now c.args.sources.now.texts s.given) s) (sym c.self.view_is) right in
     c.in_ok-self-inside.ensures.after.right
-    (holds_at_start w (seen_so c.self.inside.walk c.self.inside.given c.self.inside.result) before _ refl refl refl c.new.ensures)
+    (holds_at_start w (seen_so c.self.inside.walk c.self.inside.given c.self.inside.result) before _ refl refl refl refl refl c.new.ensures)
 
 -- ---- looks
 
