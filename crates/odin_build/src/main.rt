@@ -3,10 +3,14 @@
 
 mod faults;
 mod found;
+mod identity;
+mod kits;
+mod made;
 mod reading;
 mod replies;
 mod run;
 mod told;
+mod whole;
 mod written;
 
 use odin_real::ClosedStreams;

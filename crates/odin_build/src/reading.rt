@@ -3,7 +3,7 @@ use crate::faults::Fault;
 use crate::found::input_fault;
 use crate::told::Line;
 use object_values::{Bytes, Memory};
-use project_file::project::{Flaw, Problem, Project};
+use project_file::project::{Flaw, Problem, Project, Refused};
 use project_file::reading::{NoProject, read_project};
 use std::alloc::Global;
 use std::env::Env;
@@ -117,22 +117,34 @@ fn document_line(alloc: Global, error: &toml::de::Error) -> Result<Bytes, Memory
         .end()
 }
 
-/// The project of the current folder.
-pub(crate) fn read_file(rt: &HostRuntime) -> Result<Project, Fault> {
-    let text = match fs::read(rt, FILE) {
-        Ok(text) => text,
+/// The text of the file of the project.
+pub(crate) fn read_text(rt: &HostRuntime) -> Result<Vec<u8>, Fault> {
+    match fs::read(rt, FILE) {
+        Ok(text) => Ok(text),
         Err(error) => {
             if error.kind() == ErrorKind::NotFound {
                 return Err(refused(no_project_line(rt.alloc())));
             }
-            return Err(input_fault(rt.alloc(), FILE, &error));
+            Err(input_fault(rt.alloc(), FILE, &error))
         }
-    };
-    match read_project(rt.alloc(), text.as_slice()) {
+    }
+}
+
+/// The project that a text tells.
+pub(crate) fn project_in(alloc: Global, text: &[u8]) -> Result<Project, Fault> {
+    match read_project(alloc, text) {
         Ok(project) => Ok(project),
         Err(NoProject::Memory) => Err(Fault::Memory),
-        Err(NoProject::TooLong) => Err(refused(too_long_line(rt.alloc()))),
-        Err(NoProject::NoDocument(error)) => Err(refused(document_line(rt.alloc(), &error))),
-        Err(NoProject::Problem(problem)) => Err(refused(problem_line(rt.alloc(), &problem))),
+        Err(NoProject::TooLong) => Err(refused(too_long_line(alloc))),
+        Err(NoProject::NoDocument(error)) => Err(refused(document_line(alloc, &error))),
+        Err(NoProject::Problem(problem)) => Err(refused(problem_line(alloc, &problem))),
+    }
+}
+
+/// The fault of a document that tells no project.
+pub(crate) fn problem_fault(alloc: Global, why: &Refused) -> Fault {
+    match why {
+        Refused::Memory => Fault::Memory,
+        Refused::Problem(problem) => refused(problem_line(alloc, problem)),
     }
 }

@@ -2,15 +2,15 @@
 ghost use Rattle.odin_engine.specs.Engaged.{IsLimit};
 
 use crate::faults::{Fault, MEMORY};
-use crate::found::{files_below, input_fault};
-use crate::reading::{enter_project, read_file, refused};
+use crate::reading::{enter_project, refused};
 use crate::replies::{fault_of, missing_line, tell_replies, write_target};
 use crate::told::{Line, say};
+use crate::whole::{Whole, read_whole};
 use crate::written::WrittenFiles;
 use build_files::causes::Cause;
 use clap::Error;
 use clap::error::ErrorKind;
-use object_values::{Bytes, Memory};
+use object_values::{Bytes, FileBody, Memory, Seq};
 use odin_bytes::Name;
 use odin_real::{ChildTools, FileDisk, FolderTree, HostSystem, NamedFile};
 use odin_start::words_of;
@@ -18,6 +18,7 @@ use project_build::{Plan, build_project, status_of};
 use project_file::project::{Project, Target};
 use project_folder::words::{Asked, read_words};
 use project_folder::{MOST_JOBS, NoSources, NoTarget, jobs_by, list_sources, targets_among};
+use project_kits::tree::MadeTree;
 use std::alloc::Global;
 use std::io::{ErrorKind as IoErrorKind, Write};
 use std::{fs, io};
@@ -75,7 +76,7 @@ fn make_state(rt: &HostRuntime) -> Result<(), Fault> {
 }
 
 /// The fault of a list of sources.
-fn no_sources(alloc: Global, fault: NoSources) -> Fault {
+pub(crate) fn no_sources(alloc: Global, fault: NoSources) -> Fault {
     match fault {
         NoSources::NoName(path) => refused(no_name_line(alloc, path.as_slice())),
         NoSources::Missing(path) => refused(missing_line(alloc, path.as_slice())),
@@ -131,6 +132,7 @@ fn tell_targets(rt: &HostRuntime, targets: &[&Target]) -> Result<u8, Fault> {
 fn build(
     rt: &HostRuntime,
     project: &Project,
+    made: Seq<FileBody>,
     sources: &[Name],
     targets: &[&Target],
     jobs: u32,
@@ -139,7 +141,7 @@ fn build(
 {
     make_state(rt)?;
     let alloc = rt.alloc();
-    let mut tree = FolderTree::new(rt);
+    let mut tree = MadeTree::new(made, FolderTree::new(rt));
     let mut disk = FileDisk::open(NamedFile::new(rt, STORE));
     let mut tools = ChildTools::new(alloc, HostSystem::new(rt), rt.stderr());
     let mut outputs = WrittenFiles::new(rt);
@@ -170,12 +172,15 @@ fn build(
 fn run_asked(rt: &HostRuntime, asked: &Asked<'_>) -> Result<u8, Fault> {
     let alloc = rt.alloc();
     enter_project(rt, asked.folder)?;
-    let project = read_file(rt)?;
+    let Whole {
+        project,
+        made,
+        found,
+    } = read_whole(rt, asked.tells)?;
     let targets = match targets_among(alloc, &project, asked.targets.as_slice()) {
         Ok(targets) => targets,
         Err(fault) => return Err(no_target(alloc, fault)),
     };
-    let found = files_below(rt)?;
     let sources = match list_sources(alloc, &project, found.as_slice()) {
         Ok(sources) => sources,
         Err(fault) => return Err(no_sources(alloc, fault)),
@@ -184,7 +189,14 @@ fn run_asked(rt: &HostRuntime, asked: &Asked<'_>) -> Result<u8, Fault> {
         return tell_targets(rt, targets.as_slice());
     }
     let jobs = jobs_of(rt, asked.jobs);
-    build(rt, &project, sources.as_slice(), targets.as_slice(), jobs)
+    build(
+        rt,
+        &project,
+        made,
+        sources.as_slice(),
+        targets.as_slice(),
+        jobs,
+    )
 }
 
 /// The exit status of a run with the words of the program, where there is no fault.

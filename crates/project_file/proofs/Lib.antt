@@ -1,3 +1,4 @@
 mod RowLemmas
 mod StepLemmas
 mod ReadLemmas
+pub mod Lemmas

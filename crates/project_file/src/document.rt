@@ -1,4 +1,4 @@
-// A project by its document.
+//! A project by its document.
 ghost use Rattle.std.specs.Prelude.{◌≡◌, Some, find, not, option_map};
 ghost use Rattle.std.specs.Option.{option_copied};
 ghost use Rattle.toml.specs.View.{table_view, view};
@@ -15,7 +15,7 @@ use std::alloc::Global;
 use toml::{Table, Value};
 
 /// The file of the graph.
-fn graph_of(alloc: Global, value: Option<&Value>) -> Result<Bytes, Refused>
+pub fn graph_of(alloc: Global, value: Option<&Value>) -> Result<Bytes, Refused>
     ensures { Reads (meaning.graph_of (option_map (λ v. view v.now) value.entry)) result }
 {
     let Some(value) = value else {
@@ -45,7 +45,7 @@ fn sources_in(alloc: Global, paths: Seq<Bytes>) -> Result<Seq<Bytes>, Refused>
 }
 
 /// The paths of the sources.
-fn sources_of(alloc: Global, value: Option<&Value>) -> Result<Seq<Bytes>, Refused>
+pub fn sources_of(alloc: Global, value: Option<&Value>) -> Result<Seq<Bytes>, Refused>
     ensures { Reads (meaning.sources_of (option_map (λ v. view v.now) value.entry)) result }
 {
     let Some(value) = value else {
@@ -71,10 +71,10 @@ fn project_with(alloc: Global, keys: &Table) -> Result<Project, Refused>
 }
 
 /// The project that a document tells, or the first problem with it.
-pub(crate) fn project_of(alloc: Global, keys: &Table) -> Result<Project, Refused>
+pub fn project_of(alloc: Global, keys: &Table) -> Result<Project, Refused>
     ensures { Reads (meaning.project_of (table_view keys.now)) result }
 {
-    match other_key(&["graph", "sources", "target"], keys) {
+    match other_key(&[b"graph", b"sources", b"target"], keys) {
         Some(key) => Err(refusal(alloc, &[key.as_bytes()], Flaw::Unknown)),
         None => project_with(alloc, keys),
     }

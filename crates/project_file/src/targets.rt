@@ -1,4 +1,4 @@
-// The targets of a project.
+//! The targets of a project.
 ghost use Rattle.std.specs.Prelude.{◌≡◌, Some, nat_lt, option_map};
 ghost use Rattle.toml.specs.View.{table_view, view};
 ghost use Rattle.project_file.specs.Projects as meaning;
@@ -54,7 +54,7 @@ fn target_with(alloc: Global, name: &[u8], keys: &Table) -> Result<Target, Refus
 fn target_in(alloc: Global, name: &[u8], keys: &Table) -> Result<Target, Refused>
     ensures { Reads (meaning.target_in name.now (Some (table_view keys.now))) result }
 {
-    match other_key(&["ask", "file"], keys) {
+    match other_key(&[b"ask", b"file"], keys) {
         Some(key) => {
             let place: [&[u8]; 3] = [b"target", name, key.as_bytes()];
             Err(refusal(alloc, &place, Flaw::Unknown))
@@ -100,7 +100,7 @@ fn targets_in(alloc: Global, targets: &Table) -> Result<Seq<Target>, Refused>
 }
 
 /// The targets.
-pub(crate) fn targets_of(alloc: Global, value: Option<&Value>) -> Result<Seq<Target>, Refused>
+pub fn targets_of(alloc: Global, value: Option<&Value>) -> Result<Seq<Target>, Refused>
     ensures { Reads (meaning.targets_of (option_map (λ v. view v.now) value.entry)) result }
 {
     let Some(value) = value else {

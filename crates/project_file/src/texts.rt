@@ -1,4 +1,4 @@
-// Texts of a document, and refusals.
+//! Texts of a document, and refusals.
 ghost use Rattle.std.specs.Prelude.{◌≡◌, IfOk, Some, map, bytes_eq};
 ghost use Rattle.std.specs.List.{list_any};
 ghost use Rattle.std.specs.Option.{option_copied};
@@ -27,7 +27,7 @@ fn texts_in(alloc: Global, items: &[Value]) -> Result<Option<Seq<Bytes>>, Memory
 }
 
 /// The texts of a list that has nothing else.
-pub(crate) fn texts_of(alloc: Global, value: &Value) -> Result<Option<Seq<Bytes>>, Memory>
+pub fn texts_of(alloc: Global, value: &Value) -> Result<Option<Seq<Bytes>>, Memory>
     ensures { IfOk result (λ found. found ≡ texts_of (view value.now)) }
 {
     match value {
@@ -47,7 +47,7 @@ fn path_of(alloc: Global, keys: &[&[u8]]) -> Result<Seq<Bytes>, Memory>
 }
 
 /// A problem at a place, unless memory is wanted for that.
-pub(crate) fn refusal(alloc: Global, place: &[&[u8]], flaw: Flaw) -> Refused
+pub fn refusal(alloc: Global, place: &[&[u8]], flaw: Flaw) -> Refused
     ensures { IsRefusal (map (λ key. key.now) place.now) flaw result }
 {
     match path_of(alloc, place) {
@@ -57,7 +57,7 @@ pub(crate) fn refusal(alloc: Global, place: &[&[u8]], flaw: Flaw) -> Refused
 }
 
 /// The path of a file below the project's folder.
-pub(crate) fn file_in(alloc: Global, place: &[&[u8]], path: &[u8]) -> Result<Bytes, Refused>
+pub fn file_in(alloc: Global, place: &[&[u8]], path: &[u8]) -> Result<Bytes, Refused>
     ensures { Reads (file_in (map (λ key. key.now) place.now) (Some path.now)) result }
 {
     let path = Bytes::from_slice(alloc, path)?;
@@ -68,14 +68,14 @@ pub(crate) fn file_in(alloc: Global, place: &[&[u8]], path: &[u8]) -> Result<Byt
     }
 }
 
-fn is_known(known: &[&str], key: &str) -> bool
+fn is_known(known: &[&[u8]], key: &str) -> bool
     ensures { result ≡ list_any (λ name. bytes_eq name.now key.now) known.now }
 {
-    known.iter().any(|name| name.as_bytes() == key.as_bytes())
+    known.iter().any(|name| *name == key.as_bytes())
 }
 
 /// The first key that is none of these.
-pub(crate) fn other_key<'a>(known: &[&str], keys: &'a Table) -> Option<&'a str>
+pub fn other_key<'a>(known: &[&[u8]], keys: &'a Table) -> Option<&'a str>
     ensures { option_copied result ≡
         other_key (map (λ name. name.now) known.now) (table_view keys.now) }
 {

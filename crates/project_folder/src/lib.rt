@@ -7,7 +7,7 @@ mod processors;
 mod targets;
 pub mod words;
 
-pub use listing::{NoSources, list_sources};
+pub use listing::{NoSources, list_among, list_sources, tidy_outputs, tidy_patterns};
 pub use places::is_reserved;
 pub use processors::{MOST_JOBS, jobs_by};
 pub use targets::{NoTarget, targets_among};

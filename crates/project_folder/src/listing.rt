@@ -39,7 +39,8 @@ impl From<Memory> for NoSources {
 
 // ---- paths without what leads nowhere
 
-fn tidy_patterns(alloc: Global, patterns: &[Bytes]) -> Result<Seq<Bytes>, Memory>
+/// The patterns by which files are looked for.
+pub fn tidy_patterns(alloc: Global, patterns: &[Bytes]) -> Result<Seq<Bytes>, Memory>
     ensures { IfOk result (λ tidy. tidy ≡ map tidied patterns.now) }
 {
     let mut tidy_ones = Seq::new(alloc);
@@ -49,7 +50,8 @@ fn tidy_patterns(alloc: Global, patterns: &[Bytes]) -> Result<Seq<Bytes>, Memory
     Ok(tidy_ones)
 }
 
-fn tidy_outputs(alloc: Global, targets: &[Target]) -> Result<Seq<Bytes>, Memory>
+/// The files that targets write.
+pub fn tidy_outputs(alloc: Global, targets: &[Target]) -> Result<Seq<Bytes>, Memory>
     ensures { IfOk result (λ outputs. outputs ≡ meaning.outputs_of targets.now) }
 {
     let mut outputs = Seq::new(alloc);
@@ -169,7 +171,7 @@ fn sorted(names: Seq<Name>) -> Result<Vec<Name>, Memory>
 }
 
 /// The sources among files, by patterns and outputs that are tidy.
-fn list_among(
+pub fn list_among(
     alloc: Global,
     patterns: &[Bytes],
     outputs: &[Bytes],

@@ -1,0 +1,26 @@
+# Compiles the unit, which is the part of slot 0, to out.o. `odin_lay` has laid all parts out by their labels, so the unit finds what it includes.
+# A fault that leaves no object ends with 2, so that the messages come alone.
+set -u
+# Messages don't follow the language of who runs it.
+export LC_ALL=C
+unit=$(sed -n 's/^part 0 i1 //p' call)
+debug=$(sed -n 's/^param debug /-g/p' call)
+case $debug in
+'' | -g | -g[0-3]) ;;
+*)
+    echo "debug is 0 to 3 or without a value, and not ${debug#-g}" > warnings
+    exit 2
+    ;;
+esac
+case ${unit%%:*} in
+*.c) compiler=gcc language=c own=kits/c/c_flags ;;
+*) compiler=g++ language=c++ own=kits/c/cxx_flags ;;
+esac
+set --
+while IFS= read -r folder; do
+    [ -z "$folder" ] || set -- "$@" -I "$folder"
+done < kits/c/include
+# The words of the flags stand in lines and between blanks; no pattern of names is meant.
+set -f
+"$compiler" -x "$language" $(cat kits/c/flags "$own") $debug "$@" -ffile-prefix-map="$PWD"=. -fdiagnostics-plain-output \
+    -c "./$unit" -o out.o 2> warnings || exit 2

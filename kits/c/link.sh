@@ -1,0 +1,16 @@
+# Links the objects, which are the parts of slot 0 in their order, to out.program: by g++ where one is of C++.
+set -u
+export LC_ALL=C
+compiler=gcc
+set --
+while read -r word slot file label; do
+    [ "$word $slot" = 'part 0' ] || continue
+    set -- "$@" "./$label"
+    case ${label%%:*} in
+    *.c) ;;
+    *) compiler=g++ ;;
+    esac
+done < call
+# The words of the flags stand in lines and between blanks; no pattern of names is meant.
+set -f
+"$compiler" -o out.program "$@" $(cat kits/c/link) 2> warnings || exit 2

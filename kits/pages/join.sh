@@ -1,0 +1,30 @@
+# Puts the texts that a page includes in place of the lines that include them. `odin_lay` has laid the parts out by their labels.
+export LC_ALL=C
+: > warnings
+page=$(sed -n 's/^part 0 i1 //p' call)
+awk -v page="$page" '
+function put(name, depth,    folder, line, lines) {
+    if (busy[name] || depth > 20) {
+        print page ": " name " includes itself" > "warnings"
+        exit failed = 2
+    }
+    busy[name] = 1
+    folder = name
+    if (!sub(/[^\/]*$/, "", folder)) folder = ""
+    lines = 0
+    while ((getline line < name) > 0) {
+        lines++
+        if (line ~ /^\{\{include [^\/}][^}]*\}\}$/) put(folder substr(line, 11, length(line) - 12), depth + 1)
+        else print line
+    }
+    if (lines == 0) {
+        print page ": nothing to include in " name > "warnings"
+        exit failed = 2
+    }
+    close(name)
+    busy[name] = 0
+}
+BEGIN {
+    put(page, 0)
+    exit failed
+}' > out.whole || exit 2

@@ -1,0 +1,9 @@
+# Tells which `cmark` and `tar` these are: version, path, size and time. What it writes is a source of each object that they make.
+export LC_ALL=C
+{
+    cmark --version
+    for program in cmark tar; do
+        path=$(command -v $program) && stat -L -c '%n %s %Y' "$path"
+    done
+} > out.tools 2>&1
+exit 0
