@@ -1,0 +1,15 @@
+-- The colours of messages.
+use Rattle.std.specs.Prelude.{ℕ, List, [], ◌++◌, ◌∷◌, codes}
+use Rattle.object_values.specs.declared.messages.Status.{Status}
+use Rattle.object_values.specs.declared.messages.Status.TheVariants.{Ok, Warning, Error, Abort}
+use Rattle.build_view.specs.Progress.{escape}
+
+-- a warning is yellow, and an error red
+abbrev pub colour_of : Status → List ℕ
+colour_of Ok = []
+colour_of Warning = escape (codes "33m")
+colour_of Error = escape (codes "31m")
+colour_of Abort = escape (codes "31m")
+
+abbrev pub painted : Status → List ℕ → List ℕ
+painted level line = colour_of level ++ line ++ escape (codes "0m") ++ codes "\n"

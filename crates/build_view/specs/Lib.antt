@@ -1,0 +1,3 @@
+pub mod Colours
+pub mod Progress
+pub mod Traces
