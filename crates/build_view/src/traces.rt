@@ -54,13 +54,7 @@ impl Trace {
     }
 
     /// A tool was started in a slot.
-    pub fn began(
-        &mut self,
-        alloc: Global,
-        slot: u32,
-        label: &[u8],
-        at: u64,
-    ) -> Result<(), Memory> {
+    pub fn began(&mut self, alloc: Global, slot: u32, label: &[u8], at: u64) -> Result<(), Memory> {
         let label = shown(alloc, label)?;
         self.running
             .push(Running {

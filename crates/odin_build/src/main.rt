@@ -3,9 +3,11 @@
 
 mod faults;
 mod found;
+mod hints;
 mod reading;
 mod replies;
 mod run;
+mod screen;
 mod told;
 mod written;
 
