@@ -1,6 +1,8 @@
 //! When each tool of a build ran, as Chrome's page of traces reads it.
-ghost use Rattle.std.specs.Prelude.{◌≡◌, IfOk, string_bytes};
-ghost use Rattle.serde_json.specs.View.{view};
+ghost use Rattle.std.specs.Prelude.{◌≡◌, ◌≤◌, ◌++◌, ◌∷◌, [], Some, map, IfOk, OnOk, string_bytes};
+ghost use Rattle.serde_json.specs.Data.{array, depth};
+ghost use Rattle.serde_json.specs.Read.{max_depth, read};
+ghost use Rattle.serde_json.specs.View.{items_view, view};
 ghost use Rattle.build_view.specs.Traces as meaning;
 
 use object_values::{Bytes, Memory};
@@ -46,7 +48,10 @@ fn shown(alloc: Global, text: &[u8]) -> Result<String, Memory> {
 
 impl Trace {
     /// None has run.
-    pub fn new(alloc: Global) -> Self {
+    pub fn new(alloc: Global) -> Self
+        ensures running { result.running.items ≡ [] }
+        ensures events { result.events.items ≡ [] }
+    {
         Trace {
             running: Vec::new(alloc),
             events: Vec::new(alloc),
@@ -65,18 +70,27 @@ impl Trace {
             .map_err(|_| Memory)
     }
 
-    /// The tool in a slot has ended.
-    pub fn ended(&mut self, alloc: Global, slot: u32, at: u64) -> Result<(), Memory> {
-        let Some(place) = self.running.iter().position(|run| run.slot == slot) else {
-            return Ok(());
-        };
-        let run = self.running.remove(place);
-        let event = event_of(alloc, &run, at)?;
-        self.events.push(event).map_err(|_| Memory)
+    /// The tool in a slot has ended. Where none runs there nothing changes.
+    pub fn ended(&mut self, alloc: Global, slot: u32, at: u64) -> Result<(), Memory>
+        ensures { OnOk result (meaning.MayAddEvent slot at self.old.events.items
+            self.new.events.items) }
+    {
+        for place in 0..self.running.len() {
+            if self.running[place].slot == slot {
+                let run = self.running.remove(place);
+                let event = event_of(alloc, &run, at)?;
+                return self.events.push(event).map_err(|_| Memory);
+            }
+        }
+        Ok(())
     }
 
     /// The trace, a list of events. Those that still run have none.
-    pub fn into_text(self, alloc: Global) -> Result<String, AllocError> {
+    pub fn into_text(self, alloc: Global) -> Result<String, AllocError>
+        ensures { let events = array (items_view self.events.items) in
+            IfOk result (λ text. depth events ≤ max_depth →
+            read (string_bytes text) ≡ Some events) }
+    {
         let Trace { running: _, events } = self;
         Value::Array(events).to_string(alloc)
     }
