@@ -1,5 +1,5 @@
 -- The colours of messages.
-use Rattle.std.specs.Prelude.{ℕ, false, List, [], ◌++◌, ◌∷◌, map, flat_map, codes}
+use Rattle.std.specs.Prelude.{ℕ, false, List, [], ◌++◌, map, flat_map, codes}
 use Rattle.object_values.specs.declared.messages.Message.{Message}
 use Rattle.object_values.specs.declared.messages.Status.{Status}
 use Rattle.object_values.specs.declared.messages.Status.TheVariants.{Ok, Warning, Error, Abort}

@@ -1,5 +1,5 @@
 -- The line that tells how far a build is.
-use Rattle.std.specs.Prelude.{ℕ, List, [], ◌∷◌, ◌++◌, codes, decimal}
+use Rattle.std.specs.Prelude.{ℕ, List, ◌∷◌, ◌++◌, codes, decimal}
 use Rattle.shown_texts.specs.Shown.{shown}
 
 -- what begins a command to the terminal
