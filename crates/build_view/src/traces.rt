@@ -59,7 +59,13 @@ impl Trace {
     }
 
     /// A tool was started in a slot.
-    pub fn began(&mut self, alloc: Global, slot: u32, label: &[u8], at: u64) -> Result<(), Memory> {
+    pub fn began(&mut self, alloc: Global, slot: u32, label: &[u8], at: u64) -> Result<(), Memory>
+        ensures slots { OnOk result (map (λ run. run.slot) self.new.running.items
+            ≡ map (λ run. run.slot) self.old.running.items ++ slot ∷ []) }
+        ensures times { OnOk result (map (λ run. run.from) self.new.running.items
+            ≡ map (λ run. run.from) self.old.running.items ++ at ∷ []) }
+        ensures events { self.new.events ≡ self.old.events }
+    {
         let label = shown(alloc, label)?;
         self.running
             .push(Running {
