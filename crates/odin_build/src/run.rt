@@ -13,7 +13,6 @@ use build_view::watched::Watched;
 use clap::Error;
 use clap::error::ErrorKind;
 use object_values::{Bytes, Memory, Reply};
-use odin_bytes::Name;
 use odin_real::{ChildTools, FileDisk, FolderTree, HostSystem, NamedFile};
 use odin_start::words_of;
 use project_build::{Plan, build_project, status_of};
@@ -190,12 +189,10 @@ fn build(
     rt: &HostRuntime,
     project: &Project,
     found: &[Bytes],
-    sources: &[Name],
-    targets: &[&Target],
-    jobs: u32,
+    plan: &Plan<'_>,
     telling: &Telling<'_>,
 ) -> Result<u8, Fault>
-    requires { IsLimit jobs }
+    requires { IsLimit plan.now.jobs }
 {
     make_state(rt)?;
     let alloc = rt.alloc();
@@ -205,15 +202,9 @@ fn build(
     let tools = ChildTools::new(alloc, HostSystem::new(rt), rt.stderr());
     let mut watched = Watched::new(tools, screen);
     let mut outputs = WrittenFiles::new(rt);
-    let plan = Plan {
-        graph: project.graph.as_slice(),
-        sources,
-        targets,
-        jobs,
-    };
     let built = build_project(
         alloc,
-        &plan,
+        plan,
         &mut tree,
         &mut disk,
         &mut watched,
@@ -222,7 +213,14 @@ fn build(
     let (count, traced) = end_tools(rt, watched, telling);
     match built {
         Ok(replies) => {
-            let status = tell_built(rt, project, targets, replies.as_slice(), telling, count)?;
+            let status = tell_built(
+                rt,
+                project,
+                plan.targets,
+                replies.as_slice(),
+                telling,
+                count,
+            )?;
             traced?;
             Ok(status)
         }
@@ -258,16 +256,13 @@ fn run_asked(rt: &HostRuntime, asked: &Asked<'_>) -> Result<u8, Fault> {
     if asked.tells {
         return tell_targets(rt, targets.as_slice());
     }
-    let jobs = jobs_of(rt, asked.jobs);
-    build(
-        rt,
-        &project,
-        found.as_slice(),
-        sources.as_slice(),
-        targets.as_slice(),
-        jobs,
-        &telling,
-    )
+    let plan = Plan {
+        graph: project.graph.as_slice(),
+        sources: sources.as_slice(),
+        targets: targets.as_slice(),
+        jobs: jobs_of(rt, asked.jobs),
+    };
+    build(rt, &project, found.as_slice(), &plan, &telling)
 }
 
 /// The exit status of a run with the words of the program, where there is no fault.
