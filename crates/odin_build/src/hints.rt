@@ -25,11 +25,11 @@ impl Line {
     }
 
     /// Adds the nearest of the names that are texts.
-    pub(crate) fn hint_among<'a>(
+    pub(crate) fn hint_among(
         self,
         alloc: Global,
         word: &[u8],
-        names: impl Iterator<Item = &'a [u8]>,
+        names: &[&[u8]],
     ) -> Result<Self, Memory> {
         let mut texts = Vec::new(alloc);
         for name in names {
@@ -84,6 +84,11 @@ pub(crate) fn hint_in_graph(
     let Ok(graph) = read_graph(alloc, text.as_slice()) else {
         return Ok(line);
     };
-    let names = graph.decls().iter().filter_map(|decl| name_in(decl, named));
-    line.hint_among(alloc, word, names)
+    let mut names = Vec::new(alloc);
+    for decl in graph.decls() {
+        if let Some(name) = name_in(decl, named) {
+            names.push(name).map_err(|_| Memory)?;
+        }
+    }
+    line.hint_among(alloc, word, names.as_slice())
 }

@@ -141,10 +141,14 @@ fn graph_line(alloc: Global, project: &Project, fault: ReadFault) -> Result<Byte
 
 /// The line of a file that isn't there, with the one of these that may have been meant.
 pub(crate) fn missing_line(alloc: Global, name: &[u8], found: &[Bytes]) -> Result<Bytes, Memory> {
+    let mut names = Vec::new(alloc);
+    for path in found {
+        names.push(path.as_slice()).map_err(|_| Memory)?;
+    }
     Line::new(alloc)?
         .text("no such file: ")?
         .shown(name)?
-        .hint_among(alloc, name, found.iter().map(|path| path.as_slice()))?
+        .hint_among(alloc, name, names.as_slice())?
         .end()
 }
 

@@ -92,11 +92,14 @@ fn no_name_line(alloc: Global, path: &[u8]) -> Result<Bytes, Memory> {
 }
 
 fn no_target_line(alloc: Global, project: &Project, name: &[u8]) -> Result<Bytes, Memory> {
-    let targets = project.targets.as_slice();
+    let mut names = Vec::new(alloc);
+    for target in project.targets.as_slice() {
+        names.push(target.name.as_slice()).map_err(|_| Memory)?;
+    }
     Line::new(alloc)?
         .text("no such target: ")?
         .shown(name)?
-        .hint_among(alloc, name, targets.iter().map(|it| it.name.as_slice()))?
+        .hint_among(alloc, name, names.as_slice())?
         .end()
 }
 
