@@ -2,6 +2,7 @@
 use crate::told::Line;
 use build_files::causes::Cause;
 use object_values::{Bytes, Copied, Memory};
+use project_folder::words::USAGE;
 use std::alloc::{AllocError, Global};
 
 /// Why a run ends without a build.
@@ -40,8 +41,6 @@ impl From<AllocError> for Fault {
     }
 }
 
-const USAGE: &[u8] = b"usage: odin-build [-C DIR] [-j N] [-n] [TARGET]..\n";
-
 pub(crate) const MEMORY: &[u8] = b"odin-build: out of memory\n";
 
 impl Fault {
@@ -79,7 +78,12 @@ impl Fault {
                 .end(),
             Fault::InUse => line.text("another build of this project runs")?.end(),
             Fault::Memory => Bytes::from_slice(alloc, MEMORY),
-            Fault::Words => Bytes::from_slice(alloc, USAGE),
+            Fault::Words => {
+                let mut line = Bytes::from_slice(alloc, b"usage: ")?;
+                line.extend_from_slice(USAGE.as_bytes())?;
+                line.push(b'\n')?;
+                Ok(line)
+            }
         }
     }
 }

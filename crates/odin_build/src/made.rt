@@ -27,15 +27,15 @@ pub(crate) fn named_line(alloc: Global, words: &str, name: &[u8]) -> Result<Byte
 // ---- the graph
 
 /// The text of the project's own graph.
-fn own_graph(rt: &HostRuntime, path: &[u8]) -> Result<Bytes, Fault> {
+fn own_graph(rt: &HostRuntime, path: &[u8], found: &[Bytes]) -> Result<Bytes, Fault> {
     let Ok(place) = str::from_utf8(path) else {
-        return Err(refused(missing_line(rt.alloc(), path)));
+        return Err(refused(missing_line(rt.alloc(), path, found)));
     };
     match fs::read(rt, place) {
         Ok(text) => Ok(Bytes::from_vec(text)),
         Err(error) => {
             if error.kind() == ErrorKind::NotFound {
-                return Err(refused(missing_line(rt.alloc(), path)));
+                return Err(refused(missing_line(rt.alloc(), path, found)));
             }
             Err(input_fault(rt.alloc(), place, &error))
         }
@@ -47,11 +47,12 @@ pub(crate) fn graph_file(
     rt: &HostRuntime,
     own: Option<&Bytes>,
     graphs: &[Bytes],
+    found: &[Bytes],
 ) -> Result<FileBody, Fault> {
     let alloc = rt.alloc();
     let mut texts = Seq::new(alloc);
     if let Some(path) = own {
-        texts.push(own_graph(rt, path.as_slice())?)?;
+        texts.push(own_graph(rt, path.as_slice(), found)?)?;
     }
     for graph in graphs {
         texts.push(graph.copy(alloc)?)?;
@@ -149,7 +150,7 @@ pub(crate) fn unit_lists(
     let outputs = tidy_outputs(alloc, targets)?;
     let lists = match list_files(alloc, units, outputs.as_slice(), found.as_slice()) {
         Ok(lists) => lists,
-        Err(why) => return Err(no_sources(alloc, why)),
+        Err(why) => return Err(no_sources(alloc, found.as_slice(), why)),
     };
     found.truncate(were_found);
     if let Some(list) = first_taken(lists.as_slice(), found.as_slice()) {

@@ -3,12 +3,14 @@
 
 mod faults;
 mod found;
+mod hints;
 mod identity;
 mod kits;
 mod made;
 mod reading;
 mod replies;
 mod run;
+mod screen;
 mod told;
 mod whole;
 mod written;

@@ -98,6 +98,7 @@ fn problem_line(alloc: Global, problem: &Problem) -> Result<Bytes, Memory> {
     line = line.text(words_of(&problem.flaw))?;
     match &problem.flaw {
         Flaw::LeadsOut(path) | Flaw::NoFile(path) => line.shown(path.as_slice())?.end(),
+        Flaw::Unknown => line.hint_key(alloc, problem.place.as_slice())?.end(),
         _ => line.end(),
     }
 }

@@ -1,9 +1,11 @@
 // What a person is told of a build.
 use crate::faults::Fault;
+use crate::hints::{Named, hint_in_graph};
 use crate::reading::refused;
 use crate::told::{Line, say};
 use build_files::causes::Cause;
 use build_files::messages::lines_of;
+use build_view::colours::painted_messages;
 use dg_reader::ReadFault;
 use fresh_build::ListFault;
 use object_values::{Bytes, GraphFault, Memory, Message, Reply};
@@ -17,49 +19,77 @@ use std::io;
 
 // ---- replies
 
-/// The line of a reply that shows no object.
-fn refusal_line(alloc: Global, target: &Target, reply: &Reply) -> Result<Bytes, Memory> {
+/// The line of a reply that shows no object, with the name of the graph that may have been meant.
+fn refusal_line(
+    rt: &HostRuntime,
+    project: &Project,
+    target: &Target,
+    reply: &Reply,
+) -> Result<Bytes, Memory> {
+    let alloc = rt.alloc();
     let mut text = Bytes::new(alloc);
     write_reply(reply, &mut text)?;
     let first = match text.as_slice().split(|byte| *byte == b'\n').next() {
         Some(first) => Bytes::from_slice(alloc, first)?,
         None => Bytes::new(alloc),
     };
-    Line::new(alloc)?
+    let line = Line::new(alloc)?
         .shown(target.name.as_slice())?
         .text(": ")?
-        .shown(first.as_slice())?
-        .end()
+        .shown(first.as_slice())?;
+    match reply {
+        Reply::RefusedType(name) => {
+            hint_in_graph(rt, line, project, name.as_slice(), Named::Type)?.end()
+        }
+        Reply::RefusedParam(name) => {
+            hint_in_graph(rt, line, project, name.as_slice(), Named::Param)?.end()
+        }
+        _ => line.end(),
+    }
 }
 
-fn tell_messages(rt: &HostRuntime, messages: &[Message]) -> Result<(), Memory> {
-    let lines = lines_of(rt.alloc(), messages, false)?;
+fn tell_messages(rt: &HostRuntime, messages: &[Message], coloured: bool) -> Result<(), Memory> {
+    let lines = if coloured {
+        painted_messages(rt.alloc(), messages)?
+    } else {
+        lines_of(rt.alloc(), messages, false)?
+    };
     say(rt, lines.as_slice());
     Ok(())
 }
 
-/// Tells the messages of an object, or why none is shown.
-fn tell_reply(rt: &HostRuntime, target: &Target, reply: &Reply) -> Result<(), Memory> {
-    match reply {
-        Reply::Shown { messages, .. } => tell_messages(rt, messages.as_slice()),
-        _ => {
-            let line = refusal_line(rt.alloc(), target, reply)?;
-            say(rt, line.as_slice());
-            Ok(())
-        }
-    }
-}
-
-/// Tells of each target that was built.
+/// Tells of each target that was built: the messages of its object, or why none is shown.
 pub(crate) fn tell_replies(
     rt: &HostRuntime,
+    project: &Project,
     targets: &[&Target],
     replies: &[Reply],
+    coloured: bool,
 ) -> Result<(), Memory> {
     for (target, reply) in targets.iter().zip(replies) {
-        tell_reply(rt, target, reply)?;
+        match reply {
+            Reply::Shown { messages, .. } => tell_messages(rt, messages.as_slice(), coloured)?,
+            _ => {
+                let line = refusal_line(rt, project, target, reply)?;
+                say(rt, line.as_slice());
+            }
+        }
     }
     Ok(())
+}
+
+// ---- what else is told
+
+/// The lines that tell how many tools were run, and the size of the store beside its limit.
+pub(crate) fn work_lines(alloc: Global, tools: u64, size: u64) -> Result<Bytes, Memory> {
+    let mut lines = Line::new(alloc)?.text("tools run: ")?.number(tools)?.end()?;
+    let store = Line::new(alloc)?
+        .text(".odin/odin.store: ")?
+        .number(size)?
+        .text(" of 1073741824 bytes")?
+        .end()?;
+    lines.extend_from_slice(store.as_slice())?;
+    Ok(lines)
 }
 
 // ---- what would be asked
@@ -109,9 +139,17 @@ fn graph_line(alloc: Global, project: &Project, fault: ReadFault) -> Result<Byte
     }
 }
 
-/// The line of a file that isn't there.
-pub(crate) fn missing_line(alloc: Global, name: &[u8]) -> Result<Bytes, Memory> {
-    Line::new(alloc)?.text("no such file: ")?.shown(name)?.end()
+/// The line of a file that isn't there, with the one of these that may have been meant.
+pub(crate) fn missing_line(alloc: Global, name: &[u8], found: &[Bytes]) -> Result<Bytes, Memory> {
+    let mut names = Vec::new(alloc);
+    for path in found {
+        names.push(path.as_slice()).map_err(|_| Memory)?;
+    }
+    Line::new(alloc)?
+        .text("no such file: ")?
+        .shown(name)?
+        .hint_among(alloc, name, names.as_slice())?
+        .end()
 }
 
 /// The fault of the files, which the tree doesn't tell.
@@ -126,18 +164,18 @@ fn tree_fault(alloc: Global) -> Fault {
     }
 }
 
-fn graph_fault(alloc: Global, project: &Project, fault: GraphRefused) -> Fault {
+fn graph_fault(alloc: Global, project: &Project, found: &[Bytes], fault: GraphRefused) -> Fault {
     match fault {
-        GraphRefused::NoFile => refused(missing_line(alloc, project.graph.as_slice())),
+        GraphRefused::NoFile => refused(missing_line(alloc, project.graph.as_slice(), found)),
         GraphRefused::Text(fault) => refused(graph_line(alloc, project, fault)),
         GraphRefused::Tree => tree_fault(alloc),
         GraphRefused::Memory => Fault::Memory,
     }
 }
 
-fn list_fault(alloc: Global, fault: ListFault) -> Fault {
+fn list_fault(alloc: Global, found: &[Bytes], fault: ListFault) -> Fault {
     match fault {
-        ListFault::Missing(name) => refused(missing_line(alloc, name.as_slice())),
+        ListFault::Missing(name) => refused(missing_line(alloc, name.as_slice(), found)),
         ListFault::TooLong(name) => Fault::TooLong(name),
         ListFault::Tree => tree_fault(alloc),
         ListFault::Memory => Fault::Memory,
@@ -174,13 +212,14 @@ fn output_fault(alloc: Global, name: &[u8], cause: Option<io::Error>) -> Fault {
 pub(crate) fn fault_of(
     alloc: Global,
     project: &Project,
+    found: &[Bytes],
     fault: BuildFault,
     in_use: bool,
     cause: Option<io::Error>,
 ) -> Fault {
     match fault {
-        BuildFault::Graph(fault) => graph_fault(alloc, project, fault),
-        BuildFault::Sources(fault) => list_fault(alloc, fault),
+        BuildFault::Graph(fault) => graph_fault(alloc, project, found, fault),
+        BuildFault::Sources(fault) => list_fault(alloc, found, fault),
         BuildFault::Store(fault) => store_fault(fault, in_use),
         BuildFault::Target(TargetFault::Store(fault)) => store_fault(fault, in_use),
         BuildFault::Target(TargetFault::Output(name)) => {

@@ -2,21 +2,23 @@
 ghost use Rattle.odin_engine.specs.Engaged.{IsLimit};
 
 use crate::faults::{Fault, MEMORY};
+use crate::found::input_fault;
 use crate::reading::{enter_project, refused};
-use crate::replies::{fault_of, missing_line, tell_replies, write_target};
+use crate::replies::{fault_of, missing_line, tell_replies, work_lines, write_target};
+use crate::screen::{Screen, has_colours, trace_path};
 use crate::told::{Line, say};
 use crate::whole::{Whole, read_whole};
 use crate::written::WrittenFiles;
 use build_files::causes::Cause;
+use build_view::watched::Watched;
 use clap::Error;
 use clap::error::ErrorKind;
-use object_values::{Bytes, FileBody, Memory, Seq};
-use odin_bytes::Name;
+use object_values::{Bytes, FileBody, Memory, Reply, Seq};
 use odin_real::{ChildTools, FileDisk, FolderTree, HostSystem, NamedFile};
 use odin_start::words_of;
 use project_build::{Plan, build_project, status_of};
 use project_file::project::{Project, Target};
-use project_folder::words::{Asked, read_words};
+use project_folder::words::{Asked, View, read_words};
 use project_folder::{MOST_JOBS, NoSources, NoTarget, jobs_by, list_sources, targets_among};
 use project_kits::tree::MadeTree;
 use std::alloc::Global;
@@ -76,10 +78,10 @@ fn make_state(rt: &HostRuntime) -> Result<(), Fault> {
 }
 
 /// The fault of a list of sources.
-pub(crate) fn no_sources(alloc: Global, fault: NoSources) -> Fault {
+pub(crate) fn no_sources(alloc: Global, found: &[Bytes], fault: NoSources) -> Fault {
     match fault {
         NoSources::NoName(path) => refused(no_name_line(alloc, path.as_slice())),
-        NoSources::Missing(path) => refused(missing_line(alloc, path.as_slice())),
+        NoSources::Missing(path) => refused(missing_line(alloc, path.as_slice(), found)),
         NoSources::Memory => Fault::Memory,
     }
 }
@@ -91,16 +93,21 @@ fn no_name_line(alloc: Global, path: &[u8]) -> Result<Bytes, Memory> {
         .end()
 }
 
-fn no_target_line(alloc: Global, name: &[u8]) -> Result<Bytes, Memory> {
+fn no_target_line(alloc: Global, project: &Project, name: &[u8]) -> Result<Bytes, Memory> {
+    let mut names = Vec::new(alloc);
+    for target in project.targets.as_slice() {
+        names.push(target.name.as_slice()).map_err(|_| Memory)?;
+    }
     Line::new(alloc)?
         .text("no such target: ")?
         .shown(name)?
+        .hint_among(alloc, name, names.as_slice())?
         .end()
 }
 
-fn no_target(alloc: Global, fault: NoTarget) -> Fault {
+fn no_target(alloc: Global, project: &Project, fault: NoTarget) -> Fault {
     match fault {
-        NoTarget::Unknown(name) => refused(no_target_line(alloc, name.as_slice())),
+        NoTarget::Unknown(name) => refused(no_target_line(alloc, project, name.as_slice())),
         NoTarget::Memory => Fault::Memory,
     }
 }
@@ -127,40 +134,106 @@ fn tell_targets(rt: &HostRuntime, targets: &[&Target]) -> Result<u8, Fault> {
     Ok(0)
 }
 
+/// Tells how many tools were run, and the size of the store beside its limit.
+fn tell_work(rt: &HostRuntime, tools: u64) -> Result<(), Fault> {
+    let size = match fs::metadata(rt, STORE) {
+        Ok(found) => found.len(),
+        Err(error) => return Err(input_fault(rt.alloc(), STORE, &error)),
+    };
+    let lines = work_lines(rt.alloc(), tools, size)?;
+    say(rt, lines.as_slice());
+    Ok(())
+}
+
+/// What is told of a build, and where.
+#[derive(Drop)]
+struct Telling<'a> {
+    view: View<'a>,
+    trace: Option<String>,
+}
+
+/// The tools of a build, of which a screen is told.
+type Tools<'a> = Watched<ChildTools<HostSystem<&'a HostRuntime>>, Screen<'a>>;
+
+/// Waits for the tools that still run, clears what was shown of them, and writes the trace. Gives how many were started.
+fn end_tools(
+    rt: &HostRuntime,
+    tools: Tools<'_>,
+    telling: &Telling<'_>,
+) -> (u64, Result<(), Fault>) {
+    let (mut tools, screen) = tools.into_parts();
+    tools.wait_rest(rt.alloc());
+    screen.clear();
+    let count = screen.started();
+    match &telling.trace {
+        Some(path) => (count, screen.write_trace(path.as_str())),
+        None => (count, Ok(())),
+    }
+}
+
+/// Tells of what was built, and gives the status.
+fn tell_built(
+    rt: &HostRuntime,
+    project: &Project,
+    targets: &[&Target],
+    replies: &[Reply],
+    telling: &Telling<'_>,
+    tools: u64,
+) -> Result<u8, Fault> {
+    let coloured = has_colours(rt, telling.view.colours);
+    tell_replies(rt, project, targets, replies, coloured)?;
+    if telling.view.verbose {
+        tell_work(rt, tools)?;
+    }
+    Ok(status_of(replies))
+}
+
 /// Builds targets over the files of the project's folder, its store and child programs. Those that a fault left running are waited for, so that none writes
 /// after the program.
 fn build(
     rt: &HostRuntime,
     project: &Project,
     made: Seq<FileBody>,
-    sources: &[Name],
-    targets: &[&Target],
-    jobs: u32,
+    found: &[Bytes],
+    plan: &Plan<'_>,
+    telling: &Telling<'_>,
 ) -> Result<u8, Fault>
-    requires { IsLimit jobs }
+    requires { IsLimit plan.now.jobs }
 {
     make_state(rt)?;
     let alloc = rt.alloc();
     let mut tree = MadeTree::new(made, FolderTree::new(rt));
     let mut disk = FileDisk::open(NamedFile::new(rt, STORE));
-    let mut tools = ChildTools::new(alloc, HostSystem::new(rt), rt.stderr());
+    let screen = Screen::new(rt, telling.view.quiet, telling.trace.is_some());
+    let tools = ChildTools::new(alloc, HostSystem::new(rt), rt.stderr());
+    let mut watched = Watched::new(tools, screen);
     let mut outputs = WrittenFiles::new(rt);
-    let plan = Plan {
-        graph: project.graph.as_slice(),
-        sources,
-        targets,
-        jobs,
-    };
-    let built = build_project(alloc, &plan, &mut tree, &mut disk, &mut tools, &mut outputs);
-    tools.wait_rest(alloc);
+    let built = build_project(
+        alloc,
+        plan,
+        &mut tree,
+        &mut disk,
+        &mut watched,
+        &mut outputs,
+    );
+    let (count, traced) = end_tools(rt, watched, telling);
     match built {
         Ok(replies) => {
-            tell_replies(rt, targets, replies.as_slice())?;
-            Ok(status_of(replies.as_slice()))
+            let status = tell_built(
+                rt,
+                project,
+                plan.targets,
+                replies.as_slice(),
+                telling,
+                count,
+            )?;
+            traced?;
+            Ok(status)
         }
         Err(fault) => Err(fault_of(
             alloc,
             project,
+            found,
             fault,
             disk.is_in_use(),
             outputs.into_cause(),
@@ -171,6 +244,10 @@ fn build(
 /// Does what the words ask for.
 fn run_asked(rt: &HostRuntime, asked: &Asked<'_>) -> Result<u8, Fault> {
     let alloc = rt.alloc();
+    let telling = Telling {
+        view: asked.view,
+        trace: trace_path(rt, asked.view.trace)?,
+    };
     enter_project(rt, asked.folder)?;
     let Whole {
         project,
@@ -179,24 +256,22 @@ fn run_asked(rt: &HostRuntime, asked: &Asked<'_>) -> Result<u8, Fault> {
     } = read_whole(rt, asked.tells)?;
     let targets = match targets_among(alloc, &project, asked.targets.as_slice()) {
         Ok(targets) => targets,
-        Err(fault) => return Err(no_target(alloc, fault)),
+        Err(fault) => return Err(no_target(alloc, &project, fault)),
     };
     let sources = match list_sources(alloc, &project, found.as_slice()) {
         Ok(sources) => sources,
-        Err(fault) => return Err(no_sources(alloc, fault)),
+        Err(fault) => return Err(no_sources(alloc, found.as_slice(), fault)),
     };
     if asked.tells {
         return tell_targets(rt, targets.as_slice());
     }
-    let jobs = jobs_of(rt, asked.jobs);
-    build(
-        rt,
-        &project,
-        made,
-        sources.as_slice(),
-        targets.as_slice(),
-        jobs,
-    )
+    let plan = Plan {
+        graph: project.graph.as_slice(),
+        sources: sources.as_slice(),
+        targets: targets.as_slice(),
+        jobs: jobs_of(rt, asked.jobs),
+    };
+    build(rt, &project, made, found.as_slice(), &plan, &telling)
 }
 
 /// The exit status of a run with the words of the program, where there is no fault.

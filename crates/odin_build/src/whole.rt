@@ -97,7 +97,13 @@ fn whole_with(
     add_files(lists, &mut made)?;
     let project = plain_project(alloc, wanted, patterns.as_slice(), made.as_slice())?;
     add_found(alloc, made.as_slice(), &mut found)?;
-    made.push(graph_file(rt, wanted.graph.as_ref(), graphs.as_slice())?)?;
+    let graph = graph_file(
+        rt,
+        wanted.graph.as_ref(),
+        graphs.as_slice(),
+        found.as_slice(),
+    )?;
+    made.push(graph)?;
     Ok(Whole {
         project,
         made,

@@ -1,5 +1,5 @@
 -- The files that are the sources of a project.
-use Rattle.std.specs.Prelude.{◌≡◌, ⊤, ℕ, Bool, true, not, ◌&&◌, ◌==◌, List, Option, Some, None, map, filter, find, bytes_eq, Contains}
+use Rattle.std.specs.Prelude.{◌≡◌, ⊤, ℕ, Bool, true, not, ◌&&◌, ◌==◌, List, Some, None, map, filter, find, bytes_eq, Contains}
 use Rattle.std.specs.List.{list_any}
 use Rattle.meaning_texts.specs.Classes.{IsName}
 use Rattle.project_file.specs.Patterns.{fits}

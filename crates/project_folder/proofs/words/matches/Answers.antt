@@ -2,9 +2,8 @@ use Rattle.std.proofs.Common.{ap, ap₂, refl, true, ◌≡◌, ◌∙◌, subst
 use Rattle.clap.specs.declared.error.Error.{Error}
 use Rattle.clap.specs.declared.parser.matches.ArgMatches.{ArgMatches}
 use Rattle.clap.specs.Words.{App, HasMatchesOf, app_of, fault_of, found_of, is_simple, is_simple_and_free, matches_of, rows_of, with_rule, FailsBy, Text}
-use Rattle.clap.specs.Simple.{app_of_fields}
 use Rattle.clap.proofs.OnLiterals.{clap_on_literals}
-use Rattle.project_folder.specs.Command.{bare_build, command}
+use Rattle.project_folder.specs.Command.{command}
 use Rattle.project_folder.proofs.words.matches.Goals as goal
 
 free : is_simple_and_free command ≡ true
@@ -15,23 +14,19 @@ simple : is_simple command ≡ true
 unfolding clap_on_literals
 simple = refl
 
-with_version : App → App
-with_version app = record app { top = record app.top { has_version = true } }
-
 -- the words, as lists of bytes
 abbrev words : goal.After-try_get_matches_from → List Text
 words c = map (λ s. string_bytes s) c.args.words.now
 
 -- the command that the body builds
 command_is : (c : goal.After-try_get_matches_from) → app_of c.in_ok-command.command ≡ command
-unfolding with_version
 command_is c =
-    let bare_is : app_of c.override_usage.result ≡ bare_build =
-    ap app_of_fields c.override_usage.ensures ∙ ap app_of_fields c.version.ensures ∙ ap with_version (ap app_of_fields c.about.ensures ∙ c.new.ensures.app) in
     c.in_ok-command.ensures.shape c.target_words.ensures.local
-    ∙ ap₂ with_rule (c.in_ok-arg-3.ensures.shape c.tells_flag.ensures.local ∙ ap₂ with_rule (c.in_ok-arg-2.ensures.shape c.option-jobs.ensures.local
-    ∙ ap₂ with_rule (c.in_ok-arg.ensures.shape c.option-folder.ensures.local ∙ ap₂ with_rule bare_is c.option-folder.ensures.rule) c.option-jobs.ensures.rule)
-    c.tells_flag.ensures.rule) c.target_words.ensures.rule
+    ∙ ap₂ with_rule (c.in_ok-arg-4.ensures.shape c.long_option-trace.ensures.local
+    ∙ ap₂ with_rule (c.in_ok-arg-3.ensures.shape c.long_option-colours.ensures.local
+    ∙ ap₂ with_rule (c.in_ok-arg-2.ensures.shape c.flag-verbose.ensures.local
+    ∙ ap₂ with_rule (c.in_ok-arg.ensures.shape c.flag-quiet.ensures.local ∙ ap₂ with_rule c.in_ok-bare_command.ensures c.flag-quiet.ensures.rule) c.flag-verbose.ensures.rule)
+    c.long_option-colours.ensures.rule) c.long_option-trace.ensures.rule) c.target_words.ensures.rule
 
 -- the rows of a command that is the same as this one
 rows_by : (a b : App) (given : List Text) (r : Result ArgMatches Error) → a ≡ b → is_simple b ≡ true → IfOk r (λ m. HasMatchesOf a given m)

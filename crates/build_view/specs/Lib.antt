@@ -1,0 +1,4 @@
+pub mod Colours
+pub mod Labels
+pub mod Progress
+pub mod Traces

@@ -1,0 +1,197 @@
+// What a person sees while tools run, and the trace of their runs.
+use crate::faults::Fault;
+use build_files::causes::Cause;
+use build_files::whole::write_whole;
+use build_view::labels::label_of;
+use build_view::progress::{CLEARED, progress_line};
+use build_view::traces::Trace;
+use build_view::watched::Watch;
+use object_values::{Bytes, Job, Memory};
+use project_folder::words::{Colours, View};
+use std::alloc::Global;
+use std::env;
+use std::io::{self, ErrorKind, IsTerminal, Write};
+use std::time::Instant;
+
+/// Whether a variable of the environment is there and isn't empty.
+fn is_set(rt: &HostRuntime, name: &str) -> bool {
+    match env::var(rt, name) {
+        Ok(value) => !value.is_empty(),
+        Err(_) => false,
+    }
+}
+
+/// Whether standard error is a terminal that follows commands.
+fn is_screen(rt: &HostRuntime) -> bool {
+    let is_dumb = match env::var(rt, "TERM") {
+        Ok(value) => value.as_str() == "dumb",
+        Err(_) => true,
+    };
+    rt.stderr().is_terminal() && !is_dumb
+}
+
+/// Whether messages have colours.
+pub(crate) fn has_colours(rt: &HostRuntime, colours: Colours) -> bool {
+    match colours {
+        Colours::Always => true,
+        Colours::Never => false,
+        Colours::Auto => is_screen(rt) && !is_set(rt, "NO_COLOR"),
+    }
+}
+
+/// The path of the trace's file, which a word names by the folder where the program was started, since the project's is another one.
+pub(crate) fn trace_path(rt: &HostRuntime, word: Option<&str>) -> Result<Option<String>, Fault> {
+    let Some(word) = word else {
+        return Ok(None);
+    };
+    let alloc = rt.alloc();
+    if word.starts_with('/') {
+        return Ok(Some(String::from_str(alloc, word)?));
+    }
+    match env::current_dir(rt) {
+        Ok(folder) => {
+            let folder = folder.as_str();
+            Ok(Some(format!(in alloc; "{folder}/{word}")?))
+        }
+        Err(error) => Err(output_fault(alloc, word, &error)),
+    }
+}
+
+fn output_fault(alloc: Global, place: &str, error: &io::Error) -> Fault {
+    match Cause::at(alloc, place, error) {
+        Ok(cause) => Fault::Output(cause),
+        Err(Memory) => Fault::Memory,
+    }
+}
+
+/// The trace of a build, with its first moment.
+#[derive(Drop)]
+struct Recording {
+    start: Instant,
+    trace: Trace,
+}
+
+/// Tells on a terminal how far the build is, and notes when each tool runs.
+#[derive(Drop)]
+pub(crate) struct Screen<'a> {
+    rt: &'a HostRuntime,
+    shows: bool,
+    started: u64,
+    ended: u64,
+    label: Bytes,
+    recording: Option<Recording>,
+    /// Why there is no trace though it is wanted. A tool isn't held up by that: it is told once the build has ended.
+    lost: Option<Fault>,
+}
+
+impl<'a> Screen<'a> {
+    pub(crate) fn new(rt: &'a HostRuntime, quiet: bool, traces: bool) -> Self {
+        let (recording, lost) = match (traces, Instant::now(rt)) {
+            (false, _) => (None, None),
+            (true, Ok(start)) => {
+                let trace = Trace::new(rt.alloc());
+                (Some(Recording { start, trace }), None)
+            }
+            (true, Err(error)) => (None, Some(output_fault(rt.alloc(), "the trace", &error))),
+        };
+        Screen {
+            rt,
+            shows: !quiet && is_screen(rt),
+            started: 0,
+            ended: 0,
+            label: Bytes::new(rt.alloc()),
+            recording,
+            lost,
+        }
+    }
+
+    /// How many tools were started.
+    pub(crate) fn started(&self) -> u64 {
+        self.started
+    }
+
+    /// Writes the line of progress over the one before. Want of memory for it is no fault of the build.
+    fn show(&self, alloc: Global) {
+        if !self.shows {
+            return;
+        }
+        if let Ok(line) = progress_line(alloc, self.ended, self.started, self.label.as_slice()) {
+            let _ = self.rt.stderr().write_all(line.as_slice());
+        }
+    }
+
+    /// Clears the line of progress, so that what is told next stands alone.
+    pub(crate) fn clear(&self) {
+        if self.shows && self.started > 0 {
+            let _ = self.rt.stderr().write_all(CLEARED);
+        }
+    }
+
+    /// The time since the build began, in microseconds. Where the clock can't be read it is told as none.
+    fn now(&self, start: &Instant) -> u64 {
+        match start.elapsed(self.rt) {
+            Ok(passed) => passed
+                .as_secs()
+                .saturating_mul(1_000_000)
+                .saturating_add(u64::from(passed.subsec_micros())),
+            Err(_) => 0,
+        }
+    }
+
+    /// Notes a start or an end in the trace.
+    fn note(&mut self, alloc: Global, slot: u32, starts: bool) {
+        let Some(mut recording) = self.recording.take() else {
+            return;
+        };
+        let at = self.now(&recording.start);
+        let noted = if starts {
+            recording
+                .trace
+                .began(alloc, slot, self.label.as_slice(), at)
+        } else {
+            recording.trace.ended(alloc, slot, at)
+        };
+        match noted {
+            Ok(()) => self.recording = Some(recording),
+            Err(Memory) => self.lost = Some(Fault::Memory),
+        }
+    }
+
+    /// Writes the trace whole into a file.
+    pub(crate) fn write_trace(self, path: &str) -> Result<(), Fault> {
+        let alloc = self.rt.alloc();
+        if let Some(fault) = self.lost {
+            return Err(fault);
+        }
+        let Some(recording) = self.recording else {
+            return Ok(());
+        };
+        let text = recording.trace.into_text(alloc)?;
+        match write_whole(self.rt, path, text.as_bytes()) {
+            Ok(()) => Ok(()),
+            Err(error) => {
+                if error.kind() == ErrorKind::OutOfMemory {
+                    return Err(Fault::Memory);
+                }
+                Err(output_fault(alloc, path, &error))
+            }
+        }
+    }
+}
+
+impl Watch for Screen<'_> {
+    fn began(&mut self, alloc: Global, slot: u32, job: &Job) {
+        self.started = self.started.saturating_add(1);
+        if let Ok(label) = label_of(alloc, job) {
+            self.label = label;
+        }
+        self.note(alloc, slot, true);
+        self.show(alloc);
+    }
+
+    fn ended(&mut self, alloc: Global, slot: u32) {
+        self.ended = self.ended.saturating_add(1);
+        self.note(alloc, slot, false);
+        self.show(alloc);
+    }
+}
