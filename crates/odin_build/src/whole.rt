@@ -9,6 +9,7 @@ use crate::reading::{problem_fault, project_in, read_text, refused};
 use object_values::{Bytes, Copied, FileBody, Seq};
 use project_file::project::{Project, Target};
 use project_file::reading::FILE_LIMIT;
+use project_folder::tidy_outputs;
 use project_kits::plain::{all_targets, plain_project};
 use project_kits::reading::{kits_of, read_wanted};
 use project_kits::settings::first_unknown;
@@ -29,8 +30,17 @@ fn unknown_setting(alloc: Global, name: &[u8]) -> Fault {
     refused(named_line(alloc, "odin.toml: no such setting: ", name))
 }
 
-fn two_targets(alloc: Global, name: &[u8]) -> Fault {
-    refused(named_line(alloc, "odin.toml: two targets of one name: ", name))
+/// One of the names that stand there twice.
+fn double_among<'a>(mut names: Vec<&'a [u8]>) -> Result<Option<&'a [u8]>, Fault> {
+    names.sort().map_err(|_| Fault::Memory)?;
+    for pair in names.as_slice().windows(2) {
+        if let [one, other] = pair {
+            if *one == *other {
+                return Ok(Some(*one));
+            }
+        }
+    }
+    Ok(None)
 }
 
 /// Refuses two targets of one name, of which only the first could be asked for.
@@ -41,15 +51,27 @@ fn refuse_doubles(alloc: Global, targets: &[Target]) -> Result<(), Fault> {
             .push(target.name.as_slice())
             .map_err(|_| Fault::Memory)?;
     }
-    names.sort().map_err(|_| Fault::Memory)?;
-    for pair in names.as_slice().windows(2) {
-        if let [one, other] = pair {
-            if *one == *other {
-                return Err(two_targets(alloc, one));
-            }
-        }
+    match double_among(names)? {
+        Some(name) => Err(refused(named_line(alloc, "odin.toml: two targets of one name: ", name))),
+        None => Ok(()),
     }
-    Ok(())
+}
+
+/// Refuses two targets with one file, of which only the later one would stand.
+fn refuse_shared(alloc: Global, targets: &[Target]) -> Result<(), Fault> {
+    let outputs = tidy_outputs(alloc, targets)?;
+    let mut files: Vec<&[u8]> = Vec::new(alloc);
+    for output in outputs.as_slice() {
+        files.push(output.as_slice()).map_err(|_| Fault::Memory)?;
+    }
+    match double_among(files)? {
+        Some(file) => Err(refused(named_line(
+            alloc,
+            "odin.toml: two targets with one file: ",
+            file,
+        ))),
+        None => Ok(()),
+    }
 }
 
 // ---- the whole
@@ -129,8 +151,14 @@ fn document_of(alloc: Global, text: &[u8]) -> Option<Table> {
     toml::table_from_slice(alloc, text).ok()
 }
 
-/// The project of the current folder. Where it is only told what would be asked, no script of a kit is run.
+/// The project of the current folder, in which no two targets have one file. Where it is only told what would be asked, no script of a kit is run.
 pub(crate) fn read_whole(rt: &HostRuntime, tells: bool) -> Result<Whole, Fault> {
+    let whole = whole_of(rt, tells)?;
+    refuse_shared(rt.alloc(), whole.project.targets.as_slice())?;
+    Ok(whole)
+}
+
+fn whole_of(rt: &HostRuntime, tells: bool) -> Result<Whole, Fault> {
     let alloc = rt.alloc();
     let text = read_text(rt)?;
     if let Some(keys) = document_of(alloc, text.as_slice()) {
