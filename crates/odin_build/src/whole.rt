@@ -18,6 +18,7 @@ use std::alloc::Global;
 use toml::Table;
 
 /// A project, the files that are made for it, and those that it has with them.
+#[derive(Drop)]
 pub(crate) struct Whole {
     pub(crate) project: Project,
     pub(crate) made: Seq<FileBody>,
