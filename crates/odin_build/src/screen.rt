@@ -159,21 +159,26 @@ impl<'a> Screen<'a> {
 
     /// Writes the trace whole into a file.
     pub(crate) fn write_trace(self, path: &str) -> Result<(), Fault> {
-        let alloc = self.rt.alloc();
-        if let Some(fault) = self.lost {
+        let Screen {
+            rt,
+            recording,
+            lost,
+            ..
+        } = self;
+        if let Some(fault) = lost {
             return Err(fault);
         }
-        let Some(recording) = self.recording else {
+        let Some(Recording { start: _, trace }) = recording else {
             return Ok(());
         };
-        let text = recording.trace.into_text(alloc)?;
-        match write_whole(self.rt, path, text.as_bytes()) {
+        let text = trace.into_text(rt.alloc())?;
+        match write_whole(rt, path, text.as_bytes()) {
             Ok(()) => Ok(()),
             Err(error) => {
                 if error.kind() == ErrorKind::OutOfMemory {
                     return Err(Fault::Memory);
                 }
-                Err(output_fault(alloc, path, &error))
+                Err(output_fault(rt.alloc(), path, &error))
             }
         }
     }
