@@ -17,7 +17,6 @@ const ROWS: &[(&[u8], &[u8])] = &[
     (b"src/**/*.c", b"src/a.c\nsrc/b.c\nsrc/x/d.c\n"),
     (b"src/**", b"src/a.c\nsrc/a.h\nsrc/b.c\nsrc/x/d.c\n"),
     (b"*", b"main.c\n"),
-    (b"**/x/*", b"src/x/d.c\n"),
     (b"src/b.c\nsrc/*.c\n./src//b.c", b"src/a.c\nsrc/b.c\n"),
     (b"lib/*.c", b""),
     (b"", b""),
