@@ -19,6 +19,8 @@ use Rattle.derive_walk.specs.Surveys.{survey_of}
 use Rattle.derive_walk.specs.declared.rounds.Round.{Round}
 use Rattle.derive_walk.specs.declared.rounds.Round.TheVariants.{Renews, Visits, Closes}
 use Rattle.derive_walk.specs.declared.walk.Walk.{Walk}
+use Rattle.derive_walk.specs.declared.settling.Closed.{Closed}
+use Rattle.derive_walk.specs.Settled.{NodeIsClosed}
 use Rattle.derive_walk.specs.Founds.{NodesFit}
 use Rattle.derive_walk.specs.States.{heights_in, IsFormedIn, HoldsIn}
 use Rattle.derive_walk.specs.Trials.{IsCurrent, IsTried}
@@ -111,6 +113,11 @@ pub record IsClosing (w : World) (walk : Walk) (n : Node) (needed : Needed)
   pub above : height ≡ top_of (heights_in walk) needs + 1
   pub high : height ≤ height_limit
   pub anew : IsAnew w walk n
+
+-- That is so, and this is what came of it.
+pub record ClosesSo (w : World) (walk : Walk) (n : Node) (needed : Needed) (height : ℕ) (closed : Closed) : Type 0 where
+  pub closing : IsClosing w walk n needed height
+  pub is : NodeIsClosed w n (results_of walk.done) closed
 
 -- ---- closing by a record
 

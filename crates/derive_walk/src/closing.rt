@@ -1,10 +1,8 @@
 // The closing of a node whose needs were all visited.
 ghost use Rattle.std.specs.Prelude.{◌+◌, OnOk, IfOk};
 ghost use Rattle.derive_walk.specs.Looks.{HasMetOne, LooksAreFew, lost, met_in};
-ghost use Rattle.derive_walk.specs.Paths.{IsClosing, IsLast, IsLed, IsWholeRound};
-ghost use Rattle.derive_walk.specs.Settled.{NodeIsClosed};
+ghost use Rattle.derive_walk.specs.Paths.{ClosesSo, IsClosing, IsLast, IsLed, IsWholeRound};
 ghost use Rattle.derive_walk.specs.Settings.{IsSetting, world_in};
-ghost use Rattle.derive_walk.specs.Tables.{results_of};
 ghost use Rattle.derive_walk.specs.States.{IsFormedIn, HoldsIn, GoesOnFrom, Visited, AfterVisit};
 
 use crate::deep::descend;
@@ -106,9 +104,8 @@ fn take_closed<K: Known>(
 ) -> Result<(), Memory>
     requires set { IsSetting K.keeps setting.now }
     requires last { IsLast (world_in K.keeps setting.now) walk.old node }
-    requires closing { IsClosing (world_in K.keeps setting.now) walk.old node needed.now height }
     requires closed { let w = world_in K.keeps setting.now in
-        NodeIsClosed w node (results_of walk.old.done) closed }
+        ClosesSo w walk.old node needed.now height closed }
     ensures on { GoesOnFrom walk.old walk.new }
     ensures formed { IsFormedIn (world_in K.keeps setting.now) walk.new }
     ensures holds { let w = world_in K.keeps setting.now in

@@ -1,5 +1,5 @@
 // What is kept, of calls and of nodes.
-ghost use Rattle.std.specs.Prelude.{◌≡◌, ◌↔◌, ◌+◌, None, Some, IfOk, IfSome, IsSome, IsTrue, option_map};
+ghost use Rattle.std.specs.Prelude.{◌≡◌, ◌↔◌, ◌+◌, None, Some, IfOk, IfSome, IsTrue, option_map};
 ghost use Rattle.derive_walk.specs.Keeping.{Keeping};
 ghost use Rattle.derive_walk.specs.Trials.{IsNamed};
 
@@ -35,10 +35,9 @@ pub trait Known {
     fn is(&self, number: u64, value: &Value) -> bool
         ensures { IsTrue result ↔ ((keeps self.now).contents number ≡ Some value.now) };
 
-    /// The content of a number.
-    fn content(&self, alloc: Global, number: u64) -> Result<Value, Memory>
-        requires { IsSome ((keeps self.now).contents number) }
-        ensures { IfOk result (λ value. (keeps self.now).contents number ≡ Some value) };
+    /// The content of a number, where there is one.
+    fn content(&self, alloc: Global, number: u64) -> Result<Option<Value>, Memory>
+        ensures { IfOk result (λ value. value ≡ (keeps self.now).contents number) };
 }
 
 /// Nothing is kept.
@@ -73,7 +72,7 @@ impl Known for NothingKept {
         false
     }
 
-    fn content(&self, _alloc: Global, _number: u64) -> Result<Value, Memory> {
-        Err(Memory)
+    fn content(&self, _alloc: Global, _number: u64) -> Result<Option<Value>, Memory> {
+        Ok(None)
     }
 }

@@ -128,14 +128,12 @@ pub(crate) fn done_by<K: Known>(
     value: Option<u64>,
     renewed: &Renewed,
 ) -> Result<Done, Memory>
-    requires { (number : ℕ) → value ≡ Some number
-        → IsSome ((K.keeps known.now).contents number) }
     ensures { let contents = (K.keeps known.now).contents in
         IfOk result (IsBy contents value renewed.now) }
 {
     let value = match value {
         None => None,
-        Some(number) => Some(known.content(alloc, number)?),
+        Some(number) => known.content(alloc, number)?,
     };
     Ok(Done {
         view: View {

@@ -2,16 +2,15 @@
 ghost use Rattle.std.specs.Prelude.{◌≡◌, OnOk, OnErr, IfOk, IsSome, option_map};
 ghost use Rattle.meaning_graph.specs.Graphs.{Graph as GraphValue};
 ghost use Rattle.meaning_texts.specs.Lists.{IsIn};
-ghost use Rattle.meaning_graph.specs.Grammar.{IsSpellable};
 ghost use Rattle.meaning_calls.specs.Outcomes.{OutcomeFits};
 ghost use Rattle.meaning_tasks.specs.Nodes.{Fits};
 ghost use Rattle.meaning_derive.specs.Derive.{Sources as SourceTexts, Outcomes};
-ghost use Rattle.meaning_derive.specs.Given.{AreSources, OutcomesFit};
-ghost use Rattle.derive_walk.specs.Keeping.{AreReadable, Keeping, records_in};
+ghost use Rattle.meaning_derive.specs.Given.{OutcomesFit};
+ghost use Rattle.derive_walk.specs.Keeping.{Keeping};
 ghost use Rattle.derive_walk.specs.Outcomes.{after};
 ghost use Rattle.derive_walk.specs.Looks.{LooksAreFew, lost, met_by, met_in};
 ghost use Rattle.derive_walk.specs.Paths.{HasEmptyPath, AfterRoot};
-ghost use Rattle.derive_walk.specs.Settings.{IsSetting, world_by, world_in};
+ghost use Rattle.derive_walk.specs.Settings.{IsSetting, MayGoBy, world_by, world_in};
 ghost use Rattle.derive_walk.specs.States.{IsFormedIn, HoldsIn, GoesOnFrom, heights_in};
 ghost use Rattle.derive_walk.specs.Walks.{IsFormed, IsRight, IsAdvanced, ExtendsWalk, OutcomeIsGiven, new_walk};
 ghost use Rattle.derive_walk.specs.Worlds.{World, IsWorld, KnowsIn};
@@ -107,9 +106,7 @@ impl Walker {
         known: &K,
         steps: &mut Steps<L>,
     ) -> Result<(), Memory>
-        requires spellable { IsSpellable planned.now }
-        requires sources { AreSources sources.now.texts }
-        requires readable { AreReadable planned.now (records_in (K.keeps known.now)) }
+        requires ground { MayGoBy (K.keeps known.now) planned.now sources.now.texts }
         requires formed { let at = world_by (K.keeps known.now) planned.now sources.now.texts in
             IsFormed (at self.old.given) self.old }
         ensures on { ExtendsWalk self.old self.new }

@@ -21,3 +21,6 @@ returns-in_err-closed-clause-counted g c =
 pub returns-clause-counted : goal.returns-clause-counted
 returns-clause-counted g c =
     few_closed c.args.walk.now c.take_closed.new.walk c.args.node c.in_ok-closed.closed _ _ c.take_closed.result c.in_ok-closed.ensures.counted c.take_closed.ensures.met
+
+pub take_closed-requires-clause-closed : goal.take_closed-requires-clause-closed
+take_closed-requires-clause-closed g c = record { closing = c.requires.closing; is = c.in_ok-closed.ensures.closed }

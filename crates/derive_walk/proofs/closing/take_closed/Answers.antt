@@ -49,15 +49,15 @@ pub returns-in_ok-add-in-Given-clause-formed : goal.returns-in_ok-add-in-Given-c
 returns-in_ok-add-in-Given-clause-formed g c =
     let w : World = world_in g.K.Known.keeps c.args.setting.now in
     let walk = c.args.walk.now in
-    let is = subst (NodeIsClosed w c.args.node (results_of walk.done)) c.in-Given.is c.requires.closed in
-    source_formed w c.requires.set walk c.args.node c.args.height c.requires.last c.requires.closing c.in-Given.view is.0 is.1 c.add.new.self c.in_ok-add-in-Given.ensures.ok
+    let is = subst (NodeIsClosed w c.args.node (results_of walk.done)) c.in-Given.is c.requires.closed.is in
+    source_formed w c.requires.set walk c.args.node c.args.height c.requires.last c.requires.closed.closing c.in-Given.view is.0 is.1 c.add.new.self c.in_ok-add-in-Given.ensures.ok
 
 pub returns-in_ok-add-in-Given-clause-holds : goal.returns-in_ok-add-in-Given-clause-holds
 returns-in_ok-add-in-Given-clause-holds g c =
     let w : World = world_in g.K.Known.keeps c.args.setting.now in
     let walk = c.args.walk.now in
-    let is = subst (NodeIsClosed w c.args.node (results_of walk.done)) c.in-Given.is c.requires.closed in
-    λ led. source_holds w walk led c.args.node c.args.height c.requires.last c.requires.closing c.in-Given.view is.1 c.add.new.self c.in_ok-add-in-Given.ensures.ok
+    let is = subst (NodeIsClosed w c.args.node (results_of walk.done)) c.in-Given.is c.requires.closed.is in
+    λ led. source_holds w walk led c.args.node c.args.height c.requires.last c.requires.closed.closing c.in-Given.view is.1 c.add.new.self c.in_ok-add-in-Given.ensures.ok
 
 pub returns-in_ok-add-in-Given-clause-met : goal.returns-in_ok-add-in-Given-clause-met
 returns-in_ok-add-in-Given-clause-met g c =
@@ -93,21 +93,21 @@ pub returns-in_ok-take_settled-in-Settled-clause-formed : goal.returns-in_ok-tak
 returns-in_ok-take_settled-in-Settled-clause-formed g c =
     let w : World = world_in g.K.Known.keeps c.args.setting.now in
     let walk = c.args.walk.now in
-    let so = subst (NodeIsClosed w c.args.node (results_of walk.done)) c.in-Settled.is c.requires.closed in
-    let noted = c.in_ok-note-in-Settled.ensures w.graph w.outcomes (may_note w c.requires.set walk c.args.node c.requires.last c.args.height c.requires.closing c.in-Settled.settled so) in
+    let so = subst (NodeIsClosed w c.args.node (results_of walk.done)) c.in-Settled.is c.requires.closed.is in
+    let noted = c.in_ok-note-in-Settled.ensures w.graph w.outcomes (may_note w c.requires.set walk c.args.node c.requires.last c.args.height c.requires.closed.closing c.in-Settled.settled so) in
     let takes : TakesSettled walk c.take_settled.new.self c.args.node (record { view = c.in-Settled.settled.view; height = c.args.height }) c.in_ok-note-in-Settled.note =
     subst (λ v. TakesSettled walk c.take_settled.new.self c.args.node (record { view = v; height = c.args.height }) c.in_ok-note-in-Settled.note) c.into_view-view.ensures c.in_ok-take_settled-in-Settled.ensures.ok in
-    whole_formed w c.requires.set walk c.args.node c.args.height c.requires.last c.requires.closing c.in-Settled.settled so c.in_ok-note-in-Settled.note noted c.take_settled.new.self takes
+    whole_formed w c.requires.set walk c.args.node c.args.height c.requires.last c.requires.closed.closing c.in-Settled.settled so c.in_ok-note-in-Settled.note noted c.take_settled.new.self takes
 
 pub returns-in_ok-take_settled-in-Settled-clause-holds : goal.returns-in_ok-take_settled-in-Settled-clause-holds
 returns-in_ok-take_settled-in-Settled-clause-holds g c =
     let w : World = world_in g.K.Known.keeps c.args.setting.now in
     let walk = c.args.walk.now in
-    let so = subst (NodeIsClosed w c.args.node (results_of walk.done)) c.in-Settled.is c.requires.closed in
-    let noted = c.in_ok-note-in-Settled.ensures w.graph w.outcomes (may_note w c.requires.set walk c.args.node c.requires.last c.args.height c.requires.closing c.in-Settled.settled so) in
+    let so = subst (NodeIsClosed w c.args.node (results_of walk.done)) c.in-Settled.is c.requires.closed.is in
+    let noted = c.in_ok-note-in-Settled.ensures w.graph w.outcomes (may_note w c.requires.set walk c.args.node c.requires.last c.args.height c.requires.closed.closing c.in-Settled.settled so) in
     let takes : TakesSettled walk c.take_settled.new.self c.args.node (record { view = c.in-Settled.settled.view; height = c.args.height }) c.in_ok-note-in-Settled.note =
     subst (λ v. TakesSettled walk c.take_settled.new.self c.args.node (record { view = v; height = c.args.height }) c.in_ok-note-in-Settled.note) c.into_view-view.ensures c.in_ok-take_settled-in-Settled.ensures.ok in
-    λ led. whole_holds w walk led c.args.node c.args.height c.requires.last c.requires.closing c.in-Settled.settled so c.in_ok-note-in-Settled.note noted c.take_settled.new.self takes
+    λ led. whole_holds w walk led c.args.node c.args.height c.requires.last c.requires.closed.closing c.in-Settled.settled so c.in_ok-note-in-Settled.note noted c.take_settled.new.self takes
 
 pub returns-in_ok-take_settled-in-Settled-clause-met : goal.returns-in_ok-take_settled-in-Settled-clause-met
 returns-in_ok-take_settled-in-Settled-clause-met g c =
@@ -141,17 +141,17 @@ pub returns-in_err-add-in-Stops-2-clause-formed : goal.returns-in_err-add-in-Sto
 returns-in_err-add-in-Stops-2-clause-formed g c =
     let w : World = world_in g.K.Known.keeps c.args.setting.now in
     let walk = c.args.walk.now in
-    let stop = subst (NodeIsClosed w c.args.node (results_of walk.done)) c.in-Stops.is c.requires.closed in
+    let stop = subst (NodeIsClosed w c.args.node (results_of walk.done)) c.in-Stops.is c.requires.closed.is in
     subst (λ z. IsFormedIn w (record walk { wanted = c.add-in-Stops.new.self; waiting = z })) (sym c.in_err-add-in-Stops-2.ensures.err)
-    (wanted_formed w c.requires.set walk c.args.node c.args.height c.requires.last c.requires.closing c.in-Stops.call stop c.add-in-Stops.new.self c.in_ok-add-in-Stops.ensures.ok)
+    (wanted_formed w c.requires.set walk c.args.node c.args.height c.requires.last c.requires.closed.closing c.in-Stops.call stop c.add-in-Stops.new.self c.in_ok-add-in-Stops.ensures.ok)
 
 pub returns-in_err-add-in-Stops-2-clause-holds : goal.returns-in_err-add-in-Stops-2-clause-holds
 returns-in_err-add-in-Stops-2-clause-holds g c =
     let w : World = world_in g.K.Known.keeps c.args.setting.now in
     let walk = c.args.walk.now in
-    let stop = subst (NodeIsClosed w c.args.node (results_of walk.done)) c.in-Stops.is c.requires.closed in
+    let stop = subst (NodeIsClosed w c.args.node (results_of walk.done)) c.in-Stops.is c.requires.closed.is in
     λ led. subst (λ z. HoldsIn w (record walk { wanted = c.add-in-Stops.new.self; waiting = z })) (sym c.in_err-add-in-Stops-2.ensures.err)
-    (wanted_holds w walk led c.args.node c.args.height c.requires.last c.requires.closing c.in-Stops.call stop c.add-in-Stops.new.self c.in_ok-add-in-Stops.ensures.ok)
+    (wanted_holds w walk led c.args.node c.args.height c.requires.last c.requires.closed.closing c.in-Stops.call stop c.add-in-Stops.new.self c.in_ok-add-in-Stops.ensures.ok)
 
 pub returns-in_ok-add-in-Stops-2-clause-on : goal.returns-in_ok-add-in-Stops-2-clause-on
 returns-in_ok-add-in-Stops-2-clause-on g c =
@@ -169,14 +169,14 @@ pub returns-in_ok-add-in-Stops-2-clause-formed : goal.returns-in_ok-add-in-Stops
 returns-in_ok-add-in-Stops-2-clause-formed g c =
     let w : World = world_in g.K.Known.keeps c.args.setting.now in
     let walk = c.args.walk.now in
-    let stop = subst (NodeIsClosed w c.args.node (results_of walk.done)) c.in-Stops.is c.requires.closed in
-    stopped_formed w c.requires.set walk c.args.node c.args.height c.requires.last c.requires.closing c.in-Stops.call stop c.add-in-Stops.new.self
+    let stop = subst (NodeIsClosed w c.args.node (results_of walk.done)) c.in-Stops.is c.requires.closed.is in
+    stopped_formed w c.requires.set walk c.args.node c.args.height c.requires.last c.requires.closed.closing c.in-Stops.call stop c.add-in-Stops.new.self
     c.in_ok-add-in-Stops.ensures.ok c.add-in-Stops-2.new.self c.in_ok-add-in-Stops-2.ensures.ok
 
 pub returns-in_ok-add-in-Stops-2-clause-holds : goal.returns-in_ok-add-in-Stops-2-clause-holds
 returns-in_ok-add-in-Stops-2-clause-holds g c =
     let w : World = world_in g.K.Known.keeps c.args.setting.now in
     let walk = c.args.walk.now in
-    let stop = subst (NodeIsClosed w c.args.node (results_of walk.done)) c.in-Stops.is c.requires.closed in
-    λ led. stopped_holds w walk led c.args.node c.args.height c.requires.last c.requires.closing c.in-Stops.call stop c.add-in-Stops.new.self
+    let stop = subst (NodeIsClosed w c.args.node (results_of walk.done)) c.in-Stops.is c.requires.closed.is in
+    λ led. stopped_holds w walk led c.args.node c.args.height c.requires.last c.requires.closed.closing c.in-Stops.call stop c.add-in-Stops.new.self
     c.in_ok-add-in-Stops.ensures.ok c.add-in-Stops-2.new.self c.in_ok-add-in-Stops-2.ensures.ok

@@ -29,8 +29,8 @@ advance-requires-clause-formed g c =
     (world_is _ _ _ c.requires.spellable (rw c.graph.ensures at c.checked.ensures) c.requires.sources right.fit)
     _ right
 
-pub advance-requires-clause-readable : goal.advance-requires-clause-readable
-advance-requires-clause-readable g c = none_readable c.args.planned.now
+pub advance-requires-clause-ground : goal.advance-requires-clause-ground
+advance-requires-clause-ground g c = record { spellable = c.requires.spellable; sources = c.requires.sources; readable = none_readable c.args.planned.now }
 
 pub returns-in_err-advance-clause-given_up : goal.returns-in_err-advance-clause-given_up
 returns-in_err-advance-clause-given_up g c =

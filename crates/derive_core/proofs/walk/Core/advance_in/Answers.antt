@@ -23,5 +23,5 @@ returns-clause-advanced g c =
     (λ (z : Walked). IsRight (kept_world c.args.planned.now c.args.sources.now.texts c.args.looks.now.kept.now.tables.calls z.given) z)
     (sym c.self.view_is) c.requires.right)
 
-pub advance-requires-clause-readable : goal.advance-requires-clause-readable
-advance-requires-clause-readable g c = none_readable c.args.planned.now
+pub advance-requires-clause-ground : goal.advance-requires-clause-ground
+advance-requires-clause-ground g c = record { spellable = c.requires.spellable; sources = c.requires.sources; readable = none_readable c.args.planned.now }

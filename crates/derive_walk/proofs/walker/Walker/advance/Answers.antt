@@ -15,7 +15,7 @@ walk_from_root-requires-clause-set g c =
     let w = world_by keeping c.args.planned.now c.args.sources.now.texts c.self.inside.given in
     let formed : IsFormed w (seen_so c.self.inside.walk c.self.inside.given c.self.inside.result) = subst
     (λ (s : Walked). IsFormed (world_by keeping c.args.planned.now c.args.sources.now.texts s.given) s) (sym c.self.view_is) c.requires.formed in
-    record { spellable = c.requires.spellable; checked = rw c.graph.ensures at c.checked.ensures; sources = c.requires.sources; fit = formed.fit; readable = c.requires.readable }
+    record { spellable = c.requires.ground.spellable; checked = rw c.graph.ensures at c.checked.ensures; sources = c.requires.ground.sources; fit = formed.fit; readable = c.requires.ground.readable }
 
 pub walk_from_root-requires-clause-formed : goal.walk_from_root-requires-clause-formed
 walk_from_root-requires-clause-formed g c =
