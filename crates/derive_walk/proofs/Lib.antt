@@ -12,6 +12,7 @@ mod NeedLemmas
 mod PlaceLemmas
 mod NotedDeps
 mod TightLemmas
+mod TellingLemmas
 mod NotingLemmas
 mod ClosedLemmas
 mod ClosingLemmas
@@ -42,4 +43,5 @@ mod Formed
 mod Stays
 mod MetLemmas
 mod Starts
+mod KnowingLemmas
 pub mod Lemmas

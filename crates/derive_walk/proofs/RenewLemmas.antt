@@ -4,13 +4,13 @@ use Rattle.std.specs.Prelude.{◌≢◌, Option, Some}
 use Rattle.object_values.specs.declared.nodes.Node.{Node}
 use Rattle.object_values.specs.declared.views.View.{View}
 use Rattle.meaning_texts.proofs.Lemmas.{same_some}
-use Rattle.meaning_true.specs.Knowing.{KeptRecord}
+use Rattle.meaning_true.specs.Knowing.{KeptRecord, TellsTight}
 use Rattle.derive_walk.specs.declared.done.Done.{Done}
 use Rattle.derive_walk.specs.declared.trial.Current.{Current}
 use Rattle.derive_walk.specs.declared.walk.Walk.{Walk}
 use Rattle.derive_walk.specs.CheckedRecords.{HasChecked}
 use Rattle.derive_walk.specs.Tables.{Entries}
-use Rattle.derive_walk.specs.Told.{IsRenewedIn, IsPresentIn, TakesRenewed}
+use Rattle.derive_walk.specs.Told.{IsRenewedIn, renewed_record, IsPresentIn, TakesRenewed}
 use Rattle.derive_walk.specs.Trials.{IsTried, renewed_by}
 use Rattle.derive_walk.specs.Paths.{HasCurrent, IsLast, IsLed}
 use Rattle.derive_walk.specs.States.{IsFormedIn, HoldsIn}
@@ -21,6 +21,7 @@ use Rattle.derive_walk.proofs.CheckedLemmas.{checked_is, checked_is_formed, chec
 use Rattle.derive_walk.proofs.ClosingLemmas.{last_is_new, met_here}
 use Rattle.derive_walk.proofs.CurrentLemmas.{current_is_done, current_needs, current_is_present, current_is_formed}
 use Rattle.derive_walk.proofs.Tables.{push_new, not_done}
+use Rattle.derive_walk.proofs.TellingLemmas.{current_tells}
 use Rattle.derive_walk.proofs.ToldLemmas.{told_checked, told_renewed, rightly_renewed}
 
 -- the trial of a node's record
@@ -70,7 +71,10 @@ module _ (w : World) (walk : Walk) (n : Node) (last : IsLast w walk n) (c : Curr
   renewed_holds led =
       let present : (k : KeptRecord) → w.records n ≡ Some k → IsPresentIn w k = λ k e.
       subst (IsPresentIn w) (same_some (sym current.is ∙ e)) (current_is_present w walk led.holds n current.kept current.is c current.holds) in
+      let tells : (k : KeptRecord) → w.records n ≡ Some k → TellsTight w.graph w.sources w.outcomes (renewed_record (renewed_by n c).present k) = λ k e.
+      subst (λ z. TellsTight w.graph w.sources w.outcomes (renewed_record (renewed_by n c).present z)) (same_some (sym current.is ∙ e))
+      (current_tells w walk.done led.holds.done n current.kept c current.holds) in
       holds_with_done w walk led.holds n (last_is_new w walk n last) c.done (current_is_done w walk led.holds n current.kept current.is c current.holds)
       (inr (current_needs w walk led.holds n current.kept current.is c current.holds)) (met_here w walk n last led)
       walk.fresh (walk.renewed ++ renewed_by n c ∷ [])
-      (rightly_renewed w walk.fresh walk.renewed led.holds.rightly (renewed_by n c) present) next takes.is
+      (rightly_renewed w walk.fresh walk.renewed led.holds.rightly (renewed_by n c) present tells) next takes.is

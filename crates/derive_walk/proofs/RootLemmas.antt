@@ -1,5 +1,5 @@
 -- What a walk from the root shows.
-use Rattle.std.proofs.Common.{◌≡◌, ℕ, List, [], ◌∷◌, ◌++◌, inl, inr, sym, ap, ◌∙◌, subst, arith}
+use Rattle.std.proofs.Common.{refl, ◌≡◌, ℕ, List, [], ◌∷◌, ◌++◌, inl, inr, sym, ap, ◌∙◌, subst, arith}
 use Rattle.std.specs.Prelude.{Option, Some, None, IsSome, IfSome, Result, Ok, Err, IfOk, option_map}
 use Rattle.object_values.specs.declared.nodes.Node.{Node}
 use Rattle.object_values.specs.declared.views.View.{View}
@@ -21,7 +21,7 @@ use Rattle.derive_walk.specs.Calls.{GivenOutcomes, AreOnce}
 use Rattle.derive_walk.specs.declared.walk.Walk.{Walk}
 use Rattle.derive_walk.specs.Told.{AreTold, AreToldRightly}
 use Rattle.derive_walk.specs.Worlds.{World, IsWorld, world_over, seen_in, StopsAtCall}
-use Rattle.derive_walk.specs.Founds.{IsFound, NodesFit}
+use Rattle.derive_walk.specs.Founds.{IsFound, NodesFit, IsChain, IsFitChain}
 use Rattle.meaning_true.specs.Knowing.{KeptRecords}
 use Rattle.derive_walk.specs.Walks.{Walked, AreFormedDone, AreFormedCalls, IsFormed, AreDone, AreMet, IsRight, AreFrontier, FindsOrWants}
 use Rattle.derive_walk.specs.DerivedHeights.{heights_or}
@@ -68,19 +68,20 @@ module _ (w : World) (walk : Walk) (holds : HoldsIn w walk) where
 module _ (w : World) (walk : Walk) where
   -- what is found of a root that was visited
   pub waits_there : IsSome (heights_in walk walk.root) → done_in walk.done walk.root ≡ None → AfterRoot w (HoldsIn w walk) walk None
-  waits_there there none = record { fit = tt; right = λ holds. frontier w walk holds there none }
+  waits_there there none = record { fit = tt; placed = λ view no stepped. (let never : ⊥ = cc in absurd never); right = λ holds. frontier w walk holds there none }
 
   pub answers_there : IsWorld w → IsFormedIn w walk → (d : Done) → done_in walk.done walk.root ≡ Some d → (view : View) → view ≡ d.view
       → AfterRoot w (HoldsIn w walk) walk (Some (Answer view))
   answers_there is formed d e view same = record {
     fit = λ elements valued. elements_fit w walk formed is walk.root view elements formed.root
         (ap (option_map (λ (d : Done). d.view)) e ∙ ap (λ v. Some v) (sym same)) valued;
+    placed = λ v has stepped. subst (λ o. IsSome o) (sym e) refl;
     right = λ holds. answered w walk holds d e view same;
   }
 
   -- by what was so before
   pub trusted : {E P Q : Type 0} → (Q → P) → (result : Result (Option Found) E) → IfOk result (AfterRoot w P walk) → IfOk result (AfterRoot w Q walk)
-  trusted from (Ok found) after = record { fit = after.fit; right = λ q. after.right (from q) }
+  trusted from (Ok found) after = record { fit = after.fit; placed = after.placed; right = λ q. after.right (from q) }
   trusted from (Err fault) after = tt
 
 -- ---- the visit of the root
@@ -102,9 +103,10 @@ module _ (w : World) (walk : Walk) (start : HasEmptyPath walk) (n : Node) (same 
 
   -- the visit found a chain
   pub chain_there : (new : Walk) → GoesOnFrom walk new → (found : Found)
-      → NodesFit w.graph found × (LeadsTo w walk n → IsFound w.graph w.sources w.outcomes walk.root found) → AfterRoot w (HoldsIn w walk) new (Some found)
+      → IsFitChain w.graph found × (LeadsTo w walk n → IsFound w.graph w.sources w.outcomes walk.root found) → AfterRoot w (HoldsIn w walk) new (Some found)
   chain_there new on found after = record {
-    fit = after.0;
+    fit = after.0.0;
+    placed = λ view is stepped. absurd (subst (λ o. IfSome o IsChain) is after.0.1);
     right = λ holds. subst (λ r. IsFound w.graph w.sources w.outcomes r found) (sym on.root) (after.1 (root_leads holds));
   }
 

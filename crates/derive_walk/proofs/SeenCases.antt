@@ -8,7 +8,7 @@ use Rattle.object_values.specs.declared.facts.Fresh.{Fresh}
 use Rattle.node_tasks.specs.declared.needed.Needed.{Needed}
 use Rattle.node_tasks.specs.declared.settling.Settled.{Settled as Whole}
 use Rattle.derive_walk.specs.declared.done.Done.{Done}
-use Rattle.derive_walk.specs.Tables.{Entries, Waits, results_of}
+use Rattle.derive_walk.specs.Tables.{Entries, Waits, results_of, top_of}
 use Rattle.derive_walk.specs.Calls.{put_in, AreOnce}
 use Rattle.derive_walk.proofs.CallLemmas.{put_keeps, put_there, put_once}
 use Rattle.derive_walk.specs.declared.walk.Walk.{Walk}
@@ -16,11 +16,12 @@ use Rattle.derive_walk.specs.Paths.{IsLast, IsLed, IsClosing}
 use Rattle.derive_walk.specs.Noting.{IsNoteOf}
 use Rattle.derive_walk.specs.Settled.{HasSettled, HasSettledWhole, NodeHasStopped}
 use Rattle.derive_walk.specs.Told.{TakesSettled}
-use Rattle.derive_walk.specs.States.{IsFormedIn, HoldsIn, GoesOnFrom}
+use Rattle.derive_walk.specs.States.{heights_in, IsFormedIn, HoldsIn, GoesOnFrom}
 use Rattle.derive_walk.specs.Worlds.{World, IsWorld}
 use Rattle.derive_walk.proofs.ClosedLemmas.{whole_settled}
 use Rattle.derive_walk.proofs.NoteLemmas.{note_in, note_present, note_anew}
 use Rattle.derive_walk.proofs.Tables.{not_done}
+use Rattle.derive_walk.proofs.TellingLemmas.{note_tells}
 use Rattle.derive_walk.proofs.ToldLemmas.{told_source, told_settled, rightly_settled}
 use Rattle.derive_walk.proofs.Added.{KeepCalls, holds_with_done, holds_with_waiting, holds_with_wanted}
 use Rattle.derive_walk.proofs.FormedLemmas.{formed_with_done, formed_with_waiting, formed_with_wanted, settles_formed, stops_formed}
@@ -94,7 +95,8 @@ module _ (w : World) (walk : Walk) (led : IsLed w walk) (n : Node) {needed : Nee
       (inr (needs_stay w walk holds n height closing)) (met_here w walk n last led)
       (walk.fresh ++ note ∷ []) walk.renewed
       (rightly_settled w walk.fresh walk.renewed holds.rightly note (note_present w walk holds n height closing note noted.node noted.closed)
-      (note_anew w walk holds n height closing so.stepped note noted.node)) next takes.is
+      (note_anew w walk holds n height closing so.stepped note noted.node)
+      (note_tells w walk.done holds.done n whole height note noted (top_of (heights_in walk) closing.needs) (sym closing.above))) next takes.is
 
   module _ (call : Call) (so : NodeHasStopped w n (results_of walk.done) call) (wanted : List Call) (more : wanted ≡ put_in call walk.wanted) where
     pub wanted_holds : HoldsIn w (record walk { wanted = wanted })

@@ -56,7 +56,7 @@ new_is_right w root fits fit knows = record {
   knows = knows;
   root = fits;
   told = nothing_told w;
-  rightly = record { present = λ f i. absurd i; anew = λ f i. absurd i; current = λ r i. absurd i };
+  rightly = record { present = λ f i. absurd i; anew = λ f i. absurd i; tight = λ f i. absurd i; current = λ r i. absurd i; renewed_tight = λ r i. absurd i };
   done = record { each = λ n d e. some_is_none None d e cc; needs = λ n d e. some_is_none None d e cc; different = tt };
   met = λ n i. absurd i;
   wanted = λ call i. absurd i;

@@ -1,5 +1,5 @@
 -- What stays as more outcomes come: what is found, what is done, and what is wanted.
-use Rattle.std.proofs.Common.{◌≡◌, List, [], ◌∷◌, ◌++◌, ◌⊎◌, inl, inr, ap, subst, is_some}
+use Rattle.std.proofs.Common.{◌≡◌, List, [], ◌∷◌, ◌++◌, ◌⊎◌, inl, inr, sym, ap, subst, is_some, ◌≤◌}
 use Rattle.std.specs.Prelude.{Option, Some, None, IsSome, IfSome}
 use Rattle.object_values.specs.declared.nodes.Node.{Node}
 use Rattle.object_values.specs.declared.calls.Call.{Call}
@@ -17,13 +17,13 @@ use Rattle.meaning_derive.proofs.Lemmas.{derive_more, grows_to, kept, needs_at, 
 use Rattle.meaning_true.specs.Knowing.{KeptRecords, IsChecked}
 use Rattle.object_values.specs.declared.facts.Fresh.{Fresh}
 use Rattle.object_values.specs.declared.facts.RenewedNode.{RenewedNode}
-use Rattle.meaning_true.proofs.Lemmas.{truth_stays, knows_on, present_on, present_before}
+use Rattle.meaning_true.proofs.Lemmas.{truth_stays, tells_stay, knows_on, present_on, present_before}
 use Rattle.derive_walk.specs.declared.done.Done.{Done}
 use Rattle.derive_walk.specs.Tables.{Entries, done_in}
 use Rattle.derive_walk.specs.declared.found.Found.{Found}
 use Rattle.derive_walk.specs.declared.found.Found.TheVariants.{Answer, Circular, Deep}
 use Rattle.derive_walk.specs.Founds.{IsFound}
-use Rattle.derive_walk.specs.Told.{IsFreshIn, IsRenewedIn, AreTold, AreToldRightly}
+use Rattle.derive_walk.specs.Told.{IsFreshIn, IsRenewedIn, AreTold, noted_record, renewed_record, AreToldRightly}
 use Rattle.derive_walk.specs.Walks.{Walked, IsDone, AreDone, IsRight}
 use Rattle.derive_walk.specs.Worlds.{World, world, world_over, KnowsIn, IsNeedIn}
 
@@ -139,11 +139,17 @@ module _ (g : Graph) (s : Sources) (outcomes more : Outcomes) (has : HasMore out
       all = told.all;
     }
 
-    rightly_stays : KnowsIn before → (fresh : List Fresh) (renewed : List RenewedNode) → AreToldRightly before fresh renewed → AreToldRightly later fresh renewed
-    rightly_stays knows fresh renewed right = record {
+    rightly_stays : KnowsIn before → (done : Entries) → AreDone before done → (fresh : List Fresh) (renewed : List RenewedNode)
+        → AreTold before done fresh renewed → AreToldRightly before fresh renewed → AreToldRightly later fresh renewed
+    rightly_stays knows done are fresh renewed told right = record {
       present = λ f i. present_on g s outcomes more has f.fact (right.present f i);
       anew = λ f i k e now. right.anew f i k e (present_before g s outcomes more has f.fact k.fact (knows.each f.fact.node k e).0 (right.present f i) now);
+      tight = λ f i. tells_stay g s outcomes more has (noted_record f) (told.noted f i).notable.most (right.tight f i);
       current = λ r i k e. present_on g s outcomes more has k.fact (right.current r i k e);
+      renewed_tight = λ r i k e.
+          let so = told.kept r i in
+          let high : r.present.height ≤ height_limit = subst (λ h. h ≤ height_limit) (sym so.comes.height) (are.each r.node so.entry so.is).high in
+          tells_stay g s outcomes more has (renewed_record r.present k) high (right.renewed_tight r i k e);
     }
 
     -- ---- a walk
@@ -157,7 +163,7 @@ module _ (g : Graph) (s : Sources) (outcomes more : Outcomes) (has : HasMore out
       fit = fit;
       knows = knows_on g s outcomes more records has right.knows;
       told = told_stays walked.done walked.fresh walked.renewed right.told;
-      rightly = rightly_stays right.knows walked.fresh walked.renewed right.rightly;
+      rightly = rightly_stays right.knows walked.done right.done walked.fresh walked.renewed right.told right.rightly;
       root = right.root;
       done = are_done_stays walked.done right.done;
       met = λ n i. met_stays walked.root n (right.met n i);

@@ -19,8 +19,8 @@ of_this None h e = cc
 of_this (Some k) h e = ap Some ((Decides-eqb k h).0 e)
 
 -- where one of them has the height, the first is found
-tight_there : (done : Entries) (below : ℕ) (deps : List FactDep) (n : Node) → IsIn n (map (λ (d : FactDep). d.node) deps) → heights_of done [] n ≡ Some below
-    → IsTightAt done below deps (tight_in done below deps)
+pub tight_there : (done : Entries) (below : ℕ) (deps : List FactDep) (n : Node) → IsIn n (map (λ (d : FactDep). d.node) deps)
+    → heights_of done [] n ≡ Some below → IsTightAt done below deps (tight_in done below deps)
 tight_there done below [] n i e = absurd i
 tight_there done below (x ∷ deps) n i e = by_test (is_height below (heights_of done [] x.node)) refl (λ j. tight_there done below deps n j e) i
   where

@@ -7,10 +7,10 @@ use Rattle.object_values.specs.declared.facts.RenewedNode.{RenewedNode}
 use Rattle.meaning_texts.specs.Lists.{IsIn}
 use Rattle.meaning_texts.proofs.Lemmas.{some_is_none, in_left}
 use Rattle.meaning_derive.specs.Chains.{AreDifferent}
-use Rattle.meaning_true.specs.Knowing.{KeptRecord, IsChecked, IsPresent}
+use Rattle.meaning_true.specs.Knowing.{KeptRecord, IsChecked, IsPresent, TellsTight}
 use Rattle.derive_walk.specs.declared.done.Done.{Done}
 use Rattle.derive_walk.specs.Tables.{Entries, done_in}
-use Rattle.derive_walk.specs.Told.{IsFreshIn, IsRenewedIn, fresh_nodes, renewed_nodes, AreTold, IsPresentIn, AreToldRightly}
+use Rattle.derive_walk.specs.Told.{IsFreshIn, IsRenewedIn, fresh_nodes, renewed_nodes, AreTold, noted_record, renewed_record, IsPresentIn, AreToldRightly}
 use Rattle.derive_walk.specs.Worlds.{World}
 use Rattle.derive_walk.proofs.Tables.{push_keeps, push_new, push_from, different_push}
 
@@ -175,8 +175,8 @@ module _ (w : World) (done : Entries) (fresh : List Fresh) (renewed : List Renew
 
 module _ (w : World) (fresh : List Fresh) (renewed : List RenewedNode) (right : AreToldRightly w fresh renewed) where
   pub rightly_settled : (f : Fresh) → IsPresent w.graph w.sources w.outcomes f.fact → ((k : KeptRecord) → w.records f.fact.node ≡ Some k → ¬ IsPresentIn w k)
-      → AreToldRightly w (fresh ++ f ∷ []) renewed
-  rightly_settled f present anew = record {
+      → TellsTight w.graph w.sources w.outcomes (noted_record f) → AreToldRightly w (fresh ++ f ∷ []) renewed
+  rightly_settled f present anew tells = record {
     present = λ g i. elim (in_pushed g f fresh i) [
       | inl j ↦ right.present g j
       | inr e ↦ subst (λ (z : Fresh). IsPresent w.graph w.sources w.outcomes z.fact) (sym e) present
@@ -185,15 +185,29 @@ module _ (w : World) (fresh : List Fresh) (renewed : List RenewedNode) (right : 
       | inl j ↦ right.anew g j
       | inr e ↦ subst (λ (z : Fresh). (k : KeptRecord) → w.records z.fact.node ≡ Some k → ¬ IsPresentIn w k) (sym e) anew
     ];
+    tight = λ g i. elim (in_pushed g f fresh i) [
+      | inl j ↦ right.tight g j
+      | inr e ↦ subst (λ (z : Fresh). TellsTight w.graph w.sources w.outcomes (noted_record z)) (sym e) tells
+    ];
     current = right.current;
+    renewed_tight = right.renewed_tight;
   }
 
-  pub rightly_renewed : (r : RenewedNode) → ((k : KeptRecord) → w.records r.node ≡ Some k → IsPresentIn w k) → AreToldRightly w fresh (renewed ++ r ∷ [])
-  rightly_renewed r current = record {
+  pub rightly_renewed : (r : RenewedNode) → ((k : KeptRecord) → w.records r.node ≡ Some k → IsPresentIn w k)
+      → ((k : KeptRecord) → w.records r.node ≡ Some k → TellsTight w.graph w.sources w.outcomes (renewed_record r.present k))
+      → AreToldRightly w fresh (renewed ++ r ∷ [])
+  rightly_renewed r current tells = record {
     present = right.present;
     anew = right.anew;
+    tight = right.tight;
     current = λ g i. elim (in_pushed g r renewed i) [
       | inl j ↦ right.current g j
       | inr e ↦ subst (λ (z : RenewedNode). (k : KeptRecord) → w.records z.node ≡ Some k → IsPresentIn w k) (sym e) current
+    ];
+    renewed_tight = λ g i. elim (in_pushed g r renewed i) [
+      | inl j ↦ right.renewed_tight g j
+      | inr e ↦ subst
+          (λ (z : RenewedNode). (k : KeptRecord) → w.records z.node ≡ Some k → TellsTight w.graph w.sources w.outcomes (renewed_record z.present k))
+          (sym e) tells
     ];
   }

@@ -18,7 +18,7 @@ use Rattle.derive_walk.specs.Chains.{IsChainTo}
 use Rattle.derive_walk.specs.Tables.{node_in}
 use Rattle.derive_walk.specs.declared.walk.Walk.{Walk}
 use Rattle.derive_walk.specs.Worlds.{World, seen_in, IsNeedIn}
-use Rattle.derive_walk.specs.Founds.{IsFound, AllFit, NodesFit}
+use Rattle.derive_walk.specs.Founds.{IsFound, AllFit, NodesFit, IsChain, IsFitChain}
 use Rattle.derive_walk.specs.States.{heights_in, IsFormedIn, HoldsIn, GoesOnFrom, Visited, AfterVisit}
 use Rattle.derive_walk.specs.Paths.{IsChainFromRoot, IsPath, IsNext, IsLast, IsLed, LeadsTo}
 use Rattle.derive_walk.proofs.Tables.{different_push, in_push, at_end}
@@ -153,14 +153,19 @@ module _ (w : World) (old : Walk) (n : Node) where
       different = subst (λ l. AreDifferent l) (sym c.2) (different_push walk.path k so.path.different (not_in k walk.path c.0));
     }
 
+    is_chain : (found : Found) → IsChainTo walk.path k (Some found) → IsChain found
+    is_chain (Answer view) c = absurd c
+    is_chain (Circular chain) c = tt
+    is_chain (Deep chain) c = tt
+
     pub chained : Fits w.graph k → (LeadsTo w old n → IsNeedIn w n k) → (found : Found) → IsChainTo walk.path k (Some found)
-        → NodesFit w.graph found × (LeadsTo w old n → IsFound w.graph w.sources w.outcomes old.root found)
-    chained fits need found c = (chain_fits fits found c, λ to. chain_found to (need to) found c)
+        → IsFitChain w.graph found × (LeadsTo w old n → IsFound w.graph w.sources w.outcomes old.root found)
+    chained fits need found c = ((chain_fits fits found c, is_chain found c), λ to. chain_found to (need to) found c)
 
     -- a chain that was found from there
     pub found_further : (LeadsTo w old n → IsNeedIn w n k) → (found : Found)
-        → NodesFit w.graph found × (LeadsTo w walk k → IsFound w.graph w.sources w.outcomes walk.root found)
-        → NodesFit w.graph found × (LeadsTo w old n → IsFound w.graph w.sources w.outcomes old.root found)
+        → IsFitChain w.graph found × (LeadsTo w walk k → IsFound w.graph w.sources w.outcomes walk.root found)
+        → IsFitChain w.graph found × (LeadsTo w old n → IsFound w.graph w.sources w.outcomes old.root found)
     found_further need found after =
         (after.0, λ to. subst (λ z. IsFound w.graph w.sources w.outcomes z found) so.on.root (after.1 (leads_further to (need to))))
 

@@ -9,9 +9,10 @@ use Rattle.meaning_tasks.specs.Nodes.{Fits}
 use Rattle.meaning_derive.specs.Derive.{Sources, Outcomes}
 use Rattle.meaning_derive.specs.Given.{OutcomesFit}
 use Rattle.meaning_derive.specs.Laws.{HasMore}
-use Rattle.meaning_true.specs.Knowing.{KeptRecords}
+use Rattle.meaning_true.specs.Knowing.{KeptRecords, Knows}
 use Rattle.derive_walk.specs.declared.found.Found.{Found}
 use Rattle.derive_walk.specs.Founds.{IsFound, NodesFit}
+use Rattle.derive_walk.specs.Knowing.{records_with}
 use Rattle.derive_walk.specs.Looks.{HasMet}
 use Rattle.derive_walk.specs.Walks.{Walked, IsFormed, IsRight}
 use Rattle.derive_walk.specs.Worlds.{World, IsWorld, world_over}
@@ -63,3 +64,11 @@ RightIsFormed =
 -- ones, and each is met from the root.
 abbrev pub WalksHaveMet : Type 0
 WalksHaveMet = (w : World) (walked : Walked) → IsRight w walked → HasMet w walked
+
+-- ---- what is told
+
+-- Once what a walk tells is kept, all that is kept of nodes is known.
+abbrev pub ToldIsKnown : Type 0
+ToldIsKnown =
+    (w : World) (walked : Walked) → IsRight w walked
+    → Knows w.graph w.sources w.outcomes (records_with walked.fresh walked.renewed w.records)

@@ -8,6 +8,7 @@ pub mod Keeping
 pub mod Worlds
 pub mod NothingFits
 pub mod Told
+pub mod Knowing
 pub mod Founds
 pub mod Walks
 pub mod States

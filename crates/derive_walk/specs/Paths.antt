@@ -29,7 +29,7 @@ use Rattle.derive_walk.specs.declared.renewing.Recorded.{Recorded}
 use Rattle.derive_walk.specs.declared.renewing.Recorded.TheVariants.{Checked, Current}
 use Rattle.derive_walk.specs.CheckedRecords.{HasChecked, tight_node}
 use Rattle.derive_walk.specs.DerivedHeights.{heights_or}
-use Rattle.derive_walk.specs.Walks.{FindsOrWants}
+use Rattle.derive_walk.specs.Walks.{FindsOrWants, IsPlacedIn}
 use Rattle.derive_walk.specs.Worlds.{World, seen_in, IsNeedIn}
 
 -- a chain from the root
@@ -170,6 +170,7 @@ IsRound w walk n (Closes needed survey) = IsWholeRound w walk n needed survey
 -- After a walk from the root there is a result, or the root waits, where what is trusted holds.
 pub record AfterRoot (w : World) (trust : Type 0) (walk : Walk) (found : Option Found) : Type 0 where
   pub fit : IfSome found (NodesFit w.graph)
+  pub placed : IsPlacedIn walk.root walk.done found
   pub right : trust → FindsOrWants w walk.root walk.wanted found
 
 -- ---- chains

@@ -12,7 +12,7 @@ use Rattle.derive_walk.specs.Tables.{heights_of, height_in, results_of}
 use Rattle.derive_walk.specs.Calls.{AreOnce}
 use Rattle.derive_walk.specs.declared.found.Found.{Found}
 use Rattle.derive_walk.specs.declared.walk.Walk.{Walk}
-use Rattle.derive_walk.specs.Founds.{IsFound, NodesFit}
+use Rattle.derive_walk.specs.Founds.{IsFound, IsFitChain}
 use Rattle.derive_walk.specs.Walks.{AreFormedDone, AreFormedCalls, AreDone, AreMet}
 use Rattle.derive_walk.specs.Told.{AreTold, AreToldRightly}
 use Rattle.derive_walk.specs.Worlds.{World, KnowsIn, seen_in, IsNeedIn, StopsAtCall}
@@ -100,4 +100,4 @@ pub record Visited (w : World) (old new : Walk) (n : Node) : Type 0 where
 abbrev pub AfterVisit : World → Type 0 → Walk → Walk → Node → Option Found → Type 0
 AfterVisit w trust old new n None = Visited w old new n
 AfterVisit w trust old new n (Some found) =
-    NodesFit w.graph found × (trust → IsFound w.graph w.sources w.outcomes old.root found)
+    IsFitChain w.graph found × (trust → IsFound w.graph w.sources w.outcomes old.root found)

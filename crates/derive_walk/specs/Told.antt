@@ -1,5 +1,5 @@
 -- What a walk tells of the nodes with steps that got their results: what is noted of those that were settled, and what the records of the others came to.
-use Rattle.std.specs.Prelude.{◌≡◌, ◌≢◌, ◌⊎◌, List, [], ◌∷◌, ◌++◌, map, Some}
+use Rattle.std.specs.Prelude.{◌≡◌, ◌≢◌, ◌⊎◌, true, List, [], ◌∷◌, ◌++◌, map, Some}
 use Rattle.object_values.specs.declared.nodes.Node.{Node}
 use Rattle.object_values.specs.declared.records.Renewed.{Renewed}
 use Rattle.object_values.specs.declared.facts.Fresh.{Fresh}
@@ -8,7 +8,7 @@ use Rattle.meaning_texts.specs.Lists.{IsIn}
 use Rattle.meaning_derive.specs.Chains.{AreDifferent}
 use Rattle.meaning_records.specs.Batches.{IsNotable}
 use Rattle.meaning_true.specs.Facts.{RecordIsTrue}
-use Rattle.meaning_true.specs.Knowing.{KeptRecord, IsChecked, IsPresent}
+use Rattle.meaning_true.specs.Knowing.{KeptRecord, IsChecked, IsPresent, TellsTight}
 use Rattle.validator.specs.Fitting.{FactFits}
 use Rattle.derive_walk.specs.declared.done.Done.{Done}
 use Rattle.derive_walk.specs.declared.walk.Walk.{Walk}
@@ -57,18 +57,47 @@ pub record AreTold (w : World) (done : Entries) (fresh : List Fresh) (renewed : 
   pub all : (n : Node) (d : Done) → done_in done n ≡ Some d → n.steps ≢ []
       → IsChecked w.records n ⊎ (IsIn n (fresh_nodes fresh) ⊎ IsIn n (renewed_nodes renewed))
 
+-- ---- as records
+
+-- what is noted of a node, as a record that is checked
+abbrev pub noted_record : Fresh → KeptRecord
+noted_record f = record {
+  fact = f.fact;
+  status = f.present.status;
+  messages = f.present.messages;
+  height = f.present.height;
+  tight = f.present.tight;
+  checked = true;
+}
+
+-- a record that came to this
+abbrev pub renewed_record : Renewed → KeptRecord → KeptRecord
+renewed_record present k = record {
+  fact = k.fact;
+  status = present.status;
+  messages = present.messages;
+  height = present.height;
+  tight = present.tight;
+  checked = true;
+}
+
 -- ---- where what is kept is true
 
 abbrev pub IsPresentIn : World → KeptRecord → Type 0
 IsPresentIn w k = IsPresent w.graph w.sources w.outcomes k.fact
 
--- What is noted is over the present needs, and no record of its node is; each record that came to something is.
+-- What is noted is over the present needs, and no record of its node is; each record that came to something is. Each of both is at height 1, or
+-- tells the place of a dep that is just one lower.
 pub record AreToldRightly (w : World) (fresh : List Fresh) (renewed : List RenewedNode) : Type 0 where
   pub present : (f : Fresh) → IsIn f fresh → IsPresent w.graph w.sources w.outcomes f.fact
   pub anew : (f : Fresh) → IsIn f fresh → (k : KeptRecord) → w.records f.fact.node ≡ Some k
       → ¬ IsPresentIn w k
+  pub tight : (f : Fresh) → IsIn f fresh → TellsTight w.graph w.sources w.outcomes (noted_record f)
   pub current : (r : RenewedNode) → IsIn r renewed → (k : KeptRecord) → w.records r.node ≡ Some k
       → IsPresentIn w k
+  pub renewed_tight : (r : RenewedNode) → IsIn r renewed → (k : KeptRecord)
+      → w.records r.node ≡ Some k
+      → TellsTight w.graph w.sources w.outcomes (renewed_record r.present k)
 
 -- ---- one node more
 

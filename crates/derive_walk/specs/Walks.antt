@@ -2,6 +2,7 @@
 use Rattle.std.specs.Prelude.{◌≡◌, ◌≢◌, ◌↔◌, ◌⊎◌, ◌<◌, ◌≤◌, List, [], ◌∷◌, ◌++◌, Option, Some, None, IsSome, IfSome}
 use Rattle.object_values.specs.declared.nodes.Node.{Node}
 use Rattle.object_values.specs.declared.calls.Call.{Call}
+use Rattle.object_values.specs.declared.views.View.{View}
 use Rattle.object_values.specs.declared.calls.Outcome.{Outcome}
 use Rattle.object_values.specs.declared.facts.Fresh.{Fresh}
 use Rattle.object_values.specs.declared.facts.RenewedNode.{RenewedNode}
@@ -19,6 +20,7 @@ use Rattle.derive_walk.specs.declared.done.Done.{Done}
 use Rattle.derive_walk.specs.Tables.{Entries, done_in, done_nodes}
 use Rattle.derive_walk.specs.Calls.{GivenOutcomes, outcome_in, AreOnce}
 use Rattle.derive_walk.specs.declared.found.Found.{Found}
+use Rattle.derive_walk.specs.declared.found.Found.TheVariants.{Answer}
 use Rattle.derive_walk.specs.Founds.{IsFound, NodesFit}
 use Rattle.derive_walk.specs.Told.{AreTold, AreToldRightly}
 use Rattle.derive_walk.specs.Worlds.{World, KnowsIn, seen_in, IsNeedIn, StopsAtCall}
@@ -36,6 +38,10 @@ pub record Walked : Type 0 where
 
 abbrev pub new_walk : Node → Walked
 new_walk root = record { root = root; done = []; fresh = []; renewed = []; given = []; wanted = []; result = None }
+
+-- a root with steps whose view is found stands in the table
+abbrev pub IsPlacedIn : Node → Entries → Option Found → Type 0
+IsPlacedIn root done found = (view : View) → found ≡ Some (Answer view) → root.steps ≢ [] → IsSome (done_in done root)
 
 -- no wanted call was given an outcome
 abbrev pub AreApart : GivenOutcomes → List Call → Type 0

@@ -1,5 +1,5 @@
 //! Laws of walks. Each is the contract of a function with an empty body.
-ghost use Rattle.derive_walk.specs.Laws.{FoundStays, RightStays, FormedStays, FoundFits, WantedAreFormed, RightIsFormed, WalksHaveMet};
+ghost use Rattle.derive_walk.specs.Laws.{FoundStays, RightStays, FormedStays, FoundFits, WantedAreFormed, RightIsFormed, WalksHaveMet, ToldIsKnown};
 
 /// What is found stays, and so does a walk that is right or formed, as more outcomes come.
 pub fn more_keeps()
@@ -19,4 +19,9 @@ pub fn all_is_formed()
 /// What `counted` counts are different nodes that are met from the root.
 pub fn looks_are_of_nodes()
     ensures { WalksHaveMet }
+{}
+
+/// Once what a walk tells is kept, what is kept of nodes is true, and what was checked holds.
+pub fn told_is_known()
+    ensures { ToldIsKnown }
 {}

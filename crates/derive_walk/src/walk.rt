@@ -83,6 +83,28 @@ impl Walk {
             }
         }
     }
+
+    /// What is noted of the nodes that were settled, and what the records of others came to.
+    pub(crate) fn into_told(self) -> (Seq<Fresh>, Seq<RenewedNode>)
+        ensures fresh { result.0 ≡ self.fresh }
+        ensures renewed { result.1 ≡ self.renewed }
+    {
+        let Walk {
+            root,
+            done,
+            fresh,
+            renewed,
+            wanted,
+            waiting,
+            path,
+        } = self;
+        drop(root);
+        drop(done);
+        drop(wanted);
+        drop(waiting);
+        drop(path);
+        (fresh, renewed)
+    }
 }
 
 impl VisitedNodes for Walk {

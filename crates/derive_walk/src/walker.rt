@@ -12,7 +12,7 @@ ghost use Rattle.derive_walk.specs.Looks.{LooksAreFew, lost, met_by, met_in};
 ghost use Rattle.derive_walk.specs.Paths.{HasEmptyPath, AfterRoot};
 ghost use Rattle.derive_walk.specs.Settings.{IsSetting, MayGoBy, world_by, world_in};
 ghost use Rattle.derive_walk.specs.States.{IsFormedIn, HoldsIn, GoesOnFrom, heights_in};
-ghost use Rattle.derive_walk.specs.Walks.{IsFormed, IsRight, IsAdvanced, ExtendsWalk, OutcomeIsGiven, new_walk};
+ghost use Rattle.derive_walk.specs.Walks.{IsFormed, IsRight, IsAdvanced, IsPlacedIn, ExtendsWalk, OutcomeIsGiven, new_walk};
 ghost use Rattle.derive_walk.specs.Worlds.{World, IsWorld, KnowsIn};
 
 use crate::done::Table;
@@ -55,7 +55,7 @@ impl Drop for Walker {
 }
 
 impl Model for Walker {
-    ghost use Rattle.derive_walk.specs.Walks.{Walked, AreApart};
+    ghost use Rattle.derive_walk.specs.Walks.{Walked, AreApart, IsPlacedIn};
 
     ghost Value = { Walked };
 
@@ -69,7 +69,8 @@ impl Model for Walker {
       result = w.result;
     } };
 
-    ghost invariant = { λ w. AreApart w.given w.walk.wanted };
+    ghost invariant = { λ w. AreApart w.given w.walk.wanted
+        × IsPlacedIn w.walk.root w.walk.done w.result };
 }
 
 impl Walker {
@@ -194,6 +195,23 @@ impl Walker {
         drop(walk);
         drop(given);
         result
+    }
+
+    /// What is found, what is noted of the nodes that were settled, and what the records of others came to.
+    pub fn into_told(self) -> (Option<Found>, Seq<Fresh>, Seq<RenewedNode>)
+        ensures found { result.0 ≡ self.result }
+        ensures fresh { result.1 ≡ self.fresh }
+        ensures renewed { result.2 ≡ self.renewed }
+        ensures placed { IsPlacedIn self.root self.done self.result }
+    {
+        let Walker {
+            walk,
+            given,
+            result,
+        } = self;
+        drop(given);
+        let (fresh, renewed) = walk.into_told();
+        (result, fresh, renewed)
     }
 }
 

@@ -13,7 +13,7 @@ use Rattle.meaning_derive.specs.Laws.{HasMore}
 use Rattle.meaning_derive.proofs.Lemmas.{derive_more, same_height}
 use Rattle.object_values.specs.declared.facts.Fact.{Fact}
 use Rattle.meaning_true.specs.Facts.{needs_in}
-use Rattle.meaning_true.specs.Knowing.{KeptRecord, KeptRecords, view_kept, IsTight, Knows, IsPresent, no_records}
+use Rattle.meaning_true.specs.Knowing.{KeptRecord, KeptRecords, view_kept, IsTight, TellsTight, Knows, IsPresent, no_records}
 use Rattle.meaning_true.proofs.Settling.{truth_stays, has_result}
 use Rattle.meaning_true.proofs.Renewing.{dep_of, of_dep}
 use Rattle.meaning_true.proofs.Staying.{seen_on, stays_on}
@@ -29,7 +29,7 @@ nothing_known g s outcomes = record {
   tight = λ n k e checked. absurd (none_kept n k e);
 }
 
-module _ (g : Graph) (s : Sources) (outcomes more : Outcomes) (records : KeptRecords) (has : HasMore outcomes more) (knows : Knows g s outcomes records) where
+module _ (g : Graph) (s : Sources) (outcomes more : Outcomes) (has : HasMore outcomes more) where
   tight_stays : (k : KeptRecord) (place : ℕ) → k.height ≤ height_limit → IsTight g s outcomes k place → IsTight g s more k place
   tight_stays k place high t = record {
     dep = t.dep;
@@ -39,15 +39,17 @@ module _ (g : Graph) (s : Sources) (outcomes more : Outcomes) (records : KeptRec
     next = t.next;
   }
 
+  pub tells_stay : (k : KeptRecord) → k.height ≤ height_limit → TellsTight g s outcomes k → TellsTight g s more k
+  tells_stay k high (inl one) = inl one
+  tells_stay k high (inr t) = inr (t.0, t.1, tight_stays k t.0 high t.2)
+
+module _ (g : Graph) (s : Sources) (outcomes more : Outcomes) (records : KeptRecords) (has : HasMore outcomes more) (knows : Knows g s outcomes records) where
   pub knows_on : Knows g s more records
   knows_on = record {
     each = λ n k e. let is = knows.each n k e in (is.0, truth_stays g outcomes more has k.fact is.1);
     holds = λ n k e checked. stays_on g s outcomes more has k.fact (view_kept k) k.height (knows.holds n k e checked);
     closed = knows.closed;
-    tight = λ n k e checked. elim (knows.tight n k e checked) [
-      | inl one ↦ inl one
-      | inr t ↦ inr (t.0, t.1, tight_stays k t.0 (knows.holds n k e checked).high t.2)
-    ];
+    tight = λ n k e checked. tells_stay g s outcomes more has k (knows.holds n k e checked).high (knows.tight n k e checked);
   }
 
 -- ---- present results

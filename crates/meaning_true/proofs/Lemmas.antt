@@ -6,4 +6,4 @@ pub use Rattle.meaning_true.proofs.Renewing.{renews}
 -- The deps of a record, and what it gives over results that agree on them.
 pub use Rattle.meaning_true.proofs.Renewing.{counted_sub, dep_of, of_dep, view_same}
 -- What is known of records.
-pub use Rattle.meaning_true.proofs.Knowing.{knows_on, nothing_known, present_on, present_before}
+pub use Rattle.meaning_true.proofs.Knowing.{tells_stay, knows_on, nothing_known, present_on, present_before}

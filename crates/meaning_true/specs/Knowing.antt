@@ -46,14 +46,17 @@ pub record IsTight (g : Graph) (s : Sources) (outcomes : Outcomes) (k : KeptReco
   pub has : HasHeight g s outcomes dep.node height
   pub next : suc height ≡ k.height
 
+-- It is at height 1, or tells the place of a dep that is just one lower.
+abbrev pub TellsTight : Graph → Sources → Outcomes → KeptRecord → Type 0
+TellsTight g s outcomes k = (k.height ≡ 1) ⊎ ((place : ℕ) × (k.tight ≡ Some place) × IsTight g s outcomes k place)
+
 -- Each record is true beside the outcomes; one that is checked holds, and so are those of its deps with steps.
 pub record Knows (g : Graph) (s : Sources) (outcomes : Outcomes) (records : KeptRecords) : Type 0 where
   pub each : (n : Node) (k : KeptRecord) → records n ≡ Some k → (k.fact.node ≡ n) × RecordIsTrue g outcomes k.fact
   pub holds : (n : Node) (k : KeptRecord) → records n ≡ Some k → k.checked ≡ true → RecordHolds g s outcomes k.fact (view_kept k) k.height
   pub closed : (n : Node) (k : KeptRecord) → records n ≡ Some k → k.checked ≡ true
       → (d : FactDep) → IsIn d k.fact.deps → (d.node.steps ≡ []) ⊎ IsChecked records d.node
-  pub tight : (n : Node) (k : KeptRecord) → records n ≡ Some k → k.checked ≡ true
-      → (k.height ≡ 1) ⊎ ((place : ℕ) × (k.tight ≡ Some place) × IsTight g s outcomes k place)
+  pub tight : (n : Node) (k : KeptRecord) → records n ≡ Some k → k.checked ≡ true → TellsTight g s outcomes k
 
 -- No record is kept.
 abbrev pub no_records : KeptRecords

@@ -38,7 +38,7 @@ add-requires g c = not_waiting c.args.walk.now.done c.args.walk.now.waiting c.ar
 -- ---- too deep
 
 pub returns-then-survey-clause-after : goal.returns-then-survey-clause-after
-returns-then-survey-clause-after g c = (c.in_ok-chain.ensures.fit, c.in_ok-chain.ensures.deep)
+returns-then-survey-clause-after g c = ((c.in_ok-chain.ensures.fit, tt), c.in_ok-chain.ensures.deep)
 
 -- ---- a need waits
 

@@ -14,7 +14,7 @@ returns-then-is_empty-clause-after g c =
     let w = world_in g.K.Known.keeps c.args.setting.now in
     let found : IsFound w.graph w.sources w.outcomes c.args.walk.now.root (Answer c.in_ok-view.view) = source_found w c.args.walk.now.root
     (c.is_empty.ensures.0 c.if-is_empty.true) c.in_ok-view.view (rw c.graph.ensures at c.in_ok-view.ensures) in
-    record { fit = found_fits w c.requires.set c.args.walk.now.root c.requires.formed.root (Answer c.in_ok-view.view) found; right = λ holds. found }
+    record { fit = found_fits w c.requires.set c.args.walk.now.root c.requires.formed.root (Answer c.in_ok-view.view) found; placed = λ view is stepped. absurd (stepped (c.is_empty.ensures.0 c.if-is_empty.true)); right = λ holds. found }
 
 pub returns-then-is_some-clause-after : goal.returns-then-is_some-clause-after
 returns-then-is_some-clause-after g c = c.visited_root.ensures (world_in g.K.Known.keeps c.args.setting.now) c.requires.set c.requires.formed

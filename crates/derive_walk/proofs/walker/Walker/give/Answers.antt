@@ -12,8 +12,10 @@ given_so : (call : Call) (o : Outcome) (inside old : Walked) (given : Listed) (w
 given_so call o inside old given wanted same added fewer once = subst (λ (z : Walked). OutcomeIsGiven call o z (record inside { given = given; wanted = wanted })) same (record { root = refl; done = refl; fresh = refl; renewed = refl; given = added; wanted = fewer; once = once; result = refl })
 
 pub invariant_of-self-2 : goal.invariant_of-self-2
-invariant_of-self-2 c =
-    subst (λ l. AreApart l c.take.new.wanted) (sym c.in_ok-take.ensures.given) (apart_after c.args.call.now c.args.outcome c.self.inside.given c.self.inside.walk.wanted c.take.new.wanted c.in_ok-take.ensures.fewer c.self.invariant)
+invariant_of-self-2 c = (
+  subst (λ l. AreApart l c.take.new.wanted) (sym c.in_ok-take.ensures.given) (apart_after c.args.call.now c.args.outcome c.self.inside.given c.self.inside.walk.wanted c.take.new.wanted c.in_ok-take.ensures.fewer c.self.invariant.0),
+  c.self.invariant.1,
+)
 
 pub returns-clause-ok : goal.returns-clause-ok
 returns-clause-ok c = given_so c.args.call.now c.args.outcome _ _ _ _ c.self.view_is c.in_ok-take.ensures.given c.in_ok-take.ensures.fewer c.once.ensures
