@@ -14,7 +14,8 @@ use Rattle.object_values.specs.declared.facts.Fact.{Fact}
 use Rattle.object_values.specs.declared.views.Value.{Value}
 use Rattle.meaning_records.specs.Tables.{put_fact, put_facts}
 use Rattle.kept_records.specs.Records.{put_record, put_records, record_of, renew_record, renewed}
-use Rattle.kept_notes.specs.Facts.{IsNumberIn, IsRecordIn, IsSeenIn, dep_of, fact_of, facts_of, value_of, value_seen}
+use Rattle.meaning_true.specs.Numbered.{value_at, value_seen}
+use Rattle.kept_notes.specs.Facts.{IsNumberIn, IsRecordIn, IsSeenIn, contents_by, dep_of, fact_of, facts_of}
 
 -- ---- contents more
 
@@ -24,11 +25,11 @@ get_stays (c ∷ contents) more zero within = refl
 get_stays (c ∷ contents) more (suc number) within = get_stays contents more number (omega (arith, within))
 
 module _ (contents more : List Value) where
-  value_stays : (number : Option ℕ) → IsNumberIn (length contents) number → value_of (contents ++ more) number ≡ value_of contents number
+  value_stays : (number : Option ℕ) → IsNumberIn (length contents) number → value_at (contents_by (contents ++ more)) number ≡ value_at (contents_by contents) number
   value_stays None within = refl
   value_stays (Some number) within = get_stays contents more number within
 
-  seen_stays : (seen : Seen) → IsSeenIn (length contents) seen → value_seen (contents ++ more) seen ≡ value_seen contents seen
+  seen_stays : (seen : Seen) → IsSeenIn (length contents) seen → value_seen (contents_by (contents ++ more)) seen ≡ value_seen (contents_by contents) seen
   seen_stays Nothing within = refl
   seen_stays (Kept number) within = get_stays contents more number within
   seen_stays New within = absurd within

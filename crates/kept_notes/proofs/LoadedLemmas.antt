@@ -15,7 +15,8 @@ use Rattle.object_values.specs.declared.items.StoredRecord.{StoredRecord}
 use Rattle.object_values.specs.declared.views.Value.{Value}
 use Rattle.meaning_texts.specs.Limits.{height_limit}
 use Rattle.meaning_records.specs.Tables.{AreDepsOf, IsValueOf, MayBeNoted}
-use Rattle.kept_notes.specs.Facts.{IsNumberIn, IsRecordIn, IsSeenIn, dep_of, fact_of, value_of, value_seen}
+use Rattle.meaning_true.specs.Numbered.{value_at, value_seen}
+use Rattle.kept_notes.specs.Facts.{IsNumberIn, IsRecordIn, IsSeenIn, contents_by, dep_of, fact_of}
 use Rattle.kept_notes.specs.Loaded.{MayBeLoaded, is_abort, is_dep, is_number, is_valued, loaded_dep, loaded_deps, loaded_record, may_note, seen_of}
 
 abort_decides : (s : Status) → Decides (is_abort s) (s ≡ Abort)
@@ -44,11 +45,11 @@ get_is (c ∷ contents) zero within = refl
 get_is (c ∷ contents) (suc number) within = get_is contents number (omega (arith, within))
 
 module _ (contents : List Value) where
-  value_is : (number : Option ℕ) → is_number (length contents) number ≡ true → IsValueOf contents number (value_of contents number)
+  value_is : (number : Option ℕ) → is_number (length contents) number ≡ true → IsValueOf contents number (value_at (contents_by contents) number)
   value_is None test = refl
   value_is (Some number) test = get_is contents number (ltb-true number (length contents) test)
 
-  seen_is : (number : Option ℕ) → is_number (length contents) number ≡ true → IsValueOf contents number (value_seen contents (seen_of number))
+  seen_is : (number : Option ℕ) → is_number (length contents) number ≡ true → IsValueOf contents number (value_seen (contents_by contents) (seen_of number))
   seen_is None test = refl
   seen_is (Some number) test = get_is contents number (ltb-true number (length contents) test)
 

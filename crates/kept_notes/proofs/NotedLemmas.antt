@@ -20,7 +20,8 @@ use Rattle.meaning_records.specs.Batches.{IsNotable, fact_values, value_list}
 use Rattle.meaning_records.specs.Laws.{ReachedStandLast}
 use Rattle.meaning_records.specs.Tables.{IsShort, IsValueOf}
 use Rattle.kept_records.specs.Records.{renewed}
-use Rattle.kept_notes.specs.Facts.{IsNotedIn, IsNumberIn, IsRecordIn, dep_of, fact_of, fresh_of, value_of, value_seen}
+use Rattle.meaning_true.specs.Numbered.{value_at, value_seen}
+use Rattle.kept_notes.specs.Facts.{IsNotedIn, IsNumberIn, IsRecordIn, contents_by, dep_of, fact_of, fresh_of}
 use Rattle.kept_notes.specs.Loaded.{MayBeLoaded, loaded_record}
 use Rattle.kept_notes.proofs.FactLemmas.{fact_stays, record_later}
 use Rattle.kept_notes.proofs.LoadedLemmas.{loadable_says, loadable_within}
@@ -83,18 +84,18 @@ module _ (contents : List Value) (short : All IsShort contents) where
   one_short v (Some w) all (inl same) = subst IsShort (sym same) (all w refl)
   one_short v (Some w) all (inr none) = absurd none
 
-  number_short : (number : Option ℕ) (w : Value) → value_of contents number ≡ Some w → IsShort w
+  number_short : (number : Option ℕ) (w : Value) → value_at (contents_by contents) number ≡ Some w → IsShort w
   number_short None w at = absurd (none-some w at)
   number_short (Some n) w at = got_short contents short n w at
 
-  seen_short : (seen : Seen) (w : Value) → value_seen contents seen ≡ Some w → IsShort w
+  seen_short : (seen : Seen) (w : Value) → value_seen (contents_by contents) seen ≡ Some w → IsShort w
   seen_short Nothing w at = absurd (none-some w at)
   seen_short (Kept n) w at = got_short contents short n w at
   seen_short New w at = absurd (none-some w at)
 
   fact_short : (r : NodeRecord) → All IsShort (fact_values (fact_of contents r))
-  fact_short r = all_in IsShort (fact_values (fact_of contents r)) (λ v i. elim (in_either v (value_list (value_of contents r.value)) (flat_map (λ (d : FactDep). value_list d.value) (map (dep_of contents) r.deps)) i) [
-    | inl own ↦ one_short v (value_of contents r.value) (number_short r.value) own
+  fact_short r = all_in IsShort (fact_values (fact_of contents r)) (λ v i. elim (in_either v (value_list (value_at (contents_by contents) r.value)) (flat_map (λ (d : FactDep). value_list d.value) (map (dep_of contents) r.deps)) i) [
+    | inl own ↦ one_short v (value_at (contents_by contents) r.value) (number_short r.value) own
     | inr of_deps ↦
         let f = from_flat (λ (d : FactDep). value_list d.value) v (map (dep_of contents) r.deps) of_deps in
         let m = from_map (dep_of contents) f.0 r.deps f.1 in
@@ -110,7 +111,7 @@ module _ (contents : List Value) (short : All IsShort contents) where
   pub loaded_noted : ReachedStandLast → (stored : StoredRecord) → MayBeLoaded contents stored → IsNotedIn contents (loaded_record stored)
   loaded_noted law stored may =
       let says = loadable_says contents stored may in
-      let none = no_value stored.value (value_of contents stored.value) says.says.value in
+      let none = no_value stored.value (value_at (contents_by contents) stored.value) says.says.value in
       record {
         named = loadable_within contents stored may;
         may = record {
@@ -127,7 +128,7 @@ get_there [] n within = absurd (omega (arith, within))
 get_there (c ∷ contents) zero within = (c, refl)
 get_there (c ∷ contents) (suc n) within = get_there contents n (omega (arith, within))
 
-is_valued : (contents : List Value) (number : Option ℕ) → IsNumberIn (length contents) number → (IsNone (value_of contents number) → IsNone number) × (IsNone number → IsNone (value_of contents number))
+is_valued : (contents : List Value) (number : Option ℕ) → IsNumberIn (length contents) number → (IsNone (value_at (contents_by contents) number) → IsNone number) × (IsNone number → IsNone (value_at (contents_by contents) number))
 is_valued contents None within = (λ none. none, λ none. none)
 is_valued contents (Some n) within =
     let there = get_there contents n within in

@@ -10,29 +10,19 @@ use Rattle.object_values.specs.declared.facts.FactDep.{FactDep}
 use Rattle.object_values.specs.declared.facts.Fresh.{Fresh}
 use Rattle.object_values.specs.declared.views.Value.{Value}
 use Rattle.meaning_records.specs.Batches.{IsNotable}
+use Rattle.meaning_true.specs.Numbered.{Contents, dep_by, fact_by}
 
 -- ---- what a record says
 
-abbrev pub value_of : List Value → Option ℕ → Option Value
-value_of contents None = None
-value_of contents (Some number) = slice_get contents number
-
-abbrev pub value_seen : List Value → Seen → Option Value
-value_seen contents Nothing = None
-value_seen contents (Kept number) = slice_get contents number
-value_seen contents New = None
+-- the content of each number
+abbrev pub contents_by : List Value → Contents
+contents_by contents number = slice_get contents number
 
 abbrev pub dep_of : List Value → Dep → FactDep
-dep_of contents d = record { node = d.node; role = d.role; value = value_seen contents d.seen }
+dep_of contents = dep_by (contents_by contents)
 
 abbrev pub fact_of : List Value → NodeRecord → Fact
-fact_of contents r = record {
-  node = r.node;
-  deps = map (dep_of contents) r.deps;
-  value = value_of contents r.value;
-  own_status = r.own_status;
-  own_messages = r.own_messages;
-}
+fact_of contents = fact_by (contents_by contents)
 
 abbrev pub facts_of : List Value → List NodeRecord → List Fact
 facts_of contents = map (fact_of contents)

@@ -2,7 +2,7 @@
 ghost use Rattle.std.specs.Prelude.{◌≡◌, IfOk, length, map};
 ghost use Rattle.std.specs.List.{All};
 ghost use Rattle.object_values.specs.declared.records.Dep.{Dep as DepValue};
-ghost use Rattle.kept_notes.specs.Facts.{IsNumberIn, IsRecordIn, IsSeenIn, dep_of, fact_of, value_of, value_seen};
+ghost use Rattle.kept_notes.specs.Facts.{IsNumberIn, IsRecordIn, IsSeenIn, dep_of, fact_of};
 
 use kept_contents::ContentTable;
 use object_values::{Copied, Dep, Fact, FactDep, Memory, NodeRecord, Seen, Seq, Value};

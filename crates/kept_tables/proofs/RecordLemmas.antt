@@ -1,9 +1,10 @@
 -- Records of nodes, while contents come after the others and records are noted.
-use Rattle.std.proofs.Common.{◌≡◌, ◌∙◌, ℕ, List, [], ◌∷◌, ◌++◌, length, map, sym, ap, subst, refl}
-use Rattle.std.specs.Prelude.{OnErr, OnOk, Result, Ok, Err}
+use Rattle.std.proofs.Common.{◌≡◌, ◌∙◌, ℕ, Bool, true, false, cond, List, [], ◌∷◌, ◌++◌, length, map, sym, ap, subst, refl}
+use Rattle.std.specs.Prelude.{IfSome, OnErr, OnOk, Option, Some, None, Result, Ok, Err, option_map}
 use Rattle.std.specs.List.{All}
-use Rattle.std.proofs.lemmas.List.Elements.{All-append, All-cons, All-nil}
+use Rattle.std.proofs.lemmas.List.Elements.{All-append, All-cons, All-head, All-nil, All-tail}
 use Rattle.object_values.specs.declared.facts.Fresh.{Fresh}
+use Rattle.object_values.specs.contracts.nodes.NodePartialEq.TheImpl.{ghosts as node_eq}
 use Rattle.object_values.specs.declared.nodes.Node.{Node}
 use Rattle.object_values.specs.declared.records.NodeRecord.{NodeRecord}
 use Rattle.object_values.specs.declared.records.Renewed.{Renewed}
@@ -11,7 +12,7 @@ use Rattle.object_values.specs.declared.views.Value.{Value}
 use Rattle.meaning_records.specs.Batches.{IsNotable}
 use Rattle.meaning_records.specs.Tables.{Calls, IsShort, Tables, with_content}
 use Rattle.kept_records.specs.Laws.{nodes_of}
-use Rattle.kept_records.specs.Records.{put_record, put_records, renew_record}
+use Rattle.kept_records.specs.Records.{put_record, put_records, record_of, renew_record}
 use Rattle.kept_notes.specs.Facts.{IsNotedIn, IsRecordIn, facts_of, fresh_of}
 use Rattle.kept_notes.proofs.Lemmas.{all_named, all_notable, all_noted, all_noted_stay, facts_stay, put_all, put_all_all, renewed_all, renewed_noted}
 use Rattle.kept_tables.specs.Holdings.{AreNotedIn, Holding, MayRenew}
@@ -74,6 +75,27 @@ renewed_in kept node present epoch may are = record {
 -- nothing is noted over nothing
 pub nothing_noted : AreNotedIn [] []
 nothing_noted = record { short = All-nil IsShort; noted = All-nil (IsNotedIn []) }
+
+-- ---- the record of a node
+
+-- what is true of each record is so of that of a node
+record_all : (P : NodeRecord → Type 0) (node : Node) (records : List NodeRecord) → All P records → IfSome (record_of node records) P
+record_all P node [] all = tt
+record_all P node (r ∷ records) all = by (node_eq.eq node r.node) (record_all P node records (All-tail P r records all))
+  where
+    by : (t : Bool) → IfSome (record_of node records) P → IfSome (cond t (Some r) (record_of node records)) P
+    by true rest = All-head P r records all
+    by false rest = rest
+
+some_by : {A B : Type 0} (f : A → B) (P : B → Type 0) (found : Option A) (o : Option B) → option_map f found ≡ o → IfSome o P → IfSome found (λ x. P (f x))
+some_by f P None o same holds = tt
+some_by f P (Some x) o same holds = subst (λ q. IfSome q P) (sym same) holds
+
+pub found_named : {A : Type 0} (f : A → NodeRecord) (contents : List Value) (node : Node) (records : List NodeRecord) (found : Option A)
+    → option_map f found ≡ record_of node records → AreNotedIn contents records → IfSome found (λ x. IsRecordIn (length contents) (f x))
+found_named f contents node records found same noted =
+    some_by f (IsRecordIn (length contents)) found (record_of node records) same
+    (record_all (IsRecordIn (length contents)) node records (all_named contents records noted.noted))
 
 -- ---- records by other numbers
 

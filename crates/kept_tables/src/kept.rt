@@ -202,7 +202,7 @@ impl Kept {
 
     /// Lends the tables.
     pub fn looks(&self) -> Looks<'_>
-        ensures { result.kept.now.tables ≡ self.now.tables }
+        ensures { result.kept.now ≡ self.now }
     {
         Looks { kept: self }
     }

@@ -1,6 +1,9 @@
 // Tables that are lent to be looked at.
-ghost use Rattle.std.specs.Prelude.{◌≡◌, ◌↔◌, ◌+◌, ◌<◌, IfOk, IsTrue, Some, length, option_map, slice_get};
-ghost use Rattle.kept_records.specs.Records.{record_of};
+ghost use Rattle.std.specs.Prelude.{◌≡◌, ◌↔◌, ◌+◌, ◌<◌, All, IfOk, IfSome, IsTrue, Some, length, option_map, slice_get};
+ghost use Rattle.kept_notes.specs.Facts.{IsRecordIn, facts_of};
+ghost use Rattle.kept_records.specs.Records.{EachNodeOnce, record_of};
+ghost use Rattle.kept_tables.specs.Holdings.{fresh_in};
+ghost use Rattle.meaning_records.specs.Batches.{IsNotable};
 ghost use Rattle.meaning_records.specs.Numbers.{number_of};
 ghost use Rattle.meaning_records.specs.Tables.{kept_outcome};
 
@@ -41,10 +44,24 @@ impl<'a> Looks<'a> {
 
     /// The record of a node. It takes no memory.
     pub fn get(&self, node: &Node) -> Option<&'a NodeRecord>
-        ensures { option_map (λ r. r.now) result
+        ensures is { option_map (λ r. r.now) result
             ≡ record_of node.now self.now.kept.now.records.records }
+        ensures named { IfSome result (λ r.
+            IsRecordIn (length self.now.kept.now.tables.contents) r.now) }
     {
         self.kept.get(node)
+    }
+
+    /// What `Kept::records_fit` says.
+    pub fn records_fit(&self)
+        ensures says { self.now.kept.now.tables.records
+            ≡ facts_of self.now.kept.now.tables.contents self.now.kept.now.records.records }
+        ensures once { EachNodeOnce self.now.kept.now.records.records }
+        ensures named { All (IsRecordIn (length self.now.kept.now.tables.contents))
+            self.now.kept.now.records.records }
+        ensures may { All IsNotable (fresh_in self.now.kept.now) }
+    {
+        self.kept.records_fit();
     }
 
     /// Whether the content of a number is this value. It takes no memory.
@@ -53,6 +70,13 @@ impl<'a> Looks<'a> {
             ↔ (slice_get self.now.kept.now.tables.contents id ≡ Some value.now) }
     {
         self.kept.is(id, value)
+    }
+
+    /// How many contents there are.
+    pub fn contents(&self) -> u64
+        ensures { result ≡ length self.now.kept.now.tables.contents }
+    {
+        self.kept.contents()
     }
 
     /// The value that is the content of a number.

@@ -1,5 +1,5 @@
 // Records of nodes: each is looked for by its node, and says what it says by the numbers of contents.
-ghost use Rattle.std.specs.Prelude.{◌≡◌, ◌↔◌, ◌≤◌, [], All, IfOk, IsTrue, OnOk, length, option_map, slice_get};
+ghost use Rattle.std.specs.Prelude.{◌≡◌, ◌↔◌, ◌≤◌, [], All, IfOk, IfSome, IsTrue, OnOk, length, option_map, slice_get};
 ghost use Rattle.kept_notes.specs.Facts.{IsNotedIn, IsRecordIn, fact_of, facts_of};
 ghost use Rattle.kept_notes.specs.Loaded.{MayBeLoaded};
 ghost use Rattle.kept_records.specs.Records.{EachNodeOnce, put_record, put_records, record_of, renew_record};
@@ -15,7 +15,9 @@ use std::alloc::Global;
 impl Kept {
     /// The record of a node. It takes no memory.
     pub fn get(&self, node: &Node) -> Option<&NodeRecord>
-        ensures { option_map (λ r. r.now) result ≡ record_of node.now self.now.records.records }
+        ensures is { option_map (λ r. r.now) result ≡ record_of node.now self.now.records.records }
+        ensures named { IfSome result (λ r.
+            IsRecordIn (length self.now.tables.contents) r.now) }
     {
         self.records.get(node)
     }

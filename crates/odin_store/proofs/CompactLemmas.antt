@@ -1,7 +1,6 @@
 -- What a compaction makes of a store, and what it leaves of what was kept.
 use Rattle.std.proofs.Common.{◌≡◌, ◌⊎◌, inl, inr, ℕ, ◌+◌, ◌-◌, ◌*◌, ◌<◌, ◌≤◌, List, [], ◌∷◌, ◌++◌, length, map, All, length-append, cond, Option, Some, Bool, true, false, IsTrue, IsFalse, nat_lt, refl, sym, ap, subst, ◌∙◌, arith, rules}
 use Rattle.std.proofs.lemmas.List.{take_all}
-use Rattle.std.proofs.lemmas.List.Elements.{All-nil, All-cons, All-head, All-tail}
 use Rattle.odin_outside.specs.Disk.{Telling, MayLeave, LeavesOnly}
 use Rattle.odin_outside.specs.Moments.{no_call, then, weaker}
 use Rattle.object_values.specs.declared.views.Value.{Value}
@@ -32,6 +31,7 @@ use Rattle.odin_store.specs.Opening.{graph_record, EndsFirst, LeavesHeld, Leaves
 use Rattle.odin_store.proofs.OpenLemmas.{opening_keeps_held}
 use Rattle.odin_store.specs.Compacting.{IsWasteful, AreLiveRecords, Compacts, HasLive, LeavesCompacted, StaysInMemory, live_of}
 use Rattle.odin_store.proofs.GoingLemmas.{nothing_behind}
+use Rattle.odin_store.proofs.FitLemmas.{of_some}
 use Rattle.odin_store.proofs.RecordTrails.{rests_leave}
 use Rattle.odin_store.proofs.StoreLemmas.{counted, stands_in}
 
@@ -71,17 +71,6 @@ first_not_wasteful graph store same ends wasteful =
     absurd (omega arith)
 
 -- ---- the records
-
--- what is true of all is true of each that is one of them
-of_one : {A : Type 0} (P : A → Type 0) (all : List A) (x : A) → All P all → IsIn x all → P x
-of_one P [] x each here = absurd here
-of_one P (y ∷ ys) x each (inl is) = subst P (sym is) (All-head P y ys each)
-of_one P (y ∷ ys) x each (inr more) = of_one P ys x (All-tail P y ys each) more
-
-of_some : {A : Type 0} (P : A → Type 0) (all some : List A) → All P all → All (λ x. IsIn x all) some → All P some
-of_some P all [] each are = All-nil P
-of_some P all (x ∷ xs) each are =
-    All-cons P x xs (of_one P all x each (All-head (λ x. IsIn x all) x xs are)) (of_some P all xs each (All-tail (λ x. IsIn x all) x xs are))
 
 -- the last of each node fit where all that was noted does
 live_fit : LastWereNoted → (disk : Telling) (store : Store) (before : List (List ℕ)) (graph : Option Text) → IsOn disk store before graph

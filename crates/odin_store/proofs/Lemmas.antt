@@ -10,7 +10,7 @@ pub use Rattle.odin_store.proofs.KeepingLemmas.{same_held, same_on, opens_same}
 pub use Rattle.odin_store.proofs.CompactLemmas.{first_not_wasteful, held_leaves}
 -- What is noted after the graph of an opening.
 pub use Rattle.odin_store.proofs.OpenLemmas.{first_noted}
--- After an edit nothing counts as checked at the epoch.
-pub use Rattle.odin_store.proofs.StampLemmas.{none_checked}
+-- After an edit nothing counts as checked at the epoch, and a compaction leaves unchecked what is.
+pub use Rattle.odin_store.proofs.StampLemmas.{none_checked, unchecked_stays, unstamped_at}
 -- Where nothing is begun.
 pub use Rattle.odin_store.proofs.RecordTrails.{nothing_first}

@@ -1,5 +1,6 @@
 mod BatchLemmas
 mod CompactLemmas
+mod FitLemmas
 mod GoingLemmas
 mod KeepingLemmas
 mod LoadLemmas

@@ -305,12 +305,12 @@ made_of old mid records end reads quiet opened = by opened.stored
     by (inl new) = inl (new.0, opened.made new.0)
     by (inr store) = inr (store.1.written, (reads quiet (λ is_new. new_or_written old.seen is_new store.1.written)).same)
 
-abbrev NotedFits : Text → Option Text → List Fact → Type 0
-NotedFits text last noted = (g : Graph) → GraphText text g → counts text last ≡ true → All (FactFits g) noted
+abbrev CountedFits : Text → Option Text → List Fact → Type 0
+CountedFits text last noted = (g : Graph) → GraphText text g → counts text last ≡ true → All (FactFits g) noted
 
 -- the store keeps the text of the graph
-fit_own : (graph : Text) (store_ : Store) (last : Option Text) (noted : List Fact) → store_.graph ≡ graph → NotedFits graph last noted → NotedFits store_.graph last noted
-fit_own graph store_ last noted kept fit = subst (λ t. NotedFits t last noted) (sym kept) fit
+fit_own : (graph : Text) (store_ : Store) (last : Option Text) (noted : List Fact) → store_.graph ≡ graph → CountedFits graph last noted → CountedFits store_.graph last noted
+fit_own graph store_ last noted kept fit = subst (λ t. CountedFits t last noted) (sym kept) fit
 
 own_held : (graph : Text) (store_ : Store) (last : Option Text) (noted : List Fact) → store_.graph ≡ graph → last ≡ Some graph → held_in store_ ≡ held_of graph (state_in store_ last noted)
 own_held graph store_ last noted kept is = sym (held_is store_ last noted (is ∙ ap Some (sym kept))) ∙ ap (λ t. held_of t (state_in store_ last noted)) kept
@@ -329,7 +329,7 @@ pub opens_known : (graph : Text) (old mid : Telling) (store_ : Store) (records :
     → ReadsAll nothing records state → NotedFit graph state → Works 66 (16 + 2 * length records) old mid → store_.journal ≡ journal_ → store_.graph ≡ graph → state_in store_ state.graph state.noted ≡ state → state.graph ≡ Some graph → store.OpensQuietStore graph old mid store_
 opens_known graph old mid store_ records journal_ state reads opens starts read fit works same kept holds known quiet =
     let opened = opens quiet in
-    let fits : NotedFit store_.graph (state_in store_ (Some graph) state.noted) = fit_own graph store_ (Some graph) state.noted kept (subst (λ l. NotedFits graph l state.noted) known fit) in
+    let fits : NotedFit store_.graph (state_in store_ (Some graph) state.noted) = fit_own graph store_ (Some graph) state.noted kept (subst (λ l. CountedFits graph l state.noted) known fit) in
     record {
       records = records;
       state = state;

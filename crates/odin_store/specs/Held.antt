@@ -1,5 +1,5 @@
 -- What a store holds, as its users see it, and how it changes.
-use Rattle.std.specs.Prelude.{◌≡◌, ◌≢◌, ⊤, ℕ, Bool, true, false, cond, bytes_eq, List, [], ◌∷◌, ◌++◌, Option, Some, None, IsSome}
+use Rattle.std.specs.Prelude.{◌≡◌, ◌≢◌, ⊤, ℕ, Bool, true, false, cond, bytes_eq, List, [], ◌∷◌, ◌++◌, Option, Some, None, IsSome, IsTrue}
 use Rattle.std.specs.FinMap as map
 use Rattle.std.specs.List.{All}
 use Rattle.object_values.specs.declared.calls.Call.{Call}
@@ -11,7 +11,7 @@ use Rattle.meaning_graph.specs.Grammar.{GraphText}
 use Rattle.meaning_records.specs.Tables.{Calls, put_facts}
 use Rattle.meaning_records.specs.States.{State}
 use Rattle.meaning_records.specs.Stands.{Stands}
-use Rattle.validator.specs.Fitting.{FactFits}
+use Rattle.validator.specs.Fitting.{FactFits, fact_fits}
 
 -- the text of the graph for which it is held, the sources, the kept calls with their outcomes in the order in which they were kept, and what is noted of
 -- nodes and counts: the last of each since that graph
@@ -33,6 +33,14 @@ held_of text state = record { text = text; sources = state.sources; calls = stat
 -- All that was noted since the last graph fits the graph of the text, where it counts.
 abbrev pub NotedFit : Text → State → Type 0
 NotedFit text state = (g : Graph) → GraphText text g → counts text state.graph ≡ true → All (FactFits g) state.noted
+
+-- all that it has of nodes fits the graph of its text
+abbrev pub NotedFits : Text → List Fact → Type 0
+NotedFits text facts = (g : Graph) → GraphText text g → All (FactFits g) facts
+
+-- the same by a test that computes
+abbrev pub NotedPass : Text → List Fact → Type 0
+NotedPass text facts = (g : Graph) → GraphText text g → All (λ (fact : Fact). IsTrue (fact_fits g fact)) facts
 
 -- A change: a source gets a text or goes, a call is kept with its outcome, or facts are noted of nodes.
 pub data Change : Type 0 where

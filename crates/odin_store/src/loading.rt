@@ -1,7 +1,8 @@
 // The loading of a store's records, one after another, for the graph of a text.
-ghost use Rattle.std.specs.Prelude.{◌≡◌, ◌-◌, IfOk, IfErr, IfSome, IfNone, IsTrue, IsFalse, OnSome, Some, false, true};
+ghost use Rattle.std.specs.Prelude.{◌≡◌, ◌-◌, [], IfOk, IfErr, IfSome, IfNone, IsTrue, IsFalse, OnSome, Some, false, true};
 ghost use Rattle.meaning_records.specs.Images.{gate_after};
 ghost use Rattle.meaning_records.specs.States.{nothing};
+ghost use Rattle.meaning_records.specs.Tables.{without_records};
 ghost use Rattle.odin_store.specs.declared.loading.Ground.TheVariants as ground_is;
 ghost use Rattle.odin_store.specs.Loading.{HasRead, IsForSame, IsGround, IsPast, IsRecordLoadFault, Loads, LoadsNot, NotesFact, Past, Refuses, StaysUnchecked, TakesIn, TakesItem, TakesNoItem, TellsLast, TellsUnfit, after_graph, no_past, records_size, state_of};
 ghost use Rattle.odin_store.specs.Stamps.{AreUnchecked};
@@ -85,6 +86,15 @@ impl<'a> Loading<'a> {
             Ground::This(unfit) => unfit,
             _ => None,
         }
+    }
+
+    /// Forgets all that was noted of nodes.
+    pub fn forget_records(&mut self)
+        ensures tables { self.new.kept.tables ≡ without_records self.old.kept.tables }
+        ensures records { self.new.kept.records.records ≡ [] }
+        ensures sources { self.new.sources ≡ self.old.sources }
+    {
+        self.kept.forget_records();
     }
 
     /// The tables and the sources.

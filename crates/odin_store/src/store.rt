@@ -11,23 +11,24 @@ ghost use Rattle.meaning_records.specs.Batches.{drop_batch, facts_of, graph_batc
 ghost use Rattle.meaning_records.specs.States.{spell_batch};
 ghost use Rattle.kept_records.specs.Records.{renew_record};
 ghost use Rattle.kept_tables.specs.Holdings.{MayRenew, PreparesSome};
-ghost use Rattle.odin_store.specs.Held.{puts, drops, keeps, notes};
+ghost use Rattle.odin_store.specs.Held.{NotedFits, NotedPass, puts, drops, keeps, notes};
 ghost use Rattle.odin_store.specs.Stamps.{AreStampedBy, AreUnchecked};
 
 use crate::loading::{Loading, first_gate, load_records};
 use kept_tables::{Kept, Prepared};
 use meaning_graph::text_laws::graph_is_one;
-use meaning_records::laws::{batches_read, reads_in_one_way};
+use meaning_records::laws::{batches_read, last_were_noted, reads_in_one_way};
 use object_values::{Bytes, Call, Copied, Fresh, Memory, Node, Outcome, Renewed, Sources, Text};
 use odin_bytes::{Name, put_bytes, put_u8};
 use odin_journal::{Journal, JournalFault};
 use odin_outside::Disk;
 use std::alloc::Global;
 use type_graph::Graph;
+use validator::laws::fitting_is_tested;
 
 /// Sources, kept calls and records of nodes, for a graph, over a disk that is lent call by call: the one of the opening, as the last call left it. After
-/// a fault of the disk it is spent. Whatever its file had, the sources are names with texts of at most 16,777,216 bytes, and no record of a node counts
-/// as checked after the epoch.
+/// a fault of the disk it is spent. Whatever its file had, the sources are names with texts of at most 16,777,216 bytes, no record of a node counts as
+/// checked after the epoch, and all that it has of nodes fits the graph of its text.
 pub struct Store {
     pub(crate) journal: Journal,
     pub(crate) kept: Kept,
@@ -36,6 +37,7 @@ pub struct Store {
     epoch: u64,
     ghost are: { AreSources sources.texts },
     ghost stamped: { AreStampedBy epoch kept.records.records },
+    ghost fits: { NotedPass graph kept.tables.records },
 }
 
 impl Drop for Store {
@@ -81,9 +83,10 @@ impl Store {
     {
         graph_is_one();
         reads_in_one_way();
+        last_were_noted();
         let (mut journal, records) = Journal::open(alloc, disk)?;
         let start = first_gate(journal.end(), records.as_slice());
-        let loading = load_records(alloc, graph, text, records, start)?;
+        let mut loading = load_records(alloc, graph, text, records, start)?;
         let kept = graph_text(alloc, text)?;
         if loading.has_graph() {
             let known = Store::of(journal, loading, kept);
@@ -91,8 +94,8 @@ impl Store {
         }
         let payload = graph_payload(alloc, text)?;
         journal.append(alloc, disk, payload.as_slice())?;
-        let mut added = Store::of(journal, loading, kept);
-        added.kept.forget_records();
+        loading.forget_records();
+        let added = Store::of(journal, loading, kept);
         Ok(added)
     }
 
@@ -100,11 +103,13 @@ impl Store {
     fn of(journal: Journal, loading: Loading<'_>, graph: Text) -> Store
         requires sources { AreSources loading.sources.texts }
         requires unchecked { AreUnchecked loading.kept.records.records }
+        requires fits { NotedFits graph loading.kept.tables.records }
         ensures journal { result.journal ≡ journal }
         ensures kept { result.kept ≡ loading.entry.kept }
         ensures sources { result.sources ≡ loading.entry.sources }
         ensures opened { IsOpened graph result }
     {
+        fitting_is_tested();
         let (kept, sources) = loading.into_parts();
         Store {
             journal,
@@ -231,6 +236,7 @@ impl Store {
         reads_in_one_way();
         batches_read();
         graph_is_one();
+        fitting_is_tested();
         if fresh.is_empty() {
             return Ok(());
         }
@@ -273,6 +279,13 @@ impl Store {
     pub fn stamps_fit(&self)
         ensures { AreStampedBy self.now.epoch self.now.kept.records.records }
     {}
+
+    /// What the store has of nodes fits the graph of its text, whatever its file had.
+    pub fn facts_fit(&self)
+        ensures { NotedFits self.now.graph self.now.kept.tables.records }
+    {
+        fitting_is_tested();
+    }
 
     /// Where the closed gate stands that ends the records.
     pub fn end(&self) -> u64

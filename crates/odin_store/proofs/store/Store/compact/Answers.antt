@@ -8,6 +8,7 @@ use Rattle.kept_notes.specs.Facts.{fresh_of}
 use Rattle.kept_tables.specs.Holdings.{fresh_in}
 use Rattle.odin_store.specs.Compacting.{AreLiveRecords, StaysInMemory}
 use Rattle.odin_store.specs.OnDisk.{held_in}
+use Rattle.odin_store.proofs.FitLemmas.{same_fit}
 use Rattle.odin_store.proofs.StampLemmas.{same_stamped}
 use Rattle.odin_store.proofs.StoreLemmas.{held_with}
 use Rattle.odin_store.proofs.CompactLemmas.{may_be_sources, nothing_compacted, copy_lives, replaced, replaced_leaves, compacts}
@@ -118,4 +119,10 @@ pub invariant_of-self-2 : goal.invariant_of-self-2
 invariant_of-self-2 g c =
     let store = c.args.self.now in
     let checked = c.renumber.ensures.checked ∙ ap (λ (s : RecordStock). map (λ (r : NodeRecord). r.checked) s.records) c.copy_live.ensures.records in
-    record { are = store.are; stamped = same_stamped store.epoch store.kept.records.records c.renumber.new.self.records.records checked store.stamped }
+    let records : c.renumber.new.self.tables.records ≡ store.kept.tables.records =
+    c.renumber.ensures.records ∙ ap (λ (t : Tables). t.records) c.copy_live.ensures.tables in
+    record {
+      are = store.are;
+      stamped = same_stamped store.epoch store.kept.records.records c.renumber.new.self.records.records checked store.stamped;
+      fits = same_fit store.graph store.graph store.kept.tables.records c.renumber.new.self.tables.records refl records store.fits;
+    }

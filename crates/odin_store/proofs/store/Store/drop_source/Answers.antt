@@ -73,6 +73,7 @@ invariant_of-self-2 g c =
     record {
       are = subst AreSources (sym removed) (drop_stays texts c.args.name.now store.are);
       stamped = later_stamped store.epoch (store.epoch + 1) store.kept.records.records (omega arith) store.stamped;
+      fits = store.fits;
     }
 
 pub returns-in_err-append-clause-begins : goal.returns-in_err-append-clause-begins

@@ -1,6 +1,8 @@
-use Rattle.std.proofs.Common.{◌≡◌, refl, ◌∙◌}
-use Rattle.odin_store.specs.Held.{keeps}
+use Rattle.std.proofs.Common.{◌≡◌, refl, sym, ap, subst, ◌∙◌}
+use Rattle.odin_store.specs.Held.{Held, keeps}
 use Rattle.odin_store.specs.Changes.{CallBatch}
+use Rattle.odin_store.specs.Stamps.{AreStampedBy}
+use Rattle.odin_store.proofs.FitLemmas.{same_fit}
 use Rattle.odin_store.proofs.StoreLemmas.{leaves_same}
 use Rattle.odin_store.proofs.StampLemmas.{nothing_noted}
 use Rattle.odin_store.proofs.ReadyLemmas.{begins_none, call_ready, ready_leaves, ready_begins, ready_adds, ready_holds}
@@ -75,3 +77,19 @@ returns-clause-begins g c =
 pub returns-in_err-prepared-clause-begins : goal.returns-in_err-prepared-clause-begins
 returns-in_err-prepared-clause-begins g c =
     begins_none (CallBatch c.args.self.now c.args.call.now c.args.outcome.now) c.args.self.now (g.D.Disk.told c.args.disk.now) (λ image follows left. g.met.D.Disk.only_now c.args.disk.now image follows left)
+
+pub invariant_of-self-2 : goal.invariant_of-self-2
+invariant_of-self-2 g c =
+    let store = c.args.self.now in
+    let call = c.args.call.now in
+    let outcome = c.args.outcome.now in
+    let prepared = c.in_ok-prepared.prepared in
+    let batch = c.in_ok-prepared.ensures.ok in
+    let ready = call_ready c.reads_in_one_way.ensures call outcome store c.prepare_call.new.self prepared c.prepare_call.ensures.same c.requires.new batch in
+    let holds = ready_holds (CallBatch store call outcome) (keeps call outcome) store prepared.payload c.framed.result.now batch.2.next store.sources.texts ready c.framed.ensures c.commit.new.self.tables store.sources.texts (c.commit.ensures.tables batch.2.next batch.2.commits) refl in
+    let nodes = nothing_noted prepared.notes c.prepare_call.new.self.records.records c.commit.new.self.records.records c.commit.ensures.records c.in_ok-prepared.ensures.notes ∙ c.prepare_call.ensures.records in
+    record {
+      are = store.are;
+      stamped = subst (AreStampedBy store.epoch) (sym nodes) store.stamped;
+      fits = same_fit store.graph store.graph store.kept.tables.records c.commit.new.self.tables.records refl (ap (λ (h : Held). h.records) holds) store.fits;
+    }

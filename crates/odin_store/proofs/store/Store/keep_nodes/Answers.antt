@@ -3,8 +3,9 @@ use Rattle.kept_records.specs.Records.{put_records}
 use Rattle.std.proofs.lemmas.Grind.{common_steps}
 use Rattle.std.proofs.lemmas.Bool.Decides.{nat_tests}
 use Rattle.meaning_records.specs.Batches.{facts_of}
-use Rattle.odin_store.specs.Held.{notes}
+use Rattle.odin_store.specs.Held.{Held, notes}
 use Rattle.odin_store.specs.Changes.{NotesBatch}
+use Rattle.odin_store.proofs.FitLemmas.{noted_fit}
 use Rattle.odin_store.proofs.StampLemmas.{noted_stamped}
 use Rattle.odin_store.proofs.StoreLemmas.{leaves_same}
 use Rattle.odin_store.proofs.NoteLemmas.{in_memory}
@@ -96,7 +97,19 @@ returns-then-is_empty-clause-begins g c =
 pub invariant_of-self-2 : goal.invariant_of-self-2
 invariant_of-self-2 g c =
     let store = c.args.self.now in
-    let notes = c.in_ok-prepared.prepared.notes in
+    let noted = c.in_ok-prepared.prepared.notes in
     let new = c.commit.new.self.records.records in
-    let is : new ≡ put_records notes store.kept.records.records = c.commit.ensures.records ∙ ap (put_records notes) c.prepare_nodes.ensures.records in
-    record { are = store.are; stamped = noted_stamped store.epoch notes store.kept.records.records new is c.in_ok-prepared.ensures.notes.checked store.stamped }
+    let is : new ≡ put_records noted store.kept.records.records = c.commit.ensures.records ∙ ap (put_records noted) c.prepare_nodes.ensures.records in
+    let fresh = c.args.fresh.now in
+    let prepared = c.in_ok-prepared.prepared in
+    let batch = c.in_ok-prepared.ensures.ok in
+    let some : fresh ≢ [] = λ empty. grind (arith, common_steps, nat_tests) in
+    let ready = notes_ready c.reads_in_one_way.ensures c.batches_read.ensures c.graph_is_one.ensures fresh store (g.D.Disk.size_of c.args.disk.now) c.prepare_nodes.new.self prepared some c.requires c.prepare_nodes.ensures.same batch in
+    let holds = ready_holds (NotesBatch store fresh) (notes (facts_of fresh)) store prepared.payload c.framed.result.now batch.2.next store.sources.texts ready c.framed.ensures c.commit.new.self.tables store.sources.texts (c.commit.ensures.tables batch.2.next batch.2.commits) refl in
+    record {
+      are = store.are;
+      stamped = noted_stamped store.epoch noted store.kept.records.records new is c.in_ok-prepared.ensures.notes.checked store.stamped;
+      fits =
+          noted_fit c.fitting_is_tested.ensures c.graph_is_one.ensures store.graph c.requires.graph c.requires.spelled (facts_of fresh) store.kept.tables.records c.commit.new.self.tables.records
+          (ap (λ (h : Held). h.records) holds) c.requires.fit store.fits;
+    }

@@ -9,13 +9,16 @@ use Rattle.odin_journal.specs.Moments.{Works}
 use Rattle.odin_journal.specs.Rest.{AddsRecord, KeepsOrAdds, RestsOnMore}
 use Rattle.odin_journal.specs.declared.journal.Journal.{Journal}
 use Rattle.odin_journal.specs.declared.fault.JournalFault.TheVariants as fault
+use Rattle.meaning_derive.specs.Given.{AreSources}
 use Rattle.meaning_records.specs.States.{State}
 use Rattle.meaning_records.specs.Tables.{Tables, without_records}
 use Rattle.kept_tables.specs.Holdings.{Holding}
+use Rattle.odin_store.specs.Held.{NotedFits}
 use Rattle.odin_store.specs.Loading.{state_of, records_size}
 use Rattle.odin_store.specs.OnDisk.{state_in}
 use Rattle.odin_store.specs.Opening.{graph_record, IsOpened, IsStoreOpenFault}
 use Rattle.odin_store.specs.Stamps.{AreUnchecked}
+use Rattle.odin_store.proofs.FitLemmas.{loaded_fit, none_fit}
 use Rattle.odin_store.proofs.StoreLemmas.{state_with, handed}
 use Rattle.odin_store.proofs.SourceLemmas.{sources_read}
 use Rattle.odin_store.proofs.OpenLemmas.{records_stay, graph_added, journal_fault, load_fault, memory_fault, add_fault, refused_of, with_graph, all_fit, has_it, has_other, opens_known, opens_added}
@@ -129,9 +132,9 @@ returns-clause-opened g c =
     let state : State = state_of c.in_ok-loading.loading read.past in
     let answered : IsFalse c.has_graph.result = search rules in
     let store = c.of-added.result in
-    let forgotten : c.forget_records.new.self.tables ≡ without_records c.in_ok-loading.loading.kept.tables = c.forget_records.ensures.tables ∙ ap (λ (k : Holding). without_records k.tables) c.of-added.ensures.kept in
-    let holds : state_with c.forget_records.new.self.tables store.sources.texts (Some graph) [] ≡ with_graph graph state =
-    ap₂ (λ (t : Tables) (s : SourceStock). state_with t s.texts (Some graph) []) forgotten c.of-added.ensures.sources in
+    let forgotten : store.kept.tables ≡ without_records c.in_ok-loading.loading.kept.tables = ap (λ (k : Holding). k.tables) c.of-added.ensures.kept ∙ c.forget_records.ensures.tables in
+    let holds : state_with store.kept.tables store.sources.texts (Some graph) [] ≡ with_graph graph state =
+    ap₂ (λ (t : Tables) (s : SourceStock). state_with t s.texts (Some graph) []) forgotten (c.of-added.ensures.sources ∙ c.forget_records.ensures.sources) in
     let adds : AddsRecord end store.journal.end (graph_record graph) mid new =
     subst (λ (j : Journal). AddsRecord end j.end (graph_record graph) mid new) (sym c.of-added.ensures.journal)
     (subst (λ b. AddsRecord end c.append.new.self.end b mid new) (c.as_slice-2.ensures ∙ c.in_ok-payload.ensures) c.in_ok-append.ensures.added) in
@@ -152,12 +155,26 @@ returns-in_err-journal-clause-refused g c =
 pub of-known-requires : goal.of-known-requires
 of-known-requires g c =
     let read = c.in_ok-loading.ensures.read in
-    record { sources = sources_read c.in_ok-journal.records (state_of c.in_ok-loading.loading read.past) read.read; unchecked = read.unchecked }
+    let text = c.args.text.now in
+    let state : State = state_of c.in_ok-loading.loading read.past in
+    let answered : IsTrue c.has_graph.result = search rules in
+    let last = has_it c.in_ok-loading.loading.text.now text read.past.last c.has_graph.result read.text_is (c.has_graph.ensures read.past read.is) answered in
+    let fits = loaded_fit c.last_were_noted.ensures c.graph_is_one.ensures c.args.graph.now text c.requires.spelled c.in_ok-journal.records state read.read last read.fit in
+    record {
+      sources = sources_read c.in_ok-journal.records state read.read;
+      unchecked = read.unchecked;
+      fits = subst (λ t. NotedFits t state.tables.records) (sym c.in_ok-kept.ensures) fits;
+    }
 
 pub of-added-requires : goal.of-added-requires
 of-added-requires g c =
     let read = c.in_ok-loading.ensures.read in
-    record { sources = sources_read c.in_ok-journal.records (state_of c.in_ok-loading.loading read.past) read.read; unchecked = read.unchecked }
+    let forgotten = c.forget_records.new.self in
+    record {
+      sources = subst (λ (s : SourceStock). AreSources s.texts) (sym c.forget_records.ensures.sources) (sources_read c.in_ok-journal.records (state_of c.in_ok-loading.loading read.past) read.read);
+      unchecked = subst AreUnchecked (sym c.forget_records.ensures.records) (All-nil (λ (r : NodeRecord). r.checked ≡ None));
+      fits = none_fit c.in_ok-kept.kept forgotten.kept.tables.records (ap (λ (t : Tables). t.records) c.forget_records.ensures.tables);
+    }
 
 pub returns-clause-works : goal.returns-clause-works
 returns-clause-works g c empty =
@@ -185,7 +202,7 @@ returns-then-has_graph-clause-works g c empty =
 
 pub returns-clause-first : goal.returns-clause-first
 returns-clause-first g c = record {
-  opened = record { graph_is = c.of-added.ensures.opened.graph_is ∙ c.in_ok-kept.ensures; first = c.of-added.ensures.opened.first; unchecked = subst AreUnchecked (sym c.forget_records.ensures.records) (All-nil (λ (r : NodeRecord). r.checked ≡ None)) };
+  opened = subst (λ text. IsOpened text c.of-added.result) c.in_ok-kept.ensures c.of-added.ensures.opened;
   empty = λ zero.
       let first = (c.in_ok-journal.ensures.empty zero).end in
       let next = ap (λ (j : Journal). j.end) c.of-added.ensures.journal ∙ c.in_ok-append.ensures.added.next_is in

@@ -1,11 +1,12 @@
-use Rattle.std.proofs.Common.{◌≡◌, ◌≢◌, ◌+◌, Some, IsFalse, sym, ap, ap₂, subst, ◌∙◌, arith, rules}
+use Rattle.std.proofs.Common.{◌≡◌, ◌≢◌, ◌+◌, Some, IsFalse, sym, ap, ap₂, subst, refl, ◌∙◌, arith, rules}
 use Rattle.std.specs.FinMap as map
 use Rattle.meaning_derive.specs.Given.{AreSources}
-use Rattle.odin_store.specs.Held.{puts}
+use Rattle.odin_store.specs.Held.{Held, puts}
 use Rattle.odin_store.specs.OnDisk.{IsChangeFault}
 use Rattle.odin_store.specs.Changes.{PutBatch}
 use Rattle.odin_store.proofs.SourceLemmas.{put_stays}
 use Rattle.odin_store.specs.Stamps.{AreStampedBy}
+use Rattle.odin_store.proofs.FitLemmas.{same_fit}
 use Rattle.odin_store.proofs.StampLemmas.{later_stamped, nothing_noted}
 use Rattle.odin_store.proofs.StoreLemmas.{held_with, handed}
 use Rattle.odin_store.proofs.ReadyLemmas.{put_ready, ready_leaves, ready_begins, ready_fault, ready_adds, ready_holds}
@@ -84,10 +85,16 @@ invariant_of-self-2 g c =
     c.put.ensures.put ∙ ap (λ m. map.insert m c.in_ok-source.source c.in_ok-source.shared) c.prepare_put.ensures.same.sources
     ∙ ap₂ (λ n t. map.insert store.sources.texts n t) c.in_ok-source.ensures.name c.in_ok-source.ensures.text in
     let mid = c.prepare_put.new.self in
+    let same = c.prepare_put.ensures.same in
+    let prepared = c.in_ok-source.prepared in
+    let batch = c.in_ok-source.ensures.batch in
+    let edited = map.insert store.sources.texts name text in
+    let holds = ready_holds (PutBatch store name text) (puts name text) store prepared.payload c.framed.result.now batch.2.next edited (put_ready name text store mid prepared same batch) c.framed.ensures c.commit.new.self.tables edited (c.commit.ensures.tables batch.2.next batch.2.commits) refl in
     let nodes = nothing_noted c.in_ok-source.prepared.notes mid.kept.records.records c.commit.new.self.records.records c.commit.ensures.records c.in_ok-source.ensures.notes in
     record {
       are = subst AreSources (sym put) (put_stays store.sources.texts name text store.are c.in_ok-source.ensures.named c.requires.short);
       stamped = later_stamped mid.epoch (mid.epoch + 1) _ (omega arith) (subst (AreStampedBy mid.epoch) (sym nodes) mid.stamped);
+      fits = same_fit store.graph mid.graph store.kept.tables.records c.commit.new.self.tables.records same.graph (ap (λ (h : Held). h.records) holds) store.fits;
     }
 
 pub returns-in_err-append_framed-clause-begins : goal.returns-in_err-append_framed-clause-begins

@@ -1,4 +1,4 @@
-use Rattle.std.proofs.Common.{◌<◌, ◌≤◌, ◌*◌, subst, arith, rules}
+use Rattle.std.proofs.Common.{◌<◌, ◌≤◌, ◌*◌, subst, rules}
 use Rattle.meaning_records.specs.Live.{IsLiveText}
 use Rattle.kept_tables.specs.Live.{live_in}
 use Rattle.odin_store.proofs.CompactLemmas.{not_wasteful, little_text, much_text}
