@@ -1,11 +1,24 @@
 -- What a derivation goes by over what is kept.
+use Rattle.std.specs.Prelude.{ℕ, slice_get}
 use Rattle.meaning_graph.specs.Graphs.{Graph}
 use Rattle.meaning_derive.specs.Derive.{Sources}
-use Rattle.meaning_records.specs.Tables.{Calls, kept_outcome}
+use Rattle.meaning_records.specs.Tables.{kept_outcome}
+use Rattle.kept_records.specs.Records.{record_of}
+use Rattle.kept_tables.specs.Holdings.{Holding}
 use Rattle.derive_walk.specs.Calls.{GivenOutcomes as Listed}
-use Rattle.derive_walk.specs.Outcomes.{after}
-use Rattle.derive_walk.specs.Worlds.{World, world}
+use Rattle.derive_walk.specs.Keeping.{Keeping}
+use Rattle.derive_walk.specs.Settings.{world_by}
+use Rattle.derive_walk.specs.Worlds.{World}
 
--- the graph, the sources, and the outcomes of the kept calls, after these were given
-abbrev pub kept_world : Graph → Sources → Calls → Listed → World
-kept_world g s calls given = world g s (after (kept_outcome calls) given)
+-- what tables keep, as a walk looks it up at an epoch
+abbrev pub keeping_of : Holding → ℕ → Keeping
+keeping_of kept epoch = record {
+  outcomes = kept_outcome kept.tables.calls;
+  contents = λ number. slice_get kept.tables.contents number;
+  records = λ n. record_of n kept.records.records;
+  epoch = epoch;
+}
+
+-- the graph, the sources, what is kept, and the outcomes that were given
+abbrev pub kept_world : Holding → ℕ → Graph → Sources → Listed → World
+kept_world kept epoch = world_by (keeping_of kept epoch)

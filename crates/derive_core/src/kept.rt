@@ -1,4 +1,4 @@
-// The calls that are kept, as the walk looks them up.
+// What is kept, as the walk looks it up.
 use derive_walk::Known;
 use kept_tables::Looks;
 use object_values::{Call, Memory, Node, NodeRecord, Outcome, Value};
@@ -6,17 +6,17 @@ use odin_outside::Steps;
 use std::alloc::Global;
 use std::sync::ledger::Ledger;
 
-/// The calls of tables. No record of a node is looked up.
+/// Tables at an epoch: outcomes of calls, and records of nodes over the contents.
 #[derive(Drop)]
-pub(crate) struct KeptCalls<'a> {
+pub(crate) struct KeptTables<'a> {
     pub(crate) looks: &'a Looks<'a>,
+    pub(crate) epoch: u64,
 }
 
-impl Known for KeptCalls<'_> {
-    ghost use Rattle.meaning_records.specs.Tables.{kept_outcome};
-    ghost use Rattle.derive_walk.specs.Keeping.{outcomes_alone};
+impl Known for KeptTables<'_> {
+    ghost use Rattle.derive_core.specs.Kept.{keeping_of};
 
-    ghost keeps = { λ known. outcomes_alone (kept_outcome known.looks.now.kept.now.tables.calls) };
+    ghost keeps = { λ known. keeping_of known.looks.now.kept.now known.epoch };
 
     fn outcome<L: Ledger>(
         &self,
@@ -27,19 +27,23 @@ impl Known for KeptCalls<'_> {
         self.looks.outcome(alloc, call, steps)
     }
 
-    fn record(&self, _node: &Node) -> Option<&NodeRecord> {
-        None
+    fn record(&self, node: &Node) -> Option<&NodeRecord> {
+        self.looks.get(node)
     }
 
     fn epoch(&self) -> u64 {
-        0
+        self.epoch
     }
 
-    fn is(&self, _number: u64, _value: &Value) -> bool {
-        false
+    fn is(&self, number: u64, value: &Value) -> bool {
+        self.looks.is(number, value)
     }
 
-    fn content(&self, _alloc: Global, _number: u64) -> Result<Option<Value>, Memory> {
-        Ok(None)
+    fn content(&self, alloc: Global, number: u64) -> Result<Option<Value>, Memory> {
+        if number < self.looks.contents() {
+            Ok(Some(self.looks.value(alloc, number)?))
+        } else {
+            Ok(None)
+        }
     }
 }

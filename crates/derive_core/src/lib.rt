@@ -1,5 +1,5 @@
-//! The derivation of an object over the tables of what is kept: the walk, whose looks at kept calls
-//! are those of the tables.
+//! The derivation of an object over the tables of what is kept: the walk, which looks up calls, records of nodes and contents in
+//! the tables.
 #![tactic(auto)]
 
 mod kept;

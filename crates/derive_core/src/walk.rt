@@ -2,22 +2,22 @@
 ghost use Rattle.std.specs.Prelude.{◌≡◌, OnOk, OnErr, option_map};
 ghost use Rattle.meaning_graph.specs.Graphs.{Graph as GraphValue};
 ghost use Rattle.meaning_texts.specs.Lists.{IsIn};
-ghost use Rattle.meaning_graph.specs.Grammar.{IsSpellable};
 ghost use Rattle.meaning_calls.specs.Outcomes.{OutcomeFits};
 ghost use Rattle.meaning_tasks.specs.Nodes.{Fits};
-ghost use Rattle.meaning_derive.specs.Derive.{Sources as SourceTexts, Outcomes};
-ghost use Rattle.meaning_derive.specs.Given.{AreSources, OutcomesFit};
+ghost use Rattle.meaning_derive.specs.Derive.{Sources as SourceTexts};
+ghost use Rattle.meaning_derive.specs.Given.{OutcomesFit};
 ghost use Rattle.path_planner.specs.Ends.{plans_of};
+ghost use Rattle.derive_walk.specs.Keeping.{Keeping};
 ghost use Rattle.derive_walk.specs.Looks.{LooksAreFew, lost, met_by};
-ghost use Rattle.derive_walk.specs.Outcomes.{after};
-ghost use Rattle.derive_walk.specs.Walks.{IsRight, IsAdvanced, ExtendsWalk, OutcomeIsGiven, new_walk};
-ghost use Rattle.derive_walk.specs.Worlds.{world};
-ghost use Rattle.derive_core.specs.Kept.{kept_world};
+ghost use Rattle.derive_walk.specs.Settings.{MayGoBy, world_by};
+ghost use Rattle.derive_walk.specs.Walks.{IsFormed, IsRight, IsAdvanced, IsPlacedIn, ExtendsWalk, OutcomeIsGiven, new_walk};
+ghost use Rattle.derive_walk.specs.Worlds.{World, KnowsIn};
+ghost use Rattle.derive_core.specs.Kept.{keeping_of, kept_world};
 
-use crate::kept::KeptCalls;
+use crate::kept::KeptTables;
 use derive_walk::{Found, Walker};
 use kept_tables::Looks;
-use object_values::{Call, Memory, Node, Outcome, Sources};
+use object_values::{Call, Fresh, Memory, Node, Outcome, RenewedNode, Seq, Sources};
 use odin_outside::Steps;
 use path_planner::{PlannedGraph, Plans};
 use std::alloc::Global;
@@ -25,8 +25,8 @@ use std::marker::Model;
 use std::sync::ledger::Ledger;
 use type_graph::Graph;
 
-/// The derivation of a root as far as outcomes of calls are kept or were given. Contracts see it as
-/// they see the walk.
+/// The derivation of a root as far as outcomes of calls are kept or were given, by records of nodes
+/// that are kept. Contracts see it as they see the walk.
 pub struct Core {
     walker: Walker,
 }
@@ -47,11 +47,13 @@ impl Model for Core {
 }
 
 impl Core {
-    /// Nothing is known yet. It is right over every graph that its root fits.
+    /// Nothing is known yet. It is formed, and right in every world that its root fits and whose records are true.
     pub fn new(alloc: Global, root: Node) -> Self
         ensures is { result ≡ new_walk root }
-        ensures right { (g : GraphValue) (s : SourceTexts) (outcomes : Outcomes) →
-            Fits g root → OutcomesFit outcomes → IsRight (world g s outcomes) result }
+        ensures formed { (w : World) → Fits w.graph root → OutcomesFit w.outcomes →
+            IsFormed w result }
+        ensures right { (w : World) → Fits w.graph root → OutcomesFit w.outcomes → KnowsIn w →
+            IsRight w result }
     {
         Core {
             walker: Walker::new(alloc, root),
@@ -60,6 +62,7 @@ impl Core {
 
     /// Settles all that needs no further tool: then there is a result, or what is wanted is what the
     /// derivation stops at. After want of memory it may be called again. Each look at a kept call is a step.
+    /// A record that was checked at this epoch gives its node as it stands.
     pub fn advance<L: Ledger>(
         &mut self,
         alloc: Global,
@@ -67,24 +70,26 @@ impl Core {
         plans: &Plans,
         sources: &Sources,
         looks: &Looks<'_>,
+        epoch: u64,
         steps: &mut Steps<L>,
     ) -> Result<(), Memory>
-        requires spellable { IsSpellable graph.now }
         requires made { plans.now ≡ plans_of graph.now }
-        requires sources { AreSources sources.now.texts }
-        requires right { let calls = looks.now.kept.now.tables.calls in
-            IsRight (kept_world graph.now sources.now.texts calls self.old.given) self.old }
+        requires ground { MayGoBy (keeping_of looks.now.kept.now epoch) graph.now sources.now.texts }
+        requires formed { let at = kept_world looks.now.kept.now epoch graph.now sources.now.texts in
+            IsFormed (at self.old.given) self.old }
         ensures on { ExtendsWalk self.old self.new }
-        ensures right { let calls = looks.now.kept.now.tables.calls in
-            IsRight (kept_world graph.now sources.now.texts calls self.new.given) self.new }
-        ensures advanced { let calls = looks.now.kept.now.tables.calls in
-            OnOk result (IsAdvanced
-            (kept_world graph.now sources.now.texts calls self.new.given) self.new) }
+        ensures formed { let at = kept_world looks.now.kept.now epoch graph.now sources.now.texts in
+            IsFormed (at self.new.given) self.new }
+        ensures right { let at = kept_world looks.now.kept.now epoch graph.now sources.now.texts in
+            IsRight (at self.old.given) self.old → IsRight (at self.new.given) self.new }
+        ensures advanced { let at = kept_world looks.now.kept.now epoch graph.now sources.now.texts in
+            IsRight (at self.old.given) self.old →
+            OnOk result (IsAdvanced (at self.new.given) self.new) }
         ensures counted { LooksAreFew (met_by self.old) (met_by self.new)
             steps.old steps.new (lost result) }
     {
         let planned = PlannedGraph::new(graph, plans);
-        self.advance_in(alloc, &planned, sources, looks, steps)
+        self.advance_in(alloc, &planned, sources, looks, epoch, steps)
     }
 
     /// The same in a graph with its plans.
@@ -94,23 +99,25 @@ impl Core {
         planned: &PlannedGraph<'_>,
         sources: &Sources,
         looks: &Looks<'_>,
+        epoch: u64,
         steps: &mut Steps<L>,
     ) -> Result<(), Memory>
-        requires spellable { IsSpellable planned.now }
-        requires sources { AreSources sources.now.texts }
-        requires right { let calls = looks.now.kept.now.tables.calls in
-            IsRight (kept_world planned.now sources.now.texts calls self.old.given) self.old }
+        requires ground { MayGoBy (keeping_of looks.now.kept.now epoch)
+            planned.now sources.now.texts }
+        requires formed { let at = kept_world looks.now.kept.now epoch planned.now sources.now.texts in
+            IsFormed (at self.old.given) self.old }
         ensures on { ExtendsWalk self.old self.new }
-        ensures right { let calls = looks.now.kept.now.tables.calls in
-            IsRight (kept_world planned.now sources.now.texts calls self.new.given) self.new }
-        ensures advanced { let calls = looks.now.kept.now.tables.calls in
-            OnOk result (IsAdvanced
-            (kept_world planned.now sources.now.texts calls self.new.given) self.new) }
+        ensures formed { let at = kept_world looks.now.kept.now epoch planned.now sources.now.texts in
+            IsFormed (at self.new.given) self.new }
+        ensures right { let at = kept_world looks.now.kept.now epoch planned.now sources.now.texts in
+            IsRight (at self.old.given) self.old → IsRight (at self.new.given) self.new }
+        ensures advanced { let at = kept_world looks.now.kept.now epoch planned.now sources.now.texts in
+            IsRight (at self.old.given) self.old →
+            OnOk result (IsAdvanced (at self.new.given) self.new) }
         ensures counted { LooksAreFew (met_by self.old) (met_by self.new)
             steps.old steps.new (lost result) }
     {
-        planned.graph().checked();
-        let known = KeptCalls { looks };
+        let known = KeptTables { looks, epoch };
         self.walker.advance(alloc, planned, sources, &known, steps)
     }
 
@@ -120,9 +127,12 @@ impl Core {
         requires fits { OutcomeFits call.now outcome }
         ensures ok { OnOk result (OutcomeIsGiven call.now outcome self.old self.new) }
         ensures err { OnErr result (self.new ≡ self.old) }
-        ensures right { (g : GraphValue) (s : SourceTexts) (kept : Outcomes) →
-            IsRight (world g s (after kept self.old.given)) self.old →
-            IsRight (world g s (after kept self.new.given)) self.new }
+        ensures formed { (g : GraphValue) (s : SourceTexts) (keeping : Keeping) →
+            IsFormed (world_by keeping g s self.old.given) self.old →
+            IsFormed (world_by keeping g s self.new.given) self.new }
+        ensures right { (g : GraphValue) (s : SourceTexts) (keeping : Keeping) →
+            IsRight (world_by keeping g s self.old.given) self.old →
+            IsRight (world_by keeping g s self.new.given) self.new }
     {
         self.walker.give(call, outcome)
     }
@@ -141,10 +151,14 @@ impl Core {
         self.walker.result()
     }
 
-    pub fn into_result(self) -> Option<Found>
-        ensures { result ≡ self.result }
+    /// What is found, what is to be noted of the nodes that were settled, and what the records of others came to.
+    pub fn into_told(self) -> (Option<Found>, Seq<Fresh>, Seq<RenewedNode>)
+        ensures found { result.0 ≡ self.result }
+        ensures fresh { result.1 ≡ self.fresh }
+        ensures renewed { result.2 ≡ self.renewed }
+        ensures placed { IsPlacedIn self.root self.done self.result }
     {
         let Core { walker } = self;
-        walker.into_result()
+        walker.into_told()
     }
 }

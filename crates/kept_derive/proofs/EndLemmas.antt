@@ -1,97 +1,123 @@
--- What a derivation comes to.
-use Rattle.std.proofs.Common.{◌≡◌, ◌<◌, ◌≤◌, ℕ, true, false, List, [], ◌∷◌, length, inl, inr, refl, sym, ap, subst, arith, ◌∙◌, is_some}
+-- What a derivation comes to, once none of its tools runs any more.
+use Rattle.std.proofs.Common.{◌≡◌, ◌<◌, ◌≤◌, ◌∷◌, ℕ, true, false, List, [], length, inl, inr, refl, sym, ap, subst, arith, ◌∙◌, is_some}
 use Rattle.std.specs.Prelude.{Option, Some, None, IsSome, IfSome}
 use Rattle.object_values.specs.declared.nodes.Node.{Node}
 use Rattle.object_values.specs.declared.views.View.{View}
 use Rattle.odin_outside.specs.Disk.{Telling}
 use Rattle.odin_outside.specs.Spawned.{Spawned}
 use Rattle.meaning_graph.specs.Graphs.{Graph}
-use Rattle.meaning_graph.specs.Grammar.{IsSpellable}
-use Rattle.meaning_graph.specs.Checks.{Checked}
-use Rattle.meaning_tasks.specs.Nodes.{Fits}
-use Rattle.meaning_derive.specs.Derive.{Sources}
-use Rattle.meaning_derive.specs.Given.{AreSources}
 use Rattle.odin_store.specs.declared.store.Store.{Store}
 use Rattle.derive_walk.specs.declared.found.Found.{Found}
 use Rattle.derive_walk.specs.declared.found.Found.TheVariants.{Answer, Circular, Deep}
 use Rattle.derive_walk.specs.Founds.{IsFound}
 use Rattle.derive_walk.specs.Outcomes.{after}
-use Rattle.derive_walk.specs.Walks.{Walked}
-use Rattle.derive_walk.specs.Worlds.{World, IsWorld}
-use Rattle.derive_walk.proofs.Lemmas.{found_fits, world_is}
+use Rattle.derive_walk.specs.Walks.{Walked, IsFormed, IsRight}
 use Rattle.job_runner.specs.declared.jobs.Flying.{Flying}
-use Rattle.job_runner.specs.Flights.{InFlight}
-use Rattle.plain_derive.specs.Flights.{Course, on_course, off_course, Why, for_chain, for_spawn, Flies}
+use Rattle.job_runner.specs.Flights.{InFlight, none_in_flight}
+use Rattle.plain_derive.specs.Flights.{Course, on_course, off_course, Why, for_chain, for_spawn}
 use Rattle.plain_derive.proofs.Lemmas.{founded_rests}
-use Rattle.kept_derive.specs.declared.fault.KeptFault.TheVariants.{Spawn}
-use Rattle.kept_derive.specs.Looked.{sought_by}
-use Rattle.kept_derive.specs.Runs.{At, at, known_in, store_world, course_of, HasRun, HasFound}
-use Rattle.kept_derive.specs.Stops.{IsStopped}
+use Rattle.kept_derive.specs.Knowing.{known_in, KnowsStore}
+use Rattle.kept_derive.specs.Runs.{At, at, store_world, course_of}
+use Rattle.kept_derive.specs.Telling.{world_now}
 use Rattle.kept_derive.specs.declared.flight.Flown.{Flown}
 use Rattle.kept_derive.specs.declared.flight.Flown.TheVariants as flight
-use Rattle.kept_derive.specs.Ways.{IsOnWay, ComesTo, Drains}
-use Rattle.kept_derive.proofs.HeldLemmas.{sources_after}
-use Rattle.kept_derive.proofs.WayLemmas.{waits}
+use Rattle.kept_derive.specs.Ways.{IsOnWay, ComesTo, Drains, IsOver, IsCutOff, EndsBy}
+use Rattle.kept_derive.proofs.KnowLemmas.{SaysFacts}
+use Rattle.kept_derive.proofs.StayLemmas.{world_is_now}
+use Rattle.kept_derive.proofs.WayLemmas.{waits, on_other}
 use Rattle.kept_derive.proofs.TurnLemmas.{finds_chain}
 
-cut_not_found : flight.Cut ≡ flight.Found → ⊥
-cut_not_found e = cc
-
-found_not_cut : flight.Found ≡ flight.Cut → ⊥
-found_not_cut e = cc
-
-none_not_some : (o : Option Found) → o ≡ None → IsSome o → ⊥
+pub none_not_some : (o : Option Found) → o ≡ None → IsSome o → ⊥
 none_not_some (Some found) e some = cc
 none_not_some None e some = let no : false ≡ true = some in cc
 
+pub none_runs : (running : List Flying) → length running ≤ 0 → running ≡ []
+none_runs [] none = refl
+none_runs (f ∷ running) none = absurd (omega (arith, none))
+
 module _ {D : Type 0} (told : D → Telling) (g : Graph) (n : Node) (first : At D) where
   module _ (course : Course) (walked : Walked) (jobs : InFlight) (now : At D) (way : IsOnWay told g n course first walked jobs now) where
-    is_found : (found : Found) → walked.result ≡ Some found → IsFound g first.store.sources.texts (after (known_in first.store) walked.given) n found
-    is_found found is =
+    pub is_found : KnowsStore g first.store → (found : Found) → walked.result ≡ Some found → IsFound g first.store.sources.texts (after (known_in first.store) walked.given) n found
+    is_found knows found is =
         let of_root : IsFound g first.store.sources.texts (after (known_in first.store) walked.given) walked.root found =
-        subst (λ r. IfSome r (IsFound g first.store.sources.texts (after (known_in first.store) walked.given) walked.root)) is way.right.found in
+        subst (λ r. IfSome r (IsFound g first.store.sources.texts (after (known_in first.store) walked.given) walked.root)) is (way.right knows).right.found in
         subst (λ z. IsFound g first.store.sources.texts (after (known_in first.store) walked.given) z found) way.root of_root
 
-    has_run : jobs.running ≡ [] → HasRun told g n jobs.limit course first walked.given now
-    has_run none = record {
-      run = record { flown = subst (λ (l : List Flying). Flies g first.store.sources.texts (known_in first.store) n jobs.limit first.tools course (record { running = l; given = walked.given; tools = now.tools })) none way.flown };
-      goes = way.goes;
-      epoch = way.epoch;
+    -- the walk goes by what is kept now
+    world_here : SaysFacts first.store → SaysFacts now.store → world_now g now.store ≡ store_world g first.store walked.given
+    world_here before later = world_is_now told g first walked.given now way.goes way.nodes way.epoch before later way.new
+
+    pub formed_here : SaysFacts first.store → SaysFacts now.store → IsFormed (world_now g now.store) walked
+    formed_here before later = subst (λ w. IsFormed w walked) (sym (world_here before later)) way.formed
+
+    pub right_here : SaysFacts first.store → SaysFacts now.store → KnowsStore g first.store → IsRight (world_now g now.store) walked
+    right_here before later knows = subst (λ w. IsRight w walked) (sym (world_here before later)) (way.right knows).right
+
+    pub at_rest_here : (limit : ℕ) → jobs.limit ≡ limit → jobs.running ≡ [] → IsOnWay told g n course first walked (none_in_flight limit) now
+    at_rest_here limit same none =
+        let rested : jobs ≡ none_in_flight limit = λ i. record { limit = same i; running = none i } in
+        subst (λ (z : InFlight). IsOnWay told g n course first walked z now) rested way
+
+    -- a tool failed
+    pub cut_off : (limit : ℕ) → course ≡ off_course for_spawn → SaysFacts first.store → SaysFacts now.store → jobs.limit ≡ limit → jobs.running ≡ [] → IsCutOff told g n limit first walked now
+    cut_off limit is before later same none = record {
+      way = subst (λ k. IsOnWay told g n k first walked (none_in_flight limit) now) is (at_rest_here limit same none);
+      knows = λ knows. (right_here before later knows).knows;
     }
-
-    -- Something is found, and none runs any more.
-    pub has_found : IsSpellable g → Checked g → AreSources now.store.sources.texts → Fits g n → jobs.running ≡ [] → (found : Found) → walked.result ≡ Some found → course ≡ course_of found → HasFound told g n jobs.limit first now found
-    has_found spellable checked sources fits none found is same =
-        let w : World = store_world g first.store walked.given in
-        let texts : now.store.sources.texts ≡ first.store.sources.texts = sources_after told walked.given first.store now.store first.disk now.disk way.goes in
-        let w_is : IsWorld w = world_is _ _ _ spellable checked (subst (λ (s : Sources). AreSources s) texts sources) way.right.fit in
-        record {
-          given = walked.given;
-          run = subst (λ k. HasRun told g n jobs.limit k first walked.given now) same (has_run none);
-          is = is_found found is;
-          fit = found_fits w w_is n fits found (is_found found is);
-        }
-
-  -- What is drained for a tool that failed.
-  pub has_drained : (walked : Walked) (jobs : InFlight) (now : At D) → IsOnWay told g n (off_course for_spawn) first walked jobs now → jobs.running ≡ [] → IsStopped told g n jobs.limit first now Spawn
-  has_drained walked jobs now way none = record { given = walked.given; run = has_run (off_course for_spawn) walked jobs now way none }
 
   module _ (walked : Walked) (jobs : InFlight) (now : At D) (way : IsOnWay told g n on_course first walked jobs now) where
     -- for a chain it is off its course
-    pub takes_course : (found : Found) → walked.result ≡ Some found → IsOnWay told g n (course_of found) first walked jobs now
+    takes_course : (found : Found) → walked.result ≡ Some found → IsOnWay told g n (course_of found) first walked jobs now
     takes_course (Answer view) is = way
-    takes_course (Circular chain) is = finds_chain told g n first walked jobs now way (record { chain = chain; is = inl (is_found on_course walked jobs now way (Circular chain) is) })
-    takes_course (Deep chain) is = finds_chain told g n first walked jobs now way (record { chain = chain; is = inr (is_found on_course walked jobs now way (Deep chain) is) })
+    takes_course (Circular chain) is = finds_chain told g n first walked jobs now way (λ knows. record { chain = chain; is = inl (is_found on_course walked jobs now way knows (Circular chain) is) })
+    takes_course (Deep chain) is = finds_chain told g n first walked jobs now way (λ knows. record { chain = chain; is = inr (is_found on_course walked jobs now way knows (Deep chain) is) })
 
-    -- With a view none runs.
-    pub view_rests : (view : View) → walked.result ≡ Some (Answer view) → jobs.running ≡ []
-    view_rests view is =
-        founded_rests g first.store.sources.texts (after (known_in first.store) walked.given) n jobs.running (ap is_some (is_found on_course walked jobs now way (Answer view) is)) (λ call i. waits told g n first on_course walked jobs now way call (way.runs call i))
+    -- With a view that is right none runs.
+    view_rests : KnowsStore g first.store → (view : View) → walked.result ≡ Some (Answer view) → jobs.running ≡ []
+    view_rests knows view is =
+        founded_rests g first.store.sources.texts (after (known_in first.store) walked.given) n jobs.running (ap is_some (is_found on_course walked jobs now way knows (Answer view) is))
+        (λ call i. waits told g n first on_course walked jobs now way (way.right knows) call (way.runs call i))
 
-    pub is_drained_for : (found : Found) → walked.result ≡ Some found → 0 < length jobs.running → (why : Why) × (course_of found ≡ off_course why)
-    is_drained_for (Answer view) is some = absurd (omega (arith, some, ap length (view_rests view is)))
-    is_drained_for (Circular chain) is some = (for_chain, refl)
-    is_drained_for (Deep chain) is some = (for_chain, refl)
+    -- Where some run it is off its course, or to be taken off it.
+    off_for_found : (found : Found) → walked.result ≡ Some found → 0 < length jobs.running → IsOnWay told g n (off_course for_chain) first walked jobs now
+    off_for_found (Answer view) is some = on_other told g n first on_course (off_course for_chain) walked jobs now way (λ knows. absurd (omega (arith, some, ap length (view_rests knows view is))))
+    off_for_found (Circular chain) is some = takes_course (Circular chain) is
+    off_for_found (Deep chain) is some = takes_course (Deep chain) is
+
+    -- and back on it, once what ran is drained
+    back_for_found : (found : Found) → walked.result ≡ Some found → 0 < length jobs.running → (walked' : Walked) (jobs' : InFlight) (new : At D) → IsOnWay told g n (off_course for_chain) first walked' jobs' new
+        → IsOnWay told g n (course_of found) first walked' jobs' new
+    back_for_found (Answer view) is some walked' jobs' new off = on_other told g n first (off_course for_chain) on_course walked' jobs' new off (λ knows. absurd (omega (arith, some, ap length (view_rests knows view is))))
+    back_for_found (Circular chain) is some walked' jobs' new off = off
+    back_for_found (Deep chain) is some walked' jobs' new off = off
+
+    pub found_off : IsSome walked.result → 0 < length jobs.running → IsOnWay told g n (off_course for_chain) first walked jobs now
+    found_off there some = by_result walked.result refl there
+      where
+        by_result : (o : Option Found) → walked.result ≡ o → IsSome o → IsOnWay told g n (off_course for_chain) first walked jobs now
+        by_result (Some found) is there = off_for_found found is some
+        by_result None is there = absurd (none_not_some None refl there)
+
+    -- ---- what it ends by
+
+    over_now : IsSome walked.result → (limit : ℕ) → SaysFacts first.store → SaysFacts now.store → jobs.limit ≡ limit → jobs.running ≡ [] → IsOver told g n limit first walked now
+    over_now there limit before later same none = record {
+      some = there;
+      way = λ found is. at_rest_here (course_of found) walked jobs now (takes_course found is) limit same none;
+      formed = formed_here on_course walked jobs now way before later;
+      right = right_here on_course walked jobs now way before later;
+    }
+
+    over_drained : IsSome walked.result → 0 < length jobs.running → (walked' : Walked) (jobs' : InFlight) (new : At D) → Drains told walked jobs now walked' jobs' new
+        → (limit : ℕ) → SaysFacts first.store → SaysFacts new.store → jobs.limit ≡ limit → IsOver told g n limit first walked' new
+    over_drained there some walked' jobs' new drains limit before later same =
+        let off : IsOnWay told g n (off_course for_chain) first walked' jobs' new = drains.on g n for_chain first (found_off there some) in
+        record {
+          some = subst (λ o. IsSome o) (sym drains.result) there;
+          way = λ found is. at_rest_here (course_of found) walked' jobs' new (back_for_found found (sym drains.result ∙ is) some walked' jobs' new off) limit (drains.limit ∙ same) drains.none;
+          formed = formed_here (off_course for_chain) walked' jobs' new off before later;
+          right = right_here (off_course for_chain) walked' jobs' new off before later;
+        }
 
   -- ---- what a flight came to
 
@@ -102,67 +128,20 @@ module _ {D : Type 0} (told : D → Telling) (g : Graph) (n : Node) (first : At 
   -- Where some run it is off its course, or to be taken off it.
   pub drained_for : (walked : Walked) (jobs : InFlight) (now : At D) (flown : Flown) → ComesTo told g n first walked jobs now flown → 0 < length jobs.running → (why : Why) × IsOnWay told g n (off_course why) first walked jobs now
   drained_for walked jobs now flight.Cut way some = (for_spawn, way)
-  drained_for walked jobs now flight.Found has some = by_result walked.result refl has.found
-    where
-      by_result : (o : Option Found) → walked.result ≡ o → IsSome o → (why : Why) × IsOnWay told g n (off_course why) first walked jobs now
-      by_result (Some found) is there =
-          let d = is_drained_for walked jobs now has.way found is some in
-          (d.0, subst (λ k. IsOnWay told g n k first walked jobs now) d.1 (takes_course walked jobs now has.way found is))
-      by_result None is there = absurd (none_not_some None refl there)
+  drained_for walked jobs now flight.Found has some = (for_chain, found_off walked jobs now has.way has.found some)
 
-pub none_runs : (running : List Flying) → length running ≤ 0 → running ≡ []
-none_runs [] none = refl
-none_runs (f ∷ running) none = absurd (omega (arith, none))
+  pub ends_now : (walked : Walked) (jobs : InFlight) (now : At D) (flown : Flown) → ComesTo told g n first walked jobs now flown → (limit : ℕ) → SaysFacts first.store → SaysFacts now.store → jobs.limit ≡ limit → jobs.running ≡ []
+      → EndsBy told g n limit first walked now flown
+  ends_now walked jobs now flight.Found has limit before later same none = over_now walked jobs now has.way has.found limit before later same none
+  ends_now walked jobs now flight.Cut way limit before later same none = cut_off (off_course for_spawn) walked jobs now way limit refl before later same none
 
--- None runs any more, and the derivation is on the course on which it ends.
-pub record IsSettled {D : Type 0} (told : D → Telling) (g : Graph) (n : Node) (most sought : ℕ) (first : At D) (walked : Walked) (jobs : InFlight) (now : At D) (flown : Flown) : Type 0 where
-  pub none : jobs.running ≡ []
-  pub limit : jobs.limit ≡ most
-  pub same : sought_by walked ≡ sought
-  pub found : flown ≡ flight.Found → (found : Found) → walked.result ≡ Some found → IsOnWay told g n (course_of found) first walked jobs now
-  pub cut : flown ≡ flight.Cut → IsOnWay told g n (off_course for_spawn) first walked jobs now
+  pub ends_drained : (walked : Walked) (jobs : InFlight) (now : At D) (flown : Flown) → ComesTo told g n first walked jobs now flown → 0 < length jobs.running → (walked' : Walked) (jobs' : InFlight) (new : At D)
+      → Drains told walked jobs now walked' jobs' new → (limit : ℕ) → SaysFacts first.store → SaysFacts new.store → jobs.limit ≡ limit → EndsBy told g n limit first walked' new flown
+  ends_drained walked jobs now flight.Found has some walked' jobs' new drains limit before later same = over_drained walked jobs now has.way has.found some walked' jobs' new drains limit before later same
+  ends_drained walked jobs now flight.Cut way some walked' jobs' new drains limit before later same =
+      cut_off (off_course for_spawn) walked' jobs' new (drains.on g n for_spawn first way) limit refl before later (drains.limit ∙ same) drains.none
 
-module _ {D : Type 0} (told : D → Telling) (g : Graph) (n : Node) (most : ℕ) (first : At D) where
-  pub settles_now : (walked : Walked) (jobs : InFlight) (now : At D) (flown : Flown) → ComesTo told g n first walked jobs now flown → jobs.limit ≡ most → jobs.running ≡ [] → IsSettled told g n most (sought_by walked) first walked jobs now flown
-  settles_now walked jobs now flight.Found has limit none = record {
-    none = none;
-    limit = limit;
-    same = refl;
-    found = λ e found is. takes_course told g n first walked jobs now has.way found is;
-    cut = λ e. absurd (found_not_cut e);
-  }
-  settles_now walked jobs now flight.Cut way limit none = record { none = none; limit = limit; same = refl; found = λ e. absurd (cut_not_found e); cut = λ e. way }
-
-  pub settles_drained : (walked : Walked) (jobs : InFlight) (now : At D) (flown : Flown) → ComesTo told g n first walked jobs now flown → jobs.limit ≡ most → 0 < length jobs.running
-      → (walked' : Walked) (jobs' : InFlight) (new : At D) → Drains told walked jobs now walked' jobs' new → IsSettled told g n most (sought_by walked) first walked' jobs' new flown
-  settles_drained walked jobs now flight.Found has limit some walked' jobs' new drains = record {
-    none = drains.none;
-    limit = drains.limit ∙ limit;
-    same = drains.sought;
-    found = λ e found is.
-        let was : walked.result ≡ Some found = sym drains.result ∙ is in
-        let d = is_drained_for told g n first walked jobs now has.way found was some in
-        let way = subst (λ k. IsOnWay told g n k first walked jobs now) d.1 (takes_course told g n first walked jobs now has.way found was) in
-        subst (λ k. IsOnWay told g n k first walked' jobs' new) (sym d.1) (drains.on g n d.0 first way);
-    cut = λ e. absurd (found_not_cut e);
-  }
-  settles_drained walked jobs now flight.Cut way limit some walked' jobs' new drains = record {
-    none = drains.none;
-    limit = drains.limit ∙ limit;
-    same = drains.sought;
-    found = λ e. absurd (cut_not_found e);
-    cut = λ e. drains.on g n for_spawn first way;
-  }
-
-  pub settled_moves : {walked walked' : Walked} {jobs jobs' : InFlight} {store store' : Store} {disk disk' : D} {tools tools' : Spawned} → (sought : ℕ) (flown : Flown) → walked' ≡ walked → jobs' ≡ jobs → store' ≡ store → disk' ≡ disk → tools' ≡ tools
-      → IsSettled told g n most sought first walked jobs (at store disk tools) flown → IsSettled told g n most sought first walked' jobs' (at store' disk' tools') flown
-  settled_moves sought flown walked_is jobs_is store_is disk_is tools_is it =
-      subst (λ (z : Walked × InFlight × Store × D × Spawned). IsSettled told g n most sought first z.0 z.1 (at z.2 z.3 z.4) flown) (λ i. (sym walked_is i, sym jobs_is i, sym store_is i, sym disk_is i, sym tools_is i)) it
-
-  module _ (sought : ℕ) (walked : Walked) (jobs : InFlight) (now : At D) (flown : Flown) (it : IsSettled told g n most sought first walked jobs now flown) where
-    pub settled_cut : flown ≡ flight.Cut → IsStopped told g n most first now Spawn
-    settled_cut is = subst (λ k. IsStopped told g n k first now Spawn) it.limit (has_drained told g n first walked jobs now (it.cut is) it.none)
-
-    pub settled_found : flown ≡ flight.Found → IsSpellable g → Checked g → AreSources now.store.sources.texts → Fits g n → (found : Found) → walked.result ≡ Some found → HasFound told g n most first now found
-    settled_found is spellable checked sources fits found there =
-        subst (λ k. HasFound told g n k first now found) it.limit (has_found told g n first (course_of found) walked jobs now (it.found is found there) spellable checked sources fits it.none found there refl)
+pub ends_move : {D : Type 0} (told : D → Telling) (g : Graph) (n : Node) (limit : ℕ) (first : At D) (flown : Flown) {walked walked' : Walked} {store store' : Store} {disk disk' : D} {tools tools' : Spawned}
+    → walked' ≡ walked → store' ≡ store → disk' ≡ disk → tools' ≡ tools → EndsBy told g n limit first walked (at store disk tools) flown → EndsBy told g n limit first walked' (at store' disk' tools') flown
+ends_move {D} told g n limit first flown walked_is store_is disk_is tools_is it =
+    subst (λ (z : Walked × Store × D × Spawned). EndsBy told g n limit first z.0 (at z.1 z.2 z.3) flown) (λ i. (sym walked_is i, sym store_is i, sym disk_is i, sym tools_is i)) it

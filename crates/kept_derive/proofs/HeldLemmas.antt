@@ -1,20 +1,21 @@
--- What a store holds after calls were kept, and what is known by that.
+-- What a store holds after calls were kept and nodes noted, and what is known by that.
 use Rattle.std.proofs.Common.{◌≡◌, Bool, true, false, cond, List, [], ◌∷◌, ◌++◌, ◌∙◌, refl, sym, ap, append_assoc, inl, inr}
 use Rattle.std.specs.Prelude.{Option, Some, None}
 use Rattle.std.specs.List.{All}
 use Rattle.object_values.specs.declared.calls.Call.{Call}
 use Rattle.object_values.specs.declared.calls.Outcome.{Outcome}
+use Rattle.object_values.specs.declared.facts.Fact.{Fact}
 use Rattle.object_values.specs.contracts.calls.CallPartialEq.TheImpl.{ghosts as call_eq}
 use Rattle.odin_outside.specs.Disk.{Telling}
 use Rattle.meaning_texts.specs.Lists.{IsIn}
 use Rattle.meaning_texts.proofs.Lemmas.{in_all}
 use Rattle.meaning_derive.specs.Derive.{Outcomes}
 use Rattle.meaning_derive.specs.Given.{OutcomesFit}
-use Rattle.meaning_records.specs.Tables.{Calls, kept_outcome}
+use Rattle.meaning_records.specs.Tables.{Calls, kept_outcome, put_facts}
 use Rattle.kept_tables.specs.Holdings.{IsKept}
 use Rattle.odin_journal.specs.Trails as trails
 use Rattle.odin_store.specs.declared.store.Store.{Store}
-use Rattle.odin_store.specs.Held.{Held, keeps, apply}
+use Rattle.odin_store.specs.Held.{Held, keeps, notes, apply}
 use Rattle.odin_store.specs.OnDisk.{held_in}
 use Rattle.odin_store.specs.Keeping.{store_keeping}
 use Rattle.odin_store.specs.Going.{Performs}
@@ -23,7 +24,7 @@ use Rattle.derive_walk.specs.Outcomes.{given_or, after}
 use Rattle.plain_derive.specs.Given.{calls_of}
 use Rattle.plain_derive.specs.GivenLaws.{AreNew}
 use Rattle.plain_derive.proofs.Lemmas.{given_is_in}
-use Rattle.kept_derive.specs.Runs.{keeps_of}
+use Rattle.kept_derive.specs.Runs.{keeps_of, changes_for}
 
 -- ---- lists
 
@@ -41,12 +42,35 @@ held_after : (given : Calls) (held : Held) → trails.after_changes store_keepin
 held_after [] held = ap (λ (l : Calls). record held { calls = l }) (sym (nothing_behind held.calls))
 held_after (x ∷ given) held = held_after given (apply (keeps x.0 x.1) held) ∙ ap (λ (l : Calls). record held { calls = l }) (append_assoc held.calls (x ∷ []) given)
 
+-- with what was noted after them
+held_noted : (given : Calls) (facts : List Fact) (held : Held)
+    → trails.after_changes store_keeping (keeps_of given ++ notes facts ∷ []) held ≡ record held { calls = held.calls ++ given; records = put_facts facts held.records }
+held_noted [] facts held = ap (λ (l : Calls). record held { calls = l; records = put_facts facts held.records }) (sym (nothing_behind held.calls))
+held_noted (x ∷ given) facts held =
+    held_noted given facts (apply (keeps x.0 x.1) held) ∙ ap (λ (l : Calls). record held { calls = l; records = put_facts facts held.records }) (append_assoc held.calls (x ∷ []) given)
+
+pub held_after_all : (given : Calls) (noted : List Fact) (held : Held)
+    → trails.after_changes store_keeping (changes_for given noted) held ≡ record held { calls = held.calls ++ given; records = put_facts noted held.records }
+held_after_all given [] held = held_after given held
+held_after_all given (fact ∷ facts) held = held_noted given (fact ∷ facts) held
+
+module _ {Disk : Type 0} (told : Disk → Telling) (given : Calls) (noted : List Fact) (store next : Store) (disk after : Disk) (goes : Performs told (changes_for given noted) store next disk after) where
+  pub calls_after_all : next.kept.tables.calls ≡ store.kept.tables.calls ++ given
+  calls_after_all = ap (λ (h : Held). h.calls) (goes.holds ∙ held_after_all given noted (held_in store))
+
+  pub sources_after_all : next.sources.texts ≡ store.sources.texts
+  sources_after_all = ap (λ (h : Held). h.sources) (goes.holds ∙ held_after_all given noted (held_in store))
+
+  pub records_after_all : next.kept.tables.records ≡ put_facts noted store.kept.tables.records
+  records_after_all = ap (λ (h : Held). h.records) (goes.holds ∙ held_after_all given noted (held_in store))
+
+-- where nothing was noted
 module _ {Disk : Type 0} (told : Disk → Telling) (given : Calls) (store next : Store) (disk after : Disk) (goes : Performs told (keeps_of given) store next disk after) where
   pub calls_after : next.kept.tables.calls ≡ store.kept.tables.calls ++ given
-  calls_after = ap (λ (h : Held). h.calls) (goes.holds ∙ held_after given (held_in store))
+  calls_after = calls_after_all told given [] store next disk after goes
 
   pub sources_after : next.sources.texts ≡ store.sources.texts
-  sources_after = ap (λ (h : Held). h.sources) (goes.holds ∙ held_after given (held_in store))
+  sources_after = sources_after_all told given [] store next disk after goes
 
 -- ---- what is known
 

@@ -1,12 +1,13 @@
 -- The looks of a derivation.
 use Rattle.std.proofs.Common.{◌≡◌, ◌≢◌, ◌↔◌, ℕ, ◌+◌, ◌≤◌, Bool, true, false, List, [], ◌∷◌, length, inl, inr, refl, sym, ap, subst, arith, length-append, ◌∙◌}
-use Rattle.std.specs.Prelude.{Result, Err}
+use Rattle.std.specs.Prelude.{Result, Err, IfErr}
 use Rattle.object_values.specs.declared.nodes.Node.{Node}
 use Rattle.object_values.specs.declared.calls.Call.{Call}
 use Rattle.object_values.specs.declared.calls.Outcome.{Outcome}
 use Rattle.object_values.specs.contracts.calls.CallPartialEq.TheImpl.{ghosts as call_eq}
 use Rattle.object_values.specs.Exact.{call_exact}
 use Rattle.odin_outside.specs.Disk.{Telling}
+use Rattle.odin_outside.specs.Spawned.{Spawned}
 use Rattle.meaning_texts.specs.Lists.{IsIn}
 use Rattle.meaning_graph.specs.Graphs.{Graph}
 use Rattle.meaning_derive.specs.Derive.{Outcomes, derived}
@@ -24,23 +25,22 @@ use Rattle.derive_walk.specs.Walks.{Walked, IsRight, OutcomeIsGiven, ExtendsWalk
 use Rattle.derive_walk.proofs.Lemmas.{has_met, met_stays}
 use Rattle.job_runner.specs.Flights.{InFlight}
 use Rattle.job_runner.proofs.Lemmas.{no_more}
-use Rattle.plain_derive.specs.Given.{AreGiven}
+use Rattle.plain_derive.specs.GivenLaws.{AreNew}
 use Rattle.plain_derive.specs.Flights.{Course}
-use Rattle.plain_derive.proofs.Lemmas.{flown_given}
 use Rattle.kept_derive.specs.declared.fault.KeptFault.{KeptFault}
 use Rattle.kept_derive.specs.declared.fault.KeptFault.TheVariants.{Spawn, Disk, Full, Memory}
-use Rattle.kept_derive.specs.Runs.{At, known_in, store_world, keeps_of}
+use Rattle.kept_derive.specs.Knowing.{known_in, KnowsStore}
+use Rattle.kept_derive.specs.Runs.{At, at, store_world, keeps_of}
 use Rattle.kept_derive.specs.declared.landing.Landed.{Landed}
 use Rattle.kept_derive.specs.declared.landing.Landed.TheVariants.{Kept, Lost}
 use Rattle.kept_derive.specs.Calls.{MayDrain, Lands, FailsToLand}
-use Rattle.kept_derive.specs.declared.flight.Flown.{Flown}
-use Rattle.derive_walk.specs.declared.found.Found.{Found}
-use Rattle.kept_derive.specs.Looked.{HasLooked, AreLooks, FlightLooks, sought_by, AreCounted, KeepsMore}
-use Rattle.kept_derive.specs.Ways.{IsOnWay, IsHalted}
+use Rattle.kept_derive.specs.Looked.{HasLooked, AreLooks, sought_by, AreCounted, KeepsMore}
+use Rattle.kept_derive.specs.Ways.{IsOnWay, IsHalted, DrainStops}
 use Rattle.kept_derive.proofs.HeldLemmas.{nothing_behind, in_both, calls_after}
 use Rattle.kept_derive.proofs.CallLemmas.{out_ran}
-use Rattle.kept_derive.proofs.WayLemmas.{flight_at, MayEnd, worlds_are, known_now}
-use Rattle.kept_derive.proofs.TurnLemmas.{flown_over, fails}
+use Rattle.kept_derive.proofs.RestLemmas.{way_rests, fails_rests}
+use Rattle.kept_derive.proofs.StayLemmas.{known_now}
+use Rattle.kept_derive.proofs.TurnLemmas.{MayEndIf, flown_over, fails, gives_up}
 
 -- ---- on the way
 
@@ -84,7 +84,7 @@ same_sought told walked jobs old walked' jobs' new size may Lost has = ap (λ (z
 
 -- ---- calls that are kept
 
-unchanged_kept : (store next : Store) → HoldsOn store next → KeepsMore store next
+pub unchanged_kept : (store next : Store) → HoldsOn store next → KeepsMore store next
 unchanged_kept store next same = record { more = []; is = ap (λ (t : Tables). t.calls) same.tables ∙ sym (nothing_behind store.kept.tables.calls) }
 
 -- ---- as its callers see it
@@ -103,7 +103,7 @@ module _ (g : Graph) (n : Node) where
   looked_wider store next first last spare looked = record { nodes = looked.nodes; different = looked.different; steps = looked.steps; met = looked.met; later = looked.later; each = omega (arith, looked.each) }
 
   -- and more calls may be kept
-  looked_on : (store mid next : Store) (first last spare : ℕ) → KeepsMore mid next → HasLooked g n store mid first last spare → HasLooked g n store next first last spare
+  pub looked_on : (store mid next : Store) (first last spare : ℕ) → KeepsMore mid next → HasLooked g n store mid first last spare → HasLooked g n store next first last spare
   looked_on store mid next first last spare kept looked = record {
     nodes = looked.nodes;
     different = looked.different;
@@ -114,11 +114,11 @@ module _ (g : Graph) (n : Node) where
   }
 
 module _ {D : Type 0} (told : D → Telling) (g : Graph) (n : Node) (first : At D) where
-  has_looked : (walked : Walked) (now : At D) → walked.root ≡ n → AreGiven g first.store.sources.texts (known_in first.store) n walked.given → Performs told (keeps_of walked.given) first.store now.store first.disk now.disk
+  has_looked : (walked : Walked) (now : At D) → walked.root ≡ n → AreNew (known_in first.store) walked.given → Performs told (keeps_of walked.given) first.store now.store first.disk now.disk
       → IsRight (store_world g first.store walked.given) walked → (before last spare : ℕ) → AreCounted before last spare walked → HasLooked g n first.store now.store before last spare
-  has_looked walked now root are goes right before last spare counted =
+  has_looked walked now root new goes right before last spare counted =
       let met = has_met (store_world g first.store walked.given) walked right in
-      let known : ◌≡◌ {A = Outcomes} (known_in now.store) (after (known_in first.store) walked.given) = known_now told g n first walked.given now are goes in
+      let known : ◌≡◌ {A = Outcomes} (known_in now.store) (after (known_in first.store) walked.given) = known_now told g first walked.given now goes new in
       let calls = calls_after told walked.given first.store now.store first.disk now.disk goes in
       record {
         nodes = met.nodes;
@@ -130,56 +130,69 @@ module _ {D : Type 0} (told : D → Telling) (g : Graph) (n : Node) (first : At 
       }
 
   module _ (course : Course) (walked : Walked) (jobs : InFlight) (now : At D) (way : IsOnWay told g n course first walked jobs now) where
-    given_so_far : AreGiven g first.store.sources.texts (known_in first.store) n walked.given
-    given_so_far = flown_given g first.store.sources.texts (known_in first.store) n jobs.limit first.tools course (flight_at walked jobs now.tools) way.flown
-
-    pub way_looked : (before last spare : ℕ) → AreCounted before last spare walked → HasLooked g n first.store now.store before last spare
-    way_looked before last spare counted = has_looked walked now way.root given_so_far way.goes way.right before last spare counted
+    pub way_looked : KnowsStore g first.store → (before last spare : ℕ) → AreCounted before last spare walked → HasLooked g n first.store now.store before last spare
+    way_looked knows before last spare counted = has_looked walked now way.root way.new way.goes (way.right knows).right before last spare counted
 
     -- memory is wanting, and no look was lost
-    pub gives_up_looked : (before last : ℕ) → AreCounted before last 0 walked → HasLooked g n first.store now.store before last 1
-    gives_up_looked before last counted = looked_wider g n first.store now.store before last 1 (way_looked before last 0 counted)
+    pub gives_up_looked : KnowsStore g first.store → (before last : ℕ) → AreCounted before last 0 walked → HasLooked g n first.store now.store before last 1
+    gives_up_looked knows before last counted = looked_wider g n first.store now.store before last 1 (way_looked knows before last 0 counted)
+
+    -- it is given up, and nothing happened
+    pub gives_up_halted : (before last : ℕ) → AreCounted before last 0 walked → (limit : ℕ) → jobs.limit ≡ limit → (tools : Spawned) → tools ≡ now.tools → IsHalted told g n limit first (at now.store now.disk tools) before last Memory
+    gives_up_halted before last counted limit same tools still =
+        let there : IsHalted told g n jobs.limit first now before last Memory = record {
+          stopped = gives_up told g n first course walked jobs now way;
+          looks = λ knows. gives_up_looked knows before last counted;
+          rest = way_rests told g n first course walked jobs now way Memory tt;
+        } in
+        subst (λ (z : ℕ × Spawned). IsHalted told g n z.0 first (at now.store now.disk z.1) before last Memory) (λ i. (same i, sym still i)) there
 
     -- as the walk went on, where memory may have been wanting
-    pub advance_looked : (walked' : Walked) → WalkGoesOn walked walked' → IsRight (store_world g now.store walked'.given) walked' → (before last spare : ℕ) → AreCounted before last spare walked' → HasLooked g n first.store now.store before last spare
-    advance_looked walked' on right before last spare counted =
+    advance_looked : KnowsStore g first.store → (walked' : Walked) → WalkGoesOn walked walked' → IsRight (store_world g first.store walked'.given) walked' → (before last spare : ℕ) → AreCounted before last spare walked' → HasLooked g n first.store now.store before last spare
+    advance_looked knows walked' on right before last spare counted =
         let goes : Performs told (keeps_of walked'.given) first.store now.store first.disk now.disk = subst (λ (l : Calls). Performs told (keeps_of l) first.store now.store first.disk now.disk) (sym on.given) way.goes in
-        has_looked walked' now (on.root ∙ way.root) (subst (AreGiven g first.store.sources.texts (known_in first.store) n) (sym on.given) given_so_far) goes (subst (λ w. IsRight w walked') (worlds_are told g n first walked'.given now goes) right) before last spare counted
+        has_looked walked' now (on.root ∙ way.root) (subst (λ (l : Calls). AreNew (known_in first.store) l) (sym on.given) way.new) goes right before last spare counted
+
+    pub advance_halted : (walked' : Walked) → WalkGoesOn walked walked' → (IsRight (store_world g first.store walked.given) walked → IsRight (store_world g first.store walked'.given) walked')
+        → (before last : ℕ) → AreCounted before last 1 walked' → IsHalted told g n jobs.limit first now before last Memory
+    advance_halted walked' on right before last counted = record {
+      stopped = gives_up told g n first course walked jobs now way;
+      looks = λ knows. advance_looked knows walked' on (right (way.right knows).right) before last 1 counted;
+      rest = way_rests told g n first course walked jobs now way Memory tt;
+    }
 
     -- an end after which it stops
-    pub fails_looked : MayEnd g first.store.sources.texts (known_in first.store) n jobs.limit course (flight_at walked jobs now.tools) → (walked' : Walked) (jobs' : InFlight) (new : At D) (before last : ℕ) (fault : KeptFault)
+    fails_looked : KnowsStore g first.store → MayEndIf told g n first course walked jobs now → (walked' : Walked) (jobs' : InFlight) (new : At D) (before last : ℕ) (fault : KeptFault)
         → FailsToLand told walked jobs now walked' jobs' new fault → AreCounted before last 0 walked → AreLooks told g n jobs.limit first new before last (Err fault)
-    fails_looked may walked' jobs' new before last Spawn none counted = absurd none
-    fails_looked may walked' jobs' new before last Disk has counted = record {
+    fails_looked knows may walked' jobs' new before last Spawn none counted = absurd none
+    fails_looked knows may walked' jobs' new before last Disk has counted = record {
       given = walked.given;
-      call = has.call;
-      outcome = has.outcome;
+      rest = (has.call, has.outcome) ∷ [];
+      few = omega arith;
       mid = now;
-      flown = flown_over told g n first course walked jobs now way may has.call has.outcome jobs' new has.ended;
+      flown = flown_over told g n first course walked jobs now way may knows has.call has.outcome jobs' new has.ended;
       goes = way.goes;
-      looked = way_looked before last 0 counted;
+      looked = way_looked knows before last 0 counted;
     }
-    fails_looked may walked' jobs' new before last (Full end count) has counted = looked_on g n first.store now.store new.store before last 0 (unchanged_kept now.store new.store has.failed.1.0.store_is) (way_looked before last 0 counted)
-    fails_looked may walked' jobs' new before last Memory (inl held) counted = looked_on g n first.store now.store new.store before last 1 (unchanged_kept now.store new.store held.same.store_is) (gives_up_looked before last counted)
-    fails_looked may walked' jobs' new before last Memory (inr has) counted =
+    fails_looked knows may walked' jobs' new before last (Full end count) has counted = looked_on g n first.store now.store new.store before last 0 (unchanged_kept now.store new.store has.failed.1.0.store_is) (way_looked knows before last 0 counted)
+    fails_looked knows may walked' jobs' new before last Memory (inl held) counted = looked_on g n first.store now.store new.store before last 1 (unchanged_kept now.store new.store held.same.store_is) (gives_up_looked knows before last counted)
+    fails_looked knows may walked' jobs' new before last Memory (inr has) counted =
         let kept : KeepsMore now.store new.store = record { more = (has.call, has.outcome) ∷ []; is = calls_after told ((has.call, has.outcome) ∷ []) now.store new.store now.disk new.disk has.goes } in
-        looked_on g n first.store now.store new.store before last 1 kept (gives_up_looked before last counted)
+        looked_on g n first.store now.store new.store before last 1 kept (gives_up_looked knows before last counted)
 
-    -- and so do its looks
-    pub halts : ChangesFollow told → MayEnd g first.store.sources.texts (known_in first.store) n jobs.limit course (flight_at walked jobs now.tools) → (walked' : Walked) (jobs' : InFlight) (new : At D) (fault : KeptFault)
-        → FailsToLand told walked jobs now walked' jobs' new fault → (limit : ℕ) → jobs.limit ≡ limit → (began : Walked) → sought_by walked ≡ sought_by began → IsHalted told g n limit first began new fault
-    halts follow may walked' jobs' new fault has limit same began sought = subst (λ k. IsHalted told g n k first began new fault) same (record {
+    pub halts : ChangesFollow told → MayEndIf told g n first course walked jobs now → (walked' : Walked) (jobs' : InFlight) (new : At D) (fault : KeptFault) → FailsToLand told walked jobs now walked' jobs' new fault
+        → (limit : ℕ) → jobs.limit ≡ limit → (before last : ℕ) → AreCounted before last 0 walked → IsHalted told g n limit first new before last fault
+    halts follow may walked' jobs' new fault has limit same before last counted = subst (λ k. IsHalted told g n k first new before last fault) same (record {
       stopped = fails told g n first course walked jobs now way may follow walked' jobs' new fault has;
-      looks = λ before last counted. fails_looked may walked' jobs' new before last fault has (ends_counted before last began walked counted sought);
+      looks = λ knows. fails_looked knows may walked' jobs' new before last fault has counted;
+      rest = fails_rests told g n first course walked jobs now way walked' jobs' new fault has;
     })
 
 -- as the answers say it
-pub flight_looks_at : {D : Type 0} (result : Result Flown KeptFault) (told : D → Telling) (g : Graph) (n : Node) (limit k : ℕ) (first now : At D) (walked : Walked) (before last : ℕ) (fault : KeptFault) → result ≡ Err fault → k ≡ limit
-    → AreLooks told g n k first now before last (Err fault) → FlightLooks told g n limit first now walked before last result
-flight_looks_at result told g n limit k first now walked before last fault is same looks =
-    subst (FlightLooks told g n limit first now walked before last) (sym is) (subst (λ m. AreLooks told g n m first now before last (Err fault)) same looks)
+pub halted_at : {T D : Type 0} (result : Result T KeptFault) (told : D → Telling) (g : Graph) (n : Node) (limit k : ℕ) (first new : At D) (before last : ℕ) (fault : KeptFault) → result ≡ Err fault → k ≡ limit
+    → IsHalted told g n k first new before last fault → IfErr result (IsHalted told g n limit first new before last)
+halted_at result told g n limit k first new before last fault is same halted =
+    subst (λ r. IfErr r (IsHalted told g n limit first new before last)) (sym is) (subst (λ m. IsHalted told g n m first new before last fault) same halted)
 
-pub looks_at : {D : Type 0} (result : Result Found KeptFault) (told : D → Telling) (g : Graph) (n : Node) (limit k : ℕ) (first now : At D) (before last : ℕ) (fault : KeptFault) → result ≡ Err fault → k ≡ limit
-    → AreLooks told g n k first now before last (Err fault) → AreLooks told g n limit first now before last result
-looks_at result told g n limit k first now before last fault is same looks =
-    subst (AreLooks told g n limit first now before last) (sym is) (subst (λ m. AreLooks told g n m first now before last (Err fault)) same looks)
+pub drain_stops_at : {T D : Type 0} (result : Result T KeptFault) (told : D → Telling) (walked : Walked) (jobs : InFlight) (old new : At D) (fault : KeptFault) → result ≡ Err fault → DrainStops told walked jobs old new fault → IfErr result (DrainStops told walked jobs old new)
+drain_stops_at result told walked jobs old new fault is stops = subst (λ r. IfErr r (DrainStops told walked jobs old new)) (sym is) stops

@@ -1,5 +1,5 @@
 -- What follows where a derivation over what a store keeps did not come to its end.
-use Rattle.std.proofs.Common.{◌≡◌, ◌≢◌, ℕ, [], ◌∷◌, ◌++◌, refl, sym, ap, subst, ◌∙◌}
+use Rattle.std.proofs.Common.{◌≡◌, ◌≢◌, ℕ, [], ◌++◌, refl, sym, ap, subst, ◌∙◌}
 use Rattle.std.specs.Prelude.{Option, Some, None}
 use Rattle.object_values.specs.declared.nodes.Node.{Node}
 use Rattle.object_values.specs.declared.calls.Outcome.{Outcome}
@@ -21,9 +21,10 @@ use Rattle.plain_derive.specs.Flights.{AreFlown}
 use Rattle.plain_derive.proofs.Lemmas.{given_is_in, is_flown}
 use Rattle.kept_derive.specs.declared.fault.KeptFault.{KeptFault}
 use Rattle.kept_derive.specs.declared.fault.KeptFault.TheVariants as fault
-use Rattle.kept_derive.specs.Runs.{At, known_in, keeps_of}
+use Rattle.kept_derive.specs.Knowing.{known_in, KnowsStore}
+use Rattle.kept_derive.specs.Runs.{At, keeps_of}
 use Rattle.kept_derive.specs.Stops.{IsStopped}
-use Rattle.kept_derive.specs.StopLaws.{KeepsCalls, StopsInCalls}
+use Rattle.kept_derive.specs.StopLaws.{KeepsResults, StopsInResults}
 use Rattle.kept_derive.proofs.HeldLemmas.{nothing_behind, in_both, calls_after}
 use Rattle.kept_derive.proofs.LawLemmas.{runs_are_true}
 
@@ -49,27 +50,28 @@ flown_true table g s n limit calls given rest before now answer right flown =
     true_behind table calls given right (subst (λ a. HaveCome a given) answer (λ call o i. is.came call o (in_left (call, o) given rest i)))
 
 module _ {D : Type 0} (told : D → Telling) (g : Graph) (n : Node) (limit : ℕ) (old new : At D) where
-  -- calls were kept, and then nothing changed
+  -- calls were kept, nothing was noted, and then nothing changed
   keeps_before : ChangesFollow told → (given : Calls) (mid : At D) → Performs told (keeps_of given) old.store mid.store old.disk mid.disk → mid.store.epoch ≡ old.store.epoch → IsSame mid.store new.store mid.disk new.disk
-      → KeepsCalls told old new
+      → KeepsResults told old new
   keeps_before follow given mid goes epoch same = record {
     given = given;
+    noted = [];
     goes = subst (λ l. Performs told l old.store new.store old.disk new.disk) (nothing_behind (keeps_of given))
         (follow.behind (keeps_of given) [] old.store mid.store new.store old.disk mid.disk new.disk goes (follow.none mid.store new.store mid.disk new.disk same));
     epoch = same.store_is.epoch ∙ epoch;
   }
 
-  pub stops_keep : ChangesFollow told → (f : KeptFault) → f ≢ fault.Disk → IsStopped told g n limit old new f → KeepsCalls told old new
-  stops_keep follow fault.Spawn apart drained = record { given = drained.given; goes = drained.run.goes; epoch = drained.run.epoch }
+  pub stops_keep : ChangesFollow told → (f : KeptFault) → f ≢ fault.Disk → IsStopped told g n limit old new f → KeepsResults told old new
+  stops_keep follow fault.Spawn apart drained = record { given = drained.given; noted = []; goes = drained.goes; epoch = drained.epoch }
   stops_keep follow fault.Disk apart unkept = absurd (apart refl)
   stops_keep follow (fault.Full end count) apart unkept = keeps_before follow unkept.given unkept.mid unkept.goes unkept.epoch unkept.failed.1.0
-  stops_keep follow fault.Memory apart wanting = record { given = wanting.given; goes = wanting.goes; epoch = wanting.epoch }
+  stops_keep follow fault.Memory apart wanting = record { given = wanting.given; noted = []; goes = wanting.goes; epoch = wanting.epoch }
 
-  pub disk_stops : IsStopped told g n limit old new fault.Disk → StopsInCalls told old new
+  pub disk_stops : IsStopped told g n limit old new fault.Disk → StopsInResults told old new
   disk_stops unkept = record {
     given = unkept.given;
-    call = unkept.call;
-    outcome = unkept.outcome;
+    last = unkept.last;
+    is = unkept.is;
     mid = unkept.mid;
     goes = unkept.goes;
     stops = unkept.failed.1;
@@ -82,11 +84,15 @@ module _ {D : Type 0} (told : D → Telling) (g : Graph) (n : Node) (limit : ℕ
   true_after table given rest next answer right flown calls =
       subst (λ (l : Calls). HasMore (kept_outcome l) (table_outcomes table)) (sym calls) (flown_true table g old.store.sources.texts n limit old.store.kept.tables.calls given rest old.tools new.tools answer right flown)
 
-  pub stops_are_true : (table : Table) (f : KeptFault) → f ≢ fault.Disk → old.tools.answer ≡ Some table → HasMore (known_in old.store) (table_outcomes table) → IsStopped told g n limit old new f → HasMore (known_in new.store) (table_outcomes table)
-  stops_are_true table fault.Spawn apart answer right drained = runs_are_true told table g n limit _ old drained.given new answer right drained.run
-  stops_are_true table fault.Disk apart answer right unkept = absurd (apart refl)
-  stops_are_true table (fault.Full end count) apart answer right unkept =
-      true_after table unkept.given ((unkept.call, unkept.outcome) ∷ []) new.store answer right unkept.flown
+  pub stops_are_true : (table : Table) (f : KeptFault) → f ≢ fault.Disk → old.tools.answer ≡ Some table → HasMore (known_in old.store) (table_outcomes table) → KnowsStore g old.store
+      → IsStopped told g n limit old new f → HasMore (known_in new.store) (table_outcomes table)
+  stops_are_true table fault.Spawn apart answer right knows drained =
+      runs_are_true told table g n limit _ old drained.given [] new answer right (record { run = (drained.right knows).run; goes = drained.goes; epoch = drained.epoch })
+  stops_are_true table fault.Disk apart answer right knows unkept = absurd (apart refl)
+  stops_are_true table (fault.Full end count) apart answer right knows unkept =
+      let rightly = unkept.right knows in
+      true_after table unkept.given rightly.rest new.store answer right rightly.flown
       (ap (λ (t : Tables). t.calls) unkept.failed.1.0.store_is.tables ∙ calls_after told unkept.given old.store unkept.mid.store old.disk unkept.mid.disk unkept.goes)
-  stops_are_true table fault.Memory apart answer right wanting =
-      true_after table wanting.given wanting.rest new.store answer right wanting.flown (calls_after told wanting.given old.store new.store old.disk new.disk wanting.goes)
+  stops_are_true table fault.Memory apart answer right knows wanting =
+      let rightly = wanting.right knows in
+      true_after table wanting.given rightly.rest new.store answer right rightly.flown (calls_after told wanting.given old.store new.store old.disk new.disk wanting.goes)

@@ -1,16 +1,16 @@
 -- One turn of a derivation on its way: a call is started, or one ends or is lost, or the walk goes on.
 use Rattle.std.proofs.Common.{◌≡◌, ◌≤◌, ℕ, List, [], ◌∷◌, ◌++◌, length, inl, inr, refl, sym, ap, subst, arith, append_assoc, length-append, ◌∙◌}
-use Rattle.std.specs.Prelude.{Bool, None, Result, Err, IfErr, IsTrue}
+use Rattle.std.specs.Prelude.{Bool, None, IsTrue}
 use Rattle.object_values.specs.declared.nodes.Node.{Node}
 use Rattle.object_values.specs.declared.calls.Call.{Call}
 use Rattle.object_values.specs.declared.calls.Outcome.{Outcome}
 use Rattle.odin_outside.specs.declared.events.ToolEvent.TheVariants.{Ended, Lost as LostEnd}
 use Rattle.odin_outside.specs.Causes.{IsCounted}
 use Rattle.odin_outside.specs.Disk.{Telling}
-use Rattle.odin_outside.specs.Spawned.{Spawned, begun, Fails}
+use Rattle.odin_outside.specs.Spawned.{Spawned, Fails}
 use Rattle.meaning_texts.specs.Lists.{IsIn}
 use Rattle.meaning_graph.specs.Graphs.{Graph}
-use Rattle.meaning_derive.specs.Derive.{Sources, Outcomes}
+use Rattle.meaning_derive.specs.Derive.{Sources}
 use Rattle.meaning_records.specs.Tables.{Calls}
 use Rattle.odin_journal.specs.declared.fault.JournalFault.{JournalFault}
 use Rattle.odin_journal.specs.declared.fault.JournalFault.TheVariants as store
@@ -19,28 +19,32 @@ use Rattle.odin_store.specs.declared.store.Store.{Store}
 use Rattle.odin_store.specs.Held.{Change, keeps}
 use Rattle.odin_store.specs.OnDisk.{IsSame}
 use Rattle.odin_store.specs.Going.{Performs, ChangesFollow}
+use Rattle.derive_walk.specs.Keeping.{Keeping}
 use Rattle.derive_walk.specs.Outcomes.{after}
-use Rattle.derive_walk.specs.Walks.{Walked, IsRight, IsAdvanced, ExtendsWalk as WalkGoesOn}
-use Rattle.derive_walk.specs.Worlds.{world}
+use Rattle.derive_walk.specs.Settings.{world_by}
+use Rattle.derive_walk.specs.Walks.{Walked, IsFormed, IsRight, IsAdvanced, ExtendsWalk as WalkGoesOn}
+use Rattle.derive_core.specs.Kept.{keeping_of}
 use Rattle.job_runner.specs.declared.jobs.Flying.{Flying}
 use Rattle.job_runner.specs.Flights.{InFlight, flying, calls_in, AreDistinct, landed, IsOut, HasBegun, HasEnded, HasLost}
 use Rattle.job_runner.specs.Made.{IsOutcomeOfCall}
-use Rattle.job_runner.proofs.Lemmas.{distinct_more, calls_one_more, call_or_last}
+use Rattle.job_runner.proofs.Lemmas.{distinct_more, calls_one_more, call_or_last, begun_told}
 use Rattle.plain_derive.specs.Given.{IsRefusedBy}
+use Rattle.plain_derive.specs.GivenLaws.{AreNew}
 use Rattle.plain_derive.specs.Flights.{Flight, ends, loses, Course, on_course, off_course, for_chain, for_spawn, WaitsForCall, IsCalled, MayBegin, Flies, AreFlown}
-use Rattle.plain_derive.proofs.Lemmas.{flown_answer}
 use Rattle.kept_derive.specs.declared.fault.KeptFault.{KeptFault}
 use Rattle.kept_derive.specs.declared.fault.KeptFault.TheVariants.{Spawn, Disk, Full, Memory}
+use Rattle.kept_derive.specs.Knowing.{known_in, KnowsStore}
 use Rattle.kept_derive.specs.Looked.{AreCounted}
-use Rattle.kept_derive.specs.Runs.{At, at, known_in, store_world, keeps_of}
+use Rattle.kept_derive.specs.Runs.{At, at, store_world, keeps_of}
 use Rattle.kept_derive.specs.Stops.{IsUnkept, IsStopped}
 use Rattle.kept_derive.specs.declared.landing.Landed.{Landed}
 use Rattle.kept_derive.specs.declared.landing.Landed.TheVariants.{Kept, Lost}
 use Rattle.kept_derive.specs.Calls.{HasLanded, HasCrashed, HasSpilled, Lands, FailsToLand}
-use Rattle.kept_derive.specs.Ways.{IsOnWay, IsStartable, StaysOff, DrainStops}
+use Rattle.kept_derive.specs.Ways.{IsOnWay, IsStartable, StaysOff}
 use Rattle.kept_derive.proofs.HeldLemmas.{keeps_one_more, nothing_behind}
 use Rattle.kept_derive.proofs.CallLemmas.{same_here, out_rest, out_limit, out_ran, out_fewer, out_before, out_other, out_apart}
-use Rattle.kept_derive.proofs.WayLemmas.{flight_at, MayEnd, worlds_are, waits, frontier}
+use Rattle.kept_derive.proofs.StayLemmas.{one_more_new}
+use Rattle.kept_derive.proofs.WayLemmas.{flight_at, MayEnd, waits, frontier, on_other}
 
 -- a lost end puts a derivation off its course, if it isn't off it yet
 abbrev pub after_loss : Course → Course
@@ -48,7 +52,7 @@ after_loss on_course = off_course for_spawn
 after_loss (off_course why) = off_course why
 
 -- changes, and then none
-still_goes : {D : Type 0} (told : D → Telling) → ChangesFollow told → (changes : List Change) (first mid last : At D) → Performs told changes first.store mid.store first.disk mid.disk → IsSame mid.store last.store mid.disk last.disk
+pub still_goes : {D : Type 0} (told : D → Telling) → ChangesFollow told → (changes : List Change) (first mid last : At D) → Performs told changes first.store mid.store first.disk mid.disk → IsSame mid.store last.store mid.disk last.disk
     → Performs told changes first.store last.store first.disk last.disk
 still_goes told follow changes first mid last goes same =
     subst (λ l. Performs told l first.store last.store first.disk last.disk) (nothing_behind changes)
@@ -79,118 +83,139 @@ module _ {D : Type 0} (told : D → Telling) (g : Graph) (n : Node) (first : At 
     calm = called.calm;
   }
 
-  module _ (course : Course) (walked : Walked) (jobs : InFlight) (old : At D) (way : IsOnWay told g n course first walked jobs old)
-      (may : MayEnd g first.store.sources.texts (known_in first.store) n jobs.limit course (flight_at walked jobs old.tools)) where
-    flight_ended : (call : Call) (outcome : Outcome) (jobs' : InFlight) (new : At D) → HasEnded call outcome jobs old.tools jobs' new.tools
+  -- an end may be waited for where it is right
+  abbrev pub MayEndIf : Course → Walked → InFlight → At D → Type 0
+  MayEndIf course walked jobs now = KnowsStore g first.store → MayEnd g first.store.sources.texts (known_in first.store) n jobs.limit course (flight_at walked jobs now.tools)
+
+  module _ (course : Course) (walked : Walked) (jobs : InFlight) (old : At D) (way : IsOnWay told g n course first walked jobs old) (may : MayEndIf course walked jobs old) where
+    flight_ended : KnowsStore g first.store → (call : Call) (outcome : Outcome) (jobs' : InFlight) (new : At D) → HasEnded call outcome jobs old.tools jobs' new.tools
         → Flies g first.store.sources.texts (known_in first.store) n jobs.limit first.tools course (record { running = jobs'.running; given = walked.given ++ (call, outcome) ∷ []; tools = new.tools })
-    flight_ended call outcome jobs' new ended =
+    flight_ended knows call outcome jobs' new ended =
+        let is = way.right knows in
         let rest : jobs'.running ≡ ended.out.front ++ ended.out.back = out_rest ended.slot call jobs jobs' ended.out in
         let tools : new.tools ≡ landed old.tools (ended.out.front ++ ended.out.back) (Ended ended.slot) old.tools.faults = ended.told ∙ ap (λ l. landed old.tools l (Ended ended.slot) old.tools.faults) rest in
         subst (λ (z : List Flying × Spawned). Flies g first.store.sources.texts (known_in first.store) n jobs.limit first.tools course (record { running = z.0; given = walked.given ++ (call, outcome) ∷ []; tools = z.1 })) (λ i. (sym rest i, sym tools i))
-        (flies_ended course (flight_at walked jobs old.tools) jobs.limit ended.out.front ended.out.back ended.slot call outcome way.flown may ended.out.was
-        (waits told g n first course walked jobs old way call (way.runs call (out_ran ended.slot call jobs jobs' ended.out)))
-        (subst (λ a. IsOutcomeOfCall a call outcome) (flown_answer g first.store.sources.texts (known_in first.store) n jobs.limit first.tools course (flight_at walked jobs old.tools) way.flown) ended.came))
+        (flies_ended course (flight_at walked jobs old.tools) jobs.limit ended.out.front ended.out.back ended.slot call outcome is.flown (may knows) ended.out.was
+        (waits told g n first course walked jobs old way is call (way.runs call (out_ran ended.slot call jobs jobs' ended.out)))
+        (subst (λ a. IsOutcomeOfCall a call outcome) way.answer ended.came))
 
-    flight_lost : (jobs' : InFlight) (new : At D) → HasLost jobs old.tools jobs' new.tools
+    flight_lost : KnowsStore g first.store → (jobs' : InFlight) (new : At D) → HasLost jobs old.tools jobs' new.tools
         → Flies g first.store.sources.texts (known_in first.store) n jobs.limit first.tools (after_loss course) (record { running = jobs'.running; given = walked.given; tools = new.tools })
-    flight_lost jobs' new lost =
+    flight_lost knows jobs' new lost =
         let rest : jobs'.running ≡ lost.out.front ++ lost.out.back = out_rest lost.slot lost.call jobs jobs' lost.out in
         let tools : new.tools ≡ landed old.tools (lost.out.front ++ lost.out.back) (LostEnd lost.slot) new.tools.faults = lost.told ∙ ap (λ l. landed old.tools l (LostEnd lost.slot) new.tools.faults) rest in
         subst (λ (z : List Flying × Spawned). Flies g first.store.sources.texts (known_in first.store) n jobs.limit first.tools (after_loss course) (record { running = z.0; given = walked.given; tools = z.1 })) (λ i. (sym rest i, sym tools i))
-        (flies_lost course (flight_at walked jobs old.tools) jobs.limit lost.out.front lost.out.back lost.slot lost.call new.tools.faults way.flown may lost.out.was lost.counted)
+        (flies_lost course (flight_at walked jobs old.tools) jobs.limit lost.out.front lost.out.back lost.slot lost.call new.tools.faults (way.right knows).flown (may knows) lost.out.was lost.counted)
 
     few_left : (slot : ℕ) (call : Call) (jobs' : InFlight) → IsOut slot call jobs jobs' → length jobs'.running ≤ jobs.limit
     few_left slot call jobs' out = omega (arith, way.few, out_fewer slot call jobs jobs' out)
 
     -- one ended as it may, is kept, and is given to the walk
-    pub lands : ChangesFollow told → (walked' : Walked) (jobs' : InFlight) (new : At D) → HasLanded told walked jobs old walked' jobs' new → IsRight (store_world g first.store walked'.given) walked' → IsOnWay told g n course first walked' jobs' new
-    lands follow walked' jobs' new has right =
-        let limit : jobs'.limit ≡ jobs.limit = out_limit has.ended.slot has.call jobs jobs' has.ended.out in
+    pub lands : ChangesFollow told → (walked' : Walked) (jobs' : InFlight) (new : At D) → HasLanded told walked jobs old walked' jobs' new → IsFormed (store_world g first.store walked'.given) walked'
+        → (IsRight (store_world g first.store walked.given) walked → IsRight (store_world g first.store walked'.given) walked') → IsOnWay told g n course first walked' jobs' new
+    lands follow walked' jobs' new has formed right =
+        let out = has.ended.out in
+        let limit : jobs'.limit ≡ jobs.limit = out_limit has.ended.slot has.call jobs jobs' out in
         record {
           root = has.given.root ∙ way.root;
-          flown = subst (λ (z : ℕ × Calls). Flies g first.store.sources.texts (known_in first.store) n z.0 first.tools course (record { running = jobs'.running; given = z.1; tools = new.tools })) (λ i. (sym limit i, sym has.given.given i))
-              (flight_ended has.call has.outcome jobs' new has.ended);
-          apart = out_apart has.ended.slot has.call jobs jobs' has.ended.out way.apart;
-          few = omega (arith, few_left has.ended.slot has.call jobs' has.ended.out, limit);
+          running = ap (λ (z : Spawned). z.running) has.ended.told;
+          apart = out_apart has.ended.slot has.call jobs jobs' out way.apart;
+          few = omega (arith, few_left has.ended.slot has.call jobs' out, limit);
+          answer = ap (λ (z : Spawned). z.answer) has.ended.told ∙ way.answer;
+          later = subst (λ k. first.tools.faults ≤ k) (sym (ap (λ (z : Spawned). z.faults) has.ended.told)) way.later;
           goes = subst (λ l. Performs told l first.store new.store first.disk new.disk) (sym (ap keeps_of has.given.given ∙ keeps_one_more walked.given has.call has.outcome))
               (follow.behind (keeps_of walked.given) (keeps has.call has.outcome ∷ []) first.store old.store new.store first.disk old.disk new.disk way.goes has.goes);
           epoch = has.epoch ∙ way.epoch;
-          right = right;
-          runs = λ c i. (has.given.wanted c).1 (way.runs c (out_before has.ended.slot has.call jobs jobs' has.ended.out c i), out_other has.ended.slot has.call jobs jobs' has.ended.out way.apart c i);
-          called = λ still c i. called_on walked.given walked'.given ((has.call, has.outcome) ∷ []) c has.given.given (way.called (sym has.given.result ∙ still) c ((has.given.wanted c).0 i).0);
+          nodes = has.nodes ∙ way.nodes;
+          new = subst (λ (l : Calls). AreNew (known_in first.store) l) (sym has.given.given)
+              (one_more_new (known_in first.store) walked.given has.call has.outcome way.new (way.formed.wanted.outside has.call (way.runs has.call (out_ran has.ended.slot has.call jobs jobs' out))));
+          formed = formed;
+          runs = λ c i. (has.given.wanted c).1 (way.runs c (out_before has.ended.slot has.call jobs jobs' out c i), out_other has.ended.slot has.call jobs jobs' out way.apart c i);
+          right = λ knows. let is = way.right knows in record {
+            flown = subst (λ (z : ℕ × Calls). Flies g first.store.sources.texts (known_in first.store) n z.0 first.tools course (record { running = jobs'.running; given = z.1; tools = new.tools })) (λ i. (sym limit i, sym has.given.given i))
+                (flight_ended knows has.call has.outcome jobs' new has.ended);
+            right = right is.right;
+            called = λ still c i. called_on walked.given walked'.given ((has.call, has.outcome) ∷ []) c has.given.given (is.called (sym has.given.result ∙ still) c ((has.given.wanted c).0 i).0);
+          };
         }
 
     -- its end was lost
     pub crashes : ChangesFollow told → (walked' : Walked) (jobs' : InFlight) (new : At D) → HasCrashed told walked jobs old walked' jobs' new → IsOnWay told g n (after_loss course) first walked' jobs' new
     crashes follow walked' jobs' new has =
-        let limit : jobs'.limit ≡ jobs.limit = out_limit has.lost.slot has.lost.call jobs jobs' has.lost.out in
+        let out = has.lost.out in
+        let limit : jobs'.limit ≡ jobs.limit = out_limit has.lost.slot has.lost.call jobs jobs' out in
         let there : IsOnWay told g n (after_loss course) first walked jobs' new = record {
           root = way.root;
-          flown = subst (λ (z : ℕ). Flies g first.store.sources.texts (known_in first.store) n z first.tools (after_loss course) (record { running = jobs'.running; given = walked.given; tools = new.tools })) (sym limit) (flight_lost jobs' new has.lost);
-          apart = out_apart has.lost.slot has.lost.call jobs jobs' has.lost.out way.apart;
-          few = omega (arith, few_left has.lost.slot has.lost.call jobs' has.lost.out, limit);
+          running = ap (λ (z : Spawned). z.running) has.lost.told;
+          apart = out_apart has.lost.slot has.lost.call jobs jobs' out way.apart;
+          few = omega (arith, few_left has.lost.slot has.lost.call jobs' out, limit);
+          answer = ap (λ (z : Spawned). z.answer) has.lost.told ∙ way.answer;
+          later = omega (arith, way.later, has.lost.counted.later);
           goes = still_goes told follow (keeps_of walked.given) first old new way.goes has.same;
           epoch = has.same.store_is.epoch ∙ way.epoch;
-          right = way.right;
-          runs = λ c i. way.runs c (out_before has.lost.slot has.lost.call jobs jobs' has.lost.out c i);
-          called = way.called;
+          nodes = has.same.nodes ∙ way.nodes;
+          new = way.new;
+          formed = way.formed;
+          runs = λ c i. way.runs c (out_before has.lost.slot has.lost.call jobs jobs' out c i);
+          right = λ knows. let is = way.right knows in record {
+            flown = subst (λ (z : ℕ). Flies g first.store.sources.texts (known_in first.store) n z first.tools (after_loss course) (record { running = jobs'.running; given = walked.given; tools = new.tools })) (sym limit) (flight_lost knows jobs' new has.lost);
+            right = is.right;
+            called = is.called;
+          };
         } in
         subst (λ (z : Walked). IsOnWay told g n (after_loss course) first z jobs' new) (sym has.walk) there
 
     -- ---- it stops at a fault
 
     -- up to an end with which nothing was kept
-    pub flown_over : (call : Call) (outcome : Outcome) (jobs' : InFlight) (new : At D) → HasEnded call outcome jobs old.tools jobs' new.tools
+    pub flown_over : KnowsStore g first.store → (call : Call) (outcome : Outcome) (jobs' : InFlight) (new : At D) → HasEnded call outcome jobs old.tools jobs' new.tools
         → AreFlown g first.store.sources.texts (known_in first.store) n jobs.limit (walked.given ++ (call, outcome) ∷ []) first.tools new.tools
-    flown_over call outcome jobs' new ended = record { course = course; running = jobs'.running; few = few_left ended.slot call jobs' ended.out; flown = flight_ended call outcome jobs' new ended }
+    flown_over knows call outcome jobs' new ended = record { course = course; running = jobs'.running; few = few_left ended.slot call jobs' ended.out; flown = flight_ended knows call outcome jobs' new ended }
 
     spills : (fault : JournalFault) (walked' : Walked) (jobs' : InFlight) (new : At D) → HasSpilled told walked jobs old walked' jobs' new fault → IsUnkept told g n jobs.limit fault first new
     spills fault walked' jobs' new has = record {
       given = walked.given;
-      call = has.call;
-      outcome = has.outcome;
+      last = keeps has.call has.outcome;
+      is = tt;
       mid = old;
-      flown = flown_over has.call has.outcome jobs' new has.ended;
       goes = way.goes;
       epoch = way.epoch;
       failed = has.failed;
+      right = λ knows. record { rest = (has.call, has.outcome) ∷ []; ends = (refl, refl); flown = flown_over knows has.call has.outcome jobs' new has.ended };
     }
 
     pub fails : ChangesFollow told → (walked' : Walked) (jobs' : InFlight) (new : At D) (fault : KeptFault) → FailsToLand told walked jobs old walked' jobs' new fault → IsStopped told g n jobs.limit first new fault
     fails follow walked' jobs' new Spawn none = absurd none
     fails follow walked' jobs' new Disk has = spills store.Disk walked' jobs' new has
     fails follow walked' jobs' new (Full end count) has = spills (store.Full end count) walked' jobs' new has
-    fails follow walked' jobs' new Memory (inl held) = elim held.may [
-      | inl none ↦ record {
-        given = walked.given;
-        rest = [];
-        few = omega arith;
-        flown = record {
-          course = course;
-          running = jobs.running;
-          few = way.few;
-          flown = subst (λ (z : Calls × Spawned). Flies g first.store.sources.texts (known_in first.store) n jobs.limit first.tools course (record { running = jobs.running; given = z.0; tools = z.1 })) (λ i. (sym (nothing_behind walked.given) i, sym none.1 i)) way.flown;
-        };
-        goes = still_goes told follow (keeps_of walked.given) first old new way.goes held.same;
-        epoch = held.same.store_is.epoch ∙ way.epoch;
-      }
-      | inr up ↦ record {
-        given = walked.given;
-        rest = (up.call, up.outcome) ∷ [];
-        few = omega arith;
-        flown = flown_over up.call up.outcome jobs' new up.ended;
-        goes = still_goes told follow (keeps_of walked.given) first old new way.goes held.same;
-        epoch = held.same.store_is.epoch ∙ way.epoch;
-      }
-    ]
+    fails follow walked' jobs' new Memory (inl held) = record {
+      given = walked.given;
+      goes = still_goes told follow (keeps_of walked.given) first old new way.goes held.same;
+      epoch = held.same.store_is.epoch ∙ way.epoch;
+      right = λ knows. elim held.may [
+        | inl none ↦ record {
+          rest = [];
+          few = omega arith;
+          flown = record {
+            course = course;
+            running = jobs.running;
+            few = way.few;
+            flown = subst (λ (z : Calls × Spawned). Flies g first.store.sources.texts (known_in first.store) n jobs.limit first.tools course (record { running = jobs.running; given = z.0; tools = z.1 })) (λ i. (sym (nothing_behind walked.given) i, sym none.1 i)) (way.right knows).flown;
+          };
+        }
+        | inr up ↦ record { rest = (up.call, up.outcome) ∷ []; few = omega arith; flown = flown_over knows up.call up.outcome jobs' new up.ended }
+      ];
+    }
     fails follow walked' jobs' new Memory (inr has) = record {
       given = walked.given ++ (has.call, has.outcome) ∷ [];
-      rest = [];
-      few = omega arith;
-      flown = subst (λ (l : Calls). AreFlown g first.store.sources.texts (known_in first.store) n jobs.limit l first.tools new.tools) (sym (nothing_behind (walked.given ++ (has.call, has.outcome) ∷ []))) (flown_over has.call has.outcome jobs' new has.ended);
       goes = subst (λ l. Performs told l first.store new.store first.disk new.disk) (sym (keeps_one_more walked.given has.call has.outcome))
           (follow.behind (keeps_of walked.given) (keeps has.call has.outcome ∷ []) first.store old.store new.store first.disk old.disk new.disk way.goes has.goes);
       epoch = has.epoch ∙ way.epoch;
+      right = λ knows. record {
+        rest = [];
+        few = omega arith;
+        flown = subst (λ (l : Calls). AreFlown g first.store.sources.texts (known_in first.store) n jobs.limit l first.tools new.tools) (sym (nothing_behind (walked.given ++ (has.call, has.outcome) ∷ []))) (flown_over knows has.call has.outcome jobs' new has.ended);
+      };
     }
 
   -- ---- where it is
@@ -199,37 +224,35 @@ module _ {D : Type 0} (told : D → Telling) (g : Graph) (n : Node) (first : At 
   pub none_begun : ChangesFollow told → (limit : ℕ) → IsStopped told g n limit first first Memory
   none_begun follow limit = record {
     given = [];
-    rest = [];
-    few = omega arith;
-    flown = record { course = on_course; running = []; few = omega arith; flown = Flies.none_flown };
     goes = follow.none first.store first.store first.disk first.disk (same_here first.store first.disk);
     epoch = refl;
+    right = λ knows. record {
+      rest = [];
+      few = omega arith;
+      flown = record { course = on_course; running = []; few = omega arith; flown = Flies.none_flown };
+    };
   }
 
   module _ (course : Course) (walked : Walked) (jobs : InFlight) (old : At D) (way : IsOnWay told g n course first walked jobs old) where
+    pub flown_so_far : KnowsStore g first.store → AreFlown g first.store.sources.texts (known_in first.store) n jobs.limit (walked.given ++ []) first.tools old.tools
+    flown_so_far knows = record {
+      course = course;
+      running = jobs.running;
+      few = way.few;
+      flown = subst (λ (l : Calls). Flies g first.store.sources.texts (known_in first.store) n jobs.limit first.tools course (record { running = jobs.running; given = l; tools = old.tools })) (sym (nothing_behind walked.given)) (way.right knows).flown;
+    }
+
     -- memory was wanting, and nothing happened
-    pub gives_up : (limit : ℕ) → jobs.limit ≡ limit → (tools : Spawned) → tools ≡ old.tools → IsStopped told g n limit first (at old.store old.disk tools) Memory
-    gives_up limit same tools still =
-        let there : IsStopped told g n jobs.limit first old Memory = record {
-          given = walked.given;
-          rest = [];
-          few = omega arith;
-          flown = record {
-            course = course;
-            running = jobs.running;
-            few = way.few;
-            flown = subst (λ (l : Calls). Flies g first.store.sources.texts (known_in first.store) n jobs.limit first.tools course (record { running = jobs.running; given = l; tools = old.tools })) (sym (nothing_behind walked.given)) way.flown;
-          };
-          goes = way.goes;
-          epoch = way.epoch;
-        } in
-        subst (λ (z : ℕ × Spawned). IsStopped told g n z.0 first (at old.store old.disk z.1) Memory) (λ i. (same i, sym still i)) there
+    pub gives_up : IsStopped told g n jobs.limit first old Memory
+    gives_up = record { given = walked.given; goes = way.goes; epoch = way.epoch; right = λ knows. record { rest = []; few = omega arith; flown = flown_so_far knows } }
 
   -- ---- on its course
 
   module _ (walked : Walked) (jobs : InFlight) (old : At D) (way : IsOnWay told g n on_course first walked jobs old) where
-    may_begin : walked.result ≡ None → (call : Call) → IsStartable walked.wanted jobs call → MayBegin g first.store.sources.texts (known_in first.store) n jobs.limit (flight_at walked jobs old.tools) call
-    may_begin still call next = record { waits = waits told g n first on_course walked jobs old way call next.wanted; called = way.called still call next.wanted; new = next.new; room = next.room }
+    may_begin : KnowsStore g first.store → walked.result ≡ None → (call : Call) → IsStartable walked.wanted jobs call → MayBegin g first.store.sources.texts (known_in first.store) n jobs.limit (flight_at walked jobs old.tools) call
+    may_begin knows still call next =
+        let is = way.right knows in
+        record { waits = waits told g n first on_course walked jobs old way is call next.wanted; called = is.called still call next.wanted; new = next.new; room = next.room }
 
     -- a call is started
     pub starts : walked.result ≡ None → (call : Call) (jobs' : InFlight) (tools : Spawned) → IsStartable walked.wanted jobs call → HasBegun call jobs old.tools jobs' tools → IsOnWay told g n on_course first walked jobs' (at old.store old.disk tools)
@@ -238,18 +261,26 @@ module _ {D : Type 0} (told : D → Telling) (g : Graph) (n : Node) (first : At 
         let limit : jobs'.limit ≡ jobs.limit = ap (λ (z : InFlight). z.limit) begins.is in
         record {
           root = way.root;
-          flown = subst (λ (z : InFlight × Spawned). Flies g first.store.sources.texts (known_in first.store) n z.0.limit first.tools on_course (record { running = z.0.running; given = walked.given; tools = z.1 })) (λ i. (sym begins.is i, sym begins.told i))
-              (Flies.one_began (flight_at walked jobs old.tools) begins.slot call way.flown (may_begin still call next) begins.free);
+          running = begun_told jobs old.tools way.running jobs' tools call begins;
           apart = subst (λ (l : List Flying). AreDistinct (calls_in l)) (sym running) (subst AreDistinct (sym (calls_one_more jobs.running (flying begins.slot call))) (distinct_more (calls_in jobs.running) call way.apart next.new));
           few = omega (arith, next.room, limit, ap length running, length-append jobs.running (flying begins.slot call ∷ []));
+          answer = ap (λ (z : Spawned). z.answer) begins.told ∙ way.answer;
+          later = subst (λ k. first.tools.faults ≤ k) (sym (ap (λ (z : Spawned). z.faults) begins.told)) way.later;
           goes = way.goes;
           epoch = way.epoch;
-          right = way.right;
+          nodes = way.nodes;
+          new = way.new;
+          formed = way.formed;
           runs = λ c i. elim (call_or_last jobs.running begins.slot call c (subst (λ (l : List Flying). IsIn c (calls_in l)) running i)) [
             | inl j ↦ way.runs c j
             | inr e ↦ subst (λ z. IsIn z walked.wanted) (sym e) next.wanted
           ];
-          called = way.called;
+          right = λ knows. let is = way.right knows in record {
+            flown = subst (λ (z : InFlight × Spawned). Flies g first.store.sources.texts (known_in first.store) n z.0.limit first.tools on_course (record { running = z.0.running; given = walked.given; tools = z.1 })) (λ i. (sym begins.is i, sym begins.told i))
+                (Flies.one_began (flight_at walked jobs old.tools) begins.slot call is.flown (may_begin knows still call next) begins.free);
+            right = is.right;
+            called = is.called;
+          };
         }
 
     -- a start is refused
@@ -257,75 +288,78 @@ module _ {D : Type 0} (told : D → Telling) (g : Graph) (n : Node) (first : At 
     refuses still call jobs' tools next same fails =
         let there : IsOnWay told g n (off_course for_spawn) first walked jobs (at old.store old.disk tools) = record {
           root = way.root;
-          flown = Flies.start_refused (flight_at walked jobs old.tools) call tools way.flown (may_begin still call next) fails;
+          running = ap (λ (z : Spawned). z.running) fails.is ∙ way.running;
           apart = way.apart;
           few = way.few;
+          answer = ap (λ (z : Spawned). z.answer) fails.is ∙ way.answer;
+          later = omega (arith, way.later, fails.counted.later);
           goes = way.goes;
           epoch = way.epoch;
-          right = way.right;
+          nodes = way.nodes;
+          new = way.new;
+          formed = way.formed;
           runs = way.runs;
-          called = way.called;
+          right = λ knows. let is = way.right knows in record {
+            flown = Flies.start_refused (flight_at walked jobs old.tools) call tools is.flown (may_begin knows still call next) fails;
+            right = is.right;
+            called = is.called;
+          };
         } in
         subst (λ (z : InFlight). IsOnWay told g n (off_course for_spawn) first walked z (at old.store old.disk tools)) (sym same) there
 
     -- The walk goes on as far as it can.
-    pub advances : (walked' : Walked) → WalkGoesOn walked walked' → IsRight (store_world g old.store walked'.given) walked' → IsAdvanced (store_world g old.store walked'.given) walked' → IsOnWay told g n on_course first walked' jobs old
-    advances walked' on right ended =
-        let goes : Performs told (keeps_of walked'.given) first.store old.store first.disk old.disk = subst (λ (l : Calls). Performs told (keeps_of l) first.store old.store first.disk old.disk) (sym on.given) way.goes in
-        let worlds = worlds_are told g n first walked'.given old goes in
+    pub advances : (walked' : Walked) → WalkGoesOn walked walked' → IsFormed (store_world g first.store walked'.given) walked'
+        → (IsRight (store_world g first.store walked.given) walked → IsRight (store_world g first.store walked'.given) walked' × IsAdvanced (store_world g first.store walked'.given) walked')
+        → IsOnWay told g n on_course first walked' jobs old
+    advances walked' on formed right =
         let root : walked'.root ≡ n = on.root ∙ way.root in
         record {
           root = root;
-          flown = subst (λ (l : Calls). Flies g first.store.sources.texts (known_in first.store) n jobs.limit first.tools on_course (record { running = jobs.running; given = l; tools = old.tools })) (sym on.given) way.flown;
+          running = way.running;
           apart = way.apart;
           few = way.few;
-          goes = goes;
+          answer = way.answer;
+          later = way.later;
+          goes = subst (λ (l : Calls). Performs told (keeps_of l) first.store old.store first.disk old.disk) (sym on.given) way.goes;
           epoch = way.epoch;
-          right = subst (λ w. IsRight w walked') worlds right;
+          nodes = way.nodes;
+          new = subst (λ (l : Calls). AreNew (known_in first.store) l) (sym on.given) way.new;
+          formed = formed;
           runs = λ c i. on.wanted c (way.runs c i);
-          called = λ still c i.
-              let there = frontier told g n first walked' old root goes still ended in
-              record { seen = walked'.given; since = []; is = sym (nothing_behind walked'.given); stops = there.only c i; calm = λ r. there.calm r.chain r.is };
+          right = λ knows. let is = way.right knows in let there = right is.right in record {
+            flown = subst (λ (l : Calls). Flies g first.store.sources.texts (known_in first.store) n jobs.limit first.tools on_course (record { running = jobs.running; given = l; tools = old.tools })) (sym on.given) is.flown;
+            right = there.0;
+            called = λ still c i.
+                let all = frontier told g n first walked' root still there.1 in
+                record { seen = walked'.given; since = []; is = sym (nothing_behind walked'.given); stops = all.only c i; calm = λ r. all.calm r.chain r.is };
+          };
         }
 
     -- A chain is found: nothing more is started.
-    pub finds_chain : IsRefusedBy g first.store.sources.texts (after (known_in first.store) walked.given) n → IsOnWay told g n (off_course for_chain) first walked jobs old
-    finds_chain refused = record {
-      root = way.root;
-      flown = Flies.chain_found (flight_at walked jobs old.tools) way.flown refused;
-      apart = way.apart;
-      few = way.few;
-      goes = way.goes;
-      epoch = way.epoch;
-      right = way.right;
-      runs = way.runs;
-      called = way.called;
-    }
+    pub finds_chain : (KnowsStore g first.store → IsRefusedBy g first.store.sources.texts (after (known_in first.store) walked.given) n) → IsOnWay told g n (off_course for_chain) first walked jobs old
+    finds_chain refused = on_other told g n first on_course (off_course for_chain) walked jobs old way (λ knows. let is = way.right knows in record {
+      flown = Flies.chain_found (flight_at walked jobs old.tools) is.flown (refused knows);
+      right = is.right;
+      called = is.called;
+    })
 
 -- ---- off its course, whether an end was lost or not
 
 pub stays_off : {D : Type 0} (told : D → Telling) → ChangesFollow told → (walked : Walked) (jobs : InFlight) (old : At D) (walked' : Walked) (jobs' : InFlight) (new : At D) (landed : Landed) → Lands told walked jobs old walked' jobs' new landed
-    → ((g : Graph) (s : Sources) (kept : Outcomes) → IsRight (world g s (after kept walked.given)) walked → IsRight (world g s (after kept walked'.given)) walked') → StaysOff told walked jobs old walked' jobs' new
-stays_off told follow walked jobs old walked' jobs' new Kept has right g n why first way =
-    lands told g n first (off_course why) walked jobs old way tt follow walked' jobs' new has (right g first.store.sources.texts (known_in first.store) way.right)
-stays_off told follow walked jobs old walked' jobs' new Lost has right g n why first way = crashes told g n first (off_course why) walked jobs old way tt follow walked' jobs' new has
-
--- ---- as the answers say it
-
-pub stopped_at : {T D : Type 0} (result : Result T KeptFault) (told : D → Telling) (g : Graph) (n : Node) (limit k : ℕ) (old new : At D) (fault : KeptFault) → result ≡ Err fault → k ≡ limit → IsStopped told g n k old new fault
-    → IfErr result (IsStopped told g n limit old new)
-stopped_at result told g n limit k old new fault is same stopped = subst (λ r. IfErr r (IsStopped told g n limit old new)) (sym is) (subst (λ m. IsStopped told g n m old new fault) same stopped)
-
-pub drain_stops_at : {T D : Type 0} (result : Result T KeptFault) (told : D → Telling) (walked : Walked) (jobs : InFlight) (old new : At D) (fault : KeptFault) → result ≡ Err fault → DrainStops told walked jobs old new fault → IfErr result (DrainStops told walked jobs old new)
-drain_stops_at result told walked jobs old new fault is stops = subst (λ r. IfErr r (DrainStops told walked jobs old new)) (sym is) stops
+    → ((g : Graph) (s : Sources) (keeping : Keeping) → IsFormed (world_by keeping g s walked.given) walked → IsFormed (world_by keeping g s walked'.given) walked')
+    → ((g : Graph) (s : Sources) (keeping : Keeping) → IsRight (world_by keeping g s walked.given) walked → IsRight (world_by keeping g s walked'.given) walked') → StaysOff told walked jobs old walked' jobs' new
+stays_off told follow walked jobs old walked' jobs' new Kept has formed right g n why first way =
+    lands told g n first (off_course why) walked jobs old way (λ knows. tt) follow walked' jobs' new has (formed g first.store.sources.texts (keeping_of first.store.kept first.store.epoch) way.formed)
+    (right g first.store.sources.texts (keeping_of first.store.kept first.store.epoch))
+stays_off told follow walked jobs old walked' jobs' new Lost has formed right g n why first way = crashes told g n first (off_course why) walked jobs old way (λ knows. tt) follow walked' jobs' new has
 
 -- ---- a flight in its turns
 
--- It is on its way, nothing is found, and where it is fresh the walk has gone as far as it can.
+-- It is on its way, nothing is found, and where it is fresh and right the walk has gone as far as it can.
 pub record IsFlying {D : Type 0} (told : D → Telling) (size_of faults : D → ℕ) (g : Graph) (n : Node) (most : ℕ) (first : At D) (begun : ℕ) (walked : Walked) (jobs : InFlight) (store : Store) (disk : D) (tools : Spawned) (steps : ℕ) (newest : Bool) : Type 0 where
   pub way : IsOnWay told g n on_course first walked jobs (at store disk tools)
   pub still : walked.result ≡ None
-  pub fresh : IsTrue newest → IsAdvanced (store_world g store walked.given) walked
+  pub fresh : IsTrue newest → KnowsStore g first.store → IsAdvanced (store_world g first.store walked.given) walked
   pub ready : IsReady store.journal (size_of disk)
   pub limit : jobs.limit ≡ most
   pub cause : faults disk ≡ faults first.disk

@@ -5,13 +5,15 @@ use Rattle.object_values.specs.declared.calls.Outcome.{Outcome}
 use Rattle.odin_outside.specs.Disk.{Telling}
 use Rattle.odin_outside.specs.Spawned.{Spawned}
 use Rattle.meaning_texts.specs.Lists.{IsIn}
+use Rattle.meaning_graph.specs.Graphs.{Graph}
+use Rattle.meaning_graph.specs.Grammar.{GraphText}
 use Rattle.meaning_calls.specs.Jobs.{IsWellFormed}
 use Rattle.odin_journal.specs.declared.fault.JournalFault.{JournalFault}
 use Rattle.odin_journal.specs.declared.fault.JournalFault.TheVariants as store
 use Rattle.odin_journal.specs.Rest.{IsReady}
 use Rattle.odin_store.specs.declared.store.Store.{Store}
 use Rattle.odin_store.specs.Held.{keeps}
-use Rattle.odin_store.specs.OnDisk.{IsSame}
+use Rattle.odin_store.specs.OnDisk.{IsSame, KeepsNodes}
 use Rattle.odin_store.specs.Going.{Performs}
 use Rattle.odin_store.specs.Edited.{HasFailed}
 use Rattle.derive_walk.specs.Walks.{Walked, OutcomeIsGiven}
@@ -21,16 +23,18 @@ use Rattle.kept_derive.specs.declared.landing.Landed.{Landed}
 use Rattle.kept_derive.specs.declared.landing.Landed.TheVariants.{Kept, Lost}
 use Rattle.kept_derive.specs.declared.fault.KeptFault.{KeptFault}
 use Rattle.kept_derive.specs.declared.fault.KeptFault.TheVariants.{Spawn, Disk, Full, Memory}
-use Rattle.kept_derive.specs.Runs.{At, known_in}
+use Rattle.kept_derive.specs.Knowing.{known_in}
+use Rattle.kept_derive.specs.Runs.{At}
 
 -- the store can be changed, and no tool runs
 pub record IsIdle (store : Store) (size : ℕ) (tools : Spawned) : Type 0 where
   pub ready : IsReady store.journal size
   pub none : tools.running ≡ []
 
--- and one tool at least may run
-pub record MayDerive (store : Store) (size limit : ℕ) (tools : Spawned) : Type 0 where
+-- It is one for the graph, and one tool at least may run.
+pub record MayDerive (g : Graph) (store : Store) (size limit : ℕ) (tools : Spawned) : Type 0 where
   pub idle : IsIdle store size tools
+  pub spelled : GraphText store.graph g
   pub some : 0 < limit
 
 -- a call that may be kept, as far as its outcome goes
@@ -62,6 +66,7 @@ module _ {D : Type 0} (told : D → Telling) (walked : Walked) (jobs : InFlight)
     pub ended : HasEnded call outcome jobs old.tools jobs' new.tools
     pub goes : Performs told (keeps call outcome ∷ []) old.store new.store old.disk new.disk
     pub epoch : new.store.epoch ≡ old.store.epoch
+    pub nodes : KeepsNodes old.store new.store
     pub given : OutcomeIsGiven call outcome walked walked'
 
   -- An end was lost, and nothing else happened.

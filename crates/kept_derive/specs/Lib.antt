@@ -1,6 +1,9 @@
+pub mod Knowing
 pub mod Faults
 pub mod Runs
 pub mod Stops
+pub mod Telling
+pub mod Noting
 pub mod Calls
 pub mod Looked
 pub mod Ways

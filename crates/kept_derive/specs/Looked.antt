@@ -1,8 +1,6 @@
 -- How many looks at kept calls a derivation takes.
-use Rattle.std.specs.Prelude.{◌≡◌, ◌≢◌, ◌≤◌, ◌+◌, ℕ, List, [], ◌∷◌, ◌++◌, length, Result, Ok, Err}
+use Rattle.std.specs.Prelude.{◌≡◌, ◌≢◌, ◌≤◌, ◌+◌, ℕ, List, [], ◌++◌, length, Result, Err}
 use Rattle.object_values.specs.declared.nodes.Node.{Node}
-use Rattle.object_values.specs.declared.calls.Call.{Call}
-use Rattle.object_values.specs.declared.calls.Outcome.{Outcome}
 use Rattle.odin_outside.specs.Disk.{Telling}
 use Rattle.meaning_texts.specs.Lists.{IsIn}
 use Rattle.meaning_graph.specs.Graphs.{Graph}
@@ -15,10 +13,10 @@ use Rattle.derive_walk.specs.declared.found.Found.{Found}
 use Rattle.derive_walk.specs.Looks.{met_by}
 use Rattle.derive_walk.specs.Walks.{Walked}
 use Rattle.kept_derive.specs.declared.fault.KeptFault.{KeptFault}
-use Rattle.kept_derive.specs.declared.flight.Flown.{Flown}
 use Rattle.kept_derive.specs.declared.fault.KeptFault.TheVariants.{Disk as DiskFailed, Memory}
 use Rattle.plain_derive.specs.Flights.{AreFlown}
-use Rattle.kept_derive.specs.Runs.{At, known_in, keeps_of}
+use Rattle.kept_derive.specs.Knowing.{known_in}
+use Rattle.kept_derive.specs.Runs.{At, keeps_of}
 
 -- Each look but so many was for another node with steps that is met from this one, by what is kept now, or for another call that is kept
 -- since: no node and no call took two.
@@ -30,13 +28,13 @@ pub record HasLooked (g : Graph) (n : Node) (old new : Store) (first last spare 
   pub later : first ≤ last
   pub each : last + length old.kept.tables.calls ≤ first + length nodes + length new.kept.tables.calls + spare
 
--- Of the outcomes that came all but the last were kept, up to a moment, and no look was taken after it.
+-- Of the outcomes that came all but the last at most were kept, up to a moment, and no look was taken after it.
 pub record HasLookedBefore {Disk : Type 0} (told : Disk → Telling) (g : Graph) (n : Node) (limit : ℕ) (old new : At Disk) (first last : ℕ) : Type 0 where
   pub given : Calls
-  pub call : Call
-  pub outcome : Outcome
+  pub rest : Calls
+  pub few : length rest ≤ 1
   pub mid : At Disk
-  pub flown : AreFlown g old.store.sources.texts (known_in old.store) n limit (given ++ (call, outcome) ∷ []) old.tools new.tools
+  pub flown : AreFlown g old.store.sources.texts (known_in old.store) n limit (given ++ rest) old.tools new.tools
   pub goes : Performs told (keeps_of given) old.store mid.store old.disk mid.disk
   pub looked : HasLooked g n old.store mid.store first last 0
 
@@ -62,8 +60,3 @@ pub record AreCounted (first last spare : ℕ) (walked : Walked) : Type 0 where
 pub record KeepsMore (old new : Store) : Type 0 where
   pub more : Calls
   pub is : new.kept.tables.calls ≡ old.kept.tables.calls ++ more
-
--- The looks of a flight: of the walk that it comes to, or of the derivation that it stops.
-abbrev pub FlightLooks : {Disk : Type 0} → (Disk → Telling) → Graph → Node → ℕ → At Disk → At Disk → Walked → ℕ → ℕ → Result Flown KeptFault → Type 0
-FlightLooks told g n limit old new walked first last (Ok flown) = AreCounted first last 0 walked
-FlightLooks told g n limit old new walked first last (Err fault) = AreLooks told g n limit old new first last (Err fault)

@@ -22,9 +22,10 @@ LeavesTools other = ⊤
 abbrev pub LeavesAll : {E : Type 0} → E → Type 0
 LeavesAll fault = ⊤
 
--- The tools answer as before, no more of them run than may, and none but after a fault that leaves them.
+-- The tools answer as before, the count of their faults never falls, no more of them run than may, and none but after a fault that leaves them.
 pub record ComesToRest {T E : Type 0} (Leaves : E → Type 0) (limit : ℕ) (before now : Spawned) (result : Result T E) : Type 0 where
   pub answer : now.answer ≡ before.answer
+  pub later : before.faults ≤ now.faults
   pub few : length now.running ≤ limit
   pub idle : OnOk result (now.running ≡ [])
   pub left : IfErr result (λ fault. ¬ Leaves fault → now.running ≡ [])

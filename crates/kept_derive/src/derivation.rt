@@ -2,16 +2,17 @@
 ghost use Rattle.std.specs.Prelude.{IfOk, IfErr};
 ghost use Rattle.kept_derive.specs.Calls.{MayDerive};
 ghost use Rattle.kept_derive.specs.Faults.{KeptFaultIsCounted, StoreAfterDerive};
+ghost use Rattle.kept_derive.specs.Knowing.{KnowsStore};
 ghost use Rattle.kept_derive.specs.Looked.{AreLooks};
 ghost use Rattle.kept_derive.specs.Rests.{ComesToRest, IsDerivable, LeavesTools};
 ghost use Rattle.kept_derive.specs.Runs.{at, HasFound};
 ghost use Rattle.kept_derive.specs.Stops.{IsStopped};
 
 use crate::fault::KeptFault;
-use crate::flight::{Flown, drain, fly};
+use crate::flight::{Flown, fly_out};
+use crate::telling::keep_told;
 use derive_core::Core;
 use derive_walk::Found;
-use job_runner::Jobs;
 use object_values::{Copied, Node};
 use odin_outside::{Disk, Spawner, Steps};
 use odin_store::Store;
@@ -21,7 +22,8 @@ use std::alloc::Global;
 use std::sync::ledger::Ledger;
 
 /// The view of the node, or the chain for which it is refused. Each look at a kept call is a step. At most `limit` tools run at once; after
-/// `Spawn` none does, and after the other faults what runs is left.
+/// `Spawn` none does, and after the other faults what runs is left. For a view what the walk tells of nodes is kept, too: what is found is right where
+/// what was kept of nodes was known, and all that is kept of them is known then.
 pub fn derive_kept<D: Disk, S: Spawner, L: Ledger>(
     alloc: Global,
     planned: &PlannedGraph<'_>,
@@ -33,7 +35,8 @@ pub fn derive_kept<D: Disk, S: Spawner, L: Ledger>(
     steps: &mut Steps<L>,
 ) -> Result<Found, KeptFault>
     requires derivable { IsDerivable planned.now node.now }
-    requires may { MayDerive store.old (D.size_of disk.old) limit (S.told tools.old) }
+    requires may { MayDerive planned.now store.old (D.size_of disk.old)
+        limit (S.told tools.old) }
     ensures found { let old = at store.old disk.old (S.told tools.old) in
         IfOk result (HasFound D.told planned.now node.now limit
         old (at store.new disk.new (S.told tools.new))) }
@@ -44,24 +47,14 @@ pub fn derive_kept<D: Disk, S: Spawner, L: Ledger>(
     ensures cause { KeptFaultIsCounted (D.faults disk.old) (D.faults disk.new) result }
     ensures rest { ComesToRest LeavesTools limit (S.told tools.old) (S.told tools.new) result }
     ensures counted { let old = at store.old disk.old (S.told tools.old) in
+        KnowsStore planned.now store.old →
         AreLooks D.told planned.now node.now limit old (at store.new disk.new (S.told tools.new))
         steps.old steps.new result }
 {
-    planned.graph().checked();
     changes_follow::<D>();
     let mut core = Core::new(alloc, node.copy(alloc)?);
-    let mut jobs = Jobs::new(alloc, limit);
-    let flown = fly(
-        alloc, planned, &mut core, &mut jobs, store, disk, tools, steps,
-    )?;
-    if jobs.running() > 0 {
-        drain(alloc, &mut core, &mut jobs, store, disk, tools)?;
-    }
-    match flown {
+    match fly_out(alloc, planned, &mut core, store, disk, limit, tools, steps)? {
+        Flown::Found => keep_told(alloc, planned, core, store, disk),
         Flown::Cut => Err(KeptFault::Spawn),
-        Flown::Found => match core.into_result() {
-            Some(found) => Ok(found),
-            None => Err(KeptFault::Memory),
-        },
     }
 }

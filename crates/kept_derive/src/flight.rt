@@ -1,15 +1,14 @@
 // The tools of a derivation: started, waited for, and drained.
 ghost use Rattle.std.specs.Prelude.{◌≤◌, length, OnOk, IfOk, IfErr, option_map};
-ghost use Rattle.meaning_graph.specs.Grammar.{IsSpellable};
+ghost use Rattle.meaning_graph.specs.Grammar.{GraphText, IsSpellable};
 ghost use Rattle.derive_walk.specs.Looks.{LooksAreFew, lost, met_by};
-ghost use Rattle.derive_walk.specs.Walks.{IsRight, IsAdvanced, ExtendsWalk};
-ghost use Rattle.kept_derive.specs.Calls.{IsIdle, MayDrain};
+ghost use Rattle.derive_walk.specs.Walks.{IsFormed, IsRight, IsAdvanced, ExtendsWalk};
+ghost use Rattle.job_runner.specs.Flights.{none_in_flight};
+ghost use Rattle.kept_derive.specs.Calls.{MayDerive, MayDrain};
 ghost use Rattle.kept_derive.specs.Faults.{KeptFaultIsCounted, StoreAfterDerive};
-ghost use Rattle.kept_derive.specs.Looked.{FlightLooks};
 ghost use Rattle.kept_derive.specs.Rests.{IsDerivable};
 ghost use Rattle.kept_derive.specs.Runs.{at, store_world};
-ghost use Rattle.kept_derive.specs.Stops.{IsStopped};
-ghost use Rattle.kept_derive.specs.Ways.{IsUnbegun, IsNextStart, HasFlown, Drains, DrainStops};
+ghost use Rattle.kept_derive.specs.Ways.{IsUnbegun, IsNextStart, HasFlown, FliesOut, IsHalted, Drains, DrainStops};
 
 use crate::fault::KeptFault;
 use crate::landing::{Landed, land};
@@ -30,9 +29,43 @@ pub(crate) enum Flown {
     Cut,
 }
 
-/// Runs the tools that the derivation needs, as many at once as may run, until something is found. One event a turn: a wanted call is
-/// started; or, where a slot is free and an outcome came since, the walk goes on; or an end is waited for.
-pub(crate) fn fly<D: Disk, S: Spawner, L: Ledger>(
+/// Runs the tools that the derivation needs, until something is found, and lets what runs come to its end.
+pub(crate) fn fly_out<D: Disk, S: Spawner, L: Ledger>(
+    alloc: Global,
+    planned: &PlannedGraph<'_>,
+    core: &mut Core,
+    store: &mut Store,
+    disk: &mut D,
+    limit: u32,
+    tools: &mut S,
+    steps: &mut Steps<L>,
+) -> Result<Flown, KeptFault>
+    requires derivable { IsDerivable planned.now core.old.root }
+    requires unbegun { IsUnbegun core.old (none_in_flight limit) }
+    requires may { MayDerive planned.now store.old (D.size_of disk.old)
+        limit (S.told tools.old) }
+    ensures out { let old = at store.old disk.old (S.told tools.old) in
+        IfOk result (FliesOut D.told planned.now core.old.root limit old
+        core.new (at store.new disk.new (S.told tools.new)) steps.old steps.new) }
+    ensures halted { let old = at store.old disk.old (S.told tools.old) in
+        IfErr result (IsHalted D.told planned.now core.old.root limit
+        old (at store.new disk.new (S.told tools.new)) steps.old steps.new) }
+    ensures left { StoreAfterDerive store.new (D.size_of disk.new) result }
+    ensures cause { KeptFaultIsCounted (D.faults disk.old) (D.faults disk.new) result }
+{
+    store.kept().records_fit();
+    let mut jobs = Jobs::new(alloc, limit);
+    let flown = fly(alloc, planned, core, &mut jobs, store, disk, tools, steps)?;
+    if jobs.running() > 0 {
+        drain(alloc, core, &mut jobs, store, disk, tools)?;
+    }
+    store.kept().records_fit();
+    Ok(flown)
+}
+
+// Runs the tools that the derivation needs, as many at once as may run, until something is found. One event a turn: a wanted call is
+// started; or, where a slot is free and an outcome came since, the walk goes on; or an end is waited for.
+fn fly<D: Disk, S: Spawner, L: Ledger>(
     alloc: Global,
     planned: &PlannedGraph<'_>,
     core: &mut Core,
@@ -44,21 +77,19 @@ pub(crate) fn fly<D: Disk, S: Spawner, L: Ledger>(
 ) -> Result<Flown, KeptFault>
     requires derivable { IsDerivable planned.now core.old.root }
     requires unbegun { IsUnbegun core.old jobs.old }
-    requires idle { IsIdle store.old (D.size_of disk.old) (S.told tools.old) }
+    requires may { MayDerive planned.now store.old (D.size_of disk.old)
+        jobs.old.limit (S.told tools.old) }
     ensures flown { let old = at store.old disk.old (S.told tools.old) in
         IfOk result (HasFlown D.told planned.now core.old.root jobs.old.limit old
-        core.new jobs.new (at store.new disk.new (S.told tools.new))) }
-    ensures stopped { let old = at store.old disk.old (S.told tools.old) in
-        IfErr result (IsStopped D.told planned.now core.old.root jobs.old.limit
-        old (at store.new disk.new (S.told tools.new))) }
+        core.new jobs.new (at store.new disk.new (S.told tools.new)) steps.old steps.new) }
+    ensures halted { let old = at store.old disk.old (S.told tools.old) in
+        IfErr result (IsHalted D.told planned.now core.old.root jobs.old.limit
+        old (at store.new disk.new (S.told tools.new)) steps.old steps.new) }
     ensures left { StoreAfterDerive store.new (D.size_of disk.new) result }
     ensures cause { KeptFaultIsCounted (D.faults disk.old) (D.faults disk.new) result }
-    ensures counted { let old = at store.old disk.old (S.told tools.old) in
-        FlightLooks D.told planned.now core.old.root jobs.old.limit
-        old (at store.new disk.new (S.told tools.new)) core.new steps.old steps.new result }
 {
-    planned.graph().checked();
     store.kept().fit();
+    store.kept().records_fit();
     changes_follow::<D>();
     let mut fresh = false;
     // Bounded, since tools may go on giving outcomes that want more calls: no proof of an end is owed, and no run comes to so many turns.
@@ -70,11 +101,16 @@ pub(crate) fn fly<D: Disk, S: Spawner, L: Ledger>(
                 Err(JobFault::Memory) => return Err(KeptFault::Memory),
             }
         } else if fresh || jobs.is_full() {
+            // Only where what is kept of nodes isn't true is there nothing to wait for.
+            if jobs.running() == 0 {
+                return Err(KeptFault::Memory);
+            }
             match land(alloc, core, jobs, store, disk, tools)? {
                 Landed::Kept => fresh = false,
                 Landed::Lost => return Ok(Flown::Cut),
             }
         } else {
+            store.kept().records_fit();
             advance(alloc, core, planned, store, steps)?;
             if core.result().is_some() {
                 return Ok(Flown::Found);
@@ -101,8 +137,8 @@ fn next_call<'a>(wanted: &'a [Call], jobs: &Jobs) -> Option<&'a Call>
     None
 }
 
-/// Lets what runs come to its end. An end that is lost is passed over.
-pub(crate) fn drain<D: Disk, S: Spawner>(
+// Lets what runs come to its end. An end that is lost is passed over.
+fn drain<D: Disk, S: Spawner>(
     alloc: Global,
     core: &mut Core,
     jobs: &mut Jobs,
@@ -137,14 +173,27 @@ fn advance<L: Ledger>(
     steps: &mut Steps<L>,
 ) -> Result<(), Memory>
     requires spellable { IsSpellable planned.now }
-    requires right { IsRight (store_world planned.now store.now core.old.given) core.old }
+    requires spelled { GraphText store.now.graph planned.now }
+    requires formed { IsFormed (store_world planned.now store.now core.old.given) core.old }
     ensures on { ExtendsWalk core.old core.new }
-    ensures right { IsRight (store_world planned.now store.now core.new.given) core.new }
-    ensures advanced { OnOk result
-        (IsAdvanced (store_world planned.now store.now core.new.given) core.new) }
+    ensures formed { IsFormed (store_world planned.now store.now core.new.given) core.new }
+    ensures right { IsRight (store_world planned.now store.now core.old.given) core.old →
+        IsRight (store_world planned.now store.now core.new.given) core.new }
+    ensures advanced { IsRight (store_world planned.now store.now core.old.given) core.old →
+        OnOk result (IsAdvanced (store_world planned.now store.now core.new.given) core.new) }
     ensures counted { LooksAreFew (met_by core.old) (met_by core.new)
         steps.old steps.new (lost result) }
 {
-    let looks = store.kept().looks();
-    core.advance_in(alloc, planned, store.sources(), &looks, steps)
+    store.facts_fit();
+    let kept = store.kept();
+    kept.records_fit();
+    let looks = kept.looks();
+    core.advance_in(
+        alloc,
+        planned,
+        store.sources(),
+        &looks,
+        store.epoch(),
+        steps,
+    )
 }

@@ -1,10 +1,10 @@
 // The end of one call, and what comes of it.
 ghost use Rattle.std.specs.Prelude.{◌≡◌, IfOk, IfErr};
 ghost use Rattle.meaning_graph.specs.Graphs.{Graph};
-ghost use Rattle.meaning_derive.specs.Derive.{Sources, Outcomes};
-ghost use Rattle.derive_walk.specs.Outcomes.{after};
-ghost use Rattle.derive_walk.specs.Walks.{IsRight};
-ghost use Rattle.derive_walk.specs.Worlds.{world};
+ghost use Rattle.meaning_derive.specs.Derive.{Sources};
+ghost use Rattle.derive_walk.specs.Keeping.{Keeping};
+ghost use Rattle.derive_walk.specs.Settings.{world_by};
+ghost use Rattle.derive_walk.specs.Walks.{IsFormed, IsRight};
 ghost use Rattle.kept_derive.specs.Calls.{MayLand, Lands, FailsToLand};
 ghost use Rattle.kept_derive.specs.Faults.{KeptFaultIsCounted, StoreAfterDerive};
 ghost use Rattle.kept_derive.specs.Runs.{at};
@@ -40,9 +40,12 @@ pub(crate) fn land<D: Disk, S: Spawner>(
     ensures fails { let old = at store.old disk.old (S.told tools.old) in
         IfErr result (FailsToLand D.told core.old jobs.old old
         core.new jobs.new (at store.new disk.new (S.told tools.new))) }
-    ensures right { (g : Graph) (s : Sources) (kept : Outcomes) →
-        IsRight (world g s (after kept core.old.given)) core.old →
-        IsRight (world g s (after kept core.new.given)) core.new }
+    ensures formed { (g : Graph) (s : Sources) (keeping : Keeping) →
+        IsFormed (world_by keeping g s core.old.given) core.old →
+        IsFormed (world_by keeping g s core.new.given) core.new }
+    ensures right { (g : Graph) (s : Sources) (keeping : Keeping) →
+        IsRight (world_by keeping g s core.old.given) core.old →
+        IsRight (world_by keeping g s core.new.given) core.new }
     ensures limit { jobs.new.limit ≡ jobs.old.limit }
     ensures left { StoreAfterDerive store.new (D.size_of disk.new) result }
     ensures cause { KeptFaultIsCounted (D.faults disk.old) (D.faults disk.new) result }

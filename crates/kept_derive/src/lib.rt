@@ -6,6 +6,7 @@ mod fault;
 mod flight;
 mod landing;
 pub mod laws;
+mod telling;
 
 pub use derivation::derive_kept;
 pub use derive_walk::Found;

@@ -48,5 +48,6 @@ returns-clause-lands g c = record {
   ended = c.in-Ok.ensures.ok;
   goes = c.changes_follow.ensures.keep _ _ _ _ _ _ c.in-Ok-keep_call.ensures.keeps c.keep_call.ensures.any_moment;
   epoch = c.in-Ok-keep_call.ensures.keeps.epoch;
+  nodes = c.in-Ok-keep_call.ensures.keeps.nodes;
   given = c.in_ok-give.ensures.ok;
 }

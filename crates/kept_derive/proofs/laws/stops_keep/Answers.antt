@@ -8,4 +8,4 @@ pub returns-clause-disk : goal.returns-clause-disk
 returns-clause-disk g c = λ graph n limit old new stopped. disk_stops g.D.Disk.told graph n limit old new stopped
 
 pub returns-clause-right : goal.returns-clause-right
-returns-clause-right g c = λ table graph n limit old new fault apart answer right stopped. stops_are_true g.D.Disk.told graph n limit old new table fault apart answer right stopped
+returns-clause-right g c = λ table graph n limit old new fault apart answer right knows stopped. stops_are_true g.D.Disk.told graph n limit old new table fault apart answer right knows stopped
