@@ -2,6 +2,7 @@
 use Rattle.std.proofs.Common.{◌≡◌, ◌≢◌, ℕ, ◌+◌, ◌≤◌, List, [], length, sym, ap, ◌∙◌, subst, refl, arith, inl, inr}
 use Rattle.std.proofs.Math.Path.{subst₂}
 use Rattle.std.proofs.lemmas.List.{length-append}
+use Rattle.std.proofs.lemmas.List.Elements.{All-nil}
 use Rattle.object_values.specs.Texts.{Text}
 use Rattle.odin_outside.specs.Disk.{Telling, IsQuiet}
 use Rattle.odin_outside.specs.Steps.{synced_only}
@@ -20,9 +21,10 @@ use Rattle.odin_journal.specs.Moments.{Works}
 use Rattle.odin_journal.specs.declared.fault.JournalFault.{JournalFault}
 use Rattle.odin_journal.specs.declared.fault.JournalFault.TheVariants as fault
 use Rattle.odin_store.specs.declared.store.Store.{Store}
-use Rattle.odin_store.specs.Held.{Held}
+use Rattle.odin_store.specs.Held.{Held, held_of}
 use Rattle.odin_store.specs.Offsets.{IsNotFor}
 use Rattle.odin_store.specs.Opening.{OpensQuietStore, graph_record}
+use Rattle.kept_derive.specs.Knowing.{known_in, AreTrueBeside, KnowsStore}
 use Rattle.odin_engine.specs.Opened as engine
 use Rattle.load_session.specs.declared.session.Session.{Session}
 use Rattle.load_session.specs.Graph.{graph_text}
@@ -45,6 +47,12 @@ none_kept graph new store opens =
     let opened = opens quiet in
     ap (λ (h : Held). h.calls) opened.holds ∙ ap (λ (s : State). s.tables.calls) (empty_state opened.records opened.state (empty_records opened.records opened.stored) opened.read)
 
+none_noted : (graph : Text) (new : Telling) (store : Store) → OpensQuietStore graph (told_of_disk empty_disk) new store → store.kept.tables.records ≡ []
+none_noted graph new store opens =
+    let opened = opens quiet in
+    ap (λ (h : Held). h.records) opened.holds
+    ∙ ap (λ (s : State). (held_of graph s).records) (empty_state opened.records opened.state (empty_records opened.records opened.stored) opened.read)
+
 -- a session over a store that was opened just now
 pub opened_new : (session : Session) (text : Text) (graph : Graph) (old : LoadFile) → text ≡ graph_text → old ≡ empty_disk → IsRead graph_text graph
     → OpensQuietStore text (told_of_disk old) (told_of_disk session.disk) session.engine.store → engine.EngineIsNew graph 1 (length (image_of session.disk.file)) session.engine
@@ -53,11 +61,14 @@ opened_new session text graph old text_is empty read opens new same =
     let opened : OpensQuietStore graph_text (told_of_disk empty_disk) (told_of_disk session.disk) session.engine.store =
     subst₂ (λ t f. OpensQuietStore t (told_of_disk f) (told_of_disk session.disk) session.engine.store) text_is empty opens in
     let none = none_kept graph_text (told_of_disk session.disk) session.engine.store opened in
+    let noted = none_noted graph_text (told_of_disk session.disk) session.engine.store opened in
     record {
       opened = record { read = subst (IsRead graph_text) (sym new.graph_is) read; opened = opened; tools_are = ap tools.tools_view same };
       rests = record {
         jobs = new.jobs_is;
         idle = record { ready = new.ready; none = ap (λ (t : tools.Tools). t.running) same };
+        knows = subst (λ g. KnowsStore g session.engine.store) (sym new.graph_is)
+            (new.knows (subst (AreTrueBeside graph (known_in session.engine.store)) (sym noted) (All-nil _)));
         counted = ap (λ (t : tools.Tools). t.starts) same ∙ ap length (sym none);
       };
       none_kept = none;

@@ -14,7 +14,7 @@ use Rattle.odin_store.specs.Opening.{graph_record, IsOpening, OpensStore}
 use Rattle.odin_store.specs.Written.{written_in, WorksFor}
 use Rattle.odin_store.specs.Going.{AreBatches, Performs, HasPartialBatches, StopsPerforming}
 use Rattle.odin_store.proofs.Lemmas.{first_noted, goes_none, goes_on, stops_behind, works_after}
-use Rattle.kept_derive.specs.Runs.{keeps_of}
+use Rattle.kept_derive.specs.Runs.{keeps_of, changes_for}
 use Rattle.load_session.specs.Graph.{graph_text}
 use Rattle.load_session.specs.Room.{LoadFile, most_bytes, most_calls, empty_disk, told_of_disk, PassesRoom}
 use Rattle.load_session.specs.Session.{LoadStep, puts, asks}
@@ -30,12 +30,13 @@ serves_goes g old steps answers new none = goes_none told_of_disk old.store old.
 serves_goes g old steps answers new (put before others mid _ name text changed serves has same) =
     goes_on told_of_disk (changes_of g old before others mid serves) (cond changed (held.puts name text ∷ []) []) old.store mid.store new.store old.disk mid.disk new.disk (serves_goes g old before others mid serves) has.goes
 serves_goes g old steps answers new (ask before others mid _ given reply serves has) =
-    goes_on told_of_disk (changes_of g old before others mid serves) (keeps_of given) old.store mid.store new.store old.disk mid.disk new.disk (serves_goes g old before others mid serves) has.goes
+    goes_on told_of_disk (changes_of g old before others mid serves) (changes_for given has.noted) old.store mid.store new.store old.disk mid.disk new.disk
+    (serves_goes g old before others mid serves) has.goes
 
 step_begins : (g : Graph) (step : LoadStep) (old new : Moment) (fails : StepFails g step old new fault.Disk) → StopsPerforming told_of_disk (failed_changes g step old new fails) old.store old.disk new.disk
 step_begins g (puts name text) old new fails = fails.1
 step_begins g asks old new fails =
-    stops_behind told_of_disk (keeps_of fails.given) (held.keeps fails.call fails.outcome ∷ []) old.store fails.mid.store old.disk fails.mid.disk new.disk fails.goes fails.stops
+    stops_behind told_of_disk (keeps_of fails.given) (fails.last ∷ []) old.store fails.mid.store old.disk fails.mid.disk new.disk fails.goes fails.stops
 
 -- ---- the room
 

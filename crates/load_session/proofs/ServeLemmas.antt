@@ -9,10 +9,10 @@ use Rattle.meaning_records.specs.Tables.{Calls}
 use Rattle.object_values.specs.declared.replies.Reply.{Reply}
 use Rattle.odin_journal.specs.declared.fault.JournalFault.{JournalFault}
 use Rattle.odin_journal.specs.declared.fault.JournalFault.TheVariants as fault
-use Rattle.odin_store.specs.Held.{Held}
-use Rattle.odin_store.specs.OnDisk.{held_in}
+use Rattle.kept_derive.proofs.Lemmas.{calls_after_all}
+use Rattle.load_session.specs.Room.{told_of_disk}
 use Rattle.load_session.specs.Session.{LoadStep, puts, asks}
-use Rattle.load_session.proofs.StepLemmas.{put_calls, keeps_calls}
+use Rattle.load_session.proofs.StepLemmas.{put_calls}
 use Rattle.load_session.specs.Served.{Moment, ServesSteps, none, put, ask, StopsAtStep, StepsStopFor}
 
 -- ---- one after another
@@ -40,7 +40,8 @@ serves_calls g old steps answers new none = sym (append-nil new.store.kept.table
 serves_calls g old steps answers new (put before others mid _ name text changed serves has same) =
     put_calls name text mid.store new.store mid.disk new.disk changed has ∙ serves_calls g old before answers mid serves
 serves_calls g old steps answers new (ask before others mid _ given reply serves has) =
-    ap (λ (h : Held). h.calls) has.goes.holds ∙ keeps_calls given (held_in mid.store) ∙ ap (λ (calls : Calls). calls ++ given) (serves_calls g old before others mid serves)
+    calls_after_all told_of_disk given has.noted mid.store new.store mid.disk new.disk has.goes
+    ∙ ap (λ (calls : Calls). calls ++ given) (serves_calls g old before others mid serves)
     ∙ append_assoc old.store.kept.tables.calls (all_given others) given
     ∙ ap (λ (calls : Calls). old.store.kept.tables.calls ++ calls) (ap (λ (calls : Calls). all_given others ++ calls) (sym (append-nil given)) ∙ sym (flat_map-append (λ (answer : Calls × Reply). answer.0) others ((given, reply) ∷ [])))
 

@@ -8,7 +8,7 @@ use Rattle.std.proofs.lemmas.List.{length-append}
 use Rattle.odin_outside.specs.Causes.{IsCounted}
 use Rattle.odin_memory.specs.File.{image_of}
 use Rattle.odin_memory.specs.Tools as tools
-use Rattle.meaning_graph.specs.Graphs.{Text}
+use Rattle.meaning_graph.specs.Graphs.{Text, Graph}
 use Rattle.meaning_records.specs.Tables.{Calls}
 use Rattle.object_values.specs.declared.replies.Reply.{Reply}
 use Rattle.odin_journal.specs.Faults.{CountAfterJournalFault}
@@ -16,18 +16,19 @@ use Rattle.odin_journal.specs.Rest.{IsReady}
 use Rattle.odin_journal.specs.declared.fault.JournalFault.{JournalFault}
 use Rattle.odin_journal.specs.declared.fault.JournalFault.TheVariants as fault
 use Rattle.odin_store.specs.Held as held
-use Rattle.odin_store.specs.OnDisk.{held_in}
 use Rattle.odin_store.specs.Edited.{HasPut, HasFailed}
+use Rattle.kept_derive.specs.Knowing.{KnowsStore, StaysKnown}
+use Rattle.kept_derive.proofs.Lemmas.{calls_after_all}
 use Rattle.odin_engine.specs.Engaged.{GraphStays}
 use Rattle.odin_answers.specs.Replied.{HasReplied, HasStopped}
-use Rattle.odin_answers.proofs.Lemmas.{refusal_counted}
+use Rattle.odin_answers.proofs.Lemmas.{refusal_counted, reply_of}
 use Rattle.load_session.specs.declared.session.Session.{Session}
 use Rattle.load_session.specs.declared.asked.Asked.{Asked}
 use Rattle.load_session.specs.Room.{LoadFile, told_of_disk, PassesRoom}
 use Rattle.load_session.specs.Session.{LoadStep, puts, asks, asked_text}
 use Rattle.load_session.specs.Served.{Moment, HasAnswered, ServesSteps, none, put, ask, StepFails, PassesFor, StopsAtStep, StepsStopFor, shown_length}
 use Rattle.load_session.specs.Moments.{moment, session_calls, IsAtRest, MayServeSteps, HasServed, HasAsked, LoadStopsFor}
-use Rattle.load_session.proofs.StepLemmas.{put_calls, keeps_calls, answer_starts}
+use Rattle.load_session.proofs.StepLemmas.{put_calls, answer_starts}
 use Rattle.load_session.proofs.ServeLemmas.{serves_more, stops_first, stops_then}
 
 -- what the exit of a `?` hands on
@@ -39,18 +40,24 @@ at_stop r s Q is q =
 -- ---- one step
 
 -- the calls that were run stand after the others
-calls_behind : (old new : Session) (given : Calls) (reply : Reply) → HasAnswered old.engine.graph (moment old) given reply (moment new) → session_calls new ≡ session_calls old ++ given
-calls_behind old new given reply has = ap (λ (h : held.Held). h.calls) has.goes.holds ∙ keeps_calls given (held_in old.engine.store)
+calls_behind : (old new : Session) (given : Calls) (reply : Reply) → HasAnswered old.engine.graph (moment old) given reply (moment new)
+    → session_calls new ≡ session_calls old ++ given
+calls_behind old new given reply has = calls_after_all told_of_disk given has.noted old.engine.store new.engine.store old.disk new.disk has.goes
 
 -- an edit raises the epoch by one at most
 one_edit : (changed : Bool) (before now : ℕ) → now ≡ before + cond changed 1 0 → now ≤ before + 1
 one_edit true before now is = omega (arith, is)
 one_edit false before now is = omega (arith, is)
 
+-- what is known for the graph that stays
+known_by : (new : Session) (g : Graph) → new.engine.graph ≡ g → KnowsStore g new.engine.store → KnowsStore new.engine.graph new.engine.store
+known_by new g same known = subst (λ h. KnowsStore h new.engine.store) (sym same) known
+
 pub put_served : (old new : Session) (name text name' text' : Text) (changed : Bool) → name' ≡ name → text' ≡ text
-    → HasPut told_of_disk name' text' old.engine.store new.engine.store old.disk new.disk changed → GraphStays old.engine new.engine → new.tools ≡ old.tools
+    → HasPut told_of_disk name' text' old.engine.store new.engine.store old.disk new.disk changed → StaysKnown old.engine.store new.engine.store
+    → GraphStays old.engine new.engine → new.tools ≡ old.tools
     → IsReady new.engine.store.journal (length (image_of new.disk.file)) → IsAtRest old → HasServed old (puts name text ∷ []) [] new
-put_served old new name text name' text' changed name_is text_is has stays same ready rests =
+put_served old new name text name' text' changed name_is text_is has knows stays same ready rests =
     let put_is : HasPut told_of_disk name text old.engine.store new.engine.store old.disk new.disk changed =
     subst₂ (λ n t. HasPut told_of_disk n t old.engine.store new.engine.store old.disk new.disk changed) name_is text_is has in
     record {
@@ -59,20 +66,26 @@ put_served old new name text name' text' changed name_is text_is has stays same 
       rests = record {
         jobs = stays.jobs ∙ rests.jobs;
         idle = record { ready = ready; none = ap (λ (t : tools.Tools). t.running) same ∙ rests.idle.none };
+        knows = known_by new old.engine.graph stays.graph (knows old.engine.graph rests.knows);
         counted = ap (λ (t : tools.Tools). t.starts) same ∙ rests.counted ∙ ap length (sym (put_calls name text old.engine.store new.engine.store old.disk new.disk changed put_is));
       };
       epoch = one_edit changed old.engine.store.epoch new.engine.store.epoch has.epoch;
     }
 
 -- The answer for what was replied: none of such tools is refused a start.
-answered : (old new : Session) (reply : Reply) → (r : HasReplied told_of_disk old.engine.graph 1 asked_text (moment old) (moment new) reply) → HasAnswered old.engine.graph (moment old) r.given reply (moment new)
-answered old new reply r = elim r.is [
-  | inl answer ↦ record { is = answer; goes = r.goes; epoch = r.epoch }
-  | inr refused ↦
-      let counted : IsCounted 0 0 = refusal_counted old.engine.graph old.engine.store.sources.texts (session_calls old) 1 asked_text reply r.given (tools.tools_view old.tools) (tools.tools_view new.tools) refused in
-      let rose = counted.rose in
-      absurd (omega arith)
-]
+answered : (old new : Session) (reply : Reply) → KnowsStore old.engine.graph old.engine.store
+    → (r : HasReplied told_of_disk old.engine.graph 1 asked_text (moment old) (moment new) reply) → HasAnswered old.engine.graph (moment old) r.given reply (moment new)
+answered old new reply known r =
+    let sources = old.engine.store.sources.texts in
+    let before = tools.tools_view old.tools in
+    let now = tools.tools_view new.tools in
+    elim (reply_of old.engine.graph sources (session_calls old) 1 asked_text reply r.given before now r.is known) [
+      | inl answer ↦ record { is = answer; noted = r.noted; goes = r.goes; epoch = r.epoch }
+      | inr refused ↦
+          let counted : IsCounted 0 0 = refusal_counted old.engine.graph sources (session_calls old) 1 asked_text reply r.given before now refused in
+          let rose = counted.rose in
+          absurd (omega arith)
+    ]
 
 -- how many more tools were started
 answer_run : (old new : Session) (given : Calls) (reply : Reply) → HasAnswered old.engine.graph (moment old) given reply (moment new) → IsAtRest old → length (session_calls new) < 2 ^ 64
@@ -92,7 +105,7 @@ pub ask_rises : (old new : Session) (reply : Reply) → HasReplied told_of_disk 
     → old.tools.starts ≤ new.tools.starts
 ask_rises old new reply replied rests small =
     let r = by_one old new reply rests replied in
-    let run = (answer_run old new r.given reply (answered old new reply r) rests small).1 in omega arith
+    let run = (answer_run old new r.given reply (answered old new reply rests.knows r) rests small).1 in omega arith
 
 pub ask_served : (old new : Session) (asked : Asked) (reply : Reply) → HasReplied told_of_disk old.engine.graph old.engine.jobs asked_text (moment old) (moment new) reply
     → GraphStays old.engine new.engine → IsReady new.engine.store.journal (length (image_of new.disk.file)) → new.tools.running ≡ [] → IsAtRest old
@@ -100,7 +113,7 @@ pub ask_served : (old new : Session) (asked : Asked) (reply : Reply) → HasRepl
     → HasAsked old (asks ∷ []) new asked
 ask_served old new asked reply replied stays ready idle rests starts length_is kept small =
     let r = by_one old new reply rests replied in
-    let has = answered old new reply r in
+    let has = answered old new reply rests.knows r in
     let run = answer_run old new r.given reply has rests small in
     let counted = rests.counted in
     let same = has.epoch in
@@ -110,7 +123,12 @@ ask_served old new asked reply replied stays ready idle rests starts length_is k
       served = record {
         graph = stays.graph;
         serves = ask [] [] (moment old) (moment new) r.given reply none has;
-        rests = record { jobs = stays.jobs ∙ rests.jobs; idle = record { ready = ready; none = idle }; counted = omega (arith, run.0, run.1) };
+        rests = record {
+          jobs = stays.jobs ∙ rests.jobs;
+          idle = record { ready = ready; none = idle };
+          knows = known_by new old.engine.graph stays.graph (r.right rests.knows).knows;
+          counted = omega (arith, run.0, run.1);
+        };
         epoch = omega arith;
       };
       starts = omega (arith, run.1);

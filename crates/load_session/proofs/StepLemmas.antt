@@ -1,6 +1,6 @@
 -- What a put and an ask of a load leave of the kept calls and of the tools.
-use Rattle.std.proofs.Common.{◌≡◌, ℕ, ◌+◌, ◌≤◌, ◌<◌, ◌^◌, min, Bool, true, false, cond, [], ◌∷◌, ◌++◌, length, sym, ap, ◌∙◌, arith, inl, inr}
-use Rattle.std.proofs.lemmas.List.{append-nil, append_assoc, length-append}
+use Rattle.std.proofs.Common.{◌≡◌, ℕ, ◌+◌, ◌≤◌, ◌<◌, ◌^◌, min, Bool, true, false, cond, [], ◌∷◌, ◌++◌, length, ap, arith, inl, inr}
+use Rattle.std.proofs.lemmas.List.{length-append}
 use Rattle.object_values.specs.declared.nodes.Node.{Node}
 use Rattle.odin_outside.specs.Causes.{last_count}
 use Rattle.odin_outside.specs.Spawned.{Spawned}
@@ -19,7 +19,7 @@ use Rattle.derive_walk.specs.declared.found.Found.TheVariants as found
 use Rattle.job_runner.specs.Flights.{flying}
 use Rattle.plain_derive.specs.Flights.{Flight, at_rest, off_course, for_chain, Flies, AreRun}
 use Rattle.plain_derive.proofs.Lemmas.{flown_starts, faults_later}
-use Rattle.kept_derive.specs.Runs.{keeps_of, course_of}
+use Rattle.kept_derive.specs.Runs.{course_of}
 use Rattle.odin_answers.specs.Answers.{HasAnswer}
 use Rattle.load_session.specs.Room.{LoadFile, told_of_disk}
 
@@ -35,12 +35,6 @@ put_held false name text store next holds = ap (λ (h : Held). h.calls) holds
 pub put_calls : (name text : Text) (store next : Store) (disk after : LoadFile) (changed : Bool)
     → HasPut told_of_disk name text store next disk after changed → next.kept.tables.calls ≡ store.kept.tables.calls
 put_calls name text store next disk after changed has = put_held changed name text store next has.goes.holds
-
--- and each call that is kept stands after them
-pub keeps_calls : (given : Calls) (held : Held) → (trails.after_changes store_keeping (keeps_of given) held).calls ≡ held.calls ++ given
-keeps_calls [] held = sym (append-nil held.calls)
-keeps_calls (x ∷ given) held =
-    keeps_calls given (record held { calls = held.calls ++ (x.0, x.1) ∷ [] }) ∙ append_assoc held.calls ((x.0, x.1) ∷ []) given
 
 -- ---- the starts
 

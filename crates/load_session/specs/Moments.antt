@@ -6,6 +6,7 @@ use Rattle.meaning_records.specs.Tables.{Calls}
 use Rattle.object_values.specs.declared.replies.Reply.{Reply}
 use Rattle.odin_journal.specs.declared.fault.JournalFault.{JournalFault}
 use Rattle.kept_derive.specs.Calls.{IsIdle}
+use Rattle.kept_derive.specs.Knowing.{KnowsStore}
 use Rattle.kept_derive.specs.Runs.{at}
 use Rattle.load_session.specs.declared.session.Session.{Session}
 use Rattle.load_session.specs.declared.asked.Asked.{Asked}
@@ -20,10 +21,11 @@ moment session = at session.engine.store session.disk (tools.tools_view session.
 abbrev pub session_calls : Session → Calls
 session_calls session = session.engine.store.kept.tables.calls
 
--- One tool may run at a time, and none runs; the store can be changed, and as many tools were started as calls are kept.
+-- One tool may run at a time, and none runs; the store can be changed, what it keeps of nodes is known, and as many tools were started as calls are kept.
 pub record IsAtRest (session : Session) : Type 0 where
   pub jobs : session.engine.jobs ≡ 1
   pub idle : IsIdle session.engine.store (length (image_of session.disk.file)) (tools.tools_view session.tools)
+  pub knows : KnowsStore session.engine.graph session.engine.store
   pub counted : session.tools.starts ≡ length (session_calls session)
 
 -- And so many more edits are counted.

@@ -1,5 +1,6 @@
 -- What steps of a load do to a store, its disk and its tools, and where they stop.
 use Rattle.std.specs.Prelude.{◌≡◌, ⊤, ℕ, Bool, List, [], ◌∷◌, ◌++◌, length, cond}
+use Rattle.object_values.specs.declared.facts.Fact.{Fact}
 use Rattle.meaning_graph.specs.Graphs.{Text, Graph}
 use Rattle.meaning_records.specs.Tables.{Calls}
 use Rattle.object_values.specs.declared.replies.Reply.{Reply}
@@ -11,7 +12,7 @@ use Rattle.odin_journal.specs.declared.fault.JournalFault.TheVariants as fault
 use Rattle.odin_store.specs.Held as held
 use Rattle.odin_store.specs.Going.{Performs}
 use Rattle.odin_store.specs.Edited.{HasPut, HasFailed}
-use Rattle.kept_derive.specs.Runs.{At, keeps_of}
+use Rattle.kept_derive.specs.Runs.{At, keeps_of, changes_for}
 use Rattle.odin_answers.specs.Answers.{HasAnswer}
 use Rattle.odin_answers.specs.Replied.{HasStopped}
 use Rattle.load_session.specs.Room.{LoadFile, told_of_disk, PassesRoom}
@@ -21,10 +22,11 @@ use Rattle.load_session.specs.Session.{LoadStep, puts, asks, asked_text}
 abbrev pub Moment : Type 0
 Moment = At LoadFile
 
--- The program was answered, one tool at a time, and each call that was run for that is kept. No start was refused.
+-- The program was answered, one tool at a time; each call that was run for that is kept, and notes of nodes after them. No start was refused.
 pub record HasAnswered (g : Graph) (old : Moment) (given : Calls) (reply : Reply) (new : Moment) : Type 0 where
   pub is : HasAnswer g old.store.sources.texts old.store.kept.tables.calls 1 asked_text reply given old.tools new.tools
-  pub goes : Performs told_of_disk (keeps_of given) old.store new.store old.disk new.disk
+  pub noted : List Fact
+  pub goes : Performs told_of_disk (changes_for given noted) old.store new.store old.disk new.disk
   pub epoch : new.store.epoch ≡ old.store.epoch
 
 -- Steps were served, one after another, from one moment to another; for each ask, the calls that were run and the reply.
@@ -46,12 +48,12 @@ StepFails g asks old new = HasStopped told_of_disk g 1 asked_text old new
 abbrev pub changes_of : (g : Graph) (old : Moment) (steps : List LoadStep) (answers : List (Calls × Reply)) (new : Moment) → ServesSteps g old steps answers new → List held.Change
 changes_of g old steps answers new none = []
 changes_of g old steps answers new (put before others mid _ name text changed serves has same) = changes_of g old before others mid serves ++ cond changed (held.puts name text ∷ []) []
-changes_of g old steps answers new (ask before others mid _ given reply serves has) = changes_of g old before others mid serves ++ keeps_of given
+changes_of g old steps answers new (ask before others mid _ given reply serves has) = changes_of g old before others mid serves ++ changes_for given has.noted
 
 -- those of a step at which the disk failed: the last one was begun
 abbrev pub failed_changes : (g : Graph) (step : LoadStep) (old new : Moment) → StepFails g step old new fault.Disk → List held.Change
 failed_changes g (puts name text) old new fails = held.puts name text ∷ []
-failed_changes g asks old new fails = keeps_of fails.given ++ held.keeps fails.call fails.outcome ∷ []
+failed_changes g asks old new fails = keeps_of fails.given ++ fails.last ∷ []
 
 -- A disk fails only past its room.
 abbrev pub PassesFor : JournalFault → LoadFile → Type 0

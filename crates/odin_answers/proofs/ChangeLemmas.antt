@@ -15,6 +15,7 @@ use Rattle.odin_store.specs.Held.{Held, Change, puts, drops}
 use Rattle.odin_store.specs.OnDisk.{IsSame}
 use Rattle.odin_store.specs.Going.{Performs, ChangesFollow}
 use Rattle.odin_store.specs.Edited.{HasPut, HasDropped}
+use Rattle.kept_derive.specs.Knowing.{StaysKnown}
 use Rattle.odin_answers.specs.Changes.{source_changes, edit_changes, EditsSource, PutsSource, HasFailedToPut}
 
 -- ---- texts
@@ -65,34 +66,42 @@ same_store : {Disk : Type 0} (store : Store) (disk : Disk) → IsSame store stor
 same_store store disk = record { disk_is = refl; store_is = record { journal = refl; tables = refl; sources = refl; graph = refl; epoch = refl }; nodes = refl }
 
 module _ {Disk : Type 0} (told : Disk → Telling) where
-  goes_as : (name : Text) (store next : Store) (disk after : Disk) (changes : List Change) → edit_changes name store.sources.texts next.sources.texts ≡ changes → next.epoch ≡ store.epoch + length changes
+  goes_as : (name : Text) (store next : Store) (disk after : Disk) (changes : List Change)
+      → edit_changes name store.sources.texts next.sources.texts ≡ changes → next.epoch ≡ store.epoch + length changes → StaysKnown store next
       → Performs told changes store next disk after → EditsSource told name store next disk after
-  goes_as name store next disk after changes are epoch goes = record { goes = subst (λ c. Performs told c store next disk after) (sym are) goes; epoch = subst (λ c. next.epoch ≡ store.epoch + length c) (sym are) epoch }
+  goes_as name store next disk after changes are epoch knows goes = record {
+    goes = subst (λ c. Performs told c store next disk after) (sym are) goes;
+    epoch = subst (λ c. next.epoch ≡ store.epoch + length c) (sym are) epoch;
+    knows = knows;
+  }
 
   none_edited : ChangesFollow told → (name : Text) (store : Store) (disk : Disk) → EditsSource told name store store disk disk
   none_edited law name store disk =
-      goes_as name store store disk disk [] (unchanged name (get store.sources.texts name)) (omega arith) (law.none store store disk disk (same_store store disk))
+      goes_as name store store disk disk [] (unchanged name (get store.sources.texts name)) (omega arith) (λ g known. known)
+      (law.none store store disk disk (same_store store disk))
 
   -- an answer that changes nothing
   pub none_changed : {T : Type 0} → ChangesFollow told → (name : Text) (store : Store) (disk : Disk) (result : Result T JournalFault) → OnOk result (EditsSource told name store store disk disk)
   none_changed law name store disk (Ok value) = none_edited law name store disk
   none_changed law name store disk (Err e) = tt
 
-  pub put_edited : (name text : Text) (store next : Store) (disk after : Disk) (change : Bool) → HasPut told name text store next disk after change → PutsSource told name text store next disk after
-  put_edited name text store next disk after true has =
+  pub put_edited : (name text : Text) (store next : Store) (disk after : Disk) (change : Bool) → HasPut told name text store next disk after change
+      → StaysKnown store next → PutsSource told name text store next disk after
+  put_edited name text store next disk after true has knows =
       let put : next.sources.texts ≡ insert store.sources.texts name text = ap (λ (h : Held). h.sources) has.goes.holds in
       let there : get next.sources.texts name ≡ Some text = ap (λ m. get m name) put ∙ put_here store.sources.texts name text in
       record {
         put = put;
         edits = goes_as name store next disk after (puts name text ∷ [])
-            (ap (source_changes name (get store.sources.texts name)) there ∙ changed name text (get store.sources.texts name) (has.exact.0 refl)) has.epoch has.goes;
+            (ap (source_changes name (get store.sources.texts name)) there ∙ changed name text (get store.sources.texts name) (has.exact.0 refl)) has.epoch knows has.goes;
       }
-  put_edited name text store next disk after false has =
+  put_edited name text store next disk after false has knows =
       let same : next.sources.texts ≡ store.sources.texts = ap (λ (h : Held). h.sources) has.goes.holds in
       let there : get store.sources.texts name ≡ Some text = is_there (get store.sources.texts name) text (λ other. let yes = has.exact.1 other in let no : ⊥ = cc in no) in
       record {
         put = same ∙ sym (insert_same store.sources.texts name text there);
-        edits = goes_as name store next disk after [] (ap (λ m. source_changes name (get store.sources.texts name) (get m name)) same ∙ unchanged name (get store.sources.texts name)) has.epoch has.goes;
+        edits = goes_as name store next disk after []
+            (ap (λ m. source_changes name (get store.sources.texts name) (get m name)) same ∙ unchanged name (get store.sources.texts name)) has.epoch knows has.goes;
       }
 
   pub drop_removes : (name : Text) (store next : Store) (disk after : Disk) (change : Bool) → IsSome (get store.sources.texts name) → HasDropped told name store next disk after change
@@ -100,14 +109,14 @@ module _ {Disk : Type 0} (told : Disk → Telling) where
   drop_removes name store next disk after true some has = ap (λ (h : Held). h.sources) has.goes.holds
   drop_removes name store next disk after false some has = let yes = has.exact.1 some in let no : ⊥ = cc in absurd no
 
-  pub drop_edited : (name : Text) (store next : Store) (disk after : Disk) (change : Bool) → IsSome (get store.sources.texts name) → HasDropped told name store next disk after change
-      → EditsSource told name store next disk after
-  drop_edited name store next disk after true some has =
+  pub drop_edited : (name : Text) (store next : Store) (disk after : Disk) (change : Bool) → IsSome (get store.sources.texts name)
+      → HasDropped told name store next disk after change → StaysKnown store next → EditsSource told name store next disk after
+  drop_edited name store next disk after true some has knows =
       let removed : next.sources.texts ≡ remove store.sources.texts name = ap (λ (h : Held). h.sources) has.goes.holds in
       let none : get next.sources.texts name ≡ None = ap (λ m. get m name) removed ∙ remove_here store.sources.texts name in
       goes_as name store next disk after (drops name ∷ [])
-      (ap (source_changes name (get store.sources.texts name)) none ∙ gone name (get store.sources.texts name) some) has.epoch has.goes
-  drop_edited name store next disk after false some has = let yes = has.exact.1 some in let no : ⊥ = cc in absurd no
+      (ap (source_changes name (get store.sources.texts name)) none ∙ gone name (get store.sources.texts name) some) has.epoch knows has.goes
+  drop_edited name store next disk after false some has knows = let yes = has.exact.1 some in let no : ⊥ = cc in absurd no
 
   -- ---- faults
 

@@ -51,29 +51,31 @@ at_want r Q is q =
 
 -- ---- what runs
 
-at_rest : (limit : ℕ) (before now : Spawned) (r : Result Reply JournalFault) → now.answer ≡ before.answer → length now.running ≤ limit → now.running ≡ [] → ComesToRest LeavesAll limit before now r
-at_rest limit before now (Ok reply) answer few idle = record { answer = answer; few = few; idle = idle; left = tt }
-at_rest limit before now (Err why) answer few idle = record { answer = answer; few = few; idle = tt; left = λ not. idle }
+at_rest : (limit : ℕ) (before now : Spawned) (r : Result Reply JournalFault) → now.answer ≡ before.answer → before.faults ≤ now.faults → length now.running ≤ limit
+    → now.running ≡ [] → ComesToRest LeavesAll limit before now r
+at_rest limit before now (Ok reply) answer later few idle = record { answer = answer; later = later; few = few; idle = idle; left = tt }
+at_rest limit before now (Err why) answer later few idle = record { answer = answer; later = later; few = few; idle = tt; left = λ not. idle }
 
 -- what runs is left where there is no reply
-pub tools_left : (limit : ℕ) (before now : Spawned) (r : Result Reply JournalFault) → IfOk r (λ reply. ⊥) → now.answer ≡ before.answer → length now.running ≤ limit → ComesToRest LeavesAll limit before now r
-tools_left limit before now (Ok reply) none answer few = absurd none
-tools_left limit before now (Err why) none answer few = record { answer = answer; few = few; idle = tt; left = λ not. absurd (not tt) }
+pub tools_left : (limit : ℕ) (before now : Spawned) (r : Result Reply JournalFault) → IfOk r (λ reply. ⊥) → now.answer ≡ before.answer → before.faults ≤ now.faults
+    → length now.running ≤ limit → ComesToRest LeavesAll limit before now r
+tools_left limit before now (Ok reply) none answer later few = absurd none
+tools_left limit before now (Err why) none answer later few = record { answer = answer; later = later; few = few; idle = tt; left = λ not. absurd (not tt) }
 
 -- ---- after a fault
 
 module _ (g : Graph) where
   pub refused_rests : (limit : ℕ) (before now : Spawned) (f : AskFault) (r : Result Reply JournalFault) → IfOk r (IsReplyToFault g f) → IfErr r (StopsWithoutReply f) → ComesToRest {T = View} asking.AskLeavesTools limit before now (Err f) → ComesToRest LeavesAll limit before now r
-  refused_rests limit before now (fault.Expression place) r ok err rest = at_rest limit before now r rest.answer rest.few (rest.left (λ not. not))
-  refused_rests limit before now (fault.UnknownType name) r ok err rest = at_rest limit before now r rest.answer rest.few (rest.left (λ not. not))
-  refused_rests limit before now (fault.UnknownParam name) r ok err rest = at_rest limit before now r rest.answer rest.few (rest.left (λ not. not))
-  refused_rests limit before now (fault.Path step) r ok err rest = at_rest limit before now r rest.answer rest.few (rest.left (λ not. not))
-  refused_rests limit before now (fault.Circular chain) r ok err rest = at_rest limit before now r rest.answer rest.few (rest.left (λ not. not))
-  refused_rests limit before now (fault.Deep chain) r ok err rest = at_rest limit before now r rest.answer rest.few (rest.left (λ not. not))
-  refused_rests limit before now fault.Spawn r ok err rest = at_rest limit before now r rest.answer rest.few (rest.left (λ not. not))
-  refused_rests limit before now fault.Disk r ok err rest = tools_left limit before now r ok rest.answer rest.few
-  refused_rests limit before now (fault.Full end size) r ok err rest = tools_left limit before now r ok rest.answer rest.few
-  refused_rests limit before now fault.Memory r ok err rest = tools_left limit before now r ok rest.answer rest.few
+  refused_rests limit before now (fault.Expression place) r ok err rest = at_rest limit before now r rest.answer rest.later rest.few (rest.left (λ not. not))
+  refused_rests limit before now (fault.UnknownType name) r ok err rest = at_rest limit before now r rest.answer rest.later rest.few (rest.left (λ not. not))
+  refused_rests limit before now (fault.UnknownParam name) r ok err rest = at_rest limit before now r rest.answer rest.later rest.few (rest.left (λ not. not))
+  refused_rests limit before now (fault.Path step) r ok err rest = at_rest limit before now r rest.answer rest.later rest.few (rest.left (λ not. not))
+  refused_rests limit before now (fault.Circular chain) r ok err rest = at_rest limit before now r rest.answer rest.later rest.few (rest.left (λ not. not))
+  refused_rests limit before now (fault.Deep chain) r ok err rest = at_rest limit before now r rest.answer rest.later rest.few (rest.left (λ not. not))
+  refused_rests limit before now fault.Spawn r ok err rest = at_rest limit before now r rest.answer rest.later rest.few (rest.left (λ not. not))
+  refused_rests limit before now fault.Disk r ok err rest = tools_left limit before now r ok rest.answer rest.later rest.few
+  refused_rests limit before now (fault.Full end size) r ok err rest = tools_left limit before now r ok rest.answer rest.later rest.few
+  refused_rests limit before now fault.Memory r ok err rest = tools_left limit before now r ok rest.answer rest.later rest.few
 
   pub refused_left : (made : Store) (size : ℕ) (f : AskFault) (r : Result Reply JournalFault) → IfOk r (IsReplyToFault g f) → IfErr r (StopsWithoutReply f) → asking.StoreAfterAskFault made size f → StoreAfter made size r
   refused_left made size (fault.Expression place) r ok err left = ready_left made size r (wanted r err) left

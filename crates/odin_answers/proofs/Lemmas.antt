@@ -4,5 +4,5 @@ pub use Rattle.odin_answers.proofs.CountLemmas.{answer_later, answer_uncounted, 
 -- A text has one answer, and what is kept stays true.
 pub use Rattle.odin_answers.proofs.OnceLemmas.{reply_true, begun_true}
 pub use Rattle.odin_answers.proofs.SameLemmas.{same_answers, kept_first, kept_by_either}
--- A reply is one of an ask that was begun, and one more call is one more change.
-pub use Rattle.odin_answers.proofs.AnswerLemmas.{reply_begun, keeps_behind}
+-- A reply where what it rests on holds; it is one of an ask that was begun, and one more call is one more change.
+pub use Rattle.odin_answers.proofs.AnswerLemmas.{reply_of, reply_begun, keeps_behind}

@@ -1,6 +1,7 @@
 mod ChangeLemmas
 mod EditLemmas
 mod SourceLemmas
+mod RecordLemmas
 mod AnswerLemmas
 mod CountLemmas
 mod FaultLemmas

@@ -1,6 +1,8 @@
 -- The replies to texts, and what was run for them, over the calls that are kept.
-use Rattle.std.specs.Prelude.{◌≡◌, ◌⊎◌, ℕ, [], IsSome}
+use Rattle.std.specs.Prelude.{◌≡◌, ◌≢◌, ◌≤◌, ◌⊎◌, ◌++◌, ℕ, List, [], length, Some, IsSome}
+use Rattle.object_values.specs.declared.facts.Fact.{Fact}
 use Rattle.object_values.specs.declared.nodes.Node.{Node}
+use Rattle.object_values.specs.declared.views.View.{View}
 use Rattle.object_values.specs.declared.calls.Call.{Call}
 use Rattle.odin_outside.specs.Spawned.{Spawned}
 use Rattle.meaning_texts.specs.Lists.{IsIn}
@@ -74,6 +76,12 @@ pub record IsUntouched (given : Calls) (before now : Spawned) : Type 0 where
 abbrev pub MayHaveBegun : Graph → Sources → Calls → ℕ → Text → Calls → Spawned → Spawned → Type 0
 MayHaveBegun g s kept limit text given before now = IsUntouched given before now ⊎ HaveFlown g s kept limit text given before now
 
+-- These outcomes came of tools, and one more at most.
+pub record MayHaveBegunWith (g : Graph) (s : Sources) (kept : Calls) (limit : ℕ) (text : Text) (given : Calls) (before now : Spawned) : Type 0 where
+  pub rest : Calls
+  pub few : length rest ≤ 1
+  pub begun : MayHaveBegun g s kept limit text (given ++ rest) before now
+
 -- ---- replies
 
 -- the reply that shows what was found
@@ -96,3 +104,20 @@ pub record IsStartRefused (g : Graph) (s : Sources) (kept : Calls) (limit : ℕ)
 -- The answer, or that a tool was not started.
 abbrev pub IsReply : Graph → Sources → Calls → ℕ → Text → Reply → Calls → Spawned → Spawned → Type 0
 IsReply g s kept limit text reply given before now = HasAnswer g s kept limit text reply given before now ⊎ IsStartRefused g s kept limit text reply given before now
+
+-- The text is refused, and nothing is done; or, where this holds, it is the reply.
+abbrev pub IsReplyIf : Type 0 → Graph → Sources → Calls → ℕ → Text → Reply → Calls → Spawned → Spawned → Type 0
+IsReplyIf trust g s kept limit text reply given before now = IsLeftAlone g text reply given before now ⊎ (trust → IsReply g s kept limit text reply given before now)
+
+-- ---- records
+
+-- it is noted of the node
+pub record HasFact (n : Node) (records : List Fact) : Type 0 where
+  pub fact : Fact
+  pub there : IsIn fact records
+  pub is : fact.node ≡ n
+
+-- Where an object is answered, its node has a record, unless it is a source.
+abbrev pub IsRecordedFor : Graph → Sources → Outcomes → Text → Reply → List Fact → Type 0
+IsRecordedFor g s outcomes text reply records =
+    (n : Node) (view : View) → Asks g text n → derived g s outcomes n ≡ Some view → reply ≡ shown g view → n.steps ≢ [] → HasFact n records

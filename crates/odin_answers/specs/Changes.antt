@@ -13,6 +13,7 @@ use Rattle.odin_store.specs.Held.{Change, puts, drops}
 use Rattle.odin_store.specs.OnDisk.{StoreIsOpen, IsSame}
 use Rattle.odin_store.specs.Going.{Performs}
 use Rattle.odin_store.specs.Edited.{HasFailed}
+use Rattle.kept_derive.specs.Knowing.{StaysKnown}
 
 -- ---- changes
 
@@ -27,10 +28,11 @@ source_changes name (Some old) (Some text) = cond (bytes_eq old text) [] (puts n
 abbrev pub edit_changes : Text → Texts → Texts → List Change
 edit_changes name old new = source_changes name (get old name) (get new name)
 
--- The store went by the change of this source, where it changed at all, and its epoch rose by as much.
+-- The store went by the change of this source, where it changed at all, and its epoch rose by as much. What was known of nodes still is.
 pub record EditsSource {Disk : Type 0} (told : Disk → Telling) (name : Text) (store next : Store) (disk after : Disk) : Type 0 where
   pub goes : Performs told (edit_changes name store.sources.texts next.sources.texts) store next disk after
   pub epoch : next.epoch ≡ store.epoch + length (edit_changes name store.sources.texts next.sources.texts)
+  pub knows : StaysKnown store next
 
 -- And the source has this text now.
 pub record PutsSource {Disk : Type 0} (told : Disk → Telling) (name text : Text) (store next : Store) (disk after : Disk) : Type 0 where

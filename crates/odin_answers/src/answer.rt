@@ -20,7 +20,8 @@ use std::marker::Brand;
 use std::sync::ledger::{Blank, Ledger};
 use type_graph::Graph;
 
-/// The reply to a text that asks for an object. Each call that is run for it is kept as its tool ends. Where there is none, what runs is left.
+/// The reply to a text that asks for an object. Each call that is run for it is kept as its tool ends, and before a view is given out what changed of
+/// nodes. Where there is no reply, what runs is left.
 pub fn answer_ask<D: Disk, S: Spawner>(
     alloc: Global,
     engine: &mut Engine,
@@ -69,7 +70,10 @@ fn answer_counted<D: Disk, S: Spawner, L: Ledger>(
 {
     let mut steps = Steps::<L>::new(blank);
     match engine.ask(alloc, disk, tools, text, &mut steps) {
-        Ok(view) => Ok(shown(alloc, engine.graph(), view)?),
+        Ok(view) => {
+            engine.store().kept().records_fit();
+            Ok(shown(alloc, engine.graph(), view)?)
+        }
         Err(fault) => refused(alloc, engine.graph(), fault),
     }
 }

@@ -61,13 +61,13 @@ cause_so before now (Err (stop.Full end count)) cause = record { later = cause.l
 cause_so before now (Err stop.Memory) cause = record { later = cause.later; ok = tt; err = cause.err }
 
 pub rests_so : (limit : ℕ) (before now : Spawned) (r : Result Found KeptFault) → ComesToRest LeavesKept limit before now r → ComesToRest AskLeavesTools limit before now (answer_of r)
-rests_so limit before now (Ok (found.Answer view)) rest = record { answer = rest.answer; few = rest.few; idle = rest.idle; left = tt }
-rests_so limit before now (Ok (found.Circular chain)) rest = record { answer = rest.answer; few = rest.few; idle = tt; left = λ not. rest.idle }
-rests_so limit before now (Ok (found.Deep chain)) rest = record { answer = rest.answer; few = rest.few; idle = tt; left = λ not. rest.idle }
-rests_so limit before now (Err stop.Spawn) rest = record { answer = rest.answer; few = rest.few; idle = tt; left = rest.left }
-rests_so limit before now (Err stop.Disk) rest = record { answer = rest.answer; few = rest.few; idle = tt; left = rest.left }
-rests_so limit before now (Err (stop.Full end count)) rest = record { answer = rest.answer; few = rest.few; idle = tt; left = rest.left }
-rests_so limit before now (Err stop.Memory) rest = record { answer = rest.answer; few = rest.few; idle = tt; left = rest.left }
+rests_so limit before now (Ok (found.Answer view)) rest = record { answer = rest.answer; later = rest.later; few = rest.few; idle = rest.idle; left = tt }
+rests_so limit before now (Ok (found.Circular chain)) rest = record { answer = rest.answer; later = rest.later; few = rest.few; idle = tt; left = λ not. rest.idle }
+rests_so limit before now (Ok (found.Deep chain)) rest = record { answer = rest.answer; later = rest.later; few = rest.few; idle = tt; left = λ not. rest.idle }
+rests_so limit before now (Err stop.Spawn) rest = record { answer = rest.answer; later = rest.later; few = rest.few; idle = tt; left = rest.left }
+rests_so limit before now (Err stop.Disk) rest = record { answer = rest.answer; later = rest.later; few = rest.few; idle = tt; left = rest.left }
+rests_so limit before now (Err (stop.Full end count)) rest = record { answer = rest.answer; later = rest.later; few = rest.few; idle = tt; left = rest.left }
+rests_so limit before now (Err stop.Memory) rest = record { answer = rest.answer; later = rest.later; few = rest.few; idle = tt; left = rest.left }
 
 -- ---- a text that asks for nothing
 
@@ -118,5 +118,5 @@ pub refused_counts : (g : Graph) (text : Text) (count : ℕ) (r : Result View As
 refused_counts g text count r given is refused = subst (AskFaultIsCounted count count) (sym is) (record { later = omega arith; ok = tt; err = refused_cause g text count given refused })
 
 pub refused_rests : (r : Result View AskFault) (limit : ℕ) (now : Spawned) → now.running ≡ [] → ComesToRest AskLeavesTools limit now now r
-refused_rests (Ok view) limit now idle = let none = ap length idle in record { answer = refl; few = omega (arith, none); idle = idle; left = tt }
-refused_rests (Err given) limit now idle = let none = ap length idle in record { answer = refl; few = omega (arith, none); idle = tt; left = λ not. idle }
+refused_rests (Ok view) limit now idle = let none = ap length idle in record { answer = refl; later = omega arith; few = omega (arith, none); idle = idle; left = tt }
+refused_rests (Err given) limit now idle = let none = ap length idle in record { answer = refl; later = omega arith; few = omega (arith, none); idle = tt; left = λ not. idle }

@@ -3,3 +3,4 @@ mod LookingLemmas
 mod AskLawLemmas
 mod AskedLemmas
 mod EngineLemmas
+mod StoreForLemmas

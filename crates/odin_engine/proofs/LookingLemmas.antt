@@ -10,6 +10,7 @@ use Rattle.derive_walk.specs.declared.found.Found.TheVariants as found
 use Rattle.kept_derive.specs.declared.fault.KeptFault.{KeptFault}
 use Rattle.kept_derive.specs.declared.fault.KeptFault.TheVariants as stop
 use Rattle.kept_derive.specs.Looked.{HasLooked, AreLooks}
+use Rattle.kept_derive.specs.Knowing.{KnowsStore}
 use Rattle.kept_derive.specs.Runs.{At}
 use Rattle.odin_engine.specs.declared.fault.AskFault.{AskFault}
 use Rattle.odin_engine.specs.declared.fault.AskFault.TheVariants as fault
@@ -18,15 +19,15 @@ use Rattle.odin_engine.specs.Asking.{answer_of}
 use Rattle.odin_engine.specs.Looking.{IsLookedFor, AreAskLooks}
 
 module _ {D : Type 0} (told : D → Telling) (g : Graph) (limit : ℕ) (text : Text) (node : Node) (is : IsNodeOf g text node) (old new : At D) (first last : ℕ) where
-  looked_for : (spare : ℕ) → HasLooked g node old.store new.store first last spare → IsLookedFor g text old.store new.store first last spare
-  looked_for spare looked = record { node = node; is = is; looked = looked }
+  looked_for : (spare : ℕ) → (KnowsStore g old.store → HasLooked g node old.store new.store first last spare) → KnowsStore g old.store → IsLookedFor g text old.store new.store first last spare
+  looked_for spare looked known = record { node = node; is = is; looked = looked known }
 
-  pub looks_so : (r : Result Found KeptFault) → AreLooks told g node limit old new first last r → AreAskLooks told g limit text old new first last (answer_of r)
+  pub looks_so : (r : Result Found KeptFault) → (KnowsStore g old.store → AreLooks told g node limit old new first last r) → AreAskLooks told g limit text old new first last (answer_of r)
   looks_so (Ok (found.Answer view)) looks = looked_for 0 looks
   looks_so (Ok (found.Circular chain)) looks = inr (looked_for 0 looks)
   looks_so (Ok (found.Deep chain)) looks = inr (looked_for 0 looks)
   looks_so (Err stop.Spawn) looks = inr (looked_for 0 looks)
-  looks_so (Err stop.Disk) looks = record { node = node; is = is; looked = looks }
+  looks_so (Err stop.Disk) looks = λ known. record { node = node; is = is; looked = looks known }
   looks_so (Err (stop.Full end count)) looks = inr (looked_for 0 looks)
   looks_so (Err stop.Memory) looks = inr (looked_for 1 looks)
 

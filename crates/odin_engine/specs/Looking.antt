@@ -8,6 +8,7 @@ use Rattle.odin_store.specs.declared.store.Store.{Store}
 use Rattle.derive_walk.specs.declared.found.Found.{Found}
 use Rattle.kept_derive.specs.declared.fault.KeptFault.{KeptFault}
 use Rattle.kept_derive.specs.Looked.{HasLooked, HasLookedBefore, AreLooks}
+use Rattle.kept_derive.specs.Knowing.{KnowsStore}
 use Rattle.kept_derive.specs.Runs.{At, HasFound}
 use Rattle.kept_derive.specs.Stops.{IsStopped}
 use Rattle.odin_engine.specs.declared.fault.AskFault.{AskFault}
@@ -18,7 +19,7 @@ use Rattle.odin_engine.specs.Asked.{IsNodeOf}
 pub record IsDerivedWithLooks {Disk : Type 0} (told : Disk → Telling) (g : Graph) (n : Node) (limit : ℕ) (old new : At Disk) (first last : ℕ) (result : Result Found KeptFault) : Type 0 where
   pub found : IfOk result (HasFound told g n limit old new)
   pub stopped : IfErr result (IsStopped told g n limit old new)
-  pub looks : AreLooks told g n limit old new first last result
+  pub looks : KnowsStore g old.store → AreLooks told g n limit old new first last result
 
 -- The text asks for a node, for which these looks were taken.
 pub record IsLookedFor (g : Graph) (text : Text) (old new : Store) (first last spare : ℕ) : Type 0 where
@@ -37,8 +38,9 @@ abbrev pub spare_for : AskFault → ℕ
 spare_for fault.Memory = 1
 spare_for other = 0
 
--- The looks of an ask, whatever it answers. A text that asks for no node takes none. A store whose disk failed tells no more of its calls.
+-- The looks of an ask, whatever it answers, where what was kept of nodes was known. A text that asks for no node takes none. A store whose disk failed
+-- tells no more of its calls.
 abbrev pub AreAskLooks : {Disk : Type 0} → (Disk → Telling) → Graph → ℕ → Text → At Disk → At Disk → ℕ → ℕ → Result View AskFault → Type 0
-AreAskLooks told g limit text old new first last (Ok view) = IsLookedFor g text old.store new.store first last 0
-AreAskLooks told g limit text old new first last (Err fault.Disk) = IsLookedForBefore told g limit text old new first last
-AreAskLooks told g limit text old new first last (Err given) = (last ≡ first) ⊎ IsLookedFor g text old.store new.store first last (spare_for given)
+AreAskLooks told g limit text old new first last (Ok view) = KnowsStore g old.store → IsLookedFor g text old.store new.store first last 0
+AreAskLooks told g limit text old new first last (Err fault.Disk) = KnowsStore g old.store → IsLookedForBefore told g limit text old new first last
+AreAskLooks told g limit text old new first last (Err given) = (last ≡ first) ⊎ (KnowsStore g old.store → IsLookedFor g text old.store new.store first last (spare_for given))

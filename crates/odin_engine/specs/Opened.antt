@@ -10,9 +10,10 @@ use Rattle.odin_journal.specs.declared.fault.JournalFault.{JournalFault}
 use Rattle.odin_journal.specs.declared.fault.JournalFault.TheVariants as fault
 use Rattle.odin_store.specs.declared.store.Store.{Store}
 use Rattle.odin_store.specs.Compacting.{wasteful_size, IsWasteful, Compacts, HasNoRoomForCopy, LeavesCompacted}
-use Rattle.odin_store.specs.OnDisk.{IsOn, IsSame}
+use Rattle.odin_store.specs.OnDisk.{held_in, IsOn, IsSame}
 use Rattle.odin_store.specs.Opening.{IsAtFirst, IsStoreOpenFault, LeavesHeld, LeavesOpening, OpensStore, OpensQuietStore}
 use Rattle.meaning_texts.specs.Limits.{graph_limit}
+use Rattle.kept_derive.specs.Knowing.{RecordsAreTrue, KnowsStore}
 use Rattle.odin_engine.specs.Engaged.{Engaged, IsLimit}
 
 -- The text is one of this graph, and from 1 to 64 tools may run at once.
@@ -20,12 +21,14 @@ pub record MayOpen (text : List ℕ) (graph : List Decl) (jobs : ℕ) : Type 0 w
   pub read : IsRead text graph
   pub limit : IsLimit jobs
 
--- The engine has this graph and this limit and counts no edit yet, and it may be used over a disk of this size.
+-- The engine has this graph and this limit and counts no edit yet, and it may be used over a disk of this size. Where what is held of nodes is true, it is
+-- known.
 pub record EngineIsNew (graph : List Decl) (jobs size : ℕ) (engine : Engaged) : Type 0 where
   pub graph_is : engine.graph ≡ graph
   pub jobs_is : engine.jobs ≡ jobs
   pub first : IsAtFirst engine.store
   pub ready : IsReady engine.store.journal size
+  pub knows : RecordsAreTrue graph (held_in engine.store) → KnowsStore graph engine.store
 
 -- ---- what follows on the opening of a store
 

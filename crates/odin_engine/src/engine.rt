@@ -1,5 +1,6 @@
 // The engine: its opening, and the edits of the sources.
 ghost use Rattle.std.specs.Prelude.{◌≡◌, ◌+◌, length, IfOk, IfErr, OnOk};
+ghost use Rattle.kept_derive.specs.Knowing.{StaysKnown};
 ghost use Rattle.odin_journal.specs.Faults.{JournalFaultIsCounted};
 ghost use Rattle.odin_journal.specs.Moments.{Works};
 ghost use Rattle.odin_journal.specs.Rest.{IsReady};
@@ -24,8 +25,8 @@ use std::alloc::Global;
 use std::marker::Model;
 use type_graph::Graph;
 
-/// A graph with its paths, over a store of sources and kept calls. Its disk is lent to it call by call: the one of the opening, as the last call left
-/// it. After a fault of the disk it is used no more.
+/// A graph with its paths, over a store of sources, kept calls and records of nodes. Its disk is lent to it call by call: the one of the opening, as the
+/// last call left it. After a fault of the disk it is used no more.
 pub struct Engine {
     pub(crate) graph: Graph,
     pub(crate) plans: Plans,
@@ -53,7 +54,7 @@ impl Model for Engine {
     ghost use Rattle.path_planner.specs.Ends.{plans_of};
     ghost use Rattle.std.specs.Coded.{codes};
     ghost use Rattle.odin_store.specs.contracts.store.Store as held;
-    ghost use Rattle.odin_engine.specs.Engaged.{Engaged, IsLimit};
+    ghost use Rattle.odin_engine.specs.Engaged.{Engaged, IsLimit, IsStoreFor};
 
     ghost Value = { Engaged };
 
@@ -62,7 +63,8 @@ impl Model for Engine {
     ghost view = { λ e. record { graph = e.graph; jobs = e.jobs; store = e.store } };
 
     ghost invariant = { λ e.
-        (e.plans ≡ plans_of e.graph) × IsSpellable e.graph × IsLimit e.jobs };
+        (e.plans ≡ plans_of e.graph) × IsSpellable e.graph × IsLimit e.jobs
+        × IsStoreFor e.graph e.store };
 }
 
 impl Engine {
@@ -90,6 +92,7 @@ impl Engine {
         let plans = Plans::new(alloc, &graph)?;
         let mut store = Store::open(alloc, disk, &graph, text)?;
         settle(alloc, disk, &mut store)?;
+        store.kept().records_fit();
         Ok(Engine {
             graph,
             plans,
@@ -111,6 +114,7 @@ impl Engine {
             (HasPut D.told name.now text.now self.old.store self.new.store disk.old disk.new) }
         ensures err { IfErr result (HasFailed D.told (puts name.now text.now)
             self.old.store self.new.store disk.old disk.new) }
+        ensures knows { OnOk result (StaysKnown self.old.store self.new.store) }
         ensures stays { GraphStays self.old self.new }
         ensures left { StoreAfter self.new.store (D.size_of disk.new) result }
         ensures begins { BeginsOnce (PutBatch self.old.store name.now text.now) self.old.store
@@ -118,7 +122,11 @@ impl Engine {
         ensures cause { JournalFaultIsCounted (D.faults disk.old) (D.faults disk.new) result }
     {
         edits_are_told::<D>();
-        self.store.put_source(alloc, disk, name, text)
+        self.store.kept().records_fit();
+        self.store.stamps_fit();
+        let put = self.store.put_source(alloc, disk, name, text);
+        self.store.kept().records_fit();
+        put
     }
 
     /// Takes a source away. `false` where there is none, and then nothing is written.
@@ -133,6 +141,7 @@ impl Engine {
             (HasDropped D.told name.now self.old.store self.new.store disk.old disk.new) }
         ensures err { IfErr result (HasFailed D.told (drops name.now)
             self.old.store self.new.store disk.old disk.new) }
+        ensures knows { OnOk result (StaysKnown self.old.store self.new.store) }
         ensures stays { GraphStays self.old self.new }
         ensures left { StoreAfter self.new.store (D.size_of disk.new) result }
         ensures begins { BeginsOnce (DropBatch name.now) self.old.store
@@ -140,7 +149,11 @@ impl Engine {
         ensures cause { JournalFaultIsCounted (D.faults disk.old) (D.faults disk.new) result }
     {
         edits_are_told::<D>();
-        self.store.drop_source(alloc, disk, name)
+        self.store.kept().records_fit();
+        self.store.stamps_fit();
+        let dropped = self.store.drop_source(alloc, disk, name);
+        self.store.kept().records_fit();
+        dropped
     }
 
     /// The node that a text asks for.

@@ -5,8 +5,8 @@ ghost use Rattle.odin_engine.specs.Opened.{EngineOpeningsKeepHeld};
 use odin_outside::Disk;
 use odin_store::laws::{changes_follow, compactions_keep, openings_keep_held};
 
-/// An ask keeps calls, one after another, and changes nothing else; after a fault of the disk some
-/// first ones are there.
+/// An ask keeps calls, one after another, then what is to be noted of nodes, and changes nothing
+/// else; after a fault of the disk some first ones are there.
 pub fn asks_keep<D: Disk>()
     ensures answers { AnswersKeep D.told }
     ensures faults { FaultsKeep D.told }

@@ -1,4 +1,4 @@
-//! The engine: a graph with its paths, over a store of sources and kept calls.
+//! The engine: a graph with its paths, over a store of sources, kept calls and records of nodes.
 #![tactic(auto)]
 
 mod ask;

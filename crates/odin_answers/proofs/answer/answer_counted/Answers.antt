@@ -1,9 +1,12 @@
-use Rattle.std.proofs.Common.{◌∙◌, ap, subst}
+use Rattle.std.proofs.Common.{◌≡◌, ◌∙◌, ap, subst}
 use Rattle.std.proofs.lemmas.Result.{IfOk-weaker, IfErr-weaker}
 use Rattle.meaning_derive.specs.Replies.{shown}
+use Rattle.kept_notes.specs.Facts.{facts_of}
+use Rattle.kept_tables.specs.declared.kept.Kept.{Kept}
+use Rattle.odin_store.specs.declared.store.Store.{Store}
 use Rattle.derive_walk.specs.declared.found.Found.TheVariants as found
 use Rattle.odin_answers.specs.Faults.{IsReplyToFault}
-use Rattle.odin_answers.proofs.AnswerLemmas.{replied, unreplied, refused, stopped}
+use Rattle.odin_answers.proofs.AnswerLemmas.{shown_reply, unreplied, refused, stopped}
 use Rattle.odin_answers.proofs.FaultLemmas.{at_want, refused_rests, refused_left, refused_cause}
 use Rattle.odin_answers.proofs.answer.answer_counted.Goals as goal
 
@@ -14,8 +17,10 @@ returns-in_err-shown-in-Ok-clause-err g c = at_want _ _ c.from_residual.ensures.
 
 pub returns-in-Ok-clause-ok : goal.returns-in-Ok-clause-ok
 returns-in-Ok-clause-ok g c =
-    replied g.D.Disk.told _ _ _ _ _ (found.Answer c.in-Ok.view) _ c.in-Ok.ensures.ok
+    shown_reply g.D.Disk.told _ _ _ _ _ c.in-Ok.view _ c.in-Ok.ensures.ok
     (c.in_ok-shown-in-Ok.ensures ∙ ap (λ on. shown on c.in-Ok.view) (c.graph.ensures ∙ c.in-Ok.ensures.stays.graph))
+    (subst (λ (k : Kept). k.tables.records ≡ facts_of k.tables.contents k.records.records) (c.kept.ensures ∙ ap (λ (s : Store). s.kept) c.store.ensures)
+    c.records_fit.ensures.says)
 
 -- ---- a fault
 

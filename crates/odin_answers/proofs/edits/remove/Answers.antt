@@ -37,3 +37,4 @@ returns-clause-ok g c =
     let there = c.get.ensures ∙ ap (λ (s : SourceStock). get s.texts asked) (c.sources.ensures ∙ ap (λ (s : Store). s.sources) c.store.ensures) in
     let some = is_source _ c.get.result store.sources.texts c.args.name asked there c.as_slice.ensures.bytes (search rules) in
     drop_edited g.D.Disk.told c.args.name store c.remove.new.self.store c.args.disk.now c.remove.new.disk c.in_ok-remove.field-0 some c.in_ok-remove.ensures.ok
+    c.in_ok-remove.ensures.knows

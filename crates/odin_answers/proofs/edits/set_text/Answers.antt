@@ -12,7 +12,8 @@ returns-clause-ok g c =
     let store = c.args.engine.now.store in
     let next = c.put.new.self.store in
     subst (λ t. PutsSource g.D.Disk.told c.args.name.now t store next c.args.disk.now c.put.new.disk) c.in_ok-text.ensures
-    (put_edited g.D.Disk.told c.args.name.now c.in_ok-text.text store next c.args.disk.now c.put.new.disk c.in_ok-put.field-0 c.in_ok-put.ensures.ok)
+    (put_edited g.D.Disk.told c.args.name.now c.in_ok-text.text store next c.args.disk.now c.put.new.disk c.in_ok-put.field-0 c.in_ok-put.ensures.ok
+    c.in_ok-put.ensures.knows)
 
 -- a fault that is handed on
 handed : {T : Type 0} (P : JournalFault → Type 0) (r : Result T JournalFault) (e : JournalFault) → IsErrAnd r (λ given. given ≡ e) → P e → IfErr r P

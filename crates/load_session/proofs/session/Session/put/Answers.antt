@@ -13,4 +13,4 @@ pub returns-clause-ok : goal.returns-clause-ok
 returns-clause-ok c =
     put_served c.args.self.now (record { engine = c.put-put.new.self; disk = c.put-put.new.disk; tools = c.args.self.now.tools })
     c.args.name.now c.args.text c.in_ok-name.name c.in_ok-text.text c.in_ok-put.field-0 c.in_ok-name.ensures.ok c.in_ok-text.ensures
-    c.in_ok-put.ensures.ok c.in_ok-put.ensures.stays refl c.in_ok-put.ensures.left.ready c.requires.may.rests
+    c.in_ok-put.ensures.ok c.in_ok-put.ensures.knows c.in_ok-put.ensures.stays refl c.in_ok-put.ensures.left.ready c.requires.may.rests

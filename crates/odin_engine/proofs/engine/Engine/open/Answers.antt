@@ -1,9 +1,13 @@
-use Rattle.std.proofs.Common.{◌≡◌, ◌+◌, length, inl, refl, ◌∙◌}
+use Rattle.std.proofs.Common.{◌≡◌, ◌+◌, length, inl, refl, ◌∙◌, subst, sym, rules}
+use Rattle.object_values.specs.Texts.{Text}
+use Rattle.meaning_graph.specs.Grammar.{GraphText}
 use Rattle.odin_journal.specs.Moments.{Works}
 use Rattle.odin_journal.specs.declared.fault.JournalFault.TheVariants as fault
 use Rattle.odin_store.specs.Opening.{graph_record}
 use Rattle.odin_store.proofs.Lemmas.{first_not_wasteful}
 use Rattle.odin_engine.specs.Opened.{LeavesEngineOpening, IsEngineOpenFault}
+use Rattle.kept_derive.proofs.Lemmas.{known_at_first}
+use Rattle.odin_engine.proofs.StoreForLemmas.{settled_for, settled_unchecked}
 use Rattle.odin_engine.proofs.EngineLemmas.{untouched_leaves, untouched_disk, handed, store_fault, settled_leaves, settled_opens, settled_fault, settled_epoch, stays_opened, stays_works, fails_works}
 use Rattle.odin_engine.proofs.engine.Engine.open.Goals as goal
 
@@ -51,7 +55,19 @@ returns-clause-new g c = record {
   jobs_is = refl;
   first = settled_epoch g.D.Disk.told c.args.text.now c.args.disk.now c.open.new.disk c.settle.new.disk c.in_ok-store.store c.settle.new.store c.in_ok-settle.ensures.ok ∙ c.in_ok-store.ensures.first.opened.first;
   ready = c.in_ok-settle.ensures.ready;
+  knows = known_at_first c.args.graph c.settle.new.store (rw c.kept.ensures at c.records_fit.ensures.says)
+      (settled_unchecked g.D.Disk.told c.in_ok-store.store c.settle.new.store c.open.new.disk c.settle.new.disk c.in_ok-settle.ensures.ok c.in_ok-store.ensures.first.opened.unchecked);
 }
+
+pub invariant_of-result : goal.invariant_of-result
+invariant_of-result g c =
+    let first = c.in_ok-store.store in
+    let spelled = subst (λ (text : Text). GraphText text c.args.graph) (sym c.in_ok-store.ensures.first.opened.graph_is) c.requires.read.spelled in (
+      search rules,
+      search rules,
+      c.requires.limit,
+      settled_for c.args.graph g.D.Disk.told first c.settle.new.store c.open.new.disk c.settle.new.disk c.in_ok-settle.ensures.ok spelled,
+    )
 
 pub returns-clause-any_moment : goal.returns-clause-any_moment
 returns-clause-any_moment g c =
