@@ -1,6 +1,5 @@
 -- What builds reply, and what they keep.
-use Rattle.std.proofs.Common.{◌≡◌, ℕ, [], ◌∷◌, ◌++◌, sym, ap, subst, ◌∙◌, inl, inr, append_assoc, Result, Ok, Err, IfOk, IfErr}
-use Rattle.std.proofs.lemmas.List.{append-nil}
+use Rattle.std.proofs.Common.{◌≡◌, ℕ, sym, subst, inl, inr, Result, Ok, Err, IfOk, IfErr}
 use Rattle.object_values.specs.Texts.{Texts}
 use Rattle.object_values.specs.declared.replies.Reply.{Reply}
 use Rattle.odin_outside.specs.Causes.{IsCounted}
@@ -11,31 +10,35 @@ use Rattle.meaning_derive.specs.Answers.{Answer}
 use Rattle.meaning_derive.specs.Given.{table_outcomes}
 use Rattle.meaning_records.specs.Tables.{Calls}
 use Rattle.odin_journal.specs.declared.fault.JournalFault.{JournalFault}
-use Rattle.odin_journal.specs.Trails as trails
-use Rattle.odin_store.specs.Held.{Held, keeps}
-use Rattle.odin_store.specs.Keeping.{store_keeping}
-use Rattle.odin_store.specs.OnDisk.{held_in}
-use Rattle.kept_derive.specs.Runs.{At, keeps_of}
+use Rattle.kept_derive.specs.Knowing.{KnowsStore}
+use Rattle.kept_derive.specs.Runs.{At}
+use Rattle.kept_derive.proofs.Lemmas.{calls_after_all}
+use Rattle.odin_answers.specs.Answers.{IsReply}
 use Rattle.odin_answers.specs.Laws.{AnswersAreFresh, IsTrueFor, KeptStaysTrueByAsk, RefusalIsCounted}
 use Rattle.odin_answers.specs.Replied.{HasReplied, HasStopped}
+use Rattle.odin_answers.proofs.Lemmas.{reply_of}
 use Rattle.fresh_build.specs.Built.{HasBuilt, HasNotBuilt}
 use Rattle.fresh_build.specs.Laws.{IsFresh}
 use Rattle.fresh_build.specs.Sets.{SetsSources}
 
--- the calls after these were kept
-kept_after : (given : Calls) (held : Held) → (trails.after_changes store_keeping (keeps_of given) held).calls ≡ held.calls ++ given
-kept_after [] held = sym (append-nil held.calls)
-kept_after (x ∷ given) held = kept_after given (trails.after_changes store_keeping (keeps x.0 x.1 ∷ []) held) ∙ append_assoc held.calls (x ∷ []) given
-
 module _ {Disk : Type 0} (told : Disk → Telling) (g : Graph) (table : Table) (wanted : Texts) (limit : ℕ) (text : Text) (reply : Reply) (old new : At Disk)
-    (right : IsTrueFor table old.tools old.store.kept.tables.calls) (built : HasBuilt told g limit wanted text old new reply) where
-  -- it is true as the text is asked for
+    (right : IsTrueFor table old.tools old.store.kept.tables.calls) (known : KnowsStore g old.store)
+    (built : HasBuilt told g limit wanted text old new reply) where
+  -- it is true, and known, as the text is asked for
   still : IsTrueFor table built.mid.tools built.mid.store.kept.tables.calls
   still = subst (λ (t : Spawned). IsTrueFor table t built.mid.store.kept.tables.calls) (sym built.tools)
       (subst (λ (c : Calls). IsTrueFor table old.tools c) (sym built.sets.calls) right)
 
+  still_known : KnowsStore g built.mid.store
+  still_known = built.sets.makes.knows g known
+
+  is_reply : IsReply g built.mid.store.sources.texts built.mid.store.kept.tables.calls limit text reply built.replied.given built.mid.tools new.tools
+  is_reply =
+      reply_of g built.mid.store.sources.texts built.mid.store.kept.tables.calls limit text reply built.replied.given built.mid.tools new.tools
+      built.replied.is still_known
+
   pub built_fresh : AnswersAreFresh → RefusalIsCounted → IsFresh g wanted table text reply old.tools new.tools
-  built_fresh fresh counted = elim built.replied.is [
+  built_fresh fresh counted = elim is_reply [
     | inl answer ↦ inl (subst (λ (s : Texts). Answer g s (table_outcomes table) text reply) built.sets.set
         (fresh g table built.mid.store.sources.texts built.mid.store.kept.tables.calls limit text reply built.replied.given built.mid.tools new.tools still answer))
     | inr refused ↦ inr (record {
@@ -45,11 +48,15 @@ module _ {Disk : Type 0} (told : Disk → Telling) (g : Graph) (table : Table) (
     })
   ]
 
-  pub built_true : KeptStaysTrueByAsk → IsTrueFor table new.tools new.store.kept.tables.calls
+  pub built_true : KeptStaysTrueByAsk → IsTrueFor table new.tools new.store.kept.tables.calls × KnowsStore g new.store
   built_true law =
-      let holds = ap (λ (h : Held). h.calls) built.replied.goes.holds ∙ kept_after built.replied.given (held_in built.mid.store) in
-      subst (λ (c : Calls). IsTrueFor table new.tools c) (sym holds)
-      (law.replied g table built.mid.store.sources.texts built.mid.store.kept.tables.calls limit text reply built.replied.given built.mid.tools new.tools still built.replied.is)
+      let mid = built.mid in
+      let given = built.replied.given in
+      let holds = calls_after_all told given built.replied.noted mid.store new.store mid.disk new.disk built.replied.goes in (
+        subst (λ (c : Calls). IsTrueFor table new.tools c) (sym holds)
+            (law.replied g table mid.store.sources.texts mid.store.kept.tables.calls limit text reply given mid.tools new.tools still is_reply),
+        (built.replied.right still_known).knows,
+      )
 
 -- ---- the answers of a build
 

@@ -60,7 +60,7 @@ module _ {Disk : Type 0} (told : Disk → Telling) where
   pub none_made : ChangesFollow told → (store : Store) (disk : Disk) → MakesChanges told [] store store disk disk
   none_made law store disk =
       let same : IsSame store store disk disk = record { disk_is = refl; store_is = record { journal = refl; tables = refl; sources = refl; graph = refl; epoch = refl }; nodes = refl } in
-      record { goes = law.none store store disk disk same; epoch = omega arith; none = λ empty. same }
+      record { goes = law.none store store disk disk same; epoch = omega arith; none = λ empty. same; knows = λ g known. known }
 
   pub one_more : ChangesFollow told → (some : List Change) (change : Change) (store mid next : Store) (disk between after : Disk)
       → MakesChanges told some store mid disk between → MakesChanges told (change ∷ []) mid next between after
@@ -69,6 +69,7 @@ module _ {Disk : Type 0} (told : Disk → Telling) where
     goes = law.behind some (change ∷ []) store mid next disk between after first.goes then.goes;
     epoch = (let before = first.epoch in let epoch = then.epoch in let size = length-append some (change ∷ []) in omega arith);
     none = λ empty. absurd (no_end some change empty);
+    knows = λ g known. then.knows g (first.knows g known);
   }
 
   -- The sources are just the wanted ones.

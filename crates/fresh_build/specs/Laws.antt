@@ -1,4 +1,4 @@
--- What follows from builds, where the tools answer by a table and what is kept is true for it.
+-- What follows from builds, where the tools answer by a table, what is kept is true for it, and what is kept of nodes is known.
 use Rattle.std.specs.Prelude.{◌≡◌, ◌⊎◌, ℕ}
 use Rattle.object_values.specs.Texts.{Texts}
 use Rattle.object_values.specs.declared.replies.Reply.{Reply}
@@ -9,6 +9,7 @@ use Rattle.odin_outside.specs.Spawned.{Table, Spawned}
 use Rattle.meaning_graph.specs.Graphs.{Text, Graph}
 use Rattle.meaning_derive.specs.Answers.{Answer}
 use Rattle.meaning_derive.specs.Given.{table_outcomes}
+use Rattle.kept_derive.specs.Knowing.{KnowsStore}
 use Rattle.kept_derive.specs.Runs.{At}
 use Rattle.odin_answers.specs.Laws.{IsTrueFor}
 use Rattle.fresh_build.specs.Built.{HasBuilt}
@@ -27,12 +28,12 @@ module _ {Disk : Type 0} (told : Disk → Telling) where
   abbrev pub BuildsAreFresh : Type 0
   BuildsAreFresh =
       (g : Graph) (table : Table) (wanted : Texts) (limit : ℕ) (text : Text) (reply : Reply) (old new : At Disk)
-      → IsTrueFor table old.tools old.store.kept.tables.calls → HasBuilt told g limit wanted text old new reply
+      → IsTrueFor table old.tools old.store.kept.tables.calls → KnowsStore g old.store → HasBuilt told g limit wanted text old new reply
       → IsFresh g wanted table text reply old.tools new.tools
 
   -- And what is kept is true after it.
   abbrev pub BuildsKeepTrue : Type 0
   BuildsKeepTrue =
       (g : Graph) (table : Table) (wanted : Texts) (limit : ℕ) (text : Text) (reply : Reply) (old new : At Disk)
-      → IsTrueFor table old.tools old.store.kept.tables.calls → HasBuilt told g limit wanted text old new reply
-      → IsTrueFor table new.tools new.store.kept.tables.calls
+      → IsTrueFor table old.tools old.store.kept.tables.calls → KnowsStore g old.store → HasBuilt told g limit wanted text old new reply
+      → IsTrueFor table new.tools new.store.kept.tables.calls × KnowsStore g new.store

@@ -11,6 +11,7 @@ use Rattle.odin_store.specs.Held.{Change}
 use Rattle.odin_store.specs.OnDisk.{held_in, IsSame}
 use Rattle.odin_store.specs.Going.{Performs}
 use Rattle.odin_store.specs.Edited.{HasFailed}
+use Rattle.kept_derive.specs.Knowing.{StaysKnown}
 use Rattle.fresh_build.specs.declared.edits.Edit.{Edit}
 use Rattle.fresh_build.specs.Edits.{changes_of, changes_to, AreShort, AreDue}
 
@@ -32,11 +33,12 @@ pub record MayMake (store : Store) (size : ℕ) (edits : List Edit) : Type 0 whe
 
 -- ---- what was done
 
--- These changes were made, one after another, and nothing else; where there are none, nothing is written.
+-- These changes were made, one after another, and nothing else; where there are none, nothing is written. What was known of nodes still is.
 pub record MakesChanges {Disk : Type 0} (told : Disk → Telling) (changes : List Change) (store next : Store) (disk after : Disk) : Type 0 where
   pub goes : Performs told changes store next disk after
   pub epoch : next.epoch ≡ store.epoch + length changes
   pub none : changes ≡ [] → IsSame store next disk after
+  pub knows : StaysKnown store next
 
 -- The sources are just those that are wanted, by the edits that this takes, and the kept calls stay. Where the sources were these, nothing
 -- is written.

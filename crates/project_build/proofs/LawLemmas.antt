@@ -1,8 +1,7 @@
 -- Status 0 says that the files of each target are those of what is derived from just the wanted sources.
-use Rattle.std.proofs.Common.{◌≡◌, ℕ, Bool, true, false, ◌||◌, List, [], ◌∷◌, ◌++◌, Option, Some, None, sym, ap, subst, ◌∙◌, refl, append_assoc, inl, inr}
+use Rattle.std.proofs.Common.{◌≡◌, ℕ, Bool, true, false, ◌||◌, List, [], ◌∷◌, ◌++◌, Option, Some, None, sym, ap, subst, ◌∙◌, refl, inl, inr}
 use Rattle.std.specs.Prelude.{if◌then◌else◌}
 use Rattle.std.specs.List.{list_any}
-use Rattle.std.proofs.lemmas.List.{append-nil}
 use Rattle.object_values.specs.Texts.{Texts}
 use Rattle.object_values.specs.declared.messages.Status.{Status}
 use Rattle.object_values.specs.declared.messages.Message.{Message}
@@ -16,30 +15,17 @@ use Rattle.meaning_graph.specs.Graphs.{Graph}
 use Rattle.meaning_derive.specs.Answers.{Answer}
 use Rattle.meaning_derive.specs.Given.{table_outcomes}
 use Rattle.meaning_records.specs.Tables.{Calls}
-use Rattle.odin_journal.specs.Trails as trails
-use Rattle.odin_store.specs.Held.{Held, keeps}
-use Rattle.odin_store.specs.Keeping.{store_keeping}
-use Rattle.odin_store.specs.OnDisk.{held_in}
-use Rattle.kept_derive.specs.Runs.{keeps_of}
+use Rattle.kept_derive.specs.Knowing.{KnowsStore}
+use Rattle.kept_derive.proofs.Lemmas.{calls_after_all, sources_after_all}
+use Rattle.odin_answers.specs.Answers.{IsReply}
 use Rattle.odin_answers.specs.Laws.{AnswersAreFresh, IsTrueFor, KeptStaysTrueByAsk}
+use Rattle.odin_answers.proofs.Lemmas.{reply_of}
 use Rattle.project_file.specs.declared.project.Target.{Target}
 use Rattle.project_build.specs.Built.{Standing, standing, AreBuilt, none_built, one_built, IsBuilt, writes_in}
 use Rattle.project_build.specs.Laws.{AreFresh, none_fresh, one_fresh, IsFreshTarget}
 use Rattle.project_build.specs.Projects.{IsBuiltFrom}
 use Rattle.project_build.specs.Statuses.{build_status, has_errors, is_faulty, is_refusal}
 use Rattle.project_build.specs.Writes.{HaveWritten, writes_of}
-
--- ---- what is kept
-
--- the calls after these were kept
-kept_calls : (given : Calls) (held : Held) → (trails.after_changes store_keeping (keeps_of given) held).calls ≡ held.calls ++ given
-kept_calls [] held = sym (append-nil held.calls)
-kept_calls (x ∷ given) held = kept_calls given (trails.after_changes store_keeping (keeps x.0 x.1 ∷ []) held) ∙ append_assoc held.calls (x ∷ []) given
-
--- the sources stay
-kept_sources : (given : Calls) (held : Held) → (trails.after_changes store_keeping (keeps_of given) held).sources ≡ held.sources
-kept_sources [] held = refl
-kept_sources (x ∷ given) held = kept_sources given (trails.after_changes store_keeping (keeps x.0 x.1 ∷ []) held)
 
 -- ---- statuses
 
@@ -69,19 +55,29 @@ fine_status false false h = (refl, refl)
 
 module _ {Disk : Type 0} (told : Disk → Telling) (g : Graph) (table : Table) (wanted : Texts) (limit : ℕ)
     (kept_law : KeptStaysTrueByAsk) (fresh_law : AnswersAreFresh) where
-  -- what is kept is true, and the sources are those that are wanted
+  -- What is kept is true and known, and the sources are those that are wanted.
   record IsRight (s : Standing Disk) : Type 0 where
     pub holds : IsTrueFor table s.on.tools s.on.store.kept.tables.calls
+    pub knows : KnowsStore g s.on.store
     pub sources : s.on.store.sources.texts ≡ wanted
+
+  -- where that is so, it is the reply
+  is_reply : (target : Target) (reply : Reply) (mid new : Standing Disk) → IsRight mid → (built : IsBuilt told g limit target reply mid new)
+      → IsReply g mid.on.store.sources.texts mid.on.store.kept.tables.calls limit target.ask reply built.replied.given mid.on.tools new.on.tools
+  is_reply target reply mid new right built =
+      reply_of g mid.on.store.sources.texts mid.on.store.kept.tables.calls limit target.ask reply built.replied.given mid.on.tools new.on.tools
+      built.replied.is right.knows
 
   stays_right : (target : Target) (reply : Reply) (mid new : Standing Disk) → IsRight mid → IsBuilt told g limit target reply mid new → IsRight new
   stays_right target reply mid new right built =
       let replied = built.replied in
-      let calls = ap (λ (h : Held). h.calls) replied.goes.holds ∙ kept_calls replied.given (held_in mid.on.store) in
+      let calls = calls_after_all told replied.given replied.noted mid.on.store new.on.store mid.on.disk new.on.disk replied.goes in
       record {
         holds = subst (λ (c : Calls). IsTrueFor table new.on.tools c) (sym calls)
-            (kept_law.replied g table mid.on.store.sources.texts mid.on.store.kept.tables.calls limit target.ask reply replied.given mid.on.tools new.on.tools right.holds replied.is);
-        sources = ap (λ (h : Held). h.sources) replied.goes.holds ∙ kept_sources replied.given (held_in mid.on.store) ∙ right.sources;
+            (kept_law.replied g table mid.on.store.sources.texts mid.on.store.kept.tables.calls limit target.ask reply replied.given mid.on.tools new.on.tools
+            right.holds (is_reply target reply mid new right built));
+        knows = (replied.right right.knows).knows;
+        sources = sources_after_all told replied.given replied.noted mid.on.store new.on.store mid.on.disk new.on.disk replied.goes ∙ right.sources;
       }
 
   -- the files of an object without errors
@@ -101,7 +97,7 @@ module _ {Disk : Type 0} (told : Disk → Telling) (g : Graph) (table : Table) (
     body = body;
     messages = messages;
     fine = fine;
-    answer = elim built.replied.is [
+    answer = elim (is_reply target (reply.Shown status body messages) mid new right built) [
       | inl answer ↦ subst (λ (s : Texts). Answer g s (table_outcomes table) target.ask (reply.Shown status body messages)) right.sources
           (fresh_law g table mid.on.store.sources.texts mid.on.store.kept.tables.calls limit target.ask (reply.Shown status body messages) built.replied.given
           mid.on.tools new.on.tools right.holds answer)
@@ -154,12 +150,14 @@ module _ {Disk : Type 0} (told : Disk → Telling) (g : Graph) (table : Table) (
       }
 
   pub zero_fresh : (targets : List Target) (replies : List Reply) (old new : Standing Disk) → IsTrueFor table old.on.tools old.on.store.kept.tables.calls
-      → IsBuiltFrom told g limit wanted targets old new replies → build_status replies ≡ 0 → AreFresh g wanted table old.files targets new.files
-  zero_fresh targets replies old new holds built zero =
+      → KnowsStore g old.on.store → IsBuiltFrom told g limit wanted targets old new replies → build_status replies ≡ 0
+      → AreFresh g wanted table old.files targets new.files
+  zero_fresh targets replies old new holds known built zero =
       let fine = fine_status (list_any is_refusal replies) (list_any has_errors replies) zero in
       let right : IsRight (standing built.mid old.files) = record {
         holds = subst (λ (t : Spawned). IsTrueFor table t built.mid.store.kept.tables.calls) (sym built.tools)
             (subst (λ (c : Calls). IsTrueFor table old.on.tools c) (sym built.sets.calls) holds);
+        knows = built.sets.makes.knows g known;
         sources = built.sets.set;
       } in
       (freshened (standing built.mid old.files) right targets replies new built.built fine.0 fine.1).fresh

@@ -9,6 +9,7 @@ use Rattle.odin_outside.specs.Spawned.{Spawned}
 use Rattle.meaning_graph.specs.Graphs.{Graph}
 use Rattle.meaning_derive.specs.Given.{AreSources}
 use Rattle.odin_engine.specs.Engaged.{Engaged}
+use Rattle.kept_derive.specs.Knowing.{RecordsAreTrue, KnowsStore}
 use Rattle.kept_derive.specs.Runs.{At}
 use Rattle.fresh_build.specs.Built.{MayBuild}
 use Rattle.fresh_build.specs.Sets.{SetsSources}
@@ -18,6 +19,7 @@ use Rattle.project_build.specs.declared.fault.BuildFault.TheVariants as fault
 use Rattle.project_build.specs.declared.fault.TargetFault.{TargetFault}
 use Rattle.project_build.specs.Built.{Standing, standing, AreBuilt, StopsBuilding}
 use Rattle.odin_engine.specs.Opened.{EngineIsNew, OpensQuietEngine}
+use Rattle.odin_store.specs.OnDisk.{held_in}
 use Rattle.odin_store.specs.declared.store.Store.{Store}
 use Rattle.project_build.specs.Projects.{Scene, over, AreRead, IsBuiltFrom, IsBuiltOver, IsProjectBuilt, FailsFrom, FailsOver, HasStoppedBuilding, HasStoppedOver, IsProjectUnbuilt, IsReadFault, BuildFaultIsCounted, CountAfterReadFault, ReadFaultIsCounted, WorkFaultIsCounted, counts}
 
@@ -60,17 +62,18 @@ module _ {Disk : Type 0} (told : Disk → Telling) (text : List ℕ) (g g' : Gra
   abbrev start : Standing Disk
   start = over first (record old { disk = opened })
 
-  pub built_over : (r : Result (List Reply) BuildFault) → IfOk r (IsBuiltFrom told g' limit' wanted targets start (over last new))
+  pub built_over : (RecordsAreTrue g (held_in first) → KnowsStore g first) → (r : Result (List Reply) BuildFault) → IfOk r (IsBuiltFrom told g' limit' wanted targets start (over last new))
       → IfOk r (IsBuiltOver told text g limit wanted targets old new)
-  built_over (Ok replies) built = record {
+  built_over knows (Ok replies) built = record {
     opened = opened;
     first = first;
     last = last;
     opens = opens;
+    knows = knows;
     built = subst (λ (h : Graph). IsBuiltFrom told h limit wanted targets start (over last new) replies) graph
         (subst (λ (n : ℕ). IsBuiltFrom told g' n wanted targets start (over last new) replies) jobs built);
   }
-  built_over (Err why) built = tt
+  built_over knows (Err why) built = tt
 
   stopped_over : (why : BuildFault) → FailsFrom told g' limit' wanted targets start (over last new) why
       → HasStoppedOver told text g limit wanted targets old new why

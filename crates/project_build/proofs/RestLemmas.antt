@@ -20,17 +20,31 @@ no_ok A P (Err e) is = tt
 -- ---- the tools
 
 -- none runs, whatever the answer is
-pub rest_none : {T E : Type 0} (Leaves : E → Type 0) (limit : ℕ) (before now : Spawned) (r : Result T E) → now.answer ≡ before.answer → now.running ≡ []
-    → ComesToRest Leaves limit before now r
-rest_none Leaves limit before now (Ok x) answer none = record { answer = answer; few = subst (λ l. length l ≤ limit) (sym none) (omega arith); idle = none; left = tt }
-rest_none Leaves limit before now (Err e) answer none = record { answer = answer; few = subst (λ l. length l ≤ limit) (sym none) (omega arith); idle = tt; left = λ leaves. none }
+pub rest_none : {T E : Type 0} (Leaves : E → Type 0) (limit : ℕ) (before now : Spawned) (r : Result T E) → now.answer ≡ before.answer
+    → before.faults ≤ now.faults → now.running ≡ [] → ComesToRest Leaves limit before now r
+rest_none Leaves limit before now (Ok x) answer later none = record {
+  answer = answer;
+  later = later;
+  few = subst (λ l. length l ≤ limit) (sym none) (omega arith);
+  idle = none;
+  left = tt;
+}
+rest_none Leaves limit before now (Err e) answer later none = record {
+  answer = answer;
+  later = later;
+  few = subst (λ l. length l ≤ limit) (sym none) (omega arith);
+  idle = tt;
+  left = λ leaves. none;
+}
 
 -- a fault that says what is left
 pub rest_err : {T E : Type 0} (Leaves : E → Type 0) (limit : ℕ) (before now : Spawned) (e : E) (r : Result T E) → IsErrAnd r (λ given. given ≡ e)
-    → now.answer ≡ before.answer → length now.running ≤ limit → (¬ Leaves e → now.running ≡ []) → ComesToRest Leaves limit before now r
-rest_err Leaves limit before now e (Ok x) never answer few left = absurd never
-rest_err Leaves limit before now e (Err given) is answer few left = record {
+    → now.answer ≡ before.answer → before.faults ≤ now.faults → length now.running ≤ limit → (¬ Leaves e → now.running ≡ [])
+    → ComesToRest Leaves limit before now r
+rest_err Leaves limit before now e (Ok x) never answer later few left = absurd never
+rest_err Leaves limit before now e (Err given) is answer later few left = record {
   answer = answer;
+  later = later;
   few = few;
   idle = tt;
   left = subst (λ w. ¬ Leaves w → now.running ≡ []) (sym is) left;

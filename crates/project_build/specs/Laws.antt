@@ -1,4 +1,4 @@
--- What the status 0 of a build says, where the tools answer by a table and what is kept is true for it.
+-- What the status 0 of a build says, where the tools answer by a table, what is kept is true for it, and what is kept of nodes is known.
 use Rattle.std.specs.Prelude.{◌≡◌, ℕ, false, List, [], ◌∷◌, ◌++◌, Option}
 use Rattle.object_values.specs.Texts.{Texts}
 use Rattle.object_values.specs.declared.messages.Status.{Status}
@@ -12,6 +12,7 @@ use Rattle.odin_outside.specs.Spawned.{Table}
 use Rattle.meaning_graph.specs.Graphs.{Graph}
 use Rattle.meaning_derive.specs.Answers.{Answer}
 use Rattle.meaning_derive.specs.Given.{table_outcomes}
+use Rattle.kept_derive.specs.Knowing.{KnowsStore}
 use Rattle.odin_answers.specs.Laws.{IsTrueFor}
 use Rattle.project_file.specs.declared.project.Target.{Target}
 use Rattle.project_build.specs.Built.{Standing}
@@ -38,5 +39,5 @@ pub data AreFresh (g : Graph) (wanted : Texts) (table : Table) (old : Option Fil
 abbrev pub StatusZeroIsFresh : {Disk : Type 0} → (Disk → Telling) → Type 0
 StatusZeroIsFresh {Disk} told =
     (g : Graph) (table : Table) (wanted : Texts) (limit : ℕ) (targets : List Target) (replies : List Reply) (old new : Standing Disk)
-    → IsTrueFor table old.on.tools old.on.store.kept.tables.calls → IsBuiltFrom told g limit wanted targets old new replies
+    → IsTrueFor table old.on.tools old.on.store.kept.tables.calls → KnowsStore g old.on.store → IsBuiltFrom told g limit wanted targets old new replies
     → build_status replies ≡ 0 → AreFresh g wanted table old.files targets new.files

@@ -12,6 +12,8 @@ use Rattle.dg_reader.specs.Files.{IsRead}
 use Rattle.odin_journal.specs.declared.fault.JournalFault.{JournalFault}
 use Rattle.odin_journal.specs.Faults.{CountAfterJournalFault}
 use Rattle.odin_store.specs.declared.store.Store.{Store}
+use Rattle.odin_store.specs.OnDisk.{held_in}
+use Rattle.kept_derive.specs.Knowing.{RecordsAreTrue, KnowsStore}
 use Rattle.kept_derive.specs.Runs.{At, at}
 use Rattle.odin_engine.specs.Engaged.{IsLimit}
 use Rattle.odin_engine.specs.Opened.{IsEngineOpenFault, OpensQuietEngine}
@@ -90,12 +92,13 @@ pub record MayBuildOver (text : List ℕ) (graph : List Decl) (jobs : ℕ) (want
   pub idle : tools.running ≡ []
 
 module _ {Disk : Type 0} (told : Disk → Telling) (text : List ℕ) (g : Graph) (limit : ℕ) (wanted : Texts) (targets : List Target) (old new : Scene Disk) where
-  -- The store was opened for the graph of this text, and the targets were built over it.
+  -- The store was opened for the graph of this text, and the targets were built over it. Where what it held of nodes is true, that was known.
   pub record IsBuiltOver (replies : List Reply) : Type 0 where
     pub opened : Disk
     pub first : Store
     pub last : Store
     pub opens : OpensQuietEngine told text old.disk opened first
+    pub knows : RecordsAreTrue g (held_in first) → KnowsStore g first
     pub built : IsBuiltFrom told g limit wanted targets (over first (record old { disk = opened })) (over last new) replies
 
   -- The store was not opened.

@@ -1,4 +1,4 @@
-use Rattle.std.proofs.Common.{◌≤◌, length, refl, subst}
+use Rattle.std.proofs.Common.{◌≤◌, length, refl, subst, arith}
 use Rattle.kept_derive.specs.Runs.{at}
 use Rattle.project_build.specs.Built.{standing}
 use Rattle.project_build.specs.Projects.{FailsFrom, LeavesToolsRunning}
@@ -25,7 +25,7 @@ returns-in_err-set_sources-clause-err g c =
     (record { failed = c.in_err-set_sources.ensures.err; tools = refl; files = refl })
 
 pub returns-in_err-set_sources-clause-rest : goal.returns-in_err-set_sources-clause-rest
-returns-in_err-set_sources-clause-rest g c = rest_none LeavesToolsRunning _ _ _ c.from_residual.result refl c.requires.none
+returns-in_err-set_sources-clause-rest g c = rest_none LeavesToolsRunning _ _ _ c.from_residual.result refl (omega arith) c.requires.none
 
 pub returns-in_err-replies-clause-err : goal.returns-in_err-replies-clause-err
 returns-in_err-replies-clause-err g c =
@@ -45,7 +45,7 @@ pub returns-in_err-replies-clause-rest : goal.returns-in_err-replies-clause-rest
 returns-in_err-replies-clause-rest g c =
     let now = g.S.Spawner.told c.build_targets.new.tools in
     rest_err LeavesToolsRunning c.args.engine.now.jobs (g.S.Spawner.told c.args.tools.now) now (fault.Target c.in_err-replies.field-0.0)
-    c.from_residual-in_err-replies.result c.from_residual-in_err-replies.ensures.1 c.in_err-replies.ensures.rest.answer
+    c.from_residual-in_err-replies.result c.from_residual-in_err-replies.ensures.1 c.in_err-replies.ensures.rest.answer c.in_err-replies.ensures.rest.later
     (subst (λ n. length now.running ≤ n) c.in_ok-set_sources.ensures.stays.jobs c.in_err-replies.ensures.rest.few) c.in_err-replies.ensures.rest.left
 
 pub returns-clause-ok : goal.returns-clause-ok
@@ -60,4 +60,5 @@ returns-clause-ok g c =
     c.in_ok-set_sources.ensures.stays.jobs c.in_ok-replies.ensures.ok
 
 pub returns-clause-rest : goal.returns-clause-rest
-returns-clause-rest g c = rest_none LeavesToolsRunning _ _ _ _ c.in_ok-replies.ensures.rest.answer c.in_ok-replies.ensures.rest.idle
+returns-clause-rest g c =
+    rest_none LeavesToolsRunning _ _ _ _ c.in_ok-replies.ensures.rest.answer c.in_ok-replies.ensures.rest.later c.in_ok-replies.ensures.rest.idle

@@ -1,4 +1,4 @@
-use Rattle.std.proofs.Common.{ℕ, refl, subst, inl}
+use Rattle.std.proofs.Common.{ℕ, refl, subst, inl, arith}
 use Rattle.kept_derive.specs.Rests.{ComesToRest}
 use Rattle.project_build.specs.Projects.{FailsOver, LeavesToolsRunning, WorkFaultIsCounted, scene}
 use Rattle.project_build.specs.declared.fault.BuildFault.TheVariants as fault
@@ -25,7 +25,7 @@ returns-in_err-engine-clause-err g c =
     (inl (record { refused = c.in_err-engine.ensures.refused; tools = refl; files = refl }))
 
 pub returns-in_err-engine-clause-rest : goal.returns-in_err-engine-clause-rest
-returns-in_err-engine-clause-rest g c = rest_none LeavesToolsRunning _ _ _ c.from_residual.result refl c.requires.idle
+returns-in_err-engine-clause-rest g c = rest_none LeavesToolsRunning _ _ _ c.from_residual.result refl (omega arith) c.requires.idle
 
 pub returns-clause-ok : goal.returns-clause-ok
 returns-clause-ok g c =
@@ -35,7 +35,8 @@ returns-clause-ok g c =
     let new = scene c.build_from.new.disk (g.S.Spawner.told c.build_from.new.tools) (g.O.Outputs.files c.build_from.new.outputs) in
     built_over g.D.Disk.told c.args.text.now c.args.graph engine.graph c.args.plan.now.jobs engine.jobs c.args.wanted.now.texts (those c.args.plan.now.targets.now)
     (scene c.args.disk.now tools files) new c.open.new.disk engine.store c.build_from.new.engine.store
-    c.in_ok-engine.ensures.new.graph_is c.in_ok-engine.ensures.new.jobs_is c.in_ok-engine.ensures.opened c.build_from.result c.build_from.ensures.ok
+    c.in_ok-engine.ensures.new.graph_is c.in_ok-engine.ensures.new.jobs_is c.in_ok-engine.ensures.opened c.in_ok-engine.ensures.new.knows
+    c.build_from.result c.build_from.ensures.ok
 
 pub returns-clause-err : goal.returns-clause-err
 returns-clause-err g c =

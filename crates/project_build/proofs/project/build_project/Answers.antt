@@ -1,4 +1,4 @@
-use Rattle.std.proofs.Common.{List, ℕ, refl, sym, subst, inl}
+use Rattle.std.proofs.Common.{List, ℕ, refl, sym, subst, inl, arith}
 use Rattle.dg_reader.specs.Files.{IsRead}
 use Rattle.project_build.specs.Projects.{IsProjectUnbuilt, LeavesToolsRunning, scene}
 use Rattle.project_build.proofs.BuildLemmas.{those}
@@ -17,7 +17,7 @@ returns-in_err-text-clause-err g c =
     c.from_residual.result c.in_err-text.field-0.0 c.from_residual.ensures.1 (inl (record { fails = c.in_err-text.ensures.err; same = refl }))
 
 pub returns-in_err-text-clause-rest : goal.returns-in_err-text-clause-rest
-returns-in_err-text-clause-rest g c = rest_none LeavesToolsRunning _ _ _ c.from_residual.result refl c.requires.idle
+returns-in_err-text-clause-rest g c = rest_none LeavesToolsRunning _ _ _ c.from_residual.result refl (omega arith) c.requires.idle
 
 pub returns-in_err-text-clause-cause : goal.returns-in_err-text-clause-cause
 returns-in_err-text-clause-cause g c =

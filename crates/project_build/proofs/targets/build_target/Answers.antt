@@ -30,7 +30,8 @@ returns-in_err-reply-clause-err g c =
 pub returns-in_err-reply-clause-rest : goal.returns-in_err-reply-clause-rest
 returns-in_err-reply-clause-rest g c =
     rest_err LeavesTools c.args.engine.now.jobs (g.S.Spawner.told c.args.tools.now) (g.S.Spawner.told c.answer_ask.new.tools) (fault.Store c.in_err-reply.field-0.0)
-    c.from_residual.result c.from_residual.ensures.1 c.in_err-reply.ensures.rest.answer c.in_err-reply.ensures.rest.few (λ leaves. absurd (leaves tt))
+    c.from_residual.result c.from_residual.ensures.1 c.in_err-reply.ensures.rest.answer c.in_err-reply.ensures.rest.later
+    c.in_err-reply.ensures.rest.few (λ leaves. absurd (leaves tt))
 
 pub returns-in_err-reply-clause-left : goal.returns-in_err-reply-clause-left
 returns-in_err-reply-clause-left g c = no_ok _ _ c.from_residual.result c.from_residual.ensures.1
@@ -56,7 +57,7 @@ returns-in-Ok-clause-ok g c =
 
 pub returns-in-Ok-clause-rest : goal.returns-in-Ok-clause-rest
 returns-in-Ok-clause-rest g c =
-    rest_none LeavesTools _ _ _ _ c.in_ok-reply.ensures.rest.answer c.in_ok-reply.ensures.rest.idle
+    rest_none LeavesTools _ _ _ _ c.in_ok-reply.ensures.rest.answer c.in_ok-reply.ensures.rest.later c.in_ok-reply.ensures.rest.idle
 
 pub returns-in-Ok-clause-left : goal.returns-in-Ok-clause-left
 returns-in-Ok-clause-left g c = record { ready = c.in_ok-reply.ensures.left.ready; none = c.in_ok-reply.ensures.rest.idle }
@@ -82,7 +83,8 @@ returns-in-Err-clause-err g c =
     })
 
 pub returns-in-Err-clause-rest : goal.returns-in-Err-clause-rest
-returns-in-Err-clause-rest g c = rest_none LeavesTools _ _ _ _ c.in_ok-reply.ensures.rest.answer c.in_ok-reply.ensures.rest.idle
+returns-in-Err-clause-rest g c =
+    rest_none LeavesTools _ _ _ _ c.in_ok-reply.ensures.rest.answer c.in_ok-reply.ensures.rest.later c.in_ok-reply.ensures.rest.idle
 
 pub returns-in-Err-clause-cause : goal.returns-in-Err-clause-cause
 returns-in-Err-clause-cause g c =

@@ -1,4 +1,4 @@
-use Rattle.std.proofs.Common.{◌≤◌, List, [], length, refl, sym, subst, ◌∙◌}
+use Rattle.std.proofs.Common.{◌≤◌, List, [], length, refl, sym, subst, ◌∙◌, arith}
 use Rattle.kept_derive.specs.Runs.{at}
 use Rattle.object_values.specs.declared.replies.Reply.{Reply}
 use Rattle.project_build.specs.Built.{AreBuilt, none_built, standing, StopsBuilding, LeavesTools}
@@ -16,6 +16,7 @@ targets-init g c =
       idle = c.requires;
       stays = record { graph = refl; jobs = refl };
       answer = refl;
+      later = omega arith;
       disk = refl;
       written = refl;
     }
@@ -52,12 +53,14 @@ returns-in_err-reply-clause-rest g c =
     let tools = g.S.Spawner.told c.build_target.new.tools in
     rest_err LeavesTools c.args.engine.now.jobs (g.S.Spawner.told c.args.tools.now) tools c.in_err-reply.field-0.0
     c.from_residual.result c.from_residual.ensures.1 (c.in_err-reply.ensures.rest.answer ∙ c.targets.invariant.answer)
+    (omega (arith, c.targets.invariant.later, c.in_err-reply.ensures.rest.later))
     (subst (λ n. length tools.running ≤ n) c.targets.invariant.stays.jobs c.in_err-reply.ensures.rest.few) c.in_err-reply.ensures.rest.left
 
 pub returns-in_err-push-clause-rest : goal.returns-in_err-push-clause-rest
 returns-in_err-push-clause-rest g c =
     rest_none LeavesTools c.args.engine.now.jobs (g.S.Spawner.told c.args.tools.now) (g.S.Spawner.told c.build_target.new.tools) c.from_residual-in_err-push.result
-    (c.in_ok-reply.ensures.rest.answer ∙ c.targets.invariant.answer) c.in_ok-reply.ensures.rest.idle
+    (c.in_ok-reply.ensures.rest.answer ∙ c.targets.invariant.answer) (omega (arith, c.targets.invariant.later, c.in_ok-reply.ensures.rest.later))
+    c.in_ok-reply.ensures.rest.idle
 
 pub targets-preserved : goal.targets-preserved
 targets-preserved g c =
@@ -76,10 +79,11 @@ targets-preserved g c =
         jobs = c.in_ok-reply.ensures.stays.jobs ∙ c.targets.invariant.stays.jobs;
       };
       answer = c.in_ok-reply.ensures.rest.answer ∙ c.targets.invariant.answer;
+      later = omega (arith, c.targets.invariant.later, c.in_ok-reply.ensures.rest.later);
       disk = c.in_ok-reply.ensures.cause.ok.0 ∙ c.targets.invariant.disk;
       written = c.in_ok-reply.ensures.cause.ok.1 ∙ c.targets.invariant.written;
     }
 
 pub returns-clause-rest : goal.returns-clause-rest
 returns-clause-rest g c =
-    rest_none LeavesTools _ _ _ _ c.targets.invariant.answer c.targets.invariant.idle.none
+    rest_none LeavesTools _ _ _ _ c.targets.invariant.answer c.targets.invariant.later c.targets.invariant.idle.none

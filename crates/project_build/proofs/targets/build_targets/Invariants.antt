@@ -1,4 +1,4 @@
-use Rattle.std.proofs.Common.{◌≡◌, take}
+use Rattle.std.proofs.Common.{◌≡◌, ◌≤◌, take}
 use Rattle.kept_derive.specs.Calls.{IsIdle}
 use Rattle.kept_derive.specs.Runs.{at}
 use Rattle.odin_engine.specs.Engaged.{GraphStays}
@@ -14,6 +14,7 @@ invariant-targets g l = record {
   idle : IsIdle l.engine.store (g.D.Disk.size_of l.disk) (g.S.Spawner.told l.tools);
   stays : GraphStays l.fn.engine l.engine;
   answer : (g.S.Spawner.told l.tools).answer ≡ (g.S.Spawner.told l.fn.tools).answer;
+  later : (g.S.Spawner.told l.fn.tools).faults ≤ (g.S.Spawner.told l.tools).faults;
   disk : g.D.Disk.faults l.disk ≡ g.D.Disk.faults l.fn.disk;
   written : g.O.Outputs.faults l.outputs ≡ g.O.Outputs.faults l.fn.outputs;
 }
