@@ -19,7 +19,7 @@ use Rattle.odin_engine.specs.Engaged.{Engaged, GraphStays}
 use Rattle.odin_answers.specs.Edits.{SaysReply, TreeTold, TreeIsAsked, Puts, Takes, Removes}
 use Rattle.odin_answers.specs.Changes.{source_changes, EditsSource, IsPutText, MayBeTaken, HasFailedToPut}
 use Rattle.odin_outside.specs.declared.disk.Disk.{Ghosts as DiskView}
-use Rattle.odin_shell.specs.Machine.{SessionState, Told, CommandMayLeave}
+use Rattle.odin_shell.specs.Machine.{SessionState, Told, CommandMayLeaveIf}
 use Rattle.odin_shell.specs.Served.{telling, IsOnward, Answers, HaltsCommand, AnswersAsk, HaltsAsk}
 use Rattle.odin_shell.proofs.AnswerLemmas.{same_halts}
 use Rattle.odin_shell.proofs.EditLemmas.{IsMadeOf, put_answers, remove_answers, take_answers, put_halts, remove_halts, take_halts}
@@ -137,7 +137,7 @@ module _ {D : Type 0} (disk : DiskView D) (code : Engaged) (given is_given : Com
   pub shown : (bytes : List ℕ) → ((told : Told D) → Answers disk code is_given kept told bytes code told) → (sink : SinkTold) → Answers disk code given kept (telling sink tools tree now) bytes code (telling sink tools tree now)
   shown bytes answers sink = subst (λ k. Answers disk code k kept (telling sink tools tree now) bytes code (telling sink tools tree now)) (sym is) (answers (telling sink tools tree now))
 
-  pub unshown : ((g : Graph) (limit : ℕ) (state : SessionState) (body : List ℕ) → CommandMayLeave g limit state is_given body state) → (sink : SinkTold) → HaltsCommand disk code given kept (telling sink tools tree now) fault.Memory (telling sink tools tree now)
+  pub unshown : ((trust : Type 0) (g : Graph) (limit : ℕ) (state : SessionState) (body : List ℕ) → CommandMayLeaveIf trust g limit state is_given body state) → (sink : SinkTold) → HaltsCommand disk code given kept (telling sink tools tree now) fault.Memory (telling sink tools tree now)
   unshown may sink =
       subst (λ k. HaltsCommand disk code k kept (telling sink tools tree now) fault.Memory (telling sink tools tree now)) (sym is)
-      (same_halts disk code is_given kept (telling sink tools tree now) (λ g limit state body held told_tools told_tree. may g limit state body) refl)
+      (same_halts disk code is_given kept (telling sink tools tree now) (λ trust g limit state body held told_tools told_tree. may trust g limit state body) refl)

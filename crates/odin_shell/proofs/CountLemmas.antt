@@ -13,7 +13,7 @@ use Rattle.meaning_derive.specs.Answers.{Refused, Answer, Plan as Steps}
 use Rattle.meaning_commands.specs.Items.{Item}
 use Rattle.meaning_commands.specs.Machines.{Transcript}
 use Rattle.derive_walk.specs.Outcomes.{after}
-use Rattle.odin_answers.proofs.Lemmas.{refusal_counted, reply_later}
+use Rattle.odin_answers.proofs.Lemmas.{reply_of, refusal_counted, reply_later}
 use Rattle.odin_bytes.specs.declared.commands.Command.{Command}
 use Rattle.odin_bytes.specs.declared.commands.Command.TheVariants.{Put, Take, Remove, Ask, Plan, Sources, Kept, Quit, Nothing, Bad, BadName}
 use Rattle.object_values.specs.declared.replies.Reply.{Reply}
@@ -185,8 +185,9 @@ counted g limit old (Take name) body bytes new step =
 counted g limit old (Remove name) body bytes new step =
     by_silent old bytes new step.says.said step.says.bytes_are (removed_silent _ old.held.sources name step.says.said new.held.sources step.says.holds) (tools_later old new step.tools) (tree_later old new step.tree)
 counted g limit old (Ask text) body bytes new step =
-    let tools = reply_later g old.held.sources old.held.calls limit text step.says.said step.given old.tools new.tools step.says.holds in
-    elim step.says.holds [
+    let holds = reply_of g old.held.sources old.held.calls limit text step.says.said step.given old.tools new.tools step.says.holds.is tt in
+    let tools = reply_later g old.held.sources old.held.calls limit text step.says.said step.given old.tools new.tools holds in
+    elim holds [
       | inl answered ↦
           let outcomes = after (kept_outcome old.held.calls) step.given in
           by_silent old bytes new step.says.said step.says.bytes_are (answer_silent g old.held.sources outcomes text step.says.said (answered.answer outcomes (λ call o e. e))) tools (tree_later old new step.tree)

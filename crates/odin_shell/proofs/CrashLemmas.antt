@@ -5,6 +5,7 @@ use Rattle.std.proofs.lemmas.List.{take-append-drop}
 use Rattle.object_values.specs.declared.nodes.Node.{Node}
 use Rattle.object_values.specs.declared.calls.Call.{Call}
 use Rattle.object_values.specs.declared.calls.Outcome.{Outcome}
+use Rattle.object_values.specs.declared.facts.Fact.{Fact}
 use Rattle.odin_outside.specs.Disk.{IsQuiet}
 use Rattle.odin_outside.specs.Spawned.{Table, Spawned}
 use Rattle.odin_journal.specs.Trails.{after_changes, IsPrefix}
@@ -24,16 +25,17 @@ use Rattle.plain_derive.specs.Flights.{Flight, Course, off_course, for_spawn, Fl
 use Rattle.plain_derive.proofs.Lemmas.{given_are_calls, given_are_true, flown_given, flown_came}
 use Rattle.odin_store.specs.Held.{Held, Change, puts, drops, keeps, notes, apply}
 use Rattle.odin_store.specs.Keeping.{store_keeping}
-use Rattle.kept_derive.specs.Runs.{keeps_of, course_of}
+use Rattle.kept_derive.specs.Knowing.{RecordsAreTrue}
+use Rattle.kept_derive.specs.Runs.{changes_for, course_of}
 use Rattle.odin_answers.specs.Answers.{Agrees, IsReply, MayHaveBegun}
 use Rattle.odin_answers.specs.Laws.{IsTrueFor}
-use Rattle.odin_answers.proofs.Lemmas.{kept_first, kept_by_either}
+use Rattle.odin_answers.proofs.Lemmas.{reply_of, kept_first, kept_by_either}
 use Rattle.odin_outside.specs.declared.disk.Disk.{Ghosts as DiskView}
 use Rattle.odin_shell.specs.Language.{commands}
 use Rattle.odin_shell.specs.Machine.{SessionState, Told, Applies, Step, CommandMayLeave, StateAtExit}
-use Rattle.odin_shell.specs.Laws.{ChangesAreMade}
 use Rattle.odin_shell.specs.Crashes.{SessionComesTo, IsCallOfAsk, ComesOfAsk, ComesByTable, IsOurs, HoldsOurs, LeavesOurs}
-use Rattle.odin_shell.proofs.MadeLemmas.{after_both, kept_calls, edits_keep, edit_keeps, puts_keep, drops_keep, is_made, left_made, made_on, stays_true, left_true}
+use Rattle.odin_shell.proofs.RecordLemmas.{after_both, NoteTruly, first_truly, records_after}
+use Rattle.odin_shell.proofs.MadeLemmas.{kept_calls, edits_keep, edit_keeps, puts_keep, drops_keep, IsTrulyMade, is_made, left_made, made_on, stays_true, left_true}
 
 -- ---- calls that are kept stay
 
@@ -107,9 +109,9 @@ module _ (g : Graph) (old new : SessionState) (item : Item) (call : Call) where
   same_state : new ≡ old → Either g old item new call
   same_state same = same_calls (ap (λ (s : SessionState). s.held.calls) same)
 
-  more_calls : (given : Calls) → Applies (keeps_of given) old new → ((c : Call) → IsIn c (calls_of given) → IsCallOfAsk g old item c) → Either g old item new call
-  more_calls given makes ours kept =
-      elim (kept_by_either old.held.calls given call (subst (λ l. IsSome (kept_outcome l call)) (ap (λ (h : Held). h.calls) makes.held ∙ kept_calls given old.held) kept)) [
+  more_calls : (given : Calls) (noted : List Fact) → Applies (changes_for given noted) old new → ((c : Call) → IsIn c (calls_of given) → IsCallOfAsk g old item c) → Either g old item new call
+  more_calls given noted makes ours kept =
+      elim (kept_by_either old.held.calls given call (subst (λ l. IsSome (kept_outcome l call)) (ap (λ (h : Held). h.calls) makes.held ∙ kept_calls given noted old.held) kept)) [
         | inl was ↦ inl was
         | inr i ↦ inr (ours call i)
       ]
@@ -118,7 +120,10 @@ module _ (g : Graph) (old new : SessionState) (item : Item) (call : Call) where
   step_ours limit (Put name count) bytes is step = same_calls (edits_keep name old new step.makes)
   step_ours limit (Take name) bytes is step = same_calls (edits_keep name old new step.makes)
   step_ours limit (Remove name) bytes is step = same_calls (edits_keep name old new step.makes)
-  step_ours limit (Ask text) bytes is step = more_calls step.given step.makes (reply_ours g old item text step.given is limit step.says.said new.tools step.says.holds)
+  step_ours limit (Ask text) bytes is step =
+      more_calls step.given step.noted step.makes
+      (reply_ours g old item text step.given is limit step.says.said new.tools
+      (reply_of g old.held.sources old.held.calls limit text step.says.said step.given old.tools new.tools step.says.holds.is tt))
   step_ours limit (Plan text) bytes is step = same_state step.same
   step_ours limit Sources bytes is step = same_state step.1
   step_ours limit Kept bytes is step = same_state step.1
@@ -131,7 +136,9 @@ module _ (g : Graph) (old new : SessionState) (item : Item) (call : Call) where
   left_ours limit (Put name count) is may = same_calls (edit_keeps _ old new (λ change due. puts_keep name item.body change due.1) may.0)
   left_ours limit (Take name) is may = same_calls (edit_keeps _ old new (λ change due. puts_keep name due.0 change due.3) may.0)
   left_ours limit (Remove name) is may = same_calls (edit_keeps _ old new (drops_keep name) may.0)
-  left_ours limit (Ask text) is may = more_calls may.given may.makes (λ c i. begun_ours g old item text (may.given ++ may.rest) is limit new.tools may.begun c (among c may.given may.rest i))
+  left_ours limit (Ask text) is may =
+      let begun = may.begun tt in
+      more_calls may.given may.noted may.makes (λ c i. begun_ours g old item text (may.given ++ begun.rest) is limit new.tools begun.begun c (among c may.given begun.rest i))
   left_ours limit (Plan text) is may = same_state may
   left_ours limit Sources is may = same_state may
   left_ours limit Kept is may = same_state may
@@ -193,9 +200,9 @@ come_ours g limit first _ furthest (SessionComesTo.begun items replies state ite
   | inr ask ↦ inr (record { front = items; item = item; rest = []; cuts = refl; replies = replies; old = state; run = run; is = ask })
 ]
 
-come_made : (g : Graph) (limit : ℕ) (first : SessionState) (items : List Item) (furthest : SessionState) → SessionComesTo g limit first items furthest → ChangesAreMade first furthest
+come_made : (g : Graph) (limit : ℕ) (first : SessionState) (items : List Item) (furthest : SessionState) → SessionComesTo g limit first items furthest → IsTrulyMade g first furthest
 come_made g limit first items furthest (SessionComesTo.answered _ replies _ run) = is_made g limit first furthest items replies run
-come_made g limit first _ furthest (SessionComesTo.begun items replies state item command _ run is may) = made_on first state furthest (is_made g limit first state items replies run) (left_made g limit state furthest command item.body may)
+come_made g limit first _ furthest (SessionComesTo.begun items replies state item command _ run is may) = made_on g first state furthest (is_made g limit first state items replies run) (left_made g limit state furthest command item.body may)
 
 come_true : (g : Graph) (limit : ℕ) (table : Table) (first : SessionState) (items : List Item) (furthest : SessionState) → IsTrueFor table first.tools first.held.calls → SessionComesTo g limit first items furthest → IsTrueFor table furthest.tools furthest.held.calls
 come_true g limit table first items furthest right (SessionComesTo.answered _ replies _ run) = stays_true g limit table first furthest items replies right run
@@ -218,8 +225,14 @@ module _ (g : Graph) (limit : ℕ) (table : Table) (first : SessionState) (items
 -- ---- images
 
 module _ (g : Graph) (limit : ℕ) (first : SessionState) (items : List Item) (furthest : SessionState) (none : first.changes ≡ []) (comes : SessionComesTo g limit first items furthest) where
+  made_is : IsTrulyMade g first furthest
+  made_is = come_made g limit first items furthest comes
+
+  changes_are : furthest.changes ≡ made_is.changes.made
+  changes_are = made_is.changes.list ∙ ap (λ l. l ++ made_is.changes.made) none
+
   held_is : furthest.held ≡ after_changes store_keeping furthest.changes first.held
-  held_is = let made = come_made g limit first items furthest comes in made.held ∙ ap (λ l. after_changes store_keeping l first.held) (sym (made.list ∙ ap (λ l. l ++ made.made) none))
+  held_is = made_is.changes.held ∙ ap (λ l. after_changes store_keeping l first.held) (sym changes_are)
 
   -- what the first changes keep is kept in the furthest state
   kept_furthest : (k : ℕ) (call : Call) (o : Outcome) → kept_outcome (after_changes store_keeping (take k furthest.changes) first.held).calls call ≡ Some o → kept_outcome furthest.held.calls call ≡ Some o
@@ -229,6 +242,12 @@ module _ (g : Graph) (limit : ℕ) (first : SessionState) (items : List Item) (f
   kept_ours k call kept =
       come_ours g limit first items furthest comes call
       (there (kept_outcome (after_changes store_keeping (take k furthest.changes) first.held).calls call) (kept_outcome furthest.held.calls call) (kept_furthest k call) kept)
+
+  -- what the first changes note is true
+  records_first : (k : ℕ) → RecordsAreTrue g first.held → RecordsAreTrue g (after_changes store_keeping (take k furthest.changes) first.held)
+  records_first k are =
+      let truly : NoteTruly g first.held furthest.changes = subst (NoteTruly g first.held) (sym changes_are) made_is.truly in
+      records_after g (take k furthest.changes) first.held are (first_truly g k furthest.changes first.held truly)
 
   holds_ours : (least : ℕ) (image : List ℕ) → IsPrefix store_keeping first.held least furthest.changes image → HoldsOurs g limit first items furthest least image
   holds_ours least image some = record {
@@ -240,6 +259,7 @@ module _ (g : Graph) (limit : ℕ) (first : SessionState) (items : List Item) (f
     calls = kept_ours some.k;
     table_calls = λ table right call kept. by_table g limit table first items right call (kept_ours some.k call kept);
     right = λ table right call o e. (let kept_true = come_true g limit table first items furthest right comes in kept_true.gives call o (kept_furthest some.k call o e));
+    records = records_first some.k;
   }
 
 pub images_hold_ours : {D : Type 0} (disk : DiskView D) (g : Graph) (limit : ℕ) (text : Text) (first : SessionState) (items : List Item) (start : Told D) (acknowledged furthest : SessionState) (now : Told D)

@@ -1,6 +1,6 @@
 -- The replies of a session are those of the machine with nothing kept.
 use Rattle.std.proofs.Common.{◌≡◌, ◌⊎◌, ℕ, Bool, true, false, cond, List, [], ◌∷◌, ◌++◌, append-nil, ap, sym, refl, ◌∙◌, subst, inl, inr, is_some}
-use Rattle.std.specs.Prelude.{Some, IsSome}
+use Rattle.std.specs.Prelude.{⊤, Some, IsSome}
 use Rattle.std.proofs.lemmas.List.{length-map, map-append}
 use Rattle.object_values.specs.declared.nodes.Node.{Node}
 use Rattle.object_values.specs.declared.views.View.{View}
@@ -32,6 +32,7 @@ use Rattle.odin_store.specs.Held.{Held}
 use Rattle.kept_derive.specs.Runs.{course_of}
 use Rattle.odin_answers.specs.Answers.{Agrees, AreAll, IsLeftAlone, IsDerived, IsReply}
 use Rattle.odin_answers.specs.Laws.{IsTrueFor}
+use Rattle.odin_answers.proofs.Lemmas.{reply_of}
 use Rattle.odin_answers.specs.Edits.{SaysReply}
 use Rattle.odin_shell.specs.Language.{commands}
 use Rattle.odin_shell.specs.Machine.{SessionState, Step, AsksForObject}
@@ -50,7 +51,7 @@ kept_in (x ∷ kept) call there = by_test (call_eq.eq call x.0) refl (kept_in ke
 
 -- ---- an ask
 
-module _ (g : Graph) (table : Table) (limit : ℕ) (text : Text) (old new : SessionState) (bytes : List ℕ) (right : IsTrueFor table old.tools old.held.calls) (asks : AsksForObject g limit text old bytes new) where
+module _ (g : Graph) (table : Table) (limit : ℕ) (text : Text) (old new : SessionState) (bytes : List ℕ) (right : IsTrueFor table old.tools old.held.calls) (asks : AsksForObject ⊤ g limit text old bytes new) where
   abbrev s : Texts
   s = old.held.sources
 
@@ -61,10 +62,10 @@ module _ (g : Graph) (table : Table) (limit : ℕ) (text : Text) (old new : Sess
   given = asks.given
 
   calls_are : calls_of new.held.calls ≡ calls_of kept ++ calls_of given
-  calls_are = ap (λ (h : Held). calls_of h.calls) asks.makes.held ∙ ap calls_of (kept_calls given old.held) ∙ map-append (λ (x : Call × Outcome). x.0) kept given
+  calls_are = ap (λ (h : Held). calls_of h.calls) asks.makes.held ∙ ap calls_of (kept_calls given asks.noted old.held) ∙ map-append (λ (x : Call × Outcome). x.0) kept given
 
   sources_are : new.held.sources ≡ s
-  sources_are = ap (λ (h : Held). h.sources) asks.makes.held ∙ kept_sources given old.held
+  sources_are = ap (λ (h : Held). h.sources) asks.makes.held ∙ kept_sources given asks.noted old.held
 
   -- where nothing came, nothing changes
   none_changes : given ≡ [] → fresh_of new ≡ fresh_of old
@@ -134,7 +135,7 @@ module _ (g : Graph) (table : Table) (limit : ℕ) (text : Text) (old new : Sess
       subst (FreshAnswer g table (fresh_of old) (fresh_of new) text) (sym refused.is) (FreshAnswer.not_started d.node d.asks (grows d.node (off_course for_spawn) d.run))
 
   ask_fresh : SaysReply (FreshAnswer g table (fresh_of old) (fresh_of new) text) bytes
-  ask_fresh = record { said = asks.says.said; bytes_are = asks.says.bytes_are; holds = said_fresh asks.says.said asks.says.holds }
+  ask_fresh = record { said = asks.says.said; bytes_are = asks.says.bytes_are; holds = said_fresh asks.says.said (reply_of g s kept limit text asks.says.said given old.tools new.tools asks.says.holds.is tt) }
 
 -- ---- a command
 

@@ -30,7 +30,7 @@ use Rattle.odin_shell.proofs.ServeLemmas.{onward_none, onward_on}
 use Rattle.odin_shell.proofs.SessionLemmas.{reads_none, stopped_leaves, stopped_input, stopped_disk}
 
 module _ {D : Type 0} (disk : DiskView D) where
-  abbrev machine : Graph → Text → ℕ → Machine Command Engaged SessionState (Told D)
+  abbrev machine : Held → Graph → Text → ℕ → Machine Command Engaged SessionState (Told D)
   machine = machine_of disk
 
   -- The session has read so many bytes of its input, whatever it began with; so many edits were made at most, and no tool runs.
@@ -42,7 +42,7 @@ module _ {D : Type 0} (disk : DiskView D) where
   pub none_read : (code : Engaged) (before : Told D) (left : Option (List ℕ)) (session : Session) → MayBeginSession code (disk.size_of before.disk) before.tools → session.engine ≡ code → Keeps session.cutter [] → IsAt code before left left 0 before session
   none_read code before left session may same keeps = record {
     reads = λ g text limit held start begins.
-        subst (λ (e : Engaged). streams.Reading commands Keeps (machine g text limit) (at_first held start.tools start.tree) start left left 0 before e session.cutter) (sym same)
+        subst (λ (e : Engaged). streams.Reading commands Keeps (machine held g text limit) (at_first held start.tools start.tree) start left left 0 before e session.cutter) (sym same)
         (reads_none disk g text limit held start before left code session.cutter begins keeps);
     onward = subst (λ (e : Engaged). IsOnward disk 0 code e before.disk before.disk) (sym same) (onward_none disk 0 code before.disk may.ready);
     idle = may.idle;
@@ -57,7 +57,7 @@ module _ {D : Type 0} (disk : DiskView D) where
         → AdvancesSession disk piece now session now' session' → IsOnward disk n session.engine session'.engine now.disk now'.disk → IsAt code before input left' (count + n) now' session'
     piece_read input left left' count n now now' session session' piece at is size goes onward = record {
       reads = λ g text limit held start begins.
-          Reading-more commands Keeps (machine g text limit) (at_first held start.tools start.tree) start now now' input left left' count n session.engine session'.engine session.cutter session'.cutter piece (at.reads g text limit held start begins) is size (goes.over g text limit);
+          Reading-more commands Keeps (machine held g text limit) (at_first held start.tools start.tree) start now now' input left left' count n session.engine session'.engine session.cutter session'.cutter piece (at.reads g text limit held start begins) is size (goes.over held g text limit);
       onward = onward_on disk count n code session.engine session'.engine before.disk now.disk now'.disk at.onward onward;
       idle = goes.idle;
     }
@@ -76,7 +76,7 @@ module _ {D : Type 0} (disk : DiskView D) where
       pub ends_unread : count < input_limit → left.left ≡ mid → IsCounted input.faults left.faults → after ≡ now → SessionServes disk code input left before after ending.Input
       ends_unread small same counted is = subst (λ (t : Told D). SessionServes disk code input left before t ending.Input) (sym is) (record {
         leaves = λ g text limit held start begins.
-            HasRead-unread commands Keeps (machine g text limit) (rests disk g text limit) Keeps-less (at_first held start.tools start.tree) start now input.left mid left.left count session.engine session.cutter (at.reads g text limit held start begins) small same;
+            HasRead-unread commands Keeps (machine held g text limit) (rests disk held g text limit) Keeps-less (at_first held start.tools start.tree) start now input.left mid left.left count session.engine session.cutter (at.reads g text limit held start begins) small same;
         read = counted;
         counted = at.onward.faults;
         idle = λ other. at.idle;
@@ -86,7 +86,7 @@ module _ {D : Type 0} (disk : DiskView D) where
         pub ends_whole : FinishesSession disk finish.Whole now session after → disk.faults after.disk ≡ disk.faults now.disk → SessionServes disk code input left before after ending.Whole
         ends_whole done unfailed = record {
           leaves = λ g text limit held start begins.
-              inl (HasRead-finish commands Keeps (machine g text limit) (EndsWhole commands (machine g text limit)) (at_first held start.tools start.tree) start now after input.left mid left.left count n session.engine session.cutter buffer (at.reads g text limit held start begins) small is none spent (done.over g text limit));
+              inl (HasRead-finish commands Keeps (machine held g text limit) (EndsWhole commands (machine held g text limit)) (at_first held start.tools start.tree) start now after input.left mid left.left count n session.engine session.cutter buffer (at.reads g text limit held start begins) small is none spent (done.over held g text limit));
           read = read;
           counted = unfailed ∙ at.onward.faults;
           idle = λ other. done.idle;
@@ -95,7 +95,7 @@ module _ {D : Type 0} (disk : DiskView D) where
         pub ends_inside : FinishesSession disk finish.CutShort now session after → disk.faults after.disk ≡ disk.faults now.disk → SessionServes disk code input left before after ending.CutShort
         ends_inside done unfailed = record {
           leaves = λ g text limit held start begins.
-              HasRead-finish commands Keeps (machine g text limit) (EndsCutShort commands (machine g text limit)) (at_first held start.tools start.tree) start now after input.left mid left.left count n session.engine session.cutter buffer (at.reads g text limit held start begins) small is none spent (done.over g text limit);
+              HasRead-finish commands Keeps (machine held g text limit) (EndsCutShort commands (machine held g text limit)) (at_first held start.tools start.tree) start now after input.left mid left.left count n session.engine session.cutter buffer (at.reads g text limit held start begins) small is none spent (done.over held g text limit);
           read = read;
           counted = unfailed ∙ at.onward.faults;
           idle = λ other. done.idle;
@@ -106,7 +106,7 @@ module _ {D : Type 0} (disk : DiskView D) where
         ends_last stop done counted within = record {
           leaves = λ g text limit held start begins.
               stopped_leaves disk g text limit held input left start after stop
-              (HasRead-finish commands Keeps (machine g text limit) (EndsStopped commands (machine g text limit) (halt_of stop)) (at_first held start.tools start.tree) start now (told_with_stop stop after) input.left mid left.left count n session.engine session.cutter buffer (at.reads g text limit held start begins) small is none spent (done.over g text limit))
+              (HasRead-finish commands Keeps (machine held g text limit) (EndsStopped commands (machine held g text limit) (halt_of stop)) (at_first held start.tools start.tree) start now (told_with_stop stop after) input.left mid left.left count n session.engine session.cutter buffer (at.reads g text limit held start begins) small is none spent (done.over held g text limit))
               within;
           read = stopped_input stop input.faults left.faults read;
           counted = stopped_disk stop (disk.faults before.disk) (disk.faults now.disk) (disk.faults after.disk) at.onward.faults counted;
@@ -119,7 +119,7 @@ module _ {D : Type 0} (disk : DiskView D) where
       ends_piece stop piece is size within few read done counted none = record {
         leaves = λ g text limit held start begins.
             stopped_leaves disk g text limit held input left start after stop
-            (HasRead-piece commands Keeps (machine g text limit) (halt_of stop) (at_first held start.tools start.tree) start now (told_with_stop stop after) input.left mid left.left count n session.engine session.cutter piece (at.reads g text limit held start begins) is size within few (done.over g text limit))
+            (HasRead-piece commands Keeps (machine held g text limit) (halt_of stop) (at_first held start.tools start.tree) start now (told_with_stop stop after) input.left mid left.left count n session.engine session.cutter piece (at.reads g text limit held start begins) is size within few (done.over held g text limit))
             none;
         read = stopped_input stop input.faults left.faults read;
         counted = stopped_disk stop (disk.faults before.disk) (disk.faults now.disk) (disk.faults after.disk) at.onward.faults counted;
@@ -130,7 +130,7 @@ module _ {D : Type 0} (disk : DiskView D) where
     pub ends_at_limit : (input left : SourceTold) (now : Told D) (session : Session) → IsAt code before input.left left.left input_limit now session → left.faults ≡ input.faults → SessionServes disk code input left before now ending.TooLong
     ends_at_limit input left now session at read = record {
       leaves = λ g text limit held start begins.
-          HasRead-limit commands Keeps (machine g text limit) (rests disk g text limit) Keeps-less (at_first held start.tools start.tree) start now input.left left.left session.engine session.cutter (at.reads g text limit held start begins);
+          HasRead-limit commands Keeps (machine held g text limit) (rests disk held g text limit) Keeps-less (at_first held start.tools start.tree) start now input.left left.left session.engine session.cutter (at.reads g text limit held start begins);
       read = read;
       counted = at.onward.faults;
       idle = λ other. at.idle;
@@ -140,8 +140,8 @@ module _ {D : Type 0} (disk : DiskView D) where
     pub ends_unbegun : (input : SourceTold) → before.tools.running ≡ [] → SessionServes disk code input input before before ending.Memory
     ends_unbegun input idle = record {
       leaves = λ g text limit held start begins.
-          HasRead-none commands Keeps (machine g text limit) (at_first held start.tools start.tree) start before input.left begins.sink
-          (rests disk g text limit (at_first held start.tools start.tree) start code (at_first held start.tools start.tree) before begins.fits);
+          HasRead-none commands Keeps (machine held g text limit) (at_first held start.tools start.tree) start before input.left begins.sink
+          (rests disk held g text limit (at_first held start.tools start.tree) start code (at_first held start.tools start.tree) before begins.fits);
       read = refl;
       counted = refl;
       idle = λ other. idle;

@@ -15,6 +15,7 @@ mod OnceLemmas
 mod OpenedLemmas
 mod OpeningLemmas
 mod OursLemmas
+mod RecordLemmas
 mod RunLemmas
 mod ServeLemmas
 mod SessionLemmas
@@ -23,3 +24,4 @@ mod StateLemmas
 mod StayLemmas
 mod StoreLemmas
 mod TranscriptLemmas
+mod TrustLemmas

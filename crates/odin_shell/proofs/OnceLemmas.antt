@@ -23,23 +23,25 @@ use Rattle.odin_bytes.specs.declared.commands.Command.{Command}
 use Rattle.odin_bytes.specs.declared.commands.Command.TheVariants.{Put, Take, Remove, Ask, Plan, Sources as ListSources, Kept, Quit, Nothing, Bad, BadName}
 use Rattle.object_values.specs.declared.replies.Reply.{Reply}
 use Rattle.derive_walk.specs.Calls.{AreOnce}
+use Rattle.derive_walk.specs.Outcomes.{after}
 use Rattle.plain_derive.specs.Given.{calls_of}
 use Rattle.plain_derive.specs.GivenLaws.{AreNew}
 use Rattle.plain_derive.specs.Flights.{at_rest, off_course, for_spawn}
 use Rattle.plain_derive.specs.Followed.{LogLeadsTo}
 use Rattle.plain_derive.proofs.Lemmas.{flown_given, given_are_new, given_or_kept, given_is_in, log_stays, log_both, flights_are_logged}
-use Rattle.odin_store.specs.Held.{Held, Change}
+use Rattle.odin_store.specs.Held.{Held, Change, StandsFor}
 use Rattle.odin_store.specs.Keeping.{store_keeping}
-use Rattle.kept_derive.specs.Runs.{keeps_of, course_of}
-use Rattle.odin_answers.specs.Answers.{Agrees, HasAnswer, IsReply}
+use Rattle.kept_derive.specs.Runs.{changes_for, course_of}
+use Rattle.odin_answers.specs.Answers.{Agrees, HasAnswer, HasFact, IsReply}
 use Rattle.odin_answers.specs.Laws.{AskedAgain}
-use Rattle.odin_answers.proofs.Lemmas.{kept_first}
+use Rattle.odin_answers.proofs.Lemmas.{reply_of, kept_first}
 use Rattle.odin_outside.specs.declared.disk.Disk.{Ghosts as DiskView}
 use Rattle.odin_shell.specs.Language.{commands}
 use Rattle.odin_shell.specs.Machine.{SessionState, Told, Step, StateAtExit}
 use Rattle.odin_shell.specs.Laws.{ChangesAreMade}
-use Rattle.odin_shell.specs.Once.{CameOnce, IsAcknowledged, GoesBeyond, StaysAnswered}
-use Rattle.odin_shell.proofs.MadeLemmas.{after_both, kept_calls, edits_keep, step_made, is_made, left_made, made_on}
+use Rattle.odin_shell.specs.Once.{CameOnce, IsAcknowledged, IsAskedFor, GoesBeyond, StaysAnswered, StaysRecorded}
+use Rattle.odin_shell.proofs.MadeLemmas.{kept_calls, edits_keep, step_made, is_made, left_made, changes_on}
+use Rattle.odin_shell.proofs.RecordLemmas.{after_both, fact_stays}
 use Rattle.odin_shell.proofs.CrashLemmas.{grows}
 
 -- ---- calls after others
@@ -169,12 +171,14 @@ step_once : (g : Graph) (limit : ℕ) (old : SessionState) (c : Command) (body b
 step_once g limit old (Put name count) body bytes new step = none_came old new (edits_keep name old new step.makes) step.tools
 step_once g limit old (Take name) body bytes new step = none_came old new (edits_keep name old new step.makes) step.tools
 step_once g limit old (Remove name) body bytes new step = none_came old new (edits_keep name old new step.makes) step.tools
-step_once g limit old (Ask text) body bytes new step = record {
-  came = step.given;
-  kept = ap (λ (h : Held). h.calls) step.makes.held ∙ kept_calls step.given old.held;
-  new = reply_new g old.held.sources old.held.calls limit text step.says.said step.given old.tools new.tools step.says.holds;
-  log = reply_logged g old.held.sources old.held.calls limit text step.says.said step.given old.tools new.tools step.says.holds;
-}
+step_once g limit old (Ask text) body bytes new step =
+    let holds = reply_of g old.held.sources old.held.calls limit text step.says.said step.given old.tools new.tools step.says.holds.is tt in
+    record {
+      came = step.given;
+      kept = ap (λ (h : Held). h.calls) step.makes.held ∙ kept_calls step.given step.noted old.held;
+      new = reply_new g old.held.sources old.held.calls limit text step.says.said step.given old.tools new.tools holds;
+      log = reply_logged g old.held.sources old.held.calls limit text step.says.said step.given old.tools new.tools holds;
+    }
 step_once g limit old (Plan text) body bytes new step = none_done old new step.same
 step_once g limit old ListSources body bytes new step = none_done old new step.1
 step_once g limit old Kept body bytes new step = none_done old new step.1
@@ -195,71 +199,70 @@ came_once g limit first last (item ∷ items) (bytes ∷ replies) run =
 beyond_made : (g : Graph) (limit : ℕ) (acknowledged furthest : SessionState) → GoesBeyond g limit acknowledged furthest → ChangesAreMade acknowledged furthest
 beyond_made g limit acknowledged furthest (GoesBeyond.no_more same) =
     record { made = []; list = ap (λ (s : SessionState). s.changes) same ∙ sym (append-nil acknowledged.changes); held = ap (λ (s : SessionState). s.held) same }
-beyond_made g limit acknowledged furthest (GoesBeyond.unreplied item command is may) = left_made g limit acknowledged furthest command item.body may
-beyond_made g limit acknowledged furthest (GoesBeyond.cut_off item reply a) = step_made g limit acknowledged a.command item.body reply furthest a.step
+beyond_made g limit acknowledged furthest (GoesBeyond.unreplied item command is may) = (left_made g limit acknowledged furthest command item.body may).changes
+beyond_made g limit acknowledged furthest (GoesBeyond.cut_off item reply a) = (step_made g limit acknowledged a.command item.body reply furthest a.step).changes
 
 -- the first changes of all, where they are at least those that made what is held at a moment
 first_changes : (made more : List Change) (k : ℕ) → length made ≤ k → take k (made ++ more) ≡ made ++ take (k - length made) more
 first_changes made more k least = ap (λ n. take n (made ++ more)) (let e : k ≡ length made + (k - length made) = omega (arith, least) in e) ∙ take-append-add made more (k - length made)
 
-module _ (again : AskedAgain) (g : Graph) (limit : ℕ) (text : Text) (reply : Reply) (first acknowledged furthest : SessionState) (none : first.changes ≡ []) (beyond : GoesBeyond g limit acknowledged furthest)
-    (a : IsAcknowledged g limit text reply first acknowledged) where
-  abbrev sources : Sources
-  sources = a.old.held.sources
+-- what the image stands for is what was held at a moment, with some more changes
+record HoldsMore (mid : Held) (image : List ℕ) : Type 0 where
+  held : Held
+  stands : StandsFor held image
+  more : List Change
+  is : held ≡ after_changes store_keeping more mid
 
-  -- what made the state after the answer, and what came after it
-  before_it : ChangesAreMade first a.mid
-  before_it = made_on first a.old a.mid (is_made g limit first a.old a.front a.replies a.begins) (record { made = keeps_of a.given; list = a.makes.list; held = a.makes.held })
+-- a moment before the last acknowledged command
+module _ (g : Graph) (limit : ℕ) (first mid acknowledged furthest : SessionState) (none : first.changes ≡ []) (before_it : ChangesAreMade first mid) (to_acknowledged : ChangesAreMade mid acknowledged) (beyond : GoesBeyond g limit acknowledged furthest) where
+  after_it : ChangesAreMade mid furthest
+  after_it = changes_on mid acknowledged furthest to_acknowledged (beyond_made g limit acknowledged furthest beyond)
 
-  to_acknowledged : ChangesAreMade a.mid acknowledged
-  to_acknowledged = is_made g limit a.mid acknowledged a.back a.others a.goes
-
-  behind_it : ChangesAreMade a.mid furthest
-  behind_it = made_on a.mid acknowledged furthest to_acknowledged (beyond_made g limit acknowledged furthest beyond)
-
-  mid_changes : a.mid.changes ≡ before_it.made
+  mid_changes : mid.changes ≡ before_it.made
   mid_changes = before_it.list ∙ ap (λ l. l ++ before_it.made) none
 
-  furthest_changes : furthest.changes ≡ before_it.made ++ behind_it.made
-  furthest_changes = behind_it.list ∙ ap (λ l. l ++ behind_it.made) mid_changes
+  furthest_changes : furthest.changes ≡ before_it.made ++ after_it.made
+  furthest_changes = after_it.list ∙ ap (λ l. l ++ after_it.made) mid_changes
 
   -- all of the first are acknowledged
   long_enough : length before_it.made ≤ length acknowledged.changes
   long_enough =
-      let e : length acknowledged.changes ≡ length a.mid.changes + length to_acknowledged.made = ap length to_acknowledged.list ∙ length-append a.mid.changes to_acknowledged.made in
-      let f : length a.mid.changes ≡ length before_it.made = ap length mid_changes in
+      let e : length acknowledged.changes ≡ length mid.changes + length to_acknowledged.made = ap length to_acknowledged.list ∙ length-append mid.changes to_acknowledged.made in
+      let f : length mid.changes ≡ length before_it.made = ap length mid_changes in
       omega (arith, e, f)
 
-  module _ (k : ℕ) (least : length acknowledged.changes ≤ k) where
-    abbrev held : Held
-    held = after_changes store_keeping (take k furthest.changes) first.held
+  holds_more : (image : List ℕ) → IsPrefix store_keeping first.held (length acknowledged.changes) furthest.changes image → HoldsMore mid.held image
+  holds_more image some =
+      let k = some.k in
+      let rest : List Change = take (k - length before_it.made) after_it.made in
+      let least = some.at_least in
+      let enough : length before_it.made ≤ k = (let long = long_enough in omega (arith, long, least)) in
+      record {
+        held = after_changes store_keeping (take k furthest.changes) first.held;
+        stands = some.stands;
+        more = rest;
+        is = ap (λ l. after_changes store_keeping (take k l) first.held) furthest_changes
+            ∙ ap (λ l. after_changes store_keeping l first.held) (first_changes before_it.made after_it.made k enough)
+            ∙ after_both before_it.made rest first.held
+            ∙ ap (after_changes store_keeping rest) (sym before_it.held);
+      }
 
-    abbrev rest : List Change
-    rest = take (k - length before_it.made) behind_it.made
+module _ (again : AskedAgain) (g : Graph) (limit : ℕ) (text : Text) (reply : Reply) (first acknowledged : SessionState) (a : IsAcknowledged g limit text reply first acknowledged) where
+  mid_calls : a.mid.held.calls ≡ a.old.held.calls ++ a.given
+  mid_calls = ap (λ (h : Held). h.calls) a.makes.held ∙ kept_calls a.given a.noted a.old.held
 
-    held_is : held ≡ after_changes store_keeping rest a.mid.held
-    held_is =
-        let enough : length before_it.made ≤ k = (let long = long_enough in omega (arith, long, least)) in
-        ap (λ l. after_changes store_keeping (take k l) first.held) furthest_changes
-        ∙ ap (λ l. after_changes store_keeping l first.held) (first_changes before_it.made behind_it.made k enough)
-        ∙ after_both before_it.made rest first.held
-        ∙ ap (after_changes store_keeping rest) (sym before_it.held)
+  agrees : (image : List ℕ) → (h : HoldsMore a.mid.held image) → Agrees a.old.held.calls a.given (kept_outcome h.held.calls)
+  agrees image h call o e =
+      ap (λ (x : Held). kept_outcome x.calls call) h.is
+      ∙ grows h.more a.mid.held call o
+      (ap (λ l. kept_outcome l call) mid_calls ∙ answer_agrees g a.old.held.sources a.old.held.calls limit text reply a.given a.old.tools a.mid.tools a.answer call o e)
 
-    mid_calls : a.mid.held.calls ≡ a.old.held.calls ++ a.given
-    mid_calls = ap (λ (h : Held). h.calls) a.makes.held ∙ kept_calls a.given a.old.held
-
-    agrees : Agrees a.old.held.calls a.given (kept_outcome held.calls)
-    agrees call o e =
-        ap (λ (h : Held). kept_outcome h.calls call) held_is
-        ∙ grows rest a.mid.held call o
-        (ap (λ l. kept_outcome l call) mid_calls ∙ answer_agrees g sources a.old.held.calls limit text reply a.given a.old.tools a.mid.tools a.answer call o e)
-
-  stays_answered : (image : List ℕ) → IsPrefix store_keeping first.held (length acknowledged.changes) furthest.changes image → StaysAnswered g text sources image
-  stays_answered image some = record {
-    held = held some.k some.at_least;
-    stands = some.stands;
-    again = λ most other given before now is. again g sources a.old.held.calls (held some.k some.at_least).calls limit most text reply other a.given given a.old.tools a.mid.tools before now
-        a.answer (agrees some.k some.at_least) is;
+  stays_answered : (image : List ℕ) → HoldsMore a.mid.held image → StaysAnswered g text a.old.held.sources image
+  stays_answered image h = record {
+    held = h.held;
+    stands = h.stands;
+    again = λ most other given before now is. again g a.old.held.sources a.old.held.calls h.held.calls limit most text reply other a.given given a.old.tools a.mid.tools before now
+        a.answer (agrees image h) is;
   }
 
 pub survives : AskedAgain → {D : Type 0} (disk : DiskView D) (g : Graph) (graph_text : Text) (limit : ℕ) (first : SessionState) (start : Told D) (acknowledged furthest : SessionState) (now : Told D)
@@ -267,4 +270,24 @@ pub survives : AskedAgain → {D : Type 0} (disk : DiskView D) (g : Graph) (grap
     → (text : Text) (reply : Reply) → (a : IsAcknowledged g limit text reply first acknowledged) → (image : List ℕ) → MayBeLeft (disk.told now.disk) image → StaysAnswered g text a.old.held.sources image
 survives again disk g graph_text limit first start acknowledged furthest now none quiet beyond left text reply a image may =
     let safe = left.safe.crash quiet in
-    stays_answered again g limit text reply first acknowledged furthest none beyond a image (safe.durable image may)
+    let before : ChangesAreMade first a.mid = changes_on first a.old a.mid (is_made g limit first a.old a.front a.replies a.begins).changes (record { made = changes_for a.given a.noted; list = a.makes.list; held = a.makes.held }) in
+    let goes : ChangesAreMade a.mid acknowledged = (is_made g limit a.mid acknowledged a.back a.others a.goes).changes in
+    stays_answered again g limit text reply first acknowledged a image (holds_more g limit first a.mid acknowledged furthest none before goes beyond image (safe.durable image may))
+
+-- a record that was there then is there
+pub records_there : {D : Type 0} (disk : DiskView D) (g : Graph) (graph_text : Text) (limit : ℕ) (first : SessionState) (start : Told D) (acknowledged furthest : SessionState) (now : Told D)
+    → first.changes ≡ [] → IsQuiet (disk.told start.disk) → GoesBeyond g limit acknowledged furthest → StateAtExit disk g graph_text limit first start acknowledged furthest now
+    → (text : Text) → (a : IsAskedFor g limit text first acknowledged) → (image : List ℕ) → MayBeLeft (disk.told now.disk) image
+    → StaysRecorded g text a.old.held.sources (after (kept_outcome a.old.held.calls) a.asks.given) a.asks.says.said image
+records_there disk g graph_text limit first start acknowledged furthest now none quiet beyond left text a image may =
+    let safe = left.safe.crash quiet in
+    let before : ChangesAreMade first a.mid =
+    changes_on first a.old a.mid (is_made g limit first a.old a.front a.replies a.begins).changes (record { made = changes_for a.asks.given a.asks.noted; list = a.asks.makes.list; held = a.asks.makes.held }) in
+    let goes : ChangesAreMade a.mid acknowledged = (is_made g limit a.mid acknowledged a.back a.others a.goes).changes in
+    let h = holds_more g limit first a.mid acknowledged furthest none before goes beyond image (safe.durable image may) in
+    record {
+      held = h.held;
+      stands = h.stands;
+      recorded = λ n view asks derives shows stepped.
+          subst (λ (x : Held). HasFact n x.records) (sym h.is) (fact_stays n h.more a.mid.held (a.asks.says.holds.recorded tt n view asks derives shows stepped));
+    }

@@ -15,14 +15,14 @@ use Rattle.odin_store.specs.Compacting.{CompactionsKeep}
 use Rattle.odin_store.specs.Held.{Held, NotedFit, StandsFor}
 use Rattle.odin_store.specs.Keeping.{KeepsChanges, store_keeping}
 use Rattle.odin_store.specs.OnDisk.{held_in, state_in, IsOn}
-use Rattle.odin_store.specs.Written.{written_in, record_keeping}
+use Rattle.odin_store.specs.Written.{written_in}
 use Rattle.odin_store.specs.Going.{AreBatches}
 use Rattle.odin_store.proofs.Lemmas.{on_there, goes_none, nothing_behind, nothing_first, same_held, same_on}
 use Rattle.odin_engine.specs.Engaged.{Engaged, IsLimit}
 use Rattle.odin_engine.specs.Opened.{EngineIsNew, Settles, OpensEngine, OpensQuietEngine, settled_records, settled_noted, settled_bytes, settled_calls}
 use Rattle.odin_shell.specs.declared.ending.Ending.{Ending}
 use Rattle.odin_outside.specs.declared.disk.Disk.{Ghosts as DiskView}
-use Rattle.odin_shell.specs.Filed.{OpensFile, WorksOver, HasWritten}
+use Rattle.odin_shell.specs.Filed.{OpensFile, HasWritten}
 use Rattle.odin_shell.specs.Machine.{Told}
 use Rattle.odin_shell.specs.Begun.{SessionBegins, SessionServes}
 use Rattle.odin_shell.specs.Objects.{SourceTold}
@@ -128,6 +128,7 @@ module _ {D : Type 0} (disk : DiskView D) (keeping : KeepsChanges disk.told) (co
       jobs = new.jobs_is;
       few = most.few;
       held = refl;
+      knows = new.knows;
       tools = tools;
       tree = tree;
       stay = same_tools start.tools before.tools tools (idle_few start.tools idle);

@@ -1,5 +1,5 @@
 -- Commands fail over a file that is a store's.
-use Rattle.std.proofs.Common.{◌≡◌, ℕ, List, Result, Ok, Err, IfErr, inl, inr, sym, subst}
+use Rattle.std.proofs.Common.{ℕ, Result, Ok, Err, IfErr, inl, inr, sym, subst}
 use Rattle.odin_outside.specs.Disk.{Telling}
 use Rattle.odin_journal.specs.Faults.{FileIsOurs}
 use Rattle.odin_journal.specs.declared.fault.JournalFault.{JournalFault}

@@ -8,6 +8,7 @@ use Rattle.odin_journal.specs.Faults.{CountAfterJournalFault}
 use Rattle.odin_journal.specs.Rest.{IsReady}
 use Rattle.odin_journal.specs.declared.fault.JournalFault.{JournalFault}
 use Rattle.odin_journal.specs.declared.fault.JournalFault.TheVariants as fault
+use Rattle.odin_store.specs.Held.{Held}
 use Rattle.odin_engine.specs.Engaged.{Engaged}
 use Rattle.odin_answers.specs.Edits.{TreeTold}
 use Rattle.odin_shell.specs.declared.whole.Whole.{Whole}
@@ -69,13 +70,14 @@ counted_behind s first mid last same counted = subst (λ n. CountsStop s n last)
 
 module _ {D : Type 0} (disk : DiskView D) where
   -- what the sink took is no part of it
-  module _ (g : Graph) (text : Text) (limit : ℕ) (first : SessionState) (start : Told D) (s s' : SinkTold) (tools : Spawned) (tree : TreeTold) (d : D) where
-    on_sink : (code : Engaged) (state : SessionState) → SessionInvariant disk g text limit first start code state (telling s tools tree d) → SessionInvariant disk g text limit first start code state (telling s' tools tree d)
+  module _ (from : Held) (g : Graph) (text : Text) (limit : ℕ) (first : SessionState) (start : Told D) (s s' : SinkTold) (tools : Spawned) (tree : TreeTold) (d : D) where
+    on_sink : (code : Engaged) (state : SessionState) → SessionInvariant disk from g text limit first start code state (telling s tools tree d) → SessionInvariant disk from g text limit first start code state (telling s' tools tree d)
     on_sink code state fits = record {
       graph = fits.graph;
       jobs = fits.jobs;
       few = fits.few;
       held = fits.held;
+      knows = fits.knows;
       tools = fits.tools;
       tree = fits.tree;
       stay = fits.stay;
@@ -117,14 +119,14 @@ module _ {D : Type 0} (disk : DiskView D) where
         on = on;
         rests = record {
           idle = idle;
-          over = λ g text limit first start state body same fits.
-              let stepped = answers g text limit first start state body same fits in
+          over = λ from g text limit first start state body same fits.
+              let stepped = answers from g text limit first start state body same fits in
               record {
                 reply = reply;
                 new = stepped.new;
                 step = stepped.step;
                 wrote = wrote ∙ ap (took s) is;
-                fits = on_sink g text limit first start s s' tools' tree' d' code' stepped.new stepped.fits;
+                fits = on_sink from g text limit first start s s' tools' tree' d' code' stepped.new stepped.fits;
               };
         };
       }
@@ -132,29 +134,29 @@ module _ {D : Type 0} (disk : DiskView D) where
       pub stops_reply : TookPart given s s' → StopsServingInSession disk stop.Output code whole before after
       stops_reply wrote = record {
         idle = λ other. idle;
-        over = λ g text limit first start state body same fits.
-            let stepped = answers g text limit first start state body same fits in
+        over = λ from g text limit first start state body same fits.
+            let stepped = answers from g text limit first start state body same fits in
             record {
               reply = reply;
               new = stepped.new;
               step = stepped.step;
               wrote = subst (λ r. TookPart r s s') is wrote;
-              exit = left_sink g text limit first start s s' tools' tree' d' state stepped.new stepped.left;
+              exit = left_sink from g text limit first start s s' tools' tree' d' state stepped.new stepped.left;
             };
       }
 
       pub stops_quit : ends_run whole.command ≡ true → s' ≡ took s given → StopsServingInSession disk stop.Quit code whole before after
       stops_quit ends wrote = record {
         idle = λ other. idle;
-        over = λ g text limit first start state body same fits.
-            let stepped = answers g text limit first start state body same fits in
+        over = λ from g text limit first start state body same fits.
+            let stepped = answers from g text limit first start state body same fits in
             record {
               ends = ends;
               reply = reply;
               new = stepped.new;
               step = stepped.step;
               wrote = wrote ∙ ap (took s) is;
-              exit = rests disk g text limit first start code' stepped.new after (on_sink g text limit first start s s' tools' tree' d' code' stepped.new stepped.fits);
+              exit = rests disk from g text limit first start code' stepped.new after (on_sink from g text limit first start s s' tools' tree' d' code' stepped.new stepped.fits);
             };
       }
 
@@ -162,19 +164,19 @@ module _ {D : Type 0} (disk : DiskView D) where
     pub stops_answer : (why : JournalFault) → HaltsCommand disk code whole.command whole.body (telling s tools tree d) why (telling s tools' tree' d') → StopsServingInSession disk (stop_of why) code whole (telling s tools tree d) (telling s tools' tree' d')
     stops_answer fault.Disk halts = record {
       idle = λ stays. absurd (stays tt);
-      over = λ g text limit first start state body same fits. (let left = halts g text limit first start state body same fits in record { furthest = left.furthest; may = left.may; wrote = refl; exit = left.exit });
+      over = λ from g text limit first start state body same fits. (let left = halts from g text limit first start state body same fits in record { furthest = left.furthest; may = left.may; wrote = refl; exit = left.exit });
     }
     stops_answer (fault.NotOurs at) halts = record {
       idle = λ stays. absurd (stays tt);
-      over = λ g text limit first start state body same fits. (let left = halts g text limit first start state body same fits in record { furthest = left.furthest; may = left.may; wrote = refl; exit = left.exit });
+      over = λ from g text limit first start state body same fits. (let left = halts from g text limit first start state body same fits in record { furthest = left.furthest; may = left.may; wrote = refl; exit = left.exit });
     }
     stops_answer (fault.Full at size) halts = record {
       idle = λ stays. absurd (stays tt);
-      over = λ g text limit first start state body same fits. (let left = halts g text limit first start state body same fits in record { furthest = left.furthest; may = left.may; wrote = refl; exit = left.exit });
+      over = λ from g text limit first start state body same fits. (let left = halts from g text limit first start state body same fits in record { furthest = left.furthest; may = left.may; wrote = refl; exit = left.exit });
     }
     stops_answer fault.Memory halts = record {
       idle = λ stays. absurd (stays tt);
-      over = λ g text limit first start state body same fits. (let left = halts g text limit first start state body same fits in record { furthest = left.furthest; may = left.may; wrote = refl; exit = left.exit });
+      over = λ from g text limit first start state body same fits. (let left = halts from g text limit first start state body same fits in record { furthest = left.furthest; may = left.may; wrote = refl; exit = left.exit });
     }
 
     pub stops_as : (why : JournalFault) (stop : Stop) → stop ≡ stop_of why → HaltsCommand disk code whole.command whole.body (telling s tools tree d) why (telling s tools' tree' d')

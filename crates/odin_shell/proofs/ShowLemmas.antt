@@ -34,13 +34,13 @@ refusal_said g text bytes p reply same is said =
 
 module _ {D : Type 0} (disk : DiskView D) (code : Engaged) (told : Told D) (kept bytes : List ℕ) where
   pub plan_answers : (text : Text) → SaysReply (Plan code.graph text) bytes → Answers disk code (command.Plan text) kept told bytes code told
-  plan_answers text says = same_answers disk code (command.Plan text) kept bytes told (λ g limit state body graph held. record {
+  plan_answers text says = same_answers disk code (command.Plan text) kept bytes told (λ trust g limit state body graph held. record {
     says = subst (λ (on : Graph). SaysReply (Plan on text) bytes) graph says;
     same = refl;
   })
 
   pub sources_answers : bytes ≡ reply_text (reply.Sources (source_lines code.store.sources.texts)) → Answers disk code command.Sources kept told bytes code told
-  sources_answers is = same_answers disk code command.Sources kept bytes told (λ g limit state body graph held. (is ∙ ap (λ (h : Held). reply_text (reply.Sources (source_lines h.sources))) held, refl))
+  sources_answers is = same_answers disk code command.Sources kept bytes told (λ trust g limit state body graph held. (is ∙ ap (λ (h : Held). reply_text (reply.Sources (source_lines h.sources))) held, refl))
 
   pub kept_answers : bytes ≡ reply_text (reply.Kept (length code.store.kept.tables.calls)) → Answers disk code command.Kept kept told bytes code told
-  kept_answers is = same_answers disk code command.Kept kept bytes told (λ g limit state body graph held. (is ∙ ap (λ (h : Held). reply_text (reply.Kept (length h.calls))) held, refl))
+  kept_answers is = same_answers disk code command.Kept kept bytes told (λ trust g limit state body graph held. (is ∙ ap (λ (h : Held). reply_text (reply.Kept (length h.calls))) held, refl))

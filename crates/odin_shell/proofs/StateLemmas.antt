@@ -11,13 +11,14 @@ use Rattle.meaning_records.specs.Stands.{gate_behind}
 use Rattle.odin_journal.specs.Moments.{Works}
 use Rattle.odin_journal.specs.Rest.{IsReady}
 use Rattle.odin_store.specs.declared.store.Store.{Store}
-use Rattle.odin_store.specs.Held.{Change}
-use Rattle.odin_store.specs.OnDisk.{state_in, IsOn, IsOver, IsSame}
+use Rattle.odin_store.specs.Held.{Held, Change}
+use Rattle.odin_store.specs.OnDisk.{state_in, IsOver, IsSame}
 use Rattle.odin_store.specs.Keeping.{store_keeping}
 use Rattle.odin_store.specs.Going.{IsBatchOf, HasBatches, Performs, HasPartialBatches, StopsPerforming}
 use Rattle.odin_store.specs.Written.{written_in, WorksFor, with_records, record_keeping}
 use Rattle.odin_store.proofs.Lemmas.{on_there, nothing_behind, batches_on, goes_none, stops_left, stops_more, gate-append, records-append, works_after}
 use Rattle.odin_engine.specs.Engaged.{Engaged, GraphStays}
+use Rattle.kept_derive.specs.Knowing.{KnowsStore}
 use Rattle.odin_answers.specs.Edits.{TreeTold, TreeStays}
 use Rattle.odin_engine.specs.Opened.{settled_bytes, settled_calls}
 use Rattle.odin_outside.specs.declared.disk.Disk.{Ghosts as DiskView}
@@ -109,17 +110,18 @@ next_state state changes tools tree = record { held = after_changes store_keepin
 pub makes_next : (state : SessionState) (changes : List Change) (tools : Spawned) (tree : TreeTold) → Applies changes state (next_state state changes tools tree)
 makes_next state changes tools tree = record { held = refl; list = refl }
 
-module _ {D : Type 0} (disk : DiskView D) (g : Graph) (text : Text) (limit : ℕ) (first : SessionState) (start : Told D) (code : Engaged) (state : SessionState) (told : Told D) (fits : SessionInvariant disk g text limit first start code state told) where
+module _ {D : Type 0} (disk : DiskView D) (from : Held) (g : Graph) (text : Text) (limit : ℕ) (first : SessionState) (start : Told D) (code : Engaged) (state : SessionState) (told : Told D) (fits : SessionInvariant disk from g text limit first start code state told) where
   -- ---- the session goes on
 
-  pub belongs_on : (changes : List Change) (code' : Engaged) (told' : Told D) → Performs disk.told changes code.store code'.store told.disk told'.disk → GraphStays code code' → IsReady code'.store.journal (disk.size_of told'.disk)
-      → disk.faults told'.disk ≡ disk.faults told.disk → ToolsStay told.tools told'.tools → TreeStays told.tree told'.tree → told'.tools.running ≡ [] → told'.over ≡ None
-      → SessionInvariant disk g text limit first start code' (next_state state changes told'.tools told'.tree) told'
-  belongs_on changes code' told' goes stays ready faults stay tree idle within = record {
+  pub belongs_on : (changes : List Change) (code' : Engaged) (told' : Told D) → Performs disk.told changes code.store code'.store told.disk told'.disk → (KnowsStore g code.store → KnowsStore g code'.store) → GraphStays code code'
+      → IsReady code'.store.journal (disk.size_of told'.disk) → disk.faults told'.disk ≡ disk.faults told.disk → ToolsStay told.tools told'.tools → TreeStays told.tree told'.tree → told'.tools.running ≡ [] → told'.over ≡ None
+      → SessionInvariant disk from g text limit first start code' (next_state state changes told'.tools told'.tree) told'
+  belongs_on changes code' told' goes knows stays ready faults stay tree idle within = record {
     graph = stays.graph ∙ fits.graph;
     jobs = stays.jobs ∙ fits.jobs;
     few = fits.few;
     held = goes.holds ∙ ap (after_changes store_keeping changes) fits.held;
+    knows = λ trust. knows (fits.knows trust);
     tools = refl;
     tree = refl;
     stay = stay_on fits.stay stay;
@@ -266,8 +268,8 @@ module _ {D : Type 0} (disk : DiskView D) (g : Graph) (text : Text) (limit : ℕ
   }
 
 -- between two commands all is left as it is
-pub rests : {D : Type 0} (disk : DiskView D) (g : Graph) (text : Text) (limit : ℕ) (first : SessionState) (start : Told D) (code : Engaged) (state : SessionState) (told : Told D) → SessionInvariant disk g text limit first start code state told → StateAtExit disk g text limit first start state state told
-rests disk g text limit first start code state told fits =
+pub rests : {D : Type 0} (disk : DiskView D) (from : Held) (g : Graph) (text : Text) (limit : ℕ) (first : SessionState) (start : Told D) (code : Engaged) (state : SessionState) (told : Told D) → SessionInvariant disk from g text limit first start code state told → StateAtExit disk g text limit first start state state told
+rests disk from g text limit first start code state told fits =
     let tools : told.tools.faults ≡ state.tools.faults = ap (λ (t : Spawned). t.faults) fits.tools in
     let tree : told.tree.faults ≡ state.tree.faults = ap (λ (t : TreeTold). t.faults) fits.tree in
     let same : IsSame code.store code.store told.disk told.disk = record { disk_is = refl; store_is = record { journal = refl; tables = refl; sources = refl; graph = refl; epoch = refl }; nodes = refl } in
@@ -280,8 +282,8 @@ rests disk g text limit first start code state told fits =
       stay = fits.stay;
       tree_stays = fits.tree_stays;
       safe = subst (λ l. IsSafe disk.told text first.held state.changes l start.disk told.disk (disk.faults start.disk) (disk.faults told.disk)) (nothing_behind state.changes)
-          (safe_made disk g text limit first start code state told fits [] code.store told.disk goes refl);
+          (safe_made disk from g text limit first start code state told fits [] code.store told.disk goes refl);
       lasting = λ quiet. inl (subst (λ l. HoldsAll disk.told text first.held l start.disk told.disk) (nothing_behind state.changes)
-          (holds_all disk g text limit first start code state told fits [] code.store told.disk goes quiet));
+          (holds_all disk from g text limit first start code state told fits [] code.store told.disk goes quiet));
       full = λ at size some. (let no : ⊥ = cc (fits.within) in absurd no);
     }

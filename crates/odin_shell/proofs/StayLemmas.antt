@@ -77,7 +77,7 @@ step_stays g limit old new (Take name) body reply are named short step = elim st
   | inr unread ↦ subst AreSources (sym unread.same) are
 ]
 step_stays g limit old new (Remove name) body reply are named short step = remove_stays (get old.held.sources name) old.held.sources name step.says.said new.held.sources are step.says.holds
-step_stays g limit old new (Ask text) body reply are named short step = subst AreSources (sym (ap (λ (h : Held). h.sources) step.makes.held ∙ kept_sources step.given old.held)) are
+step_stays g limit old new (Ask text) body reply are named short step = subst AreSources (sym (ap (λ (h : Held). h.sources) step.makes.held ∙ kept_sources step.given step.noted old.held)) are
 step_stays g limit old new (Plan text) body reply are named short step = same_stays old new are step.same
 step_stays g limit old new Sources body reply are named short step = same_stays old new are step.1
 step_stays g limit old new Kept body reply are named short step = same_stays old new are step.1
@@ -108,7 +108,7 @@ step_left g limit old new (Take name) body are named short may =
     due_stays (IsTakeChange name old.tree) old new (λ change due. subst (λ c. AreSources (apply c old.held).sources) (sym due.3) (put_stays old.held.sources name due.0 are named due.1)) are may.0
 step_left g limit old new (Remove name) body are named short may =
     due_stays (λ change. change ≡ drops name) old new (λ change due. subst (λ c. AreSources (apply c old.held).sources) (sym due) (drop_stays old.held.sources name are)) are may.0
-step_left g limit old new (Ask text) body are named short may = subst AreSources (sym (ap (λ (h : Held). h.sources) may.makes.held ∙ kept_sources may.given old.held)) are
+step_left g limit old new (Ask text) body are named short may = subst AreSources (sym (ap (λ (h : Held). h.sources) may.makes.held ∙ kept_sources may.given may.noted old.held)) are
 step_left g limit old new (Plan text) body are named short may = same_stays old new are may
 step_left g limit old new Sources body are named short may = same_stays old new are may
 step_left g limit old new Kept body are named short may = same_stays old new are may

@@ -164,9 +164,9 @@ module _ {D : Type 0} (disk : DiskView D) (g : Graph) (text : Text) (limit : ℕ
   session_tree Room l = absurd l
 
   session_exact : (ending : Ending) → SessionLeaves disk g text limit held ending input left start now → IfSome input (AllowedBy ending)
-  session_exact Whole (inl l) = not_inside commands Keeps (machine disk g text limit) one_command (at_first held start.tools start.tree) start now input left l
-  session_exact Whole (inr l) = at_word commands Keeps (machine disk g text limit) one_command (at_first held start.tools start.tree) start now input left l
-  session_exact CutShort l = is_inside commands Keeps (machine disk g text limit) (at_first held start.tools start.tree) start now input left l
+  session_exact Whole (inl l) = not_inside commands Keeps (machine disk held g text limit) one_command (at_first held start.tools start.tree) start now input left l
+  session_exact Whole (inr l) = at_word commands Keeps (machine disk held g text limit) one_command (at_first held start.tools start.tree) start now input left l
+  session_exact CutShort l = is_inside commands Keeps (machine disk held g text limit) (at_first held start.tools start.tree) start now input left l
   session_exact BadGraph l = absurd l
   session_exact Disk l = anything input
   session_exact Memory l = anything input
@@ -175,7 +175,7 @@ module _ {D : Type 0} (disk : DiskView D) (g : Graph) (text : Text) (limit : ℕ
   session_exact (NotOurs at) l = absurd l
   session_exact (Full at size) l = anything input
   session_exact Usage l = absurd l
-  session_exact TooLong l = is_long commands Keeps (machine disk g text limit) one_command (at_first held start.tools start.tree) start now input left l
+  session_exact TooLong l = is_long commands Keeps (machine disk held g text limit) one_command (at_first held start.tools start.tree) start now input left l
   session_exact Loaded l = absurd l
   session_exact Room l = absurd l
 

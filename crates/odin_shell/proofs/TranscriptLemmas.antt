@@ -1,7 +1,7 @@
 -- Where no fault of the tools or of the tree is counted, items have one transcript at most, but for the chains that refusals show and the
 -- number of kept calls.
 use Rattle.std.proofs.Common.{◌≡◌, ℕ, ◌<◌, ◌+◌, ◌≤◌, min, List, [], ◌∷◌, ◌++◌, ◌⊎◌, ap, sym, ◌∙◌, subst, arith, inl, inr}
-use Rattle.std.specs.Prelude.{Option, Some, None}
+use Rattle.std.specs.Prelude.{⊤, Option, Some, None}
 use Rattle.std.specs.FinMap.{get}
 use Rattle.object_values.specs.Texts.{Texts}
 use Rattle.odin_outside.specs.Causes.{last_count, once_more, IsCounted}
@@ -15,7 +15,7 @@ use Rattle.meaning_commands.specs.Items.{Item, IsItem}
 use Rattle.meaning_commands.specs.Machines.{Transcript, AnswersItem}
 use Rattle.odin_answers.specs.Answers.{IsReply, HasAnswer}
 use Rattle.odin_answers.specs.Laws.{IsTrueFor, KeepSame}
-use Rattle.odin_answers.proofs.Lemmas.{refusal_counted, same_answers}
+use Rattle.odin_answers.proofs.Lemmas.{reply_of, refusal_counted, same_answers}
 use Rattle.odin_bytes.specs.declared.commands.Command.{Command}
 use Rattle.odin_bytes.specs.declared.commands.Command.TheVariants.{Put, Take, Remove, Ask, Plan, Sources, Kept, Quit, Nothing, Bad, BadName}
 use Rattle.object_values.specs.declared.replies.Reply.{Reply}
@@ -105,8 +105,8 @@ answered g limit old new text said given none (inr refused) =
     absurd (not_counted old.tools.faults new.tools.faults none.tools (refusal_counted g old.held.sources old.held.calls limit text said given old.tools new.tools refused))
 
 -- what an ask leaves of the sources
-asked_sources : (g : Graph) (limit : ℕ) (text : Text) (old new : SessionState) (bytes : List ℕ) → AsksForObject g limit text old bytes new → new.held.sources ≡ old.held.sources
-asked_sources g limit text old new bytes asks = ap (λ (h : Held). h.sources) asks.makes.held ∙ kept_sources asks.given old.held
+asked_sources : (g : Graph) (limit : ℕ) (text : Text) (old new : SessionState) (bytes : List ℕ) → AsksForObject ⊤ g limit text old bytes new → new.held.sources ≡ old.held.sources
+asked_sources g limit text old new bytes asks = ap (λ (h : Held). h.sources) asks.makes.held ∙ kept_sources asks.given asks.noted old.held
 
 -- what is the same after one command
 record IsSame (g : Graph) (table : Table) (item : Item) (bytes bytes' : List ℕ) (old new old' new' : SessionState) : Type 0 where
@@ -122,8 +122,8 @@ calls_stay : (calls more calls' more' : Calls) → more ≡ calls → more' ≡ 
 calls_stay calls more calls' more' stays stays' same call = ap (λ l. kept_outcome l call) stays' ∙ same call ∙ sym (ap (λ l. kept_outcome l call) stays)
 
 -- those after an ask
-asked_calls : (g : Graph) (limit : ℕ) (text : Text) (old new : SessionState) (bytes : List ℕ) → (a : AsksForObject g limit text old bytes new) → new.held.calls ≡ old.held.calls ++ a.given
-asked_calls g limit text old new bytes a = ap (λ (h : Held). h.calls) a.makes.held ∙ kept_calls a.given old.held
+asked_calls : (g : Graph) (limit : ℕ) (text : Text) (old new : SessionState) (bytes : List ℕ) → (a : AsksForObject ⊤ g limit text old bytes new) → new.held.calls ≡ old.held.calls ++ a.given
+asked_calls g limit text old new bytes a = ap (λ (h : Held). h.calls) a.makes.held ∙ kept_calls a.given a.noted old.held
 
 module _ (g : Graph) (limit most : ℕ) (table : Table) (files : Files) (item : Item) (old new old' new' : SessionState) (same : old'.held.sources ≡ old.held.sources) where
   unchanged : (bytes bytes' : List ℕ) → (bytes' ≡ bytes) ⊎ BothCountKept bytes bytes' old old' → new ≡ old → new' ≡ old' → IsSame g table item bytes bytes' old new old' new'
@@ -166,10 +166,11 @@ module _ (g : Graph) (limit most : ℕ) (table : Table) (files : Files) (item : 
       }
 
   asked : (text : Text) (bytes bytes' : List ℕ) → IsItem commands item (Ask text) → IsTrueFor table old.tools old.held.calls → IsTrueFor table old'.tools old'.held.calls → CountsNone old new → CountsNone old' new'
-      → AsksForObject g limit text old bytes new → AsksForObject g most text old' bytes' new' → IsSame g table item bytes bytes' old new old' new'
+      → AsksForObject ⊤ g limit text old bytes new → AsksForObject ⊤ g most text old' bytes' new' → IsSame g table item bytes bytes' old new old' new'
   asked text bytes bytes' asks right right' none none' a b =
-      let one = answered g limit old new text a.says.said a.given none a.says.holds in
-      let other = subst (λ (t : Texts). HasAnswer g t old'.held.calls most text b.says.said b.given old'.tools new'.tools) same (answered g most old' new' text b.says.said b.given none' b.says.holds) in
+      let one = answered g limit old new text a.says.said a.given none (reply_of g old.held.sources old.held.calls limit text a.says.said a.given old.tools new.tools a.says.holds.is tt) in
+      let other = subst (λ (t : Texts). HasAnswer g t old'.held.calls most text b.says.said b.given old'.tools new'.tools) same
+      (answered g most old' new' text b.says.said b.given none' (reply_of g old'.held.sources old'.held.calls most text b.says.said b.given old'.tools new'.tools b.says.holds.is tt)) in
       record {
         alike = elim (same_answers g table old.held.sources old.held.calls old'.held.calls limit most text a.says.said b.says.said a.given b.given old.tools new.tools old'.tools new'.tools right right' one other) [
           | inl answers ↦ inl (record {

@@ -22,7 +22,7 @@ module _ {D : Type 0} (disk : DiskView D) where
   -- The store was opened over this graph, for so many tools at once, from what was held when the run started.
   pub record SessionBegins (g : Graph) (text : Text) (limit : ℕ) (held : Held) (start : Told D) (code : Engaged) (before : Told D) : Type 0 where
     pub sink : before.sink ≡ start.sink
-    pub fits : SessionInvariant disk g text limit (at_first held start.tools start.tree) start code (at_first held start.tools start.tree) before
+    pub fits : SessionInvariant disk held g text limit (at_first held start.tools start.tree) start code (at_first held start.tools start.tree) before
 
   -- A session ended so, whatever it began with.
   pub record SessionServes (code : Engaged) (input left : SourceTold) (before after : Told D) (ending : Ending) : Type 0 where

@@ -19,6 +19,7 @@ use Rattle.odin_bytes.specs.declared.commands.Command.TheVariants.{Ask}
 use Rattle.plain_derive.specs.Given.{AreGiven, HaveCome}
 use Rattle.odin_store.specs.Held.{Held, StandsFor}
 use Rattle.odin_store.specs.Keeping.{store_keeping}
+use Rattle.kept_derive.specs.Knowing.{RecordsAreTrue}
 use Rattle.odin_answers.specs.Answers.{Agrees}
 use Rattle.odin_answers.specs.Laws.{IsTrueFor}
 use Rattle.odin_outside.specs.declared.disk.Disk.{Ghosts as DiskView}
@@ -65,7 +66,7 @@ pub record ComesByTable (g : Graph) (limit : ℕ) (first : SessionState) (items 
   pub from : IsCallFrom g (derived g ask.old.held.sources (table_outcomes table)) ask.is.node call
 
 -- The image stands for what the first of the changes made, at least so many of them. Each call that it keeps is ours; and where the tools
--- answer by a table it is ours by the table, and has the outcome that the table gives.
+-- answer by a table it is ours by the table, and has the outcome that the table gives. What it has of nodes is true where it was at the start.
 pub record HoldsOurs (g : Graph) (limit : ℕ) (first : SessionState) (items : List Item) (furthest : SessionState) (least : ℕ) (image : List ℕ) : Type 0 where
   pub held : Held
   pub stands : StandsFor held image
@@ -76,6 +77,7 @@ pub record HoldsOurs (g : Graph) (limit : ℕ) (first : SessionState) (items : L
   pub table_calls : (table : Table) → IsTrueFor table first.tools first.held.calls → (call : Call) → IsSome (kept_outcome held.calls call)
       → IsSome (kept_outcome first.held.calls call) ⊎ ComesByTable g limit first items table call
   pub right : (table : Table) → IsTrueFor table first.tools first.held.calls → HasMore (kept_outcome held.calls) (table_outcomes table)
+  pub records : RecordsAreTrue g first.held → RecordsAreTrue g held
 
 module _ {D : Type 0} (disk : DiskView D) where
   -- At an exit of a session that began with no change, over a disk on which nothing was pending: an image that a crash since the start may

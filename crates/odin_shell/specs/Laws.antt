@@ -15,11 +15,12 @@ use Rattle.odin_bytes.specs.declared.commands.Command.TheVariants.{Ask}
 use Rattle.object_values.specs.declared.replies.Reply.{Reply}
 use Rattle.object_values.specs.declared.replies.Reply.TheVariants.{Kept, RefusedRead, RefusedToolStart}
 use Rattle.meaning_commands.specs.Replies.{reply_text}
-use Rattle.odin_store.specs.Held.{Change}
+use Rattle.odin_store.specs.Held.{Held, Change}
+use Rattle.kept_derive.specs.Knowing.{RecordsAreTrue}
 use Rattle.odin_store.specs.Keeping.{store_keeping}
 use Rattle.odin_answers.specs.Laws.{IsTrueFor, KeepSame}
 use Rattle.odin_shell.specs.Language.{commands}
-use Rattle.odin_shell.specs.Machine.{SessionState, Step, CommandMayLeave}
+use Rattle.odin_shell.specs.Machine.{SessionState, Step, StepIf, CommandMayLeave, CommandMayLeaveIf}
 use Rattle.odin_shell.specs.declared.graph.Opened.{Opened}
 use Rattle.odin_shell.specs.Opened.{GraphIsOpened}
 
@@ -70,6 +71,22 @@ pub record KeptStaysTrue : Type 0 where
   pub left : (g : Graph) (limit : ℕ) (table : Table) (old furthest : SessionState)
       (command : Command) (body : List ℕ) → IsTrueFor table old.tools old.held.calls
       → CommandMayLeave g limit old command body furthest → IsTrueFor table furthest.tools furthest.held.calls
+
+-- What is held of nodes stays true, with each command and without a reply.
+pub record RecordsStayTrue : Type 0 where
+  pub replied : (g : Graph) (limit : ℕ) (first last : SessionState) (items : List Item) (replies : List (List ℕ)) → RecordsAreTrue g first.held
+      → Transcript commands (Step g limit) first items replies last → RecordsAreTrue g last.held
+  pub left : (g : Graph) (limit : ℕ) (old furthest : SessionState) (command : Command) (body : List ℕ) → RecordsAreTrue g old.held
+      → CommandMayLeave g limit old command body furthest → RecordsAreTrue g furthest.held
+
+-- ---- where what was held of nodes is true
+
+-- There what is said of replies and of what is left is said without a condition.
+pub record TrustIsMet : Type 0 where
+  pub replied : (from : Held) (g : Graph) (limit : ℕ) (first last : SessionState) (items : List Item) (replies : List (List ℕ)) → RecordsAreTrue g from
+      → Transcript commands (StepIf (RecordsAreTrue g from) g limit) first items replies last → Transcript commands (Step g limit) first items replies last
+  pub left : (from : Held) (g : Graph) (limit : ℕ) (old furthest : SessionState) (command : Command) (body : List ℕ) → RecordsAreTrue g from
+      → CommandMayLeaveIf (RecordsAreTrue g from) g limit old command body furthest → CommandMayLeave g limit old command body furthest
 
 -- ---- replies that tell faults
 

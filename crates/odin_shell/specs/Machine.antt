@@ -1,12 +1,13 @@
 -- The machine of a session: what each command replies, what the outside does for it, and what is held after it.
-use Rattle.std.specs.Prelude.{◌≡◌, ◌≢◌, ◌⊎◌, ℕ, ◌≤◌, List, [], ◌∷◌, ◌++◌, length, Option, Some, None}
+use Rattle.std.specs.Prelude.{◌≡◌, ◌≢◌, ◌⊎◌, ⊤, ℕ, ◌≤◌, List, [], ◌∷◌, ◌++◌, length, Option, Some, None}
 use Rattle.odin_outside.specs.Causes.{Rose}
 use Rattle.odin_outside.specs.Disk.{IsQuiet}
 use Rattle.odin_outside.specs.Spawned.{Spawned}
 use Rattle.odin_journal.specs.Trails.{Trail, after_changes}
 use Rattle.object_values.specs.Texts.{Texts}
 use Rattle.meaning_graph.specs.Graphs.{Text, Graph}
-use Rattle.meaning_records.specs.Tables.{Calls}
+use Rattle.object_values.specs.declared.facts.Fact.{Fact}
+use Rattle.meaning_records.specs.Tables.{Calls, kept_outcome}
 use Rattle.meaning_commands.specs.Objects.{SinkTold}
 use Rattle.meaning_commands.specs.Machines.{Machine, Halt, before_reply, within_reply, behind_reply}
 use Rattle.meaning_derive.specs.Answers as answers
@@ -17,8 +18,10 @@ use Rattle.meaning_texts.specs.Limits.{body_limit}
 use Rattle.odin_store.specs.OnDisk.{held_in}
 use Rattle.odin_store.specs.Keeping.{store_keeping}
 use Rattle.odin_engine.specs.Engaged.{Engaged}
-use Rattle.kept_derive.specs.Runs.{keeps_of}
-use Rattle.odin_answers.specs.Answers.{IsReply, MayHaveBegun}
+use Rattle.derive_walk.specs.Outcomes.{after}
+use Rattle.kept_derive.specs.Knowing.{AreTrueBeside, RecordsAreTrue, KnowsStore}
+use Rattle.kept_derive.specs.Runs.{changes_for}
+use Rattle.odin_answers.specs.Answers.{IsReplyIf, IsRecordedFor, MayHaveBegunWith}
 use Rattle.odin_bytes.specs.declared.commands.Command.{Command}
 use Rattle.odin_bytes.specs.declared.commands.Command.TheVariants.{Put, Take, Remove, Ask, Plan, Sources, Kept, Quit, Nothing, Bad, BadName}
 use Rattle.object_values.specs.declared.replies.Reply.{Reply}
@@ -73,12 +76,19 @@ pub record EditsByFile (name : Text) (old : SessionState) (bytes : List ℕ) (ne
   pub asked : TreeIsAsked old.tree new.tree
   pub tools : new.tools ≡ old.tools
 
--- The object of a text is answered as it is derived from the present sources with nothing kept; it may be refused where the count of the
--- tools' faults rose. Tools run only as its derivation calls them, as many at once as may, and each outcome is kept.
-pub record AsksForObject (g : Graph) (limit : ℕ) (text : Text) (old : SessionState) (bytes : List ℕ) (new : SessionState) : Type 0 where
+-- The text is refused, or, where this holds, that is the reply, and the node of an object has a record then.
+pub record IsAskReply (trust : Type 0) (g : Graph) (limit : ℕ) (text : Text) (old : SessionState) (given : Calls) (new : SessionState) (said : Reply) : Type 0 where
+  pub is : IsReplyIf trust g old.held.sources old.held.calls limit text said given old.tools new.tools
+  pub recorded : trust → IsRecordedFor g old.held.sources (after (kept_outcome old.held.calls) given) text said new.held.records
+
+-- Where this holds, the object of a text is answered as it is derived from the present sources with nothing kept; it may be refused where the count of
+-- the tools' faults rose. Tools run only as its derivation calls them, as many at once as may. Each outcome is kept, and what is noted after them is true.
+pub record AsksForObject (trust : Type 0) (g : Graph) (limit : ℕ) (text : Text) (old : SessionState) (bytes : List ℕ) (new : SessionState) : Type 0 where
   pub given : Calls
-  pub says : SaysReply (λ said. IsReply g old.held.sources old.held.calls limit text said given old.tools new.tools) bytes
-  pub makes : Applies (keeps_of given) old new
+  pub noted : List Fact
+  pub says : SaysReply (IsAskReply trust g limit text old given new) bytes
+  pub makes : Applies (changes_for given noted) old new
+  pub truth : trust → AreTrueBeside g (kept_outcome new.held.calls) noted
   pub tree : new.tree ≡ old.tree
 
 -- A reply of which this holds, and no change.
@@ -91,19 +101,23 @@ abbrev pub Replies : Reply → SessionState → List ℕ → SessionState → Ty
 Replies said old bytes new = (bytes ≡ reply_text said) × (new ≡ old)
 
 -- From the old state the command with these bytes after its line gets this reply, and the new state comes after it. So many tools may run at
--- once.
+-- once. What is answered to an ask is said where this holds.
+abbrev pub StepIf : Type 0 → Graph → ℕ → SessionState → Command → List ℕ → List ℕ → SessionState → Type 0
+StepIf trust g limit old (Put name count) body bytes new = EditsByCommand name (Puts old.held.sources name count body) old bytes new
+StepIf trust g limit old (Take name) body bytes new = EditsByFile name old bytes new
+StepIf trust g limit old (Remove name) body bytes new = EditsByCommand name (Removes old.held.sources name) old bytes new
+StepIf trust g limit old (Ask text) body bytes new = AsksForObject trust g limit text old bytes new
+StepIf trust g limit old (Plan text) body bytes new = Shows (answers.Plan g text) old bytes new
+StepIf trust g limit old Sources body bytes new = Replies (reply.Sources (source_lines old.held.sources)) old bytes new
+StepIf trust g limit old Kept body bytes new = Replies (reply.Kept (length old.held.calls)) old bytes new
+StepIf trust g limit old Quit body bytes new = Replies reply.Bye old bytes new
+StepIf trust g limit old Nothing body bytes new = (bytes ≡ []) × (new ≡ old)
+StepIf trust g limit old Bad body bytes new = Replies reply.RefusedCommand old bytes new
+StepIf trust g limit old (BadName count) body bytes new = Replies reply.RefusedName old bytes new
+
+-- the same where it does
 abbrev pub Step : Graph → ℕ → SessionState → Command → List ℕ → List ℕ → SessionState → Type 0
-Step g limit old (Put name count) body bytes new = EditsByCommand name (Puts old.held.sources name count body) old bytes new
-Step g limit old (Take name) body bytes new = EditsByFile name old bytes new
-Step g limit old (Remove name) body bytes new = EditsByCommand name (Removes old.held.sources name) old bytes new
-Step g limit old (Ask text) body bytes new = AsksForObject g limit text old bytes new
-Step g limit old (Plan text) body bytes new = Shows (answers.Plan g text) old bytes new
-Step g limit old Sources body bytes new = Replies (reply.Sources (source_lines old.held.sources)) old bytes new
-Step g limit old Kept body bytes new = Replies (reply.Kept (length old.held.calls)) old bytes new
-Step g limit old Quit body bytes new = Replies reply.Bye old bytes new
-Step g limit old Nothing body bytes new = (bytes ≡ []) × (new ≡ old)
-Step g limit old Bad body bytes new = Replies reply.RefusedCommand old bytes new
-Step g limit old (BadName count) body bytes new = Replies reply.RefusedName old bytes new
+Step = StepIf ⊤
 
 -- ---- commands without a reply
 
@@ -121,23 +135,27 @@ pub record MayEdit (Asked : Change → Type 0) (old new : SessionState) : Type 0
   pub makes : Applies changes old new
   pub tools : new.tools ≡ old.tools
 
--- An `ask` may have begun its derivation: each outcome that came of it is kept, but for the last at most.
-pub record MayHaveAsked (g : Graph) (limit : ℕ) (text : Text) (old new : SessionState) : Type 0 where
+-- An `ask` may have begun its derivation: each outcome that came of it is kept, but for the last at most, and what is noted after them is true.
+pub record MayHaveAsked (trust : Type 0) (g : Graph) (limit : ℕ) (text : Text) (old new : SessionState) : Type 0 where
   pub given : Calls
-  pub rest : Calls
-  pub few : length rest ≤ 1
-  pub begun : MayHaveBegun g old.held.sources old.held.calls limit text (given ++ rest) old.tools new.tools
-  pub makes : Applies (keeps_of given) old new
+  pub noted : List Fact
+  pub begun : trust → MayHaveBegunWith g old.held.sources old.held.calls limit text given old.tools new.tools
+  pub makes : Applies (changes_for given noted) old new
+  pub truth : trust → AreTrueBeside g (kept_outcome new.held.calls) noted
   pub tree : new.tree ≡ old.tree
 
 -- What a command without its reply may leave: of an edit its change; of an `ask` its derivation, as far as it was begun; of a `take` that the
--- tree was asked; of any other command nothing.
+-- tree was asked; of any other command nothing. What is left of an ask is said where this holds.
+abbrev pub CommandMayLeaveIf : Type 0 → Graph → ℕ → SessionState → Command → List ℕ → SessionState → Type 0
+CommandMayLeaveIf trust g limit old (Put name count) body new = MayEdit (IsPutChange name count body) old new × (new.tree ≡ old.tree)
+CommandMayLeaveIf trust g limit old (Take name) body new = MayEdit (IsTakeChange name old.tree) old new × TreeIsAsked old.tree new.tree
+CommandMayLeaveIf trust g limit old (Remove name) body new = MayEdit (λ change. change ≡ drops name) old new × (new.tree ≡ old.tree)
+CommandMayLeaveIf trust g limit old (Ask text) body new = MayHaveAsked trust g limit text old new
+CommandMayLeaveIf trust g limit old other body new = new ≡ old
+
+-- the same where it does
 abbrev pub CommandMayLeave : Graph → ℕ → SessionState → Command → List ℕ → SessionState → Type 0
-CommandMayLeave g limit old (Put name count) body new = MayEdit (IsPutChange name count body) old new × (new.tree ≡ old.tree)
-CommandMayLeave g limit old (Take name) body new = MayEdit (IsTakeChange name old.tree) old new × TreeIsAsked old.tree new.tree
-CommandMayLeave g limit old (Remove name) body new = MayEdit (λ change. change ≡ drops name) old new × (new.tree ≡ old.tree)
-CommandMayLeave g limit old (Ask text) body new = MayHaveAsked g limit text old new
-CommandMayLeave g limit old other body new = new ≡ old
+CommandMayLeave = CommandMayLeaveIf ⊤
 
 -- ---- between two commands, and at an exit
 
@@ -147,14 +165,16 @@ pub record ToolsStay (start now : Spawned) : Type 0 where
   pub later : start.faults ≤ now.faults
   pub few : length now.running ≤ 64
 
-module _ {Disk : Type 0} (disk : DiskView Disk) (g : Graph) (text : Text) (limit : ℕ) where
+module _ {Disk : Type 0} (disk : DiskView Disk) (from : Held) (g : Graph) (text : Text) (limit : ℕ) where
   -- Between two commands the engine works by this graph and this limit, 64 at most. The store holds what the state does, and rests on its
-  -- file; tools and tree are told as in the state, and no tool runs. No fault of the disk was counted.
+  -- file; tools and tree are told as in the state, and no tool runs. No fault of the disk was counted. Where what was held of nodes at the start is true,
+  -- what is kept of them is known.
   pub record SessionInvariant (first : SessionState) (start : Told Disk) (code : Engaged) (state : SessionState) (now : Told Disk) : Type 0 where
     pub graph : code.graph ≡ g
     pub jobs : code.jobs ≡ limit
     pub few : limit ≤ 64
     pub held : held_in code.store ≡ state.held
+    pub knows : RecordsAreTrue g from → KnowsStore g code.store
     pub tools : now.tools ≡ state.tools
     pub tree : now.tree ≡ state.tree
     pub stay : ToolsStay start.tools now.tools
@@ -166,6 +186,7 @@ module _ {Disk : Type 0} (disk : DiskView Disk) (g : Graph) (text : Text) (limit
     pub written : IsQuiet (disk.told start.disk) → HasWritten disk.told text state.changes start.disk code.store now.disk
     pub within : now.over ≡ None
 
+module _ {Disk : Type 0} (disk : DiskView Disk) (g : Graph) (text : Text) (limit : ℕ) where
   -- its disk failed, or a batch didn't fit
   abbrev pub StoreFailed : Told Disk → Told Disk → Type 0
   StoreFailed start now = Rose (disk.faults start.disk) (disk.faults now.disk) ⊎ (now.over ≢ None)
@@ -185,14 +206,15 @@ module _ {Disk : Type 0} (disk : DiskView Disk) (g : Graph) (text : Text) (limit
         ⊎ (StoreFailed start now × LacksLast disk.told first.held furthest.changes start.disk now.disk)
     pub full : (at size : ℕ) → now.over ≡ Some (at, size) → HasNoRoomForLast disk.told text furthest.changes start.disk now.disk at size
 
-  abbrev pub machine : Machine Command Engaged SessionState (Told Disk)
-  machine = record {
-    sink = λ told. told.sink;
-    Step = Step g limit;
-    MayLeave = λ state command body furthest. CommandMayLeave g limit state command body furthest;
-    Invariant = λ first start code state now. SessionInvariant first start code state now;
-    AtExit = λ first start acknowledged furthest now. StateAtExit first start acknowledged furthest now;
-  }
+-- From what is held at the start: replies to asks are said where what is held of nodes is true there.
+abbrev pub machine : {Disk : Type 0} → DiskView Disk → Held → Graph → Text → ℕ → Machine Command Engaged SessionState (Told Disk)
+machine disk from g text limit = record {
+  sink = λ told. told.sink;
+  Step = StepIf (RecordsAreTrue g from) g limit;
+  MayLeave = λ state command body furthest. CommandMayLeaveIf (RecordsAreTrue g from) g limit state command body furthest;
+  Invariant = λ first start code state now. SessionInvariant disk from g text limit first start code state now;
+  AtExit = λ first start acknowledged furthest now. StateAtExit disk g text limit first start acknowledged furthest now;
+}
 
 -- where a session may stop at a command
 abbrev pub halt_of : Stop → Halt

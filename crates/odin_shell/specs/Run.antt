@@ -46,16 +46,16 @@ pub data LastLine (line : Text) (due : Ending) (before now : SinkTold) : Ending 
 -- its file has, by the way it ended. At 0 its input was read to the end, or up to the command that ends the run.
 abbrev pub SessionLeaves : {D : Type 0} → DiskView D → Graph → Text → ℕ → Held → Ending → Option (List ℕ) → Option (List ℕ) → Told D → Told D → Type 0
 SessionLeaves disk g text limit held Whole input left start now =
-    HasRead (EndsWhole commands (machine disk g text limit) (at_first held start.tools start.tree) start now) input left
-    ⊎ HasRead (EndsAtWord commands (machine disk g text limit) (at_first held start.tools start.tree) start now) input left
-SessionLeaves disk g text limit held CutShort input left start now = HasRead (EndsCutShort commands (machine disk g text limit) (at_first held start.tools start.tree) start now) input left
-SessionLeaves disk g text limit held Disk input left start now = HasRead (EndsBeforeReply commands (machine disk g text limit) (at_first held start.tools start.tree) start now) input left
-SessionLeaves disk g text limit held Memory input left start now = HasRead (EndsBeforeReply commands (machine disk g text limit) (at_first held start.tools start.tree) start now) input left
-SessionLeaves disk g text limit held Output input left start now = HasRead (EndsWithinReply commands (machine disk g text limit) (at_first held start.tools start.tree) start now) input left
-SessionLeaves disk g text limit held Input input left start now = HasRead (EndsUnread commands (machine disk g text limit) (at_first held start.tools start.tree) start now) input left
+    HasRead (EndsWhole commands (machine disk held g text limit) (at_first held start.tools start.tree) start now) input left
+    ⊎ HasRead (EndsAtWord commands (machine disk held g text limit) (at_first held start.tools start.tree) start now) input left
+SessionLeaves disk g text limit held CutShort input left start now = HasRead (EndsCutShort commands (machine disk held g text limit) (at_first held start.tools start.tree) start now) input left
+SessionLeaves disk g text limit held Disk input left start now = HasRead (EndsBeforeReply commands (machine disk held g text limit) (at_first held start.tools start.tree) start now) input left
+SessionLeaves disk g text limit held Memory input left start now = HasRead (EndsBeforeReply commands (machine disk held g text limit) (at_first held start.tools start.tree) start now) input left
+SessionLeaves disk g text limit held Output input left start now = HasRead (EndsWithinReply commands (machine disk held g text limit) (at_first held start.tools start.tree) start now) input left
+SessionLeaves disk g text limit held Input input left start now = HasRead (EndsUnread commands (machine disk held g text limit) (at_first held start.tools start.tree) start now) input left
 SessionLeaves disk g text limit held (Full at size) input left start now =
-    HasRead (EndsBeforeReply commands (machine disk g text limit) (at_first held start.tools start.tree) start (record now { over = Some (at, size) })) input left
-SessionLeaves disk g text limit held TooLong input left start now = HasRead (EndsAtLimit commands (machine disk g text limit) (at_first held start.tools start.tree) start now) input left
+    HasRead (EndsBeforeReply commands (machine disk held g text limit) (at_first held start.tools start.tree) start (record now { over = Some (at, size) })) input left
+SessionLeaves disk g text limit held TooLong input left start now = HasRead (EndsAtLimit commands (machine disk held g text limit) (at_first held start.tools start.tree) start now) input left
 SessionLeaves disk g text limit held other input left start now = ⊥
 
 -- the count of the input's faults rises at this ending alone

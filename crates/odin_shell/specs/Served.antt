@@ -9,6 +9,8 @@ use Rattle.odin_bytes.specs.declared.commands.Command.{Command}
 use Rattle.odin_bytes.specs.declared.commands.Command.TheVariants.{Ask}
 use Rattle.odin_journal.specs.Rest.{IsReady}
 use Rattle.odin_journal.specs.declared.fault.JournalFault.{JournalFault}
+use Rattle.odin_store.specs.Held.{Held}
+use Rattle.kept_derive.specs.Knowing.{RecordsAreTrue}
 use Rattle.odin_engine.specs.Engaged.{Engaged}
 use Rattle.odin_answers.specs.Edits.{TreeTold}
 use Rattle.odin_shell.specs.declared.stop.Stop.{Stop}
@@ -16,7 +18,7 @@ use Rattle.odin_shell.specs.declared.stop.Stop.TheVariants as stop
 use Rattle.odin_shell.specs.Endings.{stop_of}
 use Rattle.odin_outside.specs.declared.disk.Disk.{Ghosts as DiskView}
 use Rattle.odin_shell.specs.Language.{commands}
-use Rattle.odin_shell.specs.Machine.{SessionState, Told, Step, CommandMayLeave, SessionInvariant, StateAtExit, told_with_stop}
+use Rattle.odin_shell.specs.Machine.{SessionState, Told, StepIf, CommandMayLeaveIf, SessionInvariant, StateAtExit, told_with_stop}
 
 -- all that is told between two commands
 abbrev pub telling : {D : Type 0} → SinkTold → Spawned → TreeTold → D → Told D
@@ -41,27 +43,27 @@ CountsStop other before after = after ≡ before
 
 module _ {D : Type 0} (disk : DiskView D) where
   -- The command with the bytes that were kept of it gets this reply, and what comes after it fits; and it may be left before that.
-  pub record HasStepped (g : Graph) (text : Text) (limit : ℕ) (first : SessionState) (start : Told D) (state : SessionState) (command : Command) (body reply : List ℕ) (code : Engaged) (now : Told D) : Type 0 where
+  pub record HasStepped (from : Held) (g : Graph) (text : Text) (limit : ℕ) (first : SessionState) (start : Told D) (state : SessionState) (command : Command) (body reply : List ℕ) (code : Engaged) (now : Told D) : Type 0 where
     pub new : SessionState
-    pub step : Step g limit state command body reply new
-    pub fits : SessionInvariant disk g text limit first start code new now
+    pub step : StepIf (RecordsAreTrue g from) g limit state command body reply new
+    pub fits : SessionInvariant disk from g text limit first start code new now
     pub left : StateAtExit disk g text limit first start state new now
 
   abbrev pub Answers : Engaged → Command → List ℕ → Told D → List ℕ → Engaged → Told D → Type 0
   Answers code command kept told reply code' told' =
-      (g : Graph) (text : Text) (limit : ℕ) (first : SessionState) (start : Told D) (state : SessionState) (body : List ℕ) → SameBody commands command body kept
-      → SessionInvariant disk g text limit first start code state told → HasStepped g text limit first start state command body reply code' told'
+      (from : Held) (g : Graph) (text : Text) (limit : ℕ) (first : SessionState) (start : Told D) (state : SessionState) (body : List ℕ) → SameBody commands command body kept
+      → SessionInvariant disk from g text limit first start code state told → HasStepped from g text limit first start state command body reply code' told'
 
   -- The command gets no reply, for a fault of the store or for want of memory, and this may be left of it.
-  pub record HasHalted (g : Graph) (text : Text) (limit : ℕ) (first : SessionState) (start : Told D) (state : SessionState) (command : Command) (body : List ℕ) (now : Told D) : Type 0 where
+  pub record HasHalted (from : Held) (g : Graph) (text : Text) (limit : ℕ) (first : SessionState) (start : Told D) (state : SessionState) (command : Command) (body : List ℕ) (now : Told D) : Type 0 where
     pub furthest : SessionState
-    pub may : CommandMayLeave g limit state command body furthest
+    pub may : CommandMayLeaveIf (RecordsAreTrue g from) g limit state command body furthest
     pub exit : StateAtExit disk g text limit first start state furthest now
 
   abbrev pub HaltsCommand : Engaged → Command → List ℕ → Told D → JournalFault → Told D → Type 0
   HaltsCommand code command kept told why told' =
-      (g : Graph) (text : Text) (limit : ℕ) (first : SessionState) (start : Told D) (state : SessionState) (body : List ℕ) → SameBody commands command body kept
-      → SessionInvariant disk g text limit first start code state told → HasHalted g text limit first start state command body (told_with_stop (stop_of why) told')
+      (from : Held) (g : Graph) (text : Text) (limit : ℕ) (first : SessionState) (start : Told D) (state : SessionState) (body : List ℕ) → SameBody commands command body kept
+      → SessionInvariant disk from g text limit first start code state told → HasHalted from g text limit first start state command body (told_with_stop (stop_of why) told')
 
   -- ---- the object of a text, whatever was kept of the command, and whatever is told of sink and tree
 

@@ -1,6 +1,6 @@
 // Laws over inputs and sessions.
 ghost use Rattle.odin_shell.specs.Crashes.{ImagesHoldOurs};
-ghost use Rattle.odin_shell.specs.Laws.{InputIsCutOnce, SourcesStay, EachIsOpened, OpenedIsOne, HeldIsMade, KeptStaysTrue, RefusalsAreCounted, TranscriptIsOne};
+ghost use Rattle.odin_shell.specs.Laws.{InputIsCutOnce, SourcesStay, EachIsOpened, OpenedIsOne, HeldIsMade, KeptStaysTrue, RecordsStayTrue, RefusalsAreCounted, TranscriptIsOne, TrustIsMet};
 
 use odin_outside::Disk;
 
@@ -34,6 +34,16 @@ pub fn kept_stays_true()
     ensures { KeptStaysTrue }
 {}
 
+/// Where what was held of nodes is true, it stays true.
+pub fn records_stay_true()
+    ensures { RecordsStayTrue }
+{}
+
+/// Where what was held of nodes at the start is true, all that is said of replies to asks is said without that condition.
+pub fn trust_is_met()
+    ensures { TrustIsMet }
+{}
+
 /// There are at most as many replies `refused tool start` as the count of the tools' faults rose, and at most as many `refused read` as
 /// that of the tree rose.
 pub fn refusals_are_counted()
@@ -49,7 +59,8 @@ pub fn transcript_is_one()
 
 /// Whenever a session is stopped, each image that a crash may leave stands for what the first of its changes made, with all that are
 /// acknowledged; and each call that is kept in it was kept at the start, or is one of the node of an ask of the session. Where the tools answer
-/// by a table, all of them are true, and those that were not kept at the start are calls of their nodes by the table.
+/// by a table, all of them are true, and those that were not kept at the start are calls of their nodes by the table. What it has of nodes
+/// is true where it was at the start.
 pub fn images_hold_calls_of_asks<D: Disk>()
     ensures { ImagesHoldOurs D.Disk }
 {}

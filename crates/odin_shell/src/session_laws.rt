@@ -2,7 +2,7 @@
 ghost use Rattle.odin_shell.specs.Complete.{RunsComplete};
 ghost use Rattle.odin_shell.specs.Fresh.{RunIsFresh};
 ghost use Rattle.odin_shell.specs.Objects.{views};
-ghost use Rattle.odin_shell.specs.Once.{NeverTwice, AnswersSurvive};
+ghost use Rattle.odin_shell.specs.Once.{NeverTwice, AnswersSurvive, RecordsSurvive};
 
 use odin_answers::laws::asked_again;
 use odin_outside::{Disk, Sink, Source, Spawner, Tree};
@@ -28,6 +28,12 @@ pub fn answers_survive<D: Disk>()
 {
     asked_again();
 }
+
+/// What was answered and acknowledged has its record: whatever image a crash leaves at an exit, what it stands for has a record of the node
+/// of each object that was answered, unless that is a source.
+pub fn records_survive<D: Disk>()
+    ensures { RecordsSurvive D.Disk }
+{}
 
 /// A run comes to its end with all replies written, where its words, its graph, its store and its input are sound, and no fault is counted:
 /// but for want of memory, and for a store that is full.

@@ -1,5 +1,5 @@
-use Rattle.odin_shell.proofs.MadeLemmas.{is_made, left_made}
+use Rattle.odin_shell.proofs.MadeLemmas.{held_made}
 use Rattle.odin_shell.proofs.laws.held_is_made.Goals as goal
 
 pub returns : goal.returns
-returns c = record { replied = is_made; left = left_made }
+returns c = held_made

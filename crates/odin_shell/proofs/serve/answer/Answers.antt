@@ -75,7 +75,7 @@ returns-in_ok-plan-in-Plan-clause-ok g c =
 
 pub returns-in_err-plan-in-Plan-clause-err : goal.returns-in_err-plan-in-Plan-clause-err
 returns-in_err-plan-in-Plan-clause-err g c =
-    at_stop _ fault.Memory _ c.from_residual.ensures.1 (unshown _ _ _ (command.Plan c.in-Plan.text) _ _ _ _ (sym c.into_parts-command.ensures.command ∙ c.in-Plan.is) (λ on limit state body. refl))
+    at_stop _ fault.Memory _ c.from_residual.ensures.1 (unshown _ _ _ (command.Plan c.in-Plan.text) _ _ _ _ (sym c.into_parts-command.ensures.command ∙ c.in-Plan.is) (λ trust on limit state body. refl))
 
 pub returns-in_ok-list-in-Sources-clause-ok : goal.returns-in_ok-list-in-Sources-clause-ok
 returns-in_ok-list-in-Sources-clause-ok g c =
@@ -83,7 +83,7 @@ returns-in_ok-list-in-Sources-clause-ok g c =
 
 pub returns-in_err-list-in-Sources-clause-err : goal.returns-in_err-list-in-Sources-clause-err
 returns-in_err-list-in-Sources-clause-err g c =
-    at_stop _ fault.Memory _ c.from_residual-in_err-list-in-Sources.ensures.1 (unshown _ _ _ command.Sources _ _ _ _ (sym c.into_parts-command.ensures.command ∙ c.in-Sources.is) (λ on limit state body. refl))
+    at_stop _ fault.Memory _ c.from_residual-in_err-list-in-Sources.ensures.1 (unshown _ _ _ command.Sources _ _ _ _ (sym c.into_parts-command.ensures.command ∙ c.in-Sources.is) (λ trust on limit state body. refl))
 
 pub returns-in_ok-text_of-in-Kept-clause-ok : goal.returns-in_ok-text_of-in-Kept-clause-ok
 returns-in_ok-text_of-in-Kept-clause-ok g c =
@@ -92,36 +92,36 @@ returns-in_ok-text_of-in-Kept-clause-ok g c =
 
 pub returns-in_err-text_of-in-Kept-clause-err : goal.returns-in_err-text_of-in-Kept-clause-err
 returns-in_err-text_of-in-Kept-clause-err g c =
-    at_stop _ fault.Memory _ c.from_residual-in_err-text_of-in-Kept.ensures.1 (unshown _ _ _ command.Kept _ _ _ _ (sym c.into_parts-command.ensures.command ∙ c.in-Kept.is) (λ on limit state body. refl))
+    at_stop _ fault.Memory _ c.from_residual-in_err-text_of-in-Kept.ensures.1 (unshown _ _ _ command.Kept _ _ _ _ (sym c.into_parts-command.ensures.command ∙ c.in-Kept.is) (λ trust on limit state body. refl))
 
 pub returns-in_ok-text_of-in-Quit-clause-ok : goal.returns-in_ok-text_of-in-Quit-clause-ok
 returns-in_ok-text_of-in-Quit-clause-ok g c =
     shown _ _ _ command.Quit _ _ _ _ (sym c.into_parts-command.ensures.command ∙ c.in-Quit.is) _
-    (λ told. same_answers _ _ command.Quit _ _ told (λ on limit state body graph held. (c.in_ok-text_of-in-Quit.ensures, refl)))
+    (λ told. same_answers _ _ command.Quit _ _ told (λ trust on limit state body graph held. (c.in_ok-text_of-in-Quit.ensures, refl)))
 
 pub returns-in_err-text_of-in-Quit-clause-err : goal.returns-in_err-text_of-in-Quit-clause-err
 returns-in_err-text_of-in-Quit-clause-err g c =
-    at_stop _ fault.Memory _ c.from_residual-in_err-text_of-in-Quit.ensures.1 (unshown _ _ _ command.Quit _ _ _ _ (sym c.into_parts-command.ensures.command ∙ c.in-Quit.is) (λ on limit state body. refl))
+    at_stop _ fault.Memory _ c.from_residual-in_err-text_of-in-Quit.ensures.1 (unshown _ _ _ command.Quit _ _ _ _ (sym c.into_parts-command.ensures.command ∙ c.in-Quit.is) (λ trust on limit state body. refl))
 
 pub returns-in-Nothing-clause-ok : goal.returns-in-Nothing-clause-ok
 returns-in-Nothing-clause-ok g c =
-    shown _ _ _ command.Nothing _ _ _ _ (sym c.into_parts-command.ensures.command ∙ c.in-Nothing.is) _ (λ told. same_answers _ _ command.Nothing _ _ told (λ on limit state body graph held. (c.new.ensures, refl)))
+    shown _ _ _ command.Nothing _ _ _ _ (sym c.into_parts-command.ensures.command ∙ c.in-Nothing.is) _ (λ told. same_answers _ _ command.Nothing _ _ told (λ trust on limit state body graph held. (c.new.ensures, refl)))
 
 pub returns-in_ok-text_of-in-Bad-clause-ok : goal.returns-in_ok-text_of-in-Bad-clause-ok
 returns-in_ok-text_of-in-Bad-clause-ok g c =
     shown _ _ _ command.Bad _ _ _ _ (sym c.into_parts-command.ensures.command ∙ c.in-Bad.is) _
-    (λ told. same_answers _ _ command.Bad _ _ told (λ on limit state body graph held. (c.in_ok-text_of-in-Bad.ensures, refl)))
+    (λ told. same_answers _ _ command.Bad _ _ told (λ trust on limit state body graph held. (c.in_ok-text_of-in-Bad.ensures, refl)))
 
 pub returns-in_err-text_of-in-Bad-clause-err : goal.returns-in_err-text_of-in-Bad-clause-err
 returns-in_err-text_of-in-Bad-clause-err g c =
-    at_stop _ fault.Memory _ c.from_residual-in_err-text_of-in-Bad.ensures.1 (unshown _ _ _ command.Bad _ _ _ _ (sym c.into_parts-command.ensures.command ∙ c.in-Bad.is) (λ on limit state body. refl))
+    at_stop _ fault.Memory _ c.from_residual-in_err-text_of-in-Bad.ensures.1 (unshown _ _ _ command.Bad _ _ _ _ (sym c.into_parts-command.ensures.command ∙ c.in-Bad.is) (λ trust on limit state body. refl))
 
 pub returns-in_ok-refuse_name-in-BadName-clause-ok : goal.returns-in_ok-refuse_name-in-BadName-clause-ok
 returns-in_ok-refuse_name-in-BadName-clause-ok g c =
     shown _ _ _ (command.BadName c.in-BadName.count) _ _ _ _ (sym c.into_parts-command.ensures.command ∙ c.in-BadName.is) _
-    (λ told. same_answers _ _ (command.BadName c.in-BadName.count) _ _ told (λ on limit state body graph held. (c.in_ok-refuse_name-in-BadName.ensures, refl)))
+    (λ told. same_answers _ _ (command.BadName c.in-BadName.count) _ _ told (λ trust on limit state body graph held. (c.in_ok-refuse_name-in-BadName.ensures, refl)))
 
 pub returns-in_err-refuse_name-in-BadName-clause-err : goal.returns-in_err-refuse_name-in-BadName-clause-err
 returns-in_err-refuse_name-in-BadName-clause-err g c =
     at_stop _ fault.Memory _ c.from_residual-in_err-refuse_name-in-BadName.ensures.1
-    (unshown _ _ _ (command.BadName c.in-BadName.count) _ _ _ _ (sym c.into_parts-command.ensures.command ∙ c.in-BadName.is) (λ on limit state body. refl))
+    (unshown _ _ _ (command.BadName c.in-BadName.count) _ _ _ _ (sym c.into_parts-command.ensures.command ∙ c.in-BadName.is) (λ trust on limit state body. refl))
