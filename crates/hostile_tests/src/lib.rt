@@ -7,6 +7,8 @@ mod calls;
 #[cfg(test)]
 mod limits;
 #[cfg(test)]
+mod records;
+#[cfg(test)]
 mod runs;
 #[cfg(test)]
 mod sessions;
