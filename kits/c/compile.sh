@@ -23,4 +23,10 @@ done < kits/c/include
 # The words of the flags stand in lines and between blanks; no pattern of names is meant.
 set -f
 "$compiler" -x "$language" $(cat kits/c/flags "$own") $debug "$@" -ffile-prefix-map="$PWD"=. -fdiagnostics-plain-output \
-    -c "./$unit" -o out.o 2> warnings || exit 2
+    -c "./$unit" -o out.o 2> warnings && exit 0
+# Errors of the unit end with 1. Else the compiler failed, which another run may not: nothing is kept.
+if [ $? -ne 1 ] || grep -qE 'signal terminated program|No space left on device' warnings; then
+    cat warnings >&2
+    : > no-outcome
+fi
+exit 2
