@@ -76,12 +76,13 @@ fn a_disk_that_fails_at_any_call_loses_nothing(rt: HostRuntime) -> Result<(), Fa
             break;
         }
         failed = call;
-        assert!(rt; told.as_slice() == b"disk\n".as_slice(), "call {call}");
+        // what a target before it has written stands after that
+        assert!(rt; told.as_slice().starts_with(b"disk\n"), "call {call}");
         let (told, _, _) = build_whole(rt.alloc(), image.as_slice())?;
         assert!(rt; told.as_slice() == BUILT, "after call {call}");
     }
-    // the graph, three sources and three outcomes are written by four calls each, after those that open the file
-    assert!(rt; 28 < failed && failed < 99);
+    // the graph, three sources, three outcomes and what is noted for a target are written by four calls each, after those that open the file
+    assert!(rt; 32 < failed && failed < 99);
     Ok(())
 }
 
