@@ -74,15 +74,20 @@ impl Core {
         steps: &mut Steps<L>,
     ) -> Result<(), Memory>
         requires made { plans.now ≡ plans_of graph.now }
-        requires ground { MayGoBy (keeping_of looks.now.kept.now epoch) graph.now sources.now.texts }
-        requires formed { let at = kept_world looks.now.kept.now epoch graph.now sources.now.texts in
+        requires ground { MayGoBy (keeping_of looks.now.kept.now epoch)
+            graph.now sources.now.texts }
+        requires formed { let at = kept_world looks.now.kept.now epoch
+            graph.now sources.now.texts in
             IsFormed (at self.old.given) self.old }
         ensures on { ExtendsWalk self.old self.new }
-        ensures formed { let at = kept_world looks.now.kept.now epoch graph.now sources.now.texts in
+        ensures formed { let at = kept_world looks.now.kept.now epoch
+            graph.now sources.now.texts in
             IsFormed (at self.new.given) self.new }
-        ensures right { let at = kept_world looks.now.kept.now epoch graph.now sources.now.texts in
+        ensures right { let at = kept_world looks.now.kept.now epoch
+            graph.now sources.now.texts in
             IsRight (at self.old.given) self.old → IsRight (at self.new.given) self.new }
-        ensures advanced { let at = kept_world looks.now.kept.now epoch graph.now sources.now.texts in
+        ensures advanced { let at = kept_world looks.now.kept.now epoch
+            graph.now sources.now.texts in
             IsRight (at self.old.given) self.old →
             OnOk result (IsAdvanced (at self.new.given) self.new) }
         ensures counted { LooksAreFew (met_by self.old) (met_by self.new)
@@ -104,14 +109,18 @@ impl Core {
     ) -> Result<(), Memory>
         requires ground { MayGoBy (keeping_of looks.now.kept.now epoch)
             planned.now sources.now.texts }
-        requires formed { let at = kept_world looks.now.kept.now epoch planned.now sources.now.texts in
+        requires formed { let at = kept_world looks.now.kept.now epoch
+            planned.now sources.now.texts in
             IsFormed (at self.old.given) self.old }
         ensures on { ExtendsWalk self.old self.new }
-        ensures formed { let at = kept_world looks.now.kept.now epoch planned.now sources.now.texts in
+        ensures formed { let at = kept_world looks.now.kept.now epoch
+            planned.now sources.now.texts in
             IsFormed (at self.new.given) self.new }
-        ensures right { let at = kept_world looks.now.kept.now epoch planned.now sources.now.texts in
+        ensures right { let at = kept_world looks.now.kept.now epoch
+            planned.now sources.now.texts in
             IsRight (at self.old.given) self.old → IsRight (at self.new.given) self.new }
-        ensures advanced { let at = kept_world looks.now.kept.now epoch planned.now sources.now.texts in
+        ensures advanced { let at = kept_world looks.now.kept.now epoch
+            planned.now sources.now.texts in
             IsRight (at self.old.given) self.old →
             OnOk result (IsAdvanced (at self.new.given) self.new) }
         ensures counted { LooksAreFew (met_by self.old) (met_by self.new)
