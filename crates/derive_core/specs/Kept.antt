@@ -16,6 +16,7 @@ keeping_of kept epoch = record {
   outcomes = kept_outcome kept.tables.calls;
   contents = λ number. slice_get kept.tables.contents number;
   records = λ n. record_of n kept.records.records;
+  placed = λ place. slice_get kept.records.records place;
   epoch = epoch;
 }
 

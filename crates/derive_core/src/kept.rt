@@ -27,8 +27,12 @@ impl Known for KeptTables<'_> {
         self.looks.outcome(alloc, call, steps)
     }
 
-    fn record(&self, node: &Node) -> Option<&NodeRecord> {
-        self.looks.get(node)
+    fn find<L: Ledger>(&self, node: &Node, steps: &mut Steps<L>) -> Option<u64> {
+        self.looks.find(node, steps)
+    }
+
+    fn at(&self, place: u64) -> Option<&NodeRecord> {
+        self.looks.record_at(place)
     }
 
     fn epoch(&self) -> u64 {

@@ -1,5 +1,5 @@
 // The walk from a root over what is kept.
-ghost use Rattle.std.specs.Prelude.{◌≡◌, OnOk, OnErr, option_map};
+ghost use Rattle.std.specs.Prelude.{◌≡◌, ◌+◌, OnOk, OnErr, option_map};
 ghost use Rattle.meaning_graph.specs.Graphs.{Graph as GraphValue};
 ghost use Rattle.meaning_texts.specs.Lists.{IsIn};
 ghost use Rattle.meaning_calls.specs.Outcomes.{OutcomeFits};
@@ -8,7 +8,7 @@ ghost use Rattle.meaning_derive.specs.Derive.{Sources as SourceTexts};
 ghost use Rattle.meaning_derive.specs.Given.{OutcomesFit};
 ghost use Rattle.path_planner.specs.Ends.{plans_of};
 ghost use Rattle.derive_walk.specs.Keeping.{Keeping};
-ghost use Rattle.derive_walk.specs.Looks.{LooksAreFew, lost, met_by};
+ghost use Rattle.derive_walk.specs.Looks.{TakesLooks, looks_by, lost, spare_for};
 ghost use Rattle.derive_walk.specs.Settings.{MayGoBy, world_by};
 ghost use Rattle.derive_walk.specs.Walks.{IsFormed, IsRight, IsAdvanced, IsPlacedIn, ExtendsWalk, OutcomeIsGiven, new_walk};
 ghost use Rattle.derive_walk.specs.Worlds.{World, KnowsIn};
@@ -61,8 +61,8 @@ impl Core {
     }
 
     /// Settles all that needs no further tool: then there is a result, or what is wanted is what the
-    /// derivation stops at. After want of memory it may be called again. Each look at a kept call is a step.
-    /// A record that was checked at this epoch gives its node as it stands.
+    /// derivation stops at. After want of memory it may be called again. Each look at a kept call is a step, and
+    /// each at a node, which is looked at once. A record that was checked at this epoch gives its node as it stands.
     pub fn advance<L: Ledger>(
         &mut self,
         alloc: Global,
@@ -90,8 +90,8 @@ impl Core {
             graph.now sources.now.texts in
             IsRight (at self.old.given) self.old →
             OnOk result (IsAdvanced (at self.new.given) self.new) }
-        ensures counted { LooksAreFew (met_by self.old) (met_by self.new)
-            steps.old steps.new (lost result) }
+        ensures counted { TakesLooks (looks_by self.old) (looks_by self.new)
+            steps.old steps.new (lost result + spare_for self.new.looked self.new.result) }
     {
         let planned = PlannedGraph::new(graph, plans);
         self.advance_in(alloc, &planned, sources, looks, epoch, steps)
@@ -123,8 +123,8 @@ impl Core {
             planned.now sources.now.texts in
             IsRight (at self.old.given) self.old →
             OnOk result (IsAdvanced (at self.new.given) self.new) }
-        ensures counted { LooksAreFew (met_by self.old) (met_by self.new)
-            steps.old steps.new (lost result) }
+        ensures counted { TakesLooks (looks_by self.old) (looks_by self.new)
+            steps.old steps.new (lost result + spare_for self.new.looked self.new.result) }
     {
         let known = KeptTables { looks, epoch };
         self.walker.advance(alloc, planned, sources, &known, steps)

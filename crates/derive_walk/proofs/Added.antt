@@ -77,6 +77,7 @@ module _ (w : World) (walk : Walk) (holds : HoldsIn w walk) where
         → next ≡ record walk { done = walk.done ++ (n, d) ∷ []; fresh = fresh; renewed = renewed } → HoldsIn w next
     holds_with_done fresh renewed rightly next same = subst (HoldsIn w) (sym same) (record {
       knows = holds.knows;
+      may = holds.may;
       rightly = rightly;
       done = are_done;
       met = are_met;
@@ -95,6 +96,7 @@ module _ (w : World) (walk : Walk) (holds : HoldsIn w walk) where
       done = holds.done;
       met = holds.met;
       rightly = holds.rightly;
+      may = holds.may;
       waiting = λ m k e. waits_on w (heights_in walk) (heights_in (record walk { waiting = walk.waiting ++ (n, h) ∷ [] })) (waiting_keeps walk.done walk.waiting n new h) walk.wanted walk.wanted (λ c i. i) m k (elim (push_from walk.waiting n h m k e) [
         | inl q ↦ holds.waiting m k q
         | inr q ↦ subst (λ z. IsWaiting w (heights_in walk) walk.wanted z k) (sym q.0) (subst (λ z. IsWaiting w (heights_in walk) walk.wanted n z) q.1 is)
@@ -112,6 +114,7 @@ module _ (w : World) (walk : Walk) (holds : HoldsIn w walk) where
     done = holds.done;
     met = holds.met;
     rightly = holds.rightly;
+    may = holds.may;
     waiting = λ m h e. waits_on w (heights_in walk) (heights_in walk) (λ n k q. q) walk.wanted wanted keep m h (holds.waiting m h e);
     one = λ m h e. let c = holds.one m h e in (c.0, keep c.0 c.1);
     only = λ c i. elim (from_put call c walk.wanted (subst (λ l. IsIn c l) same i)) [

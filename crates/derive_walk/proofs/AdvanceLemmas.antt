@@ -7,14 +7,11 @@ use Rattle.derive_walk.specs.Calls.{GivenOutcomes}
 use Rattle.derive_walk.specs.declared.walk.Walk.{Walk}
 use Rattle.meaning_derive.specs.Given.{OutcomesFit}
 use Rattle.derive_walk.specs.Founds.{IsFound, NodesFit}
+use Rattle.derive_walk.specs.Looked.{AreTaken}
 use Rattle.derive_walk.specs.States.{IsFormedIn, HoldsIn, GoesOnFrom}
 use Rattle.derive_walk.specs.Walks.{Walked, IsFormed, IsRight, ExtendsWalk}
 use Rattle.derive_walk.specs.Worlds.{World}
-use Rattle.derive_walk.proofs.RootLemmas.{formed_at_end, right_at_end}
-
--- the walk as its callers see it
-abbrev pub seen_so : Walk → GivenOutcomes → Option Found → Walked
-seen_so walk given result = record { root = walk.root; done = walk.done; fresh = walk.fresh; renewed = walk.renewed; given = given; wanted = walk.wanted; result = result }
+use Rattle.derive_walk.proofs.RootLemmas.{seen_so, formed_at_end, right_at_end}
 
 module _ (start new : Walk) (on : GoesOnFrom start new) (given : GivenOutcomes) (old : Option Found) where
   pub goes_on : is_some old ≡ false → (result : Option Found) → (now : Walked) → seen_so start given old ≡ now → ExtendsWalk now (seen_so new given result)
@@ -31,8 +28,9 @@ module _ (start new : Walk) (on : GoesOnFrom start new) (given : GivenOutcomes) 
   stays_formed w fit formed result found = formed_at_end w new formed fit given result found
 
   -- what is right
-  pub stays_right : (w : World) → IsRight w (seen_so start given old) → IsFormedIn w new → HoldsIn w new → (result : Option Found) → IfSome result (IsFound w.graph w.sources w.outcomes new.root) → IsRight w (seen_so new given result)
-  stays_right w right formed holds result found = right_at_end w new holds formed.told right.fit (subst (λ r. Fits w.graph r) (sym on.root) right.root) given result found
+  pub stays_right : (w : World) → IsRight w (seen_so start given old) → IsFormedIn w new → HoldsIn w new → AreTaken w given new.looked new.done new.wanted new.taken
+      → (result : Option Found) → IfSome result (IsFound w.graph w.sources w.outcomes new.root) → IsRight w (seen_so new given result)
+  stays_right w right formed holds taken result found = right_at_end w new holds formed right.fit (subst (λ r. Fits w.graph r) (sym on.root) right.root) given taken result found
 
   pub still_found : (w : World) → IsRight w (seen_so start given old) → IfSome old (IsFound w.graph w.sources w.outcomes new.root)
   still_found w right = subst (λ r. IfSome old (IsFound w.graph w.sources w.outcomes r)) (sym on.root) right.found

@@ -3,7 +3,6 @@ use Rattle.std.proofs.Common.{◌≡◌, ℕ, zero, suc, ◌≤◌, ◌<◌, ◌
 use Rattle.std.proofs.lemmas.Option.{slice_get-map}
 use Rattle.std.specs.Prelude.{Option, Some, None, option_map}
 use Rattle.object_values.specs.declared.facts.FactDep.{FactDep}
-use Rattle.object_values.specs.declared.messages.Status.{Status}
 use Rattle.object_values.specs.declared.nodes.Node.{Node}
 use Rattle.object_values.specs.declared.records.Dep.{Dep}
 use Rattle.object_values.specs.declared.records.NodeRecord.{NodeRecord}
@@ -92,7 +91,7 @@ pub next_stored : (keeping : Keeping) (g : Graph) (s : Sources) (given : GivenOu
 next_stored keeping g s given n r so next told = record {
   checked = record {
     kept = kept_by keeping.contents keeping.epoch r;
-    is = ap (option_map (kept_by keeping.contents keeping.epoch)) so.is;
+    is = so.is.is;
     checked = so.checked;
   };
   is = told ∙ ap (λ l. node_at l r.present.tight) (nodes_by keeping.contents r.deps);

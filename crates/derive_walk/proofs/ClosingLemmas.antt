@@ -8,6 +8,7 @@ use Rattle.meaning_texts.specs.Limits.{height_limit}
 use Rattle.meaning_texts.specs.Lists.{IsIn}
 use Rattle.meaning_texts.proofs.Lemmas.{same_some, in_right}
 use Rattle.meaning_tasks.specs.Nodes.{Fits}
+use Rattle.meaning_tasks.specs.Calls.{CallOf}
 use Rattle.meaning_tasks.specs.Laws.{AgreeAt}
 use Rattle.meaning_derive.specs.Chains.{Chain, IsNeed, IsMet}
 use Rattle.meaning_derive.specs.Derive.{derive, HasHeight}
@@ -97,16 +98,19 @@ module _ (w : World) (walk : Walk) (holds : HoldsIn w walk) (n : Node) {needed :
         has = subst (λ k. HasHeight w.graph w.sources w.outcomes n k) up (height_above w.graph w.sources w.outcomes n h le (subst IsSome (sym is) refl) one);
       }
 
-  -- stopped: its call runs
-  pub stopped_runs : (call : Call) → NodeHasStopped w n (results_of walk.done) call → Runs w.graph (seen_in w) n call
-  stopped_runs call so =
+  -- its call runs
+  pub called_runs : (call : Call) → CallOf w.graph n (results_of walk.done) (Some call) → Runs w.graph (seen_in w) n call
+  called_runs call called =
       let c = carried w walk holds n closing.needs all_visited in
       record {
         needs = closing.needs;
         listed = c.needs;
         known = λ m i. subst IsSome (agrees height_limit (omega (arith, closing.above, closing.high)) m i) (known m i);
-        called = c.call (Some call) so.called;
+        called = c.call (Some call) called;
       }
+
+  pub stopped_runs : (call : Call) → NodeHasStopped w n (results_of walk.done) call → Runs w.graph (seen_in w) n call
+  stopped_runs call so = called_runs call so.called
 
   -- and it waits
   pub stopped_waits : Fits w.graph n → (call : Call) → NodeHasStopped w n (results_of walk.done) call → (wanted : List Call) → IsIn call wanted → IsWaiting w (heights_in walk) wanted n height

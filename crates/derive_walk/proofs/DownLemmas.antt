@@ -1,6 +1,6 @@
 -- The way down by falling heights.
 use Rattle.std.proofs.Common.{◌≡◌, ℕ, suc, ◌+◌, ◌≤◌, ◌<◌, ◌-◌, List, [], ◌∷◌, ◌++◌, ◌⊎◌, inl, inr, sym, ap, ◌∙◌, subst, refl, length, slice_get, arith, is_some, length-append}
-use Rattle.std.specs.Prelude.{Option, Some, IsSome, Result, Ok, Err, OnOk}
+use Rattle.std.specs.Prelude.{Option, Some, IsSome}
 use Rattle.object_values.specs.declared.nodes.Node.{Node}
 use Rattle.meaning_texts.specs.Limits.{height_limit}
 use Rattle.meaning_texts.specs.Lists.{IsIn}
@@ -10,6 +10,7 @@ use Rattle.meaning_tasks.specs.Needs.{Needs}
 use Rattle.meaning_tasks.proofs.Lemmas.{one_list_of_needs}
 use Rattle.meaning_derive.specs.Chains.{Chain, AreDifferent, IsDeep}
 use Rattle.meaning_derive.proofs.Lemmas.{chain_on}
+use Rattle.meaning_true.specs.Knowing.{IsChecked}
 use Rattle.derive_walk.specs.CheckedRecords.{tight_node}
 use Rattle.derive_walk.specs.DerivedHeights.{heights_or}
 use Rattle.derive_walk.specs.Tables.{done_in, results_of, of_height}
@@ -20,16 +21,12 @@ use Rattle.derive_walk.specs.States.{heights_in, IsFormedIn, HoldsIn}
 use Rattle.derive_walk.specs.Paths.{IsLed, IsTall, IsNextByRecord, IsNextByNeeds, IsNextDown, IsOpenDown, LeadsDown}
 use Rattle.derive_walk.proofs.FormedLemmas.{need_is_fit}
 use Rattle.derive_walk.proofs.HeightLemmas.{of_height_is, has_height}
+use Rattle.derive_walk.proofs.SourceSettles.{source_needs_none}
 use Rattle.derive_walk.proofs.NeedLemmas.{is_need, from_need}
 use Rattle.derive_walk.proofs.CheckedLemmas.{IsToldNeed, tight_fits, told_need, checked_has, checked_high, source_height}
 use Rattle.derive_walk.proofs.ChainHeights.{last_along}
 use Rattle.derive_walk.proofs.FallLemmas.{in_listed, need_fits, listed_here, in_tables, derived_at, most_high, falls, tight}
 use Rattle.derive_walk.proofs.Tables.{in_push, different_push, at_end, height_if_done, done_or_waiting}
-
--- what follows where all went well
-pub on_ok : {T E P Q : Type 0} (r : Result T E) → OnOk r P → (P → Q) → OnOk r Q
-on_ok (Ok x) p f = f p
-on_ok (Err e) p f = tt
 
 -- ---- the last of a list
 
@@ -174,10 +171,14 @@ module _ (w : World) (is : IsWorld w) (walk : Walk) (chain : List Node) (h : ℕ
   -- ---- by what it needs
 
   module _ (next : Option Node) (by : IsNextByNeeds w walk down.last h next) where
+    -- a source has no need, and what isn't checked was visited whole
+    never : (m : Node) → IsNeedIn w down.last m → IsChecked w.records down.last → ⊥
+    never m need checked = elim by.unchecked [ inl source ↦ source_needs_none w down.last (seen_in w) m source need | inr unchecked ↦ unchecked checked ]
+
     each_visited : (m : Node) → IsNeedIn w down.last m → IsSome (heights_in walk m)
-    each_visited = elim down.told [
+    each_visited m need = elim down.told [
       | inl z ↦ absurd (omega (arith, z, low))
-      | inr on ↦ elim on [ inl checked ↦ absurd (by.unchecked checked) | inr each ↦ each ]
+      | inr on ↦ elim on [ inl checked ↦ absurd (never m need checked) | inr each ↦ each m need ]
     ]
 
     full : Needs w.graph down.last (seen_in w) by.needs

@@ -74,6 +74,7 @@ module _ (w : World) (is : IsWorld w) where
   pub right_is_formed : (walked : Walked) → IsRight w walked → IsFormed w walked
   right_is_formed walked right = record {
     told = right.told;
+    looked = right.looked;
     fit = right.fit;
     root = right.root;
     done = record {

@@ -1,6 +1,6 @@
 -- A walk that is formed: its results are a map of results, and what is added to it is formed too.
 use Rattle.std.proofs.Common.{◌≡◌, ◌≤◌, ℕ, List, [], ◌∷◌, ◌++◌, inl, inr, sym, ap, ◌∙◌, subst, refl}
-use Rattle.std.specs.Prelude.{Option, Some, None, option_map}
+use Rattle.std.specs.Prelude.{◌≢◌, Option, Some, None, IsSome, option_map}
 use Rattle.object_values.specs.declared.nodes.Node.{Node}
 use Rattle.object_values.specs.declared.views.View.{View}
 use Rattle.object_values.specs.declared.calls.Call.{Call}
@@ -21,6 +21,7 @@ use Rattle.object_values.specs.declared.facts.Fresh.{Fresh}
 use Rattle.object_values.specs.declared.facts.RenewedNode.{RenewedNode}
 use Rattle.derive_walk.specs.Tables.{Entries, Waits, done_in, done_nodes, results_of}
 use Rattle.derive_walk.specs.Calls.{put_in}
+use Rattle.derive_walk.specs.Places.{place_in}
 use Rattle.derive_walk.specs.declared.walk.Walk.{Walk}
 use Rattle.derive_walk.specs.Settled.{HasSettled, NodeHasStopped}
 use Rattle.derive_walk.specs.States.{heights_in, IsFormedWait, IsFormedIn}
@@ -28,6 +29,7 @@ use Rattle.derive_walk.specs.Walks.{IsFormedDone, AreFormedDone, AreFormedCalls}
 use Rattle.derive_walk.specs.Told.{AreTold}
 use Rattle.derive_walk.specs.Worlds.{World, IsWorld}
 use Rattle.derive_walk.proofs.CallLemmas.{from_put, put_once}
+use Rattle.derive_walk.proofs.Lookups.{lookups_done}
 use Rattle.derive_walk.proofs.Tables.{push_from, different_push, nodes_push, not_among, not_done, done_or_waiting}
 
 -- ---- a table
@@ -73,7 +75,11 @@ formed_put outcomes wanted are call formed outside = record {
 
 -- the path is no part of it
 pub formed_at : (w : World) (walk : Walk) (path : List Node) → IsFormedIn w walk → IsFormedIn w (record walk { path = path })
-formed_at w walk path f = record { root = f.root; done = f.done; told = f.told; waiting = f.waiting; wanted = f.wanted }
+formed_at w walk path f = record { root = f.root; done = f.done; told = f.told; looked = f.looked; waiting = f.waiting; wanted = f.wanted }
+
+-- nor are the nodes for which an outcome was looked for
+pub formed_taking : (w : World) (walk : Walk) (taken : List Node) → IsFormedIn w walk → IsFormedIn w (record walk { taken = taken })
+formed_taking w walk taken f = record { root = f.root; done = f.done; told = f.told; looked = f.looked; waiting = f.waiting; wanted = f.wanted }
 
 module _ (w : World) (walk : Walk) (formed : IsFormedIn w walk) where
   pub low_enough : (m : Node) (k : ℕ) → heights_in walk m ≡ Some k → k ≤ height_limit
@@ -86,11 +92,12 @@ module _ (w : World) (walk : Walk) (formed : IsFormedIn w walk) where
 
   module _ (n : Node) (new : heights_in walk n ≡ None) where
     pub formed_with_done : (d : Done) → IsFormedDone w.graph n d → (fresh : List Fresh) (renewed : List RenewedNode)
-        → AreTold w (walk.done ++ (n, d) ∷ []) fresh renewed → (next : Walk) → next ≡ record walk { done = walk.done ++ (n, d) ∷ []; fresh = fresh; renewed = renewed }
+        → AreTold w (walk.done ++ (n, d) ∷ []) fresh renewed → (n.steps ≢ [] → IsSome (place_in walk.looked n)) → (next : Walk) → next ≡ record walk { done = walk.done ++ (n, d) ∷ []; fresh = fresh; renewed = renewed }
         → IsFormedIn w next
-    formed_with_done d is fresh renewed told next same = subst (IsFormedIn w) (sym same) (record {
+    formed_with_done d is fresh renewed told there next same = subst (IsFormedIn w) (sym same) (record {
       root = formed.root;
       told = told;
+      looked = lookups_done w walk.done walk.looked formed.looked n d there;
       done = formed_push w.graph walk.done formed.done n (not_done walk.done walk.waiting n new) d is;
       waiting = formed.waiting;
       wanted = formed.wanted;
@@ -102,6 +109,7 @@ module _ (w : World) (walk : Walk) (formed : IsFormedIn w walk) where
     root = formed.root;
     done = formed.done;
     told = formed.told;
+    looked = formed.looked;
     waiting = λ m k e. elim (push_from walk.waiting n h m k e) [
       | inl q ↦ formed.waiting m k q
       | inr q ↦ subst (λ z. IsFormedWait w.graph z k) (sym q.0) (subst (λ z. IsFormedWait w.graph n z) q.1 is)
@@ -115,6 +123,7 @@ module _ (w : World) (walk : Walk) (formed : IsFormedIn w walk) where
     root = formed.root;
     done = formed.done;
     told = formed.told;
+    looked = formed.looked;
     waiting = formed.waiting;
     wanted = formed_put w.outcomes walk.wanted formed.wanted call is outside;
   })

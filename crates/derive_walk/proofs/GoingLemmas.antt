@@ -11,7 +11,7 @@ use Rattle.object_values.specs.declared.facts.RenewedNode.{RenewedNode}
 use Rattle.derive_walk.specs.Tables.{Entries, Waits, done_in, results_of}
 use Rattle.derive_walk.specs.declared.walk.Walk.{Walk}
 use Rattle.derive_walk.specs.Paths.{IsLast}
-use Rattle.derive_walk.specs.States.{GoesOnFrom, Visited}
+use Rattle.derive_walk.specs.States.{GoesOnFrom, OnlyLooks, Visited}
 use Rattle.derive_walk.specs.Worlds.{World}
 use Rattle.derive_walk.proofs.Added.{KeepCalls}
 use Rattle.derive_walk.proofs.ClosingLemmas.{last_is_new}
@@ -19,7 +19,12 @@ use Rattle.derive_walk.proofs.Tables.{push_keeps, done_there, waiting_there, don
 
 -- as it is
 pub stays : (walk : Walk) → GoesOnFrom walk walk
-stays walk = record { root = refl; wanted = λ c i. i; keeps = λ m k e. e; results = λ m view e. e }
+stays walk = record { root = refl; wanted = λ c i. i; keeps = λ m k e. e; looked = λ m place e. e; results = λ m view e. e }
+
+-- with more that was looked at
+pub goes_looking : (old new : Walk) → OnlyLooks old new → GoesOnFrom old new
+goes_looking old new only = subst (GoesOnFrom old) (sym only.is)
+    (record { root = refl; wanted = λ c i. i; keeps = λ m k e. e; looked = only.stays; results = λ m view e. e })
 
 -- results stay where one comes after them
 results_grow : (done : Entries) (n : Node) (d : Done) → Grows (results_of done) (results_of (done ++ (n, d) ∷ []))
@@ -38,6 +43,7 @@ module _ (w : World) (walk : Walk) (n : Node) (last : IsLast w walk n) where
       root = refl;
       wanted = λ c i. i;
       keeps = done_keeps walk.done walk.waiting n (last_is_new w walk n last) d;
+      looked = λ m place e. e;
       results = results_grow walk.done n d;
     })
 
@@ -56,6 +62,7 @@ module _ (w : World) (walk : Walk) (n : Node) (last : IsLast w walk n) where
       root = refl;
       wanted = more;
       keeps = waiting_keeps walk.done walk.waiting n (last_is_new w walk n last) h;
+      looked = λ m place e. e;
       results = λ m view e. e;
     })
 

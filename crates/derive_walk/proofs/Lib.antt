@@ -5,6 +5,9 @@ mod TrialLemmas
 mod ListLemmas
 mod SurveyLemmas
 mod Tables
+mod CloseLooks
+mod Lookups
+mod TakenLemmas
 mod ToldLemmas
 mod Added
 mod TopLemmas
@@ -34,14 +37,16 @@ mod ChainHeights
 mod AheadLemmas
 mod VisitLemmas
 mod RoundLemmas
+mod Stays
+mod LookedLemmas
+mod PlacedRecords
 mod DownLemmas
+mod DownLooks
 mod RootLemmas
 mod AdvanceLemmas
 mod GiveLemmas
 mod FormedLemmas
 mod Formed
-mod Stays
-mod MetLemmas
 mod Starts
 mod KnowingLemmas
 pub mod Lemmas

@@ -1,121 +1,97 @@
 -- The looks of a walk, one call after another.
-use Rattle.std.proofs.Common.{◌≡◌, ℕ, ◌+◌, ◌≤◌, Bool, true, false, cond, List, [], ◌∷◌, ◌++◌, length, sym, ap, subst, arith, refl, length-append, ◌∙◌}
-use Rattle.std.specs.Prelude.{◌≢◌, ◌↔◌, IsTrue, Option, Result, Ok, Err}
-use Rattle.object_values.specs.declared.views.View.{View}
-use Rattle.object_values.specs.declared.nodes.Step.{Step}
+use Rattle.std.proofs.Common.{◌≡◌, ℕ, ◌+◌, ◌≤◌, List, length, sym, ap, subst, arith}
+use Rattle.std.specs.Prelude.{Option, Result, Err}
 use Rattle.object_values.specs.declared.nodes.Node.{Node}
-use Rattle.object_values.specs.declared.calls.Call.{Call}
-use Rattle.meaning_texts.specs.Lists.{IsIn}
-use Rattle.derive_walk.specs.declared.done.Done.{Done}
-use Rattle.object_values.specs.declared.facts.Fresh.{Fresh}
-use Rattle.object_values.specs.declared.facts.RenewedNode.{RenewedNode}
-use Rattle.derive_walk.specs.Tables.{Entries, Waits, done_nodes}
-use Rattle.derive_walk.specs.Told.{TakesSettled}
-use Rattle.derive_walk.specs.Calls.{GivenOutcomes, call_in, put_in}
-use Rattle.node_tasks.specs.declared.settling.Settled.{Settled as Whole}
+use Rattle.meaning_texts.specs.Limits.{height_limit}
 use Rattle.derive_walk.specs.declared.found.Found.{Found}
-use Rattle.derive_walk.proofs.CallLemmas.{found_in}
-use Rattle.derive_walk.specs.declared.settling.Closed.{Closed}
-use Rattle.derive_walk.specs.declared.settling.Closed.TheVariants.{Given, Settled, Stops}
 use Rattle.derive_walk.specs.declared.walk.Walk.{Walk}
+use Rattle.derive_walk.specs.Calls.{GivenOutcomes}
+use Rattle.derive_walk.specs.Looks.{GoesByLooks, LooksNoMore, TakesLooks, looks_by, looks_in, lost, spare_at}
+use Rattle.derive_walk.specs.Tables.{Waits}
 use Rattle.derive_walk.specs.Walks.{Walked}
-use Rattle.derive_walk.specs.Looks.{HasMetOne, LooksAreFew, LooksOnce, lost, met_by, met_in, met_with, one_if, count_with_steps}
-use Rattle.derive_walk.specs.Settled.{view_or_call}
-use Rattle.derive_walk.proofs.AdvanceLemmas.{seen_so}
+use Rattle.derive_walk.specs.Worlds.{World}
+use Rattle.derive_walk.proofs.RootLemmas.{seen_so}
+
+-- ---- steps
+
+-- without a step
+pub no_step : (some before spare : ℕ) → TakesLooks some some before before spare
+no_step some before spare = record { more = omega arith; least = omega arith; most = omega arith }
 
 -- one after the other
-pub few_then : (some more most before mid now spare : ℕ) → LooksAreFew some more before mid 0 → LooksAreFew more most mid now spare → LooksAreFew some most before now spare
-few_then some more most before mid now spare first second = record { later = omega (arith, first.later, second.later); each = omega (arith, first.each, second.each) }
+pub looks_then : (some more most before mid now spare : ℕ) → TakesLooks some more before mid 0 → TakesLooks more most mid now spare
+    → TakesLooks some most before now spare
+looks_then some more most before mid now spare first second = record {
+  more = omega (arith, first.more, second.more);
+  least = omega (arith, first.least, second.least);
+  most = omega (arith, first.most, second.most);
+}
 
-pub few_wider : (some more before now spare : ℕ) → LooksAreFew some more before now 0 → LooksAreFew some more before now spare
-few_wider some more before now spare few = record { later = few.later; each = omega (arith, few.each) }
+pub looks_wider : (some more before now spare wider : ℕ) → spare ≤ wider → TakesLooks some more before now spare → TakesLooks some more before now wider
+looks_wider some more before now spare wider up looks = record { more = looks.more; least = looks.least; most = omega (arith, looks.most, up) }
 
--- at want of memory one may be lost
-pub few_at : {T E : Type 0} (result : Result T E) (fault : E) (some more before now : ℕ) → result ≡ Err fault → LooksAreFew some more before now 1 → LooksAreFew some more before now (lost result)
-few_at result fault some more before now is few = subst (LooksAreFew some more before now) (sym (ap lost is)) few
+-- at want of memory some may be lost
+pub looks_lost : {T E : Type 0} (result : Result T E) (fault : E) (some more before now extra : ℕ) → result ≡ Err fault
+    → TakesLooks some more before now (height_limit + 1) → TakesLooks some more before now (lost result + extra)
+looks_lost result fault some more before now extra is looks =
+    looks_wider some more before now (height_limit + 1) (lost result + extra) (omega (arith, ap lost is)) looks
 
--- ---- a call that is wanted
+pub one_lost : {T E : Type 0} (result : Result T E) (fault : E) → result ≡ Err fault → 1 ≤ lost result
+one_lost result fault is = omega (arith, ap lost is)
 
-pub put_new : (call : Call) (wanted : List Call) → (IsIn call wanted → ⊥) → length (put_in call wanted) ≡ length wanted + 1
-put_new call wanted new = (elim (call_in call wanted) as (λ b. call_in call wanted ≡ b → length (cond b wanted (wanted ++ call ∷ [])) ≡ length wanted + 1) [
-  | true ↦ λ e. absurd (new (found_in wanted call e))
-  | false ↦ λ e. length-append wanted (call ∷ [])
-]) refl
+-- where no more was looked at
+pub no_look : (old new : Walk) → LooksNoMore old new → (before spare : ℕ) → TakesLooks (looks_in old) (looks_in new) before before spare
+no_look old new same before spare =
+    let looked = ap length same.looked in
+    let taken = ap length same.taken in
+    record { more = omega (arith, looked, taken); least = omega (arith, looked, taken); most = omega (arith, looked, taken) }
 
--- ---- nodes with steps
+-- ---- what is taken too
 
-stepped_push : (es : Entries) (n : Node) (d : Done) → count_with_steps (done_nodes (es ++ (n, d) ∷ [])) ≡ count_with_steps (done_nodes es) + one_if n.steps
-stepped_push [] n d = omega arith
-stepped_push (e ∷ es) n d = omega (arith, stepped_push es n d)
+module _ (w : World) (given : GivenOutcomes) {P : Type 0} (old : Walk) where
+  pub goes_still : (before spare : ℕ) → GoesByLooks w given P old old before before spare
+  goes_still before spare = record { steps = no_step (looks_in old) before spare; taken = λ p taken. taken }
 
--- with one node more as many were met, or more
-pub met_more : (walk : Walk) (n : Node) (d : Done) (fresh : List Fresh) (renewed : List RenewedNode) (next : Walk)
-    → next ≡ record walk { done = walk.done ++ (n, d) ∷ []; fresh = fresh; renewed = renewed } → met_in walk ≤ met_in next
-met_more walk n d fresh renewed next same = subst (λ z. met_in walk ≤ met_in z) (sym same) (omega (arith, stepped_push walk.done n d))
+  pub goes_wider : (new : Walk) (before now spare wider : ℕ) → spare ≤ wider → GoesByLooks w given P old new before now spare
+      → GoesByLooks w given P old new before now wider
+  goes_wider new before now spare wider up goes = record { steps = looks_wider (looks_in old) (looks_in new) before now spare wider up goes.steps; taken = goes.taken }
 
-one_step : (steps : List Step) → (steps ≢ []) → one_if steps ≡ 1
-one_step [] some = absurd (some refl)
-one_step (step ∷ steps) some = refl
+  -- the path is no part of it
+  pub goes_cut : (new : Walk) (before now spare : ℕ) → GoesByLooks w given P old new before now spare → (path : List Node)
+      → GoesByLooks w given P old (record new { path = path }) before now spare
+  goes_cut new before now spare goes path = record { steps = goes.steps; taken = goes.taken }
 
--- ---- the closing of one node
+  -- one after the other
+  pub goes_then : {Q : Type 0} (mid new : Walk) (before between now spare : ℕ) → GoesByLooks w given P old mid before between 0 → (P → Q)
+      → GoesByLooks w given Q mid new between now spare → GoesByLooks w given P old new before now spare
+  goes_then mid new before between now spare first from second = record {
+    steps = looks_then (looks_in old) (looks_in mid) (looks_in new) before between now spare first.steps second.steps;
+    taken = λ p taken. second.taken (from p) (first.taken p taken);
+  }
 
-module _ {E : Type 0} (wanted : List Call) (n : Node) where
-  -- by one look
-  pub looked_settled : (before now : ℕ) (whole : Whole) → n.steps ≢ [] → now ≡ before + 1 → LooksOnce {E = E} wanted n before now (Ok (Settled whole))
-  looked_settled before now whole some is = record { later = omega (arith, is); once = omega (arith, is); ok = omega (arith, is, one_step n.steps some) }
+  -- by what was so before
+  pub goes_from : {Q : Type 0} (new : Walk) (before now spare : ℕ) → (P → Q) → GoesByLooks w given Q old new before now spare
+      → GoesByLooks w given P old new before now spare
+  goes_from new before now spare from goes = record { steps = goes.steps; taken = λ p taken. goes.taken (from p) taken }
 
-  looked_stops : (before now : ℕ) (call : Call) → now ≡ before + 1 → (IsIn call wanted → ⊥) → LooksOnce {E = E} wanted n before now (Ok (Stops call))
-  looked_stops before now call is new = record { later = omega (arith, is); once = omega (arith, is); ok = omega (arith, is, put_new call wanted new) }
+  -- a chain was followed down
+  pub goes_down : (before now spare : ℕ) → before ≤ now → now ≤ before + spare → GoesByLooks w given P old old before now spare
+  goes_down before now spare later most = record {
+    steps = record { more = omega arith; least = omega (arith, later); most = omega (arith, most) };
+    taken = λ p taken. taken;
+  }
 
-  pub looked_out : (before now : ℕ) (call : Call) (there : Bool) → now ≡ before + 1 → IsTrue there ↔ IsIn call wanted → there ≡ false → LooksOnce {E = E} wanted n before now (Ok (Stops call))
-  looked_out before now call there is exact none = looked_stops before now call is (λ i. let yes : IsTrue there = exact.1 i in cc)
+  -- a node waits
+  pub goes_waiting : (waiting : Waits) (before spare : ℕ) → GoesByLooks w given P old (record old { waiting = waiting }) before before spare
+  goes_waiting waiting before spare = record { steps = no_step (looks_in old) before spare; taken = λ p taken. taken }
 
--- ---- what it makes of a walk
-
--- with a node more
-met_push : (done : Entries) (wanted : List Call) (n : Node) (d : Done)
-    → count_with_steps (done_nodes (done ++ (n, d) ∷ [])) + length wanted ≡ count_with_steps (done_nodes done) + (length wanted + one_if n.steps)
-met_push done wanted n d = omega (arith, stepped_push done n d)
-
-put_more : (call : Call) (wanted : List Call) → length wanted ≤ length (put_in call wanted)
-put_more call wanted = by_test (call_in call wanted)
-  where
-    by_test : (b : Bool) → length wanted ≤ length (cond b wanted (wanted ++ call ∷ []))
-    by_test true = omega arith
-    by_test false = omega (arith, length-append wanted (call ∷ []))
-
-module _ {T E : Type 0} (walk : Walk) (n : Node) (value : T) where
-  pub one_given : (view : View) (d : Done) (done : Entries) → done ≡ walk.done ++ (n, d) ∷ []
-      → HasMetOne {T = T} {E = E} walk (record walk { done = done }) n (Given view) (Ok value)
-  one_given view d done same = subst (λ z. HasMetOne {T = T} {E = E} walk (record walk { done = z }) n (Given view) (Ok value)) (sym same)
-      (record { later = omega (arith, met_push walk.done walk.wanted n d); ok = met_push walk.done walk.wanted n d })
-
-  pub one_settled : (whole : Whole) (d : Done) (note : Fresh) (next : Walk) → TakesSettled walk next n d note
-      → HasMetOne {T = T} {E = E} walk next n (Settled whole) (Ok value)
-  one_settled whole d note next takes = subst (λ z. HasMetOne {T = T} {E = E} walk z n (Settled whole) (Ok value)) (sym takes.is)
-      (record { later = omega (arith, met_push walk.done walk.wanted n d); ok = met_push walk.done walk.wanted n d })
-
-  pub one_stopped : (call : Call) (wanted : List Call) (waiting : Waits) → wanted ≡ put_in call walk.wanted
-      → HasMetOne {T = T} {E = E} walk (record walk { wanted = wanted; waiting = waiting }) n (Stops call) (Ok value)
-  one_stopped call wanted waiting same = subst (λ z. HasMetOne {T = T} {E = E} walk (record walk { wanted = z; waiting = waiting }) n (Stops call) (Ok value)) (sym same)
-      (record { later = omega (arith, put_more call walk.wanted); ok = refl })
-
-pub none_stopped : (walk : Walk) (call : Call) (wanted : List Call) (waiting : Waits) → wanted ≡ put_in call walk.wanted → met_in walk ≤ met_in (record walk { wanted = wanted; waiting = waiting })
-none_stopped walk call wanted waiting same = subst (λ z. met_in walk ≤ met_in (record walk { wanted = z; waiting = waiting })) (sym same) (omega (arith, put_more call walk.wanted))
-
--- the looks at what a node was closed by
-pub few_closed : {T E F : Type 0} (old new : Walk) (n : Node) (closed : Closed) (before now : ℕ) (result : Result T E)
-    → LooksOnce {E = F} old.wanted n before now (Ok closed) → HasMetOne old new n closed result
-    → LooksAreFew (met_in old) (met_in new) before now (lost result)
-few_closed old new n closed before now (Ok value) looks met = record { later = looks.later; each = omega (arith, looks.ok, met.ok) }
-few_closed old new n closed before now (Err fault) looks met = record { later = looks.later; each = omega (arith, looks.once, met.later) }
-
--- where nothing was closed a look may be lost
-pub few_lost : {E : Type 0} (walk : Walk) (n : Node) (before now : ℕ) (result : Result Closed E) → LooksOnce walk.wanted n before now result
-    → LooksAreFew (met_in walk) (met_in walk) before now 1
-few_lost walk n before now result looks = record { later = looks.later; each = omega (arith, looks.once) }
+  -- at want of memory some may be lost
+  pub goes_lost : {E : Type 0} (new : Walk) (before now : ℕ) (result : Result (Option Found) E) (fault : E) → result ≡ Err fault
+      → GoesByLooks w given P old new before now (height_limit + 1) → GoesByLooks w given P old new before now (spare_at new.looked result)
+  goes_lost new before now result fault is goes = subst (λ r. GoesByLooks w given P old new before now (spare_at new.looked r)) (sym is) goes
 
 -- ---- a walk, as its callers see it
 
-pub few_seen : (start : Walk) (given : GivenOutcomes) (result : Option Found) (old : Walked) (more before now spare : ℕ) → seen_so start given result ≡ old → LooksAreFew (met_in start) more before now spare → LooksAreFew (met_by old) more before now spare
-few_seen start given result old more before now spare same few = subst (λ z. LooksAreFew (met_by z) more before now spare) same few
+pub looks_seen : (start : Walk) (given : GivenOutcomes) (result : Option Found) (old : Walked) (more before now spare : ℕ) → seen_so start given result ≡ old
+    → TakesLooks (looks_in start) more before now spare → TakesLooks (looks_by old) more before now spare
+looks_seen start given result old more before now spare same looks = subst (λ z. TakesLooks (looks_by z) more before now spare) same looks

@@ -61,11 +61,13 @@ module _ (w : World) (walk : Walk) (holds : HoldsIn w walk) (n : Node) {needed :
             ap (option_map (λ (v : View). v.value)) (table_grows w walk holds d.node s.view s.is) ∙ ap Some s.value;
       }
 
-  pub note_anew : n.steps ≢ [] → (note : Fresh) → note.fact.node ≡ n → (k : KeptRecord) → w.records note.fact.node ≡ Some k → ¬ IsPresentIn w k
-  note_anew stepped note node k kept = elim closing.anew [
+  pub none_present : n.steps ≢ [] → (k : KeptRecord) → w.records n ≡ Some k → ¬ IsPresentIn w k
+  none_present stepped k here = elim closing.anew [
     | inl source ↦ absurd (stepped source)
     | inr none ↦
-        let here : w.records n ≡ Some k = subst (λ z. w.records z ≡ Some k) node kept in
         not_current_lacks w walk holds n k here (none.1 k here) closing.needs listed_now
         (λ m i. let d = need_done w walk holds n height closing m i in subst IsSome (sym d.1) refl) (omega (arith, closing.above, closing.high))
   ]
+
+  pub note_anew : n.steps ≢ [] → (note : Fresh) → note.fact.node ≡ n → (k : KeptRecord) → w.records note.fact.node ≡ Some k → ¬ IsPresentIn w k
+  note_anew stepped note node k kept = none_present stepped k (subst (λ z. w.records z ≡ Some k) node kept)

@@ -1,9 +1,9 @@
 -- A node that gets its result by its record.
-use Rattle.std.proofs.Common.{◌≡◌, [], ◌∷◌, ◌++◌, inl, inr, sym, ap, ◌∙◌, subst, refl}
-use Rattle.std.specs.Prelude.{◌≢◌, Option, Some}
+use Rattle.std.proofs.Common.{◌≡◌, [], ◌∷◌, ◌++◌, ◌⊎◌, false, true≢false, inl, inr, sym, ap, ◌∙◌, subst, refl}
+use Rattle.std.specs.Prelude.{◌≢◌, Option, Some, None}
 use Rattle.object_values.specs.declared.nodes.Node.{Node}
 use Rattle.object_values.specs.declared.views.View.{View}
-use Rattle.meaning_texts.proofs.Lemmas.{same_some}
+use Rattle.meaning_texts.proofs.Lemmas.{same_some, some_is_none}
 use Rattle.meaning_true.specs.Knowing.{KeptRecord, TellsTight}
 use Rattle.derive_walk.specs.declared.done.Done.{Done}
 use Rattle.derive_walk.specs.declared.trial.Current.{Current}
@@ -12,7 +12,7 @@ use Rattle.derive_walk.specs.CheckedRecords.{HasChecked}
 use Rattle.derive_walk.specs.Tables.{Entries}
 use Rattle.derive_walk.specs.Told.{IsRenewedIn, renewed_record, IsPresentIn, TakesRenewed}
 use Rattle.derive_walk.specs.Trials.{IsTried, renewed_by}
-use Rattle.derive_walk.specs.Paths.{HasCurrent, IsLast, IsLed}
+use Rattle.derive_walk.specs.Paths.{HasCurrent, IsAnew, IsLast, IsLed}
 use Rattle.derive_walk.specs.States.{IsFormedIn, HoldsIn}
 use Rattle.derive_walk.specs.Worlds.{World, IsWorld}
 use Rattle.derive_walk.proofs.Added.{holds_with_done}
@@ -29,6 +29,17 @@ pub tried_in : (w : World) (walk : Walk) (n : Node) → n.steps ≢ [] → (k : 
     → tried ≡ Some current → IsTried walk.done k.fact tried → HasCurrent w walk n current
 tried_in w walk n stepped k is tried current same so = record { stepped = stepped; kept = k; is = is; holds = subst (IsTried walk.done k.fact) same so }
 
+-- without a record, or with one that is neither checked nor current
+pub none_anew : (w : World) (walk : Walk) (n : Node) → (n.steps ≡ []) ⊎ (w.records n ≡ None) → IsAnew w walk n
+none_anew w walk n (inl source) = inl source
+none_anew w walk n (inr none) = inr (λ checked. some_is_none (w.records n) checked.kept checked.is none, λ k e. some_is_none (w.records n) k e none)
+
+pub stale_anew : (w : World) (walk : Walk) (n : Node) (k : KeptRecord) → w.records n ≡ Some k → k.checked ≡ false → IsTried walk.done k.fact None → IsAnew w walk n
+stale_anew w walk n k is unchecked tried = inr (
+  λ c. true≢false (sym c.checked ∙ ap (λ (z : KeptRecord). z.checked) (same_some (sym c.is ∙ is)) ∙ unchecked),
+  λ x e. subst (λ (z : KeptRecord). IsTried walk.done z.fact None) (same_some (sym is ∙ e)) tried,
+)
+
 -- ---- as its record stands
 
 module _ (w : World) (walk : Walk) (n : Node) (last : IsLast w walk n) (d : Done) (checked : HasChecked w n d) (done : Entries) (same : done ≡ walk.done ++ (n, d) ∷ []) where
@@ -36,7 +47,7 @@ module _ (w : World) (walk : Walk) (n : Node) (last : IsLast w walk n) (d : Done
   checked_formed is =
       let none = not_done walk.done walk.waiting n (last_is_new w walk n last) in
       formed_with_done w walk last.formed n (last_is_new w walk n last) d (checked_is_formed w n d checked is) walk.fresh walk.renewed
-      (told_checked w walk.done walk.fresh walk.renewed last.formed.told n none d (checked_is w n d checked)) (record walk { done = done })
+      (told_checked w walk.done walk.fresh walk.renewed last.formed.told n none d (checked_is w n d checked)) last.looked (record walk { done = done })
       (ap (λ z. record walk { done = z }) same)
 
   pub checked_holds : IsLed w walk → HoldsIn w (record walk { done = done })
@@ -65,7 +76,7 @@ module _ (w : World) (walk : Walk) (n : Node) (last : IsLast w walk n) (c : Curr
       let none = not_done walk.done walk.waiting n (last_is_new w walk n last) in
       formed_with_done w walk last.formed n (last_is_new w walk n last) c.done (current_is_formed w is n current.kept current.is walk.done c current.holds)
       walk.fresh (walk.renewed ++ renewed_by n c ∷ [])
-      (told_renewed w walk.done walk.fresh walk.renewed last.formed.told n none c.done (renewed_by n c) refl renewed_in) next takes.is
+      (told_renewed w walk.done walk.fresh walk.renewed last.formed.told n none c.done (renewed_by n c) refl renewed_in) last.looked next takes.is
 
   pub renewed_holds : IsLed w walk → HoldsIn w next
   renewed_holds led =

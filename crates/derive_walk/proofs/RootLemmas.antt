@@ -7,9 +7,8 @@ use Rattle.object_values.specs.declared.calls.Call.{Call}
 use Rattle.meaning_texts.specs.Limits.{height_limit}
 use Rattle.meaning_texts.specs.Lists.{IsIn}
 use Rattle.meaning_texts.proofs.Lemmas.{some_is_none, value_of_some}
-use Rattle.meaning_graph.specs.Graphs.{Graph}
 use Rattle.meaning_tasks.specs.Nodes.{Fits}
-use Rattle.meaning_derive.specs.Derive.{Sources, Outcomes, derive}
+use Rattle.meaning_derive.specs.Derive.{derive}
 use Rattle.meaning_derive.specs.Given.{OutcomesFit}
 use Rattle.meaning_derive.specs.Chains.{Chain}
 use Rattle.meaning_derive.proofs.Lemmas.{grows_to, none_by_call, none_refused}
@@ -20,13 +19,14 @@ use Rattle.derive_walk.specs.Tables.{done_in, height_in}
 use Rattle.derive_walk.specs.Calls.{GivenOutcomes, AreOnce}
 use Rattle.derive_walk.specs.declared.walk.Walk.{Walk}
 use Rattle.derive_walk.specs.Told.{AreTold, AreToldRightly}
-use Rattle.derive_walk.specs.Worlds.{World, IsWorld, world_over, seen_in, StopsAtCall}
+use Rattle.derive_walk.specs.Worlds.{World, IsWorld, seen_in, StopsAtCall}
 use Rattle.derive_walk.specs.Founds.{IsFound, NodesFit, IsChain, IsFitChain}
-use Rattle.meaning_true.specs.Knowing.{KeptRecords}
+use Rattle.meaning_true.specs.Knowing.{MayLook, the_root}
 use Rattle.derive_walk.specs.Walks.{Walked, AreFormedDone, AreFormedCalls, IsFormed, AreDone, AreMet, IsRight, AreFrontier, FindsOrWants}
 use Rattle.derive_walk.specs.DerivedHeights.{heights_or}
 use Rattle.derive_walk.specs.States.{heights_in, IsFormedIn, HoldsIn, GoesOnFrom}
-use Rattle.derive_walk.specs.Paths.{IsPath, IsNext, LeadsTo, HasEmptyPath, AfterRoot}
+use Rattle.derive_walk.specs.Looked.{AreLookups, AreTaken, MayBeLooked}
+use Rattle.derive_walk.specs.Paths.{IsPath, MayBeOnPath, IsNext, LeadsTo, HasEmptyPath, AfterRoot}
 use Rattle.derive_walk.proofs.Tables.{done_or_waiting}
 use Rattle.derive_walk.proofs.FormedLemmas.{elements_fit}
 use Rattle.derive_walk.proofs.NeedLemmas.{done_is_derived, at_most_limit}
@@ -88,7 +88,14 @@ module _ (w : World) (walk : Walk) where
 
 module _ (w : World) (walk : Walk) (start : HasEmptyPath walk) (n : Node) (same : n ≡ walk.root) where
   pub root_leads : HoldsIn w walk → LeadsTo w walk n
-  root_leads holds = record { holds = holds; leads = subst (λ l. Chain w.graph (seen_in w) walk.root (l ++ n ∷ [])) (sym start.path) (sym same, tt) }
+  root_leads holds = record {
+    holds = holds;
+    leads = subst (λ l. Chain w.graph (seen_in w) walk.root (l ++ n ∷ [])) (sym start.path) (sym same, tt);
+    may = subst (λ l. MayBeOnPath w walk (l ++ n ∷ [])) (sym start.path) (λ m i. elim i [
+      | inl e ↦ subst (λ z. MayLook w.graph w.sources w.outcomes w.records walk.root z) (sym (e ∙ same)) the_root
+      | inr none ↦ absurd none
+    ]);
+  }
 
   pub root_next : IsFormedIn w walk → heights_in walk walk.root ≡ None → IsNext w walk n
   root_next formed unseen = record {
@@ -112,16 +119,32 @@ module _ (w : World) (walk : Walk) (start : HasEmptyPath walk) (n : Node) (same 
 
 -- ---- a walk at its start and at its end
 
+-- the walk as its callers see it
+abbrev pub seen_so : Walk → GivenOutcomes → Option Found → Walked
+seen_so walk given result = record {
+  root = walk.root;
+  done = walk.done;
+  fresh = walk.fresh;
+  renewed = walk.renewed;
+  given = given;
+  wanted = walk.wanted;
+  looked = walk.looked;
+  taken = walk.taken;
+  result = result;
+}
+
 nothing_waits : (n : Node) (h : ℕ) → height_in [] n ≡ Some h → ⊥
 nothing_waits n h e = cc
 
 -- what is formed
 pub formed_at_start : (w : World) (walked : Walked) → IsFormed w walked → (walk : Walk) → walk.root ≡ walked.root → walk.done ≡ walked.done
-    → walk.fresh ≡ walked.fresh → walk.renewed ≡ walked.renewed → walk.wanted ≡ walked.wanted → walk.waiting ≡ [] → IsFormedIn w walk
-formed_at_start w walked formed walk root done fresh renewed wanted waiting = record {
+    → walk.fresh ≡ walked.fresh → walk.renewed ≡ walked.renewed → walk.wanted ≡ walked.wanted → walk.looked ≡ walked.looked → walk.waiting ≡ []
+    → IsFormedIn w walk
+formed_at_start w walked formed walk root done fresh renewed wanted looked waiting = record {
   root = subst (λ r. Fits w.graph r) (sym root) formed.root;
   done = subst (λ d. AreFormedDone w.graph d) (sym done) formed.done;
   told = same_told done fresh renewed formed.told;
+  looked = subst (λ l. AreLookups w walk.done l) (sym looked) (subst (λ d. AreLookups w d walked.looked) (sym done) formed.looked);
   waiting = λ n h e. absurd (nothing_waits n h (subst (λ l. height_in l n ≡ Some h) waiting e));
   wanted = subst (λ l. AreFormedCalls w.outcomes l) (sym wanted) formed.wanted;
 }
@@ -132,24 +155,27 @@ formed_at_start w walked formed walk root done fresh renewed wanted waiting = re
 
 pub formed_at_end : (w : World) (walk : Walk) → IsFormedIn w walk → OutcomesFit w.outcomes → (given : GivenOutcomes) (result : Option Found)
     → IfSome result (NodesFit w.graph)
-    → IsFormed w (record { root = walk.root; done = walk.done; fresh = walk.fresh; renewed = walk.renewed; given = given; wanted = walk.wanted; result = result })
+    → IsFormed w (seen_so walk given result)
 formed_at_end w walk formed fit given result found = record {
   fit = fit;
   root = formed.root;
   done = formed.done;
   told = formed.told;
+  looked = formed.looked;
   wanted = formed.wanted;
   found = found;
 }
 
 -- what is right holds where nothing waits
 pub holds_at_start : (w : World) (walked : Walked) → IsRight w walked → (walk : Walk) → walk.root ≡ walked.root → walk.done ≡ walked.done
-    → walk.fresh ≡ walked.fresh → walk.renewed ≡ walked.renewed → walk.wanted ≡ walked.wanted → walk.waiting ≡ [] → HoldsIn w walk
-holds_at_start w walked right walk root done fresh renewed wanted waiting = record {
+    → walk.fresh ≡ walked.fresh → walk.renewed ≡ walked.renewed → walk.wanted ≡ walked.wanted → walk.looked ≡ walked.looked → walk.waiting ≡ []
+    → HoldsIn w walk
+holds_at_start w walked right walk root done fresh renewed wanted looked waiting = record {
   rightly = subst (λ z. AreToldRightly w walk.fresh z) (sym renewed) (subst (λ z. AreToldRightly w z walked.renewed) (sym fresh) right.rightly);
   knows = right.knows;
   done = subst (λ d. AreDone w d) (sym done) right.done;
   met = subst (λ r. AreMet w r walk.done) (sym root) (subst (λ d. AreMet w walked.root d) (sym done) right.met);
+  may = subst (λ r. MayBeLooked w r walk.looked) (sym root) (subst (λ l. MayBeLooked w walked.root l) (sym looked) right.may);
   waiting = λ n h e. absurd (nothing_waits n h (subst (λ l. height_in l n ≡ Some h) waiting e));
   one = λ n h e. absurd (nothing_waits n h (subst (λ l. height_in l n ≡ Some h) waiting e));
   only = λ call i. subst (λ r. StopsAtCall w r call) (sym root) (right.wanted call (subst (λ l. IsIn call l) wanted i));
@@ -157,15 +183,20 @@ holds_at_start w walked right walk root done fresh renewed wanted waiting = reco
 }
 
 -- what holds is right
-pub right_at_end : (w : World) (walk : Walk) → HoldsIn w walk → AreTold w walk.done walk.fresh walk.renewed → OutcomesFit w.outcomes → Fits w.graph walk.root → (given : GivenOutcomes) (result : Option Found) → IfSome result (IsFound w.graph w.sources w.outcomes walk.root) → IsRight w (record { root = walk.root; done = walk.done; fresh = walk.fresh; renewed = walk.renewed; given = given; wanted = walk.wanted; result = result })
-right_at_end w walk holds told fit root given result found = record {
+pub right_at_end : (w : World) (walk : Walk) → HoldsIn w walk → IsFormedIn w walk → OutcomesFit w.outcomes → Fits w.graph walk.root → (given : GivenOutcomes)
+    → AreTaken w given walk.looked walk.done walk.wanted walk.taken → (result : Option Found) → IfSome result (IsFound w.graph w.sources w.outcomes walk.root)
+    → IsRight w (seen_so walk given result)
+right_at_end w walk holds formed fit root given taken result found = record {
   fit = fit;
   knows = holds.knows;
-  told = told;
+  told = formed.told;
   rightly = holds.rightly;
   root = root;
   done = holds.done;
   met = holds.met;
+  looked = formed.looked;
+  may = holds.may;
+  taken = taken;
   wanted = holds.only;
   once = holds.once;
   found = found;

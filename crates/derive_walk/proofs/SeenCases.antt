@@ -31,7 +31,7 @@ pub keep_put : (call : Call) (wanted more : List Call) → more ≡ put_in call 
 keep_put call wanted more same c i = subst (λ l. IsIn c l) (sym same) (put_keeps call c wanted i)
 
 pub goes_wanting : (walk : Walk) (call : Call) (more : List Call) → more ≡ put_in call walk.wanted → GoesOnFrom walk (record walk { wanted = more })
-goes_wanting walk call more same = record { root = refl; wanted = keep_put call walk.wanted more same; keeps = λ m k e. e; results = λ m view e. e }
+goes_wanting walk call more same = record { root = refl; wanted = keep_put call walk.wanted more same; keeps = λ m k e. e; looked = λ m place e. e; results = λ m view e. e }
 
 -- ---- what is formed
 
@@ -48,7 +48,7 @@ module _ (w : World) (is : IsWorld w) (walk : Walk) (n : Node) {needed : Needed}
       let none = not_done walk.done walk.waiting n (last_is_new w walk n last) in
       formed_with_done w walk last.formed n (last_is_new w walk n last) d
       (record { result = settles_formed w walk last.formed is n (last_fits w walk n last) view so; low = low; high = closing.high })
-      walk.fresh walk.renewed (told_source w walk.done walk.fresh walk.renewed last.formed.told n none d source) (record walk { done = done })
+      walk.fresh walk.renewed (told_source w walk.done walk.fresh walk.renewed last.formed.told n none d source) last.looked (record walk { done = done })
       (ap (λ z. record walk { done = z }) same)
 
   -- a node with steps, with what is noted of it
@@ -61,7 +61,7 @@ module _ (w : World) (is : IsWorld w) (walk : Walk) (n : Node) {needed : Needed}
       (record { result = settles_formed w walk last.formed is n (last_fits w walk n last) whole.view (whole_settled w n (results_of walk.done) whole so); low = low; high = closing.high })
       (walk.fresh ++ note ∷ []) walk.renewed
       (told_settled w walk.done walk.fresh walk.renewed last.formed.told n none d note noted.node (note_in w walk.done n whole height note noted d refl refl none))
-      next takes.is
+      last.looked next takes.is
 
   module _ (call : Call) (so : NodeHasStopped w n (results_of walk.done) call) (wanted : List Call) (more : wanted ≡ put_in call walk.wanted) where
     pub wanted_formed : IsFormedIn w (record walk { wanted = wanted })

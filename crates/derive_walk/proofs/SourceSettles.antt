@@ -4,6 +4,7 @@ use Rattle.std.specs.Prelude.{Option, Some, None}
 use Rattle.object_values.specs.declared.nodes.Node.{Node}
 use Rattle.object_values.specs.declared.views.View.{View}
 use Rattle.object_values.specs.declared.calls.Call.{Call}
+use Rattle.meaning_texts.specs.Lists.{IsIn}
 use Rattle.meaning_graph.specs.Graphs.{Text, Graph}
 use Rattle.meaning_tasks.specs.Labels.{label_of}
 use Rattle.meaning_tasks.specs.Values.{inherit}
@@ -11,6 +12,7 @@ use Rattle.meaning_tasks.specs.Tasks.{task_of}
 use Rattle.meaning_tasks.specs.Needs.{Results, ReachedNames}
 use Rattle.meaning_tasks.specs.Calls.{CallOf}
 use Rattle.meaning_tasks.specs.Settle.{given_own}
+use Rattle.meaning_derive.specs.Chains.{IsNeed}
 use Rattle.meaning_derive.specs.Derive.{Sources, text_of, derive, derived, names_for}
 use Rattle.meaning_derive.proofs.Lemmas.{names_reached, as_settled, from_settled, sources_are_there}
 use Rattle.derive_walk.specs.Settled.{HasSettled}
@@ -40,6 +42,14 @@ none_called w n seen call called = called.is
 
 pub source_calls_none : (w : World) (n : Node) (seen : Results) (call : Option Call) → n.steps ≡ [] → CallOf w.graph n seen call → call ≡ None
 source_calls_none w n seen call none called = none_called w n seen call (subst (λ z. CallOf w.graph (record n { steps = z }) seen call) none called)
+
+-- and needs nothing
+none_needed : (w : World) (n : Node) (seen : Results) (m : Node) → IsNeed w.graph seen (record n { steps = [] }) m → ⊥
+unfolding task_of
+none_needed w n seen m need = subst (λ l. IsIn m l) need.listed.listed need.one
+
+pub source_needs_none : (w : World) (n : Node) (seen : Results) (m : Node) → n.steps ≡ [] → IsNeed w.graph seen n m → ⊥
+source_needs_none w n seen m none need = none_needed w n seen m (subst (λ z. IsNeed w.graph seen (record n { steps = z }) m) none need)
 
 source_settles : (w : World) (n : Node) (seen : Results) → n.steps ≡ [] → HasSettled w n seen (view_of_source w.graph w.sources n)
 source_settles w n seen is = subst (λ z. HasSettled w (record n { steps = z }) seen (view_of_source w.graph w.sources (record n { steps = z }))) (sym is) (at_source w n seen)

@@ -1,28 +1,34 @@
 -- What stays as more outcomes come: what is found, what is done, and what is wanted.
-use Rattle.std.proofs.Common.{◌≡◌, List, [], ◌∷◌, ◌++◌, ◌⊎◌, inl, inr, sym, ap, subst, is_some, ◌≤◌}
-use Rattle.std.specs.Prelude.{Option, Some, None, IsSome, IfSome}
+use Rattle.std.proofs.Common.{◌≡◌, List, [], ◌∷◌, ◌++◌, ◌⊎◌, inl, inr, sym, ap, subst, is_some, ◌∙◌, ◌≤◌}
+use Rattle.std.specs.Prelude.{Option, Some, None, IsSome, IfSome, option_map}
 use Rattle.object_values.specs.declared.nodes.Node.{Node}
 use Rattle.object_values.specs.declared.calls.Call.{Call}
+use Rattle.object_values.specs.declared.views.View.{View}
 use Rattle.meaning_texts.specs.Limits.{height_limit}
 use Rattle.meaning_texts.specs.Lists.{IsIn}
 use Rattle.meaning_texts.proofs.Lemmas.{value_of_some}
 use Rattle.meaning_graph.specs.Graphs.{Graph}
-use Rattle.meaning_tasks.specs.Needs.{Needs}
+use Rattle.meaning_tasks.specs.Needs.{Needs, values_of, nodes_of}
 use Rattle.meaning_tasks.proofs.Lemmas.{one_list_of_needs, full_needs_stay, need_stays}
 use Rattle.meaning_derive.specs.Derive.{Sources, text_of, Outcomes, derived, IsFounded}
 use Rattle.meaning_derive.specs.Chains.{LeadsOn, Chain, IsMet}
+use Rattle.meaning_derive.specs.Calls.{Runs}
 use Rattle.meaning_derive.specs.Given.{OutcomesFit}
 use Rattle.meaning_derive.specs.Laws.{HasMore}
-use Rattle.meaning_derive.proofs.Lemmas.{derive_more, grows_to, kept, needs_at, needs_listed, same_height, frontier_stays}
-use Rattle.meaning_true.specs.Knowing.{KeptRecords, IsChecked}
+use Rattle.meaning_derive.proofs.Lemmas.{derive_more, grows_to, kept, needs_at, needs_listed, same_height, frontier_stays, runs_stay}
+use Rattle.meaning_true.specs.Facts.{needs_in}
+use Rattle.meaning_true.specs.Knowing.{KeptRecord, KeptRecords, Knows, IsChecked, IsPresent, MayLook, the_root, a_need, TakesOutcome}
 use Rattle.object_values.specs.declared.facts.Fresh.{Fresh}
 use Rattle.object_values.specs.declared.facts.RenewedNode.{RenewedNode}
-use Rattle.meaning_true.proofs.Lemmas.{truth_stays, tells_stay, knows_on, present_on, present_before}
+use Rattle.meaning_true.proofs.Lemmas.{of_dep, truth_stays, tells_stay, knows_on, present_on, present_before}
 use Rattle.derive_walk.specs.declared.done.Done.{Done}
 use Rattle.derive_walk.specs.Tables.{Entries, done_in}
 use Rattle.derive_walk.specs.declared.found.Found.{Found}
 use Rattle.derive_walk.specs.declared.found.Found.TheVariants.{Answer, Circular, Deep}
 use Rattle.derive_walk.specs.Founds.{IsFound}
+use Rattle.derive_walk.specs.Calls.{GivenOutcomes}
+use Rattle.derive_walk.specs.Looked.{AreLookups, IsAsked, IsTaken, AreTaken}
+use Rattle.derive_walk.specs.Places.{KeptPlaces, Lookups}
 use Rattle.derive_walk.specs.Told.{IsFreshIn, IsRenewedIn, AreTold, noted_record, renewed_record, AreToldRightly}
 use Rattle.derive_walk.specs.Walks.{Walked, IsDone, AreDone, IsRight}
 use Rattle.derive_walk.specs.Worlds.{World, world, world_over, KnowsIn, IsNeedIn}
@@ -66,12 +72,48 @@ module _ (g : Graph) (s : Sources) (outcomes more : Outcomes) (has : HasMore out
   pub met_stays : (n m : Node) → IsMet g (derived g s outcomes) n m → IsMet g (derived g s more) n m
   met_stays n m met = record { front = met.front; leads = chain_stays n (met.front ++ m ∷ []) met.leads; short = met.short }
 
-  module _ (records : KeptRecords) where
+  -- ---- what may be looked at
+
+  pub may_stays : (records : KeptRecords) (root n : Node) → MayLook g s outcomes records root n → MayLook g s more records root n
+  may_stays records root n the_root = the_root
+  may_stays records root n (a_need m k may unchecked need) = a_need m k (may_stays records root m may) unchecked (one_stays m k need)
+
+  call_stays : (n : Node) (call : Call) → Runs g (derived g s outcomes) n call → Runs g (derived g s more) n call
+  call_stays n call runs = runs_stay g (derived g s outcomes) (derived g s more) (derive_more g s outcomes more has height_limit) n call runs
+
+  -- What is present with more outcomes was so before, where all needs of the node had results.
+  module _ (n : Node) (call : Call) (runs : Runs g (derived g s outcomes) n call) (k : KeptRecord) (node : k.fact.node ≡ n) (now : IsPresent g s more k.fact) where
+    abbrev present_needs : List Node
+    present_needs = nodes_of (needs_in k.fact.deps)
+
+    same_needs : present_needs ≡ runs.needs
+    same_needs = one_list_of_needs g n (derived g s more) present_needs runs.needs
+        (subst (λ z. Needs g z (derived g s more) present_needs) node now.needs)
+        (full_needs_stay g (text_of s) n (derived g s outcomes) (derived g s more) runs.needs (derive_more g s outcomes more has height_limit) runs.listed runs.known).needs
+
+    same_value : (m : Node) → IsIn m present_needs → values_of (derived g s outcomes) m ≡ values_of (derived g s more) m
+    same_value m i =
+        let there = value_of_some (derived g s outcomes m) (runs.known m (subst (λ l. IsIn m l) same_needs i)) in
+        ap (option_map (λ (v : View). v.value)) (there.1 ∙ sym (derive_more g s outcomes more has height_limit m there.0 there.1))
+
+    was_present : IsPresent g s outcomes k.fact
+    was_present = record {
+      needs = subst (λ z. Needs g z (derived g s outcomes) present_needs) (sym node) (subst (λ l. Needs g n (derived g s outcomes) l) (sym same_needs) runs.listed);
+      seen = λ d i. same_value d.node (of_dep k.fact.deps d i) ∙ now.seen d i;
+    }
+
+  pub takes_stay : (records : KeptRecords) → Knows g s outcomes records → (n : Node) → TakesOutcome g s outcomes records n → TakesOutcome g s more records n
+  takes_stay records knows n takes = record {
+    runs = (takes.runs.0, call_stays n takes.runs.0 takes.runs.1);
+    anew = λ k e now. takes.anew k e (was_present n takes.runs.0 takes.runs.1 k (knows.each n k e).0 now);
+  }
+
+  module _ (records : KeptRecords) (places : KeptPlaces) where
     abbrev before : World
-    before = world_over records g s outcomes
+    before = world_over records places g s outcomes
 
     abbrev later : World
-    later = world_over records g s more
+    later = world_over records places g s more
 
     -- ---- a table
 
@@ -152,6 +194,31 @@ module _ (g : Graph) (s : Sources) (outcomes more : Outcomes) (has : HasMore out
           tells_stay g s outcomes more has (renewed_record r.present k) high (right.renewed_tight r i k e);
     }
 
+    -- ---- what was looked at
+
+    pub lookups_stay : (done : Entries) (looked : Lookups) → AreLookups before done looked → AreLookups later done looked
+    lookups_stay done looked are = record { different = are.different; stepped = are.stepped; places = are.places; done = are.done }
+
+    asked_stays : (given : GivenOutcomes) (wanted : List Call) (n : Node) → IsAsked before given wanted n → IsAsked later given wanted n
+    asked_stays given wanted n is = record { call = is.call; runs = call_stays n is.call is.runs; asked = is.asked }
+
+    ended_stays : (given : GivenOutcomes) (done : Entries) (wanted : List Call) (n : Node)
+        → IsSome (done_in done n) ⊎ IsAsked before given wanted n → IsSome (done_in done n) ⊎ IsAsked later given wanted n
+    ended_stays given done wanted n (inl there) = inl there
+    ended_stays given done wanted n (inr asked) = inr (asked_stays given wanted n asked)
+
+    one_taken : KnowsIn before → (given : GivenOutcomes) (looked : Lookups) (done : Entries) (wanted : List Call) (n : Node)
+        → IsTaken before given looked done wanted n → IsTaken later given looked done wanted n
+    one_taken knows given looked done wanted n is = record {
+      looked = is.looked;
+      takes = takes_stay records knows n is.takes;
+      after = ended_stays given done wanted n is.after;
+    }
+
+    pub taken_stay : KnowsIn before → (given : GivenOutcomes) (looked : Lookups) (done : Entries) (wanted : List Call) (taken : List Node)
+        → AreTaken before given looked done wanted taken → AreTaken later given looked done wanted taken
+    taken_stay knows given looked done wanted taken are = record { once = are.once; each = λ n i. one_taken knows given looked done wanted n (are.each n i) }
+
     -- ---- a walk
 
     result_stays : (n : Node) (result : Option Found) → IfSome result (IsFound g s outcomes n) → IfSome result (IsFound g s more n)
@@ -167,6 +234,9 @@ module _ (g : Graph) (s : Sources) (outcomes more : Outcomes) (has : HasMore out
       root = right.root;
       done = are_done_stays walked.done right.done;
       met = λ n i. met_stays walked.root n (right.met n i);
+      looked = lookups_stay walked.done walked.looked right.looked;
+      may = λ n i. may_stays records walked.root n (right.may n i);
+      taken = taken_stay right.knows walked.given walked.looked walked.done walked.wanted walked.taken right.taken;
       wanted = λ call i. frontier_stays g s outcomes more has walked.root call (right.wanted call i) (none call i);
       once = right.once;
       found = result_stays walked.root walked.result right.found;

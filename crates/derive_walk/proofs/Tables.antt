@@ -1,15 +1,15 @@
 -- One more entry in a table, its nodes, and the heights that the tables give.
-use Rattle.std.proofs.Common.{◌≡◌, ℕ, Bool, true, false, cond, List, [], ◌∷◌, ◌++◌, ◌⊎◌, inl, inr, sym, ap, ◌∙◌, subst, refl}
+use Rattle.std.proofs.Common.{◌≡◌, ℕ, Bool, true, false, cond, List, [], ◌∷◌, ◌++◌, map, ◌⊎◌, inl, inr, sym, ap, ◌∙◌, subst, refl}
 use Rattle.std.specs.Prelude.{Some, None, IsSome, is_some, option_map}
 use Rattle.std.specs.Map.{lookup}
 use Rattle.object_values.specs.declared.nodes.Node.{Node}
 use Rattle.object_values.specs.contracts.nodes.NodePartialEq.TheImpl.{ghosts as node_eq}
 use Rattle.object_values.specs.Exact.{node_exact}
 use Rattle.meaning_texts.specs.Lists.{IsIn}
-use Rattle.meaning_texts.proofs.Lemmas.{some_or_none, same_some, in_right, in_either}
+use Rattle.meaning_texts.proofs.Lemmas.{some_or_none, value_of_some, same_some, in_right, in_either}
 use Rattle.meaning_derive.specs.Chains.{AreDifferent}
 use Rattle.derive_walk.specs.declared.done.Done.{Done}
-use Rattle.derive_walk.specs.Tables.{Entries, Waits, done_in, done_nodes, height_in, height_or, heights_of}
+use Rattle.derive_walk.specs.Tables.{Entries, Waits, done_in, height_in, height_or, heights_of}
 
 -- ---- an entry after the others
 
@@ -61,28 +61,43 @@ at_end n front = in_right n front (n ∷ []) (inl refl)
 
 -- ---- the nodes of a table
 
-pub nodes_push : (es : Entries) (n : Node) (d : Done) → done_nodes (es ++ (n, d) ∷ []) ≡ done_nodes es ++ n ∷ []
-nodes_push [] n d = refl
-nodes_push (e ∷ es) n d = ap (λ l. e.0 ∷ l) (nodes_push es n d)
+module _ {V : Type 0} where
+  pub nodes_push : (es : List (Node × V)) (n : Node) (v : V) → map (λ (e : Node × V). e.0) (es ++ (n, v) ∷ []) ≡ map (λ (e : Node × V). e.0) es ++ n ∷ []
+  nodes_push [] n v = refl
+  nodes_push (e ∷ es) n v = ap (λ l. e.0 ∷ l) (nodes_push es n v)
 
--- a node without an entry is none of them
-pub not_among : (es : Entries) (n : Node) → done_in es n ≡ None → IsIn n (done_nodes es) → ⊥
-not_among [] n none i = i
-not_among (e ∷ es) n none i = by_test (node_eq.eq n e.0) refl none (not_among es n)
-  where
-    by_test : (b : Bool) → node_eq.eq n e.0 ≡ b → cond b (Some e.1) (done_in es n) ≡ None → (done_in es n ≡ None → IsIn n (done_nodes es) → ⊥) → ⊥
-    by_test true same none below = cc
-    by_test false same none below = elim i [
-      | inl q ↦ let yes : node_eq.eq n e.0 ≡ true = (node_exact n e.0).1 q in cc
-      | inr j ↦ below none j
-    ]
+  -- a node without an entry is none of them
+  pub not_among : (es : List (Node × V)) (n : Node) → lookup (node_eq.eq n) es ≡ None → IsIn n (map (λ (e : Node × V). e.0) es) → ⊥
+  not_among [] n none i = i
+  not_among (e ∷ es) n none i = by_test (node_eq.eq n e.0) refl none (not_among es n)
+    where
+      by_test : (b : Bool) → node_eq.eq n e.0 ≡ b → cond b (Some e.1) (lookup (node_eq.eq n) es) ≡ None
+          → (lookup (node_eq.eq n) es ≡ None → IsIn n (map (λ (e : Node × V). e.0) es) → ⊥) → ⊥
+      by_test true same none below = cc
+      by_test false same none below = elim i [
+        | inl q ↦ let yes : node_eq.eq n e.0 ≡ true = (node_exact n e.0).1 q in cc
+        | inr j ↦ below none j
+      ]
 
--- each of them has one
-pub has_entry : (es : Entries) (n : Node) → IsIn n (done_nodes es) → IsSome (done_in es n)
-has_entry es n i = elim (some_or_none (done_in es n)) [
-  | inl d ↦ ap is_some d.1
-  | inr none ↦ absurd (not_among es n none i)
-]
+  -- each of them has one
+  pub has_entry : (es : List (Node × V)) (n : Node) → IsIn n (map (λ (e : Node × V). e.0) es) → IsSome (lookup (node_eq.eq n) es)
+  has_entry es n i = elim (some_or_none (lookup (node_eq.eq n) es)) [
+    | inl d ↦ ap is_some d.1
+    | inr none ↦ absurd (not_among es n none i)
+  ]
+
+  -- what has one is among them
+  pub is_among : (es : List (Node × V)) (n : Node) → IsSome (lookup (node_eq.eq n) es) → IsIn n (map (λ (e : Node × V). e.0) es)
+  is_among [] n there = cc
+  is_among (e ∷ es) n there = by_test (node_eq.eq n e.0) refl there (is_among es n)
+    where
+      by_test : (b : Bool) → node_eq.eq n e.0 ≡ b → IsSome (cond b (Some e.1) (lookup (node_eq.eq n) es))
+          → (IsSome (lookup (node_eq.eq n) es) → IsIn n (map (λ (e : Node × V). e.0) es)) → IsIn n (map (λ (e : Node × V). e.0) (e ∷ es))
+      by_test true same there below = inl ((node_exact n e.0).0 same)
+      by_test false same there below = inr (below there)
+
+  pub still_there : (es : List (Node × V)) (k : Node) (v : V) (n : Node) → IsSome (lookup (node_eq.eq n) es) → IsSome (lookup (node_eq.eq n) (es ++ (k, v) ∷ []))
+  still_there es k v n there = let x = value_of_some (lookup (node_eq.eq n) es) there in ap is_some (push_keeps es k v n x.0 x.1)
 
 -- ---- heights
 

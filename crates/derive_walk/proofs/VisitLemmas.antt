@@ -2,28 +2,30 @@
 use Rattle.std.proofs.Common.{◌≡◌, ◌+◌, ◌≤◌, ◌<◌, true, false, List, [], ◌∷◌, ◌++◌, inl, inr, sym, ap, ◌∙◌, subst, length, take, arith, length-append}
 use Rattle.std.proofs.Math.Seq.{take-append_seam}
 use Rattle.std.proofs.lemmas.Bool.{or_cases, or_left, or_right}
-use Rattle.std.specs.Prelude.{Option, Some, None}
+use Rattle.std.specs.Prelude.{◌≢◌, Option, Some, None, IsSome, is_some}
 use Rattle.object_values.specs.declared.nodes.Node.{Node}
 use Rattle.object_values.specs.contracts.nodes.NodePartialEq.TheImpl.{ghosts as node_eq}
 use Rattle.object_values.specs.Exact.{node_exact}
 use Rattle.meaning_texts.specs.Limits.{height_limit}
 use Rattle.meaning_texts.specs.Lists.{IsIn}
-use Rattle.meaning_texts.proofs.Lemmas.{in_left}
+use Rattle.meaning_texts.proofs.Lemmas.{in_left, value_of_some}
 use Rattle.meaning_tasks.specs.Nodes.{Fits}
 use Rattle.meaning_derive.specs.Chains.{Chain, AreDifferent}
 use Rattle.meaning_derive.proofs.Lemmas.{chain_on}
+use Rattle.meaning_true.specs.Knowing.{IsChecked, MayLook, a_need}
 use Rattle.derive_walk.specs.declared.found.Found.{Found}
 use Rattle.derive_walk.specs.declared.found.Found.TheVariants.{Answer, Circular, Deep}
 use Rattle.derive_walk.specs.Chains.{IsChainTo}
+use Rattle.derive_walk.specs.Places.{place_in}
 use Rattle.derive_walk.specs.Tables.{node_in}
 use Rattle.derive_walk.specs.declared.walk.Walk.{Walk}
 use Rattle.derive_walk.specs.Worlds.{World, seen_in, IsNeedIn}
 use Rattle.derive_walk.specs.Founds.{IsFound, AllFit, NodesFit, IsChain, IsFitChain}
-use Rattle.derive_walk.specs.States.{heights_in, IsFormedIn, HoldsIn, GoesOnFrom, Visited, AfterVisit}
-use Rattle.derive_walk.specs.Paths.{IsChainFromRoot, IsPath, IsNext, IsLast, IsLed, LeadsTo}
+use Rattle.derive_walk.specs.States.{heights_in, IsFormedIn, HoldsIn, GoesOnFrom, OnlyLooks, Visited, AfterVisit}
+use Rattle.derive_walk.specs.Paths.{IsChainFromRoot, MayBeOnPath, IsPath, IsNext, IsLast, IsLed, LeadsTo}
 use Rattle.derive_walk.proofs.Tables.{different_push, in_push, at_end}
 use Rattle.derive_walk.proofs.FormedLemmas.{formed_at}
-use Rattle.derive_walk.proofs.GoingLemmas.{stays}
+use Rattle.derive_walk.proofs.GoingLemmas.{goes_looking}
 
 -- ---- lists of nodes
 
@@ -46,6 +48,7 @@ goes_far a b c p q = record {
   root = q.root ∙ p.root;
   wanted = λ call i. q.wanted call (p.wanted call i);
   keeps = λ m k e. q.keeps m k (p.keeps m k e);
+  looked = λ m place e. q.looked m place (p.looked m place e);
   results = λ m view e. q.results m view (p.results m view e);
 }
 
@@ -56,6 +59,7 @@ holds_at w walk path h = record {
   rightly = h.rightly;
   done = h.done;
   met = h.met;
+  may = h.may;
   waiting = h.waiting;
   one = h.one;
   only = h.only;
@@ -63,9 +67,14 @@ holds_at w walk path h = record {
 }
 
 pub goes_at : (old walk : Walk) (path : List Node) → GoesOnFrom old walk → GoesOnFrom old (record walk { path = path })
-goes_at old walk path g = record { root = g.root; wanted = g.wanted; keeps = g.keeps; results = g.results }
+goes_at old walk path g = record { root = g.root; wanted = g.wanted; keeps = g.keeps; looked = g.looked; results = g.results }
 
 -- ---- the walk so far in the visit of a node
+
+-- A need of the node, whose record isn't checked.
+pub record IsNextNeed (w : World) (n m : Node) : Type 0 where
+  pub need : IsNeedIn w n m
+  pub unchecked : ¬ IsChecked w.records n
 
 -- It is right if it was so.
 pub record SoFar (w : World) (old walk : Walk) (n : Node) : Type 0 where
@@ -73,32 +82,40 @@ pub record SoFar (w : World) (old walk : Walk) (n : Node) : Type 0 where
   pub ends : walk.path ≡ old.path ++ n ∷ []
   pub formed : IsFormedIn w walk
   pub path : IsPath w walk walk.path
+  pub looked : n.steps ≢ [] → IsSome (place_in walk.looked n)
   pub right : LeadsTo w old n → IsLed w walk
 
 module _ (w : World) (old : Walk) (n : Node) where
-  pub start : IsNext w old n → (path : List Node) → path ≡ old.path ++ n ∷ [] → SoFar w old (record old { path = path }) n
-  start next path is = record {
-    on = goes_at old old path (stays old);
-    ends = is;
-    formed = formed_at w old path next.formed;
-    path = record {
-      fit = λ m i. next.path.fit m (subst (λ l. IsIn m l) is i);
-      apart = λ m i. next.path.apart m (subst (λ l. IsIn m l) is i);
-      different = subst (λ l. AreDifferent l) (sym is) next.path.different;
-      few = subst (λ l. length l ≤ height_limit) (sym is) next.path.few;
-    };
-    right = λ to. record {
-      holds = holds_at w old path to.holds;
-      leads = subst (λ l. Chain w.graph (seen_in w) old.root l) (sym is) to.leads;
-    };
-  }
+  -- once it was looked at
+  pub start : (mid : Walk) → OnlyLooks old mid → IsFormedIn w mid → (MayLook w.graph w.sources w.outcomes w.records old.root n → HoldsIn w old → HoldsIn w mid)
+      → (n.steps ≢ [] → IsSome (place_in mid.looked n)) → IsNext w old n → (path : List Node) → path ≡ mid.path ++ n ∷ [] → SoFar w old (record mid { path = path }) n
+  start mid only formed holds there next path longer =
+      let root : mid.root ≡ old.root = ap (λ (z : Walk). z.root) only.is in
+      let is : path ≡ old.path ++ n ∷ [] = longer ∙ ap (λ (z : Walk). z.path ++ n ∷ []) only.is in
+      record {
+        on = goes_at old mid path (goes_looking old mid only);
+        ends = is;
+        formed = formed_at w mid path formed;
+        path = record {
+          fit = λ m i. next.path.fit m (subst (λ l. IsIn m l) is i);
+          apart = λ m i. ap (λ (z : Walk). heights_in z m) only.is ∙ next.path.apart m (subst (λ l. IsIn m l) is i);
+          different = subst (λ l. AreDifferent l) (sym is) next.path.different;
+          few = subst (λ l. length l ≤ height_limit) (sym is) next.path.few;
+        };
+        looked = there;
+        right = λ to. record {
+          holds = holds_at w mid path (holds (to.may n (at_end n old.path)) to.holds);
+          leads = subst (λ z. Chain w.graph (seen_in w) z path) (sym root) (subst (λ l. Chain w.graph (seen_in w) old.root l) (sym is) to.leads);
+          may = λ m i. subst (λ z. MayLook w.graph w.sources w.outcomes w.records z m) (sym root) (to.may m (subst (λ l. IsIn m l) is i));
+        };
+      }
 
   -- the path is shorter than the limit before the node is put there
   pub room : IsNext w old n → length old.path < height_limit
   room next = omega (arith, next.path.few, length-append old.path (n ∷ []))
 
   pub last : (walk : Walk) → SoFar w old walk n → IsLast w walk n
-  last walk so = record { formed = so.formed; front = old.path; is = so.ends; path = so.path }
+  last walk so = record { formed = so.formed; front = old.path; is = so.ends; path = so.path; looked = so.looked }
 
   pub fits : (walk : Walk) → SoFar w old walk n → Fits w.graph n
   fits walk so = so.path.fit n (subst (λ l. IsIn n l) (sym so.ends) (at_end n old.path))
@@ -121,12 +138,19 @@ module _ (w : World) (old : Walk) (n : Node) where
   -- ---- a need that was not visited
 
   module _ (walk : Walk) (so : SoFar w old walk n) (k : Node) where
-    chain_further : LeadsTo w old n → IsNeedIn w n k → IsChainFromRoot w walk (walk.path ++ k ∷ [])
-    chain_further to need = subst (λ l. Chain w.graph (seen_in w) walk.root (l ++ k ∷ [])) (sym so.ends)
-        (chain_on w.graph (seen_in w) old.path walk.root n k (subst (λ l. Chain w.graph (seen_in w) walk.root l) so.ends (so.right to).leads) need)
+    chain_further : LeadsTo w old n → IsNextNeed w n k → IsChainFromRoot w walk (walk.path ++ k ∷ [])
+    chain_further to next = subst (λ l. Chain w.graph (seen_in w) walk.root (l ++ k ∷ [])) (sym so.ends)
+        (chain_on w.graph (seen_in w) old.path walk.root n k (subst (λ l. Chain w.graph (seen_in w) walk.root l) so.ends (so.right to).leads) next.need)
 
-    pub leads_further : LeadsTo w old n → IsNeedIn w n k → LeadsTo w walk k
-    leads_further to need = record { holds = (so.right to).holds; leads = chain_further to need }
+    may_further : LeadsTo w old n → IsNextNeed w n k → MayBeOnPath w walk (walk.path ++ k ∷ [])
+    may_further to next m i = elim (in_push m k walk.path i) [
+      | inl j ↦ (so.right to).may m j
+      | inr e ↦ subst (λ z. MayLook w.graph w.sources w.outcomes w.records walk.root z) (sym e)
+          (a_need n k ((so.right to).may n (subst (λ l. IsIn n l) (sym so.ends) (at_end n old.path))) next.unchecked next.need)
+    ]
+
+    pub leads_further : LeadsTo w old n → IsNextNeed w n k → LeadsTo w walk k
+    leads_further to next = record { holds = (so.right to).holds; leads = chain_further to next; may = may_further to next }
 
     push_fits : Fits w.graph k → AllFit w.graph (walk.path ++ k ∷ [])
     push_fits fits m i = elim (in_push m k walk.path i) [ inl j ↦ so.path.fit m j | inr e ↦ subst (λ z. Fits w.graph z) (sym e) fits ]
@@ -137,7 +161,7 @@ module _ (w : World) (old : Walk) (n : Node) where
     chain_fits fits (Circular chain) c = subst (λ l. AllFit w.graph l) (sym c.1) (push_fits fits)
     chain_fits fits (Deep chain) c = subst (λ l. AllFit w.graph l) (sym c.2) (push_fits fits)
 
-    chain_found : LeadsTo w old n → IsNeedIn w n k → (found : Found) → IsChainTo walk.path k (Some found) → IsFound w.graph w.sources w.outcomes old.root found
+    chain_found : LeadsTo w old n → IsNextNeed w n k → (found : Found) → IsChainTo walk.path k (Some found) → IsFound w.graph w.sources w.outcomes old.root found
     chain_found to need (Answer view) c = absurd c
     chain_found to need (Circular chain) c = record {
       front = walk.path;
@@ -158,12 +182,12 @@ module _ (w : World) (old : Walk) (n : Node) where
     is_chain (Circular chain) c = tt
     is_chain (Deep chain) c = tt
 
-    pub chained : Fits w.graph k → (LeadsTo w old n → IsNeedIn w n k) → (found : Found) → IsChainTo walk.path k (Some found)
+    pub chained : Fits w.graph k → (LeadsTo w old n → IsNextNeed w n k) → (found : Found) → IsChainTo walk.path k (Some found)
         → IsFitChain w.graph found × (LeadsTo w old n → IsFound w.graph w.sources w.outcomes old.root found)
     chained fits need found c = ((chain_fits fits found c, is_chain found c), λ to. chain_found to (need to) found c)
 
     -- a chain that was found from there
-    pub found_further : (LeadsTo w old n → IsNeedIn w n k) → (found : Found)
+    pub found_further : (LeadsTo w old n → IsNextNeed w n k) → (found : Found)
         → IsFitChain w.graph found × (LeadsTo w walk k → IsFound w.graph w.sources w.outcomes walk.root found)
         → IsFitChain w.graph found × (LeadsTo w old n → IsFound w.graph w.sources w.outcomes old.root found)
     found_further need found after =
@@ -180,7 +204,7 @@ module _ (w : World) (old : Walk) (n : Node) where
       };
     }
 
-    pub go_on : (LeadsTo w old n → IsNeedIn w n k) → (new : Walk) → GoesOnFrom walk new → IsFormedIn w new → (LeadsTo w walk k → HoldsIn w new)
+    pub go_on : (LeadsTo w old n → IsNextNeed w n k) → (new : Walk) → GoesOnFrom walk new → IsFormedIn w new → (LeadsTo w walk k → HoldsIn w new)
         → Visited w walk new k → node_in k walk.path ≡ false → SoFar w old new n
     go_on need new on formed holds after off = record {
       on = goes_far old walk new so.on on;
@@ -192,9 +216,11 @@ module _ (w : World) (old : Walk) (n : Node) where
         different = subst (λ l. AreDifferent l) (sym after.path) so.path.different;
         few = subst (λ l. length l ≤ height_limit) (sym after.path) so.path.few;
       };
+      looked = λ stepped. let x = value_of_some (place_in walk.looked n) (so.looked stepped) in ap is_some (on.looked n x.0 x.1);
       right = λ to. record {
         holds = holds (leads_further to (need to));
         leads = subst (λ z. Chain w.graph (seen_in w) z new.path) (sym on.root)
             (subst (λ l. Chain w.graph (seen_in w) walk.root l) (sym after.path) (so.right to).leads);
+        may = λ m i. subst (λ z. MayLook w.graph w.sources w.outcomes w.records z m) (sym on.root) ((so.right to).may m (subst (λ l. IsIn m l) after.path i));
       };
     }

@@ -6,7 +6,7 @@ use Rattle.object_values.specs.declared.records.NodeRecord.{NodeRecord}
 use Rattle.meaning_true.specs.Knowing.{KeptRecord, view_kept}
 use Rattle.meaning_true.specs.Numbered.{is_at}
 use Rattle.derive_walk.specs.declared.done.Done.{Done}
-use Rattle.derive_walk.specs.Keeping.{Keeping}
+use Rattle.derive_walk.specs.Keeping.{Keeping, IsNodeRecord}
 use Rattle.derive_walk.specs.Worlds.{World}
 
 -- The node has steps, its record is checked, and this is what it came to.
@@ -20,7 +20,7 @@ pub record HasChecked (w : World) (n : Node) (done : Done) : Type 0 where
 
 -- It is the node's record, and checked.
 pub record IsCheckedRecord (keeping : Keeping) (n : Node) (r : NodeRecord) : Type 0 where
-  pub is : keeping.records n ≡ Some r
+  pub is : IsNodeRecord keeping n r
   pub checked : is_at keeping.epoch r.checked ≡ true
 
 -- the one at this place

@@ -1,7 +1,8 @@
 -- What follows of walks and of what they find.
-use Rattle.std.specs.Prelude.{◌≡◌, None}
+use Rattle.std.specs.Prelude.{◌≡◌, Some, None}
 use Rattle.object_values.specs.declared.nodes.Node.{Node}
 use Rattle.object_values.specs.declared.calls.Call.{Call}
+use Rattle.object_values.specs.declared.views.View.{View}
 use Rattle.meaning_texts.specs.Lists.{IsIn}
 use Rattle.meaning_graph.specs.Graphs.{Graph}
 use Rattle.meaning_calls.specs.Jobs.{IsWellFormed}
@@ -11,10 +12,12 @@ use Rattle.meaning_derive.specs.Given.{OutcomesFit}
 use Rattle.meaning_derive.specs.Laws.{HasMore}
 use Rattle.meaning_true.specs.Knowing.{KeptRecords, Knows}
 use Rattle.derive_walk.specs.declared.found.Found.{Found}
+use Rattle.derive_walk.specs.declared.found.Found.TheVariants.{Answer}
 use Rattle.derive_walk.specs.Founds.{IsFound, NodesFit}
 use Rattle.derive_walk.specs.Knowing.{records_with}
-use Rattle.derive_walk.specs.Looks.{HasMet}
-use Rattle.derive_walk.specs.Walks.{Walked, IsFormed, IsRight}
+use Rattle.derive_walk.specs.Looks.{HasLookedAt, AllAreLookedAt}
+use Rattle.derive_walk.specs.Places.{KeptPlaces}
+use Rattle.derive_walk.specs.Walks.{Walked, IsFormed, IsRight, IsPlacedIn}
 use Rattle.derive_walk.specs.Worlds.{World, IsWorld, world_over}
 
 -- What is found stays so as more outcomes come.
@@ -26,18 +29,18 @@ FoundStays =
 -- A walk that is right stays so as more outcomes come, as long as no wanted call has one.
 abbrev pub RightStays : Type 0
 RightStays =
-    (records : KeptRecords) (g : Graph) (s : Sources) (outcomes more : Outcomes)
-    → HasMore outcomes more → OutcomesFit more
+    (records : KeptRecords) (places : KeptPlaces) (g : Graph) (s : Sources)
+    (outcomes more : Outcomes) → HasMore outcomes more → OutcomesFit more
     → (walked : Walked) → ((call : Call) → IsIn call walked.wanted → more call ≡ None)
-    → IsRight (world_over records g s outcomes) walked → IsRight (world_over records g s more) walked
+    → IsRight (world_over records places g s outcomes) walked → IsRight (world_over records places g s more) walked
 
 -- So does a walk that is formed.
 abbrev pub FormedStays : Type 0
 FormedStays =
-    (records : KeptRecords) (g : Graph) (s : Sources) (outcomes more : Outcomes)
-    → HasMore outcomes more → OutcomesFit more
+    (records : KeptRecords) (places : KeptPlaces) (g : Graph) (s : Sources)
+    (outcomes more : Outcomes) → HasMore outcomes more → OutcomesFit more
     → (walked : Walked) → ((call : Call) → IsIn call walked.wanted → more call ≡ None)
-    → IsFormed (world_over records g s outcomes) walked → IsFormed (world_over records g s more) walked
+    → IsFormed (world_over records places g s outcomes) walked → IsFormed (world_over records places g s more) walked
 
 -- ---- what is formed, whatever is known
 
@@ -60,10 +63,16 @@ RightIsFormed =
 
 -- ---- what was looked at
 
--- The nodes with steps that have results, and those that stop at the wanted calls, are different
--- ones, and each is met from the root.
-abbrev pub WalksHaveMet : Type 0
-WalksHaveMet = (w : World) (walked : Walked) → IsRight w walked → HasMet w walked
+-- What is counted are looks at different nodes that may be looked at, and no outcome is looked for that needn't be.
+abbrev pub LooksAreOfNodes : Type 0
+LooksAreOfNodes = (w : World) (walked : Walked) → IsRight w walked → HasLookedAt w walked
+
+-- Once the root has a view, all were looked at that may be.
+abbrev pub AllIsLookedAt : Type 0
+AllIsLookedAt =
+    (w : World) (walked : Walked) → IsRight w walked
+    → IsPlacedIn walked.root walked.done walked.result
+    → (view : View) → walked.result ≡ Some (Answer view) → AllAreLookedAt w walked
 
 -- ---- what is told
 

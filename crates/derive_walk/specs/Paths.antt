@@ -10,7 +10,8 @@ use Rattle.node_tasks.specs.declared.ahead.Ahead.{Ahead}
 use Rattle.node_tasks.specs.declared.needed.Needed.{Needed}
 use Rattle.node_tasks.specs.Ahead.{IsAhead}
 use Rattle.node_tasks.specs.Needed.{IsNeeded}
-use Rattle.meaning_true.specs.Knowing.{KeptRecord, IsChecked}
+use Rattle.meaning_true.specs.Knowing.{KeptRecord, IsChecked, MayLook}
+use Rattle.derive_walk.specs.Places.{place_in}
 use Rattle.derive_walk.specs.Tables.{results_of, are_done, top_of, of_height}
 use Rattle.derive_walk.specs.declared.done.Done.{Done}
 use Rattle.derive_walk.specs.declared.found.Found.{Found}
@@ -50,22 +51,30 @@ pub record IsNext (w : World) (walk : Walk) (n : Node) : Type 0 where
   pub formed : IsFormedIn w walk
   pub path : IsPath w walk (walk.path ++ n ∷ [])
 
--- The node is the last of the path.
+-- The node is the last of the path, and was looked at.
 pub record IsLast (w : World) (walk : Walk) (n : Node) : Type 0 where
   pub formed : IsFormedIn w walk
   pub front : List Node
   pub is : walk.path ≡ front ++ n ∷ []
   pub path : IsPath w walk walk.path
+  pub looked : n.steps ≢ [] → IsSome (place_in walk.looked n)
 
--- The walk is right so far, and its path leads from the root.
+-- each of the nodes may be looked at
+abbrev pub MayBeOnPath : World → Walk → List Node → Type 0
+MayBeOnPath w walk path = (n : Node) → IsIn n path
+    → MayLook w.graph w.sources w.outcomes w.records walk.root n
+
+-- The walk is right so far, and its path leads from the root, over nodes that may be looked at.
 pub record IsLed (w : World) (walk : Walk) : Type 0 where
   pub holds : HoldsIn w walk
   pub leads : IsChainFromRoot w walk walk.path
+  pub may : MayBeOnPath w walk walk.path
 
 -- The same where the node is visited next.
 pub record LeadsTo (w : World) (walk : Walk) (n : Node) : Type 0 where
   pub holds : HoldsIn w walk
   pub leads : IsChainFromRoot w walk (walk.path ++ n ∷ [])
+  pub may : MayBeOnPath w walk (walk.path ++ n ∷ [])
 
 -- nothing is on the way, and nothing waits
 pub record HasEmptyPath (walk : Walk) : Type 0 where
@@ -154,9 +163,10 @@ pub record IsUnvisited (w : World) (walk : Walk) (n m : Node) : Type 0 where
   pub need : IsNeed w.graph (results_of walk.done) n m
   pub unseen : heights_in walk m ≡ None
 
--- These needs are visited next: there are some, and none of them was visited.
+-- These needs are visited next: there are some, and none of them was visited. The node's record isn't checked.
 pub record AreToVisit (w : World) (walk : Walk) (n : Node) (needs : List Node) : Type 0 where
   pub some : needs ≢ []
+  pub unchecked : (n.steps ≡ []) ⊎ (¬ IsChecked w.records n)
   pub each : (m : Node) → IsIn m needs → IsUnvisited w walk n m
 
 -- A round visits needs, or closes the node: by its record where that is checked or current, or once all needs were visited.
@@ -192,7 +202,7 @@ pub record IsNextByRecord (w : World) (n : Node) (next : Option Node) : Type 0 w
 
 -- The next one by what the node needs over the results so far: the first need of the height.
 pub record IsNextByNeeds (w : World) (walk : Walk) (n : Node) (height : ℕ) (next : Option Node) : Type 0 where
-  pub unchecked : ¬ IsChecked w.records n
+  pub unchecked : (n.steps ≡ []) ⊎ (¬ IsChecked w.records n)
   pub needs : List Node
   pub listed : Needs w.graph n (results_of walk.done) needs
   pub is : next ≡ of_height (heights_in walk) height needs

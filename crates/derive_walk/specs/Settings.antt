@@ -5,13 +5,14 @@ use Rattle.meaning_derive.specs.Derive.{Sources}
 use Rattle.meaning_derive.specs.Given.{AreSources}
 use Rattle.derive_walk.specs.Calls.{GivenOutcomes as Listed}
 use Rattle.derive_walk.specs.declared.setting.Setting.{Setting}
-use Rattle.derive_walk.specs.Keeping.{AreReadable, Keeping, records_in}
+use Rattle.derive_walk.specs.Keeping.{AreReadable, Keeping, places_in, records_in}
 use Rattle.derive_walk.specs.Outcomes.{after}
 use Rattle.derive_walk.specs.Worlds.{World, IsWorld, world_over}
 
 -- the world by what is kept, after these outcomes were given
 abbrev pub world_by : Keeping → Graph → Sources → Listed → World
-world_by keeping g s given = world_over (records_in keeping) g s (after keeping.outcomes given)
+world_by keeping g s given =
+    world_over (records_in keeping) (places_in keeping) g s (after keeping.outcomes given)
 
 -- Derivation may go by these: the graph can be spelled, the sources are such, and the records may be kept.
 pub record MayGoBy (keeping : Keeping) (g : Graph) (s : Sources) : Type 0 where

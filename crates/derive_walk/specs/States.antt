@@ -14,6 +14,8 @@ use Rattle.derive_walk.specs.declared.found.Found.{Found}
 use Rattle.derive_walk.specs.declared.walk.Walk.{Walk}
 use Rattle.derive_walk.specs.Founds.{IsFound, IsFitChain}
 use Rattle.derive_walk.specs.Walks.{AreFormedDone, AreFormedCalls, AreDone, AreMet}
+use Rattle.derive_walk.specs.Looked.{AreLookups, MayBeLooked}
+use Rattle.derive_walk.specs.Places.{Lookups, place_in}
 use Rattle.derive_walk.specs.Told.{AreTold, AreToldRightly}
 use Rattle.derive_walk.specs.Worlds.{World, KnowsIn, seen_in, IsNeedIn, StopsAtCall}
 
@@ -61,6 +63,7 @@ pub record IsFormedIn (w : World) (walk : Walk) : Type 0 where
   pub root : Fits w.graph walk.root
   pub done : AreFormedDone w.graph walk.done
   pub told : AreTold w walk.done walk.fresh walk.renewed
+  pub looked : AreLookups w walk.done walk.looked
   pub waiting : (n : Node) (h : ℕ) → height_in walk.waiting n ≡ Some h → IsFormedWait w.graph n h
   pub wanted : AreFormedCalls w.outcomes walk.wanted
 
@@ -73,6 +76,7 @@ pub record HoldsIn (w : World) (walk : Walk) : Type 0 where
   pub done : AreDone w walk.done
   pub met : AreMet w walk.root walk.done
   pub rightly : AreToldRightly w walk.fresh walk.renewed
+  pub may : MayBeLooked w walk.root walk.looked
   pub waiting : (n : Node) (h : ℕ) → height_in walk.waiting n ≡ Some h
       → IsWaiting w (heights_in walk) walk.wanted n h
   pub one : (n : Node) (h : ℕ) → height_in walk.waiting n ≡ Some h
@@ -82,12 +86,21 @@ pub record HoldsIn (w : World) (walk : Walk) : Type 0 where
 
 -- ---- as it goes on
 
--- What was visited and what is wanted stays, and so do results.
+-- What was visited, what was looked at and what is wanted stays, and so do results.
 pub record GoesOnFrom (old new : Walk) : Type 0 where
   pub root : new.root ≡ old.root
   pub wanted : (call : Call) → IsIn call old.wanted → IsIn call new.wanted
   pub keeps : (m : Node) (k : ℕ) → heights_in old m ≡ Some k → heights_in new m ≡ Some k
+  pub looked : (m : Node) (place : Option ℕ) → place_in old.looked m ≡ Some place
+      → place_in new.looked m ≡ Some place
   pub results : Grows (results_of old.done) (results_of new.done)
+
+-- Nothing changes but what was looked at, which stays.
+pub record OnlyLooks (old new : Walk) : Type 0 where
+  pub looked : Lookups
+  pub is : new ≡ record old { looked = looked }
+  pub stays : (m : Node) (place : Option ℕ) → place_in old.looked m ≡ Some place
+      → place_in looked m ≡ Some place
 
 -- The node was visited, and no other node of the path.
 pub record Visited (w : World) (old new : Walk) (n : Node) : Type 0 where

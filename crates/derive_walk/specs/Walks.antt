@@ -22,11 +22,13 @@ use Rattle.derive_walk.specs.Calls.{GivenOutcomes, outcome_in, AreOnce}
 use Rattle.derive_walk.specs.declared.found.Found.{Found}
 use Rattle.derive_walk.specs.declared.found.Found.TheVariants.{Answer}
 use Rattle.derive_walk.specs.Founds.{IsFound, NodesFit}
+use Rattle.derive_walk.specs.Looked.{AreLookups, AreTaken, MayBeLooked}
+use Rattle.derive_walk.specs.Places.{Lookups}
 use Rattle.derive_walk.specs.Told.{AreTold, AreToldRightly}
 use Rattle.derive_walk.specs.Worlds.{World, KnowsIn, seen_in, IsNeedIn, StopsAtCall}
 
 -- The root, the nodes with results, what is noted of those that were settled and what the records of the others came to, the outcomes that were
--- given, the calls that are wanted, and what is found of the root.
+-- given, the calls that are wanted, the nodes that were looked at, those for which a kept outcome was looked for, and what is found of the root.
 pub record Walked : Type 0 where
   pub root : Node
   pub done : Entries
@@ -34,10 +36,22 @@ pub record Walked : Type 0 where
   pub renewed : List RenewedNode
   pub given : GivenOutcomes
   pub wanted : List Call
+  pub looked : Lookups
+  pub taken : List Node
   pub result : Option Found
 
 abbrev pub new_walk : Node → Walked
-new_walk root = record { root = root; done = []; fresh = []; renewed = []; given = []; wanted = []; result = None }
+new_walk root = record {
+  root = root;
+  done = [];
+  fresh = [];
+  renewed = [];
+  given = [];
+  wanted = [];
+  looked = [];
+  taken = [];
+  result = None;
+}
 
 -- a root with steps whose view is found stands in the table
 abbrev pub IsPlacedIn : Node → Entries → Option Found → Type 0
@@ -72,6 +86,7 @@ pub record IsFormed (w : World) (walked : Walked) : Type 0 where
   pub root : Fits w.graph walked.root
   pub done : AreFormedDone w.graph walked.done
   pub told : AreTold w walked.done walked.fresh walked.renewed
+  pub looked : AreLookups w walked.done walked.looked
   pub wanted : AreFormedCalls w.outcomes walked.wanted
   pub found : IfSome walked.result (NodesFit w.graph)
 
@@ -105,6 +120,9 @@ pub record IsRight (w : World) (walked : Walked) : Type 0 where
   pub met : AreMet w walked.root walked.done
   pub told : AreTold w walked.done walked.fresh walked.renewed
   pub rightly : AreToldRightly w walked.fresh walked.renewed
+  pub looked : AreLookups w walked.done walked.looked
+  pub may : MayBeLooked w walked.root walked.looked
+  pub taken : AreTaken w walked.given walked.looked walked.done walked.wanted walked.taken
   pub wanted : (call : Call) → IsIn call walked.wanted → StopsAtCall w walked.root call
   pub once : AreOnce walked.wanted
   pub found : IfSome walked.result (IsFound w.graph w.sources w.outcomes walked.root)
@@ -146,4 +164,6 @@ pub record OutcomeIsGiven (call : Call) (outcome : Outcome) (old new : Walked) :
   pub given : new.given ≡ old.given ++ (call, outcome) ∷ []
   pub wanted : (c : Call) → IsIn c new.wanted ↔ (IsIn c old.wanted × (c ≢ call))
   pub once : AreOnce new.wanted
+  pub looked : new.looked ≡ old.looked
+  pub taken : new.taken ≡ old.taken
   pub result : new.result ≡ old.result

@@ -11,21 +11,23 @@ use Rattle.meaning_derive.specs.Calls.{IsFrontier}
 use Rattle.meaning_derive.specs.Given.{AreSources, OutcomesFit}
 use Rattle.meaning_true.specs.Knowing.{KeptRecords, Knows, no_records}
 use Rattle.derive_walk.specs.Keeping.{AreReadable}
+use Rattle.derive_walk.specs.Places.{KeptPlaces, no_places}
 
--- The graph, the sources, the outcome of each call that is known to have one, and the records that are kept of nodes.
+-- The graph, the sources, the outcome of each call that is known to have one, the records that are kept of nodes, and those at each place.
 pub record World : Type 0 where
   pub graph : Graph
   pub sources : Sources
   pub outcomes : Outcomes
   pub records : KeptRecords
+  pub places : KeptPlaces
 
-abbrev pub world_over : KeptRecords → Graph → Sources → Outcomes → World
-world_over records g s outcomes =
-    record { graph = g; sources = s; outcomes = outcomes; records = records }
+abbrev pub world_over : KeptRecords → KeptPlaces → Graph → Sources → Outcomes → World
+world_over records places g s outcomes =
+    record { graph = g; sources = s; outcomes = outcomes; records = records; places = places }
 
 -- without a record
 abbrev pub world : Graph → Sources → Outcomes → World
-world = world_over no_records
+world = world_over no_records no_places
 
 -- They are what derivation is given.
 pub record IsWorld (w : World) : Type 0 where

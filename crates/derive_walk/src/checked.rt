@@ -1,12 +1,18 @@
 // Records that were checked at the present epoch: they hold as they stand.
-ghost use Rattle.std.specs.Prelude.{◌≡◌, IfNone, IfSome, map, option_map};
+ghost use Rattle.std.specs.Prelude.{◌≡◌, ◌⊎◌, ◌+◌, [], IfNone, IfSome, map, option_map};
 ghost use Rattle.meaning_true.specs.Numbered.{is_at};
 ghost use Rattle.meaning_true.specs.Knowing.{IsChecked};
 ghost use Rattle.derive_walk.specs.CheckedRecords.{IsCheckedRecord, node_at};
-ghost use Rattle.derive_walk.specs.Keeping.{records_in};
+ghost use Rattle.derive_walk.specs.Looks.{look_beyond};
+ghost use Rattle.derive_walk.specs.Settings.{world_in};
+ghost use Rattle.derive_walk.specs.States.{IsFormedIn};
 
 use crate::known::Known;
+use crate::setting::Setting;
+use crate::walk::Walk;
 use object_values::{Node, NodeRecord};
+use odin_outside::Steps;
+use std::sync::ledger::Ledger;
 
 /// Whether the record was checked at this epoch.
 pub(crate) fn was_checked(kept: &NodeRecord, epoch: u64) -> bool
@@ -18,17 +24,34 @@ pub(crate) fn was_checked(kept: &NodeRecord, epoch: u64) -> bool
     }
 }
 
-/// The record of the node, where it is checked.
-pub(crate) fn checked_record<'a, K: Known>(known: &'a K, node: &Node) -> Option<&'a NodeRecord>
-    ensures some { let keeping = K.keeps known.now in
+/// The record of the node, where it is checked. A node that wasn't looked at is, unless it is a source.
+pub(crate) fn checked_record<'a, K: Known, L: Ledger>(
+    setting: &Setting<'a, K>,
+    walk: &Walk,
+    node: &Node,
+    steps: &mut Steps<L>,
+) -> Option<&'a NodeRecord>
+    requires { IsFormedIn (world_in K.keeps setting.now) walk.now }
+    ensures some { let keeping = K.keeps setting.now.known.now in
         IfSome result (λ r. IsCheckedRecord keeping node.now r.now) }
-    ensures none { let records = records_in (K.keeps known.now) in
-        IfNone result (¬ IsChecked records node.now) }
+    ensures none { let w = world_in K.keeps setting.now in
+        IfNone result ((node.now.steps ≡ []) ⊎ (¬ IsChecked w.records node.now)) }
+    ensures counted { steps.new ≡ steps.old + look_beyond walk.now.looked node.now }
 {
-    let Some(kept) = known.record(node) else {
+    if node.steps.is_empty() {
+        return None;
+    }
+    let place = match walk.looked.place(node) {
+        Some(place) => place,
+        None => setting.known.find(node, steps),
+    };
+    let Some(place) = place else {
         return None;
     };
-    if was_checked(kept, known.epoch()) {
+    let Some(kept) = setting.known.at(place) else {
+        return None;
+    };
+    if was_checked(kept, setting.known.epoch()) {
         return Some(kept);
     }
     None

@@ -1,6 +1,6 @@
 // The closing of a node whose needs were all visited.
 ghost use Rattle.std.specs.Prelude.{◌+◌, OnOk, IfOk};
-ghost use Rattle.derive_walk.specs.Looks.{HasMetOne, LooksAreFew, lost, met_in};
+ghost use Rattle.derive_walk.specs.Looks.{ClosesAlone, GoesByLooks, lost, spare_at};
 ghost use Rattle.derive_walk.specs.Paths.{ClosesSo, IsClosing, IsLast, IsLed, IsWholeRound};
 ghost use Rattle.derive_walk.specs.Settings.{IsSetting, world_in};
 ghost use Rattle.derive_walk.specs.States.{IsFormedIn, HoldsIn, GoesOnFrom, Visited, AfterVisit};
@@ -11,7 +11,7 @@ use crate::found::Found;
 use crate::known::Known;
 use crate::noting::note_of;
 use crate::setting::Setting;
-use crate::settling::{Closed, settle_node};
+use crate::settling::{Closed, Closing, settle_node};
 use crate::survey::Survey;
 use crate::walk::Walk;
 use node_tasks::Needed;
@@ -41,11 +41,12 @@ pub(crate) fn close<K: Known, L: Ledger>(
         IsLed w walk.old → HoldsIn w walk.new }
     ensures after { let w = world_in K.keeps setting.now in
         IfOk result (AfterVisit w (IsLed w walk.old) walk.old walk.new node) }
-    ensures counted { LooksAreFew (met_in walk.old) (met_in walk.new) steps.old
-        steps.new (lost result) }
+    ensures counted { let w = world_in K.keeps setting.now in
+        GoesByLooks w setting.now.given.now (IsLed w walk.old) walk.old walk.new
+        steps.old steps.new (spare_at walk.new.looked result) }
 {
     if survey.top >= HEIGHT_LIMIT as u32 {
-        let chain = descend(alloc, setting, walk)?;
+        let chain = descend(alloc, setting, walk, steps)?;
         return Ok(Some(Found::Deep(chain)));
     }
     let height = survey.top + 1;
@@ -77,10 +78,12 @@ fn close_seen<K: Known, L: Ledger>(
         IsLed w walk.old → HoldsIn w walk.new }
     ensures visited { let w = world_in K.keeps setting.now in
         OnOk result (Visited w walk.old walk.new node) }
-    ensures counted { LooksAreFew (met_in walk.old) (met_in walk.new) steps.old
-        steps.new (lost result) }
+    ensures counted { let w = world_in K.keeps setting.now in
+        GoesByLooks w setting.now.given.now (IsLed w walk.old) walk.old walk.new
+        steps.old steps.new (lost result) }
 {
-    let closed = settle_node(
+    let copy = node.copy(alloc)?;
+    let Closing { closed, took } = settle_node(
         alloc,
         setting,
         &walk.done,
@@ -89,7 +92,12 @@ fn close_seen<K: Known, L: Ledger>(
         needed,
         steps,
     )?;
-    take_closed(alloc, setting, walk, node, needed, height, closed)
+    take_closed(alloc, setting, walk, node, needed, height, closed)?;
+    if !took {
+        return Ok(());
+    }
+    walk.taken.push(copy)?;
+    Ok(())
 }
 
 // Takes the node by what came of it.
@@ -112,7 +120,7 @@ fn take_closed<K: Known>(
         IsLed w walk.old → HoldsIn w walk.new }
     ensures visited { let w = world_in K.keeps setting.now in
         OnOk result (Visited w walk.old walk.new node) }
-    ensures met { HasMetOne walk.old walk.new node closed result }
+    ensures alone { ClosesAlone walk.old walk.new node closed result }
 {
     match closed {
         Closed::Given(view) => {

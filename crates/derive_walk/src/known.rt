@@ -1,5 +1,6 @@
 // What is kept, of calls and of nodes.
 ghost use Rattle.std.specs.Prelude.{◌≡◌, ◌↔◌, ◌+◌, None, Some, IfOk, IfSome, IsTrue, option_map};
+ghost use Rattle.derive_walk.specs.Places.{at_place};
 ghost use Rattle.derive_walk.specs.Keeping.{Keeping};
 ghost use Rattle.derive_walk.specs.Trials.{IsNamed};
 
@@ -9,7 +10,7 @@ use std::alloc::Global;
 use std::sync::ledger::Ledger;
 
 /// What is kept: outcomes of calls, and records of nodes, whose values are contents by their numbers. Each look at a kept call
-/// costs a step.
+/// costs a step, and so does each look at a node. What stands at a place is no look.
 pub trait Known {
     ghost keeps: { Self → Keeping };
 
@@ -22,9 +23,14 @@ pub trait Known {
         ensures is { IfOk result (λ outcome. outcome ≡ (keeps self.now).outcomes call.now) }
         ensures step { steps.new ≡ steps.old + 1 };
 
-    /// The record of a node.
-    fn record(&self, node: &Node) -> Option<&NodeRecord>
-        ensures is { option_map (λ r. r.now) result ≡ (keeps self.now).records node.now }
+    /// The place of the record of a node, where it has one.
+    fn find<L: Ledger>(&self, node: &Node, steps: &mut Steps<L>) -> Option<u64>
+        ensures is { at_place (keeps self.now).placed result ≡ (keeps self.now).records node.now }
+        ensures step { steps.new ≡ steps.old + 1 };
+
+    /// The record at a place.
+    fn at(&self, place: u64) -> Option<&NodeRecord>
+        ensures is { option_map (λ r. r.now) result ≡ (keeps self.now).placed place }
         ensures named { IfSome result (λ r. IsNamed (keeps self.now).contents r.now) };
 
     /// The epoch at which they are looked up: a record that was checked at it holds as it stands.
@@ -60,7 +66,12 @@ impl Known for NothingKept {
         Ok(None)
     }
 
-    fn record(&self, _node: &Node) -> Option<&NodeRecord> {
+    fn find<L: Ledger>(&self, _node: &Node, steps: &mut Steps<L>) -> Option<u64> {
+        steps.tick();
+        None
+    }
+
+    fn at(&self, _place: u64) -> Option<&NodeRecord> {
         None
     }
 

@@ -1,5 +1,5 @@
 //! Laws of walks. Each is the contract of a function with an empty body.
-ghost use Rattle.derive_walk.specs.Laws.{FoundStays, RightStays, FormedStays, FoundFits, WantedAreFormed, RightIsFormed, WalksHaveMet, ToldIsKnown};
+ghost use Rattle.derive_walk.specs.Laws.{FoundStays, RightStays, FormedStays, FoundFits, WantedAreFormed, RightIsFormed, LooksAreOfNodes, AllIsLookedAt, ToldIsKnown};
 
 /// What is found stays, and so does a walk that is right or formed, as more outcomes come.
 pub fn more_keeps()
@@ -16,9 +16,11 @@ pub fn all_is_formed()
     ensures walks { RightIsFormed }
 {}
 
-/// What `counted` counts are different nodes that are met from the root.
+/// What `counted` counts are looks at different nodes that may be looked at, and at a view all of them;
+/// and outcomes that no record could spare.
 pub fn looks_are_of_nodes()
-    ensures { WalksHaveMet }
+    ensures nodes { LooksAreOfNodes }
+    ensures all { AllIsLookedAt }
 {}
 
 /// Once what a walk tells is kept, what is kept of nodes is true, and what was checked holds.

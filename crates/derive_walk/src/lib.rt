@@ -14,6 +14,7 @@ mod heights;
 mod known;
 pub mod laws;
 mod lists;
+mod looked;
 mod looking;
 mod noting;
 mod renewing;

@@ -1,6 +1,7 @@
 // The closing of a node by its record.
-ghost use Rattle.std.specs.Prelude.{◌≡◌, ◌≤◌, IfOk, OnOk};
-ghost use Rattle.derive_walk.specs.Looks.{met_in};
+ghost use Rattle.std.specs.Prelude.{◌≡◌, IfOk, OnOk, option_map};
+ghost use Rattle.derive_walk.specs.Keeping.{IsLookedUp};
+ghost use Rattle.derive_walk.specs.Looks.{LooksNoMore};
 ghost use Rattle.derive_walk.specs.Paths.{IsByRecord, IsLast, IsLed, IsRecorded};
 ghost use Rattle.derive_walk.specs.Settings.{IsSetting, world_in};
 ghost use Rattle.derive_walk.specs.Trials.{renewed_by};
@@ -12,7 +13,7 @@ use crate::known::Known;
 use crate::setting::Setting;
 use crate::trial::{Current, done_by, try_record};
 use crate::walk::Walk;
-use object_values::{Copied, Memory, Node, Renewed, RenewedNode};
+use object_values::{Copied, Memory, Node, NodeRecord, Renewed, RenewedNode};
 use std::alloc::Global;
 
 /// What a node comes to by its record: as that stands, where it is checked, or as it was tried.
@@ -29,15 +30,18 @@ pub(crate) fn recorded_of<K: Known>(
     setting: &Setting<'_, K>,
     walk: &Walk,
     node: &Node,
+    kept: Option<&NodeRecord>,
 ) -> Result<Option<Recorded>, Memory>
     requires formed { IsFormedIn (world_in K.keeps setting.now) walk.now }
+    requires kept { let keeping = K.keeps setting.now.known.now in
+        IsLookedUp keeping node.now (option_map (λ k. k.now) kept) }
     ensures { let w = world_in K.keeps setting.now in
         IfOk result (IsRecorded w walk.now node.now) }
 {
     if node.steps.is_empty() {
         return Ok(None);
     }
-    let Some(kept) = setting.known.record(node) else {
+    let Some(kept) = kept else {
         return Ok(None);
     };
     if was_checked(kept, setting.known.epoch()) {
@@ -67,7 +71,7 @@ pub(crate) fn renew<K: Known>(
         IsLed w walk.old → HoldsIn w walk.new }
     ensures visited { let w = world_in K.keeps setting.now in
         OnOk result (Visited w walk.old walk.new node) }
-    ensures more { met_in walk.old ≤ met_in walk.new }
+    ensures same { LooksNoMore walk.old walk.new }
 {
     let _ = setting;
     match recorded {

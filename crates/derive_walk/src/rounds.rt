@@ -1,8 +1,9 @@
 // The rounds of a visit: which needs are visited next.
-ghost use Rattle.std.specs.Prelude.{IfOk};
+ghost use Rattle.std.specs.Prelude.{IfOk, option_map};
 ghost use Rattle.object_values.specs.declared.nodes.Node.{Node as NodeValue};
 ghost use Rattle.meaning_tasks.specs.Nodes.{Fits};
 ghost use Rattle.node_tasks.specs.Needed.{IsNeeded};
+ghost use Rattle.derive_walk.specs.Keeping.{IsLookedUp};
 ghost use Rattle.derive_walk.specs.Tables.{results_of};
 ghost use Rattle.derive_walk.specs.Paths.{IsAheadIn, IsRound, IsSurveyed};
 ghost use Rattle.derive_walk.specs.Settings.{IsSetting, world_in};
@@ -15,7 +16,7 @@ use crate::setting::Setting;
 use crate::survey::Survey;
 use crate::walk::Walk;
 use node_tasks::{Ahead, Needed};
-use object_values::{Memory, Node, Seq};
+use object_values::{Memory, Node, NodeRecord, Seq};
 use std::alloc::Global;
 use std::mem;
 
@@ -41,18 +42,21 @@ pub(crate) fn next_round<K: Known>(
     setting: &Setting<'_, K>,
     walk: &Walk,
     node: &Node,
+    kept: Option<&NodeRecord>,
     rounds: u64,
     ahead: &mut Ahead,
 ) -> Result<Round, Memory>
     requires set { IsSetting K.keeps setting.now }
     requires formed { IsFormedIn (world_in K.keeps setting.now) walk.now }
     requires fits { Fits setting.now.planned.now node.now }
+    requires kept { let keeping = K.keeps setting.now.known.now in
+        IsLookedUp keeping node.now (option_map (λ k. k.now) kept) }
     requires ahead { IsAheadIn (world_in K.keeps setting.now) walk.now node.now ahead.old }
     ensures ahead { IsAheadIn (world_in K.keeps setting.now) walk.now node.now ahead.new }
     ensures round { let w = world_in K.keeps setting.now in
         IfOk result (IsRound w walk.now node.now) }
 {
-    if let Some(recorded) = recorded_of(alloc, setting, walk, node)? {
+    if let Some(recorded) = recorded_of(alloc, setting, walk, node, kept)? {
         return Ok(Round::Renews(recorded));
     }
     if rounds >= WHOLE_ROUNDS {

@@ -1,5 +1,5 @@
 // The settling of a node whose needs all have results.
-ghost use Rattle.std.specs.Prelude.{◌≡◌, ◌≢◌, [], Some, IfOk};
+ghost use Rattle.std.specs.Prelude.{◌≡◌, ◌≢◌, [], Some, IfOk, IsTrue};
 ghost use Rattle.std.specs.FinMap as map;
 ghost use Rattle.meaning_tasks.specs.Labels.{label_of as label_of_node};
 ghost use Rattle.meaning_tasks.specs.Nodes.{Fits};
@@ -8,6 +8,7 @@ ghost use Rattle.meaning_tasks.specs.Settle.{given_own};
 ghost use Rattle.meaning_tasks.specs.Calls.{CallOf};
 ghost use Rattle.node_tasks.specs.Needed.{IsNeeded};
 ghost use Rattle.derive_walk.specs.Tables.{results_of};
+ghost use Rattle.derive_walk.specs.Looked.{MayTake};
 ghost use Rattle.derive_walk.specs.Looks.{LooksOnce};
 ghost use Rattle.derive_walk.specs.Settings.{IsSetting, world_in};
 ghost use Rattle.derive_walk.specs.Settled.{AreOutside, NodeIsClosed, view_or_call};
@@ -27,6 +28,7 @@ use std::sync::ledger::Ledger;
 use type_graph::Graph;
 
 /// What comes of a node whose needs all have results.
+#[derive(Drop)]
 pub(crate) enum Closed {
     /// The view of a source.
     Given(View),
@@ -49,6 +51,13 @@ impl Closed {
     }
 }
 
+/// What comes of a node, and whether its outcome was looked for among what is kept.
+#[derive(Drop)]
+pub(crate) struct Closing {
+    pub(crate) closed: Closed,
+    pub(crate) took: bool,
+}
+
 /// Settles a node, or finds the call at which it stops. A call that is wanted has no outcome, and
 /// is not looked for among what is kept.
 pub(crate) fn settle_node<K: Known, L: Ledger>(
@@ -59,22 +68,31 @@ pub(crate) fn settle_node<K: Known, L: Ledger>(
     node: &Node,
     needed: &Needed,
     steps: &mut Steps<L>,
-) -> Result<Closed, Memory>
+) -> Result<Closing, Memory>
     requires set { IsSetting K.keeps setting.now }
     requires fits { Fits setting.now.planned.now node.now }
     requires needed { IsNeeded setting.now.planned.now node.now (results_of done.now) needed.now }
     requires outside { AreOutside (world_in K.keeps setting.now) wanted.now }
     ensures closed { let w = world_in K.keeps setting.now in
-        IfOk result (NodeIsClosed w node.now (results_of done.now)) }
-    ensures counted { LooksOnce wanted.now node.now steps.old steps.new result }
+        IfOk result (λ c. NodeIsClosed w node.now (results_of done.now) c.closed) }
+    ensures took { let w = world_in K.keeps setting.now in let given = setting.now.given.now in
+        IfOk result (λ c. IsTrue c.took →
+        MayTake w.graph (results_of done.now) given wanted.now node.now) }
+    ensures counted { LooksOnce steps.old steps.new (λ c. c.took) result }
 {
     if node.steps.is_empty() {
         let view = source_view(alloc, setting.planned.graph(), setting.sources, node)?;
-        return Ok(Closed::Given(view));
+        return Ok(Closing {
+            closed: Closed::Given(view),
+            took: false,
+        });
     }
     let Some(call) = call_in(alloc, setting.planned, node, needed, done)? else {
         let settled = settle_whole(alloc, setting.planned, node, needed, done, None)?;
-        return Ok(Closed::Settled(settled));
+        return Ok(Closing {
+            closed: Closed::Settled(settled),
+            took: false,
+        });
     };
     settle_call(alloc, setting, done, wanted, node, needed, call, steps)
 }
@@ -89,7 +107,7 @@ fn settle_call<K: Known, L: Ledger>(
     needed: &Needed,
     call: Call,
     steps: &mut Steps<L>,
-) -> Result<Closed, Memory>
+) -> Result<Closing, Memory>
     requires set { IsSetting K.keeps setting.now }
     requires fits { Fits setting.now.planned.now node.now }
     requires needed { IsNeeded setting.now.planned.now node.now (results_of done.now) needed.now }
@@ -97,21 +115,36 @@ fn settle_call<K: Known, L: Ledger>(
     requires called { CallOf setting.now.planned.now node.now (results_of done.now) (Some call) }
     requires stepped { node.now.steps ≢ [] }
     ensures closed { let w = world_in K.keeps setting.now in
-        IfOk result (NodeIsClosed w node.now (results_of done.now)) }
-    ensures counted { LooksOnce wanted.now node.now steps.old steps.new result }
+        IfOk result (λ c. NodeIsClosed w node.now (results_of done.now) c.closed) }
+    ensures took { let w = world_in K.keeps setting.now in let given = setting.now.given.now in
+        IfOk result (λ c. IsTrue c.took →
+        MayTake w.graph (results_of done.now) given wanted.now node.now) }
+    ensures counted { LooksOnce steps.old steps.new (λ c. c.took) result }
 {
     if let Some(outcome) = setting.given.outcome(&call) {
         let settled = settle_whole(alloc, setting.planned, node, needed, done, Some(outcome))?;
-        return Ok(Closed::Settled(settled));
+        return Ok(Closing {
+            closed: Closed::Settled(settled),
+            took: false,
+        });
     }
     if wanted.contains(&call) {
-        return Ok(Closed::Stops(call));
+        return Ok(Closing {
+            closed: Closed::Stops(call),
+            took: false,
+        });
     }
     let Some(outcome) = setting.known.outcome(alloc, &call, steps)? else {
-        return Ok(Closed::Stops(call));
+        return Ok(Closing {
+            closed: Closed::Stops(call),
+            took: true,
+        });
     };
     let settled = settle_whole(alloc, setting.planned, node, needed, done, Some(&outcome))?;
-    Ok(Closed::Settled(settled))
+    Ok(Closing {
+        closed: Closed::Settled(settled),
+        took: true,
+    })
 }
 
 /// The view of a source: its text, or that there is none.

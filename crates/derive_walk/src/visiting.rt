@@ -1,6 +1,6 @@
 // The visit of a node, and of what it needs.
 ghost use Rattle.std.specs.Prelude.{IfOk};
-ghost use Rattle.derive_walk.specs.Looks.{LooksAreFew, lost, met_in};
+ghost use Rattle.derive_walk.specs.Looks.{GoesByLooks, spare_at};
 ghost use Rattle.derive_walk.specs.Paths.{IsNext, LeadsTo};
 ghost use Rattle.derive_walk.specs.Settings.{IsSetting, world_in};
 ghost use Rattle.derive_walk.specs.States.{IsFormedIn, HoldsIn, GoesOnFrom, AfterVisit};
@@ -9,6 +9,7 @@ use crate::chains::chain_to;
 use crate::closing::close;
 use crate::found::Found;
 use crate::known::Known;
+use crate::looked::look;
 use crate::looking::height_of;
 use crate::renewing::renew;
 use crate::rounds::{Round, next_round};
@@ -37,15 +38,17 @@ pub(crate) fn visit<K: Known, L: Ledger>(
         LeadsTo w walk.old node → HoldsIn w walk.new }
     ensures after { let w = world_in K.keeps setting.now in
         IfOk result (AfterVisit w (LeadsTo w walk.old node) walk.old walk.new node) }
-    ensures counted { LooksAreFew (met_in walk.old) (met_in walk.new) steps.old
-        steps.new (lost result) }
+    ensures counted { let w = world_in K.keeps setting.now in
+        GoesByLooks w setting.now.given.now (LeadsTo w walk.old node) walk.old walk.new
+        steps.old steps.new (spare_at walk.new.looked result) }
 {
     let length = walk.path.len();
     let mut ahead = Ahead::new(alloc);
+    let kept = look(alloc, setting, walk, &node, steps)?;
     walk.path.push(node.copy(alloc)?)?;
     // Bounded, so that no proof of an end is owed: each round visits a node, and no memory holds so many.
     for rounds in 0..u64::MAX {
-        let round = next_round(alloc, setting, walk, &node, rounds, &mut ahead)?;
+        let round = next_round(alloc, setting, walk, &node, kept, rounds, &mut ahead)?;
         let needs = match round {
             Round::Renews(current) => {
                 renew(alloc, setting, walk, node, current)?;

@@ -5,13 +5,14 @@ ghost use Rattle.derive_walk.specs.Told.{TakesRenewed, TakesSettled};
 
 use crate::done::{Done, Table};
 use crate::heights::Heights;
+use crate::looked::Looked;
 use crate::looking::height_of;
 use crate::wanted::Wanted;
 use node_tasks::VisitedNodes;
 use object_values::{Fresh, Memory, Node, RenewedNode, Seq};
 
-/// The nodes with results, what is told of them and the wanted calls stay from one advance to the next; what waits and
-/// the path are of one advance: a node that waited may go on by outcomes that came since, so each
+/// The nodes with results, what is told of them, the wanted calls, the nodes that were looked at and those for which a kept outcome was
+/// looked for stay from one advance to the next; what waits and the path are of one advance: a node that waited may go on by outcomes that came since, so each
 /// advance visits it anew, and only a result is never found twice.
 pub(crate) struct Walk {
     pub(crate) root: Node,
@@ -19,6 +20,8 @@ pub(crate) struct Walk {
     pub(crate) fresh: Seq<Fresh>,
     pub(crate) renewed: Seq<RenewedNode>,
     pub(crate) wanted: Wanted,
+    pub(crate) looked: Looked,
+    pub(crate) taken: Seq<Node>,
     pub(crate) waiting: Heights,
     pub(crate) path: Seq<Node>,
 }
@@ -31,6 +34,8 @@ impl Drop for Walk {
             fresh,
             renewed,
             wanted,
+            looked,
+            taken,
             waiting,
             path,
         } = self;
@@ -39,6 +44,8 @@ impl Drop for Walk {
         drop(fresh);
         drop(renewed);
         drop(wanted);
+        drop(looked);
+        drop(taken);
         drop(waiting);
         drop(path);
     }
@@ -95,12 +102,16 @@ impl Walk {
             fresh,
             renewed,
             wanted,
+            looked,
+            taken,
             waiting,
             path,
         } = self;
         drop(root);
         drop(done);
         drop(wanted);
+        drop(looked);
+        drop(taken);
         drop(waiting);
         drop(path);
         (fresh, renewed)

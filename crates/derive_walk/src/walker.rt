@@ -1,5 +1,5 @@
 // The walk from a root, as its callers see it.
-ghost use Rattle.std.specs.Prelude.{◌≡◌, OnOk, OnErr, IfOk, IsSome, option_map};
+ghost use Rattle.std.specs.Prelude.{◌≡◌, ◌+◌, OnOk, OnErr, IfOk, IsSome, option_map};
 ghost use Rattle.meaning_graph.specs.Graphs.{Graph as GraphValue};
 ghost use Rattle.meaning_texts.specs.Lists.{IsIn};
 ghost use Rattle.meaning_calls.specs.Outcomes.{OutcomeFits};
@@ -8,7 +8,7 @@ ghost use Rattle.meaning_derive.specs.Derive.{Sources as SourceTexts, Outcomes};
 ghost use Rattle.meaning_derive.specs.Given.{OutcomesFit};
 ghost use Rattle.derive_walk.specs.Keeping.{Keeping};
 ghost use Rattle.derive_walk.specs.Outcomes.{after};
-ghost use Rattle.derive_walk.specs.Looks.{LooksAreFew, lost, met_by, met_in};
+ghost use Rattle.derive_walk.specs.Looks.{GoesByLooks, TakesLooks, looks_by, lost, spare_at, spare_for};
 ghost use Rattle.derive_walk.specs.Paths.{HasEmptyPath, AfterRoot};
 ghost use Rattle.derive_walk.specs.Settings.{IsSetting, MayGoBy, world_by, world_in};
 ghost use Rattle.derive_walk.specs.States.{IsFormedIn, HoldsIn, GoesOnFrom, heights_in};
@@ -20,6 +20,7 @@ use crate::found::Found;
 use crate::given::Given;
 use crate::heights::Heights;
 use crate::known::Known;
+use crate::looked::Looked;
 use crate::looking::height_of;
 use crate::setting::Setting;
 use crate::settling::source_view;
@@ -66,6 +67,8 @@ impl Model for Walker {
       renewed = w.walk.renewed;
       given = w.given;
       wanted = w.walk.wanted;
+      looked = w.walk.looked;
+      taken = w.walk.taken;
       result = w.result;
     } };
 
@@ -89,6 +92,8 @@ impl Walker {
                 fresh: Seq::new(alloc),
                 renewed: Seq::new(alloc),
                 wanted: Wanted::new(alloc),
+                looked: Looked::new(alloc),
+                taken: Seq::new(alloc),
                 waiting: Heights::new(alloc),
                 path: Seq::new(alloc),
             },
@@ -98,7 +103,8 @@ impl Walker {
     }
 
     /// Settles all that needs no further tool: then there is a result, or what is wanted is what the
-    /// derivation stops at. After want of memory it may be called again.
+    /// derivation stops at. After want of memory it may be called again. Each look is a step: a node is looked
+    /// at once in a derivation, and so is a kept call.
     pub fn advance<K: Known, L: Ledger>(
         &mut self,
         alloc: Global,
@@ -118,8 +124,8 @@ impl Walker {
         ensures advanced { let at = world_by (K.keeps known.now) planned.now sources.now.texts in
             IsRight (at self.old.given) self.old →
             OnOk result (IsAdvanced (at self.new.given) self.new) }
-        ensures counted { LooksAreFew (met_by self.old) (met_by self.new)
-            steps.old steps.new (lost result) }
+        ensures counted { TakesLooks (looks_by self.old) (looks_by self.new)
+            steps.old steps.new (lost result + spare_for self.new.looked self.new.result) }
     {
         if self.result.is_some() {
             return Ok(());
@@ -232,8 +238,9 @@ fn walk_from_root<K: Known, L: Ledger>(
         HoldsIn w walk.old → HoldsIn w walk.new }
     ensures after { let w = world_in K.keeps setting.now in
         IfOk result (AfterRoot w (HoldsIn w walk.old) walk.new) }
-    ensures counted { LooksAreFew (met_in walk.old) (met_in walk.new) steps.old
-        steps.new (lost result) }
+    ensures counted { let w = world_in K.keeps setting.now in
+        GoesByLooks w setting.now.given.now (HoldsIn w walk.old) walk.old walk.new
+        steps.old steps.new (spare_at walk.new.looked result) }
 {
     if walk.root.steps.is_empty() {
         let view = source_view(alloc, setting.planned.graph(), setting.sources, &walk.root)?;

@@ -65,6 +65,23 @@ impl RecordTable {
         }
     }
 
+    /// The place of the record of a node, from 0. It is found in one look.
+    pub fn place_of(&self, node: &Node) -> Option<usize>
+        ensures some { IfSome result (λ i. node_at self.now.records i ≡ Some node.now) }
+        ensures kept { IfSome result
+            (λ i. record_of node.now self.now.records ≡ slice_get self.now.records i) }
+        ensures none { IfNone result (record_of node.now self.now.records ≡ None) }
+    {
+        let sought = SoughtNode {
+            records: self.records.as_slice(),
+            node,
+        };
+        match self.marks.find(&sought) {
+            Some(place) => Some(place as usize),
+            None => None,
+        }
+    }
+
     /// The record at a place, from 0.
     pub fn at(&self, place: usize) -> Option<&NodeRecord>
         ensures { option_map (λ r. r.now) result ≡ slice_get self.now.records place }
@@ -142,23 +159,6 @@ impl RecordTable {
         ensures { EachNodeOnce self.now.records }
     {
         let _ = &self.records;
-    }
-
-    // Where the record of a node stands.
-    fn place_of(&self, node: &Node) -> Option<usize>
-        ensures some { IfSome result (λ i. node_at self.now.records i ≡ Some node.now) }
-        ensures kept { IfSome result
-            (λ i. record_of node.now self.now.records ≡ slice_get self.now.records i) }
-        ensures none { IfNone result (record_of node.now self.now.records ≡ None) }
-    {
-        let sought = SoughtNode {
-            records: self.records.as_slice(),
-            node,
-        };
-        match self.marks.find(&sought) {
-            Some(place) => Some(place as usize),
-            None => None,
-        }
     }
 
     // Puts the record of a node that has none after the others.

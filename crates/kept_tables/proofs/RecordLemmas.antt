@@ -1,6 +1,6 @@
 -- Records of nodes, while contents come after the others and records are noted.
 use Rattle.std.proofs.Common.{◌≡◌, ◌∙◌, ℕ, Bool, true, false, cond, List, [], ◌∷◌, ◌++◌, length, map, sym, ap, subst, refl}
-use Rattle.std.specs.Prelude.{IfSome, OnErr, OnOk, Option, Some, None, Result, Ok, Err, option_map}
+use Rattle.std.specs.Prelude.{IfSome, OnErr, OnOk, Option, Some, None, Result, Ok, Err, option_map, slice_get}
 use Rattle.std.specs.List.{All}
 use Rattle.std.proofs.lemmas.List.Elements.{All-append, All-cons, All-head, All-nil, All-tail}
 use Rattle.object_values.specs.declared.facts.Fresh.{Fresh}
@@ -16,6 +16,7 @@ use Rattle.kept_records.specs.Records.{put_record, put_records, record_of, renew
 use Rattle.kept_notes.specs.Facts.{IsNotedIn, IsRecordIn, facts_of, fresh_of}
 use Rattle.kept_notes.proofs.Lemmas.{all_named, all_notable, all_noted, all_noted_stay, facts_stay, put_all, put_all_all, renewed_all, renewed_noted}
 use Rattle.kept_tables.specs.Holdings.{AreNotedIn, Holding, MayRenew}
+use Rattle.kept_tables.proofs.CopyLemmas.{all_at}
 
 -- ---- contents more
 
@@ -96,6 +97,12 @@ pub found_named : {A : Type 0} (f : A → NodeRecord) (contents : List Value) (n
 found_named f contents node records found same noted =
     some_by f (IsRecordIn (length contents)) found (record_of node records) same
     (record_all (IsRecordIn (length contents)) node records (all_named contents records noted.noted))
+
+pub placed_named : {A : Type 0} (f : A → NodeRecord) (contents : List Value) (place : ℕ) (records : List NodeRecord) (found : Option A)
+    → option_map f found ≡ slice_get records place → AreNotedIn contents records → IfSome found (λ x. IsRecordIn (length contents) (f x))
+placed_named f contents place records None same noted = tt
+placed_named f contents place records (Some x) same noted =
+    all_at (IsRecordIn (length contents)) records place (f x) (all_named contents records noted.noted) (sym same)
 
 -- ---- records by other numbers
 

@@ -1,5 +1,5 @@
 // Tables that are lent to be looked at.
-ghost use Rattle.std.specs.Prelude.{◌≡◌, ◌↔◌, ◌+◌, ◌<◌, All, IfOk, IfSome, IsTrue, Some, length, option_map, slice_get};
+ghost use Rattle.std.specs.Prelude.{◌≡◌, ◌↔◌, ◌+◌, ◌<◌, None, All, IfNone, IfOk, IfSome, IsTrue, Some, length, option_map, slice_get};
 ghost use Rattle.kept_notes.specs.Facts.{IsRecordIn, facts_of};
 ghost use Rattle.kept_records.specs.Records.{EachNodeOnce, record_of};
 ghost use Rattle.kept_tables.specs.Holdings.{fresh_in};
@@ -13,7 +13,8 @@ use odin_outside::Steps;
 use std::alloc::Global;
 use std::sync::ledger::Ledger;
 
-/// Tables that are lent to be looked at, and are never handed out. Each look for a call is counted.
+/// Tables that are lent to be looked at, and are never handed out. Each look for a call is counted, and
+/// each for a node.
 #[derive(Drop)]
 pub struct Looks<'a> {
     pub(crate) kept: &'a Kept,
@@ -42,14 +43,26 @@ impl<'a> Looks<'a> {
         self.kept.id_of(value)
     }
 
-    /// The record of a node. It takes no memory.
-    pub fn get(&self, node: &Node) -> Option<&'a NodeRecord>
+    /// The place of the record of a node, by one step. It takes no memory.
+    pub fn find<L: Ledger>(&self, node: &Node, steps: &mut Steps<L>) -> Option<u64>
+        ensures some { IfSome result (λ place. slice_get self.now.kept.now.records.records place
+            ≡ record_of node.now self.now.kept.now.records.records) }
+        ensures none { IfNone result
+            (record_of node.now self.now.kept.now.records.records ≡ None) }
+        ensures counted { steps.new ≡ steps.old + 1 }
+    {
+        steps.tick();
+        self.kept.place_of(node)
+    }
+
+    /// The record at a place. Who has a place has looked the node up: no step is taken.
+    pub fn record_at(&self, place: u64) -> Option<&'a NodeRecord>
         ensures is { option_map (λ r. r.now) result
-            ≡ record_of node.now self.now.kept.now.records.records }
+            ≡ slice_get self.now.kept.now.records.records place }
         ensures named { IfSome result (λ r.
             IsRecordIn (length self.now.kept.now.tables.contents) r.now) }
     {
-        self.kept.get(node)
+        self.kept.record_at(place)
     }
 
     /// What `Kept::records_fit` says.

@@ -1,5 +1,5 @@
 // Records of nodes: each is looked for by its node, and says what it says by the numbers of contents.
-ghost use Rattle.std.specs.Prelude.{◌≡◌, ◌↔◌, ◌≤◌, [], All, IfOk, IfSome, IsTrue, OnOk, length, option_map, slice_get};
+ghost use Rattle.std.specs.Prelude.{◌≡◌, ◌↔◌, ◌≤◌, [], None, All, IfNone, IfOk, IfSome, IsTrue, OnOk, length, option_map, slice_get};
 ghost use Rattle.kept_notes.specs.Facts.{IsNotedIn, IsRecordIn, fact_of, facts_of};
 ghost use Rattle.kept_notes.specs.Loaded.{MayBeLoaded};
 ghost use Rattle.kept_records.specs.Records.{EachNodeOnce, put_record, put_records, record_of, renew_record};
@@ -22,6 +22,18 @@ impl Kept {
         self.records.get(node)
     }
 
+    /// The place of the record of a node, as `record_at` counts. It takes no memory.
+    pub fn place_of(&self, node: &Node) -> Option<u64>
+        ensures some { IfSome result (λ place. slice_get self.now.records.records place
+            ≡ record_of node.now self.now.records.records) }
+        ensures none { IfNone result (record_of node.now self.now.records.records ≡ None) }
+    {
+        match self.records.place_of(node) {
+            None => None,
+            Some(place) => Some(place as u64),
+        }
+    }
+
     /// How many nodes have a record.
     pub fn records(&self) -> u64
         ensures { result ≡ length self.now.records.records }
@@ -31,7 +43,9 @@ impl Kept {
 
     /// The record at a place, from 0, in the order in which the nodes were first noted. `None` from place `records()` on.
     pub fn record_at(&self, place: u64) -> Option<&NodeRecord>
-        ensures { option_map (λ r. r.now) result ≡ slice_get self.now.records.records place }
+        ensures is { option_map (λ r. r.now) result ≡ slice_get self.now.records.records place }
+        ensures named { IfSome result (λ r.
+            IsRecordIn (length self.now.tables.contents) r.now) }
     {
         self.records.at(place as usize)
     }

@@ -1,8 +1,10 @@
 use Rattle.std.proofs.Common.{◌+◌, ◌≤◌, sym, ap, subst, ◌∙◌, arith}
+use Rattle.std.proofs.lemmas.Result.{err_from_is_err_and}
 use Rattle.meaning_texts.specs.Limits.{height_limit}
 use Rattle.derive_walk.specs.Tables.{top_of}
 use Rattle.derive_walk.specs.Settings.{world_in}
 use Rattle.derive_walk.specs.States.{heights_in, IsFormedIn, HoldsIn}
+use Rattle.derive_walk.proofs.LooksLemmas.{goes_down, goes_lost, goes_waiting}
 use Rattle.derive_walk.proofs.Tables.{not_waiting}
 use Rattle.derive_walk.proofs.ClosingLemmas.{last_is_new}
 use Rattle.derive_walk.proofs.GoingLemmas.{goes_with_waiting, visited_with_waiting}
@@ -73,3 +75,36 @@ returns-clause-holds g c = λ led.
 
 pub returns-clause-after : goal.returns-clause-after
 returns-clause-after g c = visited_with_waiting (world_in g.K.Known.keeps c.args.setting.now) c.args.walk.now c.args.node c.requires.last (c.args.survey.now.top + 1) c.add.new.self c.in_ok-add.ensures.ok c.args.walk.now.wanted
+
+-- ---- looks
+
+pub returns-in_err-chain-clause-counted : goal.returns-in_err-chain-clause-counted
+returns-in_err-chain-clause-counted g c =
+    let w = world_in g.K.Known.keeps c.args.setting.now in
+    let given = err_from_is_err_and _ c.from_residual.ensures.1 in
+    goes_lost w c.args.setting.now.given.now c.args.walk.now _ _ _ _ _ given.1
+    (goes_down w c.args.setting.now.given.now c.args.walk.now _ _ _ c.in_err-chain.ensures.counted.later c.in_err-chain.ensures.counted.most)
+
+pub returns-then-survey-clause-counted : goal.returns-then-survey-clause-counted
+returns-then-survey-clause-counted g c =
+    let w = world_in g.K.Known.keeps c.args.setting.now in
+    goes_down w c.args.setting.now.given.now c.args.walk.now _ _ _ c.in_ok-chain.ensures.counted.later c.in_ok-chain.ensures.counted.ok
+
+pub returns-in_err-close_seen-clause-counted : goal.returns-in_err-close_seen-clause-counted
+returns-in_err-close_seen-clause-counted g c =
+    let w = world_in g.K.Known.keeps c.args.setting.now in
+    let given = err_from_is_err_and _ c.from_residual-in_err-close_seen.ensures.1 in
+    goes_lost w c.args.setting.now.given.now c.args.walk.now _ _ _ _ _ given.1 c.in_err-close_seen.ensures.counted
+
+pub returns-then-survey-2-clause-counted : goal.returns-then-survey-2-clause-counted
+returns-then-survey-2-clause-counted g c = c.in_ok-close_seen.ensures.counted
+
+pub returns-in_err-add-clause-counted : goal.returns-in_err-add-clause-counted
+returns-in_err-add-clause-counted g c =
+    let w = world_in g.K.Known.keeps c.args.setting.now in
+    goes_waiting w c.args.setting.now.given.now c.args.walk.now c.add.new.self _ _
+
+pub returns-clause-counted : goal.returns-clause-counted
+returns-clause-counted g c =
+    let w = world_in g.K.Known.keeps c.args.setting.now in
+    goes_waiting w c.args.setting.now.given.now c.args.walk.now c.add.new.self _ _

@@ -1,6 +1,7 @@
 use Rattle.std.proofs.Common.{◌≡◌, [], ◌∷◌, ◌++◌, sym, ap, ◌∙◌, subst}
-use Rattle.std.specs.Prelude.{Ok, Err}
-use Rattle.derive_walk.specs.Looks.{HasMetOne}
+use Rattle.std.specs.Prelude.{Ok}
+use Rattle.std.proofs.lemmas.Result.{err_from_is_err_and}
+use Rattle.derive_walk.specs.Looks.{ClosesAlone}
 use Rattle.derive_walk.specs.Tables.{results_of}
 use Rattle.derive_walk.specs.Noting.{IsNoteOf}
 use Rattle.derive_walk.specs.Settings.{world_in}
@@ -8,7 +9,7 @@ use Rattle.derive_walk.specs.Settled.{HasSettled, HasSettledWhole, NodeHasStoppe
 use Rattle.derive_walk.specs.States.{IsFormedIn, HoldsIn, GoesOnFrom}
 use Rattle.derive_walk.specs.Told.{TakesSettled}
 use Rattle.derive_walk.specs.Worlds.{World}
-use Rattle.derive_walk.proofs.LooksLemmas.{one_given, one_settled}
+use Rattle.derive_walk.proofs.CloseLooks.{on_err, same_alone, source_alone, stopped_alone, whole_alone}
 use Rattle.derive_walk.proofs.Tables.{not_done, not_waiting}
 use Rattle.derive_walk.proofs.ClosingLemmas.{last_is_new}
 use Rattle.derive_walk.proofs.GoingLemmas.{goes_with_done, visited_with_done, goes_with_waiting, visited_with_waiting}
@@ -59,11 +60,12 @@ returns-in_ok-add-in-Given-clause-holds g c =
     let is = subst (NodeIsClosed w c.args.node (results_of walk.done)) c.in-Given.is c.requires.closed.is in
     λ led. source_holds w walk led c.args.node c.args.height c.requires.last c.requires.closed.closing c.in-Given.view is.1 c.add.new.self c.in_ok-add-in-Given.ensures.ok
 
-pub returns-in_ok-add-in-Given-clause-met : goal.returns-in_ok-add-in-Given-clause-met
-returns-in_ok-add-in-Given-clause-met g c =
-    let w : World = world_in g.K.Known.keeps c.args.setting.now in
+pub returns-in_ok-add-in-Given-clause-alone : goal.returns-in_ok-add-in-Given-clause-alone
+returns-in_ok-add-in-Given-clause-alone g c =
     let walk = c.args.walk.now in
-    subst (λ z. HasMetOne walk (record walk { done = c.add.new.self }) c.args.node z (Ok tt)) (sym c.in-Given.is) (one_given walk c.args.node tt c.in-Given.view (record { view = c.in-Given.view; height = c.args.height }) c.add.new.self c.in_ok-add-in-Given.ensures.ok)
+    let none = not_done walk.done walk.waiting c.args.node (last_is_new (world_in g.K.Known.keeps c.args.setting.now) walk c.args.node c.requires.last) in
+    subst (λ z. ClosesAlone walk (record walk { done = c.add.new.self }) c.args.node z (Ok tt)) (sym c.in-Given.is)
+    (source_alone walk c.args.node tt none c.in-Given.view (record { view = c.in-Given.view; height = c.args.height }) c.add.new.self c.in_ok-add-in-Given.ensures.ok)
 
 pub returns-in_err-add-in-Given-clause-holds : goal.returns-in_err-add-in-Given-clause-holds
 returns-in_err-add-in-Given-clause-holds g c =
@@ -109,13 +111,20 @@ returns-in_ok-take_settled-in-Settled-clause-holds g c =
     subst (λ v. TakesSettled walk c.take_settled.new.self c.args.node (record { view = v; height = c.args.height }) c.in_ok-note-in-Settled.note) c.into_view-view.ensures c.in_ok-take_settled-in-Settled.ensures.ok in
     λ led. whole_holds w walk led c.args.node c.args.height c.requires.last c.requires.closed.closing c.in-Settled.settled so c.in_ok-note-in-Settled.note noted c.take_settled.new.self takes
 
-pub returns-in_ok-take_settled-in-Settled-clause-met : goal.returns-in_ok-take_settled-in-Settled-clause-met
-returns-in_ok-take_settled-in-Settled-clause-met g c =
-    let w : World = world_in g.K.Known.keeps c.args.setting.now in
+pub returns-in_ok-take_settled-in-Settled-clause-alone : goal.returns-in_ok-take_settled-in-Settled-clause-alone
+returns-in_ok-take_settled-in-Settled-clause-alone g c =
     let walk = c.args.walk.now in
-    let takes : TakesSettled walk c.take_settled.new.self c.args.node (record { view = c.in-Settled.settled.view; height = c.args.height }) c.in_ok-note-in-Settled.note =
-    subst (λ v. TakesSettled walk c.take_settled.new.self c.args.node (record { view = v; height = c.args.height }) c.in_ok-note-in-Settled.note) c.into_view-view.ensures c.in_ok-take_settled-in-Settled.ensures.ok in
-    subst (λ z. HasMetOne walk c.take_settled.new.self c.args.node z (Ok tt)) (sym c.in-Settled.is) (one_settled walk c.args.node tt c.in-Settled.settled (record { view = c.in-Settled.settled.view; height = c.args.height }) c.in_ok-note-in-Settled.note c.take_settled.new.self takes)
+    let none = not_done walk.done walk.waiting c.args.node (last_is_new (world_in g.K.Known.keeps c.args.setting.now) walk c.args.node c.requires.last) in
+    subst (λ z. ClosesAlone walk c.take_settled.new.self c.args.node z (Ok tt)) (sym c.in-Settled.is)
+    (whole_alone walk c.args.node tt none c.in-Settled.settled _ c.in_ok-note-in-Settled.note c.take_settled.new.self c.in_ok-take_settled-in-Settled.ensures.ok)
+
+pub returns-in_err-take_settled-in-Settled-clause-alone : goal.returns-in_err-take_settled-in-Settled-clause-alone
+returns-in_err-take_settled-in-Settled-clause-alone g c =
+    let given = err_from_is_err_and c.from_residual-in_err-take_settled-in-Settled.result c.from_residual-in_err-take_settled-in-Settled.ensures.1 in
+    record {
+      same = same_alone c.args.walk.now c.take_settled.new.self c.in_err-take_settled-in-Settled.ensures.err;
+      ended = on_err c.from_residual-in_err-take_settled-in-Settled.result given.0 _ given.1;
+    }
 
 pub returns-in_err-take_settled-in-Settled-clause-formed : goal.returns-in_err-take_settled-in-Settled-clause-formed
 returns-in_err-take_settled-in-Settled-clause-formed g c = subst (IsFormedIn (world_in g.K.Known.keeps c.args.setting.now)) (sym c.in_err-take_settled-in-Settled.ensures.err) c.requires.last.formed
@@ -180,3 +189,9 @@ returns-in_ok-add-in-Stops-2-clause-holds g c =
     let stop = subst (NodeIsClosed w c.args.node (results_of walk.done)) c.in-Stops.is c.requires.closed.is in
     λ led. stopped_holds w walk led c.args.node c.args.height c.requires.last c.requires.closed.closing c.in-Stops.call stop c.add-in-Stops.new.self
     c.in_ok-add-in-Stops.ensures.ok c.add-in-Stops-2.new.self c.in_ok-add-in-Stops-2.ensures.ok
+
+pub returns-in_ok-add-in-Stops-2-clause-alone : goal.returns-in_ok-add-in-Stops-2-clause-alone
+returns-in_ok-add-in-Stops-2-clause-alone g c =
+    let walk = c.args.walk.now in
+    subst (λ z. ClosesAlone walk (record walk { wanted = c.add-in-Stops.new.self; waiting = c.add-in-Stops-2.new.self }) c.args.node z (Ok tt)) (sym c.in-Stops.is)
+    (stopped_alone walk c.args.node tt c.in-Stops.call c.add-in-Stops.new.self c.add-in-Stops-2.new.self c.in_ok-add-in-Stops.ensures.ok)

@@ -5,8 +5,8 @@ use Rattle.derive_walk.specs.States.{HoldsIn}
 use Rattle.derive_walk.specs.Told.{TakesRenewed}
 use Rattle.derive_walk.specs.Trials.{renewed_by}
 use Rattle.derive_walk.proofs.Tables.{not_done}
-use Rattle.derive_walk.proofs.LooksLemmas.{met_more}
 use Rattle.derive_walk.proofs.ClosingLemmas.{last_is_new}
+use Rattle.derive_walk.proofs.CloseLooks.{renews_alone, same_alone}
 use Rattle.derive_walk.proofs.GoingLemmas.{goes_with_done, visited_with_done}
 use Rattle.derive_walk.proofs.RenewLemmas.{checked_formed, checked_holds, renewed_formed, renewed_holds}
 use Rattle.derive_walk.proofs.renewing.renew.Goals as goal
@@ -51,12 +51,6 @@ returns-in_ok-add-in-Checked-clause-holds g c =
     let checked = subst (IsByRecord w walk c.args.node) c.in-Checked.is c.requires.recorded in
     checked_holds w walk c.args.node c.requires.last c.in-Checked.done checked c.add.new.self c.in_ok-add-in-Checked.ensures.ok
 
-pub returns-in_ok-add-in-Checked-clause-more : goal.returns-in_ok-add-in-Checked-clause-more
-returns-in_ok-add-in-Checked-clause-more g c =
-    let w = world_in g.K.Known.keeps c.args.setting.now in
-    let walk = c.args.walk.now in
-    met_more walk c.args.node c.in-Checked.done walk.fresh walk.renewed _ (ap (λ z. record walk { done = z }) c.in_ok-add-in-Checked.ensures.ok)
-
 pub returns-in_err-add-in-Checked-clause-holds : goal.returns-in_err-add-in-Checked-clause-holds
 returns-in_err-add-in-Checked-clause-holds g c =
     let w = world_in g.K.Known.keeps c.args.setting.now in
@@ -99,10 +93,8 @@ returns-in_ok-take_renewed-in-Current-clause-holds g c =
     let current = subst (IsByRecord w walk c.args.node) c.in-Current.is c.requires.recorded in
     renewed_holds w walk c.args.node c.requires.last c.in-Current.current current c.take_renewed.new.self takes
 
-pub returns-in_ok-take_renewed-in-Current-clause-more : goal.returns-in_ok-take_renewed-in-Current-clause-more
-returns-in_ok-take_renewed-in-Current-clause-more g c =
-    let w = world_in g.K.Known.keeps c.args.setting.now in
-    let walk = c.args.walk.now in
-    let takes : TakesRenewed walk c.take_renewed.new.self c.args.node c.in-Current.current.done (renewed_by c.args.node c.in-Current.current) =
-    subst (TakesRenewed walk c.take_renewed.new.self c.args.node c.in-Current.current.done) c.in_ok-renewed-in-Current.ensures c.in_ok-take_renewed-in-Current.ensures.ok in
-    met_more walk c.args.node c.in-Current.current.done walk.fresh (walk.renewed ++ renewed_by c.args.node c.in-Current.current ∷ []) c.take_renewed.new.self takes.is
+pub returns-in_ok-take_renewed-in-Current-clause-same : goal.returns-in_ok-take_renewed-in-Current-clause-same
+returns-in_ok-take_renewed-in-Current-clause-same g c = renews_alone c.args.walk.now c.take_renewed.new.self _ _ _ c.in_ok-take_renewed-in-Current.ensures.ok
+
+pub returns-in_err-take_renewed-in-Current-clause-same : goal.returns-in_err-take_renewed-in-Current-clause-same
+returns-in_err-take_renewed-in-Current-clause-same g c = same_alone c.args.walk.now c.take_renewed.new.self c.in_err-take_renewed-in-Current.ensures.err

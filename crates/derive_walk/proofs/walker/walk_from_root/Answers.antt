@@ -1,10 +1,13 @@
-use Rattle.std.proofs.Common.{subst}
+use Rattle.std.proofs.Common.{subst, arith}
+use Rattle.std.proofs.lemmas.Result.{err_from_is_err_and}
 use Rattle.derive_walk.specs.declared.found.Found.TheVariants.{Answer}
 use Rattle.derive_walk.specs.Founds.{IsFound}
 use Rattle.derive_walk.specs.Settings.{world_in}
-use Rattle.derive_walk.specs.States.{AfterVisit}
+use Rattle.derive_walk.specs.Looks.{GoesByLooks, spare_for}
+use Rattle.derive_walk.specs.States.{AfterVisit, HoldsIn}
 use Rattle.derive_walk.specs.Paths.{LeadsTo}
 use Rattle.derive_walk.proofs.Formed.{found_fits}
+use Rattle.derive_walk.proofs.LooksLemmas.{goes_from, goes_lost, goes_still, goes_wider}
 use Rattle.derive_walk.proofs.RootLemmas.{root_leads, chain_there, trusted}
 use Rattle.derive_walk.proofs.SourceSettles.{source_found}
 use Rattle.derive_walk.proofs.walker.walk_from_root.Goals as goal
@@ -43,3 +46,42 @@ returns-clause-after g c =
     trusted w c.visit.new.walk (λ holds. c.visit.ensures.holds
     (root_leads w c.args.walk.now c.requires.start c.in_ok-root.root c.in_ok-root.ensures holds)) c.visited_root-2.result
     (c.visited_root-2.ensures w c.requires.set c.visit.ensures.formed)
+
+-- ---- looks
+
+pub returns-in_err-view-clause-counted : goal.returns-in_err-view-clause-counted
+returns-in_err-view-clause-counted g c = goes_still (world_in g.K.Known.keeps c.args.setting.now) c.args.setting.now.given.now c.args.walk.now _ _
+
+pub returns-then-is_empty-clause-counted : goal.returns-then-is_empty-clause-counted
+returns-then-is_empty-clause-counted g c = goes_still (world_in g.K.Known.keeps c.args.setting.now) c.args.setting.now.given.now c.args.walk.now _ _
+
+pub returns-then-is_some-clause-counted : goal.returns-then-is_some-clause-counted
+returns-then-is_some-clause-counted g c = goes_still (world_in g.K.Known.keeps c.args.setting.now) c.args.setting.now.given.now c.args.walk.now _ _
+
+pub returns-in_err-root-clause-counted : goal.returns-in_err-root-clause-counted
+returns-in_err-root-clause-counted g c = goes_still (world_in g.K.Known.keeps c.args.setting.now) c.args.setting.now.given.now c.args.walk.now _ _
+
+pub returns-in_err-found-clause-counted : goal.returns-in_err-found-clause-counted
+returns-in_err-found-clause-counted g c =
+    let w = world_in g.K.Known.keeps c.args.setting.now in
+    let given = err_from_is_err_and _ c.from_residual-in_err-found.ensures.1 in
+    goes_lost w c.args.setting.now.given.now c.args.walk.now _ _ _ _ _ given.1
+    (goes_from w c.args.setting.now.given.now c.args.walk.now c.visit.new.walk _ _ _
+    (root_leads w c.args.walk.now c.requires.start c.in_ok-root.root c.in_ok-root.ensures) c.in_err-found.ensures.counted)
+
+pub returns-in-Some-clause-counted : goal.returns-in-Some-clause-counted
+returns-in-Some-clause-counted g c =
+    let w = world_in g.K.Known.keeps c.args.setting.now in
+    subst (λ o. GoesByLooks w c.args.setting.now.given.now (HoldsIn w c.args.walk.now) c.args.walk.now c.visit.new.walk c.args.steps.now c.visit.new.steps
+    (spare_for c.visit.new.walk.looked o)) c.in-Some.is
+    (goes_from w c.args.setting.now.given.now c.args.walk.now c.visit.new.walk _ _ _
+    (root_leads w c.args.walk.now c.requires.start c.in_ok-root.root c.in_ok-root.ensures) c.in_ok-found.ensures.counted)
+
+pub returns-clause-counted : goal.returns-clause-counted
+returns-clause-counted g c =
+    let w = world_in g.K.Known.keeps c.args.setting.now in
+    goes_wider w c.args.setting.now.given.now c.args.walk.now c.visit.new.walk _ _ 0 _ (omega arith)
+    (subst (λ o. GoesByLooks w c.args.setting.now.given.now (HoldsIn w c.args.walk.now) c.args.walk.now c.visit.new.walk c.args.steps.now c.visit.new.steps
+    (spare_for c.visit.new.walk.looked o)) c.in_default.is
+    (goes_from w c.args.setting.now.given.now c.args.walk.now c.visit.new.walk _ _ _
+    (root_leads w c.args.walk.now c.requires.start c.in_ok-root.root c.in_ok-root.ensures) c.in_ok-found.ensures.counted))

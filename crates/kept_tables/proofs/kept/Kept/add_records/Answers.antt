@@ -22,7 +22,7 @@ loop-place-init c = record { adds = adds_none IsRecordBatch c.args.live.now c.re
 pub add_record-requires-clause-noted : goal.add_record-requires-clause-noted
 add_record-requires-clause-noted c =
     let self = c.args.self.now in
-    all_at (IsNotedIn self.tables.contents) self.records.records c.loop-place.place c.in-Some.kept.now c.may_be_noted.ensures.noted (sym c.in-Some.ensures)
+    all_at (IsNotedIn self.tables.contents) self.records.records c.loop-place.place c.in-Some.kept.now c.may_be_noted.ensures.noted (sym c.in-Some.ensures.is)
 
 pub loop-place-preserved : goal.loop-place-preserved
 loop-place-preserved c = elim c.match-record_at.branch [
@@ -30,7 +30,7 @@ loop-place-preserved c = elim c.match-record_at.branch [
       let self = c.args.self.now in
       let records = self.records.records in
       let contents = self.tables.contents in
-      let here = sym w.in-Some.ensures in
+      let here = sym w.in-Some.ensures.is in
       let fresh = fresh_of contents w.in-Some.kept.now in
       let at = mapped (fresh_of contents) records w.in-Some.kept.now c.loop-place.place here in
       let made = w.in_ok-add_record.ensures in
@@ -44,7 +44,7 @@ loop-place-preserved c = elim c.match-record_at.branch [
   | in_default w ↦
       let records = c.args.self.now.records.records in
       let within : c.loop-place.place < length records = omega arith in
-      absurd (none_within records c.loop-place.place (sym w.in_default.ensures) within)
+      absurd (none_within records c.loop-place.place (sym w.in_default.ensures.is) within)
 ]
 
 pub returns-clause-added : goal.returns-clause-added

@@ -20,20 +20,20 @@ loop-place-init c = counts_none IsRecordBatch c.args.live.now c.requires
 pub count_record-requires-clause-noted : goal.count_record-requires-clause-noted
 count_record-requires-clause-noted c =
     let self = c.args.self.now in
-    all_at (IsNotedIn self.tables.contents) self.records.records c.loop-place.place c.in-Some.kept.now c.may_be_noted.ensures.noted (sym c.in-Some.ensures)
+    all_at (IsNotedIn self.tables.contents) self.records.records c.loop-place.place c.in-Some.kept.now c.may_be_noted.ensures.noted (sym c.in-Some.ensures.is)
 
 pub loop-place-preserved : goal.loop-place-preserved
 loop-place-preserved c = elim c.match-record_at.branch [
   | in-Some+in_ok-count_record w ↦
       let self = c.args.self.now in
       let contents = self.tables.contents in
-      let at = mapped (fresh_of contents) self.records.records w.in-Some.kept.now c.loop-place.place (sym w.in-Some.ensures) in
+      let at = mapped (fresh_of contents) self.records.records w.in-Some.kept.now c.loop-place.place (sym w.in-Some.ensures.is) in
       rw w.live-is (counts_next IsRecordBatch (fresh_in self) c.loop-place.place (fresh_of contents w.in-Some.kept.now) c.args.live.now c.loop-place.live
       w.count_record.new.live at c.loop-place.invariant w.in_ok-count_record.ensures)
   | in_default w ↦
       let records = c.args.self.now.records.records in
       let within : c.loop-place.place < length records = omega arith in
-      absurd (none_within records c.loop-place.place (sym w.in_default.ensures) within)
+      absurd (none_within records c.loop-place.place (sym w.in_default.ensures.is) within)
 ]
 
 pub returns : goal.returns
