@@ -1,12 +1,13 @@
 -- What a derivation comes to: what is found, once what the walk tells is kept, or a tool that failed.
-use Rattle.std.proofs.Common.{◌≡◌, ◌++◌, ℕ, List, [], ◌∷◌, refl, sym, subst, arith, ◌∙◌}
+use Rattle.std.proofs.Common.{◌≡◌, ◌++◌, ℕ, List, [], ◌∷◌, refl, sym, ap, subst, arith, ◌∙◌}
 use Rattle.std.specs.Prelude.{Option, Some, None, IsSome, IfSome, Result, Ok, Err, IfOk, IfErr}
 use Rattle.object_values.specs.declared.facts.Fact.{Fact}
 use Rattle.object_values.specs.declared.nodes.Node.{Node}
 use Rattle.odin_outside.specs.Disk.{Telling}
 use Rattle.meaning_graph.specs.Graphs.{Graph}
 use Rattle.meaning_graph.specs.Grammar.{GraphText}
-use Rattle.meaning_records.specs.Tables.{Calls}
+use Rattle.meaning_derive.specs.Derive.{Outcomes}
+use Rattle.meaning_records.specs.Tables.{Calls, kept_outcome}
 use Rattle.odin_journal.specs.declared.fault.JournalFault.{JournalFault}
 use Rattle.odin_journal.specs.declared.fault.JournalFault.TheVariants as store
 use Rattle.odin_journal.specs.Rest.{IsReady}
@@ -14,16 +15,19 @@ use Rattle.odin_store.specs.declared.store.Store.{Store}
 use Rattle.odin_store.specs.Held.{notes}
 use Rattle.odin_store.specs.Going.{Performs, ChangesFollow}
 use Rattle.derive_walk.specs.declared.found.Found.{Found}
+use Rattle.derive_walk.specs.declared.found.Found.TheVariants.{Answer, Circular, Deep}
 use Rattle.derive_walk.specs.Founds.{NodesFit}
-use Rattle.derive_walk.specs.Walks.{Walked}
+use Rattle.derive_walk.specs.Looks.{spare_for}
+use Rattle.derive_walk.specs.Outcomes.{after as after_given}
+use Rattle.derive_walk.specs.Walks.{Walked, IsRight}
 use Rattle.job_runner.specs.Flights.{none_in_flight}
 use Rattle.plain_derive.specs.Flights.{off_course, for_spawn}
 use Rattle.kept_derive.specs.declared.fault.KeptFault.{KeptFault}
 use Rattle.kept_derive.specs.declared.fault.KeptFault.TheVariants.{Spawn, Disk, Full, Memory}
-use Rattle.kept_derive.specs.Knowing.{KnowsStore, IsRecorded}
-use Rattle.kept_derive.specs.Looked.{HasLooked, AreLooks, AreCounted, KeepsMore}
+use Rattle.kept_derive.specs.Knowing.{IsRecorded, KnowsStore, known_in}
+use Rattle.kept_derive.specs.Looked.{AreLooks, AreCounted}
 use Rattle.kept_derive.specs.Rests.{LeavesTools, ComesToRest}
-use Rattle.kept_derive.specs.Runs.{At, at, keeps_of, changes_for, course_of, HasFound}
+use Rattle.kept_derive.specs.Runs.{At, at, store_world, keeps_of, changes_for, course_of, HasFound}
 use Rattle.kept_derive.specs.Stops.{IsUnkept, IsStopped}
 use Rattle.kept_derive.specs.Telling.{notes_of, MayTell, HasTold, FailsToNote, FailsToTell}
 use Rattle.kept_derive.specs.declared.flight.Flown.{Flown}
@@ -32,7 +36,7 @@ use Rattle.kept_derive.specs.Ways.{IsOnWay, IsOver, IsCutOff, EndsBy, FliesOut}
 use Rattle.kept_derive.proofs.HeldLemmas.{nothing_behind, calls_after_all}
 use Rattle.kept_derive.proofs.StayLemmas.{graph_after}
 use Rattle.kept_derive.proofs.TurnLemmas.{still_goes, flown_so_far}
-use Rattle.kept_derive.proofs.LookLemmas.{way_looked, gives_up_looked, looked_on, unchanged_kept}
+use Rattle.kept_derive.proofs.LookLemmas.{gives_up_looked, looked_all, looked_down, looked_within, same_calls, way_known, way_looked, way_looked_by}
 use Rattle.kept_derive.proofs.EndLemmas.{is_found, none_not_some}
 use Rattle.kept_derive.proofs.RestLemmas.{none_rests, rests_so}
 
@@ -58,8 +62,8 @@ module _ {D : Type 0} (told : D → Telling) (g : Graph) (n : Node) (limit : ℕ
   pub cut_rests : {T : Type 0} → ComesToRest {T = T} LeavesTools limit first.tools now.tools (Err Spawn)
   cut_rests {T} = none_rests {T = T} limit first.tools now.tools cut.way.answer cut.way.later (Err Spawn) cut.way.running
 
-  pub cut_looks : (before last : ℕ) → AreCounted before last 0 walked → KnowsStore g first.store → AreLooks told g n limit first now before last (Err Spawn)
-  cut_looks before last counted knows = way_looked told g n first (off_course for_spawn) walked (none_in_flight limit) now cut.way knows before last 0 counted
+  pub cut_looks : (before last : ℕ) → AreCounted before last (spare_for walked.looked walked.result) walked → KnowsStore g first.store → AreLooks told g n limit first now before last (Err Spawn)
+  cut_looks before last counted knows = way_looked told g n first (off_course for_spawn) walked (none_in_flight limit) now cut.way knows before last counted
 
 -- ---- something is found
 
@@ -68,11 +72,10 @@ changes_behind given [] = sym (nothing_behind (keeps_of given))
 changes_behind given (fact ∷ facts) = refl
 
 -- notes keep the calls
-noted_keeps : {D : Type 0} (told : D → Telling) (noted : List Fact) (store next : Store) (disk after : D) → Performs told (notes_of noted) store next disk after → KeepsMore store next
-noted_keeps told noted store next disk after goes = record {
-  more = [];
-  is = calls_after_all told [] noted store next disk after (subst (λ l. Performs told l store next disk after) (sym (changes_behind [] noted)) goes);
-}
+noted_calls : {D : Type 0} (told : D → Telling) (noted : List Fact) (store next : Store) (disk after : D) → Performs told (notes_of noted) store next disk after → ◌≡◌ {A = Outcomes} (known_in next) (known_in store)
+noted_calls told noted store next disk after goes =
+    let calls = calls_after_all told [] noted store next disk after (subst (λ l. Performs told l store next disk after) (sym (changes_behind [] noted)) goes) in
+    ap kept_outcome (calls ∙ nothing_behind store.kept.tables.calls)
 
 module _ {D : Type 0} (told : D → Telling) (follow : ChangesFollow told) (g : Graph) (n : Node) (limit : ℕ) (first : At D) (walked : Walked) (now : At D) (over : IsOver told g n limit first walked now) where
   -- the course on which it ended
@@ -115,10 +118,30 @@ module _ {D : Type 0} (told : D → Telling) (follow : ChangesFollow told) (g : 
           };
         }
 
-    has_looked : (found : Found) → HasTold told g walked now.store next now.disk after found → (before last : ℕ) → AreCounted before last 0 walked → KnowsStore g first.store → HasLooked g n first.store next before last 0
-    has_looked found has before last counted knows =
-        looked_on g n first.store now.store next before last 0 (noted_keeps told has.noted now.store next now.disk after has.goes)
-        (way_looked told g n first (course_of found) walked (none_in_flight limit) now (over.way found has.is) knows before last 0 counted)
+    module _ (found : Found) (has : HasTold told g walked now.store next now.disk after found) (knows : KnowsStore g first.store) (before last : ℕ) where
+      there : IsOnWay told g n (course_of found) first walked (none_in_flight limit) now
+      there = over.way found has.is
+
+      all_known : ◌≡◌ {A = Outcomes} (known_in next) (after_given (known_in first.store) walked.given)
+      all_known = noted_calls told has.noted now.store next now.disk after has.goes ∙ way_known told g n first (course_of found) walked (none_in_flight limit) now there
+
+      is_right : IsRight (store_world g first.store walked.given) walked
+      is_right = (there.right knows).right
+
+      found_counted : AreCounted before last (spare_for walked.looked walked.result) walked → AreCounted before last (spare_for walked.looked (Some found)) walked
+      found_counted counted = subst (λ o. AreCounted before last (spare_for walked.looked o) walked) has.is counted
+
+    has_looked : (found : Found) → HasTold told g walked now.store next now.disk after found → (before last : ℕ) → AreCounted before last (spare_for walked.looked walked.result) walked → KnowsStore g first.store
+        → AreLooks told g n limit first (at next after now.tools) before last (Ok found)
+    has_looked (Answer view) has before last counted knows =
+        looked_all g n first.store walked (there (Answer view) has knows before last).root (is_right (Answer view) has knows before last) next (all_known (Answer view) has knows before last) has.placed view has.is before last
+        (found_counted (Answer view) has knows before last counted)
+    has_looked (Circular chain) has before last counted knows =
+        looked_within g n first.store walked (there (Circular chain) has knows before last).root (is_right (Circular chain) has knows before last) next (all_known (Circular chain) has knows before last) before last 0
+        (found_counted (Circular chain) has knows before last counted)
+    has_looked (Deep chain) has before last counted knows =
+        looked_down g n first.store walked (there (Deep chain) has knows before last).root (is_right (Deep chain) has knows before last) next (all_known (Deep chain) has knows before last) chain has.is before last
+        (found_counted (Deep chain) has knows before last counted)
 
     -- ---- it is not
 
@@ -153,7 +176,7 @@ module _ {D : Type 0} (told : D → Telling) (follow : ChangesFollow told) (g : 
           right = λ knows. record { rest = []; few = omega arith; flown = flown_so_far told g n first (course_of way.0) walked (none_in_flight limit) now way.1 knows };
         }
 
-    stops_looked : (fault : KeptFault) → FailsToTell told g walked now.store next now.disk after fault → (before last : ℕ) → AreCounted before last 0 walked → KnowsStore g first.store
+    stops_looked : (fault : KeptFault) → FailsToTell told g walked now.store next now.disk after fault → (before last : ℕ) → AreCounted before last (spare_for walked.looked walked.result) walked → KnowsStore g first.store
         → AreLooks told g n limit first (at next after now.tools) before last (Err fault)
     stops_looked Spawn none before last counted knows = absurd none
     stops_looked Disk has before last counted knows =
@@ -165,14 +188,14 @@ module _ {D : Type 0} (told : D → Telling) (follow : ChangesFollow told) (g : 
           mid = now;
           flown = flown_so_far told g n first (course_of way.0) walked (none_in_flight limit) now way.1 knows;
           goes = way.1.goes;
-          looked = way_looked told g n first (course_of way.0) walked (none_in_flight limit) now way.1 knows before last 0 counted;
+          looked = way_looked told g n first (course_of way.0) walked (none_in_flight limit) now way.1 knows before last counted;
         }
     stops_looked (Full end count) has before last counted knows =
         let way = some_way in
-        looked_on g n first.store now.store next before last 0 (unchanged_kept now.store next has.failed.1.0.store_is) (way_looked told g n first (course_of way.0) walked (none_in_flight limit) now way.1 knows before last 0 counted)
+        way_looked_by told g n first (course_of way.0) walked (none_in_flight limit) now way.1 next (same_calls now.store next has.failed.1.0.store_is) knows before last counted
     stops_looked Memory same before last counted knows =
         let way = some_way in
-        looked_on g n first.store now.store next before last 1 (unchanged_kept now.store next same.store_is) (gives_up_looked told g n first (course_of way.0) walked (none_in_flight limit) now way.1 knows before last counted)
+        gives_up_looked told g n first (course_of way.0) walked (none_in_flight limit) now way.1 next (same_calls now.store next same.store_is) knows before last counted
 
     -- ---- as the answer says it
 
@@ -185,7 +208,7 @@ module _ {D : Type 0} (told : D → Telling) (follow : ChangesFollow told) (g : 
     told_stops (Err fault) has = stops fault has
 
     pub told_looks : (result : Result Found KeptFault) → IfOk result (HasTold told g walked now.store next now.disk after) → IfErr result (FailsToTell told g walked now.store next now.disk after)
-        → (before last : ℕ) → AreCounted before last 0 walked → KnowsStore g first.store → AreLooks told g n limit first (at next after now.tools) before last result
+        → (before last : ℕ) → AreCounted before last (spare_for walked.looked walked.result) walked → KnowsStore g first.store → AreLooks told g n limit first (at next after now.tools) before last result
     told_looks (Ok found) has none before last counted knows = has_looked found has before last counted knows
     told_looks (Err fault) none has before last counted knows = stops_looked fault has before last counted knows
 

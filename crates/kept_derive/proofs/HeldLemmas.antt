@@ -11,6 +11,7 @@ use Rattle.meaning_texts.specs.Lists.{IsIn}
 use Rattle.meaning_texts.proofs.Lemmas.{in_all}
 use Rattle.meaning_derive.specs.Derive.{Outcomes}
 use Rattle.meaning_derive.specs.Given.{OutcomesFit}
+use Rattle.meaning_derive.specs.Laws.{HasMore}
 use Rattle.meaning_records.specs.Tables.{Calls, kept_outcome, put_facts}
 use Rattle.kept_tables.specs.Holdings.{IsKept}
 use Rattle.odin_journal.specs.Trails as trails
@@ -24,6 +25,7 @@ use Rattle.derive_walk.specs.Outcomes.{given_or, after}
 use Rattle.plain_derive.specs.Given.{calls_of}
 use Rattle.plain_derive.specs.GivenLaws.{AreNew}
 use Rattle.plain_derive.proofs.Lemmas.{given_is_in}
+use Rattle.kept_derive.specs.Knowing.{known_in}
 use Rattle.kept_derive.specs.Runs.{keeps_of, changes_for}
 
 -- ---- lists
@@ -86,6 +88,11 @@ in_both (x ∷ calls) given call = by_test (call_eq.eq call x.0) (in_both calls 
         → cond b (Some x.1) (kept_outcome (calls ++ given) call) ≡ given_or (cond b (Some x.1) (kept_outcome calls call)) (outcome_in given call)
     by_test true e = refl
     by_test false e = e
+
+-- What is kept stays known.
+pub more_known : (store next : Store) (given : Calls) → next.kept.tables.calls ≡ store.kept.tables.calls ++ given → HasMore (known_in store) (known_in next)
+more_known store next given is call outcome e =
+    ap (λ (l : Calls). kept_outcome l call) is ∙ in_both store.kept.tables.calls given call ∙ ap (λ o. given_or o (outcome_in given call)) e
 
 -- Calls that were given outcomes are known no other way once they are kept.
 pub same_known : (calls given : Calls) → ◌≡◌ {A = Outcomes} (after (kept_outcome (calls ++ given)) given) (after (kept_outcome calls) given)

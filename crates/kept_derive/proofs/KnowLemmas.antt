@@ -1,5 +1,5 @@
 -- What a store's records of nodes say, while calls are kept, after an opening, and after an edit.
-use Rattle.std.proofs.Common.{◌≡◌, ◌≤◌, ℕ, suc, Bool, true, false, cond, List, [], ◌∷◌, length, inl, inr, refl, sym, ap, subst, ◌∙◌}
+use Rattle.std.proofs.Common.{◌≡◌, ◌≤◌, ℕ, zero, suc, Bool, true, false, cond, List, [], ◌∷◌, length, inl, inr, refl, sym, ap, subst, ◌∙◌}
 use Rattle.std.specs.Prelude.{Option, Some, None, option_map, slice_get}
 use Rattle.std.specs.List.{All}
 use Rattle.object_values.specs.Exact.{node_exact}
@@ -30,7 +30,8 @@ use Rattle.odin_store.specs.OnDisk.{HoldsOn, KeepsNodes, held_in}
 use Rattle.odin_store.specs.Stamps.{AreStampedBy, AreUnchecked}
 use Rattle.odin_store.proofs.Lemmas.{unstamped_at}
 use Rattle.derive_walk.specs.Keeping.{AreReadable, IsReadable}
-use Rattle.kept_derive.specs.Knowing.{KnowsStore, RecordsAreTrue, StaysKnown, known_in, store_records}
+use Rattle.derive_walk.specs.Places.{KeptPlaces}
+use Rattle.kept_derive.specs.Knowing.{KnowsStore, RecordsAreTrue, StaysKnown, known_in, store_places, store_records}
 
 -- ---- lists of facts
 
@@ -53,9 +54,18 @@ module _ (contents : List Value) where
       by true rest = refl
       by false rest = rest
 
+  said_at : (records : List NodeRecord) (place : ℕ) → option_map (fact_by by_number) (slice_get records place) ≡ slice_get (facts_of contents records) place
+  said_at [] place = refl
+  said_at (r ∷ records) zero = refl
+  said_at (r ∷ records) (suc place) = said_at records place
+
 pub fact_there : (contents : List Value) (records : List NodeRecord) (facts : List Fact) → facts ≡ facts_of contents records → (n : Node)
     → option_map (fact_by (λ number. slice_get contents number)) (record_of n records) ≡ fact_in n facts
 fact_there contents records facts say n = said_in contents records n ∙ ap (fact_in n) (sym say)
+
+fact_at : (contents : List Value) (records : List NodeRecord) (facts : List Fact) → facts ≡ facts_of contents records → (place : ℕ)
+    → option_map (fact_by (λ number. slice_get contents number)) (slice_get records place) ≡ slice_get facts place
+fact_at contents records facts say place = said_at contents records place ∙ ap (λ l. slice_get l place) (sym say)
 
 -- ---- records of nodes
 
@@ -125,6 +135,27 @@ module _ (old new : Store) (said : SaysFacts old) (says : SaysFacts new) (nodes 
   -- What is kept of nodes stays while it is not noted anew.
   pub records_stay : new.epoch ≡ old.epoch → ◌≡◌ {A = KeptRecords} (store_records new) (store_records old)
   records_stay epoch = λ i. λ n. (ap (λ e. option_map (kept_by (contents_in new) e) (record_of n new.kept.records.records)) epoch ∙ records_at old.epoch n) i
+
+  -- ---- the record at each place
+
+  same_placed : (place : ℕ) → option_map (fact_by (contents_in new)) (slice_get old.kept.records.records place)
+      ≡ option_map (fact_by (contents_in old)) (slice_get old.kept.records.records place)
+  same_placed place =
+      ap (λ l. option_map (fact_by (contents_in new)) (slice_get l place)) (sym nodes)
+      ∙ fact_at new.kept.tables.contents new.kept.records.records new.kept.tables.records says place
+      ∙ ap (λ l. slice_get l place) facts
+      ∙ sym (fact_at old.kept.tables.contents old.kept.records.records old.kept.tables.records said place)
+
+  placed_at : (epoch : ℕ) (place : ℕ) → option_map (kept_by (contents_in new) epoch) (slice_get new.kept.records.records place)
+      ≡ option_map (kept_by (contents_in old) epoch) (slice_get old.kept.records.records place)
+  placed_at epoch place =
+      ap (λ l. option_map (kept_by (contents_in new) epoch) (slice_get l place)) nodes
+      ∙ same_kept (contents_in new) (contents_in old) epoch (slice_get old.kept.records.records place) (same_placed place)
+
+  -- It stays there.
+  pub places_stay : new.epoch ≡ old.epoch → ◌≡◌ {A = KeptPlaces} (store_places new) (store_places old)
+  places_stay epoch = λ i. λ place. (ap (λ e. option_map (kept_by (contents_in new) e) (slice_get new.kept.records.records place)) epoch
+      ∙ placed_at old.epoch place) i
 
 -- ---- records that may be kept
 

@@ -27,7 +27,7 @@ use Rattle.plain_derive.proofs.Lemmas.{given_are_calls, given_are_new, given_are
 use Rattle.kept_derive.specs.Knowing.{known_in, KnowsStore}
 use Rattle.kept_derive.specs.Runs.{At, keeps_of, changes_for, HasRun, HasFound, course_of}
 use Rattle.kept_derive.specs.Laws.{AreRunNew, IsSpared}
-use Rattle.kept_derive.proofs.HeldLemmas.{calls_after_all, sources_after_all, known_after}
+use Rattle.kept_derive.proofs.HeldLemmas.{calls_after_all, sources_after_all, known_after, more_known}
 
 -- what is known once calls that were given outcomes are kept, whatever is noted after them
 pub known_by_all : {D : Type 0} (told : D → Telling) (g : Graph) (n : Node) (old new : At D) (given : Calls) (noted : List Fact) → AreGiven g old.store.sources.texts (known_in old.store) n given
@@ -60,6 +60,10 @@ module _ {D : Type 0} (told : D → Telling) (g : Graph) (n : Node) (limit : ℕ
         known = known_now;
         sources = sources_after_all told given noted old.store new.store old.disk new.disk run.goes;
       }
+
+  -- What was kept stays.
+  pub found_keeps : (found : Found) → HasFound told g n limit old new found → HasMore (known_in old.store) (known_in new.store)
+  found_keeps found has = more_known old.store new.store has.given (calls_after_all told has.given has.noted old.store new.store old.disk new.disk has.goes)
 
   -- ---- what is found by what is kept then, where what was kept of nodes was known
 

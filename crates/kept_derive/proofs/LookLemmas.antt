@@ -1,169 +1,218 @@
 -- The looks of a derivation.
-use Rattle.std.proofs.Common.{◌≡◌, ◌≢◌, ◌↔◌, ℕ, ◌+◌, ◌≤◌, Bool, true, false, List, [], ◌∷◌, length, inl, inr, refl, sym, ap, subst, arith, length-append, ◌∙◌}
-use Rattle.std.specs.Prelude.{Result, Err, IfErr}
+use Rattle.std.proofs.Common.{◌≡◌, ℕ, ◌+◌, ◌≤◌, List, [], ◌∷◌, length, inl, inr, refl, sym, ap, subst, arith, ◌∙◌}
+use Rattle.std.specs.Prelude.{Option, Some, None, IfSome, Result, Err, IfErr}
 use Rattle.object_values.specs.declared.nodes.Node.{Node}
-use Rattle.object_values.specs.declared.calls.Call.{Call}
-use Rattle.object_values.specs.declared.calls.Outcome.{Outcome}
-use Rattle.object_values.specs.contracts.calls.CallPartialEq.TheImpl.{ghosts as call_eq}
-use Rattle.object_values.specs.Exact.{call_exact}
+use Rattle.object_values.specs.declared.views.View.{View}
 use Rattle.odin_outside.specs.Disk.{Telling}
 use Rattle.odin_outside.specs.Spawned.{Spawned}
-use Rattle.meaning_texts.specs.Lists.{IsIn}
+use Rattle.meaning_texts.specs.Limits.{height_limit}
 use Rattle.meaning_graph.specs.Graphs.{Graph}
+use Rattle.meaning_derive.specs.Chains.{IsDeep}
 use Rattle.meaning_derive.specs.Derive.{Outcomes, derived}
-use Rattle.meaning_derive.specs.Chains.{IsMet}
-use Rattle.meaning_derive.specs.Laws.{HasMore}
 use Rattle.meaning_records.specs.Tables.{Calls, Tables, kept_outcome}
+use Rattle.meaning_true.specs.Knowing.{Knows, LooksAreCounted}
 use Rattle.odin_store.specs.declared.store.Store.{Store}
 use Rattle.odin_store.specs.OnDisk.{HoldsOn}
-use Rattle.odin_store.specs.Going.{Performs, ChangesFollow}
-use Rattle.derive_walk.specs.Calls.{AreOnce, outcome_in}
-use Rattle.derive_walk.specs.Tables.{Entries, done_nodes}
-use Rattle.derive_walk.specs.Looks.{LooksAreFew, met_by, count_with_steps}
-use Rattle.derive_walk.specs.Outcomes.{given_or, after}
-use Rattle.derive_walk.specs.Walks.{Walked, IsRight, OutcomeIsGiven, ExtendsWalk as WalkGoesOn}
-use Rattle.derive_walk.proofs.Lemmas.{has_met, met_stays}
+use Rattle.odin_store.specs.Going.{ChangesFollow}
+use Rattle.derive_walk.specs.declared.found.Found.{Found}
+use Rattle.derive_walk.specs.declared.found.Found.TheVariants.{Answer, Circular, Deep}
+use Rattle.derive_walk.specs.Founds.{IsFound}
+use Rattle.derive_walk.specs.Looks.{LooksAreDeep, LooksAreWithin, TakesLooks, looks_beyond, looks_by, spare_for}
+use Rattle.derive_walk.specs.Outcomes.{after}
+use Rattle.derive_walk.specs.Walks.{Walked, IsPlacedIn, IsRight, ExtendsWalk as WalkGoesOn}
+use Rattle.derive_walk.specs.Worlds.{World}
+use Rattle.derive_walk.proofs.Lemmas.{all_looked, deep_is_few, looked_at, looks_counted, looks_deep, looks_later, looks_within}
 use Rattle.job_runner.specs.Flights.{InFlight}
-use Rattle.job_runner.proofs.Lemmas.{no_more}
-use Rattle.plain_derive.specs.GivenLaws.{AreNew}
 use Rattle.plain_derive.specs.Flights.{Course}
 use Rattle.kept_derive.specs.declared.fault.KeptFault.{KeptFault}
 use Rattle.kept_derive.specs.declared.fault.KeptFault.TheVariants.{Spawn, Disk, Full, Memory}
-use Rattle.kept_derive.specs.Knowing.{known_in, KnowsStore}
-use Rattle.kept_derive.specs.Runs.{At, at, store_world, keeps_of}
+use Rattle.kept_derive.specs.Knowing.{known_in, KnowsStore, store_records}
+use Rattle.kept_derive.specs.Runs.{At, at, store_world}
 use Rattle.kept_derive.specs.declared.landing.Landed.{Landed}
 use Rattle.kept_derive.specs.declared.landing.Landed.TheVariants.{Kept, Lost}
-use Rattle.kept_derive.specs.Calls.{MayDrain, Lands, FailsToLand}
-use Rattle.kept_derive.specs.Looked.{HasLooked, AreLooks, sought_by, AreCounted, KeepsMore}
+use Rattle.kept_derive.specs.Calls.{Lands, FailsToLand}
+use Rattle.kept_derive.specs.Looked.{AreCounted, AreLooks, HasCounted, HasLooked, HasLookedDown, HasLookedFor, most_lost}
 use Rattle.kept_derive.specs.Ways.{IsOnWay, IsHalted, DrainStops}
-use Rattle.kept_derive.proofs.HeldLemmas.{nothing_behind, in_both, calls_after}
-use Rattle.kept_derive.proofs.CallLemmas.{out_ran}
+use Rattle.kept_derive.proofs.HeldLemmas.{calls_after, more_known}
 use Rattle.kept_derive.proofs.RestLemmas.{way_rests, fails_rests}
 use Rattle.kept_derive.proofs.StayLemmas.{known_now}
 use Rattle.kept_derive.proofs.TurnLemmas.{MayEndIf, flown_over, fails, gives_up}
 
 -- ---- on the way
 
-pub none_counted : (walked : Walked) (first : ℕ) → AreCounted first first 0 walked
-none_counted walked first = record { later = omega arith; each = omega arith }
+pub none_counted : (walked : Walked) (first : ℕ) → looks_by walked ≡ 0 → AreCounted first first 0 walked
+none_counted walked first none = record { more = omega arith; least = omega (arith, none); most = omega (arith, none) }
+
+-- more may be lost that was not
+pub counted_wider : (first last spare wider : ℕ) (walked : Walked) → spare ≤ wider → AreCounted first last spare walked → AreCounted first last wider walked
+counted_wider first last spare wider walked few counted = record { more = counted.more; least = counted.least; most = omega (arith, counted.most, few) }
+
+pub any_spare : (first last spare : ℕ) (walked : Walked) → AreCounted first last 0 walked → AreCounted first last spare walked
+any_spare first last spare walked counted = counted_wider first last 0 spare walked (omega arith) counted
 
 -- an advance
-pub advance_counted : (first mid last spare : ℕ) (old new : Walked) → AreCounted first mid 0 old → new.given ≡ old.given → LooksAreFew (met_by old) (met_by new) mid last spare → AreCounted first last spare new
-advance_counted first mid last spare old new counted same few = record {
-  later = omega (arith, counted.later, few.later);
-  each = omega (arith, counted.each, few.each, ap length same);
+pub advance_counted : (first mid last spare : ℕ) (old new : Walked) → AreCounted first mid 0 old → TakesLooks (looks_by old) (looks_by new) mid last spare → AreCounted first last spare new
+advance_counted first mid last spare old new counted takes = record {
+  more = omega arith;
+  least = omega (arith, counted.least, takes.least);
+  most = omega (arith, counted.most, takes.most);
 }
 
+-- of which none is lost
+pub advance_found : (first mid last spare : ℕ) (old new : Walked) → AreCounted first mid 0 old → TakesLooks (looks_by old) (looks_by new) mid last (0 + spare) → AreCounted first last spare new
+advance_found first mid last spare old new counted takes = counted_wider first last (0 + spare) spare new (omega arith) (advance_counted first mid last (0 + spare) old new counted takes)
+
+-- after which nothing is found yet
+pub still_counted : (first last : ℕ) (walked : Walked) → walked.result ≡ None → AreCounted first last (spare_for walked.looked walked.result) walked → AreCounted first last 0 walked
+still_counted first last walked still counted = subst (λ o. AreCounted first last (spare_for walked.looked o) walked) still counted
+
 -- calls that ended
-pub ends_counted : (first last : ℕ) (old new : Walked) → AreCounted first last 0 old → sought_by new ≡ sought_by old → AreCounted first last 0 new
-ends_counted first last old new counted same = record { later = counted.later; each = omega (arith, counted.each, same) }
+module _ (old new : Walked) (looked : new.looked ≡ old.looked) (taken : new.taken ≡ old.taken) where
+  pub ends_counted : (first last spare : ℕ) → AreCounted first last spare old → AreCounted first last spare new
+  ends_counted first last spare counted =
+      let same : looks_by new ≡ looks_by old = λ i. length (looked i) + length (taken i) in
+      record { more = omega arith; least = omega (arith, counted.least, same); most = omega (arith, counted.most, same) }
 
--- one call less
-one_less : (call : Call) (old new : List Call) → IsIn call old → AreOnce old → AreOnce new → ((c : Call) → IsIn c new ↔ (IsIn c old × (c ≢ call))) → length old ≡ length new + 1
-one_less call old new there once_old once_new fewer =
-    let more : length old ≤ length (call ∷ new) = no_more old (call ∷ new) once_old (λ c i. by_test c i (call_eq.eq c call) refl) in
-    let most : length (call ∷ new) ≤ length old = no_more (call ∷ new) old (λ i. ((fewer call).0 i).1 refl, once_new) (λ c i. elim i [ inl e ↦ subst (λ z. IsIn z old) (sym e) there | inr j ↦ ((fewer c).0 j).0 ]) in
-    omega (arith, more, most)
-  where
-    by_test : (c : Call) → IsIn c old → (b : Bool) → call_eq.eq c call ≡ b → IsIn c (call ∷ new)
-    by_test c i true same = inl ((call_exact c call).0 same)
-    by_test c i false same = inr ((fewer c).1 (i, λ e. let yes : call_eq.eq c call ≡ true = (call_exact c call).1 e in cc))
-
-one_given : (call : Call) (outcome : Outcome) (old new : Walked) → IsIn call old.wanted → AreOnce old.wanted → OutcomeIsGiven call outcome old new → sought_by new ≡ sought_by old
-one_given call outcome old new there once is =
-    let less : length old.wanted ≡ length new.wanted + 1 = one_less call old.wanted new.wanted there once is.once is.wanted in
-    let same : count_with_steps (done_nodes new.done) ≡ count_with_steps (done_nodes old.done) = ap (λ (es : Entries). count_with_steps (done_nodes es)) is.done in
-    let longer : length new.given ≡ length old.given + 1 = ap length is.given ∙ length-append old.given ((call, outcome) ∷ []) in
-    omega (arith, less, same, longer)
+  pub drained_counted : new.result ≡ old.result → (first last : ℕ) → AreCounted first last (spare_for old.looked old.result) old → AreCounted first last (spare_for new.looked new.result) new
+  drained_counted result first last counted =
+      let spare : spare_for old.looked old.result ≡ spare_for new.looked new.result = λ i. spare_for (sym looked i) (sym result i) in
+      subst (λ k. AreCounted first last k new) spare (ends_counted first last (spare_for old.looked old.result) counted)
 
 -- an end, whether it was lost or not
-pub same_sought : {D : Type 0} (told : D → Telling) (walked : Walked) (jobs : InFlight) (old : At D) (walked' : Walked) (jobs' : InFlight) (new : At D) (size : ℕ) → MayDrain walked jobs old.store size old.tools
-    → (landed : Landed) → Lands told walked jobs old walked' jobs' new landed → sought_by walked' ≡ sought_by walked
-same_sought told walked jobs old walked' jobs' new size may Kept has = one_given has.call has.outcome walked walked' (may.wanted has.call (out_ran has.ended.slot has.call jobs jobs' has.ended.out)) may.once has.given
-same_sought told walked jobs old walked' jobs' new size may Lost has = ap (λ (z : Walked). sought_by z) has.walk
+module _ {D : Type 0} (told : D → Telling) (walked : Walked) (jobs : InFlight) (old : At D) (walked' : Walked) (jobs' : InFlight) (new : At D) where
+  pub same_looked : (landed : Landed) → Lands told walked jobs old walked' jobs' new landed → walked'.looked ≡ walked.looked
+  same_looked Kept has = has.given.looked
+  same_looked Lost has = ap (λ (z : Walked). z.looked) has.walk
+
+  pub same_taken : (landed : Landed) → Lands told walked jobs old walked' jobs' new landed → walked'.taken ≡ walked.taken
+  same_taken Kept has = has.given.taken
+  same_taken Lost has = ap (λ (z : Walked). z.taken) has.walk
 
 -- ---- calls that are kept
 
-pub unchanged_kept : (store next : Store) → HoldsOn store next → KeepsMore store next
-unchanged_kept store next same = record { more = []; is = ap (λ (t : Tables). t.calls) same.tables ∙ sym (nothing_behind store.kept.tables.calls) }
+pub same_calls : (store next : Store) → HoldsOn store next → ◌≡◌ {A = Outcomes} (known_in next) (known_in store)
+same_calls store next same = ap (λ (t : Tables). kept_outcome t.calls) same.tables
 
 -- ---- as its callers see it
 
--- what is kept stays known
-still_known : (store next : Store) → KeepsMore store next → HasMore (known_in store) (known_in next)
-still_known store next kept call outcome e =
-    ap (λ (l : Calls). kept_outcome l call) kept.is ∙ in_both store.kept.tables.calls kept.more call ∙ ap (λ o. given_or o (outcome_in kept.more call)) e
+pub none_looked : (g : Graph) (n : Node) (store : Store) (count spare : ℕ) → HasLooked g n store store count count spare
+none_looked g n store count spare = record {
+  looked = [];
+  different = tt;
+  stepped = λ m i. absurd i;
+  may = λ m i. absurd i;
+  taken = [];
+  once = tt;
+  among = λ m i. absurd i;
+  least = omega arith;
+  most = omega arith;
+}
 
-module _ (g : Graph) (n : Node) where
-  pub none_looked : (store : Store) (count spare : ℕ) → HasLooked g n store store count count spare
-  none_looked store count spare = record { nodes = []; different = tt; steps = λ m i. absurd i; met = λ m i. absurd i; later = omega arith; each = omega arith }
+-- The looks of a walk that is right, by a store that keeps just what it knows of calls.
+module _ (g : Graph) (n : Node) (first : Store) (walked : Walked) (root : walked.root ≡ n) (right : IsRight (store_world g first walked.given) walked) (next : Store)
+    (known : ◌≡◌ {A = Outcomes} (known_in next) (after (known_in first) walked.given)) where
+  abbrev here : World
+  here = store_world g first walked.given
 
-  -- a look may be lost that was not
-  looked_wider : (store next : Store) (first last spare : ℕ) → HasLooked g n store next first last 0 → HasLooked g n store next first last spare
-  looked_wider store next first last spare looked = record { nodes = looked.nodes; different = looked.different; steps = looked.steps; met = looked.met; later = looked.later; each = omega (arith, looked.each) }
+  is_found : (found : Found) → walked.result ≡ Some found → IsFound g first.sources.texts (after (known_in first) walked.given) walked.root found
+  is_found found is = subst (λ r. IfSome r (IsFound g first.sources.texts (after (known_in first) walked.given) walked.root)) is right.found
 
-  -- and more calls may be kept
-  pub looked_on : (store mid next : Store) (first last spare : ℕ) → KeepsMore mid next → HasLooked g n store mid first last spare → HasLooked g n store next first last spare
-  looked_on store mid next first last spare kept looked = record {
-    nodes = looked.nodes;
-    different = looked.different;
-    steps = looked.steps;
-    met = λ m i. met_stays g store.sources.texts (known_in mid) (known_in next) (still_known mid next kept) n m (looked.met m i);
-    later = looked.later;
-    each = omega (arith, looked.each, ap length kept.is, length-append mid.kept.tables.calls kept.more);
-  }
+  pub looked_within : (before last spare : ℕ) → AreCounted before last spare walked → HasLooked g n first next before last spare
+  looked_within before last spare counted =
+      subst (λ (z : Outcomes × Node). LooksAreWithin g first.sources.texts z.0 (store_records first) z.1 before last spare) (λ i. (sym known i, root i))
+      (looks_within here walked (looked_at here walked right) before last spare counted)
 
-module _ {D : Type 0} (told : D → Telling) (g : Graph) (n : Node) (first : At D) where
-  has_looked : (walked : Walked) (now : At D) → walked.root ≡ n → AreNew (known_in first.store) walked.given → Performs told (keeps_of walked.given) first.store now.store first.disk now.disk
-      → IsRight (store_world g first.store walked.given) walked → (before last spare : ℕ) → AreCounted before last spare walked → HasLooked g n first.store now.store before last spare
-  has_looked walked now root new goes right before last spare counted =
-      let met = has_met (store_world g first.store walked.given) walked right in
-      let known : ◌≡◌ {A = Outcomes} (known_in now.store) (after (known_in first.store) walked.given) = known_now told g first walked.given now goes new in
-      let calls = calls_after told walked.given first.store now.store first.disk now.disk goes in
+  -- a view is found
+  pub looked_all : IsPlacedIn walked.root walked.done walked.result → (view : View) → walked.result ≡ Some (Answer view) → (before last : ℕ) → AreCounted before last 0 walked
+      → HasCounted g n first next before last
+  looked_all placed view is before last counted =
+      subst (λ (z : Outcomes × Node). LooksAreCounted g first.sources.texts z.0 (store_records first) z.1 before last) (λ i. (sym known i, root i))
+      (looks_counted here walked (looked_at here walked right) (all_looked here walked right placed view is) before last counted)
+
+  -- a chain that is too deep
+  pub looked_down : (chain : List Node) → walked.result ≡ Some (Deep chain) → (before last : ℕ) → AreCounted before last (looks_beyond walked.looked chain) walked → HasLookedDown g n chain first next before last
+  looked_down chain is before last counted =
+      let deep : IsDeep g (derived g first.sources.texts (after (known_in first) walked.given)) walked.root chain = is_found (Deep chain) is in
       record {
-        nodes = met.nodes;
-        different = met.different;
-        steps = met.steps;
-        met = λ m i. subst (λ (p : Outcomes). IsMet g (derived g first.store.sources.texts p) n m) (sym known) (subst (λ r. IsMet g (derived g first.store.sources.texts (after (known_in first.store) walked.given)) r m) root (met.met m i));
-        later = counted.later;
-        each = omega (arith, counted.each, met.all, ap length calls, length-append first.store.kept.tables.calls walked.given);
+        deep = subst (λ (z : Outcomes × Node). IsDeep g (derived g first.sources.texts z.0) z.1 chain) (λ i. (sym known i, root i)) deep;
+        looks = subst (λ (z : Outcomes × Node). LooksAreDeep g first.sources.texts z.0 (store_records first) z.1 chain before last) (λ i. (sym known i, root i))
+            (looks_deep here walked (looked_at here walked right) chain deep.different before last counted);
       }
 
-  module _ (course : Course) (walked : Walked) (jobs : InFlight) (now : At D) (way : IsOnWay told g n course first walked jobs now) where
-    pub way_looked : KnowsStore g first.store → (before last spare : ℕ) → AreCounted before last spare walked → HasLooked g n first.store now.store before last spare
-    way_looked knows before last spare counted = has_looked walked now way.root way.new way.goes (way.right knows).right before last spare counted
+  -- something or nothing is found
+  pub looked_for : (before last : ℕ) → AreCounted before last (spare_for walked.looked walked.result) walked → HasLookedFor g n first next before last
+  looked_for before last counted = by_result walked.result refl counted
+    where
+      by_result : (o : Option Found) → walked.result ≡ o → AreCounted before last (spare_for walked.looked o) walked → HasLookedFor g n first next before last
+      by_result None is all = inl (looked_within before last 0 all)
+      by_result (Some (Answer view)) is all = inl (looked_within before last 0 all)
+      by_result (Some (Circular chain)) is all = inl (looked_within before last 0 all)
+      by_result (Some (Deep chain)) is all = inr (chain, looked_down chain is before last all)
 
-    -- memory is wanting, and no look was lost
-    pub gives_up_looked : KnowsStore g first.store → (before last : ℕ) → AreCounted before last 0 walked → HasLooked g n first.store now.store before last 1
-    gives_up_looked knows before last counted = looked_wider g n first.store now.store before last 1 (way_looked knows before last 0 counted)
+  -- ---- memory is wanting
+
+  few_spared : spare_for walked.looked walked.result ≤ height_limit + 1
+  few_spared = by_result walked.result refl
+    where
+      by_result : (o : Option Found) → walked.result ≡ o → spare_for walked.looked o ≤ height_limit + 1
+      by_result None is = omega arith
+      by_result (Some (Answer view)) is = omega arith
+      by_result (Some (Circular chain)) is = omega arith
+      by_result (Some (Deep chain)) is =
+          let deep : IsDeep g (derived g first.sources.texts (after (known_in first) walked.given)) walked.root chain = is_found (Deep chain) is in
+          omega (arith, deep_is_few walked.looked chain, deep.long)
+
+  pub looked_wanting : (before last : ℕ) → AreCounted before last (spare_for walked.looked walked.result) walked → HasLooked g n first next before last most_lost
+  looked_wanting before last counted =
+      looked_within before last most_lost (counted_wider before last (spare_for walked.looked walked.result) most_lost walked (omega (arith, few_spared)) counted)
+
+  -- and so it was in an advance
+  pub advance_wanting : (before last : ℕ) → AreCounted before last (height_limit + 1 + spare_for walked.looked walked.result) walked → HasLooked g n first next before last most_lost
+  advance_wanting before last counted =
+      looked_within before last most_lost (counted_wider before last (height_limit + 1 + spare_for walked.looked walked.result) most_lost walked (omega (arith, few_spared)) counted)
+
+module _ {D : Type 0} (told : D → Telling) (g : Graph) (n : Node) (first : At D) where
+  module _ (course : Course) (walked : Walked) (jobs : InFlight) (now : At D) (way : IsOnWay told g n course first walked jobs now) where
+    pub way_known : ◌≡◌ {A = Outcomes} (known_in now.store) (after (known_in first.store) walked.given)
+    way_known = known_now told g first walked.given now way.goes way.new
+
+    pub way_looked_by : (next : Store) → ◌≡◌ {A = Outcomes} (known_in next) (known_in now.store) → KnowsStore g first.store → (before last : ℕ)
+        → AreCounted before last (spare_for walked.looked walked.result) walked → HasLookedFor g n first.store next before last
+    way_looked_by next same knows before last counted = looked_for g n first.store walked way.root (way.right knows).right next (same ∙ way_known) before last counted
+
+    pub way_looked : KnowsStore g first.store → (before last : ℕ) → AreCounted before last (spare_for walked.looked walked.result) walked → HasLookedFor g n first.store now.store before last
+    way_looked knows before last counted = way_looked_by now.store refl knows before last counted
+
+    -- memory is wanting
+    pub gives_up_looked : (next : Store) → ◌≡◌ {A = Outcomes} (known_in next) (known_in now.store) → KnowsStore g first.store → (before last : ℕ)
+        → AreCounted before last (spare_for walked.looked walked.result) walked → HasLooked g n first.store next before last most_lost
+    gives_up_looked next same knows before last counted = looked_wanting g n first.store walked way.root (way.right knows).right next (same ∙ way_known) before last counted
 
     -- it is given up, and nothing happened
     pub gives_up_halted : (before last : ℕ) → AreCounted before last 0 walked → (limit : ℕ) → jobs.limit ≡ limit → (tools : Spawned) → tools ≡ now.tools → IsHalted told g n limit first (at now.store now.disk tools) before last Memory
     gives_up_halted before last counted limit same tools still =
         let there : IsHalted told g n jobs.limit first now before last Memory = record {
           stopped = gives_up told g n first course walked jobs now way;
-          looks = λ knows. gives_up_looked knows before last counted;
+          looks = λ knows. gives_up_looked now.store refl knows before last (any_spare before last (spare_for walked.looked walked.result) walked counted);
           rest = way_rests told g n first course walked jobs now way Memory tt;
         } in
         subst (λ (z : ℕ × Spawned). IsHalted told g n z.0 first (at now.store now.disk z.1) before last Memory) (λ i. (same i, sym still i)) there
 
-    -- as the walk went on, where memory may have been wanting
-    advance_looked : KnowsStore g first.store → (walked' : Walked) → WalkGoesOn walked walked' → IsRight (store_world g first.store walked'.given) walked' → (before last spare : ℕ) → AreCounted before last spare walked' → HasLooked g n first.store now.store before last spare
-    advance_looked knows walked' on right before last spare counted =
-        let goes : Performs told (keeps_of walked'.given) first.store now.store first.disk now.disk = subst (λ (l : Calls). Performs told (keeps_of l) first.store now.store first.disk now.disk) (sym on.given) way.goes in
-        has_looked walked' now (on.root ∙ way.root) (subst (λ (l : Calls). AreNew (known_in first.store) l) (sym on.given) way.new) goes right before last spare counted
-
+    -- as the walk went on, where memory was wanting
     pub advance_halted : (walked' : Walked) → WalkGoesOn walked walked' → (IsRight (store_world g first.store walked.given) walked → IsRight (store_world g first.store walked'.given) walked')
-        → (before last : ℕ) → AreCounted before last 1 walked' → IsHalted told g n jobs.limit first now before last Memory
+        → (before last : ℕ) → AreCounted before last (height_limit + 1 + spare_for walked'.looked walked'.result) walked' → IsHalted told g n jobs.limit first now before last Memory
     advance_halted walked' on right before last counted = record {
       stopped = gives_up told g n first course walked jobs now way;
-      looks = λ knows. advance_looked knows walked' on (right (way.right knows).right) before last 1 counted;
+      looks = λ knows.
+          let known : ◌≡◌ {A = Outcomes} (known_in now.store) (after (known_in first.store) walked'.given) =
+          way_known ∙ ap (λ (l : Calls). after (known_in first.store) l) (sym on.given) in
+          advance_wanting g n first.store walked' (on.root ∙ way.root) (right (way.right knows).right) now.store known before last counted;
       rest = way_rests told g n first course walked jobs now way Memory tt;
     }
 
     -- an end after which it stops
     fails_looked : KnowsStore g first.store → MayEndIf told g n first course walked jobs now → (walked' : Walked) (jobs' : InFlight) (new : At D) (before last : ℕ) (fault : KeptFault)
-        → FailsToLand told walked jobs now walked' jobs' new fault → AreCounted before last 0 walked → AreLooks told g n jobs.limit first new before last (Err fault)
+        → FailsToLand told walked jobs now walked' jobs' new fault → AreCounted before last (spare_for walked.looked walked.result) walked → AreLooks told g n jobs.limit first new before last (Err fault)
     fails_looked knows may walked' jobs' new before last Spawn none counted = absurd none
     fails_looked knows may walked' jobs' new before last Disk has counted = record {
       given = walked.given;
@@ -172,16 +221,18 @@ module _ {D : Type 0} (told : D → Telling) (g : Graph) (n : Node) (first : At 
       mid = now;
       flown = flown_over told g n first course walked jobs now way may knows has.call has.outcome jobs' new has.ended;
       goes = way.goes;
-      looked = way_looked knows before last 0 counted;
+      looked = way_looked knows before last counted;
     }
-    fails_looked knows may walked' jobs' new before last (Full end count) has counted = looked_on g n first.store now.store new.store before last 0 (unchanged_kept now.store new.store has.failed.1.0.store_is) (way_looked knows before last 0 counted)
-    fails_looked knows may walked' jobs' new before last Memory (inl held) counted = looked_on g n first.store now.store new.store before last 1 (unchanged_kept now.store new.store held.same.store_is) (gives_up_looked knows before last counted)
+    fails_looked knows may walked' jobs' new before last (Full end count) has counted = way_looked_by new.store (same_calls now.store new.store has.failed.1.0.store_is) knows before last counted
+    fails_looked knows may walked' jobs' new before last Memory (inl held) counted = gives_up_looked new.store (same_calls now.store new.store held.same.store_is) knows before last counted
     fails_looked knows may walked' jobs' new before last Memory (inr has) counted =
-        let kept : KeepsMore now.store new.store = record { more = (has.call, has.outcome) ∷ []; is = calls_after told ((has.call, has.outcome) ∷ []) now.store new.store now.disk new.disk has.goes } in
-        looked_on g n first.store now.store new.store before last 1 kept (gives_up_looked knows before last counted)
+        let more = more_known now.store new.store ((has.call, has.outcome) ∷ []) (calls_after told ((has.call, has.outcome) ∷ []) now.store new.store now.disk new.disk has.goes) in
+        let known = subst (λ (p : Outcomes). Knows g first.store.sources.texts p (store_records first.store)) (sym way_known) (way.right knows).right.knows in
+        looks_later g first.store.sources.texts (known_in now.store) (known_in new.store) more (store_records first.store) known n before last most_lost
+        (gives_up_looked now.store refl knows before last counted)
 
     pub halts : ChangesFollow told → MayEndIf told g n first course walked jobs now → (walked' : Walked) (jobs' : InFlight) (new : At D) (fault : KeptFault) → FailsToLand told walked jobs now walked' jobs' new fault
-        → (limit : ℕ) → jobs.limit ≡ limit → (before last : ℕ) → AreCounted before last 0 walked → IsHalted told g n limit first new before last fault
+        → (limit : ℕ) → jobs.limit ≡ limit → (before last : ℕ) → AreCounted before last (spare_for walked.looked walked.result) walked → IsHalted told g n limit first new before last fault
     halts follow may walked' jobs' new fault has limit same before last counted = subst (λ k. IsHalted told g n k first new before last fault) same (record {
       stopped = fails told g n first course walked jobs now way may follow walked' jobs' new fault has;
       looks = λ knows. fails_looked knows may walked' jobs' new before last fault has counted;

@@ -17,14 +17,15 @@ use Rattle.odin_store.specs.OnDisk.{held_in, KeepsNodes}
 use Rattle.odin_store.specs.Going.{Performs}
 use Rattle.derive_walk.specs.Calls.{AreOnce, outcome_in}
 use Rattle.derive_walk.specs.Outcomes.{given_or, after}
+use Rattle.derive_walk.specs.Places.{KeptPlaces}
 use Rattle.derive_walk.specs.Worlds.{world_over}
 use Rattle.plain_derive.specs.Given.{calls_of}
 use Rattle.plain_derive.specs.GivenLaws.{AreNew}
-use Rattle.kept_derive.specs.Knowing.{known_in, store_records}
+use Rattle.kept_derive.specs.Knowing.{known_in, store_places, store_records}
 use Rattle.kept_derive.specs.Runs.{At, store_world, keeps_of}
 use Rattle.kept_derive.specs.Telling.{world_now}
 use Rattle.kept_derive.proofs.HeldLemmas.{held_after_all, calls_after, sources_after, records_after_all, same_known, known_after}
-use Rattle.kept_derive.proofs.KnowLemmas.{SaysFacts, records_stay}
+use Rattle.kept_derive.proofs.KnowLemmas.{SaysFacts, places_stay, records_stay}
 
 -- ---- the graph, the records of nodes, and what is known
 
@@ -43,19 +44,22 @@ module _ {D : Type 0} (told : D → Telling) (g : Graph) (first : At D) (given :
     records_are : ◌≡◌ {A = KeptRecords} (store_records now.store) (store_records first.store)
     records_are = records_stay first.store now.store before later nodes (facts_after told given first.store now.store first.disk now.disk goes) epoch
 
+    places_are : ◌≡◌ {A = KeptPlaces} (store_places now.store) (store_places first.store)
+    places_are = places_stay first.store now.store before later nodes (facts_after told given first.store now.store first.disk now.disk goes) epoch
+
     pub worlds_are : store_world g now.store given ≡ store_world g first.store given
     worlds_are =
         let sources = sources_after told given first.store now.store first.disk now.disk goes in
         let calls = calls_after told given first.store now.store first.disk now.disk goes in
         let known : ◌≡◌ {A = Outcomes} (after (known_in now.store) given) (after (known_in first.store) given) = ap (λ (l : Calls). after (kept_outcome l) given) calls ∙ same_known first.store.kept.tables.calls given in
-        λ i. world_over (records_are i) g (sources i) (known i)
+        λ i. world_over (records_are i) (places_are i) g (sources i) (known i)
 
     -- Where all that was given is kept, it is known no other way.
     pub world_is_now : AreNew (known_in first.store) given → world_now g now.store ≡ store_world g first.store given
     world_is_now new =
         let sources = sources_after told given first.store now.store first.disk now.disk goes in
         let known : ◌≡◌ {A = Outcomes} (known_in now.store) (after (known_in first.store) given) = known_now new in
-        λ i. world_over (records_are i) g (sources i) (known i)
+        λ i. world_over (records_are i) (places_are i) g (sources i) (known i)
 
 -- ---- what is new
 

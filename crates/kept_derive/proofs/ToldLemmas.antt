@@ -53,7 +53,7 @@ use Rattle.derive_walk.specs.Laws.{ToldIsKnown}
 use Rattle.derive_walk.specs.Tables.{done_in}
 use Rattle.derive_walk.specs.Told.{AreTold, fresh_nodes, noted_record, renewed_nodes}
 use Rattle.derive_walk.specs.Worlds.{World}
-use Rattle.derive_walk.specs.Walks.{IsRight, Walked}
+use Rattle.derive_walk.specs.Walks.{IsPlacedIn, IsRight, Walked}
 use Rattle.kept_derive.specs.Faults.{of_store}
 use Rattle.kept_derive.specs.Knowing.{IsRecorded, KnowsStore, known_in, store_records}
 use Rattle.kept_derive.specs.Noting.{KeepsTold, MayKeepTold, MayRenewEach, renew_records}
@@ -328,23 +328,25 @@ module _ (g : Graph) (store : Store) (walked : Walked) (right : IsRight (world_n
 -- A view, once what the walk tells is kept.
 pub has_told : {D : Type 0} (told : D → Telling) (g : Graph) (store next : Store) (disk after : D) (walked : Walked) (view : View) → ToldIsKnown
     → walked.result ≡ Some (Answer view)
-    → (walked.root.steps ≢ [] → IsSome (done_in walked.done walked.root)) → KeepsTold told walked.fresh walked.renewed store next disk after
+    → IsPlacedIn walked.root walked.done walked.result → KeepsTold told walked.fresh walked.renewed store next disk after
     → HasTold told g walked store next disk after (Answer view)
 has_told told g store next disk after walked view law is placed keeps = record {
   is = is;
+  placed = placed;
   noted = facts_of walked.fresh;
   may = tt;
   goes = keeps.goes;
   epoch = keeps.epoch;
-  right = λ right. rightly_told g store walked right told next disk after keeps law view placed;
+  right = λ right. rightly_told g store walked right told next disk after keeps law view (placed view is);
 }
 
 -- A chain, for which nothing is.
 pub chain_told : {D : Type 0} (told : D → Telling) (g : Graph) (store : Store) (disk : D) (walked : Walked) (found : Found) → ChangesFollow told
-    → walked.result ≡ Some found → IsChain found
+    → walked.result ≡ Some found → IsPlacedIn walked.root walked.done walked.result → IsChain found
     → HasTold told g walked store store disk disk found
-chain_told told g store disk walked found law is chain = record {
+chain_told told g store disk walked found law is placed chain = record {
   is = is;
+  placed = placed;
   noted = [];
   may = none_noted found;
   goes = law.none store store disk disk (same_here store disk);

@@ -10,7 +10,8 @@ use Rattle.meaning_true.specs.Facts.{RecordIsTrue}
 use Rattle.meaning_true.specs.Knowing.{KeptRecords, Knows, IsChecked}
 use Rattle.odin_store.specs.declared.store.Store.{Store}
 use Rattle.odin_store.specs.Held.{Held}
-use Rattle.derive_walk.specs.Keeping.{records_in}
+use Rattle.derive_walk.specs.Keeping.{places_in, records_in}
+use Rattle.derive_walk.specs.Places.{KeptPlaces}
 use Rattle.derive_walk.specs.declared.found.Found.{Found}
 use Rattle.derive_walk.specs.declared.found.Found.TheVariants.{Answer}
 use Rattle.derive_core.specs.Kept.{keeping_of}
@@ -22,6 +23,10 @@ known_in store = kept_outcome store.kept.tables.calls
 -- what its records say at its epoch
 abbrev pub store_records : Store → KeptRecords
 store_records store = records_in (keeping_of store.kept store.epoch)
+
+-- and what the one at each place says
+abbrev pub store_places : Store → KeptPlaces
+store_places store = places_in (keeping_of store.kept store.epoch)
 
 -- each of these is true beside the outcomes
 abbrev pub AreTrueBeside : Graph → Outcomes → List Fact → Type 0

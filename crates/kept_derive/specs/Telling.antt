@@ -13,7 +13,7 @@ use Rattle.odin_store.specs.OnDisk.{IsSame}
 use Rattle.odin_store.specs.Going.{Performs}
 use Rattle.odin_store.specs.Edited.{HasFailed}
 use Rattle.derive_walk.specs.declared.found.Found.{Found}
-use Rattle.derive_walk.specs.Walks.{Walked, IsFormed, IsRight}
+use Rattle.derive_walk.specs.Walks.{Walked, IsFormed, IsPlacedIn, IsRight}
 use Rattle.derive_walk.specs.Worlds.{World}
 use Rattle.kept_derive.specs.declared.fault.KeptFault.{KeptFault}
 use Rattle.kept_derive.specs.declared.fault.KeptFault.TheVariants.{Spawn, Disk, Full, Memory}
@@ -42,9 +42,10 @@ pub record IsRightlyTold (g : Graph) (walked : Walked) (store : Store) (noted : 
   pub knows : KnowsStore g store
   pub recorded : IsRecorded found walked.root store
 
--- This is what is found, and what was to be noted was, and nothing else changed on the disk. Where the walk was right, so is what is kept.
+-- This is what is found, a root with a view and steps stands in the table, and what was to be noted was, and nothing else changed on the disk. Where the walk was right, so is what is kept.
 pub record HasTold {D : Type 0} (told : D → Telling) (g : Graph) (walked : Walked) (old next : Store) (disk after : D) (found : Found) : Type 0 where
   pub is : walked.result ≡ Some found
+  pub placed : IsPlacedIn walked.root walked.done walked.result
   pub noted : List Fact
   pub may : MayNoteFor found noted
   pub goes : Performs told (notes_of noted) old next disk after

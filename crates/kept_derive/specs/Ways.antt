@@ -18,7 +18,8 @@ use Rattle.plain_derive.specs.GivenLaws.{AreNew}
 use Rattle.kept_derive.specs.declared.fault.KeptFault.{KeptFault}
 use Rattle.kept_derive.specs.declared.flight.Flown.{Flown}
 use Rattle.kept_derive.specs.declared.flight.Flown.TheVariants.{Found, Cut}
-use Rattle.kept_derive.specs.Looked.{sought_by, AreCounted, AreLooks}
+use Rattle.derive_walk.specs.Looks.{spare_for}
+use Rattle.kept_derive.specs.Looked.{AreCounted, AreLooks}
 use Rattle.kept_derive.specs.Knowing.{known_in, KnowsStore}
 use Rattle.kept_derive.specs.Runs.{At, store_world, keeps_of, course_of}
 use Rattle.kept_derive.specs.Rests.{ComesToRest, LeavesTools}
@@ -86,11 +87,11 @@ abbrev pub ComesTo : {Disk : Type 0} → (Disk → Telling) → Graph → Node �
 ComesTo told g n first walked jobs now Found = HasCome told g n first walked jobs now
 ComesTo told g n first walked jobs now Cut = IsOnWay told g n (off_course for_spawn) first walked jobs now
 
--- A flight came to it, as many may run as before, and the walk has looked for no more.
+-- A flight came to it, as many may run as before, and each step was a look of the walk, but for those at a chain that is too deep.
 pub record HasFlown {Disk : Type 0} (told : Disk → Telling) (g : Graph) (n : Node) (most : ℕ) (first : At Disk) (walked : Walked) (jobs : InFlight) (now : At Disk) (before last : ℕ) (flown : Flown) : Type 0 where
   pub comes : ComesTo told g n first walked jobs now flown
   pub limit : jobs.limit ≡ most
-  pub counted : AreCounted before last 0 walked
+  pub counted : AreCounted before last (spare_for walked.looked walked.result) walked
 
 -- ---- the draining
 
@@ -105,12 +106,13 @@ pub record Drains {Disk : Type 0} (told : Disk → Telling) (walked : Walked) (j
   pub none : jobs'.running ≡ []
   pub limit : jobs'.limit ≡ jobs.limit
   pub result : walked'.result ≡ walked.result
-  pub sought : sought_by walked' ≡ sought_by walked
+  pub looked : walked'.looked ≡ walked.looked
+  pub taken : walked'.taken ≡ walked.taken
 
 -- every one is halted by the fault
 abbrev pub DrainStops : {Disk : Type 0} → (Disk → Telling) → Walked → InFlight → At Disk → At Disk → KeptFault → Type 0
 DrainStops {Disk} told walked jobs old new fault =
-    (g : Graph) (n : Node) (why : Why) (first : At Disk) (before last : ℕ) → IsOnWay told g n (off_course why) first walked jobs old → AreCounted before last 0 walked
+    (g : Graph) (n : Node) (why : Why) (first : At Disk) (before last : ℕ) → IsOnWay told g n (off_course why) first walked jobs old → AreCounted before last (spare_for walked.looked walked.result) walked
     → IsHalted told g n jobs.limit first new before last fault
 
 -- ---- where no tool runs any more
@@ -132,7 +134,7 @@ abbrev pub EndsBy : {Disk : Type 0} → (Disk → Telling) → Graph → Node �
 EndsBy told g n limit first walked now Found = IsOver told g n limit first walked now
 EndsBy told g n limit first walked now Cut = IsCutOff told g n limit first walked now
 
--- It ended by one of these, and the walk has looked for no more.
+-- It ended by one of these, and each step was a look of the walk, but for those at a chain that is too deep.
 pub record FliesOut {Disk : Type 0} (told : Disk → Telling) (g : Graph) (n : Node) (limit : ℕ) (first : At Disk) (walked : Walked) (now : At Disk) (before last : ℕ) (flown : Flown) : Type 0 where
   pub ends : EndsBy told g n limit first walked now flown
-  pub counted : AreCounted before last 0 walked
+  pub counted : AreCounted before last (spare_for walked.looked walked.result) walked

@@ -21,9 +21,9 @@ use path_planner::PlannedGraph;
 use std::alloc::Global;
 use std::sync::ledger::Ledger;
 
-/// The view of the node, or the chain for which it is refused. Each look at a kept call is a step. At most `limit` tools run at once; after
-/// `Spawn` none does, and after the other faults what runs is left. For a view what the walk tells of nodes is kept, too: what is found is right where
-/// what was kept of nodes was known, and all that is kept of them is known then.
+/// The view of the node, or the chain for which it is refused. Each look at a record of a node and at a kept call is a step. At most `limit` tools
+/// run at once; after `Spawn` none does, and after the other faults what runs is left. For a view what the walk tells of nodes is kept, too: what is
+/// found is right where what was kept of nodes was known, and all that is kept of them is known then.
 pub fn derive_kept<D: Disk, S: Spawner, L: Ledger>(
     alloc: Global,
     planned: &PlannedGraph<'_>,

@@ -1,7 +1,7 @@
 // The tools of a derivation: started, waited for, and drained.
-ghost use Rattle.std.specs.Prelude.{◌≤◌, length, OnOk, IfOk, IfErr, option_map};
+ghost use Rattle.std.specs.Prelude.{◌+◌, ◌≤◌, length, OnOk, IfOk, IfErr, option_map};
 ghost use Rattle.meaning_graph.specs.Grammar.{GraphText, IsSpellable};
-ghost use Rattle.derive_walk.specs.Looks.{LooksAreFew, lost, met_by};
+ghost use Rattle.derive_walk.specs.Looks.{TakesLooks, looks_by, lost, spare_for};
 ghost use Rattle.derive_walk.specs.Walks.{IsFormed, IsRight, IsAdvanced, ExtendsWalk};
 ghost use Rattle.job_runner.specs.Flights.{none_in_flight};
 ghost use Rattle.kept_derive.specs.Calls.{MayDerive, MayDrain};
@@ -181,8 +181,8 @@ fn advance<L: Ledger>(
         IsRight (store_world planned.now store.now core.new.given) core.new }
     ensures advanced { IsRight (store_world planned.now store.now core.old.given) core.old →
         OnOk result (IsAdvanced (store_world planned.now store.now core.new.given) core.new) }
-    ensures counted { LooksAreFew (met_by core.old) (met_by core.new)
-        steps.old steps.new (lost result) }
+    ensures counted { TakesLooks (looks_by core.old) (looks_by core.new)
+        steps.old steps.new (lost result + spare_for core.new.looked core.new.result) }
 {
     store.facts_fit();
     let kept = store.kept();

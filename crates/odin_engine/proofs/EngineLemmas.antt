@@ -1,7 +1,7 @@
 -- The opening of an engine over that of its store.
-use Rattle.std.proofs.Common.{◌≡◌, ◌⊎◌, ℕ, ◌+◌, ◌<◌, ◌≤◌, List, length, Bool, true, false, IsTrue, Result, Ok, Err, IsErr, IsErrAnd, IfErr, inl, inr, refl, sym, subst, arith}
-use Rattle.odin_outside.specs.Disk.{Telling, MayLeave, LeavesOnly, IsQuiet}
-use Rattle.odin_outside.specs.Moments.{no_call, then}
+use Rattle.std.proofs.Common.{◌≡◌, ℕ, ◌<◌, ◌≤◌, List, length, Bool, true, false, IsTrue, Result, Ok, Err, IsErr, IsErrAnd, IfErr, inl, inr, refl, sym, subst, arith}
+use Rattle.odin_outside.specs.Disk.{Telling, MayLeave, IsQuiet}
+use Rattle.odin_outside.specs.Moments.{no_call}
 use Rattle.odin_journal.specs.Moments.{Untouched, Works}
 use Rattle.odin_journal.specs.declared.fault.JournalFault.{JournalFault}
 use Rattle.odin_journal.specs.declared.fault.JournalFault.TheVariants as fault
@@ -12,7 +12,7 @@ use Rattle.odin_store.specs.OnDisk.{IsSame}
 use Rattle.odin_store.specs.Compacting.{CompactionsKeep, CompactsWhere, IsWasteful, LeavesCompacted}
 use Rattle.odin_store.specs.Opening.{HasOpening, LeavesHeld, LeavesOpening, OpeningsKeepHeld, OpensQuietStore, OpensStore, IsStoreOpenFault}
 use Rattle.odin_store.proofs.Lemmas.{opens_same}
-use Rattle.odin_engine.specs.Opened.{Settles, LeavesSettled, IsSettleFault, OpensEngine, OpensQuietEngine, LeavesEngineOpening, IsEngineOpenFault}
+use Rattle.odin_engine.specs.Opened.{Settles, LeavesSettled, IsSettleFault, OpensQuietEngine, LeavesEngineOpening, IsEngineOpenFault}
 
 -- ---- memory was wanting before the disk was touched
 

@@ -19,9 +19,9 @@ use std::alloc::Global;
 use std::sync::ledger::Ledger;
 
 impl Engine {
-    /// The view of the object that a text asks for. What was kept is not run again. Each look at a kept call is a step. As many tools run
-    /// at once as may, and each call is kept as its tool ends; after `Disk`, `Full` and `Memory` what runs is left. Before a view is given out the
-    /// records of the nodes that changed are kept.
+    /// The view of the object that a text asks for. What was kept is not run again. Each look at a record of a node and at a kept call is a step.
+    /// As many tools run at once as may, and each call is kept as its tool ends; after `Disk`, `Full` and `Memory` what runs is left. Before a view
+    /// is given out the records of the nodes that changed are kept.
     pub fn ask<D: Disk, S: Spawner, L: Ledger>(
         &mut self,
         alloc: Global,

@@ -12,7 +12,7 @@ pub enum AskFault {
     UnknownParam(Bytes),
     /// The number of the step, from 1, to which no path leads, or that picks what isn't there.
     Path(u32),
-    /// A chain of nodes, each a need of the one before it, whose first node is its last one.
+    /// A chain of nodes from the one that is asked for, each a need of the one before it, whose last node stands in it twice.
     Circular(Seq<Node>),
     /// A chain of 65 nodes, each a need of the one before it.
     Deep(Seq<Node>),

@@ -1,7 +1,9 @@
 //! Laws of openings and asks. Each is the contract of a function that does nothing.
 ghost use Rattle.odin_engine.specs.AskLaws.{AnswersKeep, DiskStopsAsk, FaultsKeep};
+ghost use Rattle.odin_engine.specs.Looking.{CheckedTakesOne};
 ghost use Rattle.odin_engine.specs.Opened.{EngineOpeningsKeepHeld};
 
+use meaning_true::laws::checked_root_is_one;
 use odin_outside::Disk;
 use odin_store::laws::{changes_follow, compactions_keep, openings_keep_held};
 
@@ -21,4 +23,12 @@ pub fn engine_openings_keep_held<D: Disk>()
 {
     openings_keep_held::<D>();
     compactions_keep::<D>();
+}
+
+/// An ask of a node whose record is checked takes just one look: so does the same one asked again, once
+/// it was answered.
+pub fn checked_takes_one()
+    ensures { CheckedTakesOne }
+{
+    checked_root_is_one();
 }

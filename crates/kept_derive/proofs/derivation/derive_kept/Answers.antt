@@ -3,6 +3,7 @@ use Rattle.std.specs.Prelude.{Err}
 use Rattle.std.proofs.lemmas.Result.{err_from_is_err_and}
 use Rattle.derive_walk.specs.Walks.{Walked}
 use Rattle.kept_derive.specs.declared.fault.KeptFault.TheVariants.{Memory}
+use Rattle.kept_derive.specs.Looked.{most_lost}
 use Rattle.kept_derive.specs.Runs.{at}
 use Rattle.kept_derive.proofs.LookLemmas.{none_looked}
 use Rattle.kept_derive.proofs.TurnLemmas.{none_begun}
@@ -19,7 +20,7 @@ returns-in_err-copy-clause-stopped g c =
 pub returns-in_err-copy-clause-counted : goal.returns-in_err-copy-clause-counted
 returns-in_err-copy-clause-counted g c = λ knows.
     let given = err_from_is_err_and _ c.from_residual.ensures.1 in
-    looks_at _ _ _ _ _ _ _ Memory (given.1 ∙ ap (λ f. Err f) given.2) _ _ (none_looked c.args.planned.now c.args.node.now c.args.store.now _ 1)
+    looks_at _ _ _ _ _ _ _ Memory (given.1 ∙ ap (λ f. Err f) given.2) _ _ (none_looked c.args.planned.now c.args.node.now c.args.store.now _ most_lost)
 
 pub returns-in_err-fly_out-clause-rest : goal.returns-in_err-fly_out-clause-rest
 returns-in_err-fly_out-clause-rest g c =

@@ -1,6 +1,5 @@
 use Rattle.std.proofs.Common.{◌≡◌, ◌-◌, length}
 use Rattle.kept_derive.specs.Calls.{MayDrain}
-use Rattle.kept_derive.specs.Looked.{sought_by}
 use Rattle.kept_derive.specs.Runs.{at}
 use Rattle.kept_derive.specs.Ways.{StaysOff}
 use Rattle.kept_derive.proofs.flight.drain.Given as goal
@@ -11,7 +10,8 @@ invariant-loop g l = record {
   may : MayDrain l.core l.jobs l.store (g.D.Disk.size_of l.disk) (g.S.Spawner.told l.tools);
   limit : l.jobs.limit ≡ l.fn.jobs.limit;
   result : l.core.result ≡ l.fn.core.result;
-  sought : sought_by l.core ≡ sought_by l.fn.core;
+  looked : l.core.looked ≡ l.fn.core.looked;
+  taken : l.core.taken ≡ l.fn.core.taken;
   cause : g.D.Disk.faults l.disk ≡ g.D.Disk.faults l.fn.disk;
   left : length l.jobs.running ≡ l.count - l.counter;
 }

@@ -2,6 +2,7 @@ use Rattle.std.proofs.Common.{rules, arith, ◌≡◌, ◌∙◌, false, true, i
 use Rattle.std.specs.Prelude.{None, Err}
 use Rattle.std.proofs.lemmas.Result.{err_from_is_err_and}
 use Rattle.meaning_graph.specs.Grammar.{GraphText}
+use Rattle.derive_walk.specs.Looks.{looks_by}
 use Rattle.derive_walk.specs.Walks.{Walked}
 use Rattle.derive_core.specs.Kept.{keeping_of}
 use Rattle.job_runner.specs.Flights.{InFlight}
@@ -16,7 +17,7 @@ use Rattle.kept_derive.proofs.StayLemmas.{graph_after}
 use Rattle.kept_derive.proofs.WayLemmas.{IsFresh, start, may_drain, may_wait}
 use Rattle.kept_derive.proofs.TurnLemmas.{MayEndIf, IsFlying, flying_moves, lands, crashes, starts, refuses}
 use Rattle.kept_derive.proofs.AdvanceLemmas.{formed_now, right_first, advanced_first, goes_on}
-use Rattle.kept_derive.proofs.LookLemmas.{none_counted, advance_counted, ends_counted, same_sought, gives_up_halted, advance_halted, halts, halted_at}
+use Rattle.kept_derive.proofs.LookLemmas.{none_counted, any_spare, advance_counted, advance_found, still_counted, ends_counted, same_looked, same_taken, gives_up_halted, advance_halted, halts, halted_at}
 use Rattle.kept_derive.proofs.flight.fly.Goals.{in-Some+in-Ok, in_default+then-is_full+else-running-eq0+in_ok-land+in-Kept, then-fresh, else-fresh, in_default+else-is_full+in_ok-advance+else-is_some}
 use Rattle.kept_derive.proofs.flight.fly.Goals as goal
 
@@ -28,7 +29,7 @@ loop-init g c = record {
   ready = c.requires.may.idle.ready;
   limit = refl;
   cause = refl;
-  counted = none_counted _ _;
+  counted = none_counted c.args.core.now _ (ap (λ (z : Walked). looks_by z) c.requires.unbegun.walk);
 }
 
 -- ---- a call is started
@@ -42,7 +43,7 @@ returns-in-Err-Spawn-clause-flown g c =
     record {
       comes = refuses g.D.Disk.told _ _ _ _ _ _ c.loop.invariant.way c.loop.invariant.still c.in-Some.call.now _ _ next c.in-Err-Spawn.ensures.same (search (rules, c.in-Err-Spawn.ensures.failed));
       limit = ap (λ (z : InFlight). z.limit) c.in-Err-Spawn.ensures.same ∙ c.loop.invariant.limit;
-      counted = c.loop.invariant.counted;
+      counted = any_spare _ _ _ c.loop.core c.loop.invariant.counted;
     }
 
 pub returns-in-Err-Memory-clause-halted : goal.returns-in-Err-Memory-clause-halted
@@ -68,7 +69,7 @@ returns-in_err-land-clause-halted g c =
     let fresh : IsFresh (store_world c.args.planned.now c.args.store.now c.loop.core.given) c.loop.core c.loop.jobs =
     elim c.if-fresh.branch [ then-fresh w ↦ inr (c.loop.invariant.fresh w.if-fresh.true knows) | else-fresh w ↦ inl (w.is_full.ensures.0 (sym w.value-is ∙ c.if-is_full.true)) ] in
     may_wait g.D.Disk.told _ _ _ _ _ _ _ c.loop.invariant.way (c.loop.invariant.way.right knows) c.loop.invariant.still next fresh in
-    halted_at _ _ _ _ _ _ _ _ _ _ _ (given.1 ∙ ap (λ f. Err f) given.2) refl (halts g.D.Disk.told _ _ _ _ _ _ _ c.loop.invariant.way c.changes_follow.ensures may _ _ _ _ c.in_err-land.ensures.fails _ c.loop.invariant.limit _ _ c.loop.invariant.counted)
+    halted_at _ _ _ _ _ _ _ _ _ _ _ (given.1 ∙ ap (λ f. Err f) given.2) refl (halts g.D.Disk.told _ _ _ _ _ _ _ c.loop.invariant.way c.changes_follow.ensures may _ _ _ _ c.in_err-land.ensures.fails _ c.loop.invariant.limit _ _ (any_spare _ _ _ c.loop.core c.loop.invariant.counted))
 
 pub returns-in-Lost-clause-flown : goal.returns-in-Lost-clause-flown
 returns-in-Lost-clause-flown g c =
@@ -77,11 +78,11 @@ returns-in-Lost-clause-flown g c =
     let fresh : IsFresh (store_world c.args.planned.now c.args.store.now c.loop.core.given) c.loop.core c.loop.jobs =
     elim c.if-fresh.branch [ then-fresh w ↦ inr (c.loop.invariant.fresh w.if-fresh.true knows) | else-fresh w ↦ inl (w.is_full.ensures.0 (sym w.value-is ∙ c.if-is_full.true)) ] in
     may_wait g.D.Disk.told _ _ _ _ _ _ _ c.loop.invariant.way (c.loop.invariant.way.right knows) c.loop.invariant.still next fresh in
-    let drain = may_drain g.D.Disk.told _ _ _ _ _ _ _ c.loop.invariant.way _ c.loop.invariant.ready in
+    let lands = c.in_ok-land.ensures.lands in
     record {
       comes = crashes g.D.Disk.told _ _ _ _ _ _ _ c.loop.invariant.way may c.changes_follow.ensures _ _ _ (lost_is g.D.Disk.told _ _ _ _ _ _ _ c.in-Lost.is c.in_ok-land.ensures.lands);
       limit = c.in_ok-land.ensures.limit ∙ c.loop.invariant.limit;
-      counted = ends_counted _ _ _ _ c.loop.invariant.counted (same_sought g.D.Disk.told _ _ _ _ _ _ _ drain _ c.in_ok-land.ensures.lands);
+      counted = any_spare _ _ _ c.land.new.core (ends_counted c.loop.core c.land.new.core (same_looked g.D.Disk.told _ _ _ _ _ _ _ lands) (same_taken g.D.Disk.told _ _ _ _ _ _ _ lands) _ _ 0 c.loop.invariant.counted);
     }
 
 -- ---- the walk goes on
@@ -98,7 +99,7 @@ returns-in_err-advance-clause-halted g c =
     let on = c.in_err-advance.ensures.on in
     let right = right_first g.D.Disk.told _ _ _ _ _ _ c.loop.invariant.way (says_facts c.args.store.now c.kept-2.result.now c.kept-2.ensures c.records_fit.ensures.says) (says_facts c.loop.store c.kept-else-is_full.result.now c.kept-else-is_full.ensures c.records_fit-else-is_full.ensures.says) _ on c.in_err-advance.ensures.right in
     halted_at _ _ _ _ _ _ _ _ _ _ Memory (given.1 ∙ ap (λ f. Err f) given.2) c.loop.invariant.limit
-    (advance_halted g.D.Disk.told _ _ _ _ _ _ _ c.loop.invariant.way _ on right _ _ (advance_counted _ _ _ 1 _ _ c.loop.invariant.counted on.given c.in_err-advance.ensures.counted))
+    (advance_halted g.D.Disk.told _ _ _ _ _ _ _ c.loop.invariant.way _ on right _ _ (advance_counted _ _ _ _ c.loop.core c.advance.new.core c.loop.invariant.counted c.in_err-advance.ensures.counted))
 
 pub returns-then-is_some-clause-flown : goal.returns-then-is_some-clause-flown
 returns-then-is_some-clause-flown g c = record {
@@ -107,7 +108,7 @@ returns-then-is_some-clause-flown g c = record {
     found = search rules;
   };
   limit = c.loop.invariant.limit;
-  counted = advance_counted _ _ _ _ _ _ c.loop.invariant.counted c.in_ok-advance.ensures.on.given c.in_ok-advance.ensures.counted;
+  counted = advance_found _ _ _ _ c.loop.core c.advance.new.core c.loop.invariant.counted c.in_ok-advance.ensures.counted;
 }
 
 -- ---- each turn, and where there are too many
@@ -138,7 +139,7 @@ loop-preserved g c =
           let fresh : IsFresh (store_world c.args.planned.now c.args.store.now c.loop.core.given) c.loop.core c.loop.jobs =
           elim w.if-fresh.branch [ then-fresh v ↦ inr (c.loop.invariant.fresh v.if-fresh.true knows) | else-fresh v ↦ inl (v.is_full.ensures.0 (sym v.value-is ∙ w.if-is_full.true)) ] in
           may_wait g.D.Disk.told _ _ _ _ _ _ _ c.loop.invariant.way (c.loop.invariant.way.right knows) c.loop.invariant.still next fresh in
-          let drain = may_drain g.D.Disk.told _ _ _ _ _ _ _ c.loop.invariant.way _ c.loop.invariant.ready in
+          let ends = w.in_ok-land.ensures.lands in
           let has = kept_is g.D.Disk.told _ _ _ _ _ _ _ w.in-Kept.is w.in_ok-land.ensures.lands in
           let keeping = keeping_of c.args.store.now.kept c.args.store.now.epoch in
           flying_moves g.D.Disk.told g.D.Disk.size_of g.D.Disk.faults c.args.planned.now c.args.core.now.root c.args.jobs.now.limit first c.args.steps.now w.core-is w.jobs-is w.store-is w.disk-is (ap g.S.Spawner.told w.tools-is) w.steps-is w.fresh-is (record {
@@ -150,7 +151,7 @@ loop-preserved g c =
             ready = w.in_ok-land.ensures.left.ready;
             limit = w.in_ok-land.ensures.limit ∙ c.loop.invariant.limit;
             cause = w.in_ok-land.ensures.cause.ok ∙ c.loop.invariant.cause;
-            counted = ends_counted _ _ _ _ c.loop.invariant.counted (same_sought g.D.Disk.told _ _ _ _ _ _ _ drain _ w.in_ok-land.ensures.lands);
+            counted = ends_counted c.loop.core w.land.new.core (same_looked g.D.Disk.told _ _ _ _ _ _ _ ends) (same_taken g.D.Disk.told _ _ _ _ _ _ _ ends) _ _ 0 c.loop.invariant.counted;
           })
       | in_default+else-is_full+in_ok-advance+else-is_some w ↦
           let still : w.advance.new.core.result ≡ None = search rules in
@@ -163,7 +164,7 @@ loop-preserved g c =
             ready = c.loop.invariant.ready;
             limit = c.loop.invariant.limit;
             cause = c.loop.invariant.cause;
-            counted = advance_counted _ _ _ _ _ _ c.loop.invariant.counted on.given w.in_ok-advance.ensures.counted;
+            counted = still_counted _ _ w.advance.new.core still (advance_found _ _ _ _ c.loop.core w.advance.new.core c.loop.invariant.counted w.in_ok-advance.ensures.counted);
           })
     ] in
     record { way = it.way; still = it.still; fresh = it.fresh; ready = it.ready; limit = it.limit; cause = it.cause; counted = it.counted }

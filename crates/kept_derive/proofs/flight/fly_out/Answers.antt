@@ -1,6 +1,7 @@
 use Rattle.std.proofs.Common.{arith, ◌≡◌, ◌<◌, ◌∙◌, [], length, sym, ap, subst}
 use Rattle.std.specs.Prelude.{Err}
 use Rattle.std.proofs.lemmas.Result.{err_from_is_err_and}
+use Rattle.derive_walk.specs.Looks.{spare_for}
 use Rattle.derive_walk.specs.Walks.{Walked}
 use Rattle.job_runner.specs.Flights.{InFlight}
 use Rattle.kept_derive.specs.Looked.{AreCounted}
@@ -9,7 +10,7 @@ use Rattle.kept_derive.specs.Ways.{IsUnbegun}
 use Rattle.kept_derive.proofs.CallLemmas.{ready_by}
 use Rattle.kept_derive.proofs.KnowLemmas.{SaysFacts, says_facts}
 use Rattle.kept_derive.proofs.WayLemmas.{may_drain}
-use Rattle.kept_derive.proofs.LookLemmas.{ends_counted, halted_at}
+use Rattle.kept_derive.proofs.LookLemmas.{drained_counted, halted_at}
 use Rattle.kept_derive.proofs.EndLemmas.{on_some_way, drained_for, none_runs, ends_now, ends_drained, ends_move}
 use Rattle.kept_derive.proofs.flight.fly_out.Goals.{then-running-gt0+in_ok-drain, else-running-gt0}
 use Rattle.kept_derive.proofs.flight.fly_out.Goals as goal
@@ -59,14 +60,15 @@ returns-clause-out g c =
           record {
             ends = ends_move g.D.Disk.told c.args.planned.now c.args.core.now.root c.args.limit first c.in_ok-flown.flown w.core-is w.store-is w.disk-is (ap g.S.Spawner.told w.tools-is)
                 (ends_drained g.D.Disk.told c.args.planned.now c.args.core.now.root first c.fly.new.core c.fly.new.jobs now c.in_ok-flown.flown flown.comes some _ _ _ drains c.args.limit before (subst SaysFacts w.store-is later) limit);
-            counted = subst (λ (z : Walked). AreCounted c.args.steps.now c.fly.new.steps 0 z) (sym w.core-is) (ends_counted _ _ c.fly.new.core w.drain.new.core flown.counted drains.sought);
+            counted = subst (λ (z : Walked). AreCounted c.args.steps.now c.fly.new.steps (spare_for z.looked z.result) z) (sym w.core-is)
+                (drained_counted c.fly.new.core w.drain.new.core drains.looked drains.taken drains.result _ _ flown.counted);
           }
       | else-running-gt0 w ↦
           let none : c.fly.new.jobs.running ≡ [] = none_runs c.fly.new.jobs.running (omega (arith, w.if-running-gt0.false, c.running.ensures)) in
           record {
             ends = ends_move g.D.Disk.told c.args.planned.now c.args.core.now.root c.args.limit first c.in_ok-flown.flown w.core-is w.store-is w.disk-is (ap g.S.Spawner.told w.tools-is)
                 (ends_now g.D.Disk.told c.args.planned.now c.args.core.now.root first c.fly.new.core c.fly.new.jobs now c.in_ok-flown.flown flown.comes c.args.limit before (subst SaysFacts w.store-is later) limit none);
-            counted = subst (λ (z : Walked). AreCounted c.args.steps.now c.fly.new.steps 0 z) (sym w.core-is) flown.counted;
+            counted = subst (λ (z : Walked). AreCounted c.args.steps.now c.fly.new.steps (spare_for z.looked z.result) z) (sym w.core-is) flown.counted;
           }
     ]
 

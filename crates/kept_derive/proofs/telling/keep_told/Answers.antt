@@ -33,7 +33,7 @@ returns-in-Ok-clause-told g c =
     c.keep.new.disk)
     (λ i. ((c.as_slice.ensures ∙ told.fresh) i, told.renewed i)) c.in-Ok.ensures.keeps in
     has_told g.D.Disk.told c.args.planned.now c.args.store.now c.keep.new.store c.args.disk.now c.keep.new.disk c.args.core view c.told_is_known.ensures
-    is (told.placed view is) keeps
+    is told.placed keeps
 
 pub returns-in-Some-Answer-clause-fails : goal.returns-in-Some-Answer-clause-fails
 returns-in-Some-Answer-clause-fails g c =
@@ -47,9 +47,9 @@ returns-in-Some-Answer-clause-fails g c =
 pub returns-in-Some-Circular-clause-told : goal.returns-in-Some-Circular-clause-told
 returns-in-Some-Circular-clause-told g c =
     chain_told g.D.Disk.told c.args.planned.now c.args.store.now c.args.disk.now c.args.core (Circular c.in-Some-Circular.chain) c.changes_follow.ensures
-    (sym c.into_told-found.ensures.found ∙ c.in-Some-Circular.is ∙ ap (λ (f : Found). Some f) c.in-Some-Circular.field-0-is) tt
+    (sym c.into_told-found.ensures.found ∙ c.in-Some-Circular.is ∙ ap (λ (f : Found). Some f) c.in-Some-Circular.field-0-is) c.into_told-found.ensures.placed tt
 
 pub returns-in-Some-Deep-clause-told : goal.returns-in-Some-Deep-clause-told
 returns-in-Some-Deep-clause-told g c =
     chain_told g.D.Disk.told c.args.planned.now c.args.store.now c.args.disk.now c.args.core (Deep c.in-Some-Deep.chain) c.changes_follow.ensures
-    (sym c.into_told-found.ensures.found ∙ c.in-Some-Deep.is ∙ ap (λ (f : Found). Some f) c.in-Some-Deep.field-0-is) tt
+    (sym c.into_told-found.ensures.found ∙ c.in-Some-Deep.is ∙ ap (λ (f : Found). Some f) c.in-Some-Deep.field-0-is) c.into_told-found.ensures.placed tt

@@ -33,7 +33,7 @@ pub returns-in_err-node-clause-counted : goal.returns-in_err-node-clause-counted
 returns-in_err-node-clause-counted g c =
     let given = err_from_is_err_and _ c.from_residual.ensures.1 in
     let now = at c.args.self.now.store c.args.disk.now (g.S.Spawner.told c.args.tools.now) in
-    refused_looks _ g.D.Disk.told c.args.self.now.graph c.args.self.now.jobs c.args.text.now now _ _ (given.1 ∙ ap (λ f. Err f) given.2) c.in_err-node.ensures.err
+    refused_looks _ g.D.Disk.told c.args.self.now.graph c.args.self.now.jobs c.args.text.now now _ _ (given.1 ∙ ap (λ f. Err f) given.2)
 
 -- ---- a text of a node
 
@@ -65,4 +65,4 @@ returns-clause-counted g c =
     let old = at c.args.self.now.store c.args.disk.now (g.S.Spawner.told c.args.tools.now) in
     let new = at c.derive-derived.new.self.store c.derive-derived.new.disk (g.S.Spawner.told c.derive-derived.new.tools) in
     subst (AreAskLooks g.D.Disk.told c.args.self.now.graph c.args.self.now.jobs c.args.text.now old new _ _) (sym c.answer_of.ensures)
-    (looks_so g.D.Disk.told c.args.self.now.graph c.args.self.now.jobs c.args.text.now c.in_ok-node.node c.in_ok-node.ensures.ok old new _ _ c.derive-derived.result c.derive-derived.ensures.derived.looks)
+    (looks_so g.D.Disk.told c.args.self.now.graph c.args.self.now.jobs c.args.text.now c.in_ok-node.node c.in_ok-node.ensures.ok old new _ _ c.derive-derived.result c.derive-derived.ensures.derived.found c.derive-derived.ensures.derived.looks)

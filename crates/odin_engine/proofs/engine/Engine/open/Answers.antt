@@ -1,7 +1,6 @@
-use Rattle.std.proofs.Common.{◌≡◌, ◌+◌, length, inl, refl, ◌∙◌, subst, sym, rules}
+use Rattle.std.proofs.Common.{◌+◌, length, inl, refl, ◌∙◌, subst, sym, rules}
 use Rattle.object_values.specs.Texts.{Text}
 use Rattle.meaning_graph.specs.Grammar.{GraphText}
-use Rattle.odin_journal.specs.Moments.{Works}
 use Rattle.odin_journal.specs.declared.fault.JournalFault.TheVariants as fault
 use Rattle.odin_store.specs.Opening.{graph_record}
 use Rattle.odin_store.proofs.Lemmas.{first_not_wasteful}
