@@ -44,10 +44,10 @@ _odin_build() {
     -C) _odin_offer "$(compgen -d -- "$word")" ;;
     -j) _odin_offer "$(compgen -W "1 2 4 8 16 32 64 $(nproc 2> /dev/null)" -- "$word")" ;;
     --color) _odin_offer "$(compgen -W 'auto always never' -- "$word")" ;;
-    --trace) _odin_offer "$(compgen -f -- "$word")" ;;
+    --trace | --page) _odin_offer "$(compgen -f -- "$word")" ;;
     *)
         case $word in
-        -*) _odin_offer "$(compgen -W '-C -j -n -q -v --quiet --verbose --color --trace --help --version' -- "$word")" ;;
+        -*) _odin_offer "$(compgen -W '-C -j -n -q -v --quiet --verbose --color --trace --page --help --version' -- "$word")" ;;
         *) _odin_offer "$(compgen -W "$(_odin_targets)" -- "$word")" ;;
         esac
         ;;

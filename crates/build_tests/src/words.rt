@@ -23,6 +23,7 @@ const ROWS: &[(&[&str], &[u8])] = &[
     ),
     (&["-n", "--", "-n", "-j"], b"tells, target -n, target -j, "),
     (&["-qv", "--trace=t"], b"quiet, verbose, trace t, "),
+    (&["--page", "p", "--trace", "t"], b"trace t, page p, "),
     (&["--verbose", "--quiet"], b"quiet, verbose, "),
     (&["--color", "never"], b"never, "),
     (&["--color=always"], b"always, "),
@@ -37,6 +38,7 @@ const ROWS: &[(&[&str], &[u8])] = &[
     (&["--jobs", "2"], REFUSED),
     (&["-j"], REFUSED),
     (&["--trace"], REFUSED),
+    (&["--page=a", "--page=b"], REFUSED),
     (&["-j", "1", "-j", "1"], REFUSED),
     (&["--quiet=yes"], REFUSED),
     (&["--help"], REFUSED),
@@ -66,6 +68,9 @@ fn put_asked(alloc: Global, asked: &Asked<'_>, out: &mut Bytes) -> Result<(), Me
     }
     if let Some(file) = view.trace {
         put(&[b"trace ", file.as_bytes(), b", "], out)?;
+    }
+    if let Some(file) = view.page {
+        put(&[b"page ", file.as_bytes(), b", "], out)?;
     }
     for target in asked.targets.as_slice() {
         put(&[b"target ", target.as_bytes(), b", "], out)?;

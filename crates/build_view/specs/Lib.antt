@@ -1,4 +1,10 @@
 pub mod Colours
+pub mod Escaped
+pub mod EscapedLaws
 pub mod Labels
+pub mod PageExamples
+pub mod Pages
+pub mod Places
 pub mod Progress
+pub mod Runs
 pub mod Traces

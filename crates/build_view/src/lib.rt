@@ -1,8 +1,13 @@
-//! What a person sees of a build: its tools while they run, its messages in colours, and afterwards when each tool ran.
+//! What a person sees of a build: its tools while they run, its messages in colours, and afterwards when each tool ran, in a trace and on a page.
 #![tactic(auto)]
 
 pub mod colours;
+pub mod escaped;
+pub mod examples;
 pub mod labels;
+pub mod pages;
+pub mod places;
 pub mod progress;
+pub mod runs;
 pub mod traces;
 pub mod watched;

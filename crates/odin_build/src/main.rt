@@ -7,6 +7,7 @@ mod hints;
 mod identity;
 mod kits;
 mod made;
+mod noted;
 mod reading;
 mod replies;
 mod run;

@@ -20,7 +20,7 @@ use std::io;
 // ---- replies
 
 /// The line of a reply that shows no object, with the name of the graph that may have been meant.
-fn refusal_line(
+pub(crate) fn refusal_line(
     rt: &HostRuntime,
     project: &Project,
     target: &Target,

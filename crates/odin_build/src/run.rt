@@ -3,9 +3,10 @@ ghost use Rattle.odin_engine.specs.Engaged.{IsLimit};
 
 use crate::faults::{Fault, MEMORY};
 use crate::found::input_fault;
+use crate::noted::{Ended, Wanted, write_noted};
 use crate::reading::{enter_project, refused};
 use crate::replies::{fault_of, missing_line, tell_replies, work_lines, write_target};
-use crate::screen::{Screen, has_colours, trace_path};
+use crate::screen::{Noted, Screen, has_colours, started_path};
 use crate::told::{Line, say};
 use crate::whole::{Whole, read_whole};
 use crate::written::WrittenFiles;
@@ -149,26 +150,18 @@ fn tell_work(rt: &HostRuntime, tools: u64) -> Result<(), Fault> {
 #[derive(Drop)]
 struct Telling<'a> {
     view: View<'a>,
-    trace: Option<String>,
+    wanted: Wanted,
 }
 
 /// The tools of a build, of which a screen is told.
 type Tools<'a> = Watched<ChildTools<HostSystem<&'a HostRuntime>>, Screen<'a>>;
 
-/// Waits for the tools that still run, clears what was shown of them, and writes the trace. Gives how many were started.
-fn end_tools(
-    rt: &HostRuntime,
-    tools: Tools<'_>,
-    telling: &Telling<'_>,
-) -> (u64, Result<(), Fault>) {
+/// Waits for the tools that still run, and clears what was shown of them. Gives how many were started, and what was noted.
+fn end_tools(rt: &HostRuntime, tools: Tools<'_>) -> (u64, Result<Option<Noted>, Fault>) {
     let (mut tools, screen) = tools.into_parts();
     tools.wait_rest(rt.alloc());
     screen.clear();
-    let count = screen.started();
-    match &telling.trace {
-        Some(path) => (count, screen.write_trace(path.as_str())),
-        None => (count, Ok(())),
-    }
+    (screen.started(), screen.into_noted())
 }
 
 /// Tells of what was built, and gives the status.
@@ -204,7 +197,7 @@ fn build(
     let alloc = rt.alloc();
     let mut tree = MadeTree::new(made, FolderTree::new(rt));
     let mut disk = FileDisk::open(NamedFile::new(rt, STORE));
-    let screen = Screen::new(rt, telling.view.quiet, telling.trace.is_some());
+    let screen = Screen::new(rt, telling.view.quiet, telling.wanted.notes());
     let tools = ChildTools::new(alloc, HostSystem::new(rt), rt.stderr());
     let mut watched = Watched::new(tools, screen);
     let mut outputs = WrittenFiles::new(rt);
@@ -216,20 +209,9 @@ fn build(
         &mut watched,
         &mut outputs,
     );
-    let (count, traced) = end_tools(rt, watched, telling);
-    match built {
-        Ok(replies) => {
-            let status = tell_built(
-                rt,
-                project,
-                plan.targets,
-                replies.as_slice(),
-                telling,
-                count,
-            )?;
-            traced?;
-            Ok(status)
-        }
+    let (started, noted) = end_tools(rt, watched);
+    let built = match built {
+        Ok(replies) => Ok(replies),
         Err(fault) => Err(fault_of(
             alloc,
             project,
@@ -238,7 +220,25 @@ fn build(
             disk.is_in_use(),
             outputs.into_cause(),
         )),
-    }
+    };
+    let ended = Ended {
+        project,
+        targets: plan.targets,
+        built: &built,
+        started,
+    };
+    let written = write_noted(rt, &telling.wanted, noted, &ended);
+    let replies = built?;
+    let status = tell_built(
+        rt,
+        project,
+        plan.targets,
+        replies.as_slice(),
+        telling,
+        started,
+    )?;
+    written?;
+    Ok(status)
 }
 
 /// Does what the words ask for.
@@ -246,7 +246,10 @@ fn run_asked(rt: &HostRuntime, asked: &Asked<'_>) -> Result<u8, Fault> {
     let alloc = rt.alloc();
     let telling = Telling {
         view: asked.view,
-        trace: trace_path(rt, asked.view.trace)?,
+        wanted: Wanted {
+            trace: started_path(rt, asked.view.trace)?,
+            page: started_path(rt, asked.view.page)?,
+        },
     };
     enter_project(rt, asked.folder)?;
     let Whole {

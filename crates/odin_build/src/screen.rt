@@ -1,16 +1,15 @@
-// What a person sees while tools run, and the trace of their runs.
+// What a person sees while tools run, and what is noted of their runs.
 use crate::faults::Fault;
 use build_files::causes::Cause;
-use build_files::whole::write_whole;
 use build_view::labels::label_of;
 use build_view::progress::{CLEARED, progress_line};
-use build_view::traces::Trace;
+use build_view::runs::{Run, Runs};
 use build_view::watched::Watch;
-use object_values::{Bytes, Job, Memory};
+use object_values::{Bytes, Job, Memory, Seq};
 use project_folder::words::{Colours, View};
 use std::alloc::Global;
 use std::env;
-use std::io::{self, ErrorKind, IsTerminal, Write};
+use std::io::{self, IsTerminal, Write};
 use std::time::Instant;
 
 /// Whether a variable of the environment is there and isn't empty.
@@ -39,8 +38,8 @@ pub(crate) fn has_colours(rt: &HostRuntime, colours: Colours) -> bool {
     }
 }
 
-/// The path of the trace's file, which a word names by the folder where the program was started, since the project's is another one.
-pub(crate) fn trace_path(rt: &HostRuntime, word: Option<&str>) -> Result<Option<String>, Fault> {
+/// The path of a file that a word names by the folder where the program was started, since the project's is another one.
+pub(crate) fn started_path(rt: &HostRuntime, word: Option<&str>) -> Result<Option<String>, Fault> {
     let Some(word) = word else {
         return Ok(None);
     };
@@ -57,18 +56,26 @@ pub(crate) fn trace_path(rt: &HostRuntime, word: Option<&str>) -> Result<Option<
     }
 }
 
-fn output_fault(alloc: Global, place: &str, error: &io::Error) -> Fault {
+/// The fault of a file that can't be written.
+pub(crate) fn output_fault(alloc: Global, place: &str, error: &io::Error) -> Fault {
     match Cause::at(alloc, place, error) {
         Ok(cause) => Fault::Output(cause),
         Err(Memory) => Fault::Memory,
     }
 }
 
-/// The trace of a build, with its first moment.
+/// The runs of tools, with the first moment of the build.
 #[derive(Drop)]
 struct Recording {
     start: Instant,
-    trace: Trace,
+    runs: Runs,
+}
+
+/// What was noted of a build that has ended: the runs of its tools, and how many microseconds it took.
+#[derive(Drop)]
+pub(crate) struct Noted {
+    pub(crate) runs: Seq<Run>,
+    pub(crate) took: u64,
 }
 
 /// Tells on a terminal how far the build is, and notes when each tool runs.
@@ -80,19 +87,22 @@ pub(crate) struct Screen<'a> {
     ended: u64,
     label: Bytes,
     recording: Option<Recording>,
-    /// Why there is no trace though it is wanted. A tool isn't held up by that: it is told once the build has ended.
+    /// Why nothing is noted though it is wanted. A tool isn't held up by that: it is told once the build has ended.
     lost: Option<Fault>,
 }
 
 impl<'a> Screen<'a> {
-    pub(crate) fn new(rt: &'a HostRuntime, quiet: bool, traces: bool) -> Self {
-        let (recording, lost) = match (traces, Instant::now(rt)) {
+    pub(crate) fn new(rt: &'a HostRuntime, quiet: bool, notes: bool) -> Self {
+        let (recording, lost) = match (notes, Instant::now(rt)) {
             (false, _) => (None, None),
             (true, Ok(start)) => {
-                let trace = Trace::new(rt.alloc());
-                (Some(Recording { start, trace }), None)
+                let runs = Runs::new(rt.alloc());
+                (Some(Recording { start, runs }), None)
             }
-            (true, Err(error)) => (None, Some(output_fault(rt.alloc(), "the trace", &error))),
+            (true, Err(error)) => (
+                None,
+                Some(output_fault(rt.alloc(), "the trace or the page", &error)),
+            ),
         };
         Screen {
             rt,
@@ -138,18 +148,16 @@ impl<'a> Screen<'a> {
         }
     }
 
-    /// Notes a start or an end in the trace.
+    /// Notes a start or an end.
     fn note(&mut self, alloc: Global, slot: u32, starts: bool) {
         let Some(mut recording) = self.recording.take() else {
             return;
         };
         let at = self.now(&recording.start);
         let noted = if starts {
-            recording
-                .trace
-                .began(alloc, slot, self.label.as_slice(), at)
+            recording.runs.began(alloc, slot, self.label.as_slice(), at)
         } else {
-            recording.trace.ended(alloc, slot, at)
+            recording.runs.ended(slot, at)
         };
         match noted {
             Ok(()) => self.recording = Some(recording),
@@ -157,30 +165,18 @@ impl<'a> Screen<'a> {
         }
     }
 
-    /// Writes the trace whole into a file.
-    pub(crate) fn write_trace(self, path: &str) -> Result<(), Fault> {
-        let Screen {
-            rt,
-            recording,
-            lost,
-            ..
-        } = self;
-        if let Some(fault) = lost {
+    /// What was noted, where that was wanted.
+    pub(crate) fn into_noted(mut self) -> Result<Option<Noted>, Fault> {
+        if let Some(fault) = self.lost.take() {
             return Err(fault);
         }
-        let Some(Recording { start: _, trace }) = recording else {
-            return Ok(());
+        let Some(Recording { start, runs }) = self.recording.take() else {
+            return Ok(None);
         };
-        let text = trace.into_text(rt.alloc())?;
-        match write_whole(rt, path, text.as_bytes()) {
-            Ok(()) => Ok(()),
-            Err(error) => {
-                if error.kind() == ErrorKind::OutOfMemory {
-                    return Err(Fault::Memory);
-                }
-                Err(output_fault(rt.alloc(), path, &error))
-            }
-        }
+        Ok(Some(Noted {
+            runs: runs.into_ended(),
+            took: self.now(&start),
+        }))
     }
 }
 

@@ -1,5 +1,5 @@
--- The command by which the words are read: the options `-C`, `-j`, `--color` and `--trace` with one value each, the flags `-n`, `-q` and `-v`, and the
--- targets; or help, or the version.
+-- The command by which the words are read: the options `-C`, `-j`, `--color`, `--trace` and `--page` with one value each, the flags `-n`, `-q` and `-v`,
+-- and the targets; or help, or the version.
 use Rattle.std.specs.Prelude.{◌≡◌, ◌↔◌, ◌≤◌, ◌⊎◌, ℕ, IsTrue, Bool, List, [], Option, Some, None, true, codes, decimal, unwrap_or}
 use Rattle.clap.specs.Lexer.{usize_max}
 use Rattle.clap.specs.Words.{App, Row, Rule, all_of, fault_of, first_of, matches_of, new_app, new_rule, with_rule}
@@ -44,11 +44,11 @@ bare_build =
 abbrev pub working : App
 working = with_rule (with_rule (with_rule bare_build folder) jobs) tells
 
--- `-q`, `-v`, `--color` and `--trace`
+-- `-q`, `-v`, `--color`, `--trace` and `--page`
 abbrev pub seeing : App
 seeing =
-    with_rule (with_rule (with_rule (with_rule working (flag_rule (codes "quiet") 113)) (flag_rule (codes "verbose") 118))
-    (long_rule (codes "color"))) (long_rule (codes "trace"))
+    with_rule (with_rule (with_rule (with_rule (with_rule working (flag_rule (codes "quiet") 113)) (flag_rule (codes "verbose") 118))
+    (long_rule (codes "color"))) (long_rule (codes "trace"))) (long_rule (codes "page"))
 
 abbrev pub command : App
 command = with_rule seeing targets
@@ -99,11 +99,12 @@ abbrev pub IsNoColours : Option (List ℕ) → Type 0
 IsNoColours value = (colours : Colours) → ¬ IsColours value colours
 
 -- The values of the words are these.
-pub record RowsAskToSee (rows : List Row) (quiet verbose : Bool) (colours : Colours) (trace : Option (List ℕ)) : Type 0 where
+pub record RowsAskToSee (rows : List Row) (quiet verbose : Bool) (colours : Colours) (trace page : Option (List ℕ)) : Type 0 where
   pub quiet_is : IsTrue quiet ↔ (first_of (codes "quiet") rows ≡ Some (codes "true"))
   pub verbose_is : IsTrue verbose ↔ (first_of (codes "verbose") rows ≡ Some (codes "true"))
   pub colours_are : IsColours (first_of (codes "color") rows) colours
   pub trace_is : first_of (codes "trace") rows ≡ trace
+  pub page_is : first_of (codes "page") rows ≡ page
 
 -- ---- what is no value
 

@@ -13,7 +13,7 @@ const MOST_JOBS: u64 = 64;
 
 /// The words of the program, as they are shown.
 pub const USAGE: &str =
-    "odin-build [-C DIR] [-j N] [-n] [-q] [-v] [--color WHEN] [--trace FILE] [TARGET]..";
+    "odin-build [-C DIR] [-j N] [-n] [-q] [-v] [--color WHEN] [--trace FILE] [--page FILE] [TARGET]..";
 
 /// When messages have colours.
 #[derive(Clone, Copy, PartialEq, Eq)]
@@ -24,13 +24,14 @@ pub enum Colours {
     Never,
 }
 
-/// What is told beside messages: no progress, also the size of the store; when messages have colours; and the file of the trace.
+/// What is told beside messages: no progress, also the size of the store; when messages have colours; and the files of the trace and of the page.
 #[derive(Clone, Copy)]
 pub struct View<'a> {
     pub quiet: bool,
     pub verbose: bool,
     pub colours: Colours,
     pub trace: Option<&'a str>,
+    pub page: Option<&'a str>,
 }
 
 /// What the words ask for: the folder of the project, how many tools may run at once, whether it is only told what would be asked, what is told of the
@@ -139,11 +140,17 @@ fn matches<'a>(alloc: Global, words: &'a [String]) -> Result<ArgMatches<'a>, Err
         "trace",
         "the file that is to have when each tool ran",
     );
+    let page = long_option(
+        alloc,
+        "page",
+        "the file that is to have a page about the build",
+    );
     let command = bare_command(alloc)?
         .arg(quiet)?
         .arg(verbose)?
         .arg(colours)?
         .arg(trace)?
+        .arg(page)?
         .arg(target_words(alloc))?;
     command.try_get_matches_from(words)
 }
@@ -199,7 +206,7 @@ fn colours_by(value: Option<&str>) -> Option<Colours>
 /// What is told beside messages. `None` is said where the value of `--color` is none.
 fn view_of<'a>(found: &ArgMatches<'a>) -> Option<View<'a>>
     ensures some { IfSome result (λ view. RowsAskToSee (rows_of (found_of found.now)) view.quiet
-        view.verbose view.colours (option_copied view.trace)) }
+        view.verbose view.colours (option_copied view.trace) (option_copied view.page)) }
     ensures none { IfNone result
         (IsNoColours (first_of (codes "color") (rows_of (found_of found.now)))) }
 {
@@ -209,6 +216,7 @@ fn view_of<'a>(found: &ArgMatches<'a>) -> Option<View<'a>>
         verbose: has_flag(found, "verbose"),
         colours,
         trace: value_of(found, "trace"),
+        page: value_of(found, "page"),
     })
 }
 
@@ -232,7 +240,8 @@ pub fn read_words<'a>(alloc: Global, words: &'a [String]) -> Result<Option<Asked
         asked.tells (map (λ word. word.now) asked.targets.items))) }
     ensures view { IfOk result (λ found. IfSome found (λ asked.
         RowsAskToSee (matches_of command (map string_bytes words.entry.now)) asked.view.quiet
-        asked.view.verbose asked.view.colours (option_copied asked.view.trace))) }
+        asked.view.verbose asked.view.colours (option_copied asked.view.trace)
+        (option_copied asked.view.page))) }
     ensures none { IfOk result (λ found. IfNone found
         (AsksForNone (map string_bytes words.entry.now))) }
     ensures kinds { FailsBy (fault_of command (map string_bytes words.entry.now)) result }

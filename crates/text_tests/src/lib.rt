@@ -1,6 +1,6 @@
 //! Worked rows of texts: bytes, sources, names, numbers, escapes, fields, lines, expressions, lists of references, scan outputs, closures, commands,
-//! replies, messages as a person is shown them, patterns and projects; and of graph files: their tokens, what is read and what is refused, chosen
-//! paths, and how nodes are written. It holds tests alone.
+//! replies, messages as a person is shown them, pages of builds, patterns and projects; and of graph files: their tokens, what is read and what is
+//! refused, chosen paths, and how nodes are written. It holds tests alone.
 #![tactic(auto)]
 
 #[cfg(test)]
@@ -27,6 +27,8 @@ mod names;
 mod nodes;
 #[cfg(test)]
 mod numbers;
+#[cfg(test)]
+mod pages;
 #[cfg(test)]
 mod paths;
 #[cfg(test)]

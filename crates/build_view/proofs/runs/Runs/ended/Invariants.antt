@@ -1,5 +1,5 @@
 use Rattle.std.proofs.Common.{◌≡◌}
-use Rattle.build_view.proofs.traces.Trace.ended.Given as goal
+use Rattle.build_view.proofs.runs.Runs.ended.Given as goal
 
 -- nothing changes before the run is found
 abbrev pub invariant-loop-place : goal.invariant-loop-place

@@ -1,0 +1,11 @@
+use Rattle.build_view.specs.Pages.{message_table}
+use Rattle.build_view.proofs.Added.{then, on_ok}
+use Rattle.build_view.proofs.pages.write_message_table.Goals as goal
+
+pub returns : goal.returns
+unfolding message_table
+returns c =
+    on_ok c.extend_from_slice-2.result (λ last.
+    then c.args.out.now _ _ (then c.args.out.now _ _ c.in_ok-extend_from_slice.ensures.ok
+    c.in_ok-write_messages.ensures)
+    last) c.extend_from_slice-2.ensures.ok
