@@ -11,15 +11,17 @@ tell() {
     wrong=$((wrong + 1))
 }
 
-# Each run of a tool adds a line: a `sh` that stands in front tells it by the file `call`.
+# Each run of a tool adds a line: a `sh` and an `awk` that stand in front tell it by the file `call`.
 mkdir "$top/bin" "$top/p"
-cat > "$top/bin/sh" <<'END'
+for program in sh awk; do
+    cat > "$top/bin/$program" <<END
 #!/bin/sh
-[ -z "${RUNS:-}" ] || [ ! -f call ] || sed -n 's/^tool \([^ ]*\) .*/\1/p' call >> "$RUNS"
+[ -z "\${RUNS:-}" ] || [ ! -f call ] || sed -n 's/^tool \([^ ]*\) .*/\1/p' call >> "\$RUNS"
 unset RUNS
-exec /bin/sh "$@"
+exec $(command -v $program) "\$@"
 END
-chmod +x "$top/bin/sh"
+    chmod +x "$top/bin/$program"
+done
 runs() {
     sort "$top/runs" | uniq -c | awk '{ printf "%s%s %s", (NR > 1 ? ", " : ""), $1, $2 }'
 }

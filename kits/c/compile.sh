@@ -1,4 +1,6 @@
 # Compiles the unit, which is the part of slot 0, to out.o. `odin_lay` has laid all parts out by their labels, so the unit finds what it includes.
+#   sh compile.sh            for the kit `c`
+#   sh compile.sh made       for the kit `tables`: a header that was made of `x.def` stands at `x.def:made_header`, and is included as `x.h`
 # A fault that leaves no object ends with 2, so that the messages come alone.
 set -u
 # Messages don't follow the language of who runs it.
@@ -13,9 +15,12 @@ case $debug in
     ;;
 esac
 case ${unit%%:*} in
-*.c) compiler=gcc language=c own=kits/c/c_flags ;;
-*) compiler=g++ language=c++ own=kits/c/cxx_flags ;;
+*.cc | *.cpp | *.cxx) compiler=g++ language=c++ own=kits/c/cxx_flags ;;
+*) compiler=gcc language=c own=kits/c/c_flags ;;
 esac
+[ $# -eq 0 ] || sed -n 's/^part [0-9]* i[0-9]* \(.*\):made_header$/\1/p' call | while read -r table; do
+    mv "./$table:made_header" "./${table%.*}.h" || exit 2
+done || exit 2
 set --
 while IFS= read -r folder; do
     [ -z "$folder" ] || set -- "$@" -I "$folder"
@@ -23,7 +28,7 @@ done < kits/c/include
 # The words of the flags stand in lines and between blanks; no pattern of names is meant.
 set -f
 "$compiler" -x "$language" $(cat kits/c/flags "$own") $debug "$@" -ffile-prefix-map="$PWD"=. -fdiagnostics-plain-output \
-    -c "./$unit" -o out.o 2> warnings && exit 0
+    -fdiagnostics-column-unit=byte -c "./$unit" -o out.o 2> warnings && exit 0
 # Errors of the unit end with 1. Else the compiler failed, which another run may not: nothing is kept.
 if [ $? -ne 1 ] || grep -qE 'signal terminated program|No space left on device' warnings; then
     cat warnings >&2

@@ -7,8 +7,7 @@ while read -r word slot file label; do
     [ "$word $slot" = 'part 0' ] || continue
     set -- "$@" "./$label"
     case ${label%%:*} in
-    *.c) ;;
-    *) compiler=g++ ;;
+    *.cc | *.cpp | *.cxx) compiler=g++ ;;
     esac
 done < call
 # The words of the flags stand in lines and between blanks; no pattern of names is meant.
