@@ -1,12 +1,13 @@
 #!/usr/bin/env python3
 """What asks cost by the records of nodes, in instructions, against the same asks where no record counts, in one run:
 
-    looks.py [--units N] [--odin FOLDER] [--folder DIR]
+    looks.py [--units N] [--against M] [--odin FOLDER] [--folder DIR]
 
 The project of peers.py with N units (2,000 where it isn't said) is built by toy tools, once with each of two texts of a header, so that all calls of both
 are kept. Then callgrind counts sessions that start no tool, each less the same one without the ask: the first ask after an opening, the same ask once
 more, and the ask after that header changed back, which a twelfth of the units includes. They are counted once more under a graph that differs by a
-comment: no record counts then, and each node is settled by what is kept of its calls. Last, the first ask is counted with a tenth of the units.
+comment: no record counts then, and each node is settled by what is kept of its calls. Last, the same is counted with M units, a tenth where it
+isn't said, and the first ask is compared.
 It needs valgrind, and the programs odin, odin_takes and odin_get.
 """
 import argparse
@@ -87,20 +88,22 @@ def measure(peer, work, units):
 def main():
     words = argparse.ArgumentParser(usage=__doc__)
     words.add_argument("--units", type=int, default=2000)
+    words.add_argument("--against", type=int)
     words.add_argument("--odin", default=peers.TOP + "/crates")
     words.add_argument("--folder")
     asked = words.parse_args()
+    against = asked.against or asked.units // 10
     peer = peers.Odin(os.path.abspath(asked.odin), 1)
     if not peer.there:
         sys.exit("looks.py: build odin, odin_takes and odin_get first")
     found = []
-    for units in (asked.units, asked.units // 10):
+    for units in (asked.units, against):
         work = tempfile.mkdtemp(prefix="looks-", dir=asked.folder)
         try:
             found.append(measure(peer, work, units))
         finally:
             shutil.rmtree(work, ignore_errors=True)
-    print("the first ask grows by %.2f beyond the units" % (found[0] / (10 * found[1])))
+    print("the first ask grows by %.2f beyond the units" % (found[0] * against / (found[1] * asked.units)))
 
 
 if __name__ == "__main__":

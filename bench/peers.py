@@ -1,16 +1,17 @@
 #!/usr/bin/env python3
-"""Builds the same project by odin and by those of ninja, make and tup that are there, J jobs at a time (1 where it isn't said), in one run:
+"""Builds the same project by odin, and by those of odin-build, ninja, make and tup that are there, J jobs at a time (1 where it isn't said), in one run:
 
     peers.py [--units N[,N..]] [--tools toy[,gcc]] [--jobs J] [--rounds R] [--again T] [--folder DIR] [--odin FOLDER] [--keep]
 
 The project has N units, 12 headers of which each unit includes one, and a program of them all. It is built from nothing, once more with nothing
 changed, with one header changed, and with that header changed back: each peer does these four in turn, in each round in a folder of its own, the
-second T times, of which the median counts. Of each the median of the rounds is told, its ratio to the same of ninja (make where that isn't there), and the number of tool runs, which is the
-length of a log to which each run adds a byte. Toy tools are one small program in C; the others are gcc, for odin beside scripts of sh.
+second T times, of which the median counts. Of each the median of the rounds is told, its ratio to the same of ninja (make where that isn't there),
+and the number of tool runs, which is the length of a log to which each run adds a byte. Toy tools are one small program in C; the others are gcc, for odin beside scripts of sh.
 
-odin is asked in one session, which drops nothing: odin_takes lists the files, odin_get writes the program. The three are found in FOLDER/NAME/out, the
-crates of this repository where it isn't said. DIR is where the work is done: what a sync costs depends on its disk. With --keep the folders
-stay, each peer's as its last round left it, with a file `commands` that asks odin for the program with nothing changed, for a profile.
+odin is asked in one session, which drops nothing: odin_takes lists the files, odin_get writes the program. odin-build has a project's file with the same
+graph, and no kit. The four are found in FOLDER/NAME/out, the crates of this repository where it isn't said. DIR is where the work is done: what a sync
+costs depends on its disk. With --keep the folders stay, each peer's as its last round left it, with a file `commands` that asks odin for the program
+with nothing changed, for a profile.
 """
 import argparse
 import os
@@ -208,6 +209,18 @@ class Project:
         return os.path.getsize(self.log)
 
 
+def write_graph(project, folder):
+    """The graph of the project's tools."""
+    if project.tools == "toy":
+        words = {name: '"%s" "%s"' % (project.toy, name.lower()) for name in ("SCAN", "OBJECT", "PROGRAM")}
+    else:
+        words = {name: '"sh" "%s/%s.sh"' % (project.work, name.lower()) for name in ("SCAN", "OBJECT", "PROGRAM")}
+    graph = GRAPH
+    for name, text in words.items():
+        graph = graph.replace(name, text)
+    write(folder + "/graph", graph)
+
+
 class Odin:
     name = "odin"
 
@@ -219,17 +232,26 @@ class Odin:
         self.line = "{ %s src; echo ask src/m.list:exe; } | %s --jobs %d graph | %s -m -o prog" % (takes, self.odin, jobs, get)
 
     def prepare(self, project, folder):
-        if project.tools == "toy":
-            words = {name: '"%s" "%s"' % (project.toy, name.lower()) for name in ("SCAN", "OBJECT", "PROGRAM")}
-        else:
-            words = {name: '"sh" "%s/%s.sh"' % (project.work, name.lower()) for name in ("SCAN", "OBJECT", "PROGRAM")}
-        graph = GRAPH
-        for name, text in words.items():
-            graph = graph.replace(name, text)
-        write(folder + "/graph", graph)
+        write_graph(project, folder)
 
     def command(self):
         return ["sh", "-c", self.line]
+
+
+class OdinBuild:
+    name = "odin-build"
+
+    def __init__(self, crates, jobs):
+        self.program = crates + "/odin_build/out/odin_build"
+        self.there = os.path.exists(self.program)
+        self.jobs = "-j%d" % jobs
+
+    def prepare(self, project, folder):
+        write_graph(project, folder)
+        write(folder + "/odin.toml", 'graph = "graph"\nsources = ["src/*"]\n\n[target.prog]\nask = "src/m.list:exe"\n')
+
+    def command(self):
+        return [self.program, self.jobs, "-q", "prog"]
 
 
 class Ninja:
@@ -409,7 +431,9 @@ def main():
     words.add_argument("--odin", default=TOP + "/crates")
     words.add_argument("--keep", action="store_true")
     asked = words.parse_args()
-    peers = [peer for peer in (Odin(asked.odin, asked.jobs), Ninja(asked.jobs), Make(asked.jobs), Tup(asked.jobs)) if peer.there]
+    ours, others = (Odin, OdinBuild), (Ninja, Make, Tup)
+    peers = [peer(asked.odin, asked.jobs) for peer in ours] + [peer(asked.jobs) for peer in others]
+    peers = [peer for peer in peers if peer.there]
     if not peers or peers[0].name != "odin":
         sys.exit("peers: odin, odin_takes and odin_get are not built")
     print("found: " + ", ".join(peer.name for peer in peers) + ", each with %d jobs" % asked.jobs, flush=True)
