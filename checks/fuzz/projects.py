@@ -31,7 +31,8 @@ class Project:
     def some_names(self):
         ends = sorted(suffix.decode() for suffix in self.graph.suffixes)
         names = ["%s%s" % (word, end) for end in ends for word in self.dice.sample(["a", "b", "h1", "d/x", "u2"], self.dice.randrange(1, 4))]
-        return names + ["lic.h", "s.a", "t"][:self.dice.randrange(4)] + ["plain"] * (self.dice.random() < 0.3)
+        more = ["lic.h", "s.a", "t"][:self.dice.randrange(4)] + ["plain"] * (self.dice.random() < 0.3)
+        return names + more or ["plain"]
 
     def changed(self):
         """Another graph of the same project: a word of a tool, its version or a declaration changed."""
