@@ -41,17 +41,17 @@ pub fn loaded_record(alloc: Global, stored: StoredRecord) -> Result<NodeRecord, 
     })
 }
 
-// The deps, of which the last so many are reached.
+// The deps, of which the last so many are reached. There is room for just as many as come.
 fn loaded_deps(alloc: Global, deps: Seq<StoredDep>, reached: usize) -> Result<Seq<Dep>, Memory>
     ensures { IfOk result (λ loaded. loaded ≡ loaded_deps reached deps) }
 {
-    let mut loaded = Seq::new(alloc);
     let mut more = deps.len();
+    let mut loaded = Vec::with_capacity(alloc, more)?;
     for dep in deps.into_vec() {
         more -= 1;
         loaded.push(loaded_dep(reached, dep, more))?;
     }
-    Ok(loaded)
+    Ok(Seq::from_vec(loaded))
 }
 
 // A dep after which so many more come.

@@ -99,17 +99,25 @@ impl RecordTable {
         self.marks.reserve_more(more)
     }
 
-    /// Notes the record of a node, in the place of the one that it had, which is let go. It takes no memory.
-    pub fn put(&mut self, noted: NodeRecord)
+    /// Notes the record of a node, in the place of the one that it had, which is let go, and gives its place. It takes no memory.
+    pub fn put(&mut self, noted: NodeRecord) -> usize
         requires { IsSome (record_of noted.node self.old.records) ⊎ (0 < self.old.room) }
         ensures put { self.new.records ≡ put_record noted self.old.records }
         ensures room { self.old.room ≤ self.new.room + 1 }
         ensures kept { IsSome (record_of noted.node self.old.records)
             → self.new.room ≡ self.old.room }
+        ensures at { slice_get self.new.records result ≡ Some noted }
     {
         match self.place_of(&noted.node) {
-            Some(place) => self.records[place] = noted,
-            None => self.add(noted),
+            Some(place) => {
+                self.records[place] = noted;
+                place
+            }
+            None => {
+                let place = self.records.len();
+                self.add(noted);
+                place
+            }
         }
     }
 
@@ -119,7 +127,7 @@ impl RecordTable {
         ensures { self.new.records ≡ put_records noted.items self.old.records }
     {
         for record in noted {
-            self.put(record);
+            let _ = self.put(record);
         }
     }
 

@@ -8,4 +8,4 @@ invariant-loop-dep l =
     (goal.iterator-loop-dep).can_next l.dep-iterator ×
     (goal.iterator-loop-dep).is_finite l.dep-iterator ×
     (l.more ≡ length (into_iter_items l.dep-iterator)) ×
-    (l.loaded ++ loaded_deps l.reached (into_iter_items l.dep-iterator) ≡ loaded_deps l.reached l.fn.deps)
+    (l.loaded.items ++ loaded_deps l.reached (into_iter_items l.dep-iterator) ≡ loaded_deps l.reached l.fn.deps)
