@@ -1,9 +1,10 @@
 -- What the reading of an item brings, and where it brings nothing.
 use Rattle.std.proofs.Common.{◌≡◌, ◌∙◌, ℕ, List, ap, sym, subst, refl}
-use Rattle.std.specs.Prelude.{IsNone}
+use Rattle.std.specs.Prelude.{IsNone, Some, option_map, slice_get}
 use Rattle.object_values.specs.declared.calls.Call.{Call}
 use Rattle.object_values.specs.declared.calls.Outcome.{Outcome}
 use Rattle.std.specs.Bool.{Decides}
+use Rattle.std.proofs.lemmas.Option.{slice_get-map}
 use Rattle.meaning_texts.specs.Classes.{IsName, is_name_byte}
 use Rattle.meaning_texts.specs.Tests.{is_name}
 use Rattle.meaning_texts.proofs.Lemmas.{word_decides}
@@ -14,7 +15,6 @@ use Rattle.object_values.specs.declared.items.StoredOutcome.{StoredOutcome}
 use Rattle.object_values.specs.declared.items.Item.{Item}
 use Rattle.object_values.specs.declared.items.StoredRecord.{StoredRecord}
 use Rattle.object_values.specs.declared.items.Item.TheVariants.{Kept, Node}
-use Rattle.object_values.specs.declared.facts.Fact.{Fact}
 use Rattle.object_values.specs.declared.records.NodeRecord.{NodeRecord}
 use Rattle.meaning_records.specs.Forms.{ParsesAt, StandsNowhere}
 use Rattle.meaning_records.specs.FormLemmas.{one_item}
@@ -22,12 +22,12 @@ use Rattle.meaning_records.specs.PlaceLemmas.{one_stands}
 use Rattle.meaning_records.specs.Records.{item}
 use Rattle.meaning_records.specs.Tables.{Tables, IsCallOf, IsOutcomeOf, Loads, with_call, with_fact, kept_outcome}
 use Rattle.kept_contents.proofs.Lemmas.{one_call, one_outcome}
-use Rattle.kept_notes.specs.Facts.{fact_of}
+use Rattle.kept_notes.specs.Facts.{fact_of, facts_of}
 use Rattle.kept_notes.specs.Loaded.{MayBeLoaded, loaded_record}
 use Rattle.kept_notes.proofs.Lemmas.{loadable_says}
 use Rattle.kept_tables.specs.declared.loaded.Loaded.{Loaded}
 use Rattle.kept_tables.specs.declared.loaded.Loaded.TheVariants.{Noted}
-use Rattle.kept_tables.specs.Holdings.{MayKeep}
+use Rattle.kept_tables.specs.Holdings.{Holding, MayKeep}
 use Rattle.kept_tables.specs.Loading.{LoadsItem, LoadsNothing, TakesInItem}
 
 module _ (payload : List ℕ) (at : ℕ) (old : Tables) where
@@ -63,16 +63,33 @@ module _ (old : Tables) (stored : StoredRecord) where
   pub not_noted : (MayBeLoaded old.contents stored → ⊥) → (new : Tables) → Loads old (Node stored) new → ⊥
   not_noted unfit new l = unfit (l.0, l.1)
 
-  pub noted : MayBeLoaded old.contents stored → (given : NodeRecord) (fact : Fact) (new : Tables) → given ≡ loaded_record stored
-      → fact ≡ fact_of old.contents given
-      → new ≡ with_fact (fact_of old.contents given) old → TakesInItem (Node stored) old new (Noted fact)
-  noted may given fact new given_is fact_is new_is =
+  -- what the record at a place says, where the contents are as before
+  fact_there : (given : NodeRecord) (place : ℕ) (new : Holding) → new.tables ≡ with_fact (fact_of old.contents given) old
+      → new.tables.records ≡ facts_of new.tables.contents new.records.records → slice_get new.records.records place ≡ Some given
+      → slice_get new.tables.records place ≡ Some (fact_of old.contents given)
+  fact_there given place new new_is say at =
+      let same : new.tables.contents ≡ old.contents = ap (λ (t : Tables). t.contents) new_is in
+      ap (λ l. slice_get l place) say
+      ∙ slice_get-map (fact_of new.tables.contents) new.records.records place
+      ∙ ap (option_map (fact_of new.tables.contents)) at
+      ∙ ap (λ l. Some (fact_of l given)) same
+
+  pub noted : MayBeLoaded old.contents stored → (given : NodeRecord) (place : ℕ) (new : Holding) → given ≡ loaded_record stored
+      → new.tables ≡ with_fact (fact_of old.contents given) old
+      → new.tables.records ≡ facts_of new.tables.contents new.records.records → slice_get new.records.records place ≡ Some given
+      → TakesInItem (Node stored) old new.tables (Noted place)
+  noted may given place new given_is new_is say at =
       let says = loadable_says old.contents stored may in
-      let same : fact ≡ fact_of old.contents (loaded_record stored) = fact_is ∙ ap (fact_of old.contents) given_is in
-      let is : fact_of old.contents (loaded_record stored) ≡ fact = sym same in
+      let loaded = loaded_record stored in
       record {
-        loads = (fact_of old.contents (loaded_record stored), says, new_is ∙ ap (λ (r : NodeRecord). with_fact (fact_of old.contents r) old) given_is);
-        gives = (fact_of old.contents (loaded_record stored), says.says, ap Noted same);
+        loads = (fact_of old.contents loaded, says, new_is ∙ ap (λ (r : NodeRecord). with_fact (fact_of old.contents r) old) given_is);
+        gives = record {
+          fact = fact_of old.contents loaded;
+          says = says.says;
+          place = place;
+          there = fact_there given place new new_is say at ∙ ap (λ (r : NodeRecord). Some (fact_of old.contents r)) given_is;
+          is = refl;
+        };
       }
 
 pub name_decides : (text : List ℕ) → Decides (is_name text) (IsName text)

@@ -1,5 +1,5 @@
 // What the reading of an item gives.
-use object_values::{Bytes, Fact, Text};
+use object_values::{Bytes, Text};
 
 /// What an item brings. A text is shared with the tables.
 #[derive(Drop)]
@@ -14,6 +14,6 @@ pub enum Loaded {
     Dropped(Bytes),
     /// A kept call.
     CallKept,
-    /// What the record of a node says.
-    Noted(Fact),
+    /// The record of a node, by its place in the tables.
+    Noted(u64),
 }

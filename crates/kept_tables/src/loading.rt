@@ -154,8 +154,8 @@ impl Kept {
             return Ok(None);
         }
         let noted = loaded_record(alloc, stored)?;
-        let fact = self.fact_of(alloc, &noted)?;
-        self.note(noted)?;
-        Ok(Some(Loaded::Noted(fact)))
+        let place = self.note(noted)?;
+        self.records_fit();
+        Ok(Some(Loaded::Noted(place)))
     }
 }

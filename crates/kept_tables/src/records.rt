@@ -1,5 +1,5 @@
 // Records of nodes: each is looked for by its node, and says what it says by the numbers of contents.
-ghost use Rattle.std.specs.Prelude.{◌≡◌, ◌↔◌, ◌≤◌, [], None, All, IfNone, IfOk, IfSome, IsTrue, OnOk, length, option_map, slice_get};
+ghost use Rattle.std.specs.Prelude.{◌≡◌, ◌↔◌, ◌≤◌, [], None, All, IfNone, IfOk, IfSome, IsTrue, OnOk, Some, length, option_map, slice_get};
 ghost use Rattle.kept_notes.specs.Facts.{IsNotedIn, IsRecordIn, fact_of, facts_of};
 ghost use Rattle.kept_notes.specs.Loaded.{MayBeLoaded};
 ghost use Rattle.kept_records.specs.Records.{EachNodeOnce, put_record, put_records, record_of, renew_record};
@@ -126,16 +126,18 @@ impl Kept {
         self.records.put_all(notes);
     }
 
-    // Notes a record, in the place of that of its node.
-    pub(crate) fn note(&mut self, noted: NodeRecord) -> Result<(), Memory>
+    // Notes a record, in the place of that of its node, and gives that place.
+    pub(crate) fn note(&mut self, noted: NodeRecord) -> Result<u64, Memory>
         requires { IsNotedIn self.old.tables.contents noted }
         ensures tables { OnOk result (self.new.tables
             ≡ with_fact (fact_of self.old.tables.contents noted) self.old.tables) }
         ensures records { OnOk result
             (self.new.records.records ≡ put_record noted self.old.records.records) }
+        ensures at { IfOk result (λ place.
+            slice_get self.new.records.records place ≡ Some noted) }
     {
         self.records.reserve(1)?;
-        self.records.put(noted);
-        Ok(())
+        let place = self.records.put(noted);
+        Ok(place as u64)
     }
 }

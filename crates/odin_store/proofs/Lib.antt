@@ -1,6 +1,7 @@
 mod BatchLemmas
 mod CompactLemmas
 mod FitLemmas
+mod FittingLemmas
 mod GoingLemmas
 mod KeepingLemmas
 mod LoadLemmas

@@ -25,25 +25,25 @@ use Rattle.odin_store.specs.declared.loading.Ground.TheVariants as ground_is
 use Rattle.odin_store.specs.declared.loading.Loading.{Loading}
 use Rattle.odin_store.specs.Held.{counts}
 use Rattle.odin_store.specs.Offsets.{FirstUnfit}
-use Rattle.odin_store.specs.Loading.{Past, IsPast, IsForSame, IsGround, IsUnfit, TellsGraph, NotesFact, TakesIn, Refuses, ReadsOn, TakesItem, TakesNoItem, after_graph, with_noted, state_of}
+use Rattle.odin_store.specs.Loading.{Past, IsPast, IsForSame, IsGround, IsUnfit, TellsGraph, NotesFact, NotesAt, TakesIn, Refuses, ReadsOn, TakesItem, TakesNoItem, after_graph, with_noted, state_of}
 
 -- ---- one item
 
-dropped_there : (contents : List _) (it : Item) (given : Loaded) (name : List ℕ) → IsLoaded contents it given → given ≡ loaded.Dropped name → it ≡ Dropped name
-dropped_there contents (GraphItem text) given name gives is = let no : ⊥ = cc in absurd no
-dropped_there contents (Content value) given name gives is = let no : ⊥ = cc in absurd no
-dropped_there contents (Put at number) given name gives is = let other : given ≡ loaded.Put at gives.0 = gives.2 in let no : ⊥ = cc in absurd no
-dropped_there contents (Dropped at) given name gives is = cc
-dropped_there contents (Kept call outcome) given name gives is = let no : ⊥ = cc in absurd no
-dropped_there contents (Node stored) given name gives is = let other : given ≡ loaded.Noted gives.0 = gives.2 in let no : ⊥ = cc in absurd no
+dropped_there : (contents : List _) (facts : List Fact) (it : Item) (given : Loaded) (name : List ℕ) → IsLoaded contents facts it given → given ≡ loaded.Dropped name → it ≡ Dropped name
+dropped_there contents facts (GraphItem text) given name gives is = let no : ⊥ = cc in absurd no
+dropped_there contents facts (Content value) given name gives is = let no : ⊥ = cc in absurd no
+dropped_there contents facts (Put at number) given name gives is = let other : given ≡ loaded.Put at gives.0 = gives.2 in let no : ⊥ = cc in absurd no
+dropped_there contents facts (Dropped at) given name gives is = cc
+dropped_there contents facts (Kept call outcome) given name gives is = let no : ⊥ = cc in absurd no
+dropped_there contents facts (Node stored) given name gives is = let other : given ≡ loaded.Noted gives.place = gives.is in let no : ⊥ = cc in absurd no
 
-noted_there : (contents : List _) (it : Item) (given : Loaded) (fact : Fact) → IsLoaded contents it given → given ≡ loaded.Noted fact → (stored : StoredRecord) × (it ≡ Node stored)
-noted_there contents (GraphItem text) given fact gives is = let no : ⊥ = cc in absurd no
-noted_there contents (Content value) given fact gives is = let no : ⊥ = cc in absurd no
-noted_there contents (Put at number) given fact gives is = let other : given ≡ loaded.Put at gives.0 = gives.2 in let no : ⊥ = cc in absurd no
-noted_there contents (Dropped at) given fact gives is = let no : ⊥ = cc in absurd no
-noted_there contents (Kept call outcome) given fact gives is = let no : ⊥ = cc in absurd no
-noted_there contents (Node stored) given fact gives is = (stored, refl)
+noted_there : (contents : List _) (facts : List Fact) (it : Item) (given : Loaded) (place : ℕ) → IsLoaded contents facts it given → given ≡ loaded.Noted place → (stored : StoredRecord) × (it ≡ Node stored)
+noted_there contents facts (GraphItem text) given place gives is = let no : ⊥ = cc in absurd no
+noted_there contents facts (Content value) given place gives is = let no : ⊥ = cc in absurd no
+noted_there contents facts (Put at number) given place gives is = let other : given ≡ loaded.Put at gives.0 = gives.2 in let no : ⊥ = cc in absurd no
+noted_there contents facts (Dropped at) given place gives is = let no : ⊥ = cc in absurd no
+noted_there contents facts (Kept call outcome) given place gives is = let no : ⊥ = cc in absurd no
+noted_there contents facts (Node stored) given place gives is = (stored, refl)
 
 not_some : (o : Option Text) → o ≡ None → IsSome o → ⊥
 not_some None none some = let no : ⊥ = cc in no
@@ -52,12 +52,12 @@ not_some (Some text) none some = let no : ⊥ = cc in no
 -- what may not come is no item that does
 pub given_refused : (payload : List ℕ) (at end : ℕ) (given : Loaded) (old : Loading) (tables : Tables) → LoadsItem payload at end given old.kept.tables tables → Refuses given old → TakesNoItem payload at old
 given_refused payload at end (loaded.Dropped name) old tables loads none = λ past is it last new stands takes.
-    let there = dropped_there old.kept.tables.contents loads.it (loaded.Dropped name) name loads.gives refl in
+    let there = dropped_there old.kept.tables.contents tables.records loads.it (loaded.Dropped name) name loads.gives refl in
     let same = (one_stands item one_item payload at end last loads.it it loads.stands stands).0 in
     let dropped : TakesOne (state_of old past) (Dropped name) new = subst (λ i. TakesOne (state_of old past) i new) (sym same ∙ there) takes in
     not_some (map.get old.sources.texts name) none dropped.edits.0
-given_refused payload at end (loaded.Noted fact) old tables loads none = λ past is it last new stands takes.
-    let there = noted_there old.kept.tables.contents loads.it (loaded.Noted fact) fact loads.gives refl in
+given_refused payload at end (loaded.Noted place) old tables loads none = λ past is it last new stands takes.
+    let there = noted_there old.kept.tables.contents tables.records loads.it (loaded.Noted place) place loads.gives refl in
     let same = (one_stands item one_item payload at end last loads.it it loads.stands stands).0 in
     let noted : TakesOne (state_of old past) (Node there.0) new = subst (λ i. TakesOne (state_of old past) i new) (sym same ∙ there.1) takes in
     let before : IsGround old.graph.now old.text.now past ground_is.Nothing = subst (IsGround old.graph.now old.text.now past) none is.ground in
@@ -70,7 +70,7 @@ given_refused payload at end loaded.CallKept old tables loads none = absurd none
 -- the tables tell nothing of it
 pub refused_same : (given : Loaded) (old : Loading) (kept : Holding) → Refuses given (record old { kept = kept }) → Refuses given old
 refused_same (loaded.Dropped name) old kept none = none
-refused_same (loaded.Noted fact) old kept none = none
+refused_same (loaded.Noted place) old kept none = none
 refused_same (loaded.Graph text) old kept none = none
 refused_same loaded.Content old kept none = none
 refused_same (loaded.Put name text) old kept none = none
@@ -79,9 +79,18 @@ refused_same loaded.CallKept old kept none = none
 past_there : (old : Loading) (kept : Holding) (past : Past) → IsPast old past → IsPast (record old { kept = kept }) past
 past_there old kept past is = record { many = is.many; ground = is.ground }
 
-pub taken_same : (given : Loaded) (old new : Loading) (kept : Holding) → TakesIn given (record old { kept = kept }) new → TakesIn given old new
+-- What an item brings was taken in, where the tables had taken the item in before.
+abbrev TakesInto : Loaded → List Fact → Loading → Loading → Type 0
+TakesInto (loaded.Noted place) facts old new = (new.sources.texts ≡ old.sources.texts) × NotesAt place facts old new
+TakesInto (loaded.Dropped name) facts old new = TakesIn (loaded.Dropped name) old new
+TakesInto (loaded.Graph text) facts old new = TakesIn (loaded.Graph text) old new
+TakesInto loaded.Content facts old new = TakesIn loaded.Content old new
+TakesInto (loaded.Put name text) facts old new = TakesIn (loaded.Put name text) old new
+TakesInto loaded.CallKept facts old new = TakesIn loaded.CallKept old new
+
+taken_same : (given : Loaded) (old new : Loading) (kept : Holding) → TakesIn given (record old { kept = kept }) new → TakesInto given kept.tables.records old new
 taken_same (loaded.Dropped name) old new kept taken = taken
-taken_same (loaded.Noted fact) old new kept taken = (taken.0, λ past is. taken.1 past (past_there old kept past is))
+taken_same (loaded.Noted place) old new kept taken = (taken.0, λ fact there past is. taken.1 fact there past (past_there old kept past is))
 taken_same (loaded.Graph text) old new kept taken = taken
 taken_same loaded.Content old new kept taken = taken
 taken_same (loaded.Put name text) old new kept taken = taken
@@ -97,38 +106,43 @@ past_same old new past same ground is = record {
 }
 
 -- what an item brings is what it makes of what was read
-given_taken : (it : Item) (given : Loaded) (old new : Loading) (past : Past) → Loads old.kept.tables it new.kept.tables → IsLoaded old.kept.tables.contents it given → IsForSame old new → TakesIn given old new → IsPast old past → ReadsOn it old new past
+given_taken : (it : Item) (given : Loaded) (old new : Loading) (past : Past) → Loads old.kept.tables it new.kept.tables → IsLoaded old.kept.tables.contents new.kept.tables.records it given → IsForSame old new → TakesInto given new.kept.tables.records old new → IsPast old past → ReadsOn it old new past
 given_taken (GraphItem text) given old new past loads gives same taken is =
-    let now : TakesIn (loaded.Graph text) old new = subst (λ l. TakesIn l old new) gives taken in
+    let now : TakesInto (loaded.Graph text) new.kept.tables.records old new = subst (λ l. TakesInto l new.kept.tables.records old new) gives taken in
     record { next = after_graph text; takes = record { loads = loads; edits = now.0; graph = refl; ground = tt; noted = refl }; is = now.1; gates = refl }
 given_taken (Content value) given old new past loads gives same taken is =
-    let now : TakesIn loaded.Content old new = subst (λ l. TakesIn l old new) gives taken in
+    let now : TakesInto loaded.Content new.kept.tables.records old new = subst (λ l. TakesInto l new.kept.tables.records old new) gives taken in
     record { next = past; takes = record { loads = loads; edits = now.0; graph = refl; ground = tt; noted = refl }; is = past_same old new past same now.1 is; gates = refl }
 given_taken (Put name number) given old new past loads gives same taken is =
-    let now : TakesIn (loaded.Put name gives.0) old new = subst (λ l. TakesIn l old new) gives.2 taken in
+    let now : TakesInto (loaded.Put name gives.0) new.kept.tables.records old new = subst (λ l. TakesInto l new.kept.tables.records old new) gives.2 taken in
     record { next = past; takes = record { loads = loads; edits = (gives.0, gives.1, now.0); graph = refl; ground = tt; noted = refl }; is = past_same old new past same now.1 is; gates = refl }
 given_taken (Dropped name) given old new past loads gives same taken is =
-    let now : TakesIn (loaded.Dropped name) old new = subst (λ l. TakesIn l old new) gives taken in
+    let now : TakesInto (loaded.Dropped name) new.kept.tables.records old new = subst (λ l. TakesInto l new.kept.tables.records old new) gives taken in
     record { next = past; takes = record { loads = loads; edits = (now.0, now.1); graph = refl; ground = tt; noted = refl }; is = past_same old new past same now.2 is; gates = refl }
 given_taken (Kept call outcome) given old new past loads gives same taken is =
-    let now : TakesIn loaded.CallKept old new = subst (λ l. TakesIn l old new) gives taken in
+    let now : TakesInto loaded.CallKept new.kept.tables.records old new = subst (λ l. TakesInto l new.kept.tables.records old new) gives taken in
     record { next = past; takes = record { loads = loads; edits = now.0; graph = refl; ground = tt; noted = refl }; is = past_same old new past same now.1 is; gates = refl }
 given_taken (Node stored) given old new past loads gives same taken is =
-    let now : TakesIn (loaded.Noted gives.0) old new = subst (λ l. TakesIn l old new) gives.2 taken in
-    let noted = now.1 past is in
+    let now : TakesInto (loaded.Noted gives.place) new.kept.tables.records old new = subst (λ l. TakesInto l new.kept.tables.records old new) gives.is taken in
+    let noted = now.1 gives.fact gives.there past is in
     record {
-      next = with_noted old.gate gives.0 past;
-      takes = record { loads = loads; edits = now.0; graph = refl; ground = noted.0; noted = (gives.0, gives.1, refl) };
+      next = with_noted old.gate gives.fact past;
+      takes = record { loads = loads; edits = now.0; graph = refl; ground = noted.0; noted = (gives.fact, gives.says, refl) };
       is = noted.1;
       gates = refl;
     }
 
-pub item_taken : (payload : List ℕ) (at end : ℕ) (given : Loaded) (old new : Loading) → LoadsItem payload at end given old.kept.tables new.kept.tables → IsForSame old new → TakesIn given old new → TakesItem payload at end old new
-item_taken payload at end given old new loads same taken = record {
-  it = loads.it;
-  stands = loads.stands;
-  takes = λ past is. given_taken loads.it given old new past loads.loads loads.gives same taken is;
-}
+pub item_taken : (payload : List ℕ) (at end : ℕ) (given : Loaded) (old new : Loading) (kept : Holding) → LoadsItem payload at end given old.kept.tables kept.tables → new.kept ≡ kept
+    → IsForSame old new → TakesIn given (record old { kept = kept }) new → TakesItem payload at end old new
+item_taken payload at end given old new kept loads is same taken =
+    let tables : new.kept.tables ≡ kept.tables = ap (λ (k : Holding). k.tables) is in
+    let here : LoadsItem payload at end given old.kept.tables new.kept.tables = subst (LoadsItem payload at end given old.kept.tables) (sym tables) loads in
+    let into : TakesInto given new.kept.tables.records old new = subst (λ (t : Tables). TakesInto given t.records old new) (sym tables) (taken_same given old new kept taken) in
+    record {
+      it = here.it;
+      stands = here.stands;
+      takes = λ past was. given_taken here.it given old new past here.loads here.gives same into was;
+    }
 
 pub none_taken : (payload : List ℕ) (at : ℕ) (old : Loading) → LoadsNothing payload at old.kept.tables → TakesNoItem payload at old
 none_taken payload at old nothing past is it end new stands takes = nothing it end new.tables stands takes.loads

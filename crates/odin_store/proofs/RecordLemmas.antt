@@ -12,7 +12,7 @@ use Rattle.validator.specs.Fitting.{FactFits}
 use Rattle.odin_store.specs.declared.loading.Loading.{Loading}
 use Rattle.odin_store.specs.Held.{counts}
 use Rattle.odin_store.specs.Offsets.{AreGates, FirstUnfit, Stops}
-use Rattle.odin_store.specs.Loading.{Past, no_past, IsPast, IsForSame, TellsUnfit, Loads, LoadsNot, HasRead, RecordBreaksAt, RecordUnfitAt, StaysUnchecked, records_size, state_of}
+use Rattle.odin_store.specs.Loading.{Past, no_past, IsPast, IsForSame, TellsUnfit, Loads, LoadsNot, HasRead, HeldFit, RecordBreaksAt, RecordUnfitAt, StaysUnchecked, records_size, state_of}
 use Rattle.odin_store.specs.Stamps.{AreUnchecked}
 use Rattle.odin_store.proofs.LoadLemmas.{reads_on}
 use Rattle.odin_store.proofs.WrittenLemmas.{gate-append}
@@ -50,10 +50,11 @@ pub record HasLoaded (g : Graph) (text : Text) (start : ℕ) (records left : Lis
   pub gates : AreGates start before [] past.gates
   pub gate : now.gate ≡ gate_behind start before
   pub unchecked : AreUnchecked now.kept.records.records
+  pub fit : HeldFit now
 
 pub none_loaded : (g : Graph) (text : Text) (start : ℕ) (records left : List (List ℕ)) (now : Loading) → left ≡ reverse records → now.graph.now ≡ g → now.text.now ≡ text
-    → state_of now no_past ≡ nothing → IsPast now no_past → now.gate ≡ start → AreUnchecked now.kept.records.records → HasLoaded g text start records left now
-none_loaded g text start records left now turned graph_is text_is new is gate unchecked = record {
+    → state_of now no_past ≡ nothing → IsPast now no_past → now.gate ≡ start → AreUnchecked now.kept.records.records → HeldFit now → HasLoaded g text start records left now
+none_loaded g text start records left now turned graph_is text_is new is gate unchecked fit = record {
   before = [];
   whole = sym (ap reverse turned ∙ reverse-reverse records);
   graph_is = graph_is;
@@ -64,14 +65,15 @@ none_loaded g text start records left now turned graph_is text_is new is gate un
   gates = refl;
   gate = gate;
   unchecked = unchecked;
+  fit = fit;
 }
 
 last_first : (rest : List (List ℕ)) (payload : List ℕ) → reverse (rest ++ payload ∷ []) ≡ payload ∷ reverse rest
 last_first rest payload = reverse-append rest (payload ∷ [])
 
 module _ (g : Graph) (text : Text) (start : ℕ) (records left : List (List ℕ)) (now : Loading) (loaded : HasLoaded g text start records left now) where
-  pub more_loaded : (rest : List (List ℕ)) (payload : List ℕ) (next : Loading) → left ≡ rest ++ payload ∷ [] → IsForSame now next → next.gate ≡ gate_after now.gate payload → Loads payload now next → StaysUnchecked now next → HasLoaded g text start records rest next
-  more_loaded rest payload next is same gate loads stays =
+  pub more_loaded : (rest : List (List ℕ)) (payload : List ℕ) (next : Loading) → left ≡ rest ++ payload ∷ [] → IsForSame now next → next.gate ≡ gate_after now.gate payload → Loads payload now next → StaysUnchecked now next → HeldFit next → HasLoaded g text start records rest next
+  more_loaded rest payload next is same gate loads stays held =
       let on = loads loaded.past loaded.is in
       record {
         before = loaded.before ++ payload ∷ [];
@@ -84,6 +86,7 @@ module _ (g : Graph) (text : Text) (start : ℕ) (records left : List (List ℕ)
         gates = gates_on start loaded.before (payload ∷ []) [] loaded.past.gates on.next.gates loaded.gates (subst (λ n. AreGates n (payload ∷ []) loaded.past.gates on.next.gates) loaded.gate on.gates);
         gate = gate ∙ ap (λ n. gate_after n payload) loaded.gate ∙ sym (gate-append start loaded.before (payload ∷ []));
         unchecked = stays loaded.unchecked;
+        fit = held;
       }
 
   -- what counts fits

@@ -2,6 +2,7 @@ pub mod Written
 pub mod Held
 pub mod Offsets
 pub mod Stamps
+pub mod Fitting
 pub mod OnDisk
 pub mod Changes
 pub mod Loading

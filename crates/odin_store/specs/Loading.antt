@@ -1,10 +1,11 @@
 -- The loading of records, for the graph of a text.
-use Rattle.std.specs.Prelude.{◌≡◌, ◌≢◌, ◌⊎◌, ⊤, ℕ, ◌+◌, Bool, true, false, List, [], ◌∷◌, ◌++◌, length, Option, Some, None, IsSome}
+use Rattle.std.specs.Prelude.{◌≡◌, ◌≢◌, ◌⊎◌, ⊤, ℕ, ◌+◌, Bool, true, false, List, [], ◌∷◌, ◌++◌, length, Option, Some, None, IsSome, slice_get}
 use Rattle.std.specs.FinMap as map
 use Rattle.std.specs.List.{All}
 use Rattle.odin_journal.specs.declared.fault.JournalFault.{JournalFault}
 use Rattle.odin_journal.specs.declared.fault.JournalFault.TheVariants as fault
 use Rattle.object_values.specs.declared.facts.Fact.{Fact}
+use Rattle.object_values.specs.declared.records.NodeRecord.{NodeRecord}
 use Rattle.object_values.specs.Texts.{Text}
 use Rattle.object_values.specs.declared.items.Item.{Item}
 use Rattle.meaning_graph.specs.Graphs.{Graph}
@@ -18,6 +19,7 @@ use Rattle.kept_tables.specs.declared.loaded.Loaded.TheVariants as given
 use Rattle.odin_store.specs.declared.loading.Ground.{Ground}
 use Rattle.odin_store.specs.declared.loading.Ground.TheVariants as ground_is
 use Rattle.odin_store.specs.declared.loading.Loading.{Loading}
+use Rattle.odin_store.specs.Fitting.{NodesFit, OthersFit}
 use Rattle.odin_store.specs.Held.{counts}
 use Rattle.odin_store.specs.Offsets.{gates_with, AreGates, FirstUnfit, Stops}
 use Rattle.odin_store.specs.Stamps.{AreUnchecked}
@@ -86,6 +88,10 @@ with_noted gate fact past = record { last = past.last; noted = past.noted ++ fac
 abbrev pub NotesFact : Fact → Loading → Loading → Type 0
 NotesFact fact old new = (past : Past) → IsPast old past → IsSome past.last × IsPast new (with_noted old.gate fact past)
 
+-- so is the one of these facts that stands at a place
+abbrev pub NotesAt : ℕ → List Fact → Loading → Loading → Type 0
+NotesAt place facts old new = (fact : Fact) → slice_get facts place ≡ Some fact → NotesFact fact old new
+
 -- what an item brings is taken in
 abbrev pub TakesIn : Loaded → Loading → Loading → Type 0
 TakesIn (given.Graph text) old new = (new.sources.texts ≡ old.sources.texts) × IsPast new (after_graph text)
@@ -94,15 +100,40 @@ TakesIn (given.Put name text) old new = (new.sources.texts ≡ map.insert old.so
 TakesIn (given.Dropped name) old new =
     IsSome (map.get old.sources.texts name) × (new.sources.texts ≡ map.remove old.sources.texts name) × (new.ground ≡ old.ground)
 TakesIn given.CallKept old new = (new.sources.texts ≡ old.sources.texts) × (new.ground ≡ old.ground)
-TakesIn (given.Noted fact) old new = (new.sources.texts ≡ old.sources.texts) × NotesFact fact old new
+TakesIn (given.Noted place) old new = (new.sources.texts ≡ old.sources.texts) × NotesAt place old.kept.tables.records old new
 
 -- or it may not come: a source that isn't there is dropped, or a fact is noted before any graph
 abbrev pub Refuses : Loaded → Loading → Type 0
 Refuses (given.Dropped name) old = map.get old.sources.texts name ≡ None
-Refuses (given.Noted fact) old = old.ground ≡ ground_is.Nothing
+Refuses (given.Noted place) old = old.ground ≡ ground_is.Nothing
 Refuses other old = ⊥
 
 -- ---- what is in memory
+
+-- As far as all that counts fits, so does the node of each record.
+abbrev pub HeldFit : Loading → Type 0
+HeldFit loading = loading.ground ≡ ground_is.This None → NodesFit loading.graph.now loading.kept.records.records
+
+-- before a record at a place is tested, the nodes of the others do
+pub record MayNote (place : ℕ) (loading : Loading) : Type 0 where
+  pub noted : NodeRecord
+  pub stands : slice_get loading.kept.records.records place ≡ Some noted
+  pub others : loading.ground ≡ ground_is.This None → OthersFit loading.graph.now loading.kept.records.records noted.node
+
+-- what the record at a place says fits, and then the nodes of all records do
+pub record FitsAt (place : ℕ) (loading : Loading) : Type 0 where
+  pub fits : (fact : Fact) → slice_get loading.kept.tables.records place ≡ Some fact → FactFits loading.graph.now fact
+  pub nodes : NodesFit loading.graph.now loading.kept.records.records
+
+-- it doesn't fit
+abbrev pub UnfitAt : ℕ → Loading → Type 0
+UnfitAt place loading = (fact : Fact) → slice_get loading.kept.tables.records place ≡ Some fact → ¬ FactFits loading.graph.now fact
+
+-- before what an item brings is taken in, where the tables have taken the item in
+abbrev pub MayTakeIn : Loaded → Loading → Type 0
+MayTakeIn (given.Graph text) loading = loading.kept.records.records ≡ []
+MayTakeIn (given.Noted place) loading = MayNote place loading
+MayTakeIn other loading = HeldFit loading
 
 -- where none of the records counts as checked, none does after
 abbrev pub StaysUnchecked : Loading → Loading → Type 0

@@ -2,6 +2,7 @@
 #![tactic(auto)]
 
 mod compacting;
+mod fitting;
 pub mod laws;
 mod loading;
 mod store;

@@ -4,16 +4,16 @@ ghost use Rattle.meaning_records.specs.Images.{gate_after};
 ghost use Rattle.meaning_records.specs.States.{nothing};
 ghost use Rattle.meaning_records.specs.Tables.{without_records};
 ghost use Rattle.odin_store.specs.declared.loading.Ground.TheVariants as ground_is;
-ghost use Rattle.odin_store.specs.Loading.{HasRead, IsForSame, IsGround, IsPast, IsRecordLoadFault, Loads, LoadsNot, NotesFact, Past, Refuses, StaysUnchecked, TakesIn, TakesItem, TakesNoItem, TellsLast, TellsUnfit, after_graph, no_past, records_size, state_of};
+ghost use Rattle.odin_store.specs.Loading.{FitsAt, HasRead, HeldFit, IsForSame, IsGround, IsPast, IsRecordLoadFault, Loads, LoadsNot, MayNote, MayTakeIn, NotesAt, Past, Refuses, StaysUnchecked, TakesIn, TakesItem, TakesNoItem, TellsLast, TellsUnfit, UnfitAt, after_graph, no_past, records_size, state_of};
 ghost use Rattle.odin_store.specs.Stamps.{AreUnchecked};
 
+use crate::fitting::fits_noted;
 use kept_tables::{Kept, Loaded};
 use meaning_records::laws::reads_in_one_way;
-use object_values::{Fact, Memory, Seq, Sources, Text};
+use object_values::{Memory, Seq, Sources, Text};
 use odin_journal::JournalFault;
 use std::alloc::Global;
 use type_graph::Graph;
-use validator::fits_record;
 
 /// The last graph so far, as far as it tells what counts of the records of nodes.
 #[derive(Clone, Copy, Drop)]
@@ -60,6 +60,7 @@ impl<'a> Loading<'a> {
         ensures text { result.text.now ≡ text.now }
         ensures gate { result.gate ≡ gate }
         ensures unchecked { AreUnchecked result.kept.records.records }
+        ensures fit { HeldFit result }
     {
         Loading {
             graph,
@@ -120,27 +121,32 @@ impl<'a> Loading<'a> {
         payload: &Text,
         at: usize,
     ) -> Result<Option<usize>, Memory>
+        requires { HeldFit self.old }
         ensures some { IfOk result (λ read. IfSome read (λ end.
             TakesItem payload.now at end self.old self.new)) }
         ensures none { IfOk result (λ read. IfNone read (TakesNoItem payload.now at self.old)) }
         ensures unchecked { IfOk result (λ read.
             OnSome read (StaysUnchecked self.old self.new)) }
+        ensures fit { IfOk result (λ read. OnSome read (HeldFit self.new)) }
         ensures same { IsForSame self.old self.new }
         ensures gate { self.new.gate ≡ self.old.gate }
     {
         let Some((loaded, end)) = self.kept.load_item(alloc, payload, at)? else {
             return Ok(None);
         };
-        if !self.take_in(loaded)? {
+        self.kept.records_fit();
+        if !self.take_in(alloc, loaded)? {
             return Ok(None);
         }
         Ok(Some(end))
     }
 
     // Takes in what an item brings, if it may come.
-    fn take_in(&mut self, loaded: Loaded) -> Result<bool, Memory>
+    fn take_in(&mut self, alloc: Global, loaded: Loaded) -> Result<bool, Memory>
+        requires { MayTakeIn loaded self.old }
         ensures taken { IfOk result (λ taken. IsTrue taken → TakesIn loaded self.old self.new) }
         ensures refused { IfOk result (λ taken. IsFalse taken → Refuses loaded self.old) }
+        ensures fit { IfOk result (λ taken. IsTrue taken → HeldFit self.new) }
         ensures same { IsForSame self.old self.new }
         ensures gate { self.new.gate ≡ self.old.gate }
         ensures kept { self.new.kept ≡ self.old.kept }
@@ -158,34 +164,53 @@ impl<'a> Loading<'a> {
             }
             Loaded::Dropped(name) => Ok(self.sources.remove(name.as_slice()).is_some()),
             Loaded::CallKept => Ok(true),
-            Loaded::Noted(fact) => Ok(self.note(&fact)),
+            Loaded::Noted(place) => self.note(alloc, place),
         }
     }
 
-    // Notes a fact, if there is a graph before it. It is tested where it counts and all before it fit.
-    fn note(&mut self, fact: &Fact) -> bool
-        ensures noted { IsTrue result → NotesFact fact.now self.old self.new }
-        ensures none { IsFalse result → self.old.ground ≡ ground_is.Nothing }
+    // Notes the record at a place, if there is a graph before it. It is tested where it counts and all before it fit.
+    fn note(&mut self, alloc: Global, place: u64) -> Result<bool, Memory>
+        requires { MayNote place self.old }
+        ensures noted { IfOk result (λ noted. IsTrue noted
+            → NotesAt place self.old.kept.tables.records self.old self.new) }
+        ensures none { IfOk result (λ noted. IsFalse noted
+            → self.old.ground ≡ ground_is.Nothing) }
+        ensures fit { IfOk result (λ noted. IsTrue noted → HeldFit self.new) }
         ensures same { IsForSame self.old self.new }
         ensures gate { self.new.gate ≡ self.old.gate }
         ensures kept { self.new.kept ≡ self.old.kept }
         ensures sources { self.new.sources ≡ self.old.sources }
     {
         match self.ground {
-            Ground::Nothing => false,
-            Ground::Other => true,
-            Ground::This(Some(_)) => true,
+            Ground::Nothing => Ok(false),
+            Ground::Other => Ok(true),
+            Ground::This(Some(_)) => Ok(true),
             Ground::This(None) => {
-                if !fits_record(self.graph, fact) {
+                if !self.fits_at(alloc, place)? {
                     self.ground = Ground::This(Some(self.gate));
                 }
-                true
+                Ok(true)
             }
+        }
+    }
+
+    // Whether the record at a place fits.
+    fn fits_at(&self, alloc: Global, place: u64) -> Result<bool, Memory>
+        requires may { MayNote place self.now }
+        requires counts { self.now.ground ≡ ground_is.This None }
+        ensures fits { IfOk result (λ fits. IsTrue fits → FitsAt place self.now) }
+        ensures unfit { IfOk result (λ fits. IsFalse fits → UnfitAt place self.now) }
+    {
+        self.kept.records_fit();
+        match self.kept.record_at(place) {
+            Some(noted) => fits_noted(alloc, self.graph, &self.kept, noted),
+            None => Ok(false),
         }
     }
 
     // Takes a payload in. Where it doesn't read, what was loaded is used no more.
     fn load(&mut self, alloc: Global, payload: &Text) -> Result<bool, Memory>
+        requires { HeldFit self.old }
         ensures read { IfOk result (λ reads. IsTrue reads → Loads payload.now self.old self.new) }
         ensures unread { IfOk result (λ reads. IsFalse reads → LoadsNot payload.now self.old) }
         ensures same { IsForSame self.old self.new }
@@ -193,6 +218,7 @@ impl<'a> Loading<'a> {
             → self.new.gate ≡ gate_after self.old.gate payload.now) }
         ensures unchecked { IfOk result (λ reads. IsTrue reads
             → StaysUnchecked self.old self.new) }
+        ensures fit { IfOk result (λ reads. IsTrue reads → HeldFit self.new) }
     {
         reads_in_one_way();
         let mut at = 0;

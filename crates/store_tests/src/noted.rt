@@ -24,6 +24,10 @@ const NODE: &[u8] =
 const ABORTED: &[u8] =
     b"\x06\0\0\0\x03a.c\0\0\0\0\0\0\0\x01\x01\0\0\0\0\0\0\0\x02\0\0\0\x03a.c\0\0\0\0\0\0\0\0\x01\0\0\0\0\0\0\0\x03x.h\0\0\0\0\0\0\0\0\0\0\0\0\x01\0\x03\0\0\0\0\x03\0\0\0\0\0\0\0\x40";
 
+// The same node, whose one dep is itself, with no value seen.
+const OWN: &[u8] =
+    b"\x06\0\0\0\x03a.c\0\0\0\0\0\0\0\x01\x01\0\0\0\0\0\0\0\x01\0\0\0\x03a.c\0\0\0\0\0\0\0\x01\x01\0\0\0\0\0\0\0\0\0\x01\0\0\0\x01\0\0\0\0\0\0\0\0\0\0\0\0\0\x01";
+
 // A drop of a source that isn't there.
 const BAD: &[u8] = b"\x04\0\0\0\x03a.c";
 
@@ -48,8 +52,21 @@ enum Record {
     Bad,
     /// The record of the node with another byte at a place.
     With(usize, u8),
+    /// The record of the node that depends on itself.
+    Own,
+    /// The same with another byte at a place.
+    OwnWith(usize, u8),
     /// The graph, and what doesn't read after it.
     GraphAndBad,
+}
+
+// A payload with another byte at a place.
+fn changed(alloc: Global, payload: &[u8], place: usize, byte: u8) -> Result<Bytes, Memory> {
+    let mut changed = payload.to_vec(alloc)?;
+    if let Some(there) = changed.get_mut(place) {
+        *there = byte;
+    }
+    Bytes::from_slice(alloc, changed.as_slice())
 }
 
 fn payload_of(alloc: Global, record: Record) -> Result<Bytes, Memory> {
@@ -60,13 +77,9 @@ fn payload_of(alloc: Global, record: Record) -> Result<Bytes, Memory> {
         Record::Node => Bytes::from_slice(alloc, NODE),
         Record::Aborted => Bytes::from_slice(alloc, ABORTED),
         Record::Bad => Bytes::from_slice(alloc, BAD),
-        Record::With(place, byte) => {
-            let mut changed = NODE.to_vec(alloc)?;
-            if let Some(there) = changed.get_mut(place) {
-                *there = byte;
-            }
-            Bytes::from_slice(alloc, changed.as_slice())
-        }
+        Record::With(place, byte) => changed(alloc, NODE, place, byte),
+        Record::Own => Bytes::from_slice(alloc, OWN),
+        Record::OwnWith(place, byte) => changed(alloc, OWN, place, byte),
         Record::GraphAndBad => {
             let mut payload = graph_payload(alloc, GRAPH)?;
             payload.extend_from_slice(BAD)?;
@@ -107,7 +120,7 @@ fn opened(alloc: Global, records: &[Record]) -> Result<Option<Is>, StoreFault> {
     }
 }
 
-use Record::{Aborted, Bad, Contents, Graph, GraphAndBad, Node, Other, With};
+use Record::{Aborted, Bad, Contents, Graph, GraphAndBad, Node, Other, Own, OwnWith, With};
 
 // A node record that reads and doesn't fit: its node is made from a text of another type.
 const UNFIT: Record = With(7, b'h');
@@ -127,6 +140,18 @@ const FILES: &[(&[Record], Is)] = &[
     (&[Graph, Contents, Node, UNFIT, Contents], Is::NotOurs(3)),
     (&[Graph, Contents, UNFIT, UNFIT], Is::NotOurs(2)),
     (&[Graph, Contents, With(31, b' '), Node], Is::NotOurs(2)),
+    // a dep is its record's own node, or one that has a record before, after or never
+    (&[Graph, Contents, Own], Is::Store(1)),
+    (&[Graph, Contents, Node, OwnWith(5, b'b')], Is::Store(2)),
+    (&[Graph, Contents, OwnWith(5, b'b'), Node], Is::Store(2)),
+    (&[Graph, Contents, OwnWith(29, b'b')], Is::Store(1)),
+    // its node has to fit, and so has the record that comes after
+    (&[Graph, Contents, OwnWith(31, b'h')], Is::NotOurs(2)),
+    (&[Graph, Contents, Node, OwnWith(31, b'h')], Is::NotOurs(3)),
+    (&[Graph, Contents, OwnWith(7, b'h')], Is::NotOurs(2)),
+    (&[Graph, Contents, OwnWith(5, b'b'), With(69, 2)], Is::NotOurs(3)),
+    // the record of another graph that was forgotten says nothing of a dep
+    (&[Other, Contents, UNFIT, Graph, OwnWith(31, b'h')], Is::NotOurs(4)),
     // and others have not
     (&[Other, Contents, UNFIT], Is::Store(0)),
     (&[Graph, Contents, UNFIT, Graph, Node], Is::Store(1)),

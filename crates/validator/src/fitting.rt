@@ -43,7 +43,8 @@ fn fits(graph: &Graph, node: &Node) -> bool
     type_of(graph, node).is_some()
 }
 
-fn value_fits(graph: &Graph, number: u32, value: Option<&Value>) -> bool
+/// Whether a value, where there is one, is of the kind of the type of a number.
+pub fn value_fits(graph: &Graph, number: u32, value: Option<&Value>) -> bool
     ensures { result ≡ value_fits graph.now number (option_copied value.entry) }
 {
     match value {

@@ -11,5 +11,5 @@ mod renewing;
 mod verdict;
 
 pub use check::check_record;
-pub use fitting::fits_record;
+pub use fitting::{fits_record, value_fits};
 pub use verdict::{Now, Verdict};

@@ -8,7 +8,7 @@ use Rattle.odin_store.proofs.loading.load_records.Goals as goal
 pub records-init : goal.records-init
 records-init c =
     none_loaded c.args.graph.now c.args.text.now c.args.start c.args.records c.reverse.new.self.items c.new-loading.result (c.reverse.ensures.items ∙ ap reverse c.into_vec-left.ensures)
-    c.new-loading.ensures.graph c.new-loading.ensures.text c.new-loading.ensures.nothing c.new-loading.ensures.past c.new-loading.ensures.gate c.new-loading.ensures.unchecked
+    c.new-loading.ensures.graph c.new-loading.ensures.text c.new-loading.ensures.nothing c.new-loading.ensures.past c.new-loading.ensures.gate c.new-loading.ensures.unchecked c.new-loading.ensures.fit
 
 pub returns-then-not-branch-clause-fault : goal.returns-then-not-branch-clause-fault
 returns-then-not-branch-clause-fault c =
@@ -27,7 +27,7 @@ records-preserved c =
     let payload = c.in-Some.payload in
     let last = rw c.in-Some.is at c.pop.ensures.items in
     let answered : IsTrue c.in_ok-load.field-0 = search rules in
-    more_loaded c.args.graph.now c.args.text.now c.args.start c.args.records c.records.left.items now c.records.invariant c.pop.new.self.items payload next last c.load.ensures.same (c.in_ok-load.ensures.gate answered) (c.in_ok-load.ensures.read answered) (c.in_ok-load.ensures.unchecked answered)
+    more_loaded c.args.graph.now c.args.text.now c.args.start c.args.records c.records.left.items now c.records.invariant c.pop.new.self.items payload next last c.load.ensures.same (c.in_ok-load.ensures.gate answered) (c.in_ok-load.ensures.read answered) (c.in_ok-load.ensures.unchecked answered) (c.in_ok-load.ensures.fit answered)
 
 pub returns-in-Some-unfit-clause-fault : goal.returns-in-Some-unfit-clause-fault
 returns-in-Some-unfit-clause-fault c =

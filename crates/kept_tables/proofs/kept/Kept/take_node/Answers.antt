@@ -1,12 +1,7 @@
 use Rattle.kept_notes.specs.Loaded.{MayBeLoaded}
-use Rattle.kept_notes.proofs.Lemmas.{loadable_within, loaded_noted}
+use Rattle.kept_notes.proofs.Lemmas.{loaded_noted}
 use Rattle.kept_tables.proofs.LoadLemmas.{noted}
 use Rattle.kept_tables.proofs.kept.Kept.take_node.Goals as goal
-
-pub fact_of-requires : goal.fact_of-requires
-fact_of-requires c =
-    let may : MayBeLoaded c.args.self.now.tables.contents c.args.stored = c.may_note.ensures.0 c.if-not-may_note.false in
-    rw c.in_ok-noted.ensures (loadable_within c.args.self.now.tables.contents c.args.stored may)
 
 pub note-requires : goal.note-requires
 note-requires c =
@@ -16,5 +11,5 @@ note-requires c =
 pub returns-clause-some : goal.returns-clause-some
 returns-clause-some c =
     let may : MayBeLoaded c.args.self.now.tables.contents c.args.stored = c.may_note.ensures.0 c.if-not-may_note.false in
-    noted c.args.self.now.tables c.args.stored may c.in_ok-noted.noted c.in_ok-fact.fact c.note.new.self.tables c.in_ok-noted.ensures
-    c.in_ok-fact.ensures c.in_ok-note.ensures.tables
+    noted c.args.self.now.tables c.args.stored may c.in_ok-noted.noted c.in_ok-place.place c.note.new.self c.in_ok-noted.ensures
+    c.in_ok-place.ensures.tables c.records_fit.ensures.says c.in_ok-place.ensures.at

@@ -12,6 +12,7 @@ items-init c = record {
   gate = refl;
   loaded = λ past is. none_loaded c.args.payload.now c.args.self.now past is;
   unchecked = λ all. all;
+  fit = c.requires;
 }
 
 pub returns-in_default-clause-unread : goal.returns-in_default-clause-unread
@@ -35,6 +36,7 @@ items-preserved c =
       gate = c.load_item.ensures.gate ∙ c.items.invariant.gate;
       loaded = λ past is. one_loaded c.reads_in_one_way.ensures payload c.items.at end c.args.self.now now next past c.items.invariant.gate inside taken (c.items.invariant.loaded past is);
       unchecked = λ all. stays (c.items.invariant.unchecked all);
+      fit = rw c.in-Some.is at c.in_ok-end.ensures.fit;
     }
 
 pub returns-clause-unread : goal.returns-clause-unread

@@ -1,5 +1,5 @@
 use Rattle.std.proofs.Common.{◌≡◌, ◌≤◌, ◌-◌, length}
-use Rattle.odin_store.specs.Loading.{Past, IsPast, IsForSame, StaysUnchecked}
+use Rattle.odin_store.specs.Loading.{Past, HeldFit, IsPast, IsForSame, StaysUnchecked}
 use Rattle.odin_store.proofs.LoadLemmas.{ItemsLoaded}
 use Rattle.odin_store.proofs.loading.Loading.load.Given as goal
 
@@ -11,6 +11,7 @@ invariant-items l = record {
   gate : l.self.gate ≡ l.initial.self.gate;
   loaded : (past : Past) → IsPast l.initial.self past → ItemsLoaded l.payload l.at l.initial.self l.self past;
   unchecked : StaysUnchecked l.initial.self l.self;
+  fit : HeldFit l.self;
 }
 
 abbrev pub decreases-items : goal.decreases-items
