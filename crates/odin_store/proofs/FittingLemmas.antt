@@ -54,9 +54,9 @@ source_fits g n bare plain =
     let params : list_all is_param_of_class n.params ≡ true = ap (list_all is_param_of_class) plain in
     let keys : list_all has_key_of_class n.steps ≡ true = ap (list_all has_key_of_class) bare in
     sym (
-      and_true (is_name n.source && list_all is_param_of_class n.params && list_all has_key_of_class n.steps) (is_some (reached_type g n)) (typed_source g n bare)
-      ∙ and_true (is_name n.source && list_all is_param_of_class n.params) (list_all has_key_of_class n.steps) keys
-      ∙ and_true (is_name n.source) (list_all is_param_of_class n.params) params
+    and_true (is_name n.source && list_all is_param_of_class n.params && list_all has_key_of_class n.steps) (is_some (reached_type g n)) (typed_source g n bare)
+    ∙ and_true (is_name n.source && list_all is_param_of_class n.params) (list_all has_key_of_class n.steps) keys
+    ∙ and_true (is_name n.source) (list_all is_param_of_class n.params) params
     )
 
 -- ---- nodes that have records
@@ -146,9 +146,6 @@ none_held loading none this n some = absurd (true≢false (sym (subst (λ l. IsS
 -- ---- the record at a place
 
 module _ (loading : Loading) (place : ℕ) (may : MayNote place loading) where
-  pub none_there : slice_get loading.kept.records.records place ≡ None → ⊥
-  none_there none = none-some may.noted (sym none ∙ may.stands)
-
   module _ (this : loading.ground ≡ ground_is.This None) (r : NodeRecord) (at : slice_get loading.kept.records.records place ≡ Some r)
       (say : loading.kept.tables.records ≡ facts_of loading.kept.tables.contents loading.kept.records.records) where
     pub others_of : OthersFit loading.graph.now loading.kept.records.records r.node

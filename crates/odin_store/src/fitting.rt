@@ -32,13 +32,8 @@ pub(crate) fn fits_noted(
     test_noted(alloc, graph, kept, noted)
 }
 
-#[tactic(auto, using(crate::proofs::FittingLemmas::own_too, crate::proofs::FittingLemmas::typed_so, crate::proofs::FittingLemmas::says_untyped, crate::proofs::FittingLemmas::says_unvalued, crate::proofs::FittingLemmas::says_deps))]
-fn test_noted(
-    alloc: Global,
-    graph: &Graph,
-    kept: &Kept,
-    noted: &NodeRecord,
-) -> Result<bool, Memory>
+#[tactic(auto, using(crate::proofs::FittingLemmas::says_untyped, crate::proofs::FittingLemmas::says_unvalued, crate::proofs::FittingLemmas::says_deps))]
+fn test_noted(alloc: Global, graph: &Graph, kept: &Kept, noted: &NodeRecord) -> Result<bool, Memory>
     requires named { IsRecordIn (length kept.now.tables.contents) noted.now }
     requires others { OthersFit graph.now kept.now.records.records noted.now.node }
     ensures { let fact = fact_of kept.now.tables.contents noted.now in

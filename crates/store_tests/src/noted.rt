@@ -149,9 +149,15 @@ const FILES: &[(&[Record], Is)] = &[
     (&[Graph, Contents, OwnWith(31, b'h')], Is::NotOurs(2)),
     (&[Graph, Contents, Node, OwnWith(31, b'h')], Is::NotOurs(3)),
     (&[Graph, Contents, OwnWith(7, b'h')], Is::NotOurs(2)),
-    (&[Graph, Contents, OwnWith(5, b'b'), With(69, 2)], Is::NotOurs(3)),
+    (
+        &[Graph, Contents, OwnWith(5, b'b'), With(69, 2)],
+        Is::NotOurs(3),
+    ),
     // the record of another graph that was forgotten says nothing of a dep
-    (&[Other, Contents, UNFIT, Graph, OwnWith(31, b'h')], Is::NotOurs(4)),
+    (
+        &[Other, Contents, UNFIT, Graph, OwnWith(31, b'h')],
+        Is::NotOurs(4),
+    ),
     // and others have not
     (&[Other, Contents, UNFIT], Is::Store(0)),
     (&[Graph, Contents, UNFIT, Graph, Node], Is::Store(1)),
