@@ -109,11 +109,10 @@ fn settle_call<K: Known, L: Ledger>(
     steps: &mut Steps<L>,
 ) -> Result<Closing, Memory>
     requires set { IsSetting K.keeps setting.now }
-    requires fits { Fits setting.now.planned.now node.now }
+    requires fits { Fits setting.now.planned.now node.now × (node.now.steps ≢ []) }
     requires needed { IsNeeded setting.now.planned.now node.now (results_of done.now) needed.now }
     requires outside { AreOutside (world_in K.keeps setting.now) wanted.now }
     requires called { CallOf setting.now.planned.now node.now (results_of done.now) (Some call) }
-    requires stepped { node.now.steps ≢ [] }
     ensures closed { let w = world_in K.keeps setting.now in
         IfOk result (λ c. NodeIsClosed w node.now (results_of done.now) c.closed) }
     ensures took { let w = world_in K.keeps setting.now in let given = setting.now.given.now in
