@@ -343,8 +343,7 @@ impl Store {
         text: &Text,
     ) -> Result<(Bytes, Text, Prepared), Memory>
         requires { length text.now ≤ body_limit }
-        ensures named { OnOk result (IsName name.now) }
-        ensures name { IfOk result (λ made. made.0 ≡ name.now) }
+        ensures name { IfOk result (λ made. (made.0 ≡ name.now) × IsName name.now) }
         ensures text { IfOk result (λ made. made.1 ≡ text.now) }
         ensures batch { IfOk result (λ made.
             PreparesSome (PutBatch self.old name.now text.now) self.new.kept made.2) }

@@ -59,7 +59,7 @@ returns-clause-puts g c =
     let tables : c.commit.new.self.tables ≡ batch.2.next = c.commit.ensures.tables batch.2.next batch.2.commits in
     let put : c.put.new.self.texts ≡ edited =
     c.put.ensures.put ∙ ap (λ m. map.insert m c.in_ok-source.source c.in_ok-source.shared) same.sources
-    ∙ ap₂ (λ n t. map.insert store.sources.texts n t) c.in_ok-source.ensures.name c.in_ok-source.ensures.text in
+    ∙ ap₂ (λ n t. map.insert store.sources.texts n t) c.in_ok-source.ensures.name.0 c.in_ok-source.ensures.text in
     let answered : IsFalse c.has_text.result = search rules in
     let other : map.get store.sources.texts name ≢ Some text = c.has_text.ensures.no answered in
     record {
@@ -83,7 +83,7 @@ invariant_of-self-2 g c =
     let text = c.args.text.now in
     let put : c.put.new.self.texts ≡ map.insert store.sources.texts name text =
     c.put.ensures.put ∙ ap (λ m. map.insert m c.in_ok-source.source c.in_ok-source.shared) c.prepare_put.ensures.same.sources
-    ∙ ap₂ (λ n t. map.insert store.sources.texts n t) c.in_ok-source.ensures.name c.in_ok-source.ensures.text in
+    ∙ ap₂ (λ n t. map.insert store.sources.texts n t) c.in_ok-source.ensures.name.0 c.in_ok-source.ensures.text in
     let mid = c.prepare_put.new.self in
     let same = c.prepare_put.ensures.same in
     let prepared = c.in_ok-source.prepared in
@@ -92,7 +92,7 @@ invariant_of-self-2 g c =
     let holds = ready_holds (PutBatch store name text) (puts name text) store prepared.payload c.framed.result.now batch.2.next edited (put_ready name text store mid prepared same batch) c.framed.ensures c.commit.new.self.tables edited (c.commit.ensures.tables batch.2.next batch.2.commits) refl in
     let nodes = nothing_noted c.in_ok-source.prepared.notes mid.kept.records.records c.commit.new.self.records.records c.commit.ensures.records c.in_ok-source.ensures.notes in
     record {
-      are = subst AreSources (sym put) (put_stays store.sources.texts name text store.are c.in_ok-source.ensures.named c.requires.short);
+      are = subst AreSources (sym put) (put_stays store.sources.texts name text store.are c.in_ok-source.ensures.name.1 c.requires.short);
       stamped = later_stamped mid.epoch (mid.epoch + 1) _ (omega arith) (subst (AreStampedBy mid.epoch) (sym nodes) mid.stamped);
       fits = same_fit store.graph mid.graph store.kept.tables.records c.commit.new.self.tables.records same.graph (ap (λ (h : Held). h.records) holds) store.fits;
     }
