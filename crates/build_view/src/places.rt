@@ -1,5 +1,6 @@
 //! Messages by the places that they begin with.
 ghost use Rattle.std.specs.Prelude.{◌≡◌, IfOk, IfSome};
+ghost use Rattle.std.specs.List.{AllZip};
 ghost use Rattle.build_view.specs.Places as meaning;
 
 use indexmap::IndexSet;
@@ -64,7 +65,9 @@ fn page_message(alloc: Global, message: &Message) -> Result<PageMessage, Memory>
 }
 
 /// By their places; those without one come last.
-fn by_place(one: &PageMessage, other: &PageMessage) -> Ordering {
+fn by_place(one: &PageMessage, other: &PageMessage) -> Ordering
+    ensures { result ≡ meaning.page_cmp one.now other.now }
+{
     match (&one.place, &other.place) {
         (Some(place), Some(next)) => place.cmp(next),
         (Some(_), None) => Ordering::Less,
@@ -73,16 +76,31 @@ fn by_place(one: &PageMessage, other: &PageMessage) -> Ordering {
     }
 }
 
-/// The messages of a page, each once, in the order of their places. Those of one place, and those without one, stay in the order in which they come.
-pub fn page_messages(alloc: Global, messages: &[Message]) -> Result<Seq<PageMessage>, Memory> {
-    let mut found = IndexSet::new(alloc);
+/// The messages as the page has them, in the order in which they come.
+fn shown_messages(alloc: Global, messages: &[Message]) -> Result<Seq<PageMessage>, Memory>
+    ensures { IfOk result (AllZip meaning.IsPageMessage messages.now) }
+{
+    let mut all = Seq::new(alloc);
     for message in messages {
-        found.insert(page_message(alloc, message)?)?;
+        all.push(page_message(alloc, message)?)?;
     }
-    let mut ordered = Vec::new(alloc);
-    for message in found {
-        ordered.push(message).map_err(|_| Memory)?;
-    }
+    Ok(all)
+}
+
+/// Each once, where it stands first: a set, since a build may have many messages.
+fn first_messages(alloc: Global, all: Vec<PageMessage>) -> Result<Vec<PageMessage>, Memory>
+    ensures { IfOk result (λ firsts. firsts.items ≡ meaning.first_messages all.items) }
+{
+    let found: IndexSet<PageMessage> = IndexSet::from_iter(alloc, all)?;
+    Ok(Vec::from_iter(alloc, found)?)
+}
+
+/// The messages of a page, each once, in the order of their places. Those of one place, and those without one, stay in the order in which they come.
+pub fn page_messages(alloc: Global, messages: &[Message]) -> Result<Seq<PageMessage>, Memory>
+    ensures { IfOk result (meaning.ArePageMessages messages.now) }
+{
+    let all = shown_messages(alloc, messages)?;
+    let mut ordered = first_messages(alloc, all.into_vec())?;
     ordered.sort_by(by_place)?;
     Ok(Seq::from_vec(ordered))
 }
