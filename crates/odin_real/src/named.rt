@@ -72,6 +72,10 @@ fn tolerated(synced: io::Result<()>) -> io::Result<()>
     }
 }
 
+fn sync_folder<R: Files<File = File> + Alloc>(rt: &R, folder: &str) -> io::Result<()> {
+    tolerated(fs::open(rt, folder).and_then(|folder| folder.sync_all()))
+}
+
 impl<'a, R: Files<File = File> + Alloc + Drop> NamedFile<'a, R> {
     /// The file of a path. Nothing is opened yet.
     pub fn new(rt: R, path: &'a str) -> Self
@@ -148,9 +152,13 @@ impl<'a, R: Files<File = File> + Alloc + Drop> RawFile for NamedFile<'a, R> {
         self.opened()?.sync_all()
     }
 
+    // The name of what a link leads to stands in another folder. For any other file no path is made: that takes memory, and want of it would be told as a
+    // fault of the disk.
     fn sync_name(&mut self) -> io::Result<()> {
-        let path = fs::canonicalize(&self.rt, self.path)?;
-        let folder = folder_of(path.as_str());
-        tolerated(fs::open(&self.rt, folder).and_then(|folder| folder.sync_all()))
+        if fs::symlink_metadata(&self.rt, self.path)?.is_symlink() {
+            let path = fs::canonicalize(&self.rt, self.path)?;
+            return sync_folder(&self.rt, folder_of(path.as_str()));
+        }
+        sync_folder(&self.rt, folder_of(self.path))
     }
 }
