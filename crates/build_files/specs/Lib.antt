@@ -8,3 +8,4 @@ pub mod Listed
 pub mod Paths
 pub mod MessageLines
 pub mod LineLaws
+pub mod Modes

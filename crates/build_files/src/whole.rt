@@ -1,7 +1,10 @@
 //! Files that are whole or the old ones. What a file has is no clause, since the system doesn't tell it.
+ghost use Rattle.std.specs.Prelude.{◌≡◌};
+ghost use Rattle.build_files.specs.Modes as meaning;
 
 use std::fs::{Metadata, OpenFile, OpenOptions};
 use std::io::{Error, ErrorKind, Write};
+use std::os::unix::fs::OpenOptionsExt;
 use std::{fs, io};
 
 /// How many names are tried for a new file: those that killed runs left are passed over.
@@ -31,6 +34,20 @@ fn name_beside(rt: &HostRuntime, path: &str, number: u32) -> io::Result<String> 
     Ok(name)
 }
 
+/// Whether a text is a program by its first bytes: the system runs what begins so.
+fn is_program(body: &[u8]) -> bool
+    ensures { result ≡ meaning.is_program body.now }
+{
+    body.starts_with(b"\x7fELF") || body.starts_with(b"#!")
+}
+
+/// The permissions that a new file asks for, of which the umask takes some away. A program may be run as it stands.
+fn new_mode(body: &[u8]) -> u32
+    ensures { result ≡ meaning.new_mode body.now }
+{
+    if is_program(body) { 0o777 } else { 0o666 }
+}
+
 /// Writes all of a file, with the permissions of the one that it is to stand for, and syncs it.
 fn fill_file<F: Write + OpenFile>(
     file: &mut F,
@@ -47,7 +64,7 @@ fn fill_file<F: Write + OpenFile>(
 /// Writes a file that isn't there yet. Where that fails there is none.
 fn write_new(rt: &HostRuntime, path: &str, body: &[u8], old: Option<&Metadata>) -> io::Result<()> {
     let mut options = OpenOptions::new();
-    options.write(true).create_new(true);
+    options.write(true).create_new(true).mode(new_mode(body));
     let mut file = options.open(rt, path)?;
     let filled = fill_file(&mut file, body, old);
     if filled.is_err() {
@@ -86,6 +103,18 @@ fn write_beside(
     Err(Error::from(ErrorKind::AlreadyExists))
 }
 
+/// Writes to what a path leads to, as it is. Where nothing is there a new file is made.
+fn write_through(rt: &HostRuntime, path: &str, body: &[u8]) -> io::Result<()> {
+    let mut options = OpenOptions::new();
+    options
+        .write(true)
+        .create(true)
+        .truncate(true)
+        .mode(new_mode(body));
+    let mut file = options.open(rt, path)?;
+    file.write_all(body)
+}
+
 /// Replaces what a path leads to, where that is a file or nothing. A device or a pipe is written as it is.
 fn replace_file(rt: &HostRuntime, path: &str, body: &[u8]) -> io::Result<()> {
     match fs::metadata(rt, path) {
@@ -93,7 +122,7 @@ fn replace_file(rt: &HostRuntime, path: &str, body: &[u8]) -> io::Result<()> {
             if found.is_file() {
                 write_beside(rt, path, body, Some(&found))
             } else {
-                fs::write(rt, path, body)
+                write_through(rt, path, body)
             }
         }
         Err(_) => write_beside(rt, path, body, None),
@@ -108,7 +137,7 @@ fn is_link(rt: &HostRuntime, path: &str) -> bool {
 }
 
 /// Writes a file, so that at each moment all of the old one is there or all of this one. One that has these bytes is left
-/// untouched. A link stays one: what it leads to is written.
+/// untouched, and one that stands keeps its permissions; a new one that is a program may be run. A link stays one: what it leads to is written.
 pub fn write_whole(rt: &HostRuntime, path: &str, body: &[u8]) -> io::Result<()> {
     if has_bytes(rt, path, body) {
         return Ok(());
@@ -116,7 +145,7 @@ pub fn write_whole(rt: &HostRuntime, path: &str, body: &[u8]) -> io::Result<()> 
     if is_link(rt, path) {
         return match fs::canonicalize(rt, path) {
             Ok(target) => replace_file(rt, target.as_str(), body),
-            Err(_) => fs::write(rt, path, body),
+            Err(_) => write_through(rt, path, body),
         };
     }
     replace_file(rt, path, body)
