@@ -90,7 +90,8 @@ fn build_over<D: Disk, S: Spawner, O: Outputs>(
     tools: &mut S,
     outputs: &mut O,
 ) -> Result<Seq<Reply>, BuildFault>
-    requires { meaning.MayBuildOver text.now graph plan.now.jobs wanted.now.texts (S.told tools.old) }
+    requires { meaning.MayBuildOver text.now graph plan.now.jobs
+        wanted.now.texts (S.told tools.old) }
     ensures ok { IfOk result (meaning.IsBuiltOver D.told text.now graph plan.now.jobs
         wanted.now.texts (map (λ t. t.now) plan.now.targets.now)
         (meaning.scene disk.old (S.told tools.old) (O.files outputs.old))
