@@ -6,5 +6,7 @@ pub mod PageExamples
 pub mod Pages
 pub mod Places
 pub mod Progress
+pub mod ReasonExamples
+pub mod Reasons
 pub mod Runs
 pub mod Traces

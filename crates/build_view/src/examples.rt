@@ -1,5 +1,6 @@
-//! Worked examples of what a page has. Each is the contract of a function with an empty body.
+//! Worked examples of what a page has, and of which parts differ. Each is the contract of a function with an empty body.
 ghost use Rattle.build_view.specs.PageExamples.{Bars, Rows, Texts};
+ghost use Rattle.build_view.specs.ReasonExamples.{Reasons};
 
 /// Texts in their places.
 pub fn texts()
@@ -14,4 +15,9 @@ pub fn bars()
 /// Rows of the tables.
 pub fn rows()
     ensures { Rows }
+{}
+
+/// Parts that differ.
+pub fn reasons()
+    ensures { Reasons }
 {}

@@ -1,4 +1,4 @@
-//! What a person sees of a build: its tools while they run, its messages in colours, and afterwards when each tool ran, in a trace and on a page.
+//! What a person sees of a build: its tools while they run, its messages in colours, why they run, and afterwards when each tool ran, in a trace and on a page.
 #![tactic(auto)]
 
 pub mod colours;
@@ -8,6 +8,7 @@ pub mod labels;
 pub mod pages;
 pub mod places;
 pub mod progress;
+pub mod reasons;
 pub mod runs;
 pub mod traces;
 pub mod watched;
