@@ -47,7 +47,7 @@ _odin_build() {
     --trace | --page) _odin_offer "$(compgen -f -- "$word")" ;;
     *)
         case $word in
-        -*) _odin_offer "$(compgen -W '-C -j -n -q -v --quiet --verbose --color --trace --page --help --version' -- "$word")" ;;
+        -*) _odin_offer "$(compgen -W '-C -j -n -q -v --quiet --verbose --why --color --trace --page --help --version' -- "$word")" ;;
         *) _odin_offer "$(compgen -W "$(_odin_targets)" -- "$word")" ;;
         esac
         ;;

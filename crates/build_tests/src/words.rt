@@ -25,6 +25,7 @@ const ROWS: &[(&[&str], &[u8])] = &[
     (&["-qv", "--trace=t"], b"quiet, verbose, trace t, "),
     (&["--page", "p", "--trace", "t"], b"trace t, page p, "),
     (&["--verbose", "--quiet"], b"quiet, verbose, "),
+    (&["--why", "-q", "x"], b"quiet, why, target x, "),
     (&["--color", "never"], b"never, "),
     (&["--color=always"], b"always, "),
     (&["-j", "0"], NO_VALUE),
@@ -41,6 +42,8 @@ const ROWS: &[(&[&str], &[u8])] = &[
     (&["--page=a", "--page=b"], REFUSED),
     (&["-j", "1", "-j", "1"], REFUSED),
     (&["--quiet=yes"], REFUSED),
+    (&["--why=yes"], REFUSED),
+    (&["-w"], REFUSED),
     (&["--help"], REFUSED),
     (&["-V"], REFUSED),
 ];
@@ -58,6 +61,7 @@ fn put_asked(alloc: Global, asked: &Asked<'_>, out: &mut Bytes) -> Result<(), Me
         (asked.tells, b"tells, ".as_slice()),
         (view.quiet, b"quiet, "),
         (view.verbose, b"verbose, "),
+        (view.why, b"why, "),
         (view.colours == Colours::Always, b"always, "),
         (view.colours == Colours::Never, b"never, "),
     ];

@@ -14,6 +14,7 @@ mod run;
 mod screen;
 mod told;
 mod whole;
+mod why;
 mod written;
 
 use odin_real::ClosedStreams;

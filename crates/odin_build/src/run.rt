@@ -9,12 +9,14 @@ use crate::replies::{fault_of, missing_line, tell_replies, work_lines, write_tar
 use crate::screen::{Noted, Screen, has_colours, started_path};
 use crate::told::{Line, say};
 use crate::whole::{Whole, read_whole};
+use crate::why::Reasons;
 use crate::written::WrittenFiles;
 use build_files::causes::Cause;
 use build_view::watched::Watched;
 use clap::Error;
 use clap::error::ErrorKind;
 use object_values::{Bytes, FileBody, Memory, Reply, Seq};
+use odin_outside::Tree;
 use odin_real::{ChildTools, FileDisk, FolderTree, HostSystem, NamedFile};
 use odin_start::words_of;
 use project_build::{Plan, build_project, status_of};
@@ -30,7 +32,7 @@ use std::{fs, io};
 const STATE: &str = ".odin";
 
 /// The file of the sources and of the kept calls.
-const STORE: &str = ".odin/odin.store";
+pub(crate) const STORE: &str = ".odin/odin.store";
 
 /// Shows help or the version.
 fn show(rt: &HostRuntime, error: &Error) -> Result<u8, Fault> {
@@ -164,6 +166,21 @@ fn end_tools(rt: &HostRuntime, tools: Tools<'_>) -> (u64, Result<Option<Noted>, 
     (screen.started(), screen.into_noted())
 }
 
+/// What is told while tools run. The earlier calls are read before the build opens the store, since one has it at a time.
+fn screen_of<'a, T: Tree>(
+    rt: &'a HostRuntime,
+    graph: &[u8],
+    tree: &mut T,
+    telling: &Telling<'_>,
+) -> Screen<'a> {
+    let reasons = if telling.view.why {
+        Some(Reasons::read(rt, graph, tree))
+    } else {
+        None
+    };
+    Screen::new(rt, telling.view.quiet, telling.wanted.notes(), reasons)
+}
+
 /// Tells of what was built, and gives the status.
 fn tell_built(
     rt: &HostRuntime,
@@ -173,31 +190,43 @@ fn tell_built(
     telling: &Telling<'_>,
     tools: u64,
 ) -> Result<u8, Fault> {
+    let status = status_of(replies);
+    // What is refused may need tools that can't be told, or one that didn't start.
+    if telling.view.why && tools == 0 && status < 2 {
+        say(rt, b"odin-build: nothing to run\n");
+    }
     let coloured = has_colours(rt, telling.view.colours);
     tell_replies(rt, project, targets, replies, coloured)?;
     if telling.view.verbose {
         tell_work(rt, tools)?;
     }
-    Ok(status_of(replies))
+    Ok(status)
+}
+
+/// What came of a build: the replies, or why there are none; how many tools were started, and what was noted of them.
+#[derive(Drop)]
+struct Outcome {
+    built: Result<Seq<Reply>, Fault>,
+    started: u64,
+    noted: Result<Option<Noted>, Fault>,
 }
 
 /// Builds targets over the files of the project's folder, its store and child programs. Those that a fault left running are waited for, so that none writes
 /// after the program.
-fn build(
+fn build_targets(
     rt: &HostRuntime,
     project: &Project,
     made: Seq<FileBody>,
     found: &[Bytes],
     plan: &Plan<'_>,
     telling: &Telling<'_>,
-) -> Result<u8, Fault>
+) -> Outcome
     requires { IsLimit plan.now.jobs }
 {
-    make_state(rt)?;
     let alloc = rt.alloc();
     let mut tree = MadeTree::new(made, FolderTree::new(rt));
+    let screen = screen_of(rt, plan.graph, &mut tree, telling);
     let mut disk = FileDisk::open(NamedFile::new(rt, STORE));
-    let screen = Screen::new(rt, telling.view.quiet, telling.wanted.notes());
     let tools = ChildTools::new(alloc, HostSystem::new(rt), rt.stderr());
     let mut watched = Watched::new(tools, screen);
     let mut outputs = WrittenFiles::new(rt);
@@ -221,6 +250,30 @@ fn build(
             outputs.into_cause(),
         )),
     };
+    Outcome {
+        built,
+        started,
+        noted,
+    }
+}
+
+/// Builds targets, tells of them, and gives the status.
+fn build(
+    rt: &HostRuntime,
+    project: &Project,
+    made: Seq<FileBody>,
+    found: &[Bytes],
+    plan: &Plan<'_>,
+    telling: &Telling<'_>,
+) -> Result<u8, Fault>
+    requires { IsLimit plan.now.jobs }
+{
+    make_state(rt)?;
+    let Outcome {
+        built,
+        started,
+        noted,
+    } = build_targets(rt, project, made, found, plan, telling);
     let ended = Ended {
         project,
         targets: plan.targets,

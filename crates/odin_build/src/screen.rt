@@ -1,5 +1,7 @@
 // What a person sees while tools run, and what is noted of their runs.
 use crate::faults::Fault;
+use crate::told::say;
+use crate::why::Reasons;
 use build_files::causes::Cause;
 use build_view::labels::label_of;
 use build_view::progress::{CLEARED, progress_line};
@@ -78,7 +80,7 @@ pub(crate) struct Noted {
     pub(crate) took: u64,
 }
 
-/// Tells on a terminal how far the build is, and notes when each tool runs.
+/// Tells on a terminal how far the build is, tells why each tool is run where that is asked for, and notes when each tool runs.
 #[derive(Drop)]
 pub(crate) struct Screen<'a> {
     rt: &'a HostRuntime,
@@ -86,13 +88,19 @@ pub(crate) struct Screen<'a> {
     started: u64,
     ended: u64,
     label: Bytes,
+    reasons: Option<Reasons>,
     recording: Option<Recording>,
     /// Why nothing is noted though it is wanted. A tool isn't held up by that: it is told once the build has ended.
     lost: Option<Fault>,
 }
 
 impl<'a> Screen<'a> {
-    pub(crate) fn new(rt: &'a HostRuntime, quiet: bool, notes: bool) -> Self {
+    pub(crate) fn new(
+        rt: &'a HostRuntime,
+        quiet: bool,
+        notes: bool,
+        reasons: Option<Reasons>,
+    ) -> Self {
         let (recording, lost) = match (notes, Instant::now(rt)) {
             (false, _) => (None, None),
             (true, Ok(start)) => {
@@ -110,6 +118,7 @@ impl<'a> Screen<'a> {
             started: 0,
             ended: 0,
             label: Bytes::new(rt.alloc()),
+            reasons,
             recording,
             lost,
         }
@@ -134,6 +143,17 @@ impl<'a> Screen<'a> {
     pub(crate) fn clear(&self) {
         if self.shows && self.started > 0 {
             let _ = self.rt.stderr().write_all(CLEARED);
+        }
+    }
+
+    /// Tells why a tool is run, where that is asked for. Want of memory for it is no fault of the build.
+    fn tell_reason(&self, alloc: Global, job: &Job) {
+        let Some(reasons) = &self.reasons else {
+            return;
+        };
+        if let Ok(line) = reasons.line(alloc, &self.label, job) {
+            self.clear();
+            say(self.rt, line.as_slice());
         }
     }
 
@@ -183,10 +203,15 @@ impl<'a> Screen<'a> {
 impl Watch for Screen<'_> {
     fn began(&mut self, alloc: Global, slot: u32, job: &Job) {
         self.started = self.started.saturating_add(1);
-        if let Ok(label) = label_of(alloc, job) {
+        let label = label_of(alloc, job);
+        let has_label = label.is_ok();
+        if let Ok(label) = label {
             self.label = label;
         }
         self.note(alloc, slot, true);
+        if has_label {
+            self.tell_reason(alloc, job);
+        }
         self.show(alloc);
     }
 

@@ -1,5 +1,5 @@
--- The command by which the words are read: the options `-C`, `-j`, `--color`, `--trace` and `--page` with one value each, the flags `-n`, `-q` and `-v`,
--- and the targets; or help, or the version.
+-- The command by which the words are read: the options `-C`, `-j`, `--color`, `--trace` and `--page` with one value each, the flags `-n`, `-q`, `-v` and
+-- `--why`, and the targets; or help, or the version.
 use Rattle.std.specs.Prelude.{◌≡◌, ◌↔◌, ◌≤◌, ◌⊎◌, ℕ, IsTrue, Bool, List, [], Option, Some, None, true, codes, decimal, unwrap_or}
 use Rattle.clap.specs.Lexer.{usize_max}
 use Rattle.clap.specs.Words.{App, Row, Rule, all_of, fault_of, first_of, matches_of, new_app, new_rule, with_rule}
@@ -14,6 +14,10 @@ option_rule id short = record (new_rule id) { short = Some short; action = Some 
 -- a flag of one letter and of the word that it is known by
 abbrev pub flag_rule : List ℕ → ℕ → Rule
 flag_rule id short = record (new_rule id) { short = Some short; long = Some id; action = Some SetTrue }
+
+-- a flag of the word that it is known by, and of no letter
+abbrev pub long_flag_rule : List ℕ → Rule
+long_flag_rule id = record (new_rule id) { long = Some id; action = Some SetTrue }
 
 -- an option of a word with one value
 abbrev pub long_rule : List ℕ → Rule
@@ -44,11 +48,13 @@ bare_build =
 abbrev pub working : App
 working = with_rule (with_rule (with_rule bare_build folder) jobs) tells
 
--- `-q`, `-v`, `--color`, `--trace` and `--page`
+-- `-q`, `-v` and `--why`
+abbrev pub telling : App
+telling = with_rule (with_rule (with_rule working (flag_rule (codes "quiet") 113)) (flag_rule (codes "verbose") 118)) (long_flag_rule (codes "why"))
+
+-- and `--color`, `--trace` and `--page`
 abbrev pub seeing : App
-seeing =
-    with_rule (with_rule (with_rule (with_rule (with_rule working (flag_rule (codes "quiet") 113)) (flag_rule (codes "verbose") 118))
-    (long_rule (codes "color"))) (long_rule (codes "trace"))) (long_rule (codes "page"))
+seeing = with_rule (with_rule (with_rule telling (long_rule (codes "color"))) (long_rule (codes "trace"))) (long_rule (codes "page"))
 
 abbrev pub command : App
 command = with_rule seeing targets
@@ -99,9 +105,10 @@ abbrev pub IsNoColours : Option (List ℕ) → Type 0
 IsNoColours value = (colours : Colours) → ¬ IsColours value colours
 
 -- The values of the words are these.
-pub record RowsAskToSee (rows : List Row) (quiet verbose : Bool) (colours : Colours) (trace page : Option (List ℕ)) : Type 0 where
+pub record RowsAskToSee (rows : List Row) (quiet verbose why : Bool) (colours : Colours) (trace page : Option (List ℕ)) : Type 0 where
   pub quiet_is : IsTrue quiet ↔ (first_of (codes "quiet") rows ≡ Some (codes "true"))
   pub verbose_is : IsTrue verbose ↔ (first_of (codes "verbose") rows ≡ Some (codes "true"))
+  pub why_is : IsTrue why ↔ (first_of (codes "why") rows ≡ Some (codes "true"))
   pub colours_are : IsColours (first_of (codes "color") rows) colours
   pub trace_is : first_of (codes "trace") rows ≡ trace
   pub page_is : first_of (codes "page") rows ≡ page

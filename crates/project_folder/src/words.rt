@@ -2,7 +2,7 @@
 ghost use Rattle.std.specs.Prelude.{◌≡◌, ◌↔◌, IsTrue, false, Some, codes, [], IfOk, IfSome, IfNone, map, string_bytes, unwrap_or};
 ghost use Rattle.std.specs.Option.{option_copied};
 ghost use Rattle.clap.specs.Words.{FailsBy, all_of, app_of, fault_of, first_of, found_of, matches_of, rows_of, rule_of};
-ghost use Rattle.project_folder.specs.Command.{command, flag_rule, long_rule, option_rule, tells, targets, working, AsksToBuild, AsksForNone, IsCount, IsNoCount, IsColours, IsNoColours, RowsAskToSee};
+ghost use Rattle.project_folder.specs.Command.{command, flag_rule, long_flag_rule, long_rule, option_rule, tells, targets, working, AsksToBuild, AsksForNone, IsCount, IsNoCount, IsColours, IsNoColours, RowsAskToSee};
 
 use clap::{Arg, ArgAction, ArgMatches, Command, Error};
 use odin_bytes::read_number;
@@ -13,7 +13,7 @@ const MOST_JOBS: u64 = 64;
 
 /// The words of the program, as they are shown.
 pub const USAGE: &str =
-    "odin-build [-C DIR] [-j N] [-n] [-q] [-v] [--color WHEN] [--trace FILE] [--page FILE] [TARGET]..";
+    "odin-build [-C DIR] [-j N] [-n] [-q] [-v] [--why] [--color WHEN] [--trace FILE] [--page FILE] [TARGET]..";
 
 /// When messages have colours.
 #[derive(Clone, Copy, PartialEq, Eq)]
@@ -24,11 +24,13 @@ pub enum Colours {
     Never,
 }
 
-/// What is told beside messages: no progress, also the size of the store; when messages have colours; and the files of the trace and of the page.
+/// What is told beside messages: no progress, also the size of the store, also why each tool is run; when messages have colours; and the files of the trace
+/// and of the page.
 #[derive(Clone, Copy)]
 pub struct View<'a> {
     pub quiet: bool,
     pub verbose: bool,
+    pub why: bool,
     pub colours: Colours,
     pub trace: Option<&'a str>,
     pub page: Option<&'a str>,
@@ -74,6 +76,17 @@ fn flag<'a>(alloc: Global, id: &'a str, short: char, help: &'a str) -> Arg<'a>
 {
     Arg::new(alloc, id)
         .short(short)
+        .long(id)
+        .help(help)
+        .action(ArgAction::SetTrue)
+}
+
+/// A flag of the word that it is known by, and of no letter.
+fn long_flag<'a>(alloc: Global, id: &'a str, help: &'a str) -> Arg<'a>
+    ensures rule { rule_of result ≡ long_flag_rule id.entry.now }
+    ensures local { result.global ≡ false }
+{
+    Arg::new(alloc, id)
         .long(id)
         .help(help)
         .action(ArgAction::SetTrue)
@@ -134,6 +147,7 @@ fn matches<'a>(alloc: Global, words: &'a [String]) -> Result<ArgMatches<'a>, Err
 {
     let quiet = flag(alloc, "quiet", 'q', "tell no progress");
     let verbose = flag(alloc, "verbose", 'v', "also tell the size of the store");
+    let why = long_flag(alloc, "why", "also tell why each tool is run");
     let colours = long_option(alloc, "color", "colours: auto, always or never");
     let trace = long_option(
         alloc,
@@ -148,6 +162,7 @@ fn matches<'a>(alloc: Global, words: &'a [String]) -> Result<ArgMatches<'a>, Err
     let command = bare_command(alloc)?
         .arg(quiet)?
         .arg(verbose)?
+        .arg(why)?
         .arg(colours)?
         .arg(trace)?
         .arg(page)?
@@ -206,7 +221,8 @@ fn colours_by(value: Option<&str>) -> Option<Colours>
 /// What is told beside messages. `None` is said where the value of `--color` is none.
 fn view_of<'a>(found: &ArgMatches<'a>) -> Option<View<'a>>
     ensures some { IfSome result (λ view. RowsAskToSee (rows_of (found_of found.now)) view.quiet
-        view.verbose view.colours (option_copied view.trace) (option_copied view.page)) }
+        view.verbose view.why view.colours
+        (option_copied view.trace) (option_copied view.page)) }
     ensures none { IfNone result
         (IsNoColours (first_of (codes "color") (rows_of (found_of found.now)))) }
 {
@@ -214,6 +230,7 @@ fn view_of<'a>(found: &ArgMatches<'a>) -> Option<View<'a>>
     Some(View {
         quiet: has_flag(found, "quiet"),
         verbose: has_flag(found, "verbose"),
+        why: has_flag(found, "why"),
         colours,
         trace: value_of(found, "trace"),
         page: value_of(found, "page"),
@@ -240,7 +257,7 @@ pub fn read_words<'a>(alloc: Global, words: &'a [String]) -> Result<Option<Asked
         asked.tells (map (λ word. word.now) asked.targets.items))) }
     ensures view { IfOk result (λ found. IfSome found (λ asked.
         RowsAskToSee (matches_of command (map string_bytes words.entry.now)) asked.view.quiet
-        asked.view.verbose asked.view.colours (option_copied asked.view.trace)
+        asked.view.verbose asked.view.why asked.view.colours (option_copied asked.view.trace)
         (option_copied asked.view.page))) }
     ensures none { IfOk result (λ found. IfNone found
         (AsksForNone (map string_bytes words.entry.now))) }
