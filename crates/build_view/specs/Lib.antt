@@ -1,7 +1,9 @@
+pub mod Boxes
 pub mod Colours
 pub mod Escaped
 pub mod EscapedLaws
 pub mod Labels
+pub mod Levels
 pub mod PageExamples
 pub mod Pages
 pub mod Places

@@ -1,12 +1,14 @@
 -- The page of a build: fixed markup, texts that are escaped, and numbers.
 use Rattle.std.specs.Prelude.{ℕ, ◌+◌, ◌-◌, ◌*◌, ◌/◌, ◌==◌, max, List, [], ◌∷◌, ◌++◌, fold, flat_map, Option, Some, None, codes, decimal, if◌then◌else◌}
 use Rattle.object_values.specs.declared.messages.Status.{Status}
-use Rattle.object_values.specs.declared.messages.Status.TheVariants.{Ok, Warning, Error, Abort}
+use Rattle.build_view.specs.Boxes.{drawing_of}
 use Rattle.build_view.specs.Escaped.{words}
+use Rattle.build_view.specs.Levels.{level_word}
 use Rattle.build_view.specs.declared.places.Place.{Place}
 use Rattle.build_view.specs.declared.places.PageMessage.{PageMessage}
 use Rattle.build_view.specs.declared.runs.Run.{Run}
 use Rattle.build_view.specs.declared.pages.PageTarget.{PageTarget}
+use Rattle.build_view.specs.declared.pages.MessageRow.{MessageRow}
 use Rattle.build_view.specs.declared.pages.Page.{Page}
 
 -- ---- tables
@@ -17,12 +19,6 @@ cell markup = codes "<td>" ++ markup ++ codes "</td>"
 -- a level, which has its colour by its class
 abbrev pub level_cell : List ℕ → List ℕ
 level_cell level = codes "<td class=\"" ++ level ++ codes "\">" ++ level ++ codes "</td>"
-
-abbrev pub level_word : Status → List ℕ
-level_word Ok = codes "ok"
-level_word Warning = codes "warning"
-level_word Error = codes "error"
-level_word Abort = codes "abort"
 
 -- a target that has no object, since a fault ended the build
 abbrev pub status_words : Option Status → List ℕ
@@ -40,10 +36,15 @@ abbrev pub place_words : Option Place → List ℕ
 place_words None = []
 place_words (Some p) = words p.path ++ codes ":" ++ decimal p.line ++ codes ":" ++ decimal p.column
 
-unfoldable pub message_row : PageMessage → List ℕ
-message_row m =
-    codes "<tr>" ++ level_cell (level_word m.level) ++ cell (place_words m.place) ++ cell (words m.text)
-    ++ codes "</tr>\n"
+unfoldable pub message_cells : PageMessage → List ℕ
+message_cells m = level_cell (level_word m.level) ++ cell (place_words m.place) ++ cell (words m.text)
+
+-- a line of a file
+abbrev pub line_cell : List ℕ → List ℕ
+line_cell line = codes "<td><code>" ++ words line ++ codes "</code></td>"
+
+unfoldable pub message_row : MessageRow → List ℕ
+message_row r = codes "<tr>" ++ message_cells r.message ++ line_cell r.line ++ codes "</tr>\n"
 
 -- ---- the timeline, which is 1,000 wide
 
@@ -85,8 +86,10 @@ timeline took runs =
 abbrev pub style : List ℕ
 style =
     codes "<style>\nbody { font: 14px sans-serif; margin: 2em }\ntd, th { padding: 0 1em 0 0; text-align: left }\n"
-    ++ codes "svg text { font: 10px sans-serif }\nrect { fill: #9cf; stroke: #369 }\n"
-    ++ codes ".error, .abort { color: #b00 }\n.warning { color: #860 }\n</style>\n"
+    ++ codes "svg text { font: 10px sans-serif }\nrect { fill: #9cf; stroke: #369 }\nline { stroke: #999 }\n"
+    ++ codes ".error, .abort { color: #b00 }\n.warning { color: #860 }\n"
+    ++ codes ".source rect { fill: #eee }\n.warning rect { fill: #fd8 }\n.error rect, .abort rect { fill: #f99 }\n"
+    ++ codes "g:target rect { fill: #fe6; stroke-width: 3 }\n</style>\n"
 
 unfoldable pub front : List ℕ
 front =
@@ -102,12 +105,12 @@ target_table targets =
     codes "<h2>Targets</h2>\n<table>\n<tr><th>target</th><th>status</th><th>file</th><th>messages</th></tr>\n"
     ++ flat_map target_row targets ++ codes "</table>\n"
 
-unfoldable pub message_table : List PageMessage → List ℕ
-message_table messages =
-    codes "<h2>Messages</h2>\n<table>\n<tr><th>level</th><th>place</th><th>text</th></tr>\n"
-    ++ flat_map message_row messages ++ codes "</table>\n"
+unfoldable pub message_table : List MessageRow → List ℕ
+message_table rows =
+    codes "<h2>Messages</h2>\n<table>\n<tr><th>level</th><th>place</th><th>text</th><th>line</th></tr>\n"
+    ++ flat_map message_row rows ++ codes "</table>\n"
 
 abbrev pub page_of : Page → List ℕ
 page_of p =
-    front ++ summary p.started p.took ++ target_table p.targets ++ codes "<h2>Tools</h2>\n" ++ timeline p.took p.runs
+    front ++ summary p.started p.took ++ target_table p.targets ++ drawing_of p.objects ++ codes "<h2>Tools</h2>\n" ++ timeline p.took p.runs
     ++ message_table p.messages ++ codes "</body>\n</html>\n"

@@ -1,5 +1,5 @@
 //! Worked examples of what a page has, and of which parts differ. Each is the contract of a function with an empty body.
-ghost use Rattle.build_view.specs.PageExamples.{Bars, Rows, Texts};
+ghost use Rattle.build_view.specs.PageExamples.{Bars, Boxes, Rows, Texts};
 ghost use Rattle.build_view.specs.ReasonExamples.{Reasons};
 
 /// Texts in their places.
@@ -15,6 +15,11 @@ pub fn bars()
 /// Rows of the tables.
 pub fn rows()
     ensures { Rows }
+{}
+
+/// Objects.
+pub fn boxes()
+    ensures { Boxes }
 {}
 
 /// Parts that differ.

@@ -3,7 +3,9 @@ ghost use Rattle.std.specs.Prelude.{◌≡◌, ◌++◌, ◌<◌, ◌^◌, decim
 ghost use Rattle.build_view.specs.Escaped.{words};
 ghost use Rattle.build_view.specs.Pages as meaning;
 
+use crate::boxes::{Drawing, write_drawing};
 use crate::escaped::write_words;
+use crate::levels::level_word;
 use crate::places::{PageMessage, Place};
 use crate::runs::Run;
 use object_values::{Bytes, Memory, Seq, Status};
@@ -19,20 +21,30 @@ pub struct PageTarget {
     pub messages: u64,
 }
 
-/// What a page shows of a build: its targets, the runs of its tools, its messages, how many tools were started, and how many microseconds it took.
+/// A message with the line of the file that it begins with, and no text where that isn't known.
+#[derive(Drop)]
+pub struct MessageRow {
+    pub message: PageMessage,
+    pub line: Bytes,
+}
+
+/// What a page shows of a build: its targets, its objects, the runs of its tools, its messages, how many tools were started, and how many microseconds it took.
 #[derive(Drop)]
 pub struct Page {
     pub targets: Seq<PageTarget>,
+    pub objects: Drawing,
     pub runs: Seq<Run>,
-    pub messages: Seq<PageMessage>,
+    pub messages: Seq<MessageRow>,
     pub started: u64,
     pub took: u64,
 }
 
 const STYLE: &[u8] = b"<style>\nbody { font: 14px sans-serif; margin: 2em }\n\
 td, th { padding: 0 1em 0 0; text-align: left }\n\
-svg text { font: 10px sans-serif }\nrect { fill: #9cf; stroke: #369 }\n\
-.error, .abort { color: #b00 }\n.warning { color: #860 }\n</style>\n";
+svg text { font: 10px sans-serif }\nrect { fill: #9cf; stroke: #369 }\nline { stroke: #999 }\n\
+.error, .abort { color: #b00 }\n.warning { color: #860 }\n\
+.source rect { fill: #eee }\n.warning rect { fill: #fd8 }\n.error rect, .abort rect { fill: #f99 }\n\
+g:target rect { fill: #fe6; stroke-width: 3 }\n</style>\n";
 
 const HEAD: &[u8] = b"<!DOCTYPE html>\n<html lang=\"en\">\n<head>\n\
 <meta charset=\"utf-8\">\n<title>odin-build</title>\n";
@@ -41,7 +53,7 @@ const TARGETS: &[u8] = b"<h2>Targets</h2>\n<table>\n\
 <tr><th>target</th><th>status</th><th>file</th><th>messages</th></tr>\n";
 
 const MESSAGES: &[u8] = b"<h2>Messages</h2>\n<table>\n\
-<tr><th>level</th><th>place</th><th>text</th></tr>\n";
+<tr><th>level</th><th>place</th><th>text</th><th>line</th></tr>\n";
 
 // ---- tables
 
@@ -72,17 +84,6 @@ fn write_level(level: &[u8], out: &mut Bytes) -> Result<(), Memory>
     out.extend_from_slice(b"\">")?;
     out.extend_from_slice(level)?;
     out.extend_from_slice(b"</td>")
-}
-
-fn level_word(level: Status) -> &'static [u8]
-    ensures { result.now ≡ meaning.level_word level }
-{
-    match level {
-        Status::Ok => b"ok",
-        Status::Warning => b"warning",
-        Status::Error => b"error",
-        Status::Abort => b"abort",
-    }
 }
 
 /// The word of a target's status.
@@ -129,13 +130,30 @@ fn write_place_cell(alloc: Global, place: &Option<Place>, out: &mut Bytes) -> Re
     out.extend_from_slice(b"</td>")
 }
 
-fn write_message(alloc: Global, message: &PageMessage, out: &mut Bytes) -> Result<(), Memory>
-    ensures { OnOk result (out.new ≡ out.old ++ meaning.message_row message.now) }
+/// Adds a cell of a table with a line of a file.
+fn write_line(alloc: Global, line: &[u8], out: &mut Bytes) -> Result<(), Memory>
+    ensures { OnOk result (out.new ≡ out.old ++ meaning.line_cell line.now) }
 {
-    out.extend_from_slice(b"<tr>")?;
+    out.extend_from_slice(b"<td><code>")?;
+    write_words(alloc, line, out)?;
+    out.extend_from_slice(b"</code></td>")
+}
+
+/// Adds the cells of a message.
+fn write_message(alloc: Global, message: &PageMessage, out: &mut Bytes) -> Result<(), Memory>
+    ensures { OnOk result (out.new ≡ out.old ++ meaning.message_cells message.now) }
+{
     write_level(level_word(message.level), out)?;
     write_place_cell(alloc, &message.place, out)?;
-    write_cell(alloc, message.text.as_slice(), out)?;
+    write_cell(alloc, message.text.as_slice(), out)
+}
+
+fn write_row(alloc: Global, row: &MessageRow, out: &mut Bytes) -> Result<(), Memory>
+    ensures { OnOk result (out.new ≡ out.old ++ meaning.message_row row.now) }
+{
+    out.extend_from_slice(b"<tr>")?;
+    write_message(alloc, &row.message, out)?;
+    write_line(alloc, row.line.as_slice(), out)?;
     out.extend_from_slice(b"</tr>\n")
 }
 
@@ -258,24 +276,20 @@ fn write_target_table(alloc: Global, targets: &[PageTarget], out: &mut Bytes) ->
     out.extend_from_slice(b"</table>\n")
 }
 
-fn write_messages(alloc: Global, messages: &[PageMessage], out: &mut Bytes) -> Result<(), Memory>
-    ensures { OnOk result (out.new ≡ out.old ++ flat_map meaning.message_row messages.now) }
+fn write_rows(alloc: Global, rows: &[MessageRow], out: &mut Bytes) -> Result<(), Memory>
+    ensures { OnOk result (out.new ≡ out.old ++ flat_map meaning.message_row rows.now) }
 {
-    for message in messages {
-        write_message(alloc, message, out)?;
+    for row in rows {
+        write_row(alloc, row, out)?;
     }
     Ok(())
 }
 
-fn write_message_table(
-    alloc: Global,
-    messages: &[PageMessage],
-    out: &mut Bytes,
-) -> Result<(), Memory>
-    ensures { OnOk result (out.new ≡ out.old ++ meaning.message_table messages.now) }
+fn write_message_table(alloc: Global, rows: &[MessageRow], out: &mut Bytes) -> Result<(), Memory>
+    ensures { OnOk result (out.new ≡ out.old ++ meaning.message_table rows.now) }
 {
     out.extend_from_slice(MESSAGES)?;
-    write_messages(alloc, messages, out)?;
+    write_rows(alloc, rows, out)?;
     out.extend_from_slice(b"</table>\n")
 }
 
@@ -287,6 +301,7 @@ pub fn page_of(alloc: Global, page: &Page) -> Result<Bytes, Memory>
     write_front(&mut text)?;
     write_summary(page.started, page.took, &mut text)?;
     write_target_table(alloc, page.targets.as_slice(), &mut text)?;
+    write_drawing(alloc, &page.objects, &mut text)?;
     text.extend_from_slice(b"<h2>Tools</h2>\n")?;
     write_timeline(alloc, page.took, page.runs.as_slice(), &mut text)?;
     write_message_table(alloc, page.messages.as_slice(), &mut text)?;

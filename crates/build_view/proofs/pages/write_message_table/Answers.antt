@@ -7,5 +7,5 @@ unfolding message_table
 returns c =
     on_ok c.extend_from_slice-2.result (λ last.
     then c.args.out.now _ _ (then c.args.out.now _ _ c.in_ok-extend_from_slice.ensures.ok
-    c.in_ok-write_messages.ensures)
+    c.in_ok-write_rows.ensures)
     last) c.extend_from_slice-2.ensures.ok

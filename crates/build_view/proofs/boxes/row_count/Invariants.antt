@@ -1,0 +1,6 @@
+use Rattle.std.proofs.Common.{◌≡◌, ◌<◌, ◌^◌, take}
+use Rattle.build_view.specs.Boxes.{row_count}
+use Rattle.build_view.proofs.boxes.row_count.Given as goal
+
+abbrev pub invariant-loop-object : goal.invariant-loop-object
+invariant-loop-object l = (l.count ≡ row_count (take l.object-index l.boxes)) × (l.count < 2 ^ 33)
