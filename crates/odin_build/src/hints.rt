@@ -58,7 +58,7 @@ pub(crate) enum Named {
 }
 
 /// The name that a declaration gives to a type or to a parameter.
-fn name_in(decl: &Decl, named: Named) -> Option<&[u8]> {
+pub(crate) fn name_in(decl: &Decl, named: Named) -> Option<&[u8]> {
     match decl {
         Decl::ObjectType(of) if named == Named::Type => Some(of.name.as_slice()),
         Decl::Param(name) if named == Named::Param => Some(name.as_slice()),

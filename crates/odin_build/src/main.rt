@@ -1,6 +1,7 @@
 //! Builds the targets of a project from exactly the files that its `odin.toml` lists.
 #![tactic(auto)]
 
+mod drawn;
 mod faults;
 mod found;
 mod hints;
@@ -8,6 +9,7 @@ mod identity;
 mod kits;
 mod made;
 mod noted;
+mod quoted;
 mod reading;
 mod replies;
 mod run;

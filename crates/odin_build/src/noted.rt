@@ -1,12 +1,16 @@
 // What was noted of a build, as the files that were asked for.
+use crate::drawn::{drawing_of, empty_drawing};
 use crate::faults::Fault;
+use crate::quoted::quoted_rows;
 use crate::replies::refusal_line;
 use crate::screen::{Noted, output_fault};
 use build_files::whole::write_whole;
+use build_view::boxes::Drawing;
 use build_view::pages::{Page, PageTarget, page_of};
 use build_view::places::page_messages;
 use build_view::traces::trace_text;
 use object_values::{Bytes, Copied, Memory, Message, Reply, Seq, Status, Text};
+use odin_engine::Engine;
 use project_file::project::{Project, Target};
 use std::alloc::Global;
 use std::io::ErrorKind;
@@ -25,12 +29,13 @@ impl Wanted {
     }
 }
 
-/// A build that has ended: its targets with their replies or a fault, and how many tools were started.
+/// A build that has ended: its targets with their replies or a fault, its store where that is to be shown and can be opened, and how many tools were started.
 #[derive(Clone, Copy)]
 pub(crate) struct Ended<'a> {
     pub(crate) project: &'a Project,
     pub(crate) targets: &'a [&'a Target],
     pub(crate) built: &'a Result<Seq<Reply>, Fault>,
+    pub(crate) kept: Option<&'a Engine>,
     pub(crate) started: u64,
 }
 
@@ -128,6 +133,14 @@ fn messages_of(rt: &HostRuntime, ended: &Ended<'_>) -> Result<Seq<Message>, Memo
     Ok(found)
 }
 
+/// The objects of the build.
+fn objects_of(alloc: Global, ended: &Ended<'_>) -> Result<Drawing, Memory> {
+    match ended.kept {
+        Some(engine) => drawing_of(alloc, engine, ended.targets),
+        None => Ok(empty_drawing(alloc)),
+    }
+}
+
 fn page_text(rt: &HostRuntime, noted: Noted, ended: &Ended<'_>) -> Result<Bytes, Memory> {
     let alloc = rt.alloc();
     let replies: &[Reply] = match ended.built {
@@ -137,8 +150,9 @@ fn page_text(rt: &HostRuntime, noted: Noted, ended: &Ended<'_>) -> Result<Bytes,
     let messages = messages_of(rt, ended)?;
     let page = Page {
         targets: target_rows(alloc, ended.targets, replies)?,
+        objects: objects_of(alloc, ended)?,
         runs: noted.runs,
-        messages: page_messages(alloc, messages.as_slice())?,
+        messages: quoted_rows(rt, page_messages(alloc, messages.as_slice())?)?,
         started: ended.started,
         took: noted.took,
     };
