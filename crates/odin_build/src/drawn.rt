@@ -125,16 +125,13 @@ fn type_name<'a>(graph: &'a Graph, node: &Node) -> &'a [u8] {
 }
 
 /// The next place in the column of a type.
-fn spot_in(
-    alloc: Global,
-    name: &[u8],
-    columns: &mut IndexMap<Bytes, u32>,
-) -> Result<Spot, Memory> {
-    let (column, row) = match columns.get_full(name) {
+fn spot_in(alloc: Global, name: &[u8], columns: &mut IndexMap<Bytes, u32>) -> Result<Spot, Memory> {
+    let name = Bytes::from_slice(alloc, name)?;
+    let (column, row) = match columns.get_full(&name) {
         Some((place, _, rows)) => (place, *rows),
         None => (columns.len(), 0),
     };
-    columns.insert(Bytes::from_slice(alloc, name)?, row.saturating_add(1))?;
+    columns.insert(name, row.saturating_add(1))?;
     let column = column.min(MOST) as u32;
     Ok(Spot { column, row })
 }
@@ -192,6 +189,7 @@ fn add_box(
     let used = used_boxes(alloc, deps_of(engine, node), made, drawing.boxes.as_slice())?;
     let uses = all_uses(alloc, used.as_slice())?;
     add_edges(used.as_slice(), spot, &mut drawing.edges)?;
+    drop(used);
     let status = match engine.store().kept().get(node) {
         Some(record) => Some(record.own_status),
         None => None,

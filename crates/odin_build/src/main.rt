@@ -6,6 +6,7 @@ mod faults;
 mod found;
 mod hints;
 mod identity;
+mod kept;
 mod kits;
 mod made;
 mod noted;

@@ -3,6 +3,7 @@ ghost use Rattle.odin_engine.specs.Engaged.{IsLimit};
 
 use crate::faults::{Fault, MEMORY};
 use crate::found::input_fault;
+use crate::kept::{STORE, open_store};
 use crate::noted::{Ended, Wanted, write_noted};
 use crate::reading::{enter_project, refused};
 use crate::replies::{fault_of, missing_line, tell_replies, work_lines, write_target};
@@ -16,6 +17,7 @@ use build_view::watched::Watched;
 use clap::Error;
 use clap::error::ErrorKind;
 use object_values::{Bytes, FileBody, Memory, Reply, Seq};
+use odin_engine::Engine;
 use odin_outside::Tree;
 use odin_real::{ChildTools, FileDisk, FolderTree, HostSystem, NamedFile};
 use odin_start::words_of;
@@ -30,9 +32,6 @@ use std::{fs, io};
 
 /// The folder in which a build keeps what it knows.
 const STATE: &str = ".odin";
-
-/// The file of the sources and of the kept calls.
-pub(crate) const STORE: &str = ".odin/odin.store";
 
 /// Shows help or the version.
 fn show(rt: &HostRuntime, error: &Error) -> Result<u8, Fault> {
@@ -203,10 +202,24 @@ fn tell_built(
     Ok(status)
 }
 
-/// What came of a build: the replies, or why there are none; how many tools were started, and what was noted of them.
+/// The store of a build that has ended, where a page is to show it.
+fn store_to_show<T: Tree>(
+    rt: &HostRuntime,
+    graph: &[u8],
+    tree: &mut T,
+    telling: &Telling<'_>,
+) -> Option<Engine> {
+    if telling.wanted.page.is_none() {
+        return None;
+    }
+    open_store(rt, graph, tree)
+}
+
+/// What came of a build: the replies, or why there are none; the store, where it is to be shown; how many tools were started, and what was noted of them.
 #[derive(Drop)]
 struct Outcome {
     built: Result<Seq<Reply>, Fault>,
+    kept: Option<Engine>,
     started: u64,
     noted: Result<Option<Noted>, Fault>,
 }
@@ -250,8 +263,10 @@ fn build_targets(
             outputs.into_cause(),
         )),
     };
+    drop(disk);
     Outcome {
         built,
+        kept: store_to_show(rt, plan.graph, &mut tree, telling),
         started,
         noted,
     }
@@ -271,6 +286,7 @@ fn build(
     make_state(rt)?;
     let Outcome {
         built,
+        kept,
         started,
         noted,
     } = build_targets(rt, project, made, found, plan, telling);
@@ -278,6 +294,7 @@ fn build(
         project,
         targets: plan.targets,
         built: &built,
+        kept: kept.as_ref(),
         started,
     };
     let written = write_noted(rt, &telling.wanted, noted, &ended);

@@ -1,17 +1,14 @@
 // Why tools are run: how their calls differ from those that were kept before the build.
-use crate::run::STORE;
+use crate::kept::open_store;
 use crate::told::Line;
 use build_view::reasons::changed_labels;
 use call_layout::told::{CallTold, read_call};
-use dg_reader::read_graph;
 use indexmap::IndexMap;
 use kept_tables::{Kept, KeptCall};
 use object_values::{Bytes, Call, CallPart, Copied, FileBody, Job, Memory, Seq};
 use odin_engine::Engine;
 use odin_outside::Tree;
-use odin_real::{FileDisk, NamedFile};
 use std::alloc::Global;
-use std::fs;
 
 /// The calls that were kept before a build, and where the last one of each label stands among them.
 #[derive(Drop)]
@@ -47,18 +44,6 @@ fn last_places(alloc: Global, kept: &Kept) -> Result<IndexMap<Bytes, u64>, Memor
         }
     }
     Ok(places)
-}
-
-/// The store as the build is about to find it. A file that isn't there is left to the build, and the disk goes here, since one has the lock at a time.
-fn open_store<T: Tree>(rt: &HostRuntime, path: &[u8], tree: &mut T) -> Option<Engine> {
-    if fs::metadata(rt, STORE).is_err() {
-        return None;
-    }
-    let alloc = rt.alloc();
-    let text = tree.read(alloc, path).ok()??;
-    let graph = read_graph(alloc, text.as_slice()).ok()?;
-    let mut disk = FileDisk::open(NamedFile::new(rt, STORE));
-    Engine::open(alloc, &mut disk, graph, text.as_slice(), 1).ok()
 }
 
 fn read_earlier<T: Tree>(rt: &HostRuntime, path: &[u8], tree: &mut T) -> Option<Earlier> {
