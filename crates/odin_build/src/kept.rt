@@ -15,8 +15,12 @@ pub(crate) fn open_store<T: Tree>(rt: &HostRuntime, path: &[u8], tree: &mut T) -
         return None;
     }
     let alloc = rt.alloc();
-    let text = tree.read(alloc, path).ok()??;
-    let graph = read_graph(alloc, text.as_slice()).ok()?;
+    let Ok(Some(text)) = tree.read(alloc, path) else {
+        return None;
+    };
+    let Ok(graph) = read_graph(alloc, text.as_slice()) else {
+        return None;
+    };
     let mut disk = FileDisk::open(NamedFile::new(rt, STORE));
     Engine::open(alloc, &mut disk, graph, text.as_slice(), 1).ok()
 }
