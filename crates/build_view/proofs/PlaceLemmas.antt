@@ -8,7 +8,6 @@ use Rattle.std.specs.Ordering.{is_lt}
 use Rattle.std.proofs.lemmas.Cmp.{nat_cmp_total, nat_list_cmp_total, on_total, then_total}
 use Rattle.std.proofs.lemmas.List.MinMax.{ranks_by}
 use Rattle.object_values.specs.declared.messages.Message.{Message}
-use Rattle.build_view.specs.declared.places.Place.{Place}
 use Rattle.build_view.specs.declared.places.PageMessage.{PageMessage}
 use Rattle.build_view.specs.Places.{ArePageMessages, first_messages, IsPageMessage, is_placeless, page_cmp, place_cmp}
 

@@ -5,10 +5,7 @@ use Rattle.build_view.specs.Boxes.{box_frame, box_front, box_title, column_name,
 use Rattle.build_view.specs.Escaped.{words}
 use Rattle.build_view.specs.Pages.{bar_box, bar_title, message_row, place_words, slot_count, step_of, target_row, width_of}
 use Rattle.build_view.specs.declared.boxes.PageBox.{PageBox}
-use Rattle.build_view.specs.declared.places.Place.{Place}
-use Rattle.build_view.specs.declared.places.PageMessage.{PageMessage}
 use Rattle.build_view.specs.declared.runs.Run.{Run}
-use Rattle.build_view.specs.declared.pages.PageTarget.{PageTarget}
 
 -- all five bytes of markup, an entity in the text itself, and a control
 pub record Texts : Type 0 where

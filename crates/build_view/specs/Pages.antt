@@ -1,5 +1,5 @@
 -- The page of a build: fixed markup, texts that are escaped, and numbers.
-use Rattle.std.specs.Prelude.{ℕ, ◌+◌, ◌-◌, ◌*◌, ◌/◌, ◌==◌, max, List, [], ◌∷◌, ◌++◌, fold, flat_map, Option, Some, None, codes, decimal, if◌then◌else◌}
+use Rattle.std.specs.Prelude.{ℕ, ◌+◌, ◌-◌, ◌*◌, ◌/◌, ◌==◌, max, List, [], ◌++◌, fold, flat_map, Option, Some, None, codes, decimal, if◌then◌else◌}
 use Rattle.object_values.specs.declared.messages.Status.{Status}
 use Rattle.build_view.specs.Boxes.{drawing_of}
 use Rattle.build_view.specs.Escaped.{words}
