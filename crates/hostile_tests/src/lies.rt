@@ -147,40 +147,52 @@ fn is_not_ours(ran: &Ran, left: &[u8], image: &[u8]) -> bool {
 
 // How a session over a file may go.
 #[derive(Clone, Copy, PartialEq, Eq)]
-enum Way {
+enum Course {
     Right,
     Answered,
     NotOurs,
 }
 
 // How it goes, where it goes well.
-fn way(alloc: Global, image: &[u8], jobs: &str) -> Result<Option<Way>, Memory> {
+fn course_over(alloc: Global, image: &[u8], jobs: &str) -> Result<Option<Course>, Memory> {
     let mut disk = disk_of(alloc, image)?;
     let ran = run_over(alloc, jobs, NONE, &mut disk, QUESTIONS)?;
     if is_not_ours(&ran, disk.image(), image) {
-        return Ok(Some(Way::NotOurs));
+        return Ok(Some(Course::NotOurs));
     }
     if !are_replies(alloc, &ran, 9, OLD, NEW)? || !is_kept(alloc, disk.image())? {
         return Ok(None);
     }
     if ran.replied(right_replies(alloc)?.as_slice()) {
-        return Ok(Some(Way::Right));
+        return Ok(Some(Course::Right));
     }
-    Ok(Some(Way::Answered))
+    Ok(Some(Course::Answered))
 }
 
-// The node and the lie, by their places, at which a session goes no way of these. After the last node all of them lie.
-fn first_wrong(alloc: Global, lies: &[Lie], ways: &[Way]) -> Result<Option<(u64, usize)>, Memory> {
+// Whether sessions over a file go so, with one tool at a time and with three.
+fn goes(alloc: Global, image: &[u8], courses: &[Course]) -> Result<bool, Memory> {
+    for jobs in ["1", "3"] {
+        match course_over(alloc, image, jobs)? {
+            Some(course) if courses.contains(&course) => {}
+            _ => return Ok(false),
+        }
+    }
+    Ok(true)
+}
+
+// The node and the lie, by their places, at which a session goes otherwise. After the last node all of them lie.
+fn first_wrong(
+    alloc: Global,
+    lies: &[Lie],
+    courses: &[Course],
+) -> Result<Option<(u64, usize)>, Memory> {
     let whole = true_file(alloc)?;
-    for node in 0..6 {
+    for node in 0..6u64 {
         let place = (node < 5).then_some(node);
         for (row, lie) in lies.iter().enumerate() {
             let image = lying_file(alloc, whole.as_slice(), place, *lie)?;
-            for jobs in ["1", "3"] {
-                match way(alloc, image.as_slice(), jobs)? {
-                    Some(way) if ways.contains(&way) => {}
-                    _ => return Ok(Some((node, row))),
-                }
+            if !goes(alloc, image.as_slice(), courses)? {
+                return Ok(Some((node, row)));
             }
         }
     }
@@ -190,11 +202,11 @@ fn first_wrong(alloc: Global, lies: &[Lie], ways: &[Way]) -> Result<Option<(u64,
 #[test]
 fn what_is_settled_again_may_lie(rt: HostRuntime) -> Result<(), Fail> {
     assert_eq!(rt;
-        first_wrong(rt.alloc(), SETTLED_AGAIN, &[Way::Right])?,
+        first_wrong(rt.alloc(), SETTLED_AGAIN, &[Course::Right])?,
         None
     );
     assert_eq!(rt;
-        first_wrong(rt.alloc(), OF_SOURCE, &[Way::Right, Way::NotOurs])?,
+        first_wrong(rt.alloc(), OF_SOURCE, &[Course::Right, Course::NotOurs])?,
         None
     );
     Ok(())
@@ -202,9 +214,9 @@ fn what_is_settled_again_may_lie(rt: HostRuntime) -> Result<(), Fail> {
 
 #[test]
 fn what_is_trusted_may_lie_and_breaks_nothing(rt: HostRuntime) -> Result<(), Fail> {
-    let ways = [Way::Right, Way::Answered];
-    assert_eq!(rt; first_wrong(rt.alloc(), TRUSTED, &ways)?, None);
-    let ways = [Way::Right, Way::Answered, Way::NotOurs];
-    assert_eq!(rt; first_wrong(rt.alloc(), VALUES, &ways)?, None);
+    let courses = [Course::Right, Course::Answered];
+    assert_eq!(rt; first_wrong(rt.alloc(), TRUSTED, &courses)?, None);
+    let courses = [Course::Right, Course::Answered, Course::NotOurs];
+    assert_eq!(rt; first_wrong(rt.alloc(), VALUES, &courses)?, None);
     Ok(())
 }

@@ -130,15 +130,15 @@ fn first_fault(alloc: Global, row: &Row, jobs: &str) -> Result<Option<usize>, Me
     };
     let commands = joined(alloc, &[row.before, row.question])?;
     let (before, last) = last_calls(row, &disk);
-    for number in before..last {
+    for number in before.saturating_add(1)..=last {
         let call = Call {
             object: Object::Disk,
-            number: number.saturating_add(1) as u32,
+            number: number.min(1024) as u32,
         };
         let (ran, image) = run_failing(alloc, jobs, call, commands.as_slice())?;
         let stopped = ran.status == 3 && ran.output.as_slice() == row.replies;
         if !stopped || !is_answered(alloc, row, jobs, image.as_slice())? {
-            return Ok(Some(number.saturating_add(1)));
+            return Ok(Some(number));
         }
     }
     Ok(None)

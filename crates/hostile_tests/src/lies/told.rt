@@ -46,7 +46,7 @@ fn dep_of(alloc: Global, record: &NodeRecord) -> Result<Dep, Memory> {
     })
 }
 
-fn message(alloc: Global) -> Result<SharedSeq<Message>, Memory> {
+fn never_said(alloc: Global) -> Result<SharedSeq<Message>, Memory> {
     let mut messages = Seq::new(alloc);
     messages.push(Message {
         label: body_of(alloc, b"a.c:o")?,
@@ -120,7 +120,7 @@ fn present_of(alloc: Global, record: &NodeRecord, lie: Lie) -> Result<Renewed, M
     let mut present = record.present.copy(alloc)?;
     match lie {
         Lie::Present(status) => present.status = status,
-        Lie::Message => present.messages = message(alloc)?,
+        Lie::Message => present.messages = never_said(alloc)?,
         Lie::Height(height) => present.height = height,
         _ => {}
     }
@@ -147,7 +147,7 @@ fn lying(
         Lie::Value(number) => told.value = Some(number),
         Lie::NoValue => told.value = None,
         Lie::Own(status) => told.own_status = status,
-        Lie::OwnMessage => told.own_messages = message(alloc)?,
+        Lie::OwnMessage => told.own_messages = never_said(alloc)?,
         Lie::OfSource => told.node = source_of(alloc, &record.node)?,
         _ => {}
     }
