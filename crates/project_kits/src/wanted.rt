@@ -3,13 +3,6 @@
 use object_values::{Bytes, FileBody, Seq};
 use project_file::project::Target;
 
-/// A key with the texts that are given for it.
-#[derive(Drop)]
-pub struct Entry {
-    pub key: Bytes,
-    pub texts: Seq<Bytes>,
-}
-
 /// A table `[word.name]`: the patterns of its units, and the file to which what is made of them goes.
 #[derive(Drop)]
 pub struct Units {
