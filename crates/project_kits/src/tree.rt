@@ -39,6 +39,7 @@ impl<T: Tree + Drop> MadeTree<T> {
     pub fn new(made: Seq<FileBody>, under: T) -> Self
         ensures made { result.made ≡ made }
         ensures under { result.under ≡ under }
+        ensures reads { result.reads ≡ 0 }
     {
         MadeTree {
             made,
