@@ -112,10 +112,10 @@ fn type_name<'a>(graph: &'a Graph, node: &Node) -> &'a [u8] {
     let Some(number) = type_of(graph, node) else {
         return TEXT;
     };
-    let mut count = 0;
+    let mut count = 0_u32;
     for decl in graph.decls() {
         if let Some(name) = name_in(decl, Named::Type) {
-            count += 1;
+            count = count.saturating_add(1);
             if count == number {
                 return name;
             }
