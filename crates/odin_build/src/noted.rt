@@ -35,7 +35,7 @@ pub(crate) struct Ended<'a> {
     pub(crate) project: &'a Project,
     pub(crate) targets: &'a [&'a Target],
     pub(crate) built: &'a Result<Seq<Reply>, Fault>,
-    pub(crate) kept: Option<&'a Engine>,
+    pub(crate) kept: &'a Option<Engine>,
     pub(crate) started: u64,
 }
 

@@ -273,12 +273,12 @@ fn build_targets(
 }
 
 /// Builds targets, tells of them, and gives the status.
-fn build(
+fn build<'a>(
     rt: &HostRuntime,
-    project: &Project,
+    project: &'a Project,
     made: Seq<FileBody>,
     found: &[Bytes],
-    plan: &Plan<'_>,
+    plan: &Plan<'a>,
     telling: &Telling<'_>,
 ) -> Result<u8, Fault>
     requires { IsLimit plan.now.jobs }
@@ -294,7 +294,7 @@ fn build(
         project,
         targets: plan.targets,
         built: &built,
-        kept: kept.as_ref(),
+        kept: &kept,
         started,
     };
     let written = write_noted(rt, &telling.wanted, noted, &ended);
