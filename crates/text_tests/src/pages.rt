@@ -1,6 +1,6 @@
 // Pages of builds: their bytes, by rows that were written by hand, and the order of their messages.
-use build_view::escaped::write_words;
 use build_view::boxes::{Drawing, PageBox, PageColumn, PageEdge, Spot};
+use build_view::escaped::write_words;
 use build_view::pages::{MessageRow, Page, PageTarget, page_of};
 use build_view::places::page_messages;
 use build_view::runs::Run;
@@ -195,8 +195,14 @@ fn three(alloc: Global) -> Result<Drawing, Memory> {
     let source = Spot { column: 0, row: 0 };
     let first = Spot { column: 1, row: 0 };
     let second = Spot { column: 1, row: 1 };
-    drawing.edges.push(PageEdge { from: source, to: first })?;
-    drawing.edges.push(PageEdge { from: first, to: second })?;
+    drawing.edges.push(PageEdge {
+        from: source,
+        to: first,
+    })?;
+    drawing.edges.push(PageEdge {
+        from: first,
+        to: second,
+    })?;
     drawing.boxes.push(object(alloc, 0, b"a&b", None, source)?)?;
     drawing
         .boxes
