@@ -49,6 +49,14 @@ impl From<AllocError> for Fault {
 
 pub(crate) const MEMORY: &[u8] = b"odin-build: out of memory\n";
 
+/// Adds the line that shows the words of the program.
+fn with_usage(mut text: Bytes) -> Result<Bytes, Memory> {
+    text.extend_from_slice(b"usage: ")?;
+    text.extend_from_slice(USAGE.as_bytes())?;
+    text.push(b'\n')?;
+    Ok(text)
+}
+
 impl Fault {
     pub(crate) fn status(&self) -> u8 {
         match self {
@@ -90,13 +98,8 @@ impl Fault {
                 .text("files changed while each of three builds ran")?
                 .end(),
             Fault::Memory => Bytes::from_slice(alloc, MEMORY),
-            Fault::NoOption(line) => line.copy(alloc),
-            Fault::Words => {
-                let mut line = Bytes::from_slice(alloc, b"usage: ")?;
-                line.extend_from_slice(USAGE.as_bytes())?;
-                line.push(b'\n')?;
-                Ok(line)
-            }
+            Fault::NoOption(line) => with_usage(line.copy(alloc)?),
+            Fault::Words => with_usage(Bytes::new(alloc)),
         }
     }
 }

@@ -5,6 +5,7 @@ use crate::reading::refused;
 use crate::screen::output_fault;
 use crate::standing::{Place, may_be_written, place_of, project_folder};
 use crate::told::Line;
+use build_files::causes::Cause;
 use build_files::paths::tidy;
 use object_values::{Bytes, Memory};
 use project_file::project::{Project, Target};
@@ -13,7 +14,7 @@ use project_folder::{
 };
 use std::alloc::Global;
 use std::fs::OpenOptions;
-use std::io::{Error, ErrorKind, Read};
+use std::io::Read;
 use std::{fs, str};
 
 /// How many bytes of a file are looked at for what it is.
@@ -147,12 +148,14 @@ fn refuse_target(
     if may_be_written(rt, place.path.as_str()) {
         return Ok(());
     }
-    Err(output_fault(alloc, text_of(path), &no_file()))
+    Err(Fault::Output(no_file(alloc, path)?))
 }
 
-/// The error of a place where a file can't be put.
-fn no_file() -> Error {
-    Error::from(ErrorKind::InvalidInput)
+/// What is told of a pipe or a device, which would be written as it is, and may never take it.
+fn no_file(alloc: Global, path: &[u8]) -> Result<Cause, Memory> {
+    let place = String::from_str(alloc, text_of(path)).map_err(|_| Memory)?;
+    let cause = String::from_str(alloc, "neither a file nor a folder").map_err(|_| Memory)?;
+    Ok(Cause { place, cause })
 }
 
 /// Refuses a target whose file would, through a link, be one that a build never writes, or that is a pipe or a device.

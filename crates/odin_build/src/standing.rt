@@ -108,7 +108,7 @@ pub(crate) fn place_of(rt: &HostRuntime, folder: &str, path: &str) -> Result<Pla
     Ok(Place { path, below })
 }
 
-/// Whether a file or a folder stands at a path, or nothing. A pipe or a device would be written as it is, and may never take it.
+/// Whether a file or a folder stands at a path, or nothing.
 pub(crate) fn may_be_written(rt: &HostRuntime, path: &str) -> bool {
     match fs::metadata(rt, path) {
         Ok(found) => found.is_file() || found.is_dir(),

@@ -32,8 +32,8 @@ fn look_at_state(rt: &HostRuntime) -> Result<(), Fault> {
     }
     match fs::metadata(rt, SELF) {
         Ok(own) if own.uid() != found.uid() => Err(Fault::NotOwn),
-        Ok(_) => Ok(()),
-        Err(error) => Err(output_fault(alloc, SELF, &error)),
+        // Where the system doesn't tell of processes nobody can say whose it is.
+        Ok(_) | Err(_) => Ok(()),
     }
 }
 
