@@ -1,5 +1,5 @@
 -- The files that a build may write: those of targets, the trace and the page.
-use Rattle.std.specs.Prelude.{ℕ, Bool, ◌||◌, ◌==◌, nat_eq, List, [], ◌∷◌, Option, Some, None, codes, bytes_eq, filter, find}
+use Rattle.std.specs.Prelude.{ℕ, Bool, ◌||◌, if◌then◌else◌, nat_eq, List, [], ◌∷◌, Option, Some, None, codes, bytes_eq, filter}
 use Rattle.std.specs.List.{list_any, starts_with}
 use Rattle.project_folder.specs.Listing.{is_plain}
 use Rattle.project_folder.specs.Places.{is_reserved, is_within}
@@ -32,7 +32,7 @@ named_alone patterns = filter is_plain patterns
 -- ---- two targets
 
 -- the first path that another after it is too
-pub double_among : List (List ℕ) → Option (List ℕ)
+abbrev pub double_among : List (List ℕ) → Option (List ℕ)
 double_among [] = None
 double_among (path ∷ rest) = if list_any (λ other. bytes_eq other path) rest then Some path else double_among rest
 
