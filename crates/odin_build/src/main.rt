@@ -11,6 +11,7 @@ mod kits;
 mod looks;
 mod made;
 mod noted;
+mod options;
 mod passed;
 mod quoted;
 mod reading;

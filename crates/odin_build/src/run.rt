@@ -6,6 +6,7 @@ use crate::found::input_fault;
 use crate::kept::{STORE, open_store};
 use crate::looks::Looks;
 use crate::noted::{Ended, Wanted, write_noted};
+use crate::options::words_fault;
 use crate::reading::{enter_project, refused};
 use crate::refusing::{Held, refuse_extras, refuse_targets};
 use crate::replies::{fault_of, missing_line, tell_replies, work_lines, write_target};
@@ -38,18 +39,6 @@ use std::{fs, io};
 
 /// How many builds there are at most, where files change while they run.
 const PASSES: u32 = 3;
-
-/// The options that have a word.
-const OPTIONS: [&str; 8] = [
-    "--quiet",
-    "--verbose",
-    "--why",
-    "--color",
-    "--trace",
-    "--page",
-    "--help",
-    "--version",
-];
 
 /// Shows help or the version.
 fn show(rt: &HostRuntime, error: &Error) -> Result<u8, Fault> {
@@ -280,7 +269,7 @@ enum Pass {
     Changed(u64),
 }
 
-/// A project as it is built: what it takes from its folder, how these files were, and how many tools earlier builds of this run started.
+/// A project as it is built: what is found in its folder, how these files were, and how many tools earlier builds of this run started.
 #[derive(Clone, Copy)]
 struct Taken<'a> {
     project: &'a Project,
@@ -361,6 +350,26 @@ fn refuse_written(
     refuse_extras(rt, wanted, &held)
 }
 
+/// The targets that the words ask for.
+fn asked_targets<'a>(
+    alloc: Global,
+    project: &'a Project,
+    names: &[&str],
+) -> Result<Vec<&'a Target>, Fault> {
+    match targets_among(alloc, project, names) {
+        Ok(targets) => Ok(targets),
+        Err(fault) => Err(no_target(alloc, project, fault)),
+    }
+}
+
+/// The sources of the project among the files that were found.
+fn sources_among(alloc: Global, project: &Project, found: &[Bytes]) -> Result<Vec<Name>, Fault> {
+    match list_sources(alloc, project, found) {
+        Ok(sources) => Ok(sources),
+        Err(fault) => Err(no_sources(alloc, found, fault)),
+    }
+}
+
 /// Builds what the words ask for once, of the files as they stand now.
 fn run_once(
     rt: &HostRuntime,
@@ -377,32 +386,21 @@ fn run_once(
         graph,
         mut looks,
     } = read_whole(rt, asked.tells)?;
-    let targets = match targets_among(alloc, &project, asked.targets.as_slice()) {
-        Ok(targets) => targets,
-        Err(fault) => return Err(no_target(alloc, &project, fault)),
-    };
-    let sources = match list_sources(alloc, &project, found.as_slice()) {
-        Ok(sources) => sources,
-        Err(fault) => return Err(no_sources(alloc, found.as_slice(), fault)),
-    };
+    let targets = asked_targets(alloc, &project, asked.targets.as_slice())?;
+    let sources = sources_among(alloc, &project, found.as_slice())?;
     passed.tell(rt, telling.view.verbose)?;
+    let (targets, sources) = (targets.as_slice(), sources.as_slice());
     if asked.tells {
-        return Ok(Pass::Ended(tell_targets(rt, targets.as_slice())?));
+        return Ok(Pass::Ended(tell_targets(rt, targets)?));
     }
-    let paths = paths_of(alloc, sources.as_slice())?;
-    refuse_written(
-        rt,
-        &project,
-        graph.as_slice(),
-        paths.as_slice(),
-        targets.as_slice(),
-        &telling.wanted,
-    )?;
+    let paths = paths_of(alloc, sources)?;
+    let (graph, wanted) = (graph.as_slice(), &telling.wanted);
+    refuse_written(rt, &project, graph, paths.as_slice(), targets, wanted)?;
     looks.take_all(rt, paths.as_slice(), made.as_slice())?;
     let plan = Plan {
         graph: project.graph.as_slice(),
-        sources: sources.as_slice(),
-        targets: targets.as_slice(),
+        sources,
+        targets,
         jobs: jobs_of(rt, asked.jobs),
     };
     let taken = Taken {
@@ -432,32 +430,6 @@ fn run_asked(rt: &HostRuntime, asked: &Asked<'_>) -> Result<u8, Fault> {
         }
     }
     Err(Fault::Changing)
-}
-
-/// The line of a word that is no option, with the one that may have been meant.
-fn option_line(alloc: Global, word: &[u8]) -> Result<Bytes, Memory> {
-    Line::new(alloc)?
-        .text("no such option: ")?
-        .shown(word)?
-        .hint(alloc, word, &OPTIONS)?
-        .end()
-}
-
-/// The fault of words that aren't taken. What an unknown option is stands in the parser's own text between the first two quotes.
-fn words_fault(alloc: Global, error: &Error) -> Fault {
-    if error.kind() != ErrorKind::UnknownArgument {
-        return Fault::Words;
-    }
-    let Ok(text) = format!(in alloc; "{error}") else {
-        return Fault::Memory;
-    };
-    match text.as_str().split('\'').nth(1) {
-        Some(word) => match option_line(alloc, word.as_bytes()) {
-            Ok(line) => Fault::NoOption(line),
-            Err(Memory) => Fault::Memory,
-        },
-        None => Fault::Words,
-    }
 }
 
 /// The exit status of a run with the words of the program, where there is no fault.
