@@ -19,6 +19,7 @@ mod refusing;
 mod replies;
 mod run;
 mod screen;
+mod simple;
 mod standing;
 mod state;
 mod told;

@@ -37,10 +37,11 @@ fn is_too_long(rt: &HostRuntime, path: &[u8]) -> bool {
 
 fn is_passed(rt: &HostRuntime, patterns: &Patterns<'_>, path: &[u8]) -> Result<bool, Memory> {
     let alloc = rt.alloc();
-    if !is_unasked(alloc, patterns.own, patterns.kits, patterns.outputs, path)? {
+    // Patterns are asked last, since they take the longest.
+    if read_name(alloc, path)?.is_some() && !is_too_long(rt, path) {
         return Ok(false);
     }
-    Ok(read_name(alloc, path)?.is_none() || is_too_long(rt, path))
+    is_unasked(alloc, patterns.own, patterns.kits, patterns.outputs, path)
 }
 
 /// Parts the files that were found into those that stay and those that are passed over.

@@ -3,7 +3,8 @@ use crate::faults::Fault;
 use crate::noted::Wanted;
 use crate::reading::refused;
 use crate::screen::output_fault;
-use crate::standing::{Place, may_be_written, place_of, project_folder};
+use crate::simple::GraphFile;
+use crate::standing::{Place, Standing, place_of, project_folder, standing_at};
 use crate::told::Line;
 use build_files::causes::Cause;
 use build_files::paths::tidy;
@@ -132,6 +133,7 @@ fn refuse_target(
     rt: &HostRuntime,
     folder: &str,
     held: &Held<'_>,
+    graph: &GraphFile<'_>,
     target: &Target,
     path: &[u8],
 ) -> Result<(), Fault> {
@@ -145,30 +147,33 @@ fn refuse_target(
         let writer = target_writer(alloc, target)?;
         return Err(refused(taken_line(alloc, writer, path, Some(at), why)));
     }
-    if may_be_written(rt, place.path.as_str()) {
-        return Ok(());
-    }
-    Err(Fault::Output(no_file(alloc, path)?))
+    let why = match standing_at(rt, place.path.as_str()) {
+        Standing::Folder if graph.asks_for_file(rt, target.ask.as_slice()) => "a folder",
+        Standing::Other => "neither a file nor a folder",
+        _ => return Ok(()),
+    };
+    Err(Fault::Output(no_file(alloc, path, why)?))
 }
 
-/// What is told of a pipe or a device, which would be written as it is, and may never take it.
-fn no_file(alloc: Global, path: &[u8]) -> Result<Cause, Memory> {
+/// What is told of what isn't written over.
+fn no_file(alloc: Global, path: &[u8], why: &str) -> Result<Cause, Memory> {
     let place = String::from_str(alloc, text_of(path)).map_err(|_| Memory)?;
-    let cause = String::from_str(alloc, "neither a file nor a folder").map_err(|_| Memory)?;
+    let cause = String::from_str(alloc, why).map_err(|_| Memory)?;
     Ok(Cause { place, cause })
 }
 
-/// Refuses a target whose file would, through a link, be one that a build never writes, or that is a pipe or a device.
+/// Refuses a target whose file would, through a link, be one that a build never writes, or in whose place there is what isn't written over.
 pub(crate) fn refuse_targets(
     rt: &HostRuntime,
     targets: &[&Target],
     held: &Held<'_>,
+    graph: &GraphFile<'_>,
 ) -> Result<(), Fault> {
     let alloc = rt.alloc();
     let folder = project_folder(rt)?;
     for target in targets {
         let path = tidy(alloc, target.file.as_slice())?;
-        refuse_target(rt, folder.as_str(), held, target, path.as_slice())?;
+        refuse_target(rt, folder.as_str(), held, graph, target, path.as_slice())?;
     }
     Ok(())
 }

@@ -11,6 +11,7 @@ use crate::reading::{enter_project, refused};
 use crate::refusing::{Held, refuse_extras, refuse_targets};
 use crate::replies::{fault_of, missing_line, tell_replies, work_lines, write_target};
 use crate::screen::{Noted, Screen, has_colours, started_path};
+use crate::simple::GraphFile;
 use crate::state::{child_tools, make_state};
 use crate::told::{Line, say};
 use crate::whole::{Whole, read_whole};
@@ -338,15 +339,20 @@ fn refuse_written(
     graph: &[u8],
     sources: &[Bytes],
     targets: &[&Target],
+    made: &[FileBody],
     wanted: &Wanted,
 ) -> Result<(), Fault> {
+    let text = GraphFile {
+        made,
+        name: project.graph.as_slice(),
+    };
     let outputs = tidy_outputs(rt.alloc(), project.targets.as_slice())?;
     let held = Held {
         graph,
         sources,
         outputs: outputs.as_slice(),
     };
-    refuse_targets(rt, targets, &held)?;
+    refuse_targets(rt, targets, &held, &text)?;
     refuse_extras(rt, wanted, &held)
 }
 
@@ -395,7 +401,15 @@ fn run_once(
     }
     let paths = paths_of(alloc, sources)?;
     let (graph, wanted) = (graph.as_slice(), &telling.wanted);
-    refuse_written(rt, &project, graph, paths.as_slice(), targets, wanted)?;
+    refuse_written(
+        rt,
+        &project,
+        graph,
+        paths.as_slice(),
+        targets,
+        made.as_slice(),
+        wanted,
+    )?;
     looks.take_all(rt, paths.as_slice(), made.as_slice())?;
     let plan = Plan {
         graph: project.graph.as_slice(),

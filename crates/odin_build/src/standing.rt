@@ -108,10 +108,21 @@ pub(crate) fn place_of(rt: &HostRuntime, folder: &str, path: &str) -> Result<Pla
     Ok(Place { path, below })
 }
 
-/// Whether a file or a folder stands at a path, or nothing.
-pub(crate) fn may_be_written(rt: &HostRuntime, path: &str) -> bool {
+/// What stands at a place.
+#[derive(Clone, Copy, PartialEq, Eq)]
+pub(crate) enum Standing {
+    /// A file, or nothing.
+    File,
+    Folder,
+    /// A pipe or a device, which would be written as it is, and may never take it.
+    Other,
+}
+
+/// What stands at a path, with links followed.
+pub(crate) fn standing_at(rt: &HostRuntime, path: &str) -> Standing {
     match fs::metadata(rt, path) {
-        Ok(found) => found.is_file() || found.is_dir(),
-        Err(_) => true,
+        Ok(found) if found.is_dir() => Standing::Folder,
+        Ok(found) if !found.is_file() => Standing::Other,
+        _ => Standing::File,
     }
 }
