@@ -25,18 +25,19 @@ fn matches<'a>(alloc: Global, words: &'a [String]) -> Result<ArgMatches<'a>, Err
     ensures refused { IfErr result (λ e. kind_of e ≢ ErrorKind.OutOfMemory →
         fault_of command (map string_bytes words.entry.now) ≢ []) }
 {
-    let file = Arg::new(alloc, "file").short('o').action(ArgAction::Set);
-    let messages = Arg::new(alloc, "messages")
-        .short('m')
-        .action(ArgAction::SetTrue);
-    let labels = Arg::new(alloc, "labels")
-        .short('l')
-        .action(ArgAction::SetTrue);
     let command = Command::new(alloc, "odin_get")
         .disable_help_flag(true)
-        .arg(file)?
-        .arg(messages)?
-        .arg(labels)?;
+        .arg(Arg::new(alloc, "file").short('o').action(ArgAction::Set))?
+        .arg(
+            Arg::new(alloc, "messages")
+                .short('m')
+                .action(ArgAction::SetTrue),
+        )?
+        .arg(
+            Arg::new(alloc, "labels")
+                .short('l')
+                .action(ArgAction::SetTrue),
+        )?;
     command.try_get_matches_from(words)
 }
 

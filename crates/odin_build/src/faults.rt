@@ -24,9 +24,15 @@ pub(crate) enum Fault {
     TooLong(Bytes),
     /// Another build of the project has its store.
     InUse,
+    /// Files changed while each of the builds ran.
+    Changing,
+    /// The folder of the store is another user's.
+    NotOwn,
     Memory,
     /// The words of the program are others.
     Words,
+    /// A word is no option: the line says which.
+    NoOption(Bytes),
 }
 
 impl From<Memory> for Fault {
@@ -43,6 +49,14 @@ impl From<AllocError> for Fault {
 
 pub(crate) const MEMORY: &[u8] = b"odin-build: out of memory\n";
 
+/// Adds the line that shows the words of the program.
+fn with_usage(mut text: Bytes) -> Result<Bytes, Memory> {
+    text.extend_from_slice(b"usage: ")?;
+    text.extend_from_slice(USAGE.as_bytes())?;
+    text.push(b'\n')?;
+    Ok(text)
+}
+
 impl Fault {
     pub(crate) fn status(&self) -> u8 {
         match self {
@@ -53,9 +67,11 @@ impl Fault {
             Fault::Input(_) => 6,
             Fault::NotOurs(_) => 7,
             Fault::Full => 8,
-            Fault::Words => 9,
+            Fault::Words | Fault::NoOption(_) => 9,
             Fault::TooLong(_) => 10,
+            Fault::NotOwn => 74,
             Fault::InUse => 75,
+            Fault::Changing => 76,
         }
     }
 
@@ -77,13 +93,13 @@ impl Fault {
                 .shown(name.as_slice())?
                 .end(),
             Fault::InUse => line.text("another build of this project runs")?.end(),
+            Fault::NotOwn => line.text(".odin belongs to another user")?.end(),
+            Fault::Changing => line
+                .text("files changed while each of three builds ran")?
+                .end(),
             Fault::Memory => Bytes::from_slice(alloc, MEMORY),
-            Fault::Words => {
-                let mut line = Bytes::from_slice(alloc, b"usage: ")?;
-                line.extend_from_slice(USAGE.as_bytes())?;
-                line.push(b'\n')?;
-                Ok(line)
-            }
+            Fault::NoOption(line) => with_usage(line.copy(alloc)?),
+            Fault::Words => with_usage(Bytes::new(alloc)),
         }
     }
 }

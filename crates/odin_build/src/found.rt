@@ -48,12 +48,33 @@ fn take_entry(
     Ok(())
 }
 
+/// The files below a folder, and the folders in which names stand that aren't UTF-8: which these are the system's library doesn't tell.
+#[derive(Drop)]
+pub(crate) struct Found {
+    pub(crate) files: Vec<Bytes>,
+    pub(crate) odd: Vec<Bytes>,
+}
+
+/// Takes an entry that can't be told: a name that isn't UTF-8 is passed over, since no source has one.
+fn take_untold(
+    alloc: Global,
+    folder: &Bytes,
+    error: &io::Error,
+    found: &mut Found,
+) -> Result<(), Fault> {
+    if error.kind() != io::ErrorKind::InvalidFilename || error.raw_os_error().is_some() {
+        return Err(input_fault(alloc, place_of(folder.as_slice()), error));
+    }
+    let folder = folder.copy(alloc)?;
+    found.odd.push(folder).map_err(|_| Fault::Memory)
+}
+
 /// Takes what stands in a folder, but for what the build itself has there and what git has.
 fn take_folder(
     rt: &HostRuntime,
     folder: &Bytes,
     folders: &mut Vec<Bytes>,
-    found: &mut Vec<Bytes>,
+    found: &mut Found,
 ) -> Result<(), Fault> {
     let place = place_of(folder.as_slice());
     let entries = match fs::read_dir(rt, place) {
@@ -63,7 +84,10 @@ fn take_folder(
     for entry in entries {
         let entry = match entry {
             Ok(entry) => entry,
-            Err(error) => return Err(input_fault(rt.alloc(), place, &error)),
+            Err(error) => {
+                take_untold(rt.alloc(), folder, &error, found)?;
+                continue;
+            }
         };
         let mut path = folder.copy(rt.alloc())?;
         add_step(&mut path, entry.file_name().as_bytes())?;
@@ -72,15 +96,18 @@ fn take_folder(
                 Ok(kind) => kind,
                 Err(error) => return Err(input_fault(rt.alloc(), place, &error)),
             };
-            take_entry(rt, path, kind, folders, found)?;
+            take_entry(rt, path, kind, folders, &mut found.files)?;
         }
     }
     Ok(())
 }
 
 /// The files below the project's folder, by their paths. Which they are is no clause, since the system doesn't tell what stands in a folder.
-pub(crate) fn files_below(rt: &HostRuntime) -> Result<Vec<Bytes>, Fault> {
-    let mut found = Vec::new(rt.alloc());
+pub(crate) fn files_below(rt: &HostRuntime) -> Result<Found, Fault> {
+    let mut found = Found {
+        files: Vec::new(rt.alloc()),
+        odd: Vec::new(rt.alloc()),
+    };
     let mut folders = Vec::new(rt.alloc());
     folders
         .push(Bytes::new(rt.alloc()))

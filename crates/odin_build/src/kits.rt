@@ -5,6 +5,7 @@ use crate::reading::refused;
 use crate::told::Line;
 use object_values::{Bytes, FileBody, Memory, Seq, Text};
 use odin_bytes::is_id;
+use project_folder::double_among;
 use project_kits::settings::kit_name;
 use std::alloc::Global;
 use std::env::{self, VarError};
@@ -139,8 +140,30 @@ fn take_files(
     Ok(())
 }
 
+fn double_line(alloc: Global, kit: &[u8]) -> Result<Bytes, Memory> {
+    Line::new(alloc)?
+        .text("odin.toml: kits: named twice: ")?
+        .shown(kit)?
+        .end()
+}
+
+/// Refuses a kit that is named twice, whose declarations would stand there twice.
+fn refuse_double(alloc: Global, kits: &[&str]) -> Result<(), Fault> {
+    let mut names = Vec::new(alloc);
+    for kit in kits {
+        names
+            .push(Bytes::from_slice(alloc, kit.as_bytes())?)
+            .map_err(|_| Fault::Memory)?;
+    }
+    match double_among(names.as_slice()) {
+        Some(kit) => Err(refused(double_line(alloc, kit.as_slice()))),
+        None => Ok(()),
+    }
+}
+
 /// Reads the kits of a project.
 pub(crate) fn read_kits(rt: &HostRuntime, kits: &[&str]) -> Result<Kits, Fault> {
+    refuse_double(rt.alloc(), kits)?;
     let mut graphs = Seq::new(rt.alloc());
     let mut files = Seq::new(rt.alloc());
     for kit in kits {

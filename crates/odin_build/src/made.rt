@@ -2,9 +2,11 @@
 use crate::faults::Fault;
 use crate::found::input_fault;
 use crate::identity::tell_tools;
+use crate::looks::Looks;
 use crate::reading::refused;
 use crate::replies::missing_line;
 use crate::run::no_sources;
+use crate::state::make_state;
 use crate::told::Line;
 use object_values::{Bytes, Copied, FileBody, Memory, Seq, Text};
 use project_file::project::Target;
@@ -48,10 +50,12 @@ pub(crate) fn graph_file(
     own: Option<&Bytes>,
     graphs: &[Bytes],
     found: &[Bytes],
+    looks: &mut Looks,
 ) -> Result<FileBody, Fault> {
     let alloc = rt.alloc();
     let mut texts = Seq::new(alloc);
     if let Some(path) = own {
+        looks.take(rt, path.as_slice())?;
         texts.push(own_graph(rt, path.as_slice(), found)?)?;
     }
     for graph in graphs {
@@ -75,6 +79,7 @@ pub(crate) fn tools_of(
     for kit in kits {
         let script = kit_name(alloc, kit.as_bytes(), b"tools.sh")?;
         if let Some(file) = made_of(files, script.as_slice()) {
+            make_state(rt)?;
             let name = kit_name(alloc, kit.as_bytes(), b"tools")?;
             let body = tell_tools(rt, kit, &file.body)?;
             told.push(FileBody { name, body })?;

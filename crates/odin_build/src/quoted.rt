@@ -2,6 +2,7 @@
 use build_view::pages::MessageRow;
 use build_view::places::{PageMessage, Place};
 use object_values::{Bytes, Memory, Seq};
+use project_folder::leads_below;
 use std::alloc::Global;
 use std::{fs, str};
 
@@ -15,13 +16,7 @@ struct Read {
     text: Vec<u8>,
 }
 
-/// Whether a path leads to a file below the project's folder by its steps alone. What a tool says of other files isn't looked up.
-fn leads_below(path: &[u8]) -> bool {
-    path.split(|byte| *byte == b'/')
-        .all(|step| !step.is_empty() && step != b"..".as_slice())
-}
-
-/// The text of a file, and no text where it can't be read.
+/// The text of a file below the project's folder, and no text where it can't be read. What a tool says of other files isn't looked up.
 fn text_at(rt: &HostRuntime, path: &[u8]) -> Vec<u8> {
     if leads_below(path) {
         if let Ok(path) = str::from_utf8(path) {

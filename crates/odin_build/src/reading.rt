@@ -4,7 +4,7 @@ use crate::found::input_fault;
 use crate::told::Line;
 use object_values::{Bytes, Memory};
 use project_file::project::{Flaw, Problem, Project, Refused};
-use project_file::reading::{NoProject, read_project};
+use project_file::reading::{FILE_LIMIT, NoProject, read_project};
 use std::alloc::Global;
 use std::env::Env;
 use std::io::ErrorKind;
@@ -12,7 +12,7 @@ use std::os::unix::fs::MetadataExt;
 use std::{fs, io};
 
 /// The file of a project, in its folder.
-const FILE: &str = "odin.toml";
+pub(crate) const FILE: &str = "odin.toml";
 
 /// How many folders are looked at for a project, from this one up.
 const FOLDER_LIMIT: u32 = 4_096;
@@ -89,9 +89,20 @@ fn words_of(flaw: &Flaw) -> &'static str {
     }
 }
 
+/// Whether a project has no graph, and names no kit that has one.
+fn is_bare(problem: &Problem) -> bool {
+    match (problem.place.as_slice(), &problem.flaw) {
+        ([key], Flaw::Missing) => key.as_slice() == b"graph".as_slice(),
+        _ => false,
+    }
+}
+
 /// The line of a problem: the keys that lead to it, and what is wrong there.
 fn problem_line(alloc: Global, problem: &Problem) -> Result<Bytes, Memory> {
     let mut line = Line::new(alloc)?.text("odin.toml: ")?;
+    if is_bare(problem) {
+        return line.text("neither kits nor a graph")?.end();
+    }
     for key in problem.place.as_slice() {
         line = line.shown(key.as_slice())?.text(": ")?;
     }
@@ -118,8 +129,27 @@ fn document_line(alloc: Global, error: &toml::de::Error) -> Result<Bytes, Memory
         .end()
 }
 
+fn no_file_line(alloc: Global) -> Result<Bytes, Memory> {
+    Line::new(alloc)?.text("odin.toml isn't a file")?.end()
+}
+
+/// Refuses what a read might not come to the end of: a pipe, a device, and a file that is longer than a project's may be.
+fn refuse_endless(rt: &HostRuntime) -> Result<(), Fault> {
+    let Ok(found) = fs::metadata(rt, FILE) else {
+        return Ok(());
+    };
+    if !found.is_file() {
+        return Err(refused(no_file_line(rt.alloc())));
+    }
+    if found.len() > FILE_LIMIT as u64 {
+        return Err(refused(too_long_line(rt.alloc())));
+    }
+    Ok(())
+}
+
 /// The text of the file of the project.
 pub(crate) fn read_text(rt: &HostRuntime) -> Result<Vec<u8>, Fault> {
+    refuse_endless(rt)?;
     match fs::read(rt, FILE) {
         Ok(text) => Ok(text),
         Err(error) => {

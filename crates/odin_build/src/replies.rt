@@ -192,14 +192,23 @@ fn store_fault(fault: StoreFault, in_use: bool) -> Fault {
     }
 }
 
+/// The file of the target of a name.
+fn file_of<'a>(project: &'a Project, name: &'a [u8]) -> &'a [u8] {
+    let targets = project.targets.as_slice();
+    match targets.iter().find(|target| target.name.as_slice() == name) {
+        Some(target) => target.file.as_slice(),
+        None => name,
+    }
+}
+
 /// The fault of a target's file.
-fn output_fault(alloc: Global, name: &[u8], cause: Option<io::Error>) -> Fault {
+fn output_fault(alloc: Global, path: &[u8], cause: Option<io::Error>) -> Fault {
     let error = match cause {
         Some(error) => error,
         None => io::Error::from(io::ErrorKind::Other),
     };
-    let place = match std::str::from_utf8(name) {
-        Ok(name) => name,
+    let place = match std::str::from_utf8(path) {
+        Ok(path) => path,
         Err(_) => "a file of a target",
     };
     match Cause::at(alloc, place, &error) {
@@ -223,7 +232,7 @@ pub(crate) fn fault_of(
         BuildFault::Store(fault) => store_fault(fault, in_use),
         BuildFault::Target(TargetFault::Store(fault)) => store_fault(fault, in_use),
         BuildFault::Target(TargetFault::Output(name)) => {
-            output_fault(alloc, name.as_slice(), cause)
+            output_fault(alloc, file_of(project, name.as_slice()), cause)
         }
         BuildFault::Target(TargetFault::Memory) => Fault::Memory,
     }

@@ -4,10 +4,15 @@ ghost use Rattle.odin_engine.specs.Engaged.{IsLimit};
 use crate::faults::{Fault, MEMORY};
 use crate::found::input_fault;
 use crate::kept::{STORE, open_store};
+use crate::looks::Looks;
 use crate::noted::{Ended, Wanted, write_noted};
+use crate::options::words_fault;
 use crate::reading::{enter_project, refused};
+use crate::refusing::{Held, refuse_extras, refuse_targets};
 use crate::replies::{fault_of, missing_line, tell_replies, work_lines, write_target};
 use crate::screen::{Noted, Screen, has_colours, started_path};
+use crate::simple::GraphFile;
+use crate::state::{child_tools, make_state};
 use crate::told::{Line, say};
 use crate::whole::{Whole, read_whole};
 use crate::why::Reasons;
@@ -17,6 +22,7 @@ use build_view::watched::Watched;
 use clap::Error;
 use clap::error::ErrorKind;
 use object_values::{Bytes, FileBody, Memory, Reply, Seq};
+use odin_bytes::Name;
 use odin_engine::Engine;
 use odin_outside::Tree;
 use odin_real::{ChildTools, FileDisk, FolderTree, HostSystem, NamedFile};
@@ -24,14 +30,16 @@ use odin_start::words_of;
 use project_build::{Plan, build_project, status_of};
 use project_file::project::{Project, Target};
 use project_folder::words::{Asked, View, read_words};
-use project_folder::{MOST_JOBS, NoSources, NoTarget, jobs_by, list_sources, targets_among};
+use project_folder::{
+    MOST_JOBS, NoSources, NoTarget, jobs_by, list_sources, targets_among, tidy_outputs,
+};
 use project_kits::tree::MadeTree;
 use std::alloc::Global;
-use std::io::{ErrorKind as IoErrorKind, Write};
+use std::io::Write;
 use std::{fs, io};
 
-/// The folder in which a build keeps what it knows.
-const STATE: &str = ".odin";
+/// How many builds there are at most, where files change while they run.
+const PASSES: u32 = 3;
 
 /// Shows help or the version.
 fn show(rt: &HostRuntime, error: &Error) -> Result<u8, Fault> {
@@ -39,7 +47,7 @@ fn show(rt: &HostRuntime, error: &Error) -> Result<u8, Fault> {
         return Err(Fault::Memory);
     }
     if error.use_stderr() {
-        return Err(Fault::Words);
+        return Err(words_fault(rt.alloc(), error));
     }
     match error.print(rt) {
         Ok(()) => Ok(0),
@@ -60,22 +68,6 @@ fn jobs_of(rt: &HostRuntime, asked: Option<u32>) -> u32
     match fs::read(rt, "/proc/self/status") {
         Ok(status) => jobs_by(status.as_slice()),
         Err(_) => 1,
-    }
-}
-
-/// Makes the folder in which a build keeps what it knows.
-fn make_state(rt: &HostRuntime) -> Result<(), Fault> {
-    match fs::create_dir(rt, STATE) {
-        Ok(()) => Ok(()),
-        Err(error) => {
-            if error.kind() == IoErrorKind::AlreadyExists {
-                return Ok(());
-            }
-            Err(match Cause::at(rt.alloc(), STATE, &error) {
-                Ok(cause) => Fault::Output(cause),
-                Err(Memory) => Fault::Memory,
-            })
-        }
     }
 }
 
@@ -240,8 +232,7 @@ fn build_targets(
     let mut tree = MadeTree::new(made, FolderTree::new(rt));
     let screen = screen_of(rt, plan.graph, &mut tree, telling);
     let mut disk = FileDisk::open(NamedFile::new(rt, STORE));
-    let tools = ChildTools::new(alloc, HostSystem::new(rt), rt.stderr());
-    let mut watched = Watched::new(tools, screen);
+    let mut watched = Watched::new(child_tools(rt), screen);
     let mut outputs = WrittenFiles::new(rt);
     let built = build_project(
         alloc,
@@ -272,24 +263,44 @@ fn build_targets(
     }
 }
 
-/// Builds targets, tells of them, and gives the status.
+/// What a build ends with: its status, or that files changed while it ran, after so many tools were started.
+#[derive(Clone, Copy)]
+enum Pass {
+    Ended(u8),
+    Changed(u64),
+}
+
+/// A project as it is built: what is found in its folder, how these files were, and how many tools earlier builds of this run started.
+#[derive(Clone, Copy)]
+struct Taken<'a> {
+    project: &'a Project,
+    found: &'a [Bytes],
+    looks: &'a Looks,
+    before: u64,
+}
+
+/// Builds targets, tells of them, and gives the status. Where files changed meanwhile nothing is told but that.
 fn build<'a>(
     rt: &HostRuntime,
-    project: &'a Project,
+    taken: &Taken<'a>,
     made: Seq<FileBody>,
-    found: &[Bytes],
     plan: &Plan<'a>,
     telling: &Telling<'_>,
-) -> Result<u8, Fault>
+) -> Result<Pass, Fault>
     requires { IsLimit plan.now.jobs }
 {
     make_state(rt)?;
+    let project = taken.project;
     let Outcome {
         built,
         kept,
         started,
         noted,
-    } = build_targets(rt, project, made, found, plan, telling);
+    } = build_targets(rt, project, made, taken.found, plan, telling);
+    let started = taken.before.saturating_add(started);
+    if built.is_ok() && taken.looks.tell_changed(rt)? {
+        return Ok(Pass::Changed(started));
+    }
     let ended = Ended {
         project,
         targets: plan.targets,
@@ -308,12 +319,115 @@ fn build<'a>(
         started,
     )?;
     written?;
-    Ok(status)
+    Ok(Pass::Ended(status))
 }
 
-/// Does what the words ask for.
-fn run_asked(rt: &HostRuntime, asked: &Asked<'_>) -> Result<u8, Fault> {
+/// The paths of sources.
+fn paths_of(alloc: Global, names: &[Name]) -> Result<Vec<Bytes>, Memory> {
+    let mut paths = Vec::new(alloc);
+    for name in names {
+        let path = Bytes::from_slice(alloc, name.as_slice())?;
+        paths.push(path).map_err(|_| Memory)?;
+    }
+    Ok(paths)
+}
+
+/// Refuses files that would be written over others, by where they lead.
+fn refuse_written(
+    rt: &HostRuntime,
+    project: &Project,
+    graph: &[u8],
+    sources: &[Bytes],
+    targets: &[&Target],
+    made: &[FileBody],
+    wanted: &Wanted,
+) -> Result<(), Fault> {
+    let text = GraphFile {
+        made,
+        name: project.graph.as_slice(),
+    };
+    let outputs = tidy_outputs(rt.alloc(), project.targets.as_slice())?;
+    let held = Held {
+        graph,
+        sources,
+        outputs: outputs.as_slice(),
+    };
+    refuse_targets(rt, targets, &held, &text)?;
+    refuse_extras(rt, wanted, &held)
+}
+
+/// The targets that the words ask for.
+fn asked_targets<'a>(
+    alloc: Global,
+    project: &'a Project,
+    names: &[&str],
+) -> Result<Vec<&'a Target>, Fault> {
+    match targets_among(alloc, project, names) {
+        Ok(targets) => Ok(targets),
+        Err(fault) => Err(no_target(alloc, project, fault)),
+    }
+}
+
+/// The sources of the project among the files that were found.
+fn sources_among(alloc: Global, project: &Project, found: &[Bytes]) -> Result<Vec<Name>, Fault> {
+    match list_sources(alloc, project, found) {
+        Ok(sources) => Ok(sources),
+        Err(fault) => Err(no_sources(alloc, found, fault)),
+    }
+}
+
+/// Builds what the words ask for once, of the files as they stand now.
+fn run_once(
+    rt: &HostRuntime,
+    asked: &Asked<'_>,
+    telling: &Telling<'_>,
+    before: u64,
+) -> Result<Pass, Fault> {
     let alloc = rt.alloc();
+    let Whole {
+        project,
+        made,
+        found,
+        passed,
+        graph,
+        mut looks,
+    } = read_whole(rt, asked.tells)?;
+    let targets = asked_targets(alloc, &project, asked.targets.as_slice())?;
+    let sources = sources_among(alloc, &project, found.as_slice())?;
+    passed.tell(rt, telling.view.verbose)?;
+    let (targets, sources) = (targets.as_slice(), sources.as_slice());
+    if asked.tells {
+        return Ok(Pass::Ended(tell_targets(rt, targets)?));
+    }
+    let paths = paths_of(alloc, sources)?;
+    let (graph, wanted) = (graph.as_slice(), &telling.wanted);
+    refuse_written(
+        rt,
+        &project,
+        graph,
+        paths.as_slice(),
+        targets,
+        made.as_slice(),
+        wanted,
+    )?;
+    looks.take_all(rt, paths.as_slice(), made.as_slice())?;
+    let plan = Plan {
+        graph: project.graph.as_slice(),
+        sources,
+        targets,
+        jobs: jobs_of(rt, asked.jobs),
+    };
+    let taken = Taken {
+        project: &project,
+        found: found.as_slice(),
+        looks: &looks,
+        before,
+    };
+    build(rt, &taken, made, &plan, telling)
+}
+
+/// Does what the words ask for. Where files change while they are built the build takes them anew, a few times.
+fn run_asked(rt: &HostRuntime, asked: &Asked<'_>) -> Result<u8, Fault> {
     let telling = Telling {
         view: asked.view,
         wanted: Wanted {
@@ -322,29 +436,14 @@ fn run_asked(rt: &HostRuntime, asked: &Asked<'_>) -> Result<u8, Fault> {
         },
     };
     enter_project(rt, asked.folder)?;
-    let Whole {
-        project,
-        made,
-        found,
-    } = read_whole(rt, asked.tells)?;
-    let targets = match targets_among(alloc, &project, asked.targets.as_slice()) {
-        Ok(targets) => targets,
-        Err(fault) => return Err(no_target(alloc, &project, fault)),
-    };
-    let sources = match list_sources(alloc, &project, found.as_slice()) {
-        Ok(sources) => sources,
-        Err(fault) => return Err(no_sources(alloc, found.as_slice(), fault)),
-    };
-    if asked.tells {
-        return tell_targets(rt, targets.as_slice());
+    let mut started = 0;
+    for _ in 0..PASSES {
+        match run_once(rt, asked, &telling, started)? {
+            Pass::Ended(status) => return Ok(status),
+            Pass::Changed(tools) => started = tools,
+        }
     }
-    let plan = Plan {
-        graph: project.graph.as_slice(),
-        sources: sources.as_slice(),
-        targets: targets.as_slice(),
-        jobs: jobs_of(rt, asked.jobs),
-    };
-    build(rt, &project, made, found.as_slice(), &plan, &telling)
+    Err(Fault::Changing)
 }
 
 /// The exit status of a run with the words of the program, where there is no fault.

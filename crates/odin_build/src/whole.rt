@@ -1,28 +1,36 @@
 // A project with what its kits make for it.
 use crate::faults::Fault;
-use crate::found::files_below;
+use crate::found::{Found, files_below};
 use crate::kits::{Kits, read_kits};
+use crate::looks::Looks;
 use crate::made::{
     add_files, graph_file, kit_files, kit_patterns, named_line, tools_of, unit_lists,
 };
-use crate::reading::{problem_fault, project_in, read_text, refused};
-use object_values::{Bytes, Copied, FileBody, Seq};
+use crate::passed::{Passed, Patterns, pass_over};
+use crate::reading::{FILE, problem_fault, project_in, read_text, refused};
+use crate::refusing::refuse_outputs;
+use build_files::paths::tidy;
+use object_values::{Bytes, Copied, FileBody, Memory, Seq};
 use project_file::project::{Project, Target};
 use project_file::reading::FILE_LIMIT;
-use project_folder::tidy_outputs;
-use project_kits::plain::{all_targets, plain_project};
+use project_folder::{double_among, tidy_outputs, tidy_patterns};
+use project_kits::plain::{GRAPH, all_targets, plain_project};
 use project_kits::reading::{kits_of, read_wanted};
 use project_kits::settings::first_unknown;
 use project_kits::wanted::Wanted;
 use std::alloc::Global;
 use toml::Table;
 
-/// A project, the files that are made for it, and those that it has with them.
+/// A project, the files that are made for it, those that it has with them, those that are passed over, the path of its own graph, and how the files were
+/// that are read for it.
 #[derive(Drop)]
 pub(crate) struct Whole {
     pub(crate) project: Project,
     pub(crate) made: Seq<FileBody>,
     pub(crate) found: Vec<Bytes>,
+    pub(crate) passed: Passed,
+    pub(crate) graph: Bytes,
+    pub(crate) looks: Looks,
 }
 
 // ---- refusals
@@ -31,45 +39,19 @@ fn unknown_setting(alloc: Global, name: &[u8]) -> Fault {
     refused(named_line(alloc, "odin.toml: no such setting: ", name))
 }
 
-/// One of the names that stand there twice.
-fn double_among<'a>(mut names: Vec<&'a [u8]>) -> Result<Option<&'a [u8]>, Fault> {
-    names.sort().map_err(|_| Fault::Memory)?;
-    for pair in names.as_slice().windows(2) {
-        if let [one, other] = pair {
-            if *one == *other {
-                return Ok(Some(*one));
-            }
-        }
-    }
-    Ok(None)
-}
-
 /// Refuses two targets of one name, of which only the first could be asked for.
 fn refuse_doubles(alloc: Global, targets: &[Target]) -> Result<(), Fault> {
-    let mut names: Vec<&[u8]> = Vec::new(alloc);
+    let mut names = Vec::new(alloc);
     for target in targets {
         names
-            .push(target.name.as_slice())
+            .push(target.name.copy(alloc)?)
             .map_err(|_| Fault::Memory)?;
     }
-    match double_among(names)? {
-        Some(name) => Err(refused(named_line(alloc, "odin.toml: two targets of one name: ", name))),
-        None => Ok(()),
-    }
-}
-
-/// Refuses two targets with one file, of which only the later one would stand.
-fn refuse_shared(alloc: Global, targets: &[Target]) -> Result<(), Fault> {
-    let outputs = tidy_outputs(alloc, targets)?;
-    let mut files: Vec<&[u8]> = Vec::new(alloc);
-    for output in outputs.as_slice() {
-        files.push(output.as_slice()).map_err(|_| Fault::Memory)?;
-    }
-    match double_among(files)? {
-        Some(file) => Err(refused(named_line(
+    match double_among(names.as_slice()) {
+        Some(name) => Err(refused(named_line(
             alloc,
-            "odin.toml: two targets with one file: ",
-            file,
+            "odin.toml: two targets of one name: ",
+            name.as_slice(),
         ))),
         None => Ok(()),
     }
@@ -87,11 +69,50 @@ fn add_found(alloc: Global, made: &[FileBody], found: &mut Vec<Bytes>) -> Result
     Ok(())
 }
 
+/// Parts from the files that were found those that only a pattern of a kit fits, and that no source may be.
+fn without_passed(
+    rt: &HostRuntime,
+    wanted: &Wanted,
+    kits: &[Bytes],
+    targets: &[Target],
+    found: Found,
+) -> Result<(Vec<Bytes>, Passed), Fault> {
+    let alloc = rt.alloc();
+    let listed = plain_project(alloc, wanted, &[], &[])?;
+    let own = tidy_patterns(alloc, listed.sources.as_slice())?;
+    let kits = tidy_patterns(alloc, kits)?;
+    let outputs = tidy_outputs(alloc, targets)?;
+    let patterns = Patterns {
+        own: own.as_slice(),
+        kits: kits.as_slice(),
+        outputs: outputs.as_slice(),
+    };
+    let Found { files, odd } = found;
+    let mut passed = Vec::new(alloc);
+    let kept = pass_over(rt, &patterns, files, &mut passed)?;
+    Ok((
+        kept,
+        Passed {
+            files: passed,
+            folders: odd,
+        },
+    ))
+}
+
+/// The path of the project's own graph, where it has one.
+fn own_path(alloc: Global, own: Option<&Bytes>) -> Result<Bytes, Memory> {
+    match own {
+        Some(path) => tidy(alloc, path.as_slice()),
+        None => Bytes::from_slice(alloc, GRAPH),
+    }
+}
+
 fn whole_with(
     rt: &HostRuntime,
     kits: &[&str],
     wanted: &Wanted,
     read: Kits,
+    mut looks: Looks,
     tells: bool,
 ) -> Result<Whole, Fault> {
     let alloc = rt.alloc();
@@ -101,23 +122,33 @@ fn whole_with(
     }
     let targets = all_targets(alloc, wanted)?;
     refuse_doubles(alloc, targets.as_slice())?;
-    let mut found = files_below(rt)?;
+    let settled = kit_files(alloc, wanted.settings.as_slice(), files)?;
+    let patterns = kit_patterns(alloc, kits, settled.as_slice())?;
+    let (mut found, passed) = without_passed(
+        rt,
+        wanted,
+        patterns.as_slice(),
+        targets.as_slice(),
+        files_below(rt)?,
+    )?;
     let lists = unit_lists(
         alloc,
         wanted.units.as_slice(),
         targets.as_slice(),
         &mut found,
     )?;
-    let settled = kit_files(alloc, wanted.settings.as_slice(), files)?;
-    let patterns = kit_patterns(alloc, kits, settled.as_slice())?;
+    let mut files = settled;
+    add_files(lists, &mut files)?;
+    let plain = plain_project(alloc, wanted, &[], files.as_slice())?;
+    let own = own_path(alloc, wanted.graph.as_ref())?;
+    refuse_outputs(alloc, &plain, own.as_slice())?;
     // What is told of the tools comes first: no file of the kit stands in its place.
     let mut made = if tells {
         Seq::new(alloc)
     } else {
-        tools_of(rt, kits, settled.as_slice())?
+        tools_of(rt, kits, files.as_slice())?
     };
-    add_files(settled, &mut made)?;
-    add_files(lists, &mut made)?;
+    add_files(files, &mut made)?;
     let project = plain_project(alloc, wanted, patterns.as_slice(), made.as_slice())?;
     add_found(alloc, made.as_slice(), &mut found)?;
     let graph = graph_file(
@@ -125,23 +156,33 @@ fn whole_with(
         wanted.graph.as_ref(),
         graphs.as_slice(),
         found.as_slice(),
+        &mut looks,
     )?;
     made.push(graph)?;
     Ok(Whole {
         project,
         made,
         found,
+        passed,
+        graph: own,
+        looks,
     })
 }
 
 /// The project of a document that names kits.
-fn with_kits(rt: &HostRuntime, keys: &Table, kits: &[&str], tells: bool) -> Result<Whole, Fault> {
+fn with_kits(
+    rt: &HostRuntime,
+    keys: &Table,
+    kits: &[&str],
+    looks: Looks,
+    tells: bool,
+) -> Result<Whole, Fault> {
     let wanted = match read_wanted(rt.alloc(), kits, keys) {
         Ok(wanted) => wanted,
         Err(why) => return Err(problem_fault(rt.alloc(), &why)),
     };
     let read = read_kits(rt, kits)?;
-    whole_with(rt, kits, &wanted, read, tells)
+    whole_with(rt, kits, &wanted, read, looks, tells)
 }
 
 /// The document in a text. One that is none, or is too long, is refused by what reads a project without kits.
@@ -152,15 +193,33 @@ fn document_of(alloc: Global, text: &[u8]) -> Option<Table> {
     toml::table_from_slice(alloc, text).ok()
 }
 
-/// The project of the current folder, in which no two targets have one file. Where it is only told what would be asked, no script of a kit is run.
-pub(crate) fn read_whole(rt: &HostRuntime, tells: bool) -> Result<Whole, Fault> {
-    let whole = whole_of(rt, tells)?;
-    refuse_shared(rt.alloc(), whole.project.targets.as_slice())?;
-    Ok(whole)
+/// The project of a text that names no kit.
+fn without_kits(rt: &HostRuntime, text: &[u8], mut looks: Looks) -> Result<Whole, Fault> {
+    let alloc = rt.alloc();
+    let project = project_in(alloc, text)?;
+    looks.take(rt, project.graph.as_slice())?;
+    let Found { files, odd } = files_below(rt)?;
+    let graph = tidy(alloc, project.graph.as_slice())?;
+    refuse_outputs(alloc, &project, graph.as_slice())?;
+    Ok(Whole {
+        project,
+        made: Seq::new(alloc),
+        found: files,
+        passed: Passed {
+            files: Vec::new(alloc),
+            folders: odd,
+        },
+        graph,
+        looks,
+    })
 }
 
-fn whole_of(rt: &HostRuntime, tells: bool) -> Result<Whole, Fault> {
+/// The project of the current folder, in which no two targets have one file, and none has one that a build never writes. Where it is only told what would be
+/// asked, no script of a kit is run.
+pub(crate) fn read_whole(rt: &HostRuntime, tells: bool) -> Result<Whole, Fault> {
     let alloc = rt.alloc();
+    let mut looks = Looks::new(alloc);
+    looks.take(rt, FILE.as_bytes())?;
     let text = read_text(rt)?;
     if let Some(keys) = document_of(alloc, text.as_slice()) {
         let kits = match kits_of(alloc, keys.get("kits")) {
@@ -168,12 +227,8 @@ fn whole_of(rt: &HostRuntime, tells: bool) -> Result<Whole, Fault> {
             Err(why) => return Err(problem_fault(alloc, &why)),
         };
         if !kits.is_empty() {
-            return with_kits(rt, &keys, kits.as_slice(), tells);
+            return with_kits(rt, &keys, kits.as_slice(), looks, tells);
         }
     }
-    Ok(Whole {
-        project: project_in(alloc, text.as_slice())?,
-        made: Seq::new(alloc),
-        found: files_below(rt)?,
-    })
+    without_kits(rt, text.as_slice(), looks)
 }

@@ -45,14 +45,11 @@ fn matches<'a>(alloc: Global, words: &'a [String]) -> Result<ArgMatches<'a>, Err
     ensures refused { IfErr result (λ e. kind_of e ≢ ErrorKind.OutOfMemory →
         fault_of command (map string_bytes words.entry.now) ≢ []) }
 {
-    let jobs = Arg::new(alloc, "jobs").long("jobs").action(ArgAction::Set);
-    let load = Arg::new(alloc, "load").long("load").action(ArgAction::Set);
-    let graph = Arg::new(alloc, "graph").action(ArgAction::Set);
     let command = Command::new(alloc, "odin")
         .disable_help_flag(true)
-        .arg(jobs)?
-        .arg(load)?
-        .arg(graph)?;
+        .arg(Arg::new(alloc, "jobs").long("jobs").action(ArgAction::Set))?
+        .arg(Arg::new(alloc, "load").long("load").action(ArgAction::Set))?
+        .arg(Arg::new(alloc, "graph").action(ArgAction::Set))?;
     command.try_get_matches_from(words)
 }
 

@@ -2,3 +2,4 @@ pub mod Command
 pub mod Listing
 pub mod Places
 pub mod Targets
+pub mod Written

@@ -17,6 +17,10 @@ use Rattle.project_folder.specs.declared.listing.NoSources.TheVariants as fault
 abbrev pub is_source : List (List ℕ) → List (List ℕ) → List ℕ → Bool
 is_source patterns outputs path = may_be_source outputs path && list_any (λ p. fits p path) patterns
 
+-- A pattern of the kits fits it, and none that the project lists: nobody asked for it by its name.
+abbrev pub is_unasked : (own kits outputs : List (List ℕ)) → List ℕ → Bool
+is_unasked own kits outputs path = is_source kits outputs path && not (list_any (λ p. fits p path) own)
+
 abbrev pub chosen : List (List ℕ) → List (List ℕ) → List (List ℕ) → List (List ℕ)
 chosen patterns outputs found = filter (is_source patterns outputs) found
 

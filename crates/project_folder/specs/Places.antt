@@ -11,6 +11,14 @@ is_apart step = bytes_eq step (codes ".git") || bytes_eq step (codes ".odin")
 abbrev pub is_reserved : List ℕ → Bool
 is_reserved path = starts_with nat_eq path (codes "odin.") || list_any is_apart (steps_of path)
 
+-- a step that leads up, or to nothing
+abbrev pub leads_off : List ℕ → Bool
+leads_off step = bytes_eq step [] || bytes_eq step (codes "..")
+
+-- No step leads up, and none is empty, as that before a path's first `/` is.
+abbrev pub leads_below : List ℕ → Bool
+leads_below path = not (list_any leads_off (steps_of path))
+
 -- nothing follows, or what lies in a folder
 abbrev pub leads_in : List ℕ → Bool
 leads_in [] = true

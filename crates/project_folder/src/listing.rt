@@ -92,6 +92,24 @@ fn is_source(
     }
 }
 
+/// Whether a pattern of the kits fits a file that may be a source, and none that the project lists: nobody asked for it by its name.
+pub fn is_unasked(
+    alloc: Global,
+    own: &[Bytes],
+    kits: &[Bytes],
+    outputs: &[Bytes],
+    path: &[u8],
+) -> Result<bool, Memory>
+    ensures { IfOk result (λ found.
+        found ≡ meaning.is_unasked own.now kits.now outputs.now path.now) }
+{
+    if is_source(alloc, kits, outputs, path)? {
+        let is_listed = some_fits(alloc, own, path)?;
+        return Ok(!is_listed);
+    }
+    Ok(false)
+}
+
 /// Adds a file, where it is a source.
 fn add_source(
     alloc: Global,
@@ -134,7 +152,7 @@ fn chosen(
 // ---- files that are named
 
 /// Whether a pattern names one file alone.
-fn is_plain(pattern: &[u8]) -> bool
+pub(crate) fn is_plain(pattern: &[u8]) -> bool
     ensures { result ≡ meaning.is_plain pattern.now }
 {
     !pattern.contains(&b'*')

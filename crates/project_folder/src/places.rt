@@ -25,6 +25,25 @@ pub fn is_reserved(path: &[u8]) -> bool
     path.starts_with(b"odin.") || leads_apart(path)
 }
 
+fn leads_off(step: &[u8]) -> bool
+    ensures { result ≡ meaning.leads_off step.now }
+{
+    step.is_empty() || step == b"..".as_slice()
+}
+
+fn some_step_off(path: &[u8]) -> bool
+    ensures { result ≡ list_any meaning.leads_off (steps_of path.now) }
+{
+    path.split(|byte| *byte == b'/').any(|step| leads_off(step))
+}
+
+/// Whether a path leads to a file below the folder where it begins, by its steps alone.
+pub fn leads_below(path: &[u8]) -> bool
+    ensures { result ≡ meaning.leads_below path.now }
+{
+    !some_step_off(path)
+}
+
 /// Whether nothing follows, or what lies in a folder.
 fn leads_in(rest: &[u8]) -> bool
     ensures { result ≡ meaning.leads_in rest.now }
@@ -36,7 +55,7 @@ fn leads_in(rest: &[u8]) -> bool
 }
 
 /// Whether a path is this one, or lies in the folder there.
-fn is_within(output: &[u8], path: &[u8]) -> bool
+pub(crate) fn is_within(output: &[u8], path: &[u8]) -> bool
     ensures { result ≡ meaning.is_within output.now path.now }
 {
     path.starts_with(output) && leads_in(&path[output.len()..])

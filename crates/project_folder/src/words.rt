@@ -118,24 +118,22 @@ fn target_words<'a>(alloc: Global) -> Arg<'a>
 fn bare_command<'a>(alloc: Global) -> Result<Command<'a>, AllocError>
     ensures { IfOk result (λ made. app_of made ≡ working) }
 {
-    let folder = option(
-        alloc,
-        "folder",
-        'C',
-        "the folder of the project, in place of this one",
-    );
-    let jobs = option(
-        alloc,
-        "jobs",
-        'j',
-        "how many tools run at once, from 1 to 64, in place of one a processor",
-    );
     Command::new(alloc, "odin-build")
         .about("Builds the targets of odin.toml from exactly the files that it lists.")
         .version("1")
         .override_usage(USAGE)
-        .arg(folder)?
-        .arg(jobs)?
+        .arg(option(
+            alloc,
+            "folder",
+            'C',
+            "the folder of the project, in place of this one",
+        ))?
+        .arg(option(
+            alloc,
+            "jobs",
+            'j',
+            "how many tools run at once, from 1 to 64, in place of one a processor",
+        ))?
         .arg(tells_flag(alloc))
 }
 
@@ -145,27 +143,21 @@ fn matches<'a>(alloc: Global, words: &'a [String]) -> Result<ArgMatches<'a>, Err
         rows_of (found_of m) ≡ matches_of command (map string_bytes words.entry.now)) }
     ensures kinds { FailsBy (fault_of command (map string_bytes words.entry.now)) result }
 {
-    let quiet = flag(alloc, "quiet", 'q', "tell no progress");
-    let verbose = flag(alloc, "verbose", 'v', "also tell the size of the store");
-    let why = long_flag(alloc, "why", "also tell why each tool is run");
-    let colours = long_option(alloc, "color", "colours: auto, always or never");
-    let trace = long_option(
-        alloc,
-        "trace",
-        "the file that is to have when each tool ran",
-    );
-    let page = long_option(
-        alloc,
-        "page",
-        "the file that is to have a page about the build",
-    );
     let command = bare_command(alloc)?
-        .arg(quiet)?
-        .arg(verbose)?
-        .arg(why)?
-        .arg(colours)?
-        .arg(trace)?
-        .arg(page)?
+        .arg(flag(alloc, "quiet", 'q', "tell no progress"))?
+        .arg(flag(alloc, "verbose", 'v', "also tell the size of the store"))?
+        .arg(long_flag(alloc, "why", "also tell why each tool is run"))?
+        .arg(long_option(alloc, "color", "colours: auto, always or never"))?
+        .arg(long_option(
+            alloc,
+            "trace",
+            "the file that is to have when each tool ran",
+        ))?
+        .arg(long_option(
+            alloc,
+            "page",
+            "the file that is to have a page about the build",
+        ))?
         .arg(target_words(alloc))?;
     command.try_get_matches_from(words)
 }

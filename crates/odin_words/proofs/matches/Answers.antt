@@ -27,10 +27,10 @@ words c = map (λ s. string_bytes s) c.args.words.now
 command_is : (c : goal.After-try_get_matches_from) → app_of c.in_ok-command.command ≡ command
 unfolding no_help
 command_is c =
-    let jobs_is : rule_of c.action-jobs.result ≡ jobs = search rules in
-    let load_is : rule_of c.action-load.result ≡ load = search rules in
-    let graph_is : rule_of c.action-graph.result ≡ graph = search rules in
-    let bare_is : app_of c.disable_help_flag.result ≡ bare_odin = ap app_of_fields c.disable_help_flag.ensures ∙ ap no_help c.new-4.ensures.app in
+    let jobs_is : rule_of c.action.result ≡ jobs = search rules in
+    let load_is : rule_of c.action-2.result ≡ load = search rules in
+    let graph_is : rule_of c.action-3.result ≡ graph = search rules in
+    let bare_is : app_of c.disable_help_flag.result ≡ bare_odin = ap app_of_fields c.disable_help_flag.ensures ∙ ap no_help c.new.ensures.app in
     c.in_ok-command.ensures.shape (search rules)
     ∙ ap₂ with_rule (c.in_ok-arg-2.ensures.shape (search rules) ∙ ap₂ with_rule (c.in_ok-arg.ensures.shape (search rules) ∙ ap₂ with_rule bare_is jobs_is) load_is) graph_is
 

@@ -27,10 +27,10 @@ words c = map (λ s. string_bytes s) c.args.words.now
 command_is : (c : goal.After-try_get_matches_from) → app_of c.in_ok-command.command ≡ command
 unfolding no_help
 command_is c =
-    let file_is : rule_of c.action-file.result ≡ file = search rules in
-    let messages_is : rule_of c.action-messages.result ≡ messages = search rules in
-    let labels_is : rule_of c.action-labels.result ≡ labels = search rules in
-    let bare_is : app_of c.disable_help_flag.result ≡ bare_odin_get = ap app_of_fields c.disable_help_flag.ensures ∙ ap no_help c.new-4.ensures.app in
+    let file_is : rule_of c.action.result ≡ file = search rules in
+    let messages_is : rule_of c.action-2.result ≡ messages = search rules in
+    let labels_is : rule_of c.action-3.result ≡ labels = search rules in
+    let bare_is : app_of c.disable_help_flag.result ≡ bare_odin_get = ap app_of_fields c.disable_help_flag.ensures ∙ ap no_help c.new.ensures.app in
     c.in_ok-command.ensures.shape (search rules)
     ∙ ap₂ with_rule (c.in_ok-arg-2.ensures.shape (search rules)
     ∙ ap₂ with_rule (c.in_ok-arg.ensures.shape (search rules) ∙ ap₂ with_rule bare_is file_is) messages_is) labels_is

@@ -22,13 +22,13 @@ words c = map (λ s. string_bytes s) c.args.words.now
 command_is : (c : goal.After-try_get_matches_from) → app_of c.in_ok-command.command ≡ command
 command_is c =
     c.in_ok-command.ensures.shape c.target_words.ensures.local
-    ∙ ap₂ with_rule (c.in_ok-arg-6.ensures.shape c.long_option-page.ensures.local
-    ∙ ap₂ with_rule (c.in_ok-arg-5.ensures.shape c.long_option-trace.ensures.local
-    ∙ ap₂ with_rule (c.in_ok-arg-4.ensures.shape c.long_option-colours.ensures.local
-    ∙ ap₂ with_rule (c.in_ok-arg-3.ensures.shape c.long_flag-why.ensures.local
-    ∙ ap₂ with_rule (c.in_ok-arg-2.ensures.shape c.flag-verbose.ensures.local
-    ∙ ap₂ with_rule (c.in_ok-arg.ensures.shape c.flag-quiet.ensures.local ∙ ap₂ with_rule c.in_ok-bare_command.ensures c.flag-quiet.ensures.rule) c.flag-verbose.ensures.rule)
-    c.long_flag-why.ensures.rule) c.long_option-colours.ensures.rule) c.long_option-trace.ensures.rule) c.long_option-page.ensures.rule) c.target_words.ensures.rule
+    ∙ ap₂ with_rule (c.in_ok-arg-6.ensures.shape c.long_option-3.ensures.local
+    ∙ ap₂ with_rule (c.in_ok-arg-5.ensures.shape c.long_option-2.ensures.local
+    ∙ ap₂ with_rule (c.in_ok-arg-4.ensures.shape c.long_option.ensures.local
+    ∙ ap₂ with_rule (c.in_ok-arg-3.ensures.shape c.long_flag.ensures.local
+    ∙ ap₂ with_rule (c.in_ok-arg-2.ensures.shape c.flag-2.ensures.local
+    ∙ ap₂ with_rule (c.in_ok-arg.ensures.shape c.flag.ensures.local ∙ ap₂ with_rule c.in_ok-bare_command.ensures c.flag.ensures.rule) c.flag-2.ensures.rule)
+    c.long_flag.ensures.rule) c.long_option.ensures.rule) c.long_option-2.ensures.rule) c.long_option-3.ensures.rule) c.target_words.ensures.rule
 
 -- the rows of a command that is the same as this one
 rows_by : (a b : App) (given : List Text) (r : Result ArgMatches Error) → a ≡ b → is_simple b ≡ true → IfOk r (λ m. HasMatchesOf a given m)
