@@ -3,8 +3,8 @@
 
     colliding.py PROGRAM
 
-PROGRAM is the built crates/odin_bench. Each store is opened at 1,000, 2,000 and 4,000 of what it has, less the opening of one with none of it. It prints the
-instructions for each, and how far twice and four times as many are from two and four times the instructions.
+PROGRAM is the built crates/odin. Each store is opened by a session without input at 1,000, 2,000 and 4,000 of what it has, less the opening of one with none of
+it. It prints the instructions for each, and how far twice and four times as many are from two and four times the instructions.
 """
 import os
 import re
@@ -12,7 +12,7 @@ import subprocess
 import sys
 import tempfile
 
-from store_images import Writer, blob, many
+from store_images import GRAPH, Writer, blob, many
 
 COUNTS = [1000, 2000, 4000]
 # A text whose last eight bytes are these has the quick hash 0, whatever stands before.
@@ -55,16 +55,16 @@ def compounds(count):
 
 
 def opening(program, image, folder):
-    path = os.path.join(folder, "store")
-    with open(path, "wb") as out:
-        out.write(image)
-    run = subprocess.run(["valgrind", "--tool=callgrind", "--callgrind-out-file=/dev/null", program, "store", "open", path],
-                         capture_output=True, text=True, check=True)
+    for name, bytes_of in (("odin.store", image), ("graph", GRAPH)):
+        with open(os.path.join(folder, name), "wb") as out:
+            out.write(bytes_of)
+    run = subprocess.run(["valgrind", "--tool=callgrind", "--callgrind-out-file=/dev/null", program, "graph"],
+                         cwd=folder, stdin=subprocess.DEVNULL, capture_output=True, text=True, check=True)
     return int(re.search(r"Collected : (\d+)", run.stderr).group(1))
 
 
 def main():
-    program = sys.argv[1]
+    program = os.path.realpath(sys.argv[1])
     kinds = [("calls with texts that collide", calls_of(END)), ("calls with other texts", calls_of(b"12345678")), ("compounds", compounds)]
     with tempfile.TemporaryDirectory() as folder:
         for name, made in kinds:

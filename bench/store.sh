@@ -1,41 +1,32 @@
 #!/bin/bash
-# Measures stores of many sources and kept calls. The opening of one in a file beside sha256sum of that file, in one run: the medians of five rounds, each of three
-# runs of either program, and once the most memory that the opening held. Then the keeping of a thousand calls where a hundred are kept, and where ten
-# thousand are: the medians of five runs of each in turn, by the program's own clock.
+# Measures the opening of a store of 8,192 sources of 8 KiB by the program, beside sha256sum of its file, in one run: the medians of five rounds, each of three
+# runs of either, and once the most memory that the opening held. ODIN names the program, else it is the one that was built here.
 set -eu
 export LC_ALL=C
 cd "$(dirname "$0")/.."
-program=$PWD/crates/odin_bench/out/odin_bench
+odin=$(realpath "${ODIN:-crates/odin/out/odin}")
 work=$(mktemp -d)
 trap 'rm -rf "$work"' EXIT
-runs=3
+cd "$work"
+echo 'type c simple;' > graph
+count=${1:-8192}
 
-# The seconds that so many runs of a command take, without its output.
+# The seconds that three runs of a command take, without its output.
 seconds() {
     local start=$EPOCHREALTIME
-    for _ in $(seq "$runs"); do "$@" > /dev/null; done
+    for _ in 1 2 3; do "$@" < /dev/null > /dev/null; done
     awk -v a="$start" -v b="$EPOCHREALTIME" 'BEGIN { printf "%.3f\n", b - a }'
 }
-median() { sort -n | sed -n 3p; }
+median() { sort -n "$1" | sed -n 3p; }
 ratio() { awk -v a="$1" -v b="$2" 'BEGIN { printf "%.2f\n", a / b }'; }
 
-"$program" store make "$work/store" 2000 4000
-for round in 1 2 3 4 5; do
-    seconds "$program" store open "$work/store" >> "$work/opens"
-    seconds sha256sum "$work/store" >> "$work/sums"
+# Each text is another one: its number, and the same bytes.
+head -c 8184 /dev/urandom > text
+for k in $(seq "$count"); do printf 'put a%d.c 8192\n%08d' "$k" "$k"; cat text; done | "$odin" graph > /dev/null
+for _ in 1 2 3 4 5; do
+    seconds "$odin" graph >> opens
+    seconds sha256sum odin.store >> sums
 done
-/usr/bin/time -f %M -o "$work/memory" "$program" store open "$work/store"
-opens=$(median < "$work/opens")
-sums=$(median < "$work/sums")
-echo "$runs times: opening the file $opens s, sha256sum $sums s, ratio $(ratio "$opens" "$sums")"
-# each of the 6,000 texts has 8 KiB
-contents=$((6000 * 8))
-echo "memory $(cat "$work/memory") KiB; against the contents, $contents KiB: $(ratio "$(cat "$work/memory")" "$contents")"
-
-for round in 1 2 3 4 5; do
-    "$program" store time - 100 1000 >> "$work/few"
-    "$program" store time - 10000 1000 >> "$work/many"
-done
-few=$(median < "$work/few")
-many=$(median < "$work/many")
-echo "keeping a call where 100 are kept $((few / 1000000)) microseconds, where 10,000 are $((many / 1000000)), ratio $(ratio "$many" "$few")"
+/usr/bin/time -f %M -o memory "$odin" graph < /dev/null
+echo "three times: opening the file of $(stat -c %s odin.store) bytes $(median opens) s, sha256sum $(median sums) s, ratio $(ratio "$(median opens)" "$(median sums)")"
+echo "memory $(cat memory) KiB; against the texts, $((count * 8)) KiB: $(ratio "$(cat memory)" $((count * 8)))"

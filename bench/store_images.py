@@ -4,10 +4,11 @@
     store_images.py PROGRAM [COUNT [SEED]]
 
 Images are made from sessions by bytes that change, cuts, splices, records that stand twice, and items that change within whole records; half of them were
-rewritten once or twice before, so that both starts are in use. PROGRAM is the built crates/odin_bench. Each image is opened for the graph text GRAPH, and
-once more opened, rewritten, wasteful or not, and opened again. Of each opening and of the rewriting both say where it isn't ours, or the sources, the calls and
-the records of nodes in order, and the file then. It prints how many agree, and the first that don't.
+rewritten once or twice before, so that both starts are in use. PROGRAM is the built crates/odin. Each image is the store of a session over the graph text
+GRAPH. Both say where it isn't ours, or the sources with their texts, how many calls are kept, and each byte of the file then, the batch of the graph among
+them. It prints how many agree, and the first that don't.
 """
+import itertools
 import os
 import random
 import struct
@@ -347,27 +348,15 @@ def rewritten(state, image, end):
     return image, live.records
 
 
-def wanted_of(image, mode):
-    """What the program is to say of an image."""
+def wanted_of(image):
+    """What a session has to end with and to write over an image, and the file then."""
     told = opened(image)
     if isinstance(told, int):
-        return told
-    state, image, end = told
-    if mode != "rewritten":
-        return dump(state, image)
-    image, state.records = rewritten(state, image, end)
-    again, same, _ = opened(image)
-    return dump(state, image) + dump(again, same)
-
-
-def dump_call(call, outcome):
-    tool, version, words, params, parts, outs = call
-    status, lines, outputs = outcome
-    return b"".join([
-        blob(tool), blob(version), many([blob(w) for w in words]), many([blob(n) + blob(v) for n, v in params]),
-        many([u32(slot) + blob(label) + (b"\0" if body is None else b"\1" + blob(body)) for slot, label, body in parts]),
-        many([blob(o) for o in outs]), bytes([status]), many([bytes([level]) + blob(text) for level, text in lines]),
-        many([blob(name) + blob(body) for name, body in outputs])])
+        return 7, b"store: not ours at %d\n" % told, image
+    state, after, _ = told
+    sources = sorted(state.sources.items())
+    lines = [b"sources %d\n" % len(sources), *[b"%s %d\n" % (name, len(text)) for name, text in sources], b"kept %d\n" % len(state.calls)]
+    return 0, b"".join(lines + [b"object ok simple %d\n%s\nmessages 0\n" % (len(text), text) for _, text in sources]), after
 
 
 def spell_value(value):
@@ -396,11 +385,6 @@ def spell_record(record):
     return b"".join([spell_node(record.node), many([spell_node(node) + spell_number(seen) for node, seen in record.deps]), u32(record.reached),
                      spell_number(record.value), bytes([record.own_status]), spell_messages(record.own_messages), bytes([record.status]),
                      spell_messages(record.messages), u32(record.height)])
-
-
-def dump(state, image):
-    return b"".join([many([blob(name) + blob(text) for name, text in sorted(state.sources.items())]),
-                     many([dump_call(*kept) for kept in state.calls]), many([spell_record(it) for it in state.records.values()]), blob(image)])
 
 
 # ---- images of sessions, written by the same tables
@@ -588,30 +572,17 @@ def mutate(rng, image, other):
     return rebuilt(image, payloads)
 
 
-def said(program, mode, images, folder):
-    path = os.path.join(folder, "images")
+def said(program, image, folder):
+    """The same as the program does it: it is asked for the sources that the model finds."""
+    told = opened(image)
+    names = [] if isinstance(told, int) else sorted(told[0].sources)
+    path = os.path.join(folder, "odin.store")
     with open(path, "wb") as out:
-        for image in images:
-            out.write(blob(image))
-    answer = subprocess.run([program, "store", mode, path], stdout=subprocess.PIPE, check=True).stdout
-    told, at = [], 0
-    while at < len(answer):
-        if answer[at] in (0, 2):
-            place = int.from_bytes(answer[at + 1:at + 9], "big")
-            told.append(place if answer[at] == 0 else f"not ours at {place}, and changed")
-            at += 9
-        elif answer[at] == 1:
-            size = int.from_bytes(answer[at + 1:at + 5], "big")
-            told.append(answer[at + 5:at + 5 + size])
-            at += 5 + size
-        else:
-            told.append("another fault")
-            at += 1
-    return told
-
-
-# an image is opened; and it is opened, rewritten, and opened again
-MODES = ("images", "rewritten")
+        out.write(image)
+    commands = b"sources\nkept\n" + b"".join(b"ask %s\n" % name for name in names)
+    ran = subprocess.run([program, "graph"], cwd=folder, input=commands, stdout=subprocess.PIPE, stderr=subprocess.DEVNULL)
+    with open(path, "rb") as file:
+        return ran.returncode, ran.stdout, file.read()
 
 
 def has_records(image):
@@ -620,48 +591,41 @@ def has_records(image):
     return not isinstance(told, int) and bool(told[0].records)
 
 
+def drawn(rng):
+    """Images by chance: a session's as it is, or some that are changed."""
+    while True:
+        image, other = session(rng), session(rng)
+        if rng.random() < 0.3:
+            yield image
+            continue
+        for _ in range(8):
+            made = image
+            for _ in range(rng.choice([1, 1, 1, 2])):
+                made = mutate(rng, made, other)
+            yield made
+
+
 def main():
-    program = sys.argv[1]
-    count = int(sys.argv[2]) if len(sys.argv) > 2 else 100_000
+    program = os.path.realpath(sys.argv[1])
+    count = int(sys.argv[2]) if len(sys.argv) > 2 else 20_000
     rng = random.Random(int(sys.argv[3]) if len(sys.argv) > 3 else 1)
-    first = Writer(b"type c simple;")
-    assert len(first.image) == 89
-    first.put(b"a.c", b"")
-    assert len(first.image) == 116
-    done = ours = wrong = new = second = noting = 0
+    ours = wrong = new = second = noting = 0
     with tempfile.TemporaryDirectory() as folder:
-        while done < count:
-            images = []
-            while len(images) < min(2000, count - done):
-                image, other = session(rng), session(rng)
-                if rng.random() < 0.3:
-                    images.append(image)
-                    continue
-                for _ in range(8):
-                    made = image
-                    for _ in range(rng.choice([1, 1, 1, 2])):
-                        made = mutate(rng, made, other)
-                    images.append(made)
-            images = images[:count - done]
-            answers = list(zip(*[said(program, mode, images, folder) for mode in MODES]))
-            assert len(answers) == len(images), (len(answers), len(images))
-            for image, answer in zip(images, answers):
-                wanted = tuple(wanted_of(image, mode) for mode in MODES)
-                ours += isinstance(wanted[0], bytes)
-                noting += has_records(image)
-                new += records_of(image) is None
-                second += len(image) > 8 and image[8] % 2
-                if wanted != answer:
-                    wrong += 1
-                    if wrong <= 5:
-                        print("differs", image.hex())
-                        for mode, want, said_of in zip(MODES, wanted, answer):
-                            print(" ", mode, "wanted", want.hex() if isinstance(want, bytes) else want)
-                            print(" ", mode, "said  ", said_of.hex() if isinstance(said_of, bytes) else said_of)
-            done += len(images)
-    print(f"{done} images, {ours} of them stores ({new} new ones, {noting} with records of nodes), {done - ours} not ours; "
+        with open(os.path.join(folder, "graph"), "wb") as out:
+            out.write(GRAPH)
+        for image in itertools.islice(drawn(rng), count):
+            wanted, found = wanted_of(image), said(program, image, folder)
+            ours += wanted[0] == 0
+            noting += has_records(image)
+            new += records_of(image) is None
+            second += len(image) > 8 and image[8] % 2
+            if wanted != found:
+                wrong += 1
+                if wrong <= 5:
+                    print("differs", image.hex(), "wanted", wanted, "found", found, sep="\n  ")
+    print(f"{count} images, {ours} of them stores ({new} new ones, {noting} with records of nodes), {count - ours} not ours; "
           f"the second start is in use in {second}")
-    print(f"each opened, and opened, rewritten and opened again: {done - wrong} agree, {wrong} differ")
+    print(f"{count - wrong} agree, {wrong} differ")
     return 1 if wrong else 0
 
 

@@ -1,5 +1,5 @@
-//! Runs one after another over a store, with what each step starts, each call that fails and each stop, and whole runs over a runtime in memory and over
-//! real pipes, files, devices and child programs. It holds tests alone.
+//! Runs one after another over a store, with what each step starts, each call that fails and each stop, and whole runs over a runtime in memory. It holds
+//! tests alone.
 #![tactic(auto)]
 
 #[cfg(test)]
@@ -10,8 +10,6 @@ mod failing;
 mod flights;
 #[cfg(test)]
 mod keeping;
-#[cfg(test)]
-mod program;
 #[cfg(test)]
 mod rows;
 #[cfg(test)]
