@@ -107,6 +107,63 @@ fn own_path(alloc: Global, own: Option<&Bytes>) -> Result<Bytes, Memory> {
     }
 }
 
+/// What a project with kits is made of: the files of its settings, its kits and its lists, the patterns of its kits, and what was found and passed over.
+#[derive(Drop)]
+struct Parts {
+    files: Seq<FileBody>,
+    patterns: Seq<Bytes>,
+    found: Vec<Bytes>,
+    passed: Passed,
+}
+
+fn parts_of(
+    rt: &HostRuntime,
+    kits: &[&str],
+    wanted: &Wanted,
+    read: Seq<FileBody>,
+) -> Result<Parts, Fault> {
+    let alloc = rt.alloc();
+    if let Some(setting) = first_unknown(wanted.settings.as_slice(), read.as_slice()) {
+        return Err(unknown_setting(alloc, setting.name.as_slice()));
+    }
+    let targets = all_targets(alloc, wanted)?;
+    let targets = targets.as_slice();
+    refuse_doubles(alloc, targets)?;
+    let mut files = kit_files(alloc, wanted.settings.as_slice(), read)?;
+    let patterns = kit_patterns(alloc, kits, files.as_slice())?;
+    let (mut found, passed) = without_passed(
+        rt,
+        wanted,
+        patterns.as_slice(),
+        targets,
+        files_below(rt)?,
+    )?;
+    let lists = unit_lists(alloc, wanted.units.as_slice(), targets, &mut found)?;
+    add_files(lists, &mut files)?;
+    Ok(Parts {
+        files,
+        patterns,
+        found,
+        passed,
+    })
+}
+
+/// The files with what is told of the tools, which comes first: no file of the kit stands in its place.
+fn with_tools(
+    rt: &HostRuntime,
+    kits: &[&str],
+    files: Seq<FileBody>,
+    tells: bool,
+) -> Result<Seq<FileBody>, Fault> {
+    let mut made = if tells {
+        Seq::new(rt.alloc())
+    } else {
+        tools_of(rt, kits, files.as_slice())?
+    };
+    add_files(files, &mut made)?;
+    Ok(made)
+}
+
 fn whole_with(
     rt: &HostRuntime,
     kits: &[&str],
@@ -117,48 +174,20 @@ fn whole_with(
 ) -> Result<Whole, Fault> {
     let alloc = rt.alloc();
     let Kits { graphs, files } = read;
-    if let Some(setting) = first_unknown(wanted.settings.as_slice(), files.as_slice()) {
-        return Err(unknown_setting(alloc, setting.name.as_slice()));
-    }
-    let targets = all_targets(alloc, wanted)?;
-    refuse_doubles(alloc, targets.as_slice())?;
-    let settled = kit_files(alloc, wanted.settings.as_slice(), files)?;
-    let patterns = kit_patterns(alloc, kits, settled.as_slice())?;
-    let (mut found, passed) = without_passed(
-        rt,
-        wanted,
-        patterns.as_slice(),
-        targets.as_slice(),
-        files_below(rt)?,
-    )?;
-    let lists = unit_lists(
-        alloc,
-        wanted.units.as_slice(),
-        targets.as_slice(),
-        &mut found,
-    )?;
-    let mut files = settled;
-    add_files(lists, &mut files)?;
-    let plain = plain_project(alloc, wanted, &[], files.as_slice())?;
+    let Parts {
+        files,
+        patterns,
+        mut found,
+        passed,
+    } = parts_of(rt, kits, wanted, files)?;
     let own = own_path(alloc, wanted.graph.as_ref())?;
+    let plain = plain_project(alloc, wanted, &[], files.as_slice())?;
     refuse_outputs(alloc, &plain, own.as_slice())?;
-    // What is told of the tools comes first: no file of the kit stands in its place.
-    let mut made = if tells {
-        Seq::new(alloc)
-    } else {
-        tools_of(rt, kits, files.as_slice())?
-    };
-    add_files(files, &mut made)?;
+    let mut made = with_tools(rt, kits, files, tells)?;
     let project = plain_project(alloc, wanted, patterns.as_slice(), made.as_slice())?;
     add_found(alloc, made.as_slice(), &mut found)?;
-    let graph = graph_file(
-        rt,
-        wanted.graph.as_ref(),
-        graphs.as_slice(),
-        found.as_slice(),
-        &mut looks,
-    )?;
-    made.push(graph)?;
+    let (graph, graphs, names) = (wanted.graph.as_ref(), graphs.as_slice(), found.as_slice());
+    made.push(graph_file(rt, graph, graphs, names, &mut looks)?)?;
     Ok(Whole {
         project,
         made,
