@@ -5,6 +5,9 @@
 set -u
 # Messages don't follow the language of who runs it.
 export LC_ALL=C
+# What the environment would add to the folders and programs of the compiler is in no key.
+unset CPATH C_INCLUDE_PATH CPLUS_INCLUDE_PATH OBJC_INCLUDE_PATH LIBRARY_PATH GCC_EXEC_PREFIX COMPILER_PATH DEPENDENCIES_OUTPUT SUNPRO_DEPENDENCIES
+unset GCC_COMPARE_DEBUG GCC_EXTRA_DIAGNOSTIC_OUTPUT LD_RUN_PATH LDEMULATION GNUTARGET
 unit=$(sed -n 's/^part 0 i1 //p' call)
 debug=$(sed -n 's/^param debug /-g/p' call)
 case $debug in
@@ -31,7 +34,7 @@ set -f
     -fdiagnostics-column-unit=byte -c "./$unit" -o out.o 2> warnings && exit 0
 # Errors of the unit end with 1. Else the compiler failed, which another run may not: nothing is kept.
 if [ $? -ne 1 ] || grep -qE 'signal terminated program|No space left on device' warnings; then
-    cat warnings >&2
     : > no-outcome
+    cat warnings >&2
 fi
 exit 2
