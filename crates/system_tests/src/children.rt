@@ -106,8 +106,8 @@ const SCRIPTS: &[(&[u8], End, &[(&[u8], &[u8])])] = &[
     ),
     (b"cat > out.a", End::Exit(0), &[(b"out.a", b"")]),
     (b"exit 255", End::Exit(255), &[]),
-    (b"kill -9 $$", End::Signal, &[]),
-    (b"kill -TERM $$", End::Signal, &[]),
+    (b"kill -SEGV $$", End::Signal, &[]),
+    (b"kill -ALRM $$", End::Signal, &[]),
     // all that a tool writes goes to the standard error
     (b"echo to nobody; echo to nobody >&2", End::Exit(0), &[]),
     (b"test /proc/$$/fd/1 -ef /proc/$$/fd/2", End::Exit(0), &[]),
@@ -122,7 +122,7 @@ const SCRIPTS: &[(&[u8], End, &[(&[u8], &[u8])])] = &[
         &[(b"out.b", b"b\n")],
     ),
     (b"mkfifo out.a; ln -s none out.b", End::Exit(0), &[]),
-    (b"ln -s i1 out.b", End::Exit(0), &[(b"out.b", b"first\n")]),
+    (b"ln -s i1 out.b", End::Exit(0), &[]),
     (
         b"test -e left || echo new > out.a",
         End::Exit(0),
@@ -261,6 +261,38 @@ fn where_odin_work_is_no_folder_nothing_is_touched(rt: HostRuntime) -> Result<()
 const ORPHAN: &[u8] =
     b"d=$PWD; sleep 1; echo late > out.a; echo late > \"$d/out.b\"; echo late > ../0/out.b";
 
+// Leaves a child that does so.
+const LEAVING: &[u8] = b"d=$PWD; (sleep 1; echo late > \"$d/out.a\"; echo late > ../0/out.b) &";
+
+#[test]
+fn a_child_of_an_ended_tool_writes_into_no_later_folder(rt: HostRuntime) -> Result<(), Fail> {
+    let mut tools = tools_of(&rt);
+    for text in [LEAVING, b"sleep 2"] {
+        let Some(raw) = left_by(rt.alloc(), &mut tools, text)? else {
+            assert!(rt; false, "no end");
+            return Ok(());
+        };
+        assert!(rt; is_left(&raw, End::Exit(0), &[]));
+    }
+    tools.wait_rest(rt.alloc());
+    Ok(())
+}
+
+#[test]
+fn a_session_leaves_the_folders_of_others_that_live(rt: HostRuntime) -> Result<(), Fail> {
+    let mut tools = tools_of(&rt);
+    let job = script(rt.alloc(), b"sleep 1; cat i1 > out.a")?;
+    assert!(rt; tools.start(rt.alloc(), &job) == Ok(0));
+    let mut others = tools_of(&rt);
+    assert!(rt; left_by(rt.alloc(), &mut others, b"exit 0")?.is_some());
+    let ended = next_end(rt.alloc(), &mut tools);
+    assert!(rt; ended.is_ok_and(|(_, raw)| is_left(&raw, End::Exit(0), &[(b"out.a", b"first\n")])));
+    others.wait_rest(rt.alloc());
+    tools.wait_rest(rt.alloc());
+    assert!(rt; count_in(&rt, "odin.work")? == 0);
+    Ok(())
+}
+
 #[test]
 fn a_tool_of_another_session_writes_into_no_folder(rt: HostRuntime) -> Result<(), Fail> {
     let mut tools = tools_of(&rt);
@@ -278,12 +310,19 @@ fn a_tool_of_another_session_writes_into_no_folder(rt: HostRuntime) -> Result<()
     Ok(())
 }
 
-// Scripts of tools that have no outcome.
-const WITHOUT: [&[u8]; 4] = [
+// Scripts of tools that have no outcome: they say so, others end them, or their folder isn't the one that was made.
+const WITHOUT: [&[u8]; 11] = [
     b"echo a > out.a; : > no-outcome",
     b"mkdir no-outcome",
     b"ln -s none no-outcome",
     b"mkfifo no-outcome; exit 3",
+    b"kill -HUP $$",
+    b"kill -INT $$",
+    b"kill -QUIT $$",
+    b"kill -9 $$",
+    b"kill -TERM $$",
+    b"rm -r \"$PWD\"",
+    b"d=$PWD; cd ..; mv \"$d\" old; mkdir \"$d\"; rm -r old; echo other > \"$d/out.a\"",
 ];
 
 #[test]
@@ -389,7 +428,7 @@ const ORDERS: &[(&[&[u8]], &[(u32, End)])] = &[
         &[
             b"sleep 2",
             b"echo $$ > ../part; mv ../part ../pid; sleep 9; sleep 9",
-            b"while ! test -e ../pid; do sleep 0.01; done; kill -9 $(cat ../pid); sleep 1",
+            b"while ! test -e ../pid; do sleep 0.01; done; kill -SEGV $(cat ../pid); sleep 1",
         ],
         &[(1, End::Signal), (2, End::Exit(0)), (0, End::Exit(0))],
     ),

@@ -5,7 +5,7 @@ use std::alloc::Global;
 use std::fs::{self, File, Permissions};
 use std::io::{self, PipeReader};
 use std::os::fd::AsRawFd;
-use std::os::unix::fs::PermissionsExt;
+use std::os::unix::fs::{PermissionsExt, symlink};
 use std::rt::Files;
 use std::test::Fail;
 
@@ -93,6 +93,11 @@ fn an_output_is_read(rt: HostRuntime) -> Result<(), Fail> {
     fs::set_permissions(&rt, path, Permissions::from_mode(0o444))?;
     let read = read_output(&rt, rt.alloc(), path);
     assert!(rt; matches!(&read, Ok(Some(body)) if body.len() == 3));
+    let link = "system_tests.link";
+    let _ = fs::remove_file(&rt, link);
+    symlink(&rt, path, link)?;
+    assert!(rt; matches!(&read_output(&rt, rt.alloc(), link), Ok(None)));
+    fs::remove_file(&rt, link)?;
     fs::remove_file(&rt, path)?;
     Ok(())
 }
