@@ -1,15 +1,18 @@
 -- The child program at a place is given up.
-use Rattle.std.proofs.Common.{◌≡◌, ◌∙◌, ◌<◌, ℕ, zero, suc, List, [], ◌∷◌, ◌++◌, map, length, false, refl, sym, ap, ap₂, subst, arith}
-use Rattle.std.specs.Prelude.{remove}
+use Rattle.std.proofs.Common.{◌≡◌, ◌∙◌, ◌<◌, ℕ, zero, suc, List, [], ◌∷◌, ◌++◌, map, length, slice_index_or, refl, sym, ap, ap₂, subst, arith}
+use Rattle.std.specs.Prelude.{◌⊎◌, ⊤, remove, Result, Ok, Err, IfOk}
 use Rattle.std.specs.List.{All, HoldsAt}
 use Rattle.std.proofs.lemmas.List.{map-append}
 use Rattle.object_values.specs.declared.jobs.Raw.{Raw}
 use Rattle.odin_outside.specs.declared.events.Running.{Running}
 use Rattle.odin_outside.specs.Causes.{IsCounted}
 use Rattle.odin_outside.specs.Spawned.{Ends, Loses}
-use Rattle.odin_real.specs.Ends.{HasLeft, IsEndOf, HasOutcome, no_outcome}
-use Rattle.odin_real.specs.Finishes.{FolderIsCleared, IsGivenUp, ResultIsGiven, CanBeGiven}
-use Rattle.odin_real.specs.Folders.{FoldersTold, removed, AreLeft, IsToldOf, IsFileName}
+use Rattle.odin_real.specs.declared.fault.SystemFault.{SystemFault}
+use Rattle.odin_real.specs.declared.fault.SystemFault.TheVariants.{Failed, Memory}
+use Rattle.odin_real.specs.Ends.{EndsAs, HasEnded, HasLeft, IsEndingOf, IsLost, not_waited, ended_by_others, not_settled, without_outcome, not_read, settled_after}
+use Rattle.odin_real.specs.Finishes.{FolderIsCleared, IsGivenUp, IsPutOff, ResultIsGiven, ResultIsLost}
+use Rattle.odin_real.specs.Folders.{FoldersTold, AreLeft, IsFileName, IsGone, SameBut}
+use Rattle.odin_real.specs.Logs.{Exit, Log, end_event, fault_event, log_with}
 use Rattle.odin_real.specs.Told.{ChildView, IsAsked, AreAsked, NoneEnded, children_view}
 use Rattle.odin_real.proofs.AskedLemmas.{known_on, asked_twice, all_twice, none_left, runs_same, runs_of}
 
@@ -64,28 +67,42 @@ cut f P Q (old ∷ olds) (x ∷ xs) (new ∷ news) (suc k) inside first second h
 
 pub cleared_first : (tool now : ChildView) (held held' : FoldersTold) → IsAsked tool now → FolderIsCleared now held held' → FolderIsCleared tool held held'
 cleared_first tool now held held' asked cleared = record {
-  gone = ap held' (sym asked.folder) ∙ cleared.gone ∙ ap (λ path. removed (held path)) asked.folder;
+  gone = subst (λ path. IsGone (held' path)) asked.folder cleared.gone;
   others = λ other differs. cleared.others other (λ same. differs (same ∙ asked.folder));
 }
 
-pub left_first : (tool now : ChildView) (held : FoldersTold) (raw : Raw) → IsAsked tool now → HasLeft now held raw → HasLeft tool held raw
-left_first tool now held raw asked left = record {
-  end = known_on (λ status. IsEndOf status raw.end) tool.status now.status asked.status left.end;
-  outcome = subst (λ path. IsToldOf (held path) no_outcome false) asked.folder left.outcome;
-  files = subst (λ path. AreLeft (held path) tool.running.job.outs raw.files) asked.folder (subst (λ (running : Running). AreLeft (held now.folder) running.job.outs raw.files) asked.running left.files);
+ending_first : (tool now : ChildView) (exit : Exit) → IsAsked tool now → IsEndingOf now exit → IsEndingOf tool exit
+ending_first tool now exit asked ending = record {
+  at = ending.at ∙ asked.folder;
+  again = known_on (λ status. exit.status ≡ status) tool.status now.status asked.status ending.again;
 }
 
-can_now : (tool now : ChildView) (held : FoldersTold) → IsAsked tool now → CanBeGiven held tool → CanBeGiven held now
-can_now tool now held asked can = record {
-  outcome = subst (λ path. HasOutcome (held path)) (sym asked.folder) can.outcome;
-  names = subst (λ (running : Running). All IsFileName running.job.outs) (sym asked.running) can.names;
+left_first : (tool now : ChildView) (old new : Log) (raw : Raw) → IsAsked tool now → HasLeft now old new raw → HasLeft tool old new raw
+left_first tool now old new raw asked left = record {
+  exit = left.exit;
+  told = left.told ∙ ap (settled_after old left.exit) asked.folder;
+  leaves = record {
+    ending = ending_first tool now left.exit asked left.leaves.ending;
+    end = left.leaves.end;
+    whole = left.leaves.whole;
+    outcome = left.leaves.outcome;
+    files = subst (λ (running : Running). AreLeft left.exit.holds running.job.outs raw.files) asked.running left.leaves.files;
+  };
 }
 
-pub can_at : {X : Type 0} (f : X → ChildView) (held : FoldersTold) (olds : List ChildView) (xs : List X) (k : ℕ) → k < length xs → AreAsked olds (map f xs) → All (CanBeGiven held) olds → HoldsAt (λ x. CanBeGiven held (f x)) xs k
-can_at f held olds [] k inside asked can = absurd (omega (arith, inside))
-can_at f held [] (x ∷ xs) k inside asked can = absurd asked
-can_at f held (old ∷ olds) (x ∷ xs) zero inside asked can = λ d. can_now old (f x) held asked.0 (can 0 old (omega arith))
-can_at f held (old ∷ olds) (x ∷ xs) (suc k) inside asked can = can_at f held olds xs k (omega (arith, inside)) asked.1 (λ i d within. can (suc i) d (omega (arith, within)))
+ended_first : (tool now : ChildView) (old new : Log) → IsAsked tool now → HasEnded now old new → HasEnded tool old new
+ended_first tool now old new asked ended = record {
+  exit = ended.exit;
+  ending = ending_first tool now ended.exit asked ended.ending;
+  told = subst (λ path. (new ≡ log_with old (end_event ended.exit)) ⊎ (new ≡ settled_after old ended.exit path)) asked.folder ended.told;
+}
+
+lost_first : (tool now : ChildView) (old new : Log) → IsAsked tool now → IsLost now old new → IsLost tool old new
+lost_first tool now old new asked (not_waited is) = not_waited is
+lost_first tool now old new asked (ended_by_others exit ending lost is) = ended_by_others exit (ending_first tool now exit asked ending) lost is
+lost_first tool now old new asked (not_settled exit ending is) = not_settled exit (ending_first tool now exit asked ending) is
+lost_first tool now old new asked (without_outcome exit ending none is) = without_outcome exit (ending_first tool now exit asked ending) none (is ∙ ap (settled_after old exit) asked.folder)
+lost_first tool now old new asked (not_read exit ending is) = not_read exit (ending_first tool now exit asked ending) (is ∙ ap (λ path. log_with (settled_after old exit path) fault_event) asked.folder)
 
 -- none before it has told an end, also once it is taken out
 oldest_left : {X : Type 0} (f : X → ChildView) (xs news : List X) (k : ℕ) (before : List ChildView) → length before ≡ k → NoneEnded k (map f xs) → remove news k ≡ remove xs k → NoneEnded (length before) (map f (remove news k))
@@ -109,10 +126,10 @@ given_up f olds xs news k slot held held' inside first second cleared out oldest
       oldest = oldest_left f xs news k at.before at.place oldest others;
     }
 
-pub given : {X : Type 0} (f : X → ChildView) (olds : List ChildView) (xs news : List X) (k slot : ℕ) (raw : Raw) (held held' : FoldersTold) → k < length xs → AreAsked olds (map f xs) → AreAsked (map f xs) (map f news)
-    → HoldsAt (λ x. HasLeft (f x) held raw) xs k → HoldsAt (λ x. FolderIsCleared (f x) held held') xs k → HoldsAt (IsOut f slot) news k → NoneEnded k (map f xs) → remove news k ≡ remove xs k → ResultIsGiven olds (map f (remove news k)) slot raw held held'
-given f olds xs news k slot raw held held' inside first second left cleared out oldest others =
-    let at = cut f (λ x. HasLeft (f x) held raw × FolderIsCleared (f x) held held') (IsOut f slot) olds xs news k inside first second (λ d. (left d, cleared d)) out in record {
+pub given : {X : Type 0} (f : X → ChildView) (olds : List ChildView) (xs news : List X) (k slot : ℕ) (raw : Raw) (result : Result Raw SystemFault) (held held' : FoldersTold) (log log' : Log) → k < length xs → AreAsked olds (map f xs) → AreAsked (map f xs) (map f news)
+    → result ≡ Ok raw → HoldsAt (λ x. EndsAs (f x) log log' result) xs k → HoldsAt (λ x. FolderIsCleared (f x) held held') xs k → HoldsAt (IsOut f slot) news k → NoneEnded k (map f xs) → remove news k ≡ remove xs k → ResultIsGiven olds (map f (remove news k)) slot raw held held' log log'
+given f olds xs news k slot raw result held held' log log' inside first second is ends cleared out oldest others =
+    let at = cut f (λ x. HasLeft (f x) log log' raw × FolderIsCleared (f x) held held') (IsOut f slot) olds xs news k inside first second (λ d. (subst (λ (r : Result Raw SystemFault). IfOk r (HasLeft (f (slice_index_or xs k d)) log log')) is (ends d).ok, cleared d)) out in record {
       up = record {
         before = at.before;
         tool = at.tool;
@@ -123,7 +140,41 @@ given f olds xs news k slot raw held held' inside first second left cleared out 
         stay = at.stay;
         oldest = oldest_left f xs news k at.before at.place oldest others;
       };
-      left = left_first at.tool (f at.item) held raw at.asked at.holds.0;
+      left = left_first at.tool (f at.item) log log' raw at.asked at.holds.0;
+    }
+
+-- why the end of a tool is lost
+abbrev LostWhy : ChildView → Log → Log → Type 0
+LostWhy tool log log' = All IsFileName tool.running.job.outs → IsLost tool log log'
+
+pub lost : {X : Type 0} (f : X → ChildView) (olds : List ChildView) (xs news : List X) (k slot : ℕ) (result : Result Raw SystemFault) (held held' : FoldersTold) (log log' : Log) → k < length xs → AreAsked olds (map f xs) → AreAsked (map f xs) (map f news)
+    → result ≡ Err Failed → HoldsAt (λ x. EndsAs (f x) log log' result) xs k → HoldsAt (λ x. FolderIsCleared (f x) held held') xs k → HoldsAt (IsOut f slot) news k → NoneEnded k (map f xs) → remove news k ≡ remove xs k → ResultIsLost olds (map f (remove news k)) slot held held' log log'
+lost f olds xs news k slot result held held' log log' inside first second is ends cleared out oldest others =
+    let at = cut f (λ x. LostWhy (f x) log log' × FolderIsCleared (f x) held held') (IsOut f slot) olds xs news k inside first second (λ d. (λ names. (ends d).failed names is, cleared d)) out in record {
+      up = record {
+        before = at.before;
+        tool = at.tool;
+        after = at.after;
+        ran = at.ran;
+        at = ap (λ (running : Running). running.slot) (sym (at.again.running ∙ at.asked.running)) ∙ at.holds';
+        cleared = cleared_first at.tool (f at.item) held held' at.asked at.holds.1;
+        stay = at.stay;
+        oldest = oldest_left f xs news k at.before at.place oldest others;
+      };
+      why = λ names. lost_first at.tool (f at.item) log log' at.asked (at.holds.0 (subst (λ (running : Running). All IsFileName running.job.outs) (sym at.asked.running) names));
+    }
+
+pub put_off : {X : Type 0} (f : X → ChildView) (olds : List ChildView) (xs news : List X) (k : ℕ) (result : Result Raw SystemFault) (held held' : FoldersTold) (log log' : Log) → k < length xs → AreAsked olds (map f xs) → AreAsked (map f xs) (map f news)
+    → result ≡ Err Memory → HoldsAt (λ x. EndsAs (f x) log log' result) xs k → HoldsAt (λ x. SameBut (f x).folder held held') xs k → IsPutOff olds (map f news) held held' log log'
+put_off f olds xs news k result held held' log log' inside first second is ends same =
+    let at = cut f (λ x. HasEnded (f x) log log' × SameBut (f x).folder held held') (λ x. ⊤) olds xs news k inside first second (λ d. ((ends d).wanted is, same d)) (λ d. tt) in record {
+      before = at.before;
+      tool = at.tool;
+      after = at.after;
+      runs = at.ran;
+      stay = all_twice olds (map f xs) (map f news) first second;
+      others = λ other differs. at.holds.1 other (λ is. differs (is ∙ at.asked.folder));
+      ended = ended_first at.tool (f at.item) log log' at.asked at.holds.0;
     }
 
 same_running : (tool : Running) (slot : ℕ) → tool.slot ≡ slot → tool ≡ record { slot = slot; job = tool.job }

@@ -1,6 +1,7 @@
 -- Which error it is.
-use Rattle.std.proofs.Common.{◌≡◌, ◌≢◌, ◌∙◌, ◌<◌, ℕ, zero, suc, Bool, true, false, List, [], ◌∷◌, ◌++◌, drop, take, length, get_or, map, sym, ap, subst, arith}
-use Rattle.std.specs.Prelude.{Option, Some, None, Result, Ok, Err, IfErr}
+use Rattle.std.proofs.Common.{◌≡◌, ◌≢◌, ◌∙◌, ◌<◌, ℕ, zero, suc, Bool, true, false, List, [], ◌∷◌, ◌++◌, drop, take, length, get_or, map, refl, sym, ap, subst, arith}
+use Rattle.std.specs.Prelude.{Option, Some, None, Result, Ok, Err, IfErr, IsOk, if◌then◌else◌}
+use Rattle.std.specs.Result.{is_ok}
 use Rattle.std.specs.List.{All}
 use Rattle.std.specs.Str.{IsUtf8}
 use Rattle.std.proofs.lemmas.Bool.{false≢true}
@@ -11,8 +12,7 @@ use Rattle.odin_outside.specs.declared.spawner.StartFault.{StartFault}
 use Rattle.odin_outside.specs.declared.spawner.StartFault.TheVariants as start
 use Rattle.odin_outside.specs.declared.spawner.FinishFault.{FinishFault}
 use Rattle.odin_outside.specs.declared.spawner.FinishFault.TheVariants as finish
-use Rattle.odin_real.specs.Ends.{HasOutcome, no_outcome}
-use Rattle.odin_real.specs.Folders.{Standing, IsToldOf}
+use Rattle.odin_real.specs.Folders.{Standing, removed, IsGone}
 
 abbrev is_memory : {T : Type 0} → Result T SystemFault → Bool
 is_memory (Ok x) = false
@@ -25,6 +25,27 @@ ok_differs result x is = λ same. false≢true (ap is_memory (sym is ∙ same))
 pub failed_differs : {T : Type 0} (result : Result T SystemFault) → result ≡ Err system.Failed → result ≢ Err system.Memory
 failed_differs result is = λ same. false≢true (ap is_memory (sym is ∙ same))
 
+abbrev is_failed : {T : Type 0} → Result T SystemFault → Bool
+is_failed (Ok x) = false
+is_failed (Err system.Failed) = true
+is_failed (Err system.Memory) = false
+
+pub ok_not_failed : {T : Type 0} (result : Result T SystemFault) (x : T) → result ≡ Ok x → result ≢ Err system.Failed
+ok_not_failed result x is = λ same. false≢true (ap is_failed (sym is ∙ same))
+
+pub memory_not_failed : {T : Type 0} (result : Result T SystemFault) → result ≡ Err system.Memory → result ≢ Err system.Failed
+memory_not_failed result is = λ same. false≢true (ap is_failed (sym is ∙ same))
+
+-- what a push with room left
+pub pushed : {T E X : Type 0} (result : Result T E) (new full same : List X) → IsOk result → new ≡ (if is_ok result then full else same) → new ≡ full
+pushed (Ok x) new full same ok is = is
+pushed (Err e) new full same ok is = absurd (false≢true ok)
+
+-- what was removed is gone
+pub gone_removed : (held : Option Standing) → IsGone (removed held)
+gone_removed None = tt
+gone_removed (Some standing) = refl
+
 abbrev is_memory_fault : SystemFault → Bool
 is_memory_fault system.Failed = false
 is_memory_fault system.Memory = true
@@ -35,11 +56,6 @@ on_failed {T} {P} result is holds = subst (λ (r : Result T SystemFault). IfErr 
 
 pub start_failed : {P : Type 0} (result : Result ℕ StartFault) → result ≡ Err start.Failed → P → IfErr result (λ fault. fault ≢ start.Memory → P)
 start_failed {P} result is holds = subst (λ (r : Result ℕ StartFault). IfErr r (λ fault. fault ≢ start.Memory → P)) (sym is) (λ differs. holds)
-
--- it was told that there is an outcome
-pub told_none : (held : Option Standing) (there : Bool) → HasOutcome held → IsToldOf held no_outcome there → there ≡ false
-told_none None there has told = absurd has
-told_none (Some standing) there has told = told ∙ has
 
 -- an error that a callee has given is passed on
 pub carry : {T U E : Type 0} (Q : E → Type 0) (given : Result T E) (result : Result U E) (fault : E) → given ≡ Err fault → result ≡ Err fault → IfErr given Q → IfErr result Q

@@ -38,6 +38,11 @@ SameBeside home path old new = (other : List ℕ) → other ≢ home → other �
 abbrev pub removed : Option Standing → Option Standing
 removed held = option_map (λ standing. None) held
 
+-- nothing is there, where that is told
+abbrev pub IsGone : Option Standing → Type 0
+IsGone None = ⊤
+IsGone (Some standing) = standing ≡ None
+
 -- nothing was there, and now there is an empty folder
 abbrev pub FolderIsMade : Option Standing → Option Standing → Type 0
 FolderIsMade None new = new ≡ None

@@ -22,9 +22,9 @@ just_opened hold = record hold { ours = false; others = false; seen = None; chan
 abbrev pub just_made : Hold → Hold
 just_made hold = record { ours = false; others = false; seen = None; changed = None; lasting = false; made = true }
 
--- after a try to lock it
+-- after a try to lock it: what was seen before the lock was ours may have changed since
 abbrev pub after_lock : {T : Type 0} → Result T LockFault → Hold → Hold
-after_lock (Ok _) hold = record hold { ours = true; others = false }
+after_lock (Ok _) hold = record hold { ours = true; others = false; seen = None }
 after_lock (Err InUse) hold = record hold { ours = false; others = true }
 after_lock (Err Failed) hold = record hold { ours = false; others = false }
 

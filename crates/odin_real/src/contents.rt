@@ -5,6 +5,7 @@ ghost use Rattle.odin_real.specs.Folders.{laid_out, IsAdded, HasNoSlash, IsFileN
 ghost use Rattle.odin_real.specs.Logs.{CountsWhere};
 
 use crate::fault::SystemFault;
+use crate::mark::FolderMark;
 use crate::read::text_of;
 use crate::system::System;
 use object_values::{Bytes, Copied, Seq, Text};
@@ -39,13 +40,13 @@ fn add_file<S: System>(
     system.add(alloc, folder, name, file.body.as_slice())
 }
 
-/// Makes a folder that holds these files alone. What is there is discarded before.
+/// Makes a folder that holds these files alone, and tells which one it is. What is there is discarded before.
 pub fn lay_out<S: System>(
     system: &mut S,
     alloc: Global,
     folder: &str,
     files: &[FileBody],
-) -> Result<(), SystemFault>
+) -> Result<FolderMark, SystemFault>
     ensures ok { OnOk result (S.held system.new folder.now
         ≡ laid_out files.now (S.held system.old folder.now)) }
     ensures others { SameBut folder.now (S.held system.old) (S.held system.new) }
@@ -53,11 +54,11 @@ pub fn lay_out<S: System>(
         SystemFault.Memory (S.log system.old) (S.log system.new) result }
 {
     system.discard(alloc, folder);
-    system.make(folder)?;
+    let mark = system.make(folder)?;
     for file in files {
         add_file(system, alloc, folder, file)?;
     }
-    Ok(())
+    Ok(mark)
 }
 
 // Adds a file of the folder, where it was left.

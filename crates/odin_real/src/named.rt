@@ -30,8 +30,8 @@ fn read_and_write(create: bool) -> OpenOptions
     options
 }
 
-// What was opened, where something stands there.
-fn found<T>(opened: io::Result<T>) -> io::Result<Option<T>>
+/// What was opened or found, where something stands there.
+pub fn found<T>(opened: io::Result<T>) -> io::Result<Option<T>>
     ensures { result ≡ found_of opened }
 {
     match opened {

@@ -112,7 +112,7 @@ pub fn read_file<R: Files>(
     read_raw(&mut files, alloc, path)
 }
 
-/// What `read_raw` gives of a file that a tool left, whatever stands there once it is opened: nothing makes this wait.
+/// What `read_raw` gives of a file that a tool left, whatever stands there once it is opened: nothing makes this wait, and a link isn't followed.
 pub fn read_output<R: Files>(
     rt: &R,
     alloc: Global,

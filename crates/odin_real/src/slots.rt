@@ -1,12 +1,13 @@
 // The child programs that run, in the order of their starts, each in its slot.
 ghost use Rattle.std.specs.Prelude.{◌≡◌, ◌≢◌, ◌<◌, ◌↔◌, ℕ, map, remove, vec_len, Err, IsTrue, IfOk, IfSome, Any};
 ghost use Rattle.std.specs.List.{HoldsAt};
+ghost use Rattle.std.specs.Process.{child_status};
 ghost use Rattle.odin_outside.specs.Spawned.{IsLeastFree, IsRunning};
-ghost use Rattle.odin_real.specs.Ends.{HasLeft};
-ghost use Rattle.odin_real.specs.Finishes.{CanBeGiven, FolderIsCleared};
+ghost use Rattle.odin_real.specs.Ends.{EndsAs, TellsEnd};
+ghost use Rattle.odin_real.specs.Finishes.{FolderIsCleared};
+ghost use Rattle.odin_real.specs.Folders.{SameBut};
 ghost use Rattle.odin_real.specs.Seen.{seen_of};
 ghost use Rattle.odin_real.specs.Told.{AreAsked};
-ghost use Rattle.odin_real.specs.Logs.{CountsWhere};
 
 use crate::fault::SystemFault;
 use crate::program::Started;
@@ -53,15 +54,15 @@ pub fn end_at<S: System>(
     ensures length { vec_len started.new ≡ vec_len started.old }
     ensures asked { AreAsked (map seen_of started.old.items) (map seen_of started.new.items) }
     ensures others { remove started.new.items place ≡ remove started.old.items place }
-    ensures left { IfOk result (λ raw. HoldsAt (λ tool. HasLeft (seen_of tool)
-        (S.held system.old) raw) started.old.items place) }
+    ensures end { IfOk result (λ raw. HoldsAt
+        (λ tool. TellsEnd (child_status tool.child) raw.end) started.new.items place) }
     ensures cleared { result ≢ Err SystemFault.Memory → HoldsAt
         (λ tool. FolderIsCleared (seen_of tool)
         (S.held system.old) (S.held system.new)) started.old.items place }
-    ensures memory { result ≡ Err SystemFault.Memory → S.held system.new ≡ S.held system.old }
-    ensures counts { CountsWhere (HoldsAt (λ tool. CanBeGiven (S.held system.old) (seen_of tool))
-        started.old.items place) SystemFault.Memory
-        (S.log system.old) (S.log system.new) result }
+    ensures held { HoldsAt (λ tool. SameBut (seen_of tool).folder
+        (S.held system.old) (S.held system.new)) started.old.items place }
+    ensures ends { HoldsAt (λ tool. EndsAs (seen_of tool)
+        (S.log system.old) (S.log system.new) result) started.old.items place }
 {
     started[place].end(alloc, system)
 }

@@ -1,8 +1,9 @@
 // Removes folders, as far as that can be. What is to be removed is moved to HOME/.moved/N first, where N counts what was moved: so nothing
 // stands in the way where it can't be removed. The folders in a folder are moved there too before it is removed, so that the work is
 // linear, however deep they lie. An error keeps what it is about where it is, and nothing else. No link is followed.
+use crate::session::is_alive;
 use std::alloc::{AllocError, Global};
-use std::fs::{self, Permissions};
+use std::fs::{self, File, Permissions};
 use std::io;
 use std::os::unix::fs::PermissionsExt;
 use std::rt::Files;
@@ -15,10 +16,9 @@ fn left_path(alloc: Global, home: &str, number: u64) -> Result<String, AllocErro
     format!(in alloc; "{home}/.moved/{number}")
 }
 
-/// Makes the folder of a session, and the one in it for what is moved. The way up from a folder that was moved, which a tool of another session
-/// may be in, leads to no slot.
-pub fn make_home<R: Files>(rt: &R, alloc: Global, home: &str) -> io::Result<()> {
-    fs::create_dir(rt, home)?;
+/// Makes the folder for what is moved, in that of a session. The way up from a folder that was moved, which a tool of another session may be in,
+/// leads to the folder of no start.
+pub fn make_moved<R: Files>(rt: &R, alloc: Global, home: &str) -> io::Result<()> {
     fs::create_dir(rt, format!(in alloc; "{home}/.moved")?.as_str())
 }
 
@@ -125,8 +125,29 @@ pub fn discard<R: Files + Alloc + Clone + Drop>(
     }
 }
 
-// Moves everything in a folder but the folder of the session into that.
-fn move_others<R: Files + Alloc + Clone + Drop>(
+// Moves what is at a path away, where no session lives there. Its lock is held meanwhile, so that none begins to.
+fn move_ended<R: Files<File = File>>(
+    rt: &R,
+    alloc: Global,
+    home: &str,
+    path: &str,
+    moved: &mut u64,
+) -> io::Result<()> {
+    if !is_folder(rt, path)? {
+        return move_aside(rt, alloc, home, path, moved);
+    }
+    // what can't be opened has no session
+    let opened = fs::open(rt, path);
+    if let Ok(folder) = &opened {
+        if is_alive(folder) {
+            return Ok(());
+        }
+    }
+    move_aside(rt, alloc, home, path, moved)
+}
+
+// Moves everything in a folder into the folder of the session, but that and the folders of others that live.
+fn move_others<R: Files<File = File> + Alloc + Clone + Drop>(
     rt: &R,
     alloc: Global,
     work: &str,
@@ -137,15 +158,15 @@ fn move_others<R: Files + Alloc + Clone + Drop>(
         if let Ok(entry) = entry {
             let path = entry.path();
             if path.as_str() != home {
-                let _ = move_aside(rt, alloc, home, path.as_str(), moved);
+                let _ = move_ended(rt, alloc, home, path.as_str(), moved);
             }
         }
     }
     Ok(())
 }
 
-/// Removes everything in the folder of sessions but the folder of this one.
-pub fn clear_others<R: Files + Alloc + Clone + Drop>(
+/// Removes everything in the folder of sessions but the folder of this one and of others that live.
+pub fn clear_others<R: Files<File = File> + Alloc + Clone + Drop>(
     rt: &R,
     alloc: Global,
     work: &str,

@@ -1,4 +1,5 @@
 // The files of the system, opened for reading. They tell nothing.
+use crate::mark::mark_of;
 use crate::raw_files::RawFiles;
 use std::fs::{self, OpenFile, OpenOptions};
 use std::io::{self, ErrorKind};
@@ -33,8 +34,9 @@ impl<R: Files> RawFiles for R {
     }
 }
 
-/// The same of files that tools leave, whose programs may still run: one that puts a pipe in the place of a file before it is opened can't make the
-/// opening wait, since a pipe that is opened for reading and writing doesn't.
+/// The same of files that tools leave, whose programs may still run. A link is no file here, wherever it leads. One that is put in the place of a file before that
+/// is opened shows, since another file is open then than stood there; and a pipe that is put there can't make the opening wait, since one that is opened for
+/// reading and writing doesn't.
 #[derive(Drop)]
 pub struct Outputs<'a, R: Files> {
     rt: &'a R,
@@ -61,6 +63,20 @@ fn open_at_once<R: Files>(rt: &R, path: &str) -> io::Result<R::File> {
     }
 }
 
+// The plain file that stands at a path itself, with its size.
+fn open_plain<R: Files>(rt: &R, path: &str) -> io::Result<Option<(R::File, u64)>> {
+    let there = fs::symlink_metadata(rt, path)?;
+    if !there.is_file() {
+        return Ok(None);
+    }
+    let file = open_at_once(rt, path)?;
+    if mark_of(&file.metadata()?) == mark_of(&there) {
+        regular(file)
+    } else {
+        Ok(None)
+    }
+}
+
 impl<'a, R: Files> RawFiles for Outputs<'a, R> {
     ghost use Rattle.std.specs.Prelude.{None};
 
@@ -71,10 +87,10 @@ impl<'a, R: Files> RawFiles for Outputs<'a, R> {
     ghost opened = { λ _. None };
 
     fn is_file(&mut self, path: &str) -> io::Result<bool> {
-        Ok(fs::metadata(self.rt, path)?.is_file())
+        Ok(fs::symlink_metadata(self.rt, path)?.is_file())
     }
 
     fn open(&mut self, path: &str) -> io::Result<Option<(R::File, u64)>> {
-        regular(open_at_once(self.rt, path)?)
+        open_plain(self.rt, path)
     }
 }

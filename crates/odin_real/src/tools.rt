@@ -1,16 +1,16 @@
 // Tools as child programs.
-ghost use Rattle.std.specs.Prelude.{◌≡◌, ◌<◌, ◌++◌, ◌∷◌, [], Some, Err, map, length, option_map, string_bytes, vec_len, vec_capacity, IfOk, OnOk, OnErr};
-ghost use Rattle.std.specs.List.{All};
+ghost use Rattle.std.specs.Prelude.{◌≡◌, ◌<◌, ◌++◌, ◌∷◌, [], Some, Err, map, codes, length, option_map, string_bytes, vec_len, vec_capacity, IfOk, OnOk, OnErr};
 ghost use Rattle.odin_outside.specs.Causes.{once_more, IsCounted};
 ghost use Rattle.odin_outside.specs.Spawned.{IsLeastFree, begun, Fails, Ends, LosesAt};
-ghost use Rattle.odin_real.specs.Finishes.{CanBeGiven, Finishes};
+ghost use Rattle.odin_real.specs.Finishes.{Finishes};
 ghost use Rattle.odin_real.specs.Seen.{seen_of};
-ghost use Rattle.odin_real.specs.Starts.{IsHome, IsSlotPath, IsLaunched, JobIsStartable, IsStarted, CanStart};
+ghost use Rattle.odin_real.specs.Starts.{IsHome, IsCallPath, IsLaunched, JobIsStartable, IsStarted, CanStart};
 ghost use Rattle.odin_real.specs.Told.{children_view};
-ghost use Rattle.odin_real.specs.Logs.{CountsFailure, CountsWhere, FailsWhere};
+ghost use Rattle.odin_real.specs.Logs.{CountsFailure, FailsWhere};
 
 use crate::fault::SystemFault;
-use crate::homes::{folder_in, open_home};
+use crate::homes::{folder_in, home_or_open};
+use crate::mark::FolderMark;
 use crate::program::{Started, start_child};
 use crate::slots::{end_at, least_free, take_at};
 use crate::system::System;
@@ -21,11 +21,24 @@ use std::alloc::Global;
 use std::io::Stderr;
 use std::process::Child;
 
-/// Child programs, at most 64 at once, each in the folder `odin.work/NAME/SLOT` of the current folder. NAME is that of the session: a tool of
-/// an earlier one that runs on writes nothing into a folder of this one. A child program that has ended is given first, the oldest of those.
+// A child program that was started, and its folder.
+#[derive(Drop)]
+struct Begun<S: System> {
+    folder: String,
+    mark: FolderMark,
+    child: Child<S::Started>,
+}
+
+/// The folder of the folders of sessions, in the current one.
+const WORK: &str = "odin.work";
+
+/// Child programs, at most 64 at once, each in the folder `WORK/NAME/NUMBER` of the current folder. NAME is that of the session: a tool of an earlier
+/// one that runs on writes nothing into a folder of this one. NUMBER is that of its start: so a child of a tool that ended writes nothing into the
+/// folder of a later one. A child program that has ended is given first, the oldest of those.
 #[derive(Drop)]
 pub struct ChildTools<S: System + Drop> {
     system: S,
+    work: &'static str,
     home: Option<String>,
     errors: Stderr,
     started: Vec<Started<S>>,
@@ -34,13 +47,24 @@ pub struct ChildTools<S: System + Drop> {
 }
 
 impl<S: System + Drop> ChildTools<S> {
-    /// None runs yet. What the child programs write goes to `errors`.
+    /// None runs yet. They will run in `odin.work`, and what they write goes to `errors`.
     pub fn new(alloc: Global, system: S, errors: Stderr) -> Self
         ensures idle { result.started.items ≡ [] }
         ensures faults { result.faults ≡ 0 }
+        ensures work { result.work.now ≡ codes "odin.work" }
+    {
+        ChildTools::within(alloc, system, errors, WORK)
+    }
+
+    /// The same of child programs that will run in the folder `work`, which may not be there yet. What it stands in has to be there.
+    pub fn within(alloc: Global, system: S, errors: Stderr, work: &'static str) -> Self
+        ensures idle { result.started.items ≡ [] }
+        ensures faults { result.faults ≡ 0 }
+        ensures work { result.work.now ≡ work.now }
     {
         ChildTools {
             system,
+            work,
             home: None,
             errors,
             started: Vec::new(alloc),
@@ -55,6 +79,7 @@ impl<S: System + Drop> ChildTools<S> {
         ensures starts { self.new.starts ≡ self.old.starts }
         ensures system { self.new.system ≡ self.old.system }
         ensures home { self.new.home ≡ self.old.home }
+        ensures work { self.new.work ≡ self.old.work }
     {
         self.faults = self.faults.saturating_add(1);
     }
@@ -69,54 +94,60 @@ impl<S: System + Drop> ChildTools<S> {
             self.new.faults) }
         ensures system { self.new.system ≡ self.old.system }
         ensures home { self.new.home ≡ self.old.home }
+        ensures work { self.new.work ≡ self.old.work }
     {
         self.count_fault();
         Err(StartFault::Failed)
     }
 
-    // The path of the folder of a slot, in that of the session, which is made where there is none.
-    fn folder_of(&mut self, alloc: Global, slot: u32) -> Result<String, SystemFault>
-        ensures place { IfOk result
-            (λ folder. IsSlotPath (option_map string_bytes self.new.home) slot
+    // The path of the folder of the next start, in that of the session, which is made where there is none.
+    fn next_folder(&mut self, alloc: Global) -> Result<String, SystemFault>
+        ensures place { IfOk result (λ folder.
+            IsCallPath (option_map string_bytes self.new.home) self.old.starts
             (string_bytes folder) (S.held self.old.system) (S.held self.new.system)) }
-        ensures home { IsHome (option_map string_bytes self.old.home)
+        ensures home { IsHome self.old.work.now (option_map string_bytes self.old.home)
             (option_map string_bytes self.new.home) }
         ensures counts { CountsFailure SystemFault.Memory (S.log self.old.system)
             (S.log self.new.system) result }
+        ensures work { self.new.work ≡ self.old.work }
         ensures started { self.new.started ≡ self.old.started }
         ensures starts { self.new.starts ≡ self.old.starts }
         ensures faults { self.new.faults ≡ self.old.faults }
     {
-        let home = match self.home.take() {
-            Some(home) => home,
-            None => open_home(&mut self.system, alloc)?,
-        };
-        let folder = folder_in(alloc, home.as_str(), slot);
+        let home = home_or_open(self.home.take(), &mut self.system, alloc, self.work)?;
+        let folder = folder_in(alloc, home.as_str(), self.starts);
         self.home = Some(home);
         Ok(folder?)
     }
 
-    // Starts the child program of a job in the folder of a slot, and gives the path of that folder.
-    fn begin(
-        &mut self,
-        alloc: Global,
-        slot: u32,
-        job: &Job,
-    ) -> Result<(String, Child<S::Started>), SystemFault>
-        ensures launched { IfOk result (λ begun. IsLaunched (option_map string_bytes self.new.home)
-            slot job.now (string_bytes begun.0) (S.held self.old.system) (S.held self.new.system)
+    // Starts the child program of a job in the folder of the next start, and gives that.
+    fn begin(&mut self, alloc: Global, job: &Job) -> Result<Begun<S>, SystemFault>
+        ensures launched { IfOk result (λ begun.
+            IsLaunched (option_map string_bytes self.new.home) self.old.starts job.now
+            (string_bytes begun.folder) (S.held self.old.system) (S.held self.new.system)
             (S.log self.old.system) (S.log self.new.system)) }
-        ensures home { IsHome (option_map string_bytes self.old.home)
+        ensures home { IsHome self.old.work.now (option_map string_bytes self.old.home)
             (option_map string_bytes self.new.home) }
         ensures fails { FailsWhere (JobIsStartable job.now) SystemFault.Memory
             (S.log self.old.system) (S.log self.new.system) result }
+        ensures work { self.new.work ≡ self.old.work }
         ensures started { self.new.started ≡ self.old.started }
         ensures starts { self.new.starts ≡ self.old.starts }
         ensures faults { self.new.faults ≡ self.old.faults }
     {
-        let folder = self.folder_of(alloc, slot)?;
-        let child = start_child(&mut self.system, self.errors, alloc, folder.as_str(), job)?;
-        Ok((folder, child))
+        let folder = self.next_folder(alloc)?;
+        let (mark, child) = start_child(
+            &mut self.system,
+            self.errors,
+            alloc,
+            folder.as_str(),
+            job,
+        )?;
+        Ok(Begun {
+            folder,
+            mark,
+            child,
+        })
     }
 
     // Makes room for one more child program that runs.
@@ -128,6 +159,7 @@ impl<S: System + Drop> ChildTools<S> {
         ensures faults { self.new.faults ≡ self.old.faults }
         ensures system { self.new.system ≡ self.old.system }
         ensures home { self.new.home ≡ self.old.home }
+        ensures work { self.new.work ≡ self.old.work }
     {
         match self.started.reserve(1) {
             Ok(()) => Ok(()),
@@ -143,6 +175,7 @@ impl<S: System + Drop> ChildTools<S> {
         ensures faults { self.new.faults ≡ self.old.faults }
         ensures system { self.new.system ≡ self.old.system }
         ensures home { self.new.home ≡ self.old.home }
+        ensures work { self.new.work ≡ self.old.work }
     {
         let _ = self.started.push(tool);
         self.starts = self.starts.saturating_add(1);
@@ -156,8 +189,7 @@ impl<S: System + Drop> ChildTools<S> {
         ensures faults { self.new.faults ≡ self.old.faults }
     {
         while let Some(mut tool) = self.started.pop() {
-            let _ = self.system.wait(&mut tool.child);
-            self.system.discard(alloc, tool.folder.as_str());
+            tool.give_up(alloc, &mut self.system);
         }
         if let Some(home) = self.home.take() {
             self.system.close(alloc, home.as_str());
@@ -182,13 +214,14 @@ impl<S: System + Drop> Spawner for ChildTools<S> {
             result ≡ Err StartFault.Memory → told self.new ≡ told self.old }
         ensures started { IfOk result (λ slot. IsStarted (map seen_of self.old.started.items)
             (map seen_of self.new.started.items) (option_map string_bytes self.new.home)
-            slot job.now (S.held self.old.system) (S.held self.new.system)
+            self.old.starts slot job.now (S.held self.old.system) (S.held self.new.system)
             (S.log self.old.system) (S.log self.new.system)) }
-        ensures home { IsHome (option_map string_bytes self.old.home)
+        ensures home { IsHome self.old.work.now (option_map string_bytes self.old.home)
             (option_map string_bytes self.new.home) }
         ensures fails { FailsWhere
             (CanStart (map (λ tool. tool.running) self.old.started.items) job.now)
             StartFault.Memory (S.log self.old.system) (S.log self.new.system) result }
+        ensures work { self.new.work ≡ self.old.work }
     {
         let Some(slot) = least_free(self.started.as_slice()) else {
             return self.refuse();
@@ -196,12 +229,19 @@ impl<S: System + Drop> Spawner for ChildTools<S> {
         // The job is copied before the start, since what runs is told by its jobs until it ends, and after a start nothing may fail.
         let kept = job.copy(alloc)?;
         self.make_room()?;
-        match self.begin(alloc, slot, job) {
-            Ok((folder, child)) => {
+        match self.begin(alloc, job) {
+            Ok(
+                Begun {
+                    folder,
+                    mark,
+                    child,
+                },
+            ) => {
                 let running = Running { slot, job: kept };
                 self.add(Started {
                     running,
                     folder,
+                    mark,
                     child,
                 });
                 Ok(slot)
@@ -221,11 +261,9 @@ impl<S: System + Drop> Spawner for ChildTools<S> {
             result ≡ Err FinishFault.Memory → told self.new ≡ told self.old }
         ensures finishes { Finishes (map seen_of self.old.started.items)
             (map seen_of self.new.started.items) (S.held self.old.system)
-            (S.held self.new.system) result }
+            (S.held self.new.system) (S.log self.old.system) (S.log self.new.system) result }
         ensures home { self.new.home ≡ self.old.home }
-        ensures counts { CountsWhere
-            (All (CanBeGiven (S.held self.old.system)) (map seen_of self.old.started.items))
-            FinishFault.Memory (S.log self.old.system) (S.log self.new.system) result }
+        ensures work { self.new.work ≡ self.old.work }
     {
         let place = wait_any(&self.system, &mut self.started);
         match end_at(&mut self.started, place, alloc, &mut self.system) {
