@@ -48,7 +48,10 @@ pub(crate) fn make_state(rt: &HostRuntime) -> Result<(), Fault> {
     }
 }
 
-/// The child programs of a build, whose folders are in `odin.work`.
+/// The folder of the folders of child programs: `odin` has another one.
+const WORK: &str = ".odin/work";
+
+/// The child programs of a build.
 pub(crate) fn child_tools(rt: &HostRuntime) -> ChildTools<HostSystem<&HostRuntime>> {
-    ChildTools::new(rt.alloc(), HostSystem::new(rt), rt.stderr())
+    ChildTools::within(rt.alloc(), HostSystem::new(rt), rt.stderr(), WORK)
 }
