@@ -4,7 +4,7 @@ use crate::reading::refused;
 use crate::screen::output_fault;
 use crate::told::Line;
 use object_values::{Bytes, Memory};
-use odin_real::{ChildTools, HostSystem};
+use odin_real::{ChildTools, HostSystem, Work};
 use std::alloc::Global;
 use std::fs;
 use std::io::ErrorKind;
@@ -48,10 +48,7 @@ pub(crate) fn make_state(rt: &HostRuntime) -> Result<(), Fault> {
     }
 }
 
-/// The folder of the folders of child programs: `odin` has another one.
-const WORK: &str = ".odin/work";
-
-/// The child programs of a build.
+/// The child programs of a build, which work in this folder: `odin` has another one.
 pub(crate) fn child_tools(rt: &HostRuntime) -> ChildTools<HostSystem<&HostRuntime>> {
-    ChildTools::within(rt.alloc(), HostSystem::new(rt), rt.stderr(), WORK)
+    ChildTools::within(rt.alloc(), HostSystem::new(rt), rt.stderr(), Work::Builds)
 }

@@ -1,6 +1,13 @@
 -- Where the folders of child programs are.
-use Rattle.std.specs.Prelude.{◌≡◌, ℕ, false, List, [], ◌∷◌, ◌++◌, ◌^◌, ◌-◌, decimal}
+use Rattle.std.specs.Prelude.{◌≡◌, ℕ, false, List, [], ◌∷◌, ◌++◌, ◌^◌, ◌-◌, codes, decimal}
 use Rattle.std.specs.Fmt.{padded_integral, format_spec, digits}
+use Rattle.odin_real.specs.declared.work.Work.{Work}
+use Rattle.odin_real.specs.declared.work.Work.TheVariants.{Sessions, Builds}
+
+-- the folder of all sessions, in the current one
+abbrev pub work_path : Work → List ℕ
+work_path Sessions = codes "odin.work"
+work_path Builds = codes ".odin/work"
 
 -- a number below 2 ^ 64 as 16 lower hex digits
 abbrev pub sixteen_digits : ℕ → List ℕ

@@ -1,12 +1,13 @@
 // The paths of the folder of a session and of those of its starts.
 ghost use Rattle.std.specs.Prelude.{◌≡◌, None, Some, option_map, string_bytes, IfOk, OnErr};
 ghost use Rattle.odin_real.specs.Folders.{SameBut};
-ghost use Rattle.odin_real.specs.Paths.{IsSession, session_of, home_of, call_path};
+ghost use Rattle.odin_real.specs.Paths.{IsSession, session_of, home_of, call_path, work_path};
 ghost use Rattle.odin_real.specs.Logs.{CountsFailure};
 ghost use Rattle.odin_real.specs.Starts.{IsHome};
 
 use crate::fault::SystemFault;
 use crate::system::System;
+use crate::work::Work;
 use std::alloc::{AllocError, Global};
 
 // The name of a session.
@@ -17,9 +18,10 @@ fn session_name(alloc: Global, first: u64, second: u64) -> Result<String, AllocE
 }
 
 // The path of the folder of a session.
-fn home_path(alloc: Global, work: &str, name: &str) -> Result<String, AllocError>
-    ensures { IfOk result (λ path. string_bytes path ≡ home_of work.now name.now) }
+fn home_path(alloc: Global, work: Work, name: &str) -> Result<String, AllocError>
+    ensures { IfOk result (λ path. string_bytes path ≡ home_of (work_path work) name.now) }
 {
+    let work = work.path();
     format!(in alloc; "{work}/{name}")
 }
 
@@ -31,8 +33,8 @@ pub fn folder_in(alloc: Global, home: &str, number: u64) -> Result<String, Alloc
 }
 
 // Makes the folder of a session in that of all, under a name that no other has.
-fn open_home<S: System>(system: &mut S, alloc: Global, work: &str) -> Result<String, SystemFault>
-    ensures named { IfOk result (λ home. IsSession work.now (string_bytes home)) }
+fn open_home<S: System>(system: &mut S, alloc: Global, work: Work) -> Result<String, SystemFault>
+    ensures named { IfOk result (λ home. IsSession (work_path work) (string_bytes home)) }
     ensures others { IfOk result (λ home.
         SameBut (string_bytes home) (S.held system.old) (S.held system.new)) }
     ensures counts { CountsFailure SystemFault.Memory (S.log system.old) (S.log system.new) result }
@@ -41,7 +43,7 @@ fn open_home<S: System>(system: &mut S, alloc: Global, work: &str) -> Result<Str
     let second = system.draw()?;
     let name = session_name(alloc, first, second)?;
     let home = home_path(alloc, work, name.as_str())?;
-    system.open(alloc, work, home.as_str())?;
+    system.open(alloc, work.path(), home.as_str())?;
     Ok(home)
 }
 
@@ -50,9 +52,9 @@ pub fn home_or_open<S: System>(
     home: Option<String>,
     system: &mut S,
     alloc: Global,
-    work: &str,
+    work: Work,
 ) -> Result<String, SystemFault>
-    ensures home { IfOk result (λ path. IsHome work.now
+    ensures home { IfOk result (λ path. IsHome (work_path work)
         (option_map string_bytes home) (Some (string_bytes path))) }
     ensures none { OnErr result (home ≡ None) }
     ensures others { IfOk result (λ path.

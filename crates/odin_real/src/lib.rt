@@ -26,6 +26,7 @@ mod system_files;
 mod tools;
 mod tree;
 mod waits;
+mod work;
 
 pub use closed::ClosedStreams;
 pub use disk::FileDisk;
@@ -42,3 +43,4 @@ pub use system::System;
 pub use system_files::Outputs;
 pub use tools::ChildTools;
 pub use tree::FolderTree;
+pub use work::Work;

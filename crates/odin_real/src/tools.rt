@@ -1,12 +1,14 @@
 // Tools as child programs.
-ghost use Rattle.std.specs.Prelude.{◌≡◌, ◌<◌, ◌++◌, ◌∷◌, [], Some, Err, map, codes, length, option_map, string_bytes, vec_len, vec_capacity, IfOk, OnOk, OnErr};
+ghost use Rattle.std.specs.Prelude.{◌≡◌, ◌<◌, ◌++◌, ◌∷◌, [], Some, Err, map, length, option_map, string_bytes, vec_len, vec_capacity, IfOk, OnOk, OnErr};
 ghost use Rattle.odin_outside.specs.Causes.{once_more, IsCounted};
 ghost use Rattle.odin_outside.specs.Spawned.{IsLeastFree, begun, Fails, Ends, LosesAt};
 ghost use Rattle.odin_real.specs.Finishes.{Finishes};
+ghost use Rattle.odin_real.specs.Paths.{work_path};
 ghost use Rattle.odin_real.specs.Seen.{seen_of};
 ghost use Rattle.odin_real.specs.Starts.{IsHome, IsCallPath, IsLaunched, JobIsStartable, IsStarted, CanStart};
 ghost use Rattle.odin_real.specs.Told.{children_view};
 ghost use Rattle.odin_real.specs.Logs.{CountsFailure, FailsWhere};
+ghost use Rattle.odin_real.specs.declared.work.Work.TheVariants.{Sessions};
 
 use crate::fault::SystemFault;
 use crate::homes::{folder_in, home_or_open};
@@ -15,6 +17,7 @@ use crate::program::{Started, start_child};
 use crate::slots::{end_at, least_free, take_at};
 use crate::system::System;
 use crate::waits::wait_any;
+use crate::work::Work;
 use object_values::{Copied, Job, Raw};
 use odin_outside::{FinishFault, Running, Spawner, StartFault};
 use std::alloc::Global;
@@ -29,16 +32,13 @@ struct Begun<S: System> {
     child: Child<S::Started>,
 }
 
-/// The folder of the folders of sessions, in the current one.
-const WORK: &str = "odin.work";
-
-/// Child programs, at most 64 at once, each in the folder `WORK/NAME/NUMBER` of the current folder. NAME is that of the session: a tool of an earlier
+/// Child programs, at most 64 at once, each in the folder `WORK/NAME/NUMBER` of the current folder, where WORK is that of [`Work`]. NAME is that of the session: a tool of an earlier
 /// one that runs on writes nothing into a folder of this one. NUMBER is that of its start: so a child of a tool that ended writes nothing into the
 /// folder of a later one. A child program that has ended is given first, the oldest of those.
 #[derive(Drop)]
 pub struct ChildTools<S: System + Drop> {
     system: S,
-    work: &'static str,
+    work: Work,
     home: Option<String>,
     errors: Stderr,
     started: Vec<Started<S>>,
@@ -51,16 +51,16 @@ impl<S: System + Drop> ChildTools<S> {
     pub fn new(alloc: Global, system: S, errors: Stderr) -> Self
         ensures idle { result.started.items ≡ [] }
         ensures faults { result.faults ≡ 0 }
-        ensures work { result.work.now ≡ codes "odin.work" }
+        ensures work { result.work ≡ Sessions }
     {
-        ChildTools::within(alloc, system, errors, WORK)
+        ChildTools::within(alloc, system, errors, Work::Sessions)
     }
 
-    /// The same of child programs that will run in the folder `work`, which may not be there yet. What it stands in has to be there.
-    pub fn within(alloc: Global, system: S, errors: Stderr, work: &'static str) -> Self
+    /// The same of child programs that will run in such a folder, which may not be there yet.
+    pub fn within(alloc: Global, system: S, errors: Stderr, work: Work) -> Self
         ensures idle { result.started.items ≡ [] }
         ensures faults { result.faults ≡ 0 }
-        ensures work { result.work.now ≡ work.now }
+        ensures work { result.work ≡ work }
     {
         ChildTools {
             system,
@@ -105,7 +105,7 @@ impl<S: System + Drop> ChildTools<S> {
         ensures place { IfOk result (λ folder.
             IsCallPath (option_map string_bytes self.new.home) self.old.starts
             (string_bytes folder) (S.held self.old.system) (S.held self.new.system)) }
-        ensures home { IsHome self.old.work.now (option_map string_bytes self.old.home)
+        ensures home { IsHome (work_path self.old.work) (option_map string_bytes self.old.home)
             (option_map string_bytes self.new.home) }
         ensures counts { CountsFailure SystemFault.Memory (S.log self.old.system)
             (S.log self.new.system) result }
@@ -126,7 +126,7 @@ impl<S: System + Drop> ChildTools<S> {
             IsLaunched (option_map string_bytes self.new.home) self.old.starts job.now
             (string_bytes begun.folder) (S.held self.old.system) (S.held self.new.system)
             (S.log self.old.system) (S.log self.new.system)) }
-        ensures home { IsHome self.old.work.now (option_map string_bytes self.old.home)
+        ensures home { IsHome (work_path self.old.work) (option_map string_bytes self.old.home)
             (option_map string_bytes self.new.home) }
         ensures fails { FailsWhere (JobIsStartable job.now) SystemFault.Memory
             (S.log self.old.system) (S.log self.new.system) result }
@@ -216,7 +216,7 @@ impl<S: System + Drop> Spawner for ChildTools<S> {
             (map seen_of self.new.started.items) (option_map string_bytes self.new.home)
             self.old.starts slot job.now (S.held self.old.system) (S.held self.new.system)
             (S.log self.old.system) (S.log self.new.system)) }
-        ensures home { IsHome self.old.work.now (option_map string_bytes self.old.home)
+        ensures home { IsHome (work_path self.old.work) (option_map string_bytes self.old.home)
             (option_map string_bytes self.new.home) }
         ensures fails { FailsWhere
             (CanStart (map (λ tool. tool.running) self.old.started.items) job.now)
