@@ -1,4 +1,4 @@
-# Tells the folder of the project, which the commands name: it has the folder `odin.work`, in which this runs.
+# Tells the folder of the project, which the commands name: this runs below its folder `odin.work`, or `.odin/work`.
 folder=$(pwd -P) || exit 1
-printf '%s\n' "${folder%/odin.work/*}" > out.tools
-exit 0
+folder=${folder%/odin.work/*}
+printf '%s\n' "${folder%/.odin/work/*}" > out.tools || exit 1
