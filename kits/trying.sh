@@ -63,6 +63,22 @@ expect() {
     [ "$(runs)" = "$wanted" ] || tell "$name: $(runs), and not $wanted"
 }
 
+# A folder $top/small for a call, on a disk of 64 KiB; ends with 1 where none can be mounted, which is told.
+small_disk() {
+    cd / && { umount "$top/small" || mkdir "$top/small"; } 2> /dev/null
+    mount -t tmpfs -o size=64k none "$top/small" 2> /dev/null && cd "$top/small" && return
+    echo "no small disk can be mounted, so a full one wasn't tried"
+    return 1
+}
+# fills the small disk, runs a program in the call's folder there, and looks that it leaves no outcome: without_room NAME PROGRAM [WORD..]
+without_room() {
+    dd if=/dev/zero of=filler bs=1k 2> /dev/null
+    lost=$1
+    shift
+    "$@" > /dev/null 2>&1
+    [ -e no-outcome ] || tell "a full disk: $lost leaves an outcome"
+}
+
 # tells how it went: ended KIT
 ended() {
     [ $wrong = 0 ] && echo "$1: all as it has to be" || echo "$1: $wrong wrong"
