@@ -52,7 +52,7 @@ set -- -x "$language" $flags $debug "$@" -ffile-prefix-map="$PWD"=. -fdiagnostic
 # Of the files that the compiler read, which it tells by a rule for `make` or one a line, those that are no parts of the call: `own NAME` is a file of
 # the project by its whole path, `out NAME` one that `..` leads to out of the folder of the call, and of `far NAME` only the true path tells.
 project=${PWD%/odin.work/*}
-project=${project%/.odin/work/*}
+[ "$project" != "$PWD" ] || project=${PWD%/.odin/work/*}
 strange() {
     PROJECT=$project awk -v is_rule="$1" '
     function look(name,    count, i, step, depth) {
@@ -80,10 +80,19 @@ strange() {
         if (!goes_on) exit
     }'
 }
-# tells what to write instead of such a name
+# tells what to write instead of such names
 refuse() {
-    while read -r what name; do
+    # compilers of other places than /usr read hundreds of files there, so one program asks for the true paths of all
+    far=$(printf '%s\n' "$found" | sed -n 's/^far //p' | xargs -r -d '\n' realpath -m --) || return 1
+    printf '%s\n' "$found" | while read -r what name; do
         case $what in
+        far)
+            case $newline$far/ in
+            *"$newline$project"/*) ;;
+            *) continue ;;
+            esac
+            file=$(realpath -m -- "$name") || return 1
+            ;;
         out) file=$(realpath -m -- "$PWD/$name") || return 1 ;;
         *) file=$(realpath -m -- "$name") || return 1 ;;
         esac
@@ -124,7 +133,7 @@ else
     } | strange 0) || lost
 fi
 if [ -n "$found" ]; then
-    refused=$(printf '%s\n' "$found" | refuse) || lost
+    refused=$(refuse) || lost
     [ -z "$refused" ] || {
         printf '%s\n' ${said:+"$said"} "$refused" > warnings || lost
         exit 2

@@ -23,7 +23,7 @@ words=$(cat kits/c/link) || lost
 set -f
 # A file of the project that the linker would read behind the back of the call.
 project=${PWD%/odin.work/*}
-project=${project%/.odin/work/*}
+[ "$project" != "$PWD" ] || project=${PWD%/.odin/work/*}
 for word in $words; do
     case $word in
     -Wl,*) ;;

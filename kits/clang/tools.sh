@@ -1,4 +1,5 @@
 # Tells the folder of the project, which the commands name: this runs below its folder `odin.work`, or `.odin/work`.
-folder=$(pwd -P) || exit 1
-folder=${folder%/odin.work/*}
-printf '%s\n' "${folder%/.odin/work/*}" > out.tools || exit 1
+here=$(pwd -P) || exit 1
+folder=${here%/odin.work/*}
+[ "$folder" != "$here" ] || folder=${here%/.odin/work/*}
+printf '%s\n' "$folder" > out.tools || exit 1
