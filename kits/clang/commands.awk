@@ -25,13 +25,13 @@ BEGIN {
     c_flags = words_of("i6")
     cxx_flags = words_of("i7")
     printf "" > "warnings"
-    printf "[" > "out.commands"
+    printf "["
 }
 /\.(c|cc|cpp|cxx)$/ {
     is_c = /\.c$/
-    printf "%s\n  {\n    \"directory\": %s,\n", (count++ ? "," : ""), quoted(folder) > "out.commands"
-    printf "    \"arguments\": [%s, \"-x\", %s", (is_c ? "\"gcc\"" : "\"g++\""), (is_c ? "\"c\"" : "\"c++\"") > "out.commands"
-    printf "%s%s%s, \"-c\", %s],\n", flags, (is_c ? c_flags : cxx_flags), places, quoted("./" $0) > "out.commands"
-    printf "    \"file\": %s\n  }", quoted($0) > "out.commands"
+    printf "%s\n  {\n    \"directory\": %s,\n", (count++ ? "," : ""), quoted(folder)
+    printf "    \"arguments\": [%s, \"-x\", %s", (is_c ? "\"gcc\"" : "\"g++\""), (is_c ? "\"c\"" : "\"c++\"")
+    printf "%s%s%s, \"-c\", %s],\n", flags, (is_c ? c_flags : cxx_flags), places, quoted("./" $0)
+    printf "    \"file\": %s\n  }", quoted($0)
 }
-END { print (count ? "\n]" : "]") > "out.commands" }
+END { print (count ? "\n]" : "]") }

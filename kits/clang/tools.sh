@@ -1,4 +1,5 @@
-# Tells the folder of the project, which the commands name: it has the folder `.odin/work`, in which this runs.
-folder=$(pwd -P) || exit 1
-printf '%s\n' "${folder%/.odin/work/*}" > out.tools
-exit 0
+# Tells the folder of the project, which the commands name: this runs below its folder `odin.work`, or `.odin/work`.
+here=$(pwd -P) || exit 1
+folder=${here%/odin.work/*}
+[ "$folder" != "$here" ] || folder=${here%/.odin/work/*}
+printf '%s\n' "$folder" > out.tools || exit 1

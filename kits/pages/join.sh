@@ -1,12 +1,18 @@
 # Puts the texts that a page includes in place of the lines that include them. `odin_lay` has laid the parts out by their labels.
+set -u
 export LC_ALL=C
-: > warnings
-page=$(sed -n 's/^part 0 i1 //p' call)
+# What can't be written, and what was killed from outside, is no outcome.
+lost() {
+    true > no-outcome || kill -KILL $$
+    exit 2
+}
+true > warnings || lost
+page=$(sed -n 's/^part 0 i1 //p' call) && [ -n "$page" ] || lost
 awk -v page="$page" '
 function put(name, depth,    folder, line, lines) {
     if (busy[name] || depth > 20) {
         print page ": " name " includes itself" > "warnings"
-        exit failed = 2
+        exit failed = 3
     }
     busy[name] = 1
     folder = name
@@ -19,7 +25,7 @@ function put(name, depth,    folder, line, lines) {
     }
     if (lines == 0) {
         print page ": nothing to include in " name > "warnings"
-        exit failed = 2
+        exit failed = 3
     }
     close(name)
     busy[name] = 0
@@ -27,4 +33,13 @@ function put(name, depth,    folder, line, lines) {
 BEGIN {
     put(page, 0)
     exit failed
-}' > out.whole || exit 2
+}' > out.whole
+# A fault of the page ends with 3, and a disk that is full with 2.
+case $? in
+0) exit 0 ;;
+3)
+    [ -s warnings ] || lost
+    exit 2
+    ;;
+esac
+lost

@@ -3,7 +3,6 @@
 # with another text and the same header compiles nothing.
 BEGIN {
     printf "" > "warnings"
-    printf "" > "out.found"
     while ((getline line < "i3") > 0) if (line != "") end[++ends] = line
 }
 # the slot of the reached names is the one after those of the unit, of this file and of the ends
@@ -18,5 +17,5 @@ END {
         for (k = 1; k <= ends && !there[table end[k]]; k++);
         if (k <= ends) made[table end[k]] = 1
     }
-    for (i = 1; i <= count; i++) if (there[name[i]]) print name[i] (name[i] in made ? ":made_header" : "") > "out.found"
+    for (i = 1; i <= count; i++) if (there[name[i]]) print name[i] (name[i] in made ? ":made_header" : "")
 }

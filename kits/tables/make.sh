@@ -2,27 +2,37 @@
 # word, and writes what is made to standard output. A command that isn't found or is killed leaves no outcome.
 set -u
 export LC_ALL=C
-table=$(sed -n 's/^part 0 i1 //p' call)
+# What can't be written, and what was killed from outside, is no outcome.
+lost() {
+    true > no-outcome || kill -KILL $$
+    exit 2
+}
+table=$(sed -n 's/^part 0 i1 //p' call) && [ -n "$table" ] || lost
 case $1 in
 header) left=out.made_header ;;
 *) left=out.unit ;;
 esac
 # The words of the command stand in lines and between blanks; no pattern of names is meant.
 set -f
-set -- "$1" $(cat "kits/tables/$1")
+words=$(cat "kits/tables/$1") || lost
+set -- "$1" $words
 if [ $# -eq 1 ]; then
     # Who compiles it reads that, and nobody else.
-    : > warnings
-    echo "#error no command makes a $1 of a table: [tables] $1" > "$left"
+    true > warnings && echo "#error no command makes a $1 of a table: [tables] $1" > "$left" || lost
     exit 0
 fi
 what=$1
 shift
-"$@" "$table" > "$left" 2> warnings < /dev/null && exit 0
-status=$?
-if [ $status -ge 126 ]; then
+# A command may pass over a disk that is full, and `cat` doesn't.
+status=$({ { "$@" "$table" 2> warnings < /dev/null 3>&-; echo $? >&3; } | cat > "$left" 3>&-; } 3>&1) || lost
+[ "$status" != 0 ] || exit 0
+case $status in
+12[6-9] | 13[0-9] | 1[4-9]? | 2??)
     cat warnings >&2
-    : > no-outcome
-fi
-echo "$table: the command of the $what ended with $status" >> warnings
+    lost
+    ;;
+esac
+# Where the disk is full now, that may be why the command failed.
+printf '%65536s' '' > no-outcome && rm no-outcome || exit 2
+echo "$table: the command of the $what ended with $status" >> warnings || lost
 exit 2

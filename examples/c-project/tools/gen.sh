@@ -15,7 +15,12 @@ if [ $# -eq 2 ]; then
         }'
     exit
 fi
-: > warnings
+# What can't be written is no outcome.
+lost() {
+    true > no-outcome
+    exit 2
+}
+true > warnings || lost
 label=$(sed -n 's/^part 0 i1 //p' call)
 name=${label##*/}
 name=${name%.def}
@@ -23,11 +28,17 @@ awk -v name="$name" -v item="${name%s}" '
     $2 !~ /^[0-9]+$/ || NF != 2 { print "line " NR ": no name with a number: " $0 > "warnings"; bad = 1 }
     { names = names "    \"" $1 "\",\n"; codes = codes "    " $2 ",\n" }
     END {
-        if (bad) exit 2
+        if (bad) exit 3
         printf "#include <string.h>\n\n#include \"%s.h\"\n\n", name
         printf "static const char *const names[] = {\n%s};\n\nstatic const int codes[] = {\n%s};\n\n", names, codes
         printf "int find_%s(const char *name, enum %s *found)\n{\n", item, item
         printf "    for (unsigned i = 0; i < sizeof names / sizeof *names; i++) {\n"
         printf "        if (strcmp(name, names[i]) == 0) {\n            *found = (enum %s)i;\n            return 0;\n        }\n    }\n", item
         printf "    return 1;\n}\n\nint %s_code(enum %s %s)\n{\n    return codes[%s];\n}\n", item, item, item, item
-    }' i1 > out.c || exit 2
+    }' i1 > out.c
+# A fault of the table ends with 3, and a disk that is full with 2.
+case $? in
+0) exit 0 ;;
+3) exit 2 ;;
+esac
+lost

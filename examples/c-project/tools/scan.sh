@@ -3,7 +3,12 @@
 # takes note of them, and once there is such a source, what includes it is made anew.
 folders=include
 label=$(sed -n 's/^part 0 i1 //p' call)
-: > warnings
+# What can't be written is no outcome.
+lost() {
+    true > no-outcome
+    exit 2
+}
+true > warnings || lost
 awk -v path="${label%%:*}" -v folders="$folders" '
 # a name without `.` and `..`, or nothing where it leads out of the project
 function plain(name,    count, i, words, depth, kept, whole) {
@@ -36,4 +41,4 @@ BEGIN {
     quoted = $0 ~ /include[ \t]*"/
     if (quoted) tell(own name, 1)
     for (i = 1; i <= places; i++) tell(place[i] "/" name, quoted)
-}' i1 > out.inc || exit 2
+}' i1 > out.inc || lost

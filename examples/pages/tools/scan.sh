@@ -1,6 +1,11 @@
 # Writes the names of the files that a text includes, one a line. A name is looked for in the folder of the text.
 label=$(sed -n 's/^part 0 i1 //p' call)
-: > warnings
+# What can't be written is no outcome.
+lost() {
+    true > no-outcome
+    exit 2
+}
+true > warnings || lost
 awk -v path="${label%%:*}" '
 # a name without `.` and `..`, or nothing where it leads out of the site
 function plain(name,    count, i, words, depth, kept, whole) {
@@ -22,4 +27,4 @@ BEGIN {
 /^\{\{include [^\/}][^}]*\}\}$/ {
     name = plain(own substr($0, 11, length($0) - 12))
     if (name != "") print name
-}' i1 > out.inc || exit 2
+}' i1 > out.inc || lost
