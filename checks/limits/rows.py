@@ -87,7 +87,7 @@ def right_rows():
     yield other("a file that may not be read", "0 refused read", [*made, take("t.c", b"")], chmod("t.c", 0))
     yield other("a folder of tools that may not be written", "0 refused tool start", [*made, ASKS[0]], folder_of_tools(0o555))
     yield other("a folder of tools that may not be entered", "0 refused tool start", [*made, ASKS[0]], folder_of_tools(0))
-    yield other("a tool that takes the rights on its folder away", "0 refused tool start", script("echo x > out.o; chmod 0 ."))
+    yield other("a tool that takes the rights on its folder away", "0 object ok", script("echo x > out.o; chmod 0 ."))
     yield other("a tool that takes the rights on its output away", "0 refused tool start", script("echo x > out.o; chmod 0 out.o"))
     yield other("a tool that takes the rights on the folder of tools away", "0 refused tool start", script("echo x > out.o; chmod 0 ../.."), leaves=True)
     for mask in (0o77, 0o777):
@@ -162,12 +162,12 @@ def tool_rows():
     busy = script("(cd /; sleep 1) & (while :; do echo y > y; done) & k=$!; (sleep 1; kill $k) & echo x > out.o")
     yield Row("children that write into its folder", "0 object ok", busy, is_loud=True, lingers=True, leaves=True)
     yield Row("closed outputs", "0 object ok", script("exec >&- 2>&- <&-; echo x > out.o"))
-    yield Row("an end by SIGKILL", "0 refused tool start", script("kill -KILL $$"))
+    yield Row("an end by SIGKILL", "0 refused tool start", script("kill -KILL $$"), refuses=True)
     yield Row("an end by SIGSEGV", "0 object abort", script("kill -SEGV $$"))
     yield Row("a stop, that goes on later", "0 object ok", script("(sleep 1; kill -CONT $$) & kill -STOP $$; echo x > out.o"))
     yield Row("no output", "0 object abort", script(":"))
     yield Row("a tool that kills its session", "SIGTERM", script("kill -TERM $PPID; sleep 1"))
-    yield Row("a tool that removes its folder", "0 refused tool start", script("rm -r $(pwd)"), is_loud=True)
+    yield Row("a tool that removes its folder", "0 refused tool start", script("rm -r $(pwd)"), is_loud=True, refuses=True)
     yield Row("a tool that removes the folder of tools", "0", script("rm -r ../../../odin.work", *MIXED[:2]), is_loud=True, refuses=True)
     yield Row("a tool that reads its input", "0 object ok", script("cat > out.o"))
 

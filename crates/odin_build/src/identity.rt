@@ -1,10 +1,10 @@
 // What the tools of a kit are, as its own script tells it.
 use crate::faults::Fault;
 use crate::reading::refused;
-use crate::state::child_tools;
 use crate::told::Line;
 use object_values::{Bytes, Copied, End, FileBody, Job, Memory, Seq, Text};
 use odin_outside::{Spawner, StartFault};
+use odin_real::{ChildTools, HostSystem, Work};
 use std::alloc::Global;
 
 /// The file that the script leaves.
@@ -48,7 +48,7 @@ fn left_by(files: Seq<FileBody>, end: End) -> Option<Text> {
 pub(crate) fn tell_tools(rt: &HostRuntime, kit: &str, script: &Text) -> Result<Text, Fault> {
     let alloc = rt.alloc();
     let job = job_of(alloc, script)?;
-    let mut tools = child_tools(rt);
+    let mut tools = ChildTools::within(alloc, HostSystem::new(rt), rt.stderr(), Work::Builds);
     let started = tools.start(alloc, &job);
     let left = if tools.running() > 0 {
         match tools.finish(alloc) {

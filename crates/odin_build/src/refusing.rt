@@ -140,10 +140,7 @@ fn refuse_target(
     let alloc = rt.alloc();
     let place = place_of(rt, folder, text_of(path))?;
     if let Some(why) = why_not(held, path, &place) {
-        let at = match place.below() {
-            Some(below) => below,
-            None => place.path.as_bytes(),
-        };
+        let at = place.below().unwrap_or(place.path.as_bytes());
         let writer = target_writer(alloc, target)?;
         return Err(refused(taken_line(alloc, writer, path, Some(at), why)));
     }
@@ -262,10 +259,10 @@ pub(crate) fn refuse_extras(
         Some(path) => Some(extra_place(rt, folder.as_str(), held, Extra::Page, path.as_str())?),
         None => None,
     };
-    match (trace, page) {
-        (Some(trace), Some(page)) if trace.path == page.path => {
-            Err(refused(one_file_line(rt.alloc(), page.path.as_bytes())))
+    if let (Some(trace), Some(page)) = (&trace, &page) {
+        if trace.path == page.path {
+            return Err(refused(one_file_line(rt.alloc(), page.path.as_bytes())));
         }
-        _ => Ok(()),
     }
+    Ok(())
 }

@@ -12,7 +12,7 @@ use crate::refusing::{Held, refuse_extras, refuse_targets};
 use crate::replies::{fault_of, missing_line, tell_replies, work_lines, write_target};
 use crate::screen::{Noted, Screen, has_colours, started_path};
 use crate::simple::GraphFile;
-use crate::state::{child_tools, make_state};
+use crate::state::make_state;
 use crate::told::{Line, say};
 use crate::whole::{Whole, read_whole};
 use crate::why::Reasons;
@@ -25,7 +25,7 @@ use object_values::{Bytes, FileBody, Memory, Reply, Seq};
 use odin_bytes::Name;
 use odin_engine::Engine;
 use odin_outside::Tree;
-use odin_real::{ChildTools, FileDisk, FolderTree, HostSystem, NamedFile};
+use odin_real::{ChildTools, FileDisk, FolderTree, HostSystem, NamedFile, Work};
 use odin_start::words_of;
 use project_build::{Plan, build_project, status_of};
 use project_file::project::{Project, Target};
@@ -232,7 +232,8 @@ fn build_targets(
     let mut tree = MadeTree::new(made, FolderTree::new(rt));
     let screen = screen_of(rt, plan.graph, &mut tree, telling);
     let mut disk = FileDisk::open(NamedFile::new(rt, STORE));
-    let mut watched = Watched::new(child_tools(rt), screen);
+    let tools = ChildTools::within(alloc, HostSystem::new(rt), rt.stderr(), Work::Builds);
+    let mut watched = Watched::new(tools, screen);
     let mut outputs = WrittenFiles::new(rt);
     let built = build_project(
         alloc,

@@ -4,7 +4,6 @@ use crate::reading::refused;
 use crate::screen::output_fault;
 use crate::told::Line;
 use object_values::{Bytes, Memory};
-use odin_real::{ChildTools, HostSystem, Work};
 use std::alloc::Global;
 use std::fs;
 use std::io::ErrorKind;
@@ -46,9 +45,4 @@ pub(crate) fn make_state(rt: &HostRuntime) -> Result<(), Fault> {
             _ => Err(output_fault(rt.alloc(), STATE, &error)),
         },
     }
-}
-
-/// The child programs of a build, which work in this folder: `odin` has another one.
-pub(crate) fn child_tools(rt: &HostRuntime) -> ChildTools<HostSystem<&HostRuntime>> {
-    ChildTools::within(rt.alloc(), HostSystem::new(rt), rt.stderr(), Work::Builds)
 }
